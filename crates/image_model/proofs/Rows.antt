@@ -1,0 +1,102 @@
+-- Rows and joined rows as stretches of the cells.
+use Rattle.std.proofs.Common.{◌==◌, false, cond, subst, ◌≡◌, ℕ, zero, suc, ◌+◌, ◌-◌, ◌*◌, ◌<◌, ◌≤◌, List, [], ◌∷◌, ◌++◌, length, take, drop, map, refl, sym, ap, ◌∙◌, arith, add-one, add-zero, inl, inr, add_assoc, length-append, length-take, length-drop}
+use Rattle.std.specs.List.{slice_get, filter_map, flat_map, range_with_len}
+use Rattle.std.proofs.lemmas.List.{drop_more, append-nil}
+use Rattle.std.proofs.lemmas.List.Concat.{flat_map-append}
+use Rattle.std.proofs.lemmas.List.FromFn.{map-range_with_len_more}
+use Rattle.std.proofs.Math.Seq.{take-add}
+use Rattle.std.proofs.lemmas.Bool.Decides.{nat_tests}
+use Rattle.std.proofs.Math.Nat.{mul-le-mul_left}
+use Rattle.std.proofs.lemmas.Option.{slice_get_cases}
+use Rattle.image_model.specs.Layout.{Layout, layout, Fits}
+use Rattle.image_model.specs.Rows.{row, joined_rows}
+
+-- a stretch of the cells, tabulated
+pub tabulated : {T : Type 0} (cells : List T) (b a n : ℕ) → b + a + n ≤ length cells → filter_map (λ x. slice_get cells (b + x)) (range_with_len a n) ≡ take n (drop (b + a) cells)
+tabulated cells b a zero h = refl
+tabulated cells b a (suc n) h =
+    elim (slice_get_cases cells (b + a)).1 [
+      | inl w ↦
+          let tail = tabulated cells b (a + 1) n (omega arith) in
+          let split = drop_more cells (b + a) w.0 w.1 in
+          rw (w.2, split, w.3, tail, add_assoc b a 1) refl
+      | inr w ↦ absurd (omega arith)
+    ]
+
+-- a row is a stretch of the cells
+pub row_is : {T : Type 0} (l : Layout T) (y : ℕ) → y * l.stride + l.width ≤ length l.cells → row l y ≡ take l.width (drop (y * l.stride) l.cells)
+row_is l y h = tabulated l.cells (y * l.stride) 0 l.width (omega arith) ∙ ap (λ k. take l.width (drop k l.cells)) (add-zero (y * l.stride))
+
+-- the first n rows, joined
+abbrev pub joined_upto : {T : Type 0} → Layout T → ℕ → List T
+joined_upto l n = flat_map (λ r. r) (map (row l) (range_with_len 0 n))
+
+pub joined_upto_more : {T : Type 0} (l : Layout T) (n : ℕ) → joined_upto l (n + 1) ≡ joined_upto l n ++ row l n
+joined_upto_more l n =
+    rw (map-range_with_len_more (row l) 0 n n (omega arith), flat_map-append (λ r. r) (map (row l) (range_with_len 0 n)) (row l n ∷ []), append-nil (row l n)) refl
+
+pub joined_upto_suc : {T : Type 0} (l : Layout T) (n : ℕ) → joined_upto l (suc n) ≡ joined_upto l n ++ row l n
+joined_upto_suc l n = subst (λ k. joined_upto l k ≡ joined_upto l n ++ row l n) (add-one n) (joined_upto_more l n)
+
+pub row_empty : {T : Type 0} (cells : List T) (h s n : ℕ) → joined_upto (record { cells = cells; width = 0; height = h; stride = s }) n ≡ []
+row_empty {T} cells h s zero = refl
+row_empty {T} cells h s (suc n) =
+    let l : Layout T = record { cells = cells; width = 0; height = h; stride = s } in
+    joined_upto_suc l n ∙ ap (λ xs. xs ++ row l n) (row_empty cells h s n)
+
+-- the joined rows, whatever the width
+pub joined_is : {T : Type 0} (cells : List T) (w h s : ℕ) → let l : Layout T = record { cells = cells; width = w; height = h; stride = s } in joined_rows l ≡ joined_upto l h
+joined_is {T} cells zero h s = sym (row_empty cells h s h)
+joined_is {T} cells (suc v) h s =
+    let l : Layout T = record { cells = cells; width = suc v; height = h; stride = s } in
+    let some : (suc v == 0) ≡ false = grind (arith, nat_tests) in
+    ap (λ b. joined_upto l (cond b 0 h)) some
+
+-- the first n rows are whole in the cells
+abbrev pub HasRows : {T : Type 0} → Layout T → ℕ → Type 0
+HasRows l n = (y : ℕ) → y < n → y * l.stride + l.width ≤ length l.cells
+
+pub length-row : {T : Type 0} (l : Layout T) (y : ℕ) → y * l.stride + l.width ≤ length l.cells → length (row l y) ≡ l.width
+length-row l y h = rw (row_is l y h) (omega (arith, length-take l.width (drop (y * l.stride) l.cells), length-drop (y * l.stride) l.cells))
+
+pub length-joined_upto : {T : Type 0} (l : Layout T) (n : ℕ) → HasRows l n → length (joined_upto l n) ≡ n * l.width
+length-joined_upto l zero h = omega arith
+length-joined_upto l (suc n) h =
+    let below : HasRows l n = λ y lt. h y (omega arith) in
+    let one = length-row l n (h n (omega arith)) in
+    rw (joined_upto_suc l n) (omega (arith, length-append (joined_upto l n) (row l n), length-joined_upto l n below, one))
+
+pub rows_from_fits : {T : Type 0} (l : Layout T) → Fits l → 0 < l.width → HasRows l l.height
+rows_from_fits l fits some y lt =
+    let le : y ≤ l.height - 1 = omega arith in
+    omega (arith, fits some (omega arith), mul-le-mul_left l.stride le)
+
+-- where the rows touch, the joined rows are the first cells
+pub joined_touching : {T : Type 0} (l : Layout T) (n : ℕ) → l.width ≡ l.stride → HasRows l n → joined_upto l n ≡ take (n * l.width) l.cells
+joined_touching l zero e h = ap (λ k. take k l.cells) (let z : 0 ≡ 0 * l.width = omega arith in z)
+joined_touching l (suc n) e h =
+    let below : HasRows l n = λ y lt. h y (omega arith) in
+    let places : n * l.stride ≡ n * l.width = ap (λ k. n * k) (sym e) in
+    let next : row l n ≡ take l.width (drop (n * l.width) l.cells) = row_is l n (h n (omega arith)) ∙ ap (λ k. take l.width (drop k l.cells)) places in
+    let end : n * l.width + l.width ≡ suc n * l.width = omega arith in
+    joined_upto_suc l n ∙ ap (λ xs. xs ++ row l n) (joined_touching l n e below) ∙ ap (λ xs. take (n * l.width) l.cells ++ xs) next ∙ sym (take-add (n * l.width) l.width l.cells) ∙ ap (λ k. take k l.cells) end
+
+-- with columns, the joined rows are as many cells as there are places
+pub length-joined_rows : {T : Type 0} (cells : List T) (w h s : ℕ) → Fits (layout cells w h s) → length (joined_rows (layout cells w h s)) ≡ w * h
+length-joined_rows cells zero h s fits = omega arith
+length-joined_rows {T} cells (suc v) h s fits =
+    let l : Layout T = layout cells (suc v) h s in
+    rw (joined_is cells (suc v) h s) (omega (arith, length-joined_upto l h (rows_from_fits l fits (omega arith))))
+
+-- where rows touch, or there is no pixel, the joined rows are the first cells
+pub joined_in_place : {T : Type 0} (cells : List T) (w h s : ℕ) → Fits (layout cells w h s) → (0 < w → 0 < h → w ≡ s) → joined_rows (layout cells w h s) ≡ take (w * h) cells
+joined_in_place cells zero h s fits touch = let none : 0 ≡ 0 * h = omega arith in ap (λ k. take k cells) none
+joined_in_place {T} cells (suc v) zero s fits touch =
+    let none : 0 ≡ suc v * 0 = omega arith in
+    joined_is cells (suc v) 0 s ∙ ap (λ k. take k cells) none
+joined_in_place {T} cells (suc v) (suc n) s fits touch =
+    let l : Layout T = layout cells (suc v) (suc n) s in
+    let turned : suc n * suc v ≡ suc v * suc n = omega arith in
+    joined_is cells (suc v) (suc n) s
+    ∙ joined_touching l (suc n) (touch (omega arith) (omega arith)) (rows_from_fits l fits (omega arith))
+    ∙ ap (λ k. take k cells) turned

@@ -1,0 +1,17 @@
+-- What a run of commands leaves of an image's layout.
+use Rattle.std.specs.Prelude.{◌≡◌, ℕ, ◌==◌, if◌then◌else◌, Bool, MatchBool}
+use Rattle.image_model.specs.Layout.{Layout, SameOutside}
+use Rattle.image_model.specs.Rows.{joined_rows}
+
+-- the least stride of a width: the width, or 1 for width 0
+abbrev pub least_stride : ℕ → ℕ
+least_stride width = if width == 0 then 1 else width
+
+-- a layout is packed if its cells are exactly its joined rows, under the least stride
+pub record IsPacked {T : Type 0} (l : Layout T) : Type 0 where
+  pub stride_is : l.stride ≡ least_stride l.width
+  pub joined : l.cells ≡ joined_rows l
+
+-- with no compaction between them a layout keeps its outside, and with one it is packed
+abbrev pub IsKept : {T : Type 0} → Bool → Layout T → Layout T → Type 0
+IsKept compacted old new = MatchBool compacted (IsPacked new) (SameOutside old new)

@@ -1,0 +1,27 @@
+-- The tiles of a size: the windows that cover it, cut at its right and lower edge.
+use Rattle.std.specs.Prelude.{ℕ, ◌+◌, ◌-◌, ◌*◌, ◌/◌, ◌%◌, List, map, min}
+use Rattle.std.specs.List.{flat_map, range_with_len}
+use Rattle.image_model.specs.Windows.{Window, window}
+
+-- how many tiles of one length begin below another
+abbrev pub tile_count : ℕ → ℕ → ℕ
+tile_count tile len = (len + (tile - 1)) / tile
+
+-- the tile in column i of line j: its corner is a multiple of the tile size
+abbrev pub tile : ℕ → ℕ → ℕ → ℕ → ℕ → ℕ → Window
+tile width height tile_width tile_height i j =
+    window (i * tile_width) (j * tile_height) (min tile_width (width - i * tile_width)) (min tile_height (height - j * tile_height))
+
+-- line j of the tiles, from left to right
+abbrev pub tile_line : ℕ → ℕ → ℕ → ℕ → ℕ → List Window
+tile_line width height tile_width tile_height j =
+    map (λ i. tile width height tile_width tile_height i j) (range_with_len 0 (tile_count tile_width width))
+
+-- the tiles of a size, line by line: a size with no place has none
+abbrev pub tiles : ℕ → ℕ → ℕ → ℕ → List Window
+tiles width height tile_width tile_height =
+    flat_map (tile_line width height tile_width tile_height) (range_with_len 0 (tile_count tile_height height))
+
+-- where the tile of column x begins, and likewise that of a row
+abbrev pub tile_start : ℕ → ℕ → ℕ
+tile_start tile x = x - x % tile
