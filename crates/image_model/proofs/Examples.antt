@@ -1,9 +1,9 @@
 -- Worked images, computed: what the definitions say of small layouts that a reader can check by hand.
-use Rattle.std.proofs.Common.{◌≡◌, ◌^◌, ◌-◌, false, ℕ, List, [], ◌∷◌, refl, Some, None}
-use Rattle.image_model.specs.Layout.{Layout, layout, is_fitting, pixel}
-use Rattle.image_model.specs.Grid.{grid_of, view}
-use Rattle.image_model.specs.Rows.{rows, joined_rows, grid_joined_rows}
-use Rattle.image_model.specs.Windows.{Window, window, roomy_window, exact_window, path_layout, path_view, first_outside}
+use Rattle.std.proofs.Common.{◌≡◌, ◌^◌, ◌-◌, false, ℕ, [], ◌∷◌, refl}
+use Rattle.image_model.specs.Layout.{Layout, layout, is_fitting}
+use Rattle.image_model.specs.Grid.{grid_of}
+use Rattle.image_model.specs.Rows.{rows, grid_joined_rows}
+use Rattle.image_model.specs.Windows.{window, roomy_window, path_layout}
 use Rattle.image_model.specs.Tiles.{tiles}
 
 -- 3 by 2 at stride 4, with cells past the last pixel
@@ -28,5 +28,5 @@ tiles_of_three = refl
 no_tiles : tiles 0 3 2 2 ≡ []
 no_tiles = refl
 
-unfit : is_fitting (layout (1 ∷ []) 2 2 (2 ^ 64 - 1)) ≡ false
+unfit : is_fitting {T = ℕ} (layout (1 ∷ []) 2 2 (2 ^ 64 - 1)) ≡ false
 unfit = refl

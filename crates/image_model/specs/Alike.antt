@@ -1,5 +1,5 @@
 -- When two images are equal, and what a hasher is fed of one.
-use Rattle.std.specs.Prelude.{◌≡◌, ℕ, Bool, if◌then◌else◌, List, [], ◌++◌, ◌⊎◌}
+use Rattle.std.specs.Prelude.{◌≡◌, Bool, if◌then◌else◌, [], ◌++◌, ◌⊎◌}
 use Rattle.std.specs.List.{flat_map}
 use Rattle.std.specs.Hash as fed
 use Rattle.std.specs.Hash.{HashWrites}
