@@ -8,4 +8,5 @@ pub mod Rows
 pub mod Pixels
 pub mod Kept
 pub mod Agreement
+pub mod Alike
 pub mod Examples
