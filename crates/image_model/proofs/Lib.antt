@@ -9,4 +9,5 @@ pub mod Pixels
 pub mod Kept
 pub mod Agreement
 pub mod Alike
+pub mod Tiles
 pub mod Examples
