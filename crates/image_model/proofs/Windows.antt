@@ -8,10 +8,10 @@ use Rattle.std.proofs.lemmas.Bool.{and_parts, and_from, leb-true, le-leb, cases_
 use Rattle.std.proofs.lemmas.Nat.{same_from_place}
 use Rattle.std.proofs.Math.Nat.{mul-le-mul_left, mul-add, add-mul, mul-suc, mul_comm}
 use Rattle.image_model.specs.Layout.{Layout, layout, Reaches, Fits, cell_of, pixel, SameOutside}
-use Rattle.image_model.specs.Grid.{grid_of, patch}
+use Rattle.image_model.specs.Grid.{Grid, grid_of, patch}
 use Rattle.image_model.specs.Windows.{Window, IsInside, is_inside, is_empty, window_view, Stretch, window_start, exact_stretch, roomy_stretch, stretch_cells, with_stretch, exact_window, roomy_window}
 use Rattle.image_model.proofs.Places.{reached, written}
-use Rattle.image_model.proofs.Grids.{covers_decides, pixel_at, same_grids, is_patch}
+use Rattle.image_model.proofs.Grids.{covers_decides, pixel_at, same_grids, is_patch, patch_of_view}
 use Rattle.image_model.proofs.Stretches.{stretch_cell, length-stretch_cells, length-with_stretch, with_stretch_at, with_stretch_beside, with_stretch-set}
 
 -- the test of a window tells whether it is inside
@@ -205,6 +205,15 @@ module _ {T : Type 0} (l : Layout T) (w : Window) (s : Stretch) (has : HasWindow
   handed_on_grid n same wide inside =
       grid_of_others n.cells (subst (SameOutside (stretch_window l w s)) (same_layout n same) same) wide inside
       ∙ ap (λ m. patch (grid_of l) w.left w.top (grid_of m)) (sym (same_layout n same))
+
+  -- so what patches the window patches the parent at the summed corner
+  pub handed_on_patch : (n : Layout T) → SameOutside (stretch_window l w s) n → l.width ≤ l.stride → IsInside l.width l.height w
+      → (x y : ℕ) (p : Grid T) → x + p.width ≤ w.width → y + p.height ≤ w.height → grid_of n ≡ patch (grid_of (stretch_window l w s)) x y p
+      → grid_of (handed_on l s n.cells) ≡ patch (grid_of l) (w.left + x) (w.top + y) p
+  handed_on_patch n same wide inside x y p across down e =
+      handed_on_grid n same wide inside
+      ∙ ap (patch (grid_of l) w.left w.top) (e ∙ ap (λ g. patch g x y p) (window_grid inside))
+      ∙ patch_of_view (grid_of l) w.left w.top w.width w.height x y p across down
 
 -- ---- the two windows of the definitions
 
