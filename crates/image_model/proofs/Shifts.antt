@@ -1,11 +1,11 @@
 -- What moved rows show: the target window has the source window's old pixels, and the outside stays.
-use Rattle.std.proofs.Common.{◌≡◌, ℕ, ◌+◌, ◌-◌, ◌*◌, ◌<◌, ◌≤◌, List, refl, sym, ap, ◌∙◌, arith}
+use Rattle.std.proofs.Common.{◌≡◌, true, false, ℕ, ◌+◌, ◌-◌, ◌*◌, ◌<◌, ◌≤◌, List, refl, sym, ap, ◌∙◌, arith}
 use Rattle.std.specs.List.{slice_get}
 use Rattle.std.proofs.lemmas.Bool.{true≢false}
 use Rattle.std.proofs.lemmas.Nat.{same_from_place}
 use Rattle.std.proofs.Math.Nat.{add-mul, mul_comm}
 use Rattle.image_model.specs.Layout.{Layout, cell_of, pixel, SameOutside}
-use Rattle.image_model.specs.Grid.{grid_of, patch}
+use Rattle.image_model.specs.Grid.{grid_of, covers, patch}
 use Rattle.image_model.specs.Windows.{Window, IsInside, window_view}
 use Rattle.image_model.specs.Shifts.{MovesRows, IsCellOf}
 use Rattle.image_model.proofs.Grids.{covers_decides, pixel_at, at_place, is_patch}
@@ -38,27 +38,30 @@ module _ {T : Type 0} (l : Layout T) (new : List T) (v w : Window) (from to : �
   pub moved_grid : l.width ≤ l.stride → IsInside l.width l.height v → v.width ≡ w.width → v.height ≡ w.height
       → grid_of (record l { cells = new }) ≡ patch (grid_of l) w.left w.top (window_view (grid_of l) v)
   moved_grid wide from_inside same_width same_height =
-      is_patch (grid_of l) w.left w.top (window_view (grid_of l) v) (pixel (record l { cells = new }))
-      (λ a b in_a in_b hit.
-      let c = (covers_decides w.left w.top v.width v.height a b).0 hit in
-      let x : ℕ = a - w.left in
-      let y : ℕ = b - w.top in
-      let column : x < w.width = omega (arith, c, same_width) in
-      let line : y < w.height = omega (arith, c, same_height) in
-      let same_a : w.left + x ≡ a = omega (arith, c) in
-      let same_b : w.top + y ≡ b = omega (arith, c) in
-      let there : cell_of l a b ≡ to + y * l.stride + x =
-      sym (in_window l.stride to x y w (target (omega (arith, column)) (omega (arith, line))) ∙ ap (λ n. n * l.stride + (w.left + x)) same_b ∙ ap (λ n. b * l.stride + n) same_a) in
-      ap (slice_get new) there
-      ∙ moves.moved x y column line
-      ∙ ap (slice_get l.cells) (in_window l.stride from x y v (source (omega (arith, column)) (omega (arith, line))))
-      ∙ sym (pixel_at l (v.left + x) (v.top + y) (omega (arith, from_inside, column, same_width)) (omega (arith, from_inside, line, same_height)))
-      ∙ sym (at_place v.width v.height (λ m n. (grid_of l).pixel (v.left + m) (v.top + n)) x y (omega (arith, column, same_width)) (omega (arith, line, same_height))))
-      (λ a b in_a in_b miss.
-      moves.others_stay (cell_of l a b) (λ at.
-      let p = place_of (cell_of l a b) at in
-      let one = same_from_place (w.top + p.1) (w.left + p.0) b a l.stride (omega (arith, inside, p.2, wide)) (omega arith) p.4 in
-      let hit = (covers_decides w.left w.top v.width v.height a b).1
-      (omega (arith, one), omega (arith, one), omega (arith, one, p.2, same_width), omega (arith, one, p.3, same_height)) in
-      true≢false (sym hit ∙ miss))
-      ∙ sym (pixel_at l a b in_a in_b))
+      is_patch (grid_of l) w.left w.top (window_view (grid_of l) v) (pixel (record l { cells = new })) in_target beside
+    where
+      in_target : (a b : ℕ) → a < l.width → b < l.height → covers w.left w.top v.width v.height a b ≡ true
+          → pixel (record l { cells = new }) a b ≡ (window_view (grid_of l) v).pixel (a - w.left) (b - w.top)
+      in_target a b in_a in_b hit =
+          let c = (covers_decides w.left w.top v.width v.height a b).0 hit in
+          let x : ℕ = a - w.left in
+          let y : ℕ = b - w.top in
+          let column : x < w.width = omega (arith, c, same_width) in
+          let line : y < w.height = omega (arith, c, same_height) in
+          let same_a : w.left + x ≡ a = omega (arith, c) in
+          let same_b : w.top + y ≡ b = omega (arith, c) in
+          let there : cell_of l (w.left + x) (w.top + y) ≡ cell_of l a b = ap (cell_of l (w.left + x)) same_b ∙ ap (λ n. cell_of l n b) same_a in
+          ap (slice_get new) (sym (in_window l.stride to x y w (target (omega (arith, column)) (omega (arith, line))) ∙ there))
+          ∙ moves.moved x y column line
+          ∙ ap (slice_get l.cells) (in_window l.stride from x y v (source (omega (arith, column)) (omega (arith, line))))
+          ∙ sym (pixel_at l (v.left + x) (v.top + y) (omega (arith, from_inside, column, same_width)) (omega (arith, from_inside, line, same_height)))
+          ∙ sym (at_place v.width v.height (λ m n. (grid_of l).pixel (v.left + m) (v.top + n)) x y (omega (arith, column, same_width)) (omega (arith, line, same_height)))
+
+      beside : (a b : ℕ) → a < l.width → b < l.height → covers w.left w.top v.width v.height a b ≡ false → pixel (record l { cells = new }) a b ≡ (grid_of l).pixel a b
+      beside a b in_a in_b miss =
+          let other : IsCellOf to l.stride w.width w.height (cell_of l a b) → ⊥ = λ at.
+          let p = place_of (cell_of l a b) at in
+          let one = same_from_place (w.top + p.1) (w.left + p.0) b a l.stride (omega (arith, inside, p.2, wide)) (omega arith) p.4 in
+          let hit = (covers_decides w.left w.top v.width v.height a b).1 (omega (arith, one), omega (arith, one), omega (arith, one, p.2, same_width), omega (arith, one, p.3, same_height)) in
+          true≢false (sym hit ∙ miss) in
+          moves.others_stay (cell_of l a b) other ∙ sym (pixel_at l a b in_a in_b)
