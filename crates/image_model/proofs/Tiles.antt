@@ -1,14 +1,15 @@
 -- The tiles of a size, by their numbers: each is inside, and each place lies in exactly one.
-use Rattle.std.proofs.Common.{◌≡◌, ℕ, zero, suc, ◌+◌, ◌-◌, ◌*◌, ◌/◌, ◌%◌, ◌<◌, ◌≤◌, Bool, true, inl, inr, List, ◌++◌, length, Some, sym, ap, ◌∙◌, subst, arith, min, length-append, get_or}
+use Rattle.std.proofs.Common.{◌≡◌, ℕ, zero, suc, ◌+◌, ◌-◌, ◌*◌, ◌/◌, ◌%◌, ◌<◌, ◌≤◌, true, inl, inr, List, ◌++◌, length, Some, refl, sym, ap, ◌∙◌, subst, arith, min, length-append, get_or}
+use Rattle.std.specs.Prelude.{IsTrue, Option, None}
+use Rattle.std.specs.Option.{IsSomeAnd}
 use Rattle.std.specs.List.{All, slice_get, flat_map, range_with_len}
 use Rattle.std.proofs.lemmas.Bool.{cases_lt}
 use Rattle.std.proofs.lemmas.Nat.{div-add-mod', mod_below, div_below, le-div, div-mul-add}
 use Rattle.std.proofs.lemmas.List.FromFn.{length-map-range_with_len}
 use Rattle.std.proofs.lemmas.Option.{slice_get_within, slice_get-get_or, same_Some}
 use Rattle.std.proofs.Math.Nat.{suc-mul}
-use Rattle.image_model.specs.Grid.{covers}
 use Rattle.image_model.specs.Windows.{Window, IsInside}
-use Rattle.image_model.specs.Tiles.{tile_count, tile, tile_line, tiles, tile_start}
+use Rattle.image_model.specs.Tiles.{tile_count, tile, tile_line, tiles, tile_start, has_place, EachPlaceInOne}
 use Rattle.image_model.proofs.Cells.{slice_get-append_left, slice_get-append_right}
 use Rattle.image_model.proofs.Grids.{covers_decides}
 use Rattle.image_model.proofs.Rows.{slice_get-tabulated}
@@ -130,33 +131,21 @@ module _ (width height tile_width tile_height : ℕ) (wide : 0 < tile_width) (hi
 
   -- ---- each place lies in exactly one tile
 
-  -- whether a place lies in a window
-  abbrev pub has_place : Window → ℕ → ℕ → Bool
-  has_place w x y = covers w.left w.top w.width w.height x y
-
-  -- the number of the tile of a place
-  abbrev pub tile_of : ℕ → ℕ → ℕ
-  tile_of x y = y / tile_height * columns + x / tile_width
-
-  -- it is a tile, whose corner lies at multiples of the tile size
-  pub tile_of_place : (x y : ℕ) → x < width → y < height → slice_get all (tile_of x y) ≡ Some (at (x / tile_width) (y / tile_height))
+  tile_of_place : (x y : ℕ) → x < width → y < height → slice_get all (y / tile_height * columns + x / tile_width) ≡ Some (at (x / tile_width) (y / tile_height))
   tile_of_place x y column line =
       let left = in_its_tile tile_width width x wide column in
       let top = in_its_tile tile_height height y high line in
-      tile_at (x / tile_width) (y / tile_height) (tile_counted tile_width width (x / tile_width) wide (omega (arith, left))) (tile_counted tile_height height (y / tile_height) high (omega (arith, top)))
+      tile_at (x / tile_width) (y / tile_height)
+      (tile_counted tile_width width (x / tile_width) wide (omega (arith, left)))
+      (tile_counted tile_height height (y / tile_height) high (omega (arith, top)))
 
-  pub corner_of_tile : (x y : ℕ) → ((at (x / tile_width) (y / tile_height)).left ≡ tile_start tile_width x) × ((at (x / tile_width) (y / tile_height)).top ≡ tile_start tile_height y)
-  corner_of_tile x y = (tile_start-is tile_width x, tile_start-is tile_height y)
-
-  -- it has the place
-  pub tile_has_place : (x y : ℕ) → x < width → y < height → has_place (at (x / tile_width) (y / tile_height)) x y ≡ true
+  tile_has_place : (x y : ℕ) → x < width → y < height → has_place (at (x / tile_width) (y / tile_height)) x y ≡ true
   tile_has_place x y column line =
       let left = in_its_tile tile_width width x wide column in
       let top = in_its_tile tile_height height y high line in
       (covers_decides _ _ _ _ x y).1 (left.0, top.0, left.1, top.1)
 
-  -- and no other tile has it
-  pub only_tile : (x y k : ℕ) (w : Window) → slice_get all k ≡ Some w → has_place w x y ≡ true → k ≡ tile_of x y
+  only_tile : (x y k : ℕ) (w : Window) → slice_get all k ≡ Some w → has_place w x y ≡ true → k ≡ y / tile_height * columns + x / tile_width
   only_tile x y k w is has =
       let found = tile_number k w is in
       let i : ℕ = k % columns in
@@ -166,3 +155,19 @@ module _ (width height tile_width tile_height : ℕ) (wide : 0 < tile_width) (hi
       let same_i = its_tile tile_width width i x c.0 c.2 in
       let same_j = its_tile tile_height height j y c.1 c.3 in
       sym (div-add-mod' k columns) ∙ ap (λ n. n * columns + i) same_j ∙ ap (λ n. y / tile_height * columns + n) same_i
+
+  pub tiles_cover : EachPlaceInOne width height all
+  tiles_cover x y column line = record {
+    number = y / tile_height * columns + x / tile_width;
+    there = subst (λ o. IsSomeAnd o (λ w. IsTrue (has_place w x y))) (sym (tile_of_place x y column line)) (tile_has_place x y column line);
+    alone = λ k there. alone k (slice_get all k) refl there;
+  }
+    where
+      alone : (k : ℕ) (o : Option Window) → slice_get all k ≡ o → IsSomeAnd o (λ w. IsTrue (has_place w x y)) → k ≡ y / tile_height * columns + x / tile_width
+      alone k (Some w) is has = only_tile x y k w is has
+      alone k None is has = absurd has
+
+-- the tile of a place has its corner where the tiles of its column and of its row begin
+pub corner_of_tile : (width height tile_width tile_height x y : ℕ) → let w : Window = tile width height tile_width tile_height (x / tile_width) (y / tile_height) in
+    (w.left ≡ tile_start tile_width x) × (w.top ≡ tile_start tile_height y)
+corner_of_tile width height tile_width tile_height x y = (tile_start-is tile_width x, tile_start-is tile_height y)
