@@ -1,0 +1,11 @@
+//! Images with a stride.
+#![tactic(auto)]
+
+mod containers;
+mod img;
+mod index;
+mod window;
+
+pub use containers::{AsMutCell, AsMutSlice, AsSlice};
+pub use img::{Img, ImgRef, ImgRefMut, ImgVec};
+pub use window::Stretch;
