@@ -1,7 +1,7 @@
-ghost use Rattle.std.specs.Prelude.{◌≡◌, ℕ, ◌+◌, ◌≤◌, ◌<◌, List, length, slice_range, slice_set};
+ghost use Rattle.std.specs.Prelude.{◌≡◌, ℕ, ◌+◌, ◌-◌, ◌≤◌, ◌<◌, List, length, slice_range, slice_set};
 ghost use Rattle.std.specs.Borrow.{sem, Lends, Array};
 ghost use Rattle.std.specs.Vec.{with_items_from, with_item};
-ghost use Rattle.imgref.specs.Layout.{patched};
+ghost use Rattle.image_model.specs.Windows.{Stretch, stretch_cells, with_stretch};
 
 /// A container whose cells can be read as a slice.
 pub trait AsSlice {
@@ -15,15 +15,14 @@ pub trait AsSlice {
 
 /// A container whose cells can be written as a slice.
 pub trait AsMutSlice: AsSlice {
-    // The container with these cells from an index on.
-    ghost with_cells: { Self → ℕ → List Self.Item → Self };
+    /// The container with other cells in the place of a stretch.
+    ghost with_cells: { Self → Stretch → List Self.Item → Self };
 
-    // The cells from `start` to `end`. Once the borrow ends, the container has what was left there.
-    fn stretch_mut(&mut self, start: usize, end: usize) -> &mut [Self::Item]
-        requires start_le_end { start ≤ end }
-        requires in_bounds { end ≤ length (Self.cells self.old) }
-        ensures* writes_back { sem 𝓛 (Lends Self.row (Array Self.Item.row 0) self.entry result (with_cells self.old start)) }
-        ensures value { result.now ≡ slice_range (Self.cells self.old) start end };
+    /// The `len` cells from `start`. Once the borrow ends, the container has what was left there.
+    fn stretch_mut(&mut self, start: usize, len: usize) -> &mut [Self::Item]
+        requires in_bounds { start + len ≤ length (Self.cells self.old) }
+        ensures* writes_back { sem 𝓛 (Lends Self.row (Array Self.Item.row 0) self.entry result (with_cells self.old (record { start = start; len = len }))) }
+        ensures value { result.now ≡ stretch_cells (Self.cells self.old) (record { start = start; len = len }) };
 }
 
 impl<T> AsSlice for Vec<T> {
@@ -37,10 +36,10 @@ impl<T> AsSlice for Vec<T> {
 }
 
 impl<T> AsMutSlice for Vec<T> {
-    ghost with_cells = { with_items_from };
+    ghost with_cells = { λ v s ws. with_items_from v s.start ws };
 
-    fn stretch_mut(&mut self, start: usize, end: usize) -> &mut [T] {
-        self.slice_mut(start..end)
+    fn stretch_mut(&mut self, start: usize, len: usize) -> &mut [T] {
+        self.slice_mut(start..start + len)
     }
 }
 
@@ -65,10 +64,10 @@ impl<'a, T> AsSlice for &'a mut [T] {
 }
 
 impl<'a, T> AsMutSlice for &'a mut [T] {
-    ghost with_cells = { λ s start ws. record s { now = patched s.now start ws } };
+    ghost with_cells = { λ c s ws. record c { now = with_stretch c.now s ws } };
 
-    fn stretch_mut(&mut self, start: usize, end: usize) -> &mut [T] {
-        &mut self[start..end]
+    fn stretch_mut(&mut self, start: usize, len: usize) -> &mut [T] {
+        &mut self[start..start + len]
     }
 }
 
