@@ -1,5 +1,5 @@
 -- Which cells a window takes, by the kind of its parent, and where a window stands in a list of cells.
-use Rattle.std.specs.Prelude.{ℕ, ◌+◌, ◌≤◌, Bool, if◌then◌else◌, length}
+use Rattle.std.specs.Prelude.{ℕ, ◌+◌, ◌≤◌, Bool, if◌then◌else◌}
 use Rattle.image_model.specs.Layout.{Layout}
 use Rattle.image_model.specs.Windows.{Window, Stretch, exact_stretch, roomy_stretch, exact_window, roomy_window}
 use Rattle.imgref.specs.declared.window.Region.{Region}

@@ -19,7 +19,15 @@ pub(crate) struct Region {
 }
 
 /// The stretch of a window: whole strides where that is asked for and `cells` cells have them, and else up to its last pixel. An empty window has no cells, and its corner is never computed.
-pub(crate) fn window_region(roomy: bool, cells: usize, stride: usize, left: usize, top: usize, width: usize, height: usize) -> Region
+pub(crate) fn window_region(
+    roomy: bool,
+    cells: usize,
+    stride: usize,
+    left: usize,
+    top: usize,
+    width: usize,
+    height: usize,
+) -> Region
     requires narrow { width ≤ stride }
     requires width_fits { width < 2 ^ 32 }
     requires height_fits { height < 2 ^ 32 }
@@ -38,12 +46,63 @@ pub(crate) fn window_region(roomy: bool, cells: usize, stride: usize, left: usiz
     let start = stride * top + left;
     let exact = stride * (height - 1) + width;
     let spare = stride - width;
-    let len = if roomy && cells - start - exact >= spare { exact + spare } else { exact };
+    let len = if roomy && cells - start - exact >= spare {
+        exact + spare
+    } else {
+        exact
+    };
     Region {
         start,
         len,
         width: width as u32,
         height: height as u32,
+    }
+}
+
+/// The roomy stretch of a window.
+fn roomy_region(
+    cells: usize,
+    stride: usize,
+    left: usize,
+    top: usize,
+    width: usize,
+    height: usize,
+) -> Region
+    requires narrow { width ≤ stride }
+    requires width_fits { width < 2 ^ 32 }
+    requires height_fits { height < 2 ^ 32 }
+    requires room { IsWithin cells (exact_stretch stride (window left top width height)) }
+    ensures value { result ≡ region (roomy_stretch cells stride (window left top width height)) (window left top width height) }
+    ensures inside { IsWithin cells (roomy_stretch cells stride (window left top width height)) }
+{
+    window_region(true, cells, stride, left, top, width, height)
+}
+
+/// The image cut down to the window whose cells are the `len` from number `start` on.
+fn into_stretch<'s, T>(
+    img: ImgRefMut<'s, T>,
+    start: usize,
+    len: usize,
+    width: u32,
+    height: u32,
+) -> ImgRefMut<'s, T>
+    requires in_bounds { start + len ≤ length (buf_of img).now }
+    requires narrow { width ≤ width_of img }
+    ensures* hands_on { sem 𝓛 (follows (Array T.row 0) (Array T.row 0) (buf_of img.entry).ghost_name (buf_of result).ghost_name (with_stretch (buf_of img.entry).now (record { start = start; len = len }))) }
+    ensures layout { mut_layout result ≡ layout (stretch_cells (buf_of img.entry).now (record { start = start; len = len })) width height (stride_of img.entry) }
+{
+    let Img {
+        buf,
+        width: _,
+        height: _,
+        stride,
+    } = img;
+    let end = start + len;
+    Img {
+        buf: &mut buf[start..end],
+        width,
+        height,
+        stride,
     }
 }
 
@@ -85,7 +144,11 @@ impl<'s, T> Img<&'s [T]> {
         requires inside { IsInside (width_of self.now) (height_of self.now) (window left top width height) }
         ensures layout { ref_layout result ≡ roomy_window (ref_layout self.now) (window left top width height) }
     {
-        shared_window(self.buf, self.region(true, left, top, width, height), self.stride)
+        shared_window(
+            self.buf,
+            self.region(true, left, top, width, height),
+            self.stride,
+        )
     }
 }
 
@@ -96,7 +159,11 @@ impl<T> Img<Vec<T>> {
         requires inside { IsInside (width_of self.now) (height_of self.now) (window left top width height) }
         ensures layout { ref_layout result ≡ roomy_window (vec_layout self.now) (window left top width height) }
     {
-        shared_window(self.buf.as_slice(), self.region(true, left, top, width, height), self.stride)
+        shared_window(
+            self.buf.as_slice(),
+            self.region(true, left, top, width, height),
+            self.stride,
+        )
     }
 
     /// The whole image, shared, with its whole buffer.
@@ -119,7 +186,11 @@ impl<'s, T> Img<&'s mut [T]> {
         requires inside { IsInside (width_of self.now) (height_of self.now) (window left top width height) }
         ensures layout { ref_layout result ≡ roomy_window (mut_layout self.now) (window left top width height) }
     {
-        shared_window(&*self.buf, self.region(true, left, top, width, height), self.stride)
+        shared_window(
+            &*self.buf,
+            self.region(true, left, top, width, height),
+            self.stride,
+        )
     }
 
     /// The whole image, shared, with its whole buffer.
@@ -132,6 +203,25 @@ impl<'s, T> Img<&'s mut [T]> {
             height: self.height,
             stride: self.stride,
         }
+    }
+}
+
+impl<'s, T> Img<&'s mut [T]> {
+    /// The image cut down to the window with its corner at `left`, `top`: whole strides of cells where the image has them.
+    pub fn into_sub_image_mut(
+        self,
+        left: usize,
+        top: usize,
+        width: usize,
+        height: usize,
+    ) -> ImgRefMut<'s, T>
+        requires fits { Fits (mut_layout self) }
+        requires inside { IsInside (width_of self) (height_of self) (window left top width height) }
+        ensures* hands_on { sem 𝓛 (follows (Array T.row 0) (Array T.row 0) (buf_of self.entry).ghost_name (buf_of result).ghost_name (with_stretch (buf_of self.entry).now (roomy_stretch (length (buf_of self.entry).now) (stride_of self.entry) (window left top width height)))) }
+        ensures layout { mut_layout result ≡ roomy_window (mut_layout self.entry) (window left top width height) }
+    {
+        let region = roomy_region(self.buf.len(), self.stride, left, top, width, height);
+        into_stretch(self, region.start, region.len, region.width, region.height)
     }
 }
 
@@ -155,7 +245,13 @@ impl<C: AsMutSlice> Img<C> {
     }
 
     /// The window with its corner at `left`, `top`, for writing.
-    pub fn sub_image_mut(&mut self, left: usize, top: usize, width: usize, height: usize) -> Img<&mut [C::Item]>
+    pub fn sub_image_mut(
+        &mut self,
+        left: usize,
+        top: usize,
+        width: usize,
+        height: usize,
+    ) -> Img<&mut [C::Item]>
         requires fits { Fits (layout_by C.AsSlice.cells self.old) }
         requires inside { IsInside (width_of self.old) (height_of self.old) (window left top width height) }
         ensures* hands_on { sem 𝓛 (follows (the_row C.row) (Array C.Item.row 0) self.entry.ghost_name (buf_of result).ghost_name (λ ws. with_buf self.old (C.with_cells (buf_of self.old) (stretch_of C.roomy_windows (length (C.AsSlice.cells (buf_of self.old))) (stride_of self.old) (window left top width height)) ws))) }
@@ -173,7 +269,13 @@ impl<C: AsMutSlice> Img<C> {
     }
 
     /// The window with its corner at `left`, `top`, for writing, as its cells, its width, its height and its stride.
-    pub fn window_parts_mut(&mut self, left: usize, top: usize, width: usize, height: usize) -> (&mut [C::Item], usize, usize, usize)
+    pub fn window_parts_mut(
+        &mut self,
+        left: usize,
+        top: usize,
+        width: usize,
+        height: usize,
+    ) -> (&mut [C::Item], usize, usize, usize)
         requires fits { Fits (layout_by C.AsSlice.cells self.old) }
         requires inside { IsInside (width_of self.old) (height_of self.old) (window left top width height) }
         ensures* hands_on { sem 𝓛 (follows (the_row C.row) (Array C.Item.row 0) self.entry.ghost_name result.0.ghost_name (λ ws. with_buf self.old (C.with_cells (buf_of self.old) (stretch_of C.roomy_windows (length (C.AsSlice.cells (buf_of self.old))) (stride_of self.old) (window left top width height)) ws))) }

@@ -1,28 +1,23 @@
 -- `&mut self[start..start + len]` at a `&mut &mut [T]`: a stretch of the inner slice is lent, and the outer reference follows it. A walk of its MIR by hand.
 use mathlib.Core.Path.{◌≡◌, refl, sym, ap, subst, ◌∙◌}
-use Prim.Native.Nat.{ℕ, zero, suc, ◌+◌, ◌-◌, ◌*◌, ◌^◌, ◌<◌, ◌≤◌}
-use native.Mathlib.Nat.{mul-le-mul_right, zero-mul, suc-mul}
+use Prim.Native.Nat.{ℕ, ◌+◌, ◌-◌, ◌*◌, ◌^◌, ◌<◌, ◌≤◌}
+use native.Mathlib.Nat.{mul-le-mul_right}
 use native.Mathlib.Omega.{arith}
 use mathlib.Core.List.{List, [], ◌∷◌, ◌++◌}
-use lib.ListN.{length, take, drop as drop_list, take-append-drop, length-drop, length-append}
+use lib.ListN.{length, take, drop as drop_list, length-drop}
 use seplogic.Ra.Ura.{Ura}
 use base.Fraction.{full_share}
-use base.Logic.{SProp, ent, sep, ex}
-use base.Stored.{coded_list}
-use base.Fml.{Lft, GName, Share, ftrue, flft, fobs, fbor, fat}
-use mir.Syntax.{Args, Fn, Ty, Lifetime, named, erased, mut, ty_ref, ty_param, w64, a_type}
+use base.Logic.{SProp, ent}
+use base.Fml.{Lft, GName, Share, ftrue, flft, fat}
+use mir.Syntax.{Args, Fn, Ty, named, erased, mut, ty_ref, ty_param, w64, a_type}
 use mir.MapTy.{inst_fn}
 use mir.Val.{Val, vint, vptr}
-use prog.Memory.{Memory, size, capped}
-use prog.Capped.{capped_is}
+use prog.Memory.{Memory, size}
 use prog.Routine.{Routine}
 use prog.Wp.{Calls, Loops, WpFn, Tables}
-use types.Logic.{Logic, sem}
-use types.SemTy.{cells, Arr}
-use types.SemTy.{Body as Borrowed}
-use types.Follow.{takes_part}
+use types.Logic.{Logic}
 use types.Mut.{open_ref, close_ref}
-use types.Kit.{Item, ‵, ◌⊛◌, raw, given, some, later, ◌$◌, ◌∵◌, !, qed, by, move, keep, drop, split, split3, join, group, learn, fsplit, fsplit3, fjoin, fjoin3, feq_i, feq_l, flt_l, flt_i, rewrite, updating, use1, use2, use3, await, pick, now, show, suffices, frame, done}
+use types.Kit.{Item, ‵, ◌⊛◌, raw, given, some, later, ◌$◌, ◌∵◌, !, qed, by, move, keep, drop, split, split3, join, learn, fsplit, fsplit3, fjoin, fjoin3, feq_i, feq_l, flt_l, flt_i, rewrite, use1, use2, use3, await, pick, suffices, frame, done}
 use types.Part.{whole, sub, look_in, agg}
 use types.Run.{stop, fld, hop, load, addr, bin, of_opd, size_word, and_then, no_more, returns, enter}
 use types.ByLocal.{alloc_all, pass_all, free_all, look_at, get, get_in, through, is, sets}
@@ -35,7 +30,6 @@ use denote.Array.{Array}
 use denote.Builtin.{usize}
 use denote.Exit.{yes, no}
 use denote.Follow.{follows, follows_then}
-use denote.FollowSlice.{heres_id, slice_of}
 use denote.Memory.{mem, part_at}
 use denote.Param.{param, layout, layouts}
 use denote.Plain.{uint_vals, uint_Tells}
@@ -50,7 +44,7 @@ use denote.Triple.Entry.{on_entry}
 use denote.Triple.Spec.{Meets, triple_of}
 use denote.Triple.Table.{entered}
 use denote.Triple.Walked.{says, Stays, stay_dropped, walk_of, ends_at, walked, Goes-dropped, Goes-spent_ref, walk_Meets}
-use borrow.Table.Elements.{at, at_mul, cut_app, join_app, length-take-le}
+use borrow.Table.Elements.{at, at_mul, length-take-le}
 use borrow.Table.OneValue.{part_out_at, part_in_at}
 use Rattle.imgref.proofs.Parts.{uncapped, cut_at, part_lent, lends_part}
 use Rattle.imgref.specs.contracts.containers.RefMutSliceAsMutSlice.stretch_mut as F
