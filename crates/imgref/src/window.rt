@@ -129,7 +129,9 @@ impl<C: AsSlice> Img<C> {
         requires inside { IsInside (width_of self.now) (height_of self.now) (window left top width height) }
         ensures value { result ≡ region (stretch_of roomy (length (C.cells (buf_of self.now))) (stride_of self.now) (window left top width height)) (window left top width height) }
         ensures inside { IsWithin (length (C.cells (buf_of self.now))) (stretch_of roomy (length (C.cells (buf_of self.now))) (stride_of self.now) (window left top width height)) }
-        ensures narrow { width ≤ stride_of self.now }
+        ensures narrow { result.width ≤ stride_of self.now }
+        ensures width_fits { result.width < 2 ^ 32 }
+        ensures height_fits { result.height < 2 ^ 32 }
     {
         let cells = self.buf.as_slice().len();
         let _width = self.width;
@@ -291,12 +293,16 @@ impl<C: AsMutSlice> Img<C> {
         requires inside { IsInside (width_of self.old) (height_of self.old) (window left top width height) }
         ensures* hands_on { sem 𝓛 (follows (the_row C.row) (Array C.Item.row 0) self.entry.ghost_name result.0.ghost_name (λ ws. with_buf self.old (C.with_cells (buf_of self.old) (stretch_of C.roomy_windows (length (C.AsSlice.cells (buf_of self.old))) (stride_of self.old) (window left top width height)) ws))) }
         ensures layout { layout result.0.now result.1 result.2 result.3 ≡ window_of C.roomy_windows (layout_by C.AsSlice.cells self.old) (window left top width height) }
+        ensures positive { 1 ≤ result.3 }
+        ensures narrow { result.1 ≤ result.3 }
+        ensures width_fits { result.1 < 2 ^ 32 }
+        ensures height_fits { result.2 < 2 ^ 32 }
         ensures fits { Fits (layout result.0.now result.1 result.2 result.3) }
         ensures view { grid_of (layout result.0.now result.1 result.2 result.3) ≡ window_view (grid_of (layout_by C.AsSlice.cells self.old)) (window left top width height) }
     {
         let region = self.region(C::has_roomy_windows(), left, top, width, height);
         let stride = self.stride;
         let cells = self.buf.stretch_mut(region.start, region.len);
-        (cells, width, height, stride)
+        (cells, region.width as usize, region.height as usize, stride)
     }
 }

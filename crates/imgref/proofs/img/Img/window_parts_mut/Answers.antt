@@ -5,7 +5,7 @@ use Rattle.image_model.specs.Windows.{Window, window}
 use Rattle.imgref.specs.Image.{layout_by}
 use Rattle.imgref.specs.Window.{stretch_of, window_of}
 use Rattle.imgref.proofs.Numbers.{same_image}
-use Rattle.imgref.proofs.Places.{stretch_is, window_is, window_fits, window_shows}
+use Rattle.imgref.proofs.Places.{stretch_is, region_is, window_fits, window_shows}
 use Rattle.imgref.proofs.img.Img.window_parts_mut.Goals as goal
 
 pub returns : goal.returns
@@ -14,13 +14,17 @@ returns g c =
     let roomy = g.C.AsMutSlice.roomy_windows in
     let w : Window = window c.args.left c.args.top c.args.width c.args.height in
     let l : Layout g.row.C-Item.Denot = layout_by g.C.AsSlice.cells i in
-    let m : Layout g.row.C-Item.Denot = laid c.stretch_mut-cells.result.now c.args.width c.args.height i.stride in
-    let is : m ≡ window_of roomy l w = window_is l w roomy c.has_roomy_windows.result c.region-region.result c.stretch_mut-cells.result.now c.region-region.ensures.value c.has_roomy_windows.ensures c.stretch_mut-cells.ensures.value in
+    let m : Layout g.row.C-Item.Denot = laid c.stretch_mut-cells.result.now c.region-region.result.width c.region-region.result.height i.stride in
+    let is : m ≡ window_of roomy l w = region_is l w roomy c.has_roomy_windows.result c.region-region.result c.stretch_mut-cells.result.now c.region-region.ensures.value c.has_roomy_windows.ensures c.stretch_mut-cells.ensures.value in
     let at : record { start = c.region-region.result.start; len = c.region-region.result.len } ≡ stretch_of roomy (length l.cells) i.stride w = stretch_is l w roomy c.has_roomy_windows.result c.region-region.result c.region-region.ensures.value c.has_roomy_windows.ensures in (
       (refl, λ ws. rw at (same_image _ _ _ _ _ _ _ _)),
       record {
         hands_on = tt;
         layout = is;
+      positive = i.stride_positive;
+      narrow = c.region-region.ensures.narrow;
+      width_fits = c.region-region.ensures.width_fits;
+      height_fits = c.region-region.ensures.height_fits;
         fits = window_fits l i.width_within c.requires.fits w c.requires.inside roomy m is;
         view = window_shows l i.width_within c.requires.fits w c.requires.inside roomy m is;
       },
