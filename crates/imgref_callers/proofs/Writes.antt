@@ -1,7 +1,7 @@
 -- What a write at a place of a window does to the image.
-use Rattle.std.proofs.Common.{◌≡◌, ℕ, ◌+◌, ◌*◌, ◌<◌, ◌≤◌, List, length, slice_set, Vec, refl, sym, ap, subst, ◌∙◌, arith, length-set}
+use Rattle.std.proofs.Common.{◌≡◌, ℕ, ◌+◌, ◌*◌, ◌<◌, ◌≤◌, List, length, slice_set, Vec, sym, ap, subst, ◌∙◌, arith, length-set}
 use Rattle.std.specs.Vec.{with_items_from}
-use Rattle.image_model.specs.Layout.{Layout, Fits, SameOutside}
+use Rattle.image_model.specs.Layout.{Layout, layout, Fits, SameOutside}
 use Rattle.image_model.specs.Grid.{grid_of, patch, uniform}
 use Rattle.image_model.specs.Windows.{Window, Stretch, IsInside, exact_stretch, roomy_stretch, stretch_cells, with_stretch}
 use Rattle.image_model.proofs.Grids.{written_grid}
@@ -20,6 +20,17 @@ module _ {T : Type 0} (l n : Layout T) (x y : ℕ) (value : T) (is : n ≡ writt
   stays : SameOutside l n
   stays = subst (SameOutside l) (sym is) (written_outside l x y value column line)
 
+-- cells of which one was written
+module _ {T : Type 0} (l : Layout T) (new : List T) (x y : ℕ) (value : T) (is : new ≡ slice_set l.cells (y * l.stride + x) value) (narrow : l.width ≤ l.stride) (fits : Fits l) (column : x < l.width) (line : y < l.height) where
+  in_layout : layout new l.width l.height l.stride ≡ written l x y value
+  in_layout = ap (λ (cells : List T). layout cells l.width l.height l.stride) is
+
+  pub cells_grid : grid_of (layout new l.width l.height l.stride) ≡ patch (grid_of l) x y (uniform 1 1 value)
+  cells_grid = shows l _ x y value in_layout narrow fits column line
+
+  pub cells_outside : SameOutside l (layout new l.width l.height l.stride)
+  cells_outside = stays l _ x y value in_layout narrow fits column line
+
 -- a pixel of a window written, and the window's cells handed on
 module _ {T : Type 0} (l : Layout T) (w : Window) (x y : ℕ) (value : T) (narrow : l.width ≤ l.stride) (fits : Fits l) (inside : IsInside l.width l.height w) (column : x < w.width) (line : y < w.height) where
   abbrev pub IsPut : Stretch → List T → Type 0
@@ -27,9 +38,6 @@ module _ {T : Type 0} (l : Layout T) (w : Window) (x y : ℕ) (value : T) (narro
 
   lands : (s : Stretch) (cells : List T) → HasWindow (length l.cells) l.stride w s → IsPut s cells → handed_on l s cells ≡ written l (w.left + x) (w.top + y) value
   lands s cells has put = ap (handed_on l s) put ∙ window_written l w s has x y value column line
-
-  roomy : Stretch
-  roomy = roomy_stretch (length l.cells) l.stride w
 
   in_roomy : (cells : List T) → IsPut (roomy_stretch (length l.cells) l.stride w) cells → handed_on l (roomy_stretch (length l.cells) l.stride w) cells ≡ written l (w.left + x) (w.top + y) value
   in_roomy cells put = lands (roomy_stretch (length l.cells) l.stride w) cells (roomy_has (length l.cells) l.stride l.width l.height w narrow fits inside) put

@@ -42,7 +42,15 @@ fn put<T: Copy>(cells: &mut [T], width: usize, height: usize, stride: usize, spo
 }
 
 /// Writes one pixel of a window of the image that these cells are.
-fn put_inside<T: Copy>(cells: &mut [T], width: usize, height: usize, stride: usize, window: Window, spot: Spot, value: T)
+fn put_inside<T: Copy>(
+    cells: &mut [T],
+    width: usize,
+    height: usize,
+    stride: usize,
+    window: Window,
+    spot: Spot,
+    value: T,
+)
     requires positive { 1 ≤ stride }
     requires narrow { width ≤ stride }
     requires width_fits { width < 2 ^ 32 }
@@ -54,12 +62,23 @@ fn put_inside<T: Copy>(cells: &mut [T], width: usize, height: usize, stride: usi
     ensures { cells.new ≡ slice_set cells.old ((window.top + spot.y) * stride + (window.left + spot.x)) value }
 {
     let mut img = ImgRefMut::new_stride(cells, width, height, stride);
-    let (inner, width, height, stride) = img.window_parts_mut(window.left, window.top, window.width, window.height);
+    let (inner, width, height, stride) = img.window_parts_mut(
+        window.left,
+        window.top,
+        window.width,
+        window.height,
+    );
     put(inner, width, height, stride, spot, value);
 }
 
 /// Writes one pixel of a window of a window of an image that owns its pixels.
-pub fn put_in_owner<T: Copy>(img: &mut ImgVec<T>, first: Window, second: Window, spot: Spot, value: T)
+pub fn put_in_owner<T: Copy>(
+    img: &mut ImgVec<T>,
+    first: Window,
+    second: Window,
+    spot: Spot,
+    value: T,
+)
     requires fits { Fits (vec_layout img.old) }
     requires first_inside { IsInside (width_of img.old) (height_of img.old) (as_window first) }
     requires second_inside { IsInside first.width first.height (as_window second) }
@@ -68,12 +87,23 @@ pub fn put_in_owner<T: Copy>(img: &mut ImgVec<T>, first: Window, second: Window,
     ensures grid { grid_of (vec_layout img.new) ≡ patch (grid_of (vec_layout img.old)) (first.left + (second.left + spot.x)) (first.top + (second.top + spot.y)) (uniform 1 1 value) }
     ensures outside { SameOutside (vec_layout img.old) (vec_layout img.new) }
 {
-    let (cells, width, height, stride) = img.window_parts_mut(first.left, first.top, first.width, first.height);
+    let (cells, width, height, stride) = img.window_parts_mut(
+        first.left,
+        first.top,
+        first.width,
+        first.height,
+    );
     put_inside(cells, width, height, stride, second, spot, value);
 }
 
 /// Writes one pixel of a window of a window of a lent image.
-pub fn put_in_lent<T: Copy>(img: &mut ImgRefMut<T>, first: Window, second: Window, spot: Spot, value: T)
+pub fn put_in_lent<T: Copy>(
+    img: &mut ImgRefMut<T>,
+    first: Window,
+    second: Window,
+    spot: Spot,
+    value: T,
+)
     requires fits { Fits (mut_layout img.old) }
     requires first_inside { IsInside (width_of img.old) (height_of img.old) (as_window first) }
     requires second_inside { IsInside first.width first.height (as_window second) }
@@ -83,12 +113,26 @@ pub fn put_in_lent<T: Copy>(img: &mut ImgRefMut<T>, first: Window, second: Windo
     ensures outside { SameOutside (mut_layout img.old) (mut_layout img.new) }
     ensures same_reference { (buf_of img.new).ghost_name ≡ (buf_of img.old).ghost_name }
 {
-    let (cells, width, height, stride) = img.window_parts_mut(first.left, first.top, first.width, first.height);
+    let (cells, width, height, stride) = img.window_parts_mut(
+        first.left,
+        first.top,
+        first.width,
+        first.height,
+    );
     put_inside(cells, width, height, stride, second, spot, value);
 }
 
 /// Writes one pixel of a window of a window of the image that these cells are.
-pub fn put_in_cells<T: Copy>(cells: &mut [T], width: usize, height: usize, stride: usize, first: Window, second: Window, spot: Spot, value: T)
+pub fn put_in_cells<T: Copy>(
+    cells: &mut [T],
+    width: usize,
+    height: usize,
+    stride: usize,
+    first: Window,
+    second: Window,
+    spot: Spot,
+    value: T,
+)
     requires positive { 1 ≤ stride }
     requires narrow { width ≤ stride }
     requires width_fits { width < 2 ^ 32 }
@@ -102,6 +146,11 @@ pub fn put_in_cells<T: Copy>(cells: &mut [T], width: usize, height: usize, strid
     ensures outside { SameOutside (layout cells.old width height stride) (layout cells.new width height stride) }
 {
     let mut img = ImgRefMut::new_stride(cells, width, height, stride);
-    let (outer, width, height, stride) = img.window_parts_mut(first.left, first.top, first.width, first.height);
+    let (outer, width, height, stride) = img.window_parts_mut(
+        first.left,
+        first.top,
+        first.width,
+        first.height,
+    );
     put_inside(outer, width, height, stride, second, spot, value);
 }

@@ -1,5 +1,5 @@
 -- The pixel of the inner window is the image's at the summed place.
-use Rattle.std.proofs.Common.{rules, arith, ◌≡◌, ◌+◌, ℕ, ◌<◌, ◌≤◌}
+use Rattle.std.proofs.Common.{rules, arith, ◌+◌, ◌<◌, ◌≤◌}
 use Rattle.imgref.specs.Image.{width_of, stride_of}
 use Rattle.imgref_callers.specs.Windows.{as_window}
 use Rattle.imgref_callers.proofs.Writes.{owner_grid, owner_outside}

@@ -21,10 +21,10 @@ returns g c =
       record {
         hands_on = tt;
         layout = is;
-      positive = i.stride_positive;
-      narrow = c.region-region.ensures.narrow;
-      width_fits = c.region-region.ensures.width_fits;
-      height_fits = c.region-region.ensures.height_fits;
+        positive = i.stride_positive;
+        narrow = c.region-region.ensures.narrow;
+        width_fits = c.region-region.ensures.width_fits;
+        height_fits = c.region-region.ensures.height_fits;
         fits = window_fits l i.width_within c.requires.fits w c.requires.inside roomy m is;
         view = window_shows l i.width_within c.requires.fits w c.requires.inside roomy m is;
       },
