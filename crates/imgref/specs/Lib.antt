@@ -1,3 +1,4 @@
 pub mod Image
+pub mod Index
 pub mod Layout
 pub mod Stretch
