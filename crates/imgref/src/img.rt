@@ -130,12 +130,7 @@ impl<Container> Img<Container> {
     pub fn into_buf(self) -> Container
         ensures { result ≡ buf_of self }
     {
-        let Img {
-            buf,
-            width: _,
-            height: _,
-            stride: _,
-        } = self;
+        let (buf, _, _, _) = self.into_parts();
         buf
     }
 

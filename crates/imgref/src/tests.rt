@@ -69,6 +69,7 @@ fn a_container_is_left_in_place(rt: HostRuntime) -> Result<(), Fail> {
     image.buf_mut().push(4)?;
     image.buf_mut().push(5)?;
     assert!(rt; image.is_valid());
+    assert_eq!(rt; image.row(1), [4u8, 5].as_slice());
     assert_eq!(rt; image.width(), 2);
     assert_eq!(rt; image.height(), 2);
     assert_eq!(rt; image.stride(), 3);
