@@ -149,11 +149,8 @@ impl<'s, T> Img<&'s [T]> {
         ensures fits { Fits (ref_layout result) }
         ensures view { grid_of (ref_layout result) ≡ window_view (grid_of (ref_layout self.now)) (window left top width height) }
     {
-        shared_window(
-            self.buf,
-            self.region(true, left, top, width, height),
-            self.stride,
-        )
+        let window = self.region(true, left, top, width, height);
+        shared_window(self.buf, window, self.stride)
     }
 }
 
@@ -166,11 +163,8 @@ impl<T> Img<Vec<T>> {
         ensures fits { Fits (ref_layout result) }
         ensures view { grid_of (ref_layout result) ≡ window_view (grid_of (vec_layout self.now)) (window left top width height) }
     {
-        shared_window(
-            self.buf.as_slice(),
-            self.region(true, left, top, width, height),
-            self.stride,
-        )
+        let region = self.region(true, left, top, width, height);
+        shared_window(self.buf.as_slice(), region, self.stride)
     }
 
     /// The whole image, shared, with its whole buffer.
@@ -195,11 +189,8 @@ impl<'s, T> Img<&'s mut [T]> {
         ensures fits { Fits (ref_layout result) }
         ensures view { grid_of (ref_layout result) ≡ window_view (grid_of (mut_layout self.now)) (window left top width height) }
     {
-        shared_window(
-            &*self.buf,
-            self.region(true, left, top, width, height),
-            self.stride,
-        )
+        let part = self.region(true, left, top, width, height);
+        shared_window(&*self.buf, part, self.stride)
     }
 
     /// The whole image, shared, with its whole buffer.
@@ -300,9 +291,9 @@ impl<C: AsMutSlice> Img<C> {
         ensures fits { Fits (layout result.0.now result.1 result.2 result.3) }
         ensures view { grid_of (layout result.0.now result.1 result.2 result.3) ≡ window_view (grid_of (layout_by C.AsSlice.cells self.old)) (window left top width height) }
     {
-        let region = self.region(C::has_roomy_windows(), left, top, width, height);
+        let part = self.region(C::has_roomy_windows(), left, top, width, height);
         let stride = self.stride;
-        let cells = self.buf.stretch_mut(region.start, region.len);
-        (cells, region.width as usize, region.height as usize, stride)
+        let cells = self.buf.stretch_mut(part.start, part.len);
+        (cells, part.width as usize, part.height as usize, stride)
     }
 }
