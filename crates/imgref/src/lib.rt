@@ -19,6 +19,8 @@ mod index;
 #[cfg(test)]
 mod tests;
 mod window;
+#[cfg(test)]
+mod window_tests;
 
 pub use containers::{AsMutCell, AsMutSlice, AsSlice};
 pub use img::{Img, ImgRef, ImgRefMut, ImgVec};
