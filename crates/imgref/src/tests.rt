@@ -66,6 +66,43 @@ fn set_row<T: Copy>(image: &mut ImgVec<T>, y: usize, values: &[T])
     image.row_mut(y).copy_from_slice(values);
 }
 
+// An image in between, of which the lender learns every write.
+fn set_first_two<T: Copy>(cells: &mut [T], value: T)
+    requires { 1 < length cells.old }
+    ensures { cells.new ≡ slice_set (slice_set cells.old 0 value) 1 value }
+{
+    let mut image = Img::new_stride(cells, 1, 1, 1);
+    image.row_mut(0)[0] = value;
+    image[(0usize, 1usize)] = value;
+}
+
+// The slice that an image was made of, taken out of it: the same loan.
+fn there_and_back<T>(cells: &mut [T]) -> &mut [T]
+    ensures same_loan { result.ghost_name ≡ cells.entry.ghost_name }
+    ensures value { result.now ≡ cells.old }
+{
+    let (cells, _, _, _) = Img::new_stride(cells, 1, 1, 1).into_parts();
+    cells
+}
+
+fn set_first<T: Copy>(cells: &mut [T], value: T)
+    requires { 0 < length cells.old }
+    ensures { cells.new ≡ slice_set cells.old 0 value }
+{
+    let back = there_and_back(cells);
+    back[0] = value;
+}
+
+#[test]
+fn a_lender_learns_what_was_written(rt: HostRuntime) -> Result<(), Fail> {
+    let mut cells = [1u8, 2, 3];
+    set_first_two(&mut cells, 7);
+    assert_eq!(rt; cells, [7u8, 7, 3]);
+    set_first(&mut cells, 9);
+    assert_eq!(rt; cells, [9u8, 7, 3]);
+    Ok(())
+}
+
 #[test]
 fn accessors_give_the_parts(rt: HostRuntime) -> Result<(), Fail> {
     let cells = [1u8, 2, 3, 4, 5, 6, 7, 8];
