@@ -1,4 +1,4 @@
-ghost use Rattle.std.specs.Prelude.{◌≡◌, refl, Bool, true, false, ℕ, ◌+◌, ◌-◌, ◌≤◌, ◌<◌, List, length, slice_range, slice_set};
+ghost use Rattle.std.specs.Prelude.{◌≡◌, refl, Bool, true, false, ℕ, ◌+◌, ◌-◌, ◌≤◌, ◌<◌, List, length, slice_range, slice_set, slice_get, Some};
 ghost use Rattle.std.specs.Borrow.{sem, Lends, Array};
 ghost use Rattle.std.specs.Vec.{with_items_from, with_item};
 ghost use Rattle.imgref.specs.Containers.{others_of_vec};
@@ -105,7 +105,8 @@ pub trait AsMutCell: AsSlice {
     // One cell. Once the borrow ends, the container has what was left there.
     fn cell_mut(&mut self, at: usize) -> &mut Self::Item
         requires in_bounds { at < length (Self.cells self.old) }
-        ensures* writes_back { sem 𝓛 (Lends Self.row Self.Item.row self.entry result (with_cell self.old at)) };
+        ensures* writes_back { sem 𝓛 (Lends Self.row Self.Item.row self.entry result (with_cell self.old at)) }
+        ensures value { slice_get (Self.cells self.old) at ≡ Some result.now };
 
     /// Another cell at an index leaves every other cell.
     ghost other_cells_stay: { (c : Self) (at : ℕ) (value : Self.Item) → at < length (Self.cells c) → Self.cells (with_cell c at value) ≡ slice_set (Self.cells c) at value };
