@@ -92,4 +92,24 @@ impl<Container> Img<Container> {
     {
         self.buf
     }
+
+    /// The container, the width, the height and the stride.
+    pub fn into_parts(self) -> (Container, usize, usize, usize)
+        ensures buf { result.0 ≡ buf_of self }
+        ensures width { result.1 ≡ width_of self }
+        ensures height { result.2 ≡ height_of self }
+        ensures stride { result.3 ≡ stride_of self }
+        ensures positive { 1 ≤ result.3 }
+        ensures within { result.1 ≤ result.3 }
+        ensures width_fits { result.1 < 2 ^ 32 }
+        ensures height_fits { result.2 < 2 ^ 32 }
+    {
+        let Img {
+            buf,
+            width,
+            height,
+            stride,
+        } = self;
+        (buf, width as usize, height as usize, stride)
+    }
 }

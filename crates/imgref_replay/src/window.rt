@@ -1,5 +1,15 @@
 //! Windows of windows: a path of them is one window of the image.
 
+ghost use Rattle.std.specs.Prelude.{◌≡◌, ℕ, ◌+◌, ◌≤◌, ◌<◌, ◌^◌, []  , ◌∷◌, length, IfOk};
+ghost use Rattle.std.specs.Result.{result_err};
+ghost use Rattle.std.specs.Borrow.{sem, follows, follows_if, Array};
+ghost use Rattle.image_model.specs.Layout.{Fits, Reaches, layout};
+ghost use Rattle.image_model.specs.Windows.{is_inside, first_outside, with_stretch, stretch_cells};
+ghost use Rattle.imgref.specs.Image.{buf_of, mut_layout, ref_layout};
+ghost use Rattle.imgref_replay.specs.Paths.{window_of, windows_of, stretch_of, path_region};
+
+use imgref::{ImgRef, ImgRefMut};
+
 /// A window of an image or of another window: its corner and its size, in pixels.
 #[derive(Clone, Copy, PartialEq, Eq)]
 pub struct Window {
@@ -11,4 +21,62 @@ pub struct Window {
     pub width: usize,
     /// How many rows it has.
     pub height: usize,
+}
+
+/// The cells of a window, as a stretch of its image's cells, and its size.
+#[derive(Clone, Copy)]
+struct Region {
+    start: usize,
+    len: usize,
+    width: usize,
+    height: usize,
+}
+
+impl Region {
+    /// Whether the window lies inside.
+    fn has(&self, window: &Window) -> bool
+        ensures { result ≡ is_inside self.now.width self.now.height (window_of window.now) }
+    {
+        window.left <= self.width
+            && window.width <= self.width - window.left
+            && window.top <= self.height
+            && window.height <= self.height - window.top
+    }
+
+    /// The region of a window that lies inside.
+    fn window(&self, stride: usize, window: &Window) -> Region
+        requires inside { is_inside self.now.width self.now.height (window_of window.now) ≡ true }
+        requires bounded { self.now.start + self.now.len < 2 ^ 64 }
+        requires within { self.now.width ≤ stride }
+        requires fits { Reaches self.now.len self.now.width self.now.height stride }
+        ensures value { result ≡ path_region stride self.now (window_of window.now ∷ []) }
+        ensures inside { result.start + result.len ≤ self.now.start + self.now.len }
+        ensures fits { Reaches result.len result.width result.height stride }
+    {
+        let Window {
+            left,
+            top,
+            width,
+            height,
+        } = *window;
+        if width == 0 || height == 0 {
+            return Region {
+                start: self.start,
+                len: 0,
+                width,
+                height,
+            };
+        }
+        let corner = stride * top + left;
+        let room = self.len - corner;
+        let exact = stride * (height - 1) + width;
+        let rest = stride - width;
+        let len = if room - exact >= rest { exact + rest } else { exact };
+        Region {
+            start: self.start + corner,
+            len,
+            width,
+            height,
+        }
+    }
 }
