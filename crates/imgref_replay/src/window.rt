@@ -1,10 +1,10 @@
 //! Windows of windows: a path of them is one window of the image.
 
-ghost use Rattle.std.specs.Prelude.{◌≡◌, ℕ, ◌+◌, ◌≤◌, ◌<◌, ◌^◌, []  , ◌∷◌, length, IfOk};
+ghost use Rattle.std.specs.Prelude.{◌≡◌, ℕ, ◌+◌, ◌≤◌, ◌<◌, ◌^◌, [], ◌∷◌, length, IfOk};
 ghost use Rattle.std.specs.Result.{result_err};
 ghost use Rattle.std.specs.Borrow.{sem, follows, follows_if, Array};
 ghost use Rattle.image_model.specs.Layout.{Fits, Reaches, layout};
-ghost use Rattle.image_model.specs.Windows.{is_inside, first_outside, with_stretch, stretch_cells};
+ghost use Rattle.image_model.specs.Windows.{IsInside, is_inside, first_outside, with_stretch, stretch_cells};
 ghost use Rattle.imgref.specs.Image.{buf_of, mut_layout, ref_layout};
 ghost use Rattle.imgref_replay.specs.Paths.{window_of, windows_of, stretch_of, path_region};
 
@@ -45,7 +45,7 @@ impl Region {
 
     /// The region of a window that lies inside.
     fn window(&self, stride: usize, window: &Window) -> Region
-        requires inside { is_inside self.now.width self.now.height (window_of window.now) ≡ true }
+        requires inside { IsInside self.now.width self.now.height (window_of window.now) }
         requires bounded { self.now.start + self.now.len < 2 ^ 64 }
         requires within { self.now.width ≤ stride }
         requires fits { Reaches self.now.len self.now.width self.now.height stride }
@@ -79,4 +79,26 @@ impl Region {
             height,
         }
     }
+}
+
+/// Where a path leads in a region, or the number of its first window outside.
+fn region_at(whole: Region, stride: usize, path: &[Window]) -> Result<Region, usize>
+    requires bounded { whole.start + whole.len < 2 ^ 64 }
+    requires within { whole.width ≤ stride }
+    requires fits { Reaches whole.len whole.width whole.height stride }
+    ensures outside { result_err result ≡ first_outside whole.width whole.height (windows_of path.now) }
+    ensures region { IfOk result (λ r. r ≡ path_region stride whole (windows_of path.now)) }
+    ensures inside { IfOk result (λ r. r.start + r.len ≤ whole.start + whole.len) }
+    ensures narrow { IfOk result (λ r. r.width ≤ whole.width) }
+    ensures low { IfOk result (λ r. r.height ≤ whole.height) }
+    ensures fits { IfOk result (λ r. Reaches r.len r.width r.height stride) }
+{
+    let mut region = whole;
+    for (index, window) in path.iter().enumerate() {
+        if !region.has(window) {
+            return Err(index);
+        }
+        region = region.window(stride, window);
+    }
+    Ok(region)
 }
