@@ -102,3 +102,17 @@ fn region_at(whole: Region, stride: usize, path: &[Window]) -> Result<Region, us
     }
     Ok(region)
 }
+
+/// The image of a region's cells, lent on.
+fn into_region<'s, T>(cells: &'s mut [T], region: Region, stride: usize) -> ImgRefMut<'s, T>
+    requires in_bounds { region.start + region.len ≤ length cells.old }
+    requires positive { 1 ≤ stride }
+    requires within { region.width ≤ stride }
+    requires width_fits { region.width < 2 ^ 32 }
+    requires height_fits { region.height < 2 ^ 32 }
+    ensures* hands_on { sem 𝓛 (follows (Array T.row 0) (Array T.row 0) cells.entry.ghost_name (buf_of result).ghost_name (with_stretch cells.old (stretch_of region))) }
+    ensures layout { mut_layout result ≡ layout (stretch_cells cells.old (stretch_of region)) region.width region.height stride }
+{
+    let end = region.start + region.len;
+    ImgRefMut::new_stride(&mut cells[region.start..end], region.width, region.height, stride)
+}
