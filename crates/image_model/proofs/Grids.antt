@@ -2,10 +2,11 @@
 use Rattle.std.proofs.Common.{◌≡◌, ℕ, ◌+◌, ◌-◌, ◌*◌, ◌<◌, ◌≤◌, Bool, true, false, cond, set, Some, None, Option, refl, sym, ap, ◌∙◌, arith, ⊎_elim}
 use Rattle.std.specs.List.{slice_get}
 use Rattle.std.specs.Bool.{Decides}
+use Rattle.std.specs.Prelude.{if◌then◌else◌}
 use Rattle.std.proofs.lemmas.Nat.{same_from_place}
-use Rattle.std.proofs.lemmas.Bool.{and_parts, and_from, ltb-true, leb-true, lt-ltb, le-leb, cond-true, cond-false, cases_Bool, true≢false}
+use Rattle.std.proofs.lemmas.Bool.{and_parts, and_from, ltb-true, leb-true, lt-ltb, le-leb, cond-true, cond-false, cases_Bool, true≢false, false_from_ne_true}
 use Rattle.image_model.specs.Layout.{Layout, Fits, cell_of, pixel}
-use Rattle.image_model.specs.Grid.{Grid, is_place, grid, grid_of, covers, patch, uniform}
+use Rattle.image_model.specs.Grid.{Grid, is_place, grid, grid_of, view, covers, patch, uniform}
 use Rattle.image_model.proofs.Cells.{slice_get-set_same, slice_get-set_other}
 use Rattle.image_model.proofs.Places.{cell_within, written}
 
@@ -69,6 +70,59 @@ is_patch g left top p f inside outside =
     (λ hit. inside x y column line hit ∙ sym (cond-true (covers left top p.width p.height x y) _ _ hit))
     (λ miss. outside x y column line miss ∙ sym (cond-false (covers left top p.width p.height x y) _ _ miss))
     (cases_Bool (covers left top p.width p.height x y)))
+
+-- the view through the whole
+pub view_all : {T : Type 0} (w h : ℕ) (f : ℕ → ℕ → Option T) → view (grid w h f) 0 0 w h ≡ grid w h f
+view_all {T} w h f =
+    let seen : ℕ → ℕ → Option T = λ x y. (grid w h f).pixel (0 + x) (0 + y) in
+    same_grids w h seen f (λ x y column line.
+    let left : 0 + x ≡ x = omega arith in
+    let top : 0 + y ≡ y = omega arith in
+    ap (λ n. (grid w h f).pixel n (0 + y)) left ∙ ap (λ n. (grid w h f).pixel x n) top ∙ at_place w h f x y column line)
+
+-- a patch over the whole
+pub patch_all : {T : Type 0} (g : Grid T) (f : ℕ → ℕ → Option T) → patch g 0 0 (grid g.width g.height f) ≡ grid g.width g.height f
+patch_all g f =
+    sym (is_patch g 0 0 (grid g.width g.height f) f
+    (λ x y column line _.
+    let left : x - 0 ≡ x = omega arith in
+    let top : y - 0 ≡ y = omega arith in
+    sym (ap (λ n. (grid g.width g.height f).pixel n (y - 0)) left ∙ ap (λ n. (grid g.width g.height f).pixel x n) top ∙ at_place g.width g.height f x y column line))
+    (λ x y column line miss. absurd (true≢false (sym ((covers_decides 0 0 g.width g.height x y).1 (omega arith, omega arith, omega arith, omega arith)) ∙ miss))))
+
+-- a patch of a view, put where the view was seen, is a patch at the summed corner
+pub patch_of_view : {T : Type 0} (g : Grid T) (left top width height x y : ℕ) (p : Grid T) → x + p.width ≤ width → y + p.height ≤ height
+    → patch g left top (patch (view g left top width height) x y p) ≡ patch g (left + x) (top + y) p
+patch_of_view {T} g left top width height x y p wide high =
+    let seen : Grid T = view g left top width height in
+    let inner : ℕ → ℕ → Option T = λ u v. if covers x y p.width p.height u v then p.pixel (u - x) (v - y) else seen.pixel u v in
+    let outer : ℕ → ℕ → Option T = λ u v. if covers left top width height u v then (grid width height inner).pixel (u - left) (v - top) else g.pixel u v in
+    is_patch g (left + x) (top + y) p outer
+    (λ u v in_u in_v hit.
+    let c = (covers_decides (left + x) (top + y) p.width p.height u v).0 hit in
+    let same_u : u - left - x ≡ u - (left + x) = omega (arith, c) in
+    let same_v : v - top - y ≡ v - (top + y) = omega (arith, c) in
+    cond-true (covers left top width height u v) _ _ ((covers_decides left top width height u v).1 (omega (arith, c), omega (arith, c), omega (arith, c), omega (arith, c)))
+    ∙ at_place width height inner (u - left) (v - top) (omega (arith, c)) (omega (arith, c))
+    ∙ cond-true (covers x y p.width p.height (u - left) (v - top)) _ _ ((covers_decides x y p.width p.height (u - left) (v - top)).1 (omega (arith, c), omega (arith, c), omega (arith, c), omega (arith, c)))
+    ∙ ap (λ n. p.pixel n (v - top - y)) same_u
+    ∙ ap (λ n. p.pixel (u - (left + x)) n) same_v)
+    (λ u v in_u in_v miss.
+    ⊎_elim
+    (λ hit.
+    let c = (covers_decides left top width height u v).0 hit in
+    let back_u : left + (u - left) ≡ u = omega (arith, c) in
+    let back_v : top + (v - top) ≡ v = omega (arith, c) in
+    cond-true (covers left top width height u v) _ _ hit
+    ∙ at_place width height inner (u - left) (v - top) (omega (arith, c)) (omega (arith, c))
+    ∙ cond-false (covers x y p.width p.height (u - left) (v - top)) _ _ (false_from_ne_true _ (λ e.
+    let d = (covers_decides x y p.width p.height (u - left) (v - top)).0 e in
+    true≢false (sym ((covers_decides (left + x) (top + y) p.width p.height u v).1 (omega (arith, c, d), omega (arith, c, d), omega (arith, c, d), omega (arith, c, d))) ∙ miss)))
+    ∙ at_place width height (λ m n. g.pixel (left + m) (top + n)) (u - left) (v - top) (omega (arith, c)) (omega (arith, c))
+    ∙ ap (λ n. g.pixel n (top + (v - top))) back_u
+    ∙ ap (λ n. g.pixel u n) back_v)
+    (λ beside. cond-false (covers left top width height u v) _ _ beside)
+    (cases_Bool (covers left top width height u v)))
 
 -- ---- a write at a place
 
