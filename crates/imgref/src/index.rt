@@ -96,12 +96,12 @@ impl<C: AsMutSlice> Img<C> {
     pub fn row_mut(&mut self, y: usize) -> &mut [C::Item]
         requires below { y < height_of self.old }
         requires fits { Fits (layout_by C.AsSlice.cells self.old) }
-        ensures* hands_on { sem 𝓛 (follows (the_row C.row) (Array C.Item.row 0) self.entry.ghost_name result.ghost_name (λ cells. with_buf self.old (C.with_cells (buf_of self.old) (window_start (stride_of self.old) (row_window (layout_by C.AsSlice.cells self.old) y)) cells))) }
+        ensures* hands_on { sem 𝓛 (follows (the_row C.row) (Array C.Item.row 0) self.entry.ghost_name result.ghost_name (λ cells. with_buf self.old (C.with_cells (buf_of self.old) (record { start = window_start (stride_of self.old) (row_window (layout_by C.AsSlice.cells self.old) y); len = width_of self.old }) cells))) }
         ensures cells { result.now ≡ row_of (layout_by C.AsSlice.cells self.old) y }
     {
         let start = self.row_start(y);
         let _len = self.buf.as_slice().len();
-        let end = start + self.width as usize;
-        self.buf.stretch_mut(start, end)
+        let width = self.width as usize;
+        self.buf.stretch_mut(start, width)
     }
 }

@@ -4,9 +4,9 @@ ghost use Rattle.std.specs.Prelude.{◌≡◌, ℕ, ◌+◌, ◌≤◌, ◌<◌,
 ghost use Rattle.std.specs.Result.{result_err};
 ghost use Rattle.std.specs.Borrow.{sem, follows, follows_if, Array};
 ghost use Rattle.image_model.specs.Layout.{Fits, Reaches, layout};
-ghost use Rattle.image_model.specs.Windows.{IsInside, is_inside, first_outside, with_stretch, stretch_cells};
-ghost use Rattle.imgref.specs.Image.{buf_of, mut_layout, ref_layout};
-ghost use Rattle.imgref_replay.specs.Paths.{window_of, windows_of, stretch_of, path_region};
+ghost use Rattle.image_model.specs.Windows.{IsInside, is_inside, first_outside, with_stretch, stretch_cells, path_stretch, path_layout, whole};
+ghost use Rattle.imgref.specs.Image.{buf_of, width_of, height_of, stride_of, mut_layout, ref_layout};
+ghost use Rattle.imgref_replay.specs.Paths.{window_of, windows_of, stretch_of, path_region, name_of};
 
 use imgref::{ImgRef, ImgRefMut};
 
@@ -115,4 +115,26 @@ fn into_region<'s, T>(cells: &'s mut [T], region: Region, stride: usize) -> ImgR
 {
     let end = region.start + region.len;
     ImgRefMut::new_stride(&mut cells[region.start..end], region.width, region.height, stride)
+}
+
+/// The nested window for writing, in place of the image; or the number, from 0, of the first
+/// window of the path that isn't inside the size before it. Then no cell has changed, and the
+/// borrow ends.
+pub fn into_window_at<'s, T>(img: ImgRefMut<'s, T>, path: &[Window]) -> Result<ImgRefMut<'s, T>, usize>
+    requires fits { Fits (mut_layout img) }
+    ensures* hands_on { sem 𝓛 (follows_if (Array T.row 0) (Array T.row 0) (buf_of img.entry).ghost_name (name_of result) (with_stretch (buf_of img.entry).now (path_stretch (stride_of img.entry) (whole (buf_of img.entry).now) (windows_of path.now))) (buf_of img.entry).now) }
+    ensures outside { result_err result ≡ first_outside (width_of img.entry) (height_of img.entry) (windows_of path.now) }
+    ensures layout { IfOk result (λ w. mut_layout w ≡ path_layout (mut_layout img.entry) (windows_of path.now)) }
+{
+    let (cells, width, height, stride) = img.into_parts();
+    let whole = Region {
+        start: 0,
+        len: cells.len(),
+        width,
+        height,
+    };
+    match region_at(whole, stride, path) {
+        Ok(region) => Ok(into_region(cells, region, stride)),
+        Err(index) => Err(index),
+    }
 }
