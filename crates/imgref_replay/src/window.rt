@@ -4,7 +4,8 @@ ghost use Rattle.std.specs.Prelude.{◌≡◌, ℕ, ◌+◌, ◌≤◌, ◌<◌,
 ghost use Rattle.std.specs.Result.{result_err};
 ghost use Rattle.std.specs.Borrow.{sem, follows, follows_if, Array};
 ghost use Rattle.image_model.specs.Layout.{Fits, Reaches, layout};
-ghost use Rattle.image_model.specs.Windows.{IsInside, is_inside, first_outside, with_stretch, stretch_cells, path_stretch, path_layout, whole};
+ghost use Rattle.image_model.specs.Grid.{grid_of};
+ghost use Rattle.image_model.specs.Windows.{IsInside, is_inside, first_outside, with_stretch, stretch_cells, path_stretch, path_layout, path_view, whole};
 ghost use Rattle.imgref.specs.Image.{buf_of, width_of, height_of, stride_of, mut_layout, ref_layout};
 ghost use Rattle.imgref_replay.specs.Paths.{window_of, windows_of, stretch_of, path_region, name_of};
 
@@ -91,7 +92,6 @@ fn region_at(whole: Region, stride: usize, path: &[Window]) -> Result<Region, us
     ensures inside { IfOk result (λ r. r.start + r.len ≤ whole.start + whole.len) }
     ensures narrow { IfOk result (λ r. r.width ≤ whole.width) }
     ensures low { IfOk result (λ r. r.height ≤ whole.height) }
-    ensures fits { IfOk result (λ r. Reaches r.len r.width r.height stride) }
 {
     let mut region = whole;
     for (index, window) in path.iter().enumerate() {
@@ -125,6 +125,8 @@ pub fn into_window_at<'s, T>(img: ImgRefMut<'s, T>, path: &[Window]) -> Result<I
     ensures* hands_on { sem 𝓛 (follows_if (Array T.row 0) (Array T.row 0) (buf_of img.entry).ghost_name (name_of result) (with_stretch (buf_of img.entry).now (path_stretch (stride_of img.entry) (whole (buf_of img.entry).now) (windows_of path.now))) (buf_of img.entry).now) }
     ensures outside { result_err result ≡ first_outside (width_of img.entry) (height_of img.entry) (windows_of path.now) }
     ensures layout { IfOk result (λ w. mut_layout w ≡ path_layout (mut_layout img.entry) (windows_of path.now)) }
+    ensures fits { IfOk result (λ w. Fits (mut_layout w)) }
+    ensures view { IfOk result (λ w. grid_of (mut_layout w) ≡ path_view (grid_of (mut_layout img.entry)) (windows_of path.now)) }
 {
     let (cells, width, height, stride) = img.into_parts();
     let whole = Region {
