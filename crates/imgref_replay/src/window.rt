@@ -1,15 +1,16 @@
 //! Windows of windows: a path of them is one window of the image.
 
-ghost use Rattle.std.specs.Prelude.{◌≡◌, ℕ, ◌+◌, ◌≤◌, ◌<◌, ◌^◌, [], ◌∷◌, length, IfOk};
+ghost use Rattle.std.specs.Prelude.{◌≡◌, ℕ, ◌+◌, ◌≤◌, ◌<◌, ◌^◌, [], ◌∷◌, length, IfOk, None};
 ghost use Rattle.std.specs.Result.{result_err};
 ghost use Rattle.std.specs.Borrow.{sem, follows, follows_if, Array};
 ghost use Rattle.image_model.specs.Layout.{Fits, Reaches, layout};
 ghost use Rattle.image_model.specs.Grid.{grid_of};
 ghost use Rattle.image_model.specs.Windows.{IsInside, is_inside, first_outside, with_stretch, stretch_cells, path_stretch, path_layout, path_view, whole};
-ghost use Rattle.imgref.specs.Image.{buf_of, width_of, height_of, stride_of, mut_layout, ref_layout};
+ghost use Rattle.imgref.specs.Image.{buf_of, width_of, height_of, stride_of, with_buf, layout_by, mut_layout, ref_layout};
+ghost use Rattle.imgref.specs.contracts.img.Img.{the_row};
 ghost use Rattle.imgref_replay.specs.Paths.{window_of, windows_of, stretch_of, path_region, name_of};
 
-use imgref::{ImgRef, ImgRefMut};
+use imgref::{AsMutSlice, AsSlice, Img, ImgRef, ImgRefMut};
 
 /// A window of an image or of another window: its corner and its size, in pixels.
 #[derive(Clone, Copy, PartialEq, Eq)]
@@ -139,4 +140,20 @@ pub fn into_window_at<'s, T>(img: ImgRefMut<'s, T>, path: &[Window]) -> Result<I
         Ok(region) => Ok(into_region(cells, region, stride)),
         Err(index) => Err(index),
     }
+}
+
+/// The cells, the width, the height and the stride of the window that a path inside leads to. Once
+/// the borrow ends, the image has what was left in those cells, and no other cell has changed.
+pub(crate) fn window_parts_at<'a, C: AsMutSlice>(image: &'a mut Img<C>, path: &[Window]) -> (&'a mut [C::Item], usize, usize, usize)
+    requires fits { Fits (layout_by C.AsSlice.cells image.old) }
+    requires inside { first_outside (width_of image.old) (height_of image.old) (windows_of path.now) ≡ None }
+    ensures* hands_on { sem 𝓛 (follows (the_row C.row) (Array C.Item.row 0) image.entry.ghost_name result.0.ghost_name (λ others. with_buf image.old (C.with_cells (buf_of image.old) (whole (C.AsSlice.cells (buf_of image.old))) (with_stretch (C.AsSlice.cells (buf_of image.old)) (path_stretch (stride_of image.old) (whole (C.AsSlice.cells (buf_of image.old))) (windows_of path.now)) others)))) }
+    ensures layout { layout result.0.now result.1 result.2 result.3 ≡ path_layout (layout_by C.AsSlice.cells image.old) (windows_of path.now) }
+    ensures stride_positive { 1 ≤ result.3 }
+    ensures width_within { result.1 ≤ result.3 }
+    ensures width_fits { result.1 < 2 ^ 32 }
+    ensures height_fits { result.2 < 2 ^ 32 }
+{
+    let Ok(window) = into_window_at(image.as_mut(), path) else { unreachable!() };
+    window.into_parts()
 }
