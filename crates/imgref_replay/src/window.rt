@@ -104,6 +104,27 @@ fn region_at(whole: Region, stride: usize, path: &[Window]) -> Result<Region, us
     Ok(region)
 }
 
+/// The nested window that a path leads to; or the number, from 0, of the first window of the path
+/// that isn't inside the size before it.
+pub fn window_at<'s, T>(img: ImgRef<'s, T>, path: &[Window]) -> Result<ImgRef<'s, T>, usize>
+    requires fits { Fits (ref_layout img) }
+    ensures outside { result_err result ≡ first_outside (width_of img.entry) (height_of img.entry) (windows_of path.now) }
+    ensures layout { IfOk result (λ w. ref_layout w ≡ path_layout (ref_layout img.entry) (windows_of path.now)) }
+    ensures fits { IfOk result (λ w. Fits (ref_layout w)) }
+    ensures view { IfOk result (λ w. grid_of (ref_layout w) ≡ path_view (grid_of (ref_layout img.entry)) (windows_of path.now)) }
+{
+    let (cells, width, height, stride) = img.into_parts();
+    let whole = Region {
+        start: 0,
+        len: cells.len(),
+        width,
+        height,
+    };
+    let region = region_at(whole, stride, path)?;
+    let end = region.start + region.len;
+    Ok(ImgRef::new_stride(&cells[region.start..end], region.width, region.height, stride))
+}
+
 /// The image of a region's cells, lent on.
 fn into_region<'s, T>(cells: &'s mut [T], region: Region, stride: usize) -> ImgRefMut<'s, T>
     requires in_bounds { region.start + region.len ≤ length cells.old }
