@@ -1,9 +1,8 @@
 -- Windows of a region of cells, and a path of them on the way to its end.
-use Rattle.std.proofs.Common.{◌≡◌, ℕ, zero, suc, ◌+◌, ◌<◌, ◌≤◌, Bool, true, false, cond, List, [], ◌∷◌, drop, map, refl, sym, ap, ◌∙◌, arith}
+use Rattle.std.proofs.Common.{◌≡◌, ℕ, ◌+◌, ◌≤◌, true, false, cond, List, [], ◌∷◌, drop, refl, sym, ap, ◌∙◌, arith}
 use Rattle.std.specs.Prelude.{Option, Some, None}
 use Rattle.std.specs.Option.{option_map}
 use Rattle.image_model.specs.Layout.{Reaches}
-use Rattle.image_model.specs.Windows as model
 use Rattle.image_model.specs.Windows.{IsInside, is_inside, first_outside}
 use Rattle.imgref_replay.specs.declared.window.Region.{Region}
 use Rattle.imgref_replay.specs.declared.window.Window.{Window}

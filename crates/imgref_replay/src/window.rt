@@ -1,16 +1,16 @@
 //! Windows of windows: a path of them is one window of the image.
 
-ghost use Rattle.std.specs.Prelude.{◌≡◌, ℕ, ◌+◌, ◌≤◌, ◌<◌, ◌^◌, [], ◌∷◌, length, IfOk, None};
+ghost use Rattle.std.specs.Prelude.{◌≡◌, ℕ, ◌+◌, ◌≤◌, ◌<◌, ◌^◌, [], ◌∷◌, length, IfOk, None, slice_set};
 ghost use Rattle.std.specs.Result.{result_err};
 ghost use Rattle.std.specs.Borrow.{sem, follows, follows_if, Array};
-ghost use Rattle.image_model.specs.Layout.{Fits, Reaches, layout};
-ghost use Rattle.image_model.specs.Grid.{grid_of};
-ghost use Rattle.image_model.specs.Windows.{IsInside, is_inside, first_outside, with_stretch, stretch_cells, path_stretch, path_layout, path_view, whole};
-ghost use Rattle.imgref.specs.Image.{buf_of, width_of, height_of, stride_of, with_buf, layout_by, mut_layout, ref_layout};
+ghost use Rattle.image_model.specs.Layout.{Fits, Reaches, SameOutside, layout, cell_of};
+ghost use Rattle.image_model.specs.Grid.{grid_of, patch, uniform};
+ghost use Rattle.image_model.specs.Windows.{IsInside, is_inside, first_outside, with_stretch, stretch_cells, path_width, path_height, corner_left, corner_top, path_stretch, path_layout, path_view, whole};
+ghost use Rattle.imgref.specs.Image.{buf_of, width_of, height_of, stride_of, with_buf, layout_by, mut_layout, ref_layout, vec_layout};
 ghost use Rattle.imgref.specs.contracts.img.Img.{the_row};
 ghost use Rattle.imgref_replay.specs.Paths.{window_of, windows_of, stretch_of, path_region, name_of};
 
-use imgref::{AsMutSlice, AsSlice, Img, ImgRef, ImgRefMut};
+use imgref::{AsMutSlice, AsSlice, Img, ImgRef, ImgRefMut, ImgVec};
 
 /// A window of an image or of another window: its corner and its size, in pixels.
 #[derive(Clone, Copy, PartialEq, Eq)]
@@ -170,6 +170,7 @@ pub(crate) fn window_parts_at<'a, C: AsMutSlice>(image: &'a mut Img<C>, path: &[
     requires inside { first_outside (width_of image.old) (height_of image.old) (windows_of path.now) ≡ None }
     ensures* hands_on { sem 𝓛 (follows (the_row C.row) (Array C.Item.row 0) image.entry.ghost_name result.0.ghost_name (λ others. with_buf image.old (C.with_cells (buf_of image.old) (whole (C.AsSlice.cells (buf_of image.old))) (with_stretch (C.AsSlice.cells (buf_of image.old)) (path_stretch (stride_of image.old) (whole (C.AsSlice.cells (buf_of image.old))) (windows_of path.now)) others)))) }
     ensures layout { layout result.0.now result.1 result.2 result.3 ≡ path_layout (layout_by C.AsSlice.cells image.old) (windows_of path.now) }
+    ensures fits { Fits (layout result.0.now result.1 result.2 result.3) }
     ensures stride_positive { 1 ≤ result.3 }
     ensures width_within { result.1 ≤ result.3 }
     ensures width_fits { result.1 < 2 ^ 32 }
@@ -177,4 +178,35 @@ pub(crate) fn window_parts_at<'a, C: AsMutSlice>(image: &'a mut Img<C>, path: &[
 {
     let Ok(window) = into_window_at(image.as_mut(), path) else { unreachable!() };
     window.into_parts()
+}
+
+/// Writes `value` at column `x` of row `y` of the window that a path inside leads to.
+pub(crate) fn put_at<T: Copy>(image: &mut ImgVec<T>, path: &[Window], x: usize, y: usize, value: T)
+    requires fits { Fits (vec_layout image.old) }
+    requires inside { first_outside (width_of image.old) (height_of image.old) (windows_of path.now) ≡ None }
+    requires column { x < path_width (width_of image.old) (windows_of path.now) }
+    requires line { y < path_height (height_of image.old) (windows_of path.now) }
+    ensures grid { grid_of (vec_layout image.new) ≡ patch (grid_of (vec_layout image.old)) (corner_left (windows_of path.now) + x) (corner_top (windows_of path.now) + y) (uniform 1 1 value) }
+    ensures outside { SameOutside (vec_layout image.old) (vec_layout image.new) }
+    ensures fits { Fits (vec_layout image.new) }
+{
+    // Its contract says that the image's width is within it.
+    let _stride = image.stride();
+    let (cells, width, height, stride) = window_parts_at(image, path);
+    put_in(cells, width, height, stride, x, y, value);
+}
+
+/// Writes `value` at column `x` of row `y` of the image that the cells make.
+fn put_in<T: Copy>(cells: &mut [T], width: usize, height: usize, stride: usize, x: usize, y: usize, value: T)
+    requires stride_positive { 1 ≤ stride }
+    requires width_within { width ≤ stride }
+    requires width_fits { width < 2 ^ 32 }
+    requires height_fits { height < 2 ^ 32 }
+    requires fits { Fits (layout cells.old width height stride) }
+    requires column { x < width }
+    requires line { y < height }
+    ensures { cells.new ≡ slice_set cells.old (cell_of (layout cells.old width height stride) x y) value }
+{
+    let mut img = ImgRefMut::new_stride(cells, width, height, stride);
+    img[(x, y)] = value;
 }

@@ -1,6 +1,6 @@
 -- `into_window_at` asks where the path leads, and lends that stretch on; where a window is outside, the cells are given up as they are.
 use mathlib.Core.Path.{◌≡◌, refl, sym, ap, subst, ◌∙◌}
-use mathlib.Core.Logic.{◌⊎◌, inl, inr}
+use mathlib.Core.Logic.{inl, inr}
 use Prim.Native.Nat.{ℕ, ◌+◌, ◌^◌, ◌<◌, ◌≤◌}
 use native.Mathlib.Nat.{suc-ne-zero}
 use native.Mathlib.Omega.{arith}
@@ -44,12 +44,12 @@ use denote.Triple.Walked.{Stays, stay_dropped, walk_of}
 use Rattle.std.proofs.raw_atomic.Walks.{proved_at, leaves}
 use Rattle.std.proofs.VecSteps.Shapes.{after}
 use Rattle.std.specs.Result.{IfOk, result_err}
-use Rattle.std.specs.Prelude.{Option, None, Some}
+use Rattle.std.specs.Prelude.{Option, None}
 use Rattle.std.specs.contracts.result.Result as result
 use Rattle.std.specs.declared.result.Result.{Result}
 use Rattle.std.specs.declared.result.Result.TheVariants.{Ok, Err}
 use Rattle.image_model.specs.Grid.{grid_of}
-use Rattle.image_model.specs.Layout.{Layout, Fits, Reaches, layout}
+use Rattle.image_model.specs.Layout.{Layout, Fits, layout}
 use Rattle.image_model.specs.Windows as model
 use Rattle.image_model.specs.Windows.{Stretch, first_outside, path_stretch, path_layout, path_view, stretch_cells, whole, with_stretch}
 use Rattle.image_model.proofs.Paths.{path_fits, path_grid}
@@ -67,7 +67,7 @@ use Rattle.imgref_replay.specs.contracts.window.region_at as f
 use Rattle.imgref_replay.proofs.window.region_at.Met as find
 use Rattle.imgref_replay.specs.contracts.window.into_region as g
 use Rattle.imgref_replay.proofs.window.into_region.Met as part
-use Rattle.imgref_replay.proofs.Rows.{Cells, cells_laws, Parts, parts_val, parts_told, region_val, region_made, Answer, answer_told, if_some, if_none, ok_made, err_made}
+use Rattle.imgref_replay.proofs.Rows.{Cells, cells_laws, Parts, parts_told, region_val, region_made, Answer, answer_told, if_some, if_none, ok_made, err_made}
 use Rattle.imgref_replay.specs.contracts.window.into_window_at.{ended, clauses}
 use Rattle.imgref_replay.specs.contracts.window.into_window_at.Key.{name as #self}
 use Rattle.imgref_replay.proofs.window.into_window_at.Statement.{statement}

@@ -1,5 +1,5 @@
 -- What is left of the image along the path is the path's window, which fits and shows the path's view.
-use Rattle.std.proofs.Common.{rules, ◌≡◌, ◌≤◌, None, sym, ap, ◌∙◌, subst, arith}
+use Rattle.std.proofs.Common.{rules, ◌≡◌, ◌≤◌, None, sym, ap, ◌∙◌, subst}
 use Rattle.image_model.specs.Grid.{grid_of}
 use Rattle.image_model.specs.Layout.{Fits}
 use Rattle.image_model.specs.Windows.{first_outside, path_layout}

@@ -1,14 +1,13 @@
 -- `window_parts_at` lends the whole image's cells, and of them the window's by value: the image follows the cells, and these the window.
 use mathlib.Core.Path.{◌≡◌, refl, sym, ap, subst, ◌∙◌}
-use Prim.Native.Nat.{ℕ, ◌+◌, ◌^◌, ◌<◌, ◌≤◌}
+use Prim.Native.Nat.{ℕ, ◌^◌, ◌<◌, ◌≤◌}
 use native.Mathlib.Nat.{suc-ne-zero}
 use mathlib.Core.List.{List, [], ◌∷◌, ◌++◌}
-use mathlib.Core.Option.{some as there}
 use lib.Dec.{lit<}
 use lib.ListN.{length}
 use base.Logic.{SProp, emp, id⊢}
 use base.Fml.{Lft, ftrue, flft}
-use mir.Syntax.{Args, Fn, named, w64, a_type, dcons, dnil}
+use mir.Syntax.{Args, Fn, named, a_type, dcons, dnil}
 use mir.MapTy.{inst_fn}
 use mir.Val.{Val, vptr, vcons, vnil, of_list}
 use prog.Wp.{Env, WpFn}
@@ -149,12 +148,13 @@ window_parts_at_spec 𝓤 𝓛 𝓜 𝓡 wired X Y LX LY gh d gs ds bm bs =
     let Viewed : Answered → Type 0 = λ u. IfOk u (λ y. grid_of (mut_layout y) ≡ path_view (grid_of lr) ws) in
     use1 𝓛 (later (some (λ (r₂ : Answered). (Tok₂ ⊛ ‵ (Ans.own_val r₂ (v₂ ∷ []))) ⊛ some (λ (us₂ : (Unit {0} × Unit {0}) × (Unit {0} × Unit {0})). ‵ (lasts (g.ended Y) z₂.0.0 z₂.0.3 us₂)
     ⊛ (‵ (follows_if (Array R 0) (Array R 0) r.buf.ghost_name (name_of r₂) Gf r.buf.now) ⊛ raw (fact 𝓤 (Seen r₂)) ⊛ raw (fact 𝓤 (Laid r₂)) ⊛ raw (fact 𝓤 (Fitting r₂)) ⊛ raw (fact 𝓤 (Viewed r₂))))))) (id⊢ 𝓤 _) $
-    await ! tt $ pick ! (λ r₂. split ! $ split ! $ move ! (2 ∷ []) $ pick ! (λ us₂. split ! $ drop ! $ split ! $ move ! (1 ∷ []) $ split ! $ heard ! (Seen r₂) (λ seen. split ! $ heard ! (Laid r₂) (λ laid. drop ! $
+    await ! tt $ pick ! (λ r₂. split ! $ split ! $ move ! (2 ∷ []) $ pick ! (λ us₂. split ! $ drop ! $ split ! $ move ! (1 ∷ []) $ split ! $ heard ! (Seen r₂) (λ seen. split ! $ heard ! (Laid r₂) (λ laid. split ! $ heard ! (Fitting r₂) (λ fitting. drop ! $
     -- [what the cells follow; the tokens; the answer; the token of κX; what the image follows]
     let none_out : first_outside r.width r.height ws ≡ None = ap (λ (u : Layout Y.Denot). first_outside u.width u.height ws) same ∙ all_inside in
     let found = ok_from r₂ (seen ∙ none_out) in
     let y : Img (MutBor (List Y.Denot)) = found.0 in
     let is_window : mut_layout y ≡ path_layout li ws = subst (λ (u : Answered). Laid u) (found.1) laid ∙ ap (λ (u : Layout Y.Denot). path_layout u ws) same in
+    let fits_too : Fits (mut_layout y) = subst (λ (u : Answered). Fitting u) (found.1) fitting in
     rewrite ! 0 (λ (u : Answered). ‵ (follows_if (Array R 0) (Array R 0) r.buf.ghost_name (name_of u) Gf r.buf.now)) (found.1) refl $
     use1 𝓛 (‵ (follows (Array R 0) (Array R 0) r.buf.ghost_name y.buf.ghost_name Gf)) (some_if 𝓛 (Array R 0) (Array R 0) r.buf.ghost_name Gf r.buf.now y.buf.ghost_name) $
     move ! (2 ∷ []) $ rewrite ! 0 (λ (u : Answered). ‵ (Ans.own_val u (v₂ ∷ []))) (found.1) refl $
@@ -195,9 +195,10 @@ window_parts_at_spec 𝓤 𝓛 𝓜 𝓡 wired X Y LX LY gh d gs ds bm bs =
           -- [what the image follows; the parts; the token of κ; the tokens of the path and κY; the token of κX]
           use0 𝓛 (raw (fact 𝓤 (y.height < 2 ^ 32))) (fact_i 𝓤 (y.height < 2 ^ 32) (emp 𝓤) down) $ use0 𝓛 (raw (fact 𝓤 (y.width < 2 ^ 32))) (fact_i 𝓤 (y.width < 2 ^ 32) (emp 𝓤) across) $ join ! $
           use0 𝓛 (raw (fact 𝓤 (y.width ≤ y.stride))) (fact_i 𝓤 (y.width ≤ y.stride) (emp 𝓤) wide) $ join ! $ use0 𝓛 (raw (fact 𝓤 (1 ≤ y.stride))) (fact_i 𝓤 (1 ≤ y.stride) (emp 𝓤) far) $ join ! $
+          use0 𝓛 (raw (fact 𝓤 (Fits (mut_layout y)))) (fact_i 𝓤 (Fits (mut_layout y)) (emp 𝓤) fits_too) $ join ! $
           use0 𝓛 (raw (fact 𝓤 (mut_layout y ≡ path_layout li ws))) (fact_i 𝓤 (mut_layout y ≡ path_layout li ws) (emp 𝓤) is_window) $ join ! $ move ! (1 ∷ 0 ∷ []) $ join ! $
           -- [the ensures; the parts; the token of κ; the tokens of the path and κY; the token of κX]
           move ! (3 ∷ []) $ split ! $ move ! (5 ∷ 1 ∷ []) $ join ! $ move ! (1 ∷ 0 ∷ []) $ join ! $ move ! (3 ∷ []) $ split ! $ move ! (0 ∷ 2 ∷ []) $ join ! $ move ! (1 ∷ []) $ drop ! $
           nothing ! $ nothing ! $ fjoin ! $ nothing ! $ fjoin ! $ move ! (1 ∷ 0 ∷ 3 ∷ 2 ∷ []) $ by ! (leaves 𝓛 En stays c z wp y₁ (tt, (tt, tt)) (tt, (tt, tt)))))))))))))))),
       ((λ n. absurd (suc-ne-zero 0 (sym n))), tt),
-    )))))))))))))))))))))
+    ))))))))))))))))))))))
