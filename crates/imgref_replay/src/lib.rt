@@ -3,6 +3,8 @@
 
 mod replay;
 mod window;
+#[cfg(test)]
+mod window_tests;
 
 pub use replay::{Command, Place, Refusal, Reply};
-pub use window::Window;
+pub use window::{Window, into_window_at, window_at};
