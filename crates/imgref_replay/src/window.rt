@@ -51,9 +51,7 @@ impl Region {
         requires bounded { self.now.start + self.now.len < 2 ^ 64 }
         requires within { self.now.width ≤ stride }
         requires fits { Reaches self.now.len self.now.width self.now.height stride }
-        ensures value { result ≡ path_region stride self.now (window_of window.now ∷ []) }
-        ensures inside { result.start + result.len ≤ self.now.start + self.now.len }
-        ensures fits { Reaches result.len result.width result.height stride }
+        ensures { result ≡ path_region stride self.now (window_of window.now ∷ []) }
     {
         let Window {
             left,
