@@ -41,9 +41,9 @@ module _ (stride : ℕ) (whole : Region) (path : List Window) (n : ℕ) (left : 
         record {
           leads = way.leads ∙ ap (λ ws. path_region stride left (windows_of ws)) (drop_more path n d more) ∙ ap (λ r. path_region stride r rest) (sym is);
           counts = counts_more
-            ∙ ap (λ b. option_map (λ k. k + n) (cond b (option_map (λ k. k + 1) (first_outside next_one.width next_one.height rest)) (Some 0))) inn
-            ∙ counts_one n (first_outside next_one.width next_one.height rest)
-            ∙ ap (λ (r : Region). option_map (λ k. k + (n + 1)) (first_outside r.width r.height rest)) (sym is);
+              ∙ ap (λ b. option_map (λ k. k + n) (cond b (option_map (λ k. k + 1) (first_outside next_one.width next_one.height rest)) (Some 0))) inn
+              ∙ counts_one n (first_outside next_one.width next_one.height rest)
+              ∙ ap (λ (r : Region). option_map (λ k. k + (n + 1)) (first_outside r.width r.height rest)) (sym is);
           inside = omega (arith, has.within, way.inside, ap (λ (r : Region). r.start) is, ap (λ (r : Region). r.len) is);
           narrow = omega (arith, inside, way.narrow, ap (λ (r : Region). r.width) is);
           low = omega (arith, inside, way.low, ap (λ (r : Region). r.height) is);
