@@ -1,18 +1,24 @@
 -- What commands mean, on grids: replies and new grids speak of places alone, and of no cell, stride or padding.
-use Rattle.std.specs.Prelude.{ℕ, ◌+◌, Bool, not, nat_le, if◌then◌else◌, Option, Some, None, List, [], ◌∷◌, length, slice_set, slice_index_or, is_some}
+use Rattle.std.specs.Prelude.{ℕ, ◌+◌, Bool, not, nat_le, if◌then◌else◌, Option, Some, None, List, [], ◌∷◌, length, map, Vec, slice_set, slice_index_or, is_some}
 use Rattle.std.specs.Option.{option_map_or}
-use Rattle.image_model.specs.Grid.{Grid, grid, is_place, patch, uniform}
+use Rattle.image_model.specs.Grid.{Grid, grid, grid_of, is_place, patch, uniform}
 use Rattle.image_model.specs.Windows.{Window, window_view, first_outside, path_window}
+use Rattle.imgref.specs.Image.{vec_layout}
+use Rattle.imgref.specs.declared.img.Img.{Img}
 use Rattle.imgref_replay.specs.Paths.{windows_of}
-use Rattle.imgref_replay.specs.declared.replay.Place.{Place}
-use Rattle.imgref_replay.specs.declared.replay.Command.{Command}
-use Rattle.imgref_replay.specs.declared.replay.Command.TheVariants.{Get, Put}
-use Rattle.imgref_replay.specs.declared.replay.Refusal.{Refusal}
-use Rattle.imgref_replay.specs.declared.replay.Refusal.TheVariants.{NoImage, WindowOutside, PlaceOutside}
-use Rattle.imgref_replay.specs.declared.replay.Reply.{Reply}
-use Rattle.imgref_replay.specs.declared.replay.Reply.TheVariants.{Pixel, Done, Refused}
+use Rattle.imgref_replay.specs.declared.commands.Place.{Place}
+use Rattle.imgref_replay.specs.declared.commands.Command.{Command}
+use Rattle.imgref_replay.specs.declared.commands.Command.TheVariants.{Get, Put}
+use Rattle.imgref_replay.specs.declared.commands.Refusal.{Refusal}
+use Rattle.imgref_replay.specs.declared.commands.Refusal.TheVariants.{NoImage, WindowOutside, PlaceOutside}
+use Rattle.imgref_replay.specs.declared.commands.Reply.{Reply}
+use Rattle.imgref_replay.specs.declared.commands.Reply.TheVariants.{Pixel, Done, Refused}
 
 -- ---- what a place names
+
+-- the grid of each image
+abbrev pub grids_of : {T Z : Type 0} → List (Img (Vec T Z)) → List (Grid T)
+grids_of images = map grid_of (map vec_layout images)
 
 -- grid i of a list, and where there is none the grid with no place
 abbrev pub grid_at : {T : Type 0} → List (Grid T) → ℕ → Grid T

@@ -1,8 +1,11 @@
 //! Commands over images: nested windows, and lists of commands with their replies.
 #![tactic(auto)]
 
-mod replay;
+mod commands;
+mod runs;
+mod standin;
 mod window;
 
-pub use replay::{Command, Place, Refusal, Reply};
+pub use commands::{Command, Place, Refusal, Reply};
+pub use runs::{replay, replay_into};
 pub use window::Window;

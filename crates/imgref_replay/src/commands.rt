@@ -1,4 +1,4 @@
-//! Lists of commands over images, and their replies.
+//! Commands over images, and their replies.
 
 use crate::window::Window;
 

@@ -1,0 +1,36 @@
+// STAND-IN, to be removed: what `window` and `imgref` are to offer.
+ghost use Rattle.std.specs.Prelude.{◌≡◌, ◌+◌, ◌<◌, ◌≤◌, Some, None, IfOk, IfErr, OnOk};
+ghost use Rattle.image_model.specs.Layout.{Fits, SameOutside};
+ghost use Rattle.image_model.specs.Grid.{grid_of, patch, uniform};
+ghost use Rattle.image_model.specs.Windows.{first_outside, path_layout, path_width, path_height, path_view, corner_left, corner_top};
+ghost use Rattle.imgref.specs.Image.{vec_layout, ref_layout, width_of, height_of, stride_of};
+ghost use Rattle.imgref_replay.specs.Paths.{windows_of};
+
+use crate::window::Window;
+use imgref::{ImgRef, ImgVec};
+
+pub trait Below<T> {
+    fn image_ref(image: &ImgVec<T>) -> ImgRef<'_, T>
+        ensures { ref_layout result ≡ vec_layout image.now };
+
+    fn columns(image: ImgRef<'_, T>) -> usize
+        ensures width { result ≡ width_of image.entry }
+        ensures within { result ≤ stride_of image.entry };
+
+    fn window_at<'s>(img: ImgRef<'s, T>, path: &[Window]) -> Result<ImgRef<'s, T>, usize>
+        requires { Fits (ref_layout img) }
+        ensures outside { IfErr result (λ n. first_outside (width_of img.entry) (height_of img.entry) (windows_of path.now) ≡ Some n) }
+        ensures inside { OnOk result (first_outside (width_of img.entry) (height_of img.entry) (windows_of path.now) ≡ None) }
+        ensures layout { IfOk result (λ window. ref_layout window ≡ path_layout (ref_layout img.entry) (windows_of path.now)) }
+        ensures fits { IfOk result (λ window. Fits (ref_layout window)) }
+        ensures view { IfOk result (λ window. grid_of (ref_layout window) ≡ path_view (grid_of (ref_layout img.entry)) (windows_of path.now)) };
+
+    fn put_at(image: &mut ImgVec<T>, path: &[Window], x: usize, y: usize, value: T)
+        requires fits { Fits (vec_layout image.old) }
+        requires inside { first_outside (width_of image.old) (height_of image.old) (windows_of path.now) ≡ None }
+        requires column { x < path_width (width_of image.old) (windows_of path.now) }
+        requires row { y < path_height (height_of image.old) (windows_of path.now) }
+        ensures grid { grid_of (vec_layout image.new) ≡ patch (grid_of (vec_layout image.old)) (corner_left (windows_of path.now) + x) (corner_top (windows_of path.now) + y) (uniform 1 1 value) }
+        ensures outside { SameOutside (vec_layout image.old) (vec_layout image.new) }
+        ensures fits { Fits (vec_layout image.new) };
+}
