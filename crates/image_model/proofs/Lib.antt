@@ -1,3 +1,9 @@
+pub mod Cells
+pub mod Places
+pub mod Grids
+pub mod Stretches
+pub mod Windows
+pub mod Paths
 pub mod Rows
 pub mod Pixels
 pub mod Examples

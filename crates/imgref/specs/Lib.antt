@@ -1,3 +1,3 @@
+pub mod Containers
 pub mod Image
-pub mod Layout
-pub mod Stretch
+pub mod Window

@@ -1,6 +1,5 @@
 ghost use Rattle.std.specs.Prelude.{◌≡◌, ◌+◌, ◌-◌, ◌*◌, ◌^◌, ◌≤◌, ◌<◌, ◌++◌, ◌↔◌, IsTrue, length, take, drop, vec_len, slice_range, slice_get, Some, List};
 ghost use Rattle.std.specs.Borrow.{sem, follows, Lends, Array};
-ghost use Rattle.imgref.specs.Layout.{Fits, HasWindow};
 
 use crate::containers::AsSlice;
 use std::alloc::AllocError;

@@ -8,4 +8,3 @@ mod window;
 
 pub use containers::{AsMutCell, AsMutSlice, AsSlice};
 pub use img::{Img, ImgRef, ImgRefMut, ImgVec};
-pub use window::Stretch;
