@@ -6,4 +6,6 @@ pub mod Windows
 pub mod Paths
 pub mod Rows
 pub mod Pixels
+pub mod Kept
+pub mod Agreement
 pub mod Examples
