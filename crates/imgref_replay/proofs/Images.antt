@@ -8,6 +8,8 @@ use Rattle.std.proofs.lemmas.List.{length-map, length-set, map-set, get_or-map, 
 use Rattle.image_model.specs.Layout.{Layout, Fits, SameOutside}
 use Rattle.image_model.specs.Grid.{Grid, grid_of}
 use Rattle.image_model.specs.Windows.{first_outside, path_view}
+use Rattle.image_model.proofs.Places.{outside_refl}
+use Rattle.image_model.proofs.Cells.{slice_get-set_other}
 use Rattle.imgref.specs.Image.{vec_layout}
 use Rattle.imgref.specs.declared.img.Img.{Img}
 use Rattle.imgref_replay.specs.Paths.{windows_of}
@@ -17,17 +19,6 @@ use Rattle.imgref_replay.specs.declared.window.Window.{Window}
 use Rattle.imgref_replay.specs.declared.commands.Place.{Place}
 use Rattle.imgref_replay.specs.declared.commands.Refusal.{Refusal}
 use Rattle.imgref_replay.specs.declared.commands.Refusal.TheVariants.{WindowOutside}
-
--- the same outside
-pub outside_refl : {T : Type 0} (l : Layout T) → SameOutside l l
-outside_refl l = record { width_stays = refl; height_stays = refl; stride_stays = refl; length_stays = refl; padding_stays = λ k p. refl }
-
-slice_get-set_other : {T : Type 0} (xs : List T) (i j : ℕ) (a : T) → j ≢ i → slice_get (set xs i a) j ≡ slice_get xs j
-slice_get-set_other [] i j a h = refl
-slice_get-set_other (x ∷ xs) zero zero a h = absurd (h refl)
-slice_get-set_other (x ∷ xs) zero (suc j) a h = refl
-slice_get-set_other (x ∷ xs) (suc i) zero a h = refl
-slice_get-set_other (x ∷ xs) (suc i) (suc j) a h = slice_get-set_other xs i j a (λ e. h (ap suc e))
 
 -- as many grids as images
 pub length-grids : {T Z : Type 0} (images : List (Img (Vec T Z))) → length (grids_of images) ≡ length images

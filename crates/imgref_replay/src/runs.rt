@@ -14,7 +14,7 @@ use std::alloc::{AllocError, Global};
 
 // The window that a place names, or the fault in that name.
 fn window_of<'i, T, B: Below<T>>(images: &'i [ImgVec<T>], spot: &Place) -> Result<ImgRef<'i, T>, Refusal>
-    requires all_fit { All Fits (map vec_layout images.now) }
+    requires { All Fits (map vec_layout images.now) }
     ensures fault { MatchResult result (λ _. window_fault spot.now (grids_of images.now) ≡ None) (λ refusal. window_fault spot.now (grids_of images.now) ≡ Some refusal) }
     ensures image { OnOk result (spot.now.image < length images.now) }
     ensures view { IfOk result (λ window. grid_of (ref_layout window) ≡ view_named spot.now (grids_of images.now)) }
@@ -23,7 +23,7 @@ fn window_of<'i, T, B: Below<T>>(images: &'i [ImgVec<T>], spot: &Place) -> Resul
     let Some(image) = images.get(spot.image) else {
         return Err(Refusal::NoImage);
     };
-    match B::window_at(B::image_ref(image), &spot.path) {
+    match B::window_at(image.as_ref(), &spot.path) {
         Ok(window) => Ok(window),
         Err(_) => Err(Refusal::WindowOutside),
     }
@@ -31,7 +31,7 @@ fn window_of<'i, T, B: Below<T>>(images: &'i [ImgVec<T>], spot: &Place) -> Resul
 
 // The pixel at a place of a window.
 fn get<T: Copy, B: Below<T>>(images: &[ImgVec<T>], spot: &Place, x: usize, y: usize) -> Result<T, Refusal>
-    requires all_fit { All Fits (map vec_layout images.now) }
+    requires { All Fits (map vec_layout images.now) }
     ensures fault { MatchResult result (λ _. pixel_fault spot.now x y (grids_of images.now) ≡ None) (λ refusal. pixel_fault spot.now x y (grids_of images.now) ≡ Some refusal) }
     ensures pixel { IfOk result (λ pixel. (view_named spot.now (grids_of images.now)).pixel x y ≡ Some pixel) }
 {
@@ -45,7 +45,7 @@ fn get<T: Copy, B: Below<T>>(images: &[ImgVec<T>], spot: &Place, x: usize, y: us
 
 // Writes the pixel at a place of a window.
 fn put<T: Copy, B: Below<T>>(images: &mut [ImgVec<T>], spot: &Place, x: usize, y: usize, value: T) -> Result<(), Refusal>
-    requires all_fit { All Fits (map vec_layout images.old) }
+    requires { All Fits (map vec_layout images.old) }
     ensures fault { MatchResult result (λ _. pixel_fault spot.now x y (grids_of images.old) ≡ None) (λ refusal. pixel_fault spot.now x y (grids_of images.old) ≡ Some refusal) }
     ensures refused { OnErr result (images.new ≡ images.old) }
     ensures grids { OnOk result (let w = window_named spot.now (grids_of images.old) in grids_of images.new ≡ patched_at (grids_of images.old) spot.now.image (w.left + x) (w.top + y) (uniform 1 1 value)) }
@@ -63,7 +63,7 @@ fn put<T: Copy, B: Below<T>>(images: &mut [ImgVec<T>], spot: &Place, x: usize, y
 
 // Carries out one command, or tells its first fault and changes nothing.
 fn accept<T: Copy + Eq, B: Below<T>>(images: &mut [ImgVec<T>], command: &Command<T>) -> Result<Reply<T>, Refusal>
-    requires all_fit { All Fits (map vec_layout images.old) }
+    requires { All Fits (map vec_layout images.old) }
     ensures fault { MatchResult result (λ _. fault_of command.now (grids_of images.old) ≡ None) (λ refusal. fault_of command.now (grids_of images.old) ≡ Some refusal) }
     ensures reply { IfOk result (λ reply. reply ≡ answer T.eq command.now (grids_of images.old)) }
     ensures refused { OnErr result (images.new ≡ images.old) }
@@ -85,8 +85,8 @@ fn accept<T: Copy + Eq, B: Below<T>>(images: &mut [ImgVec<T>], command: &Command
 
 // Carries out one command, or refuses it.
 fn step<T: Copy + Eq, B: Below<T>>(images: &mut [ImgVec<T>], command: &Command<T>) -> Reply<T>
-    requires all_fit { All Fits (map vec_layout images.old) }
-    ensures run { IsRun T.eq (command.now ∷ []) (map vec_layout images.old) (map vec_layout images.new) (result ∷ []) }
+    requires { All Fits (map vec_layout images.old) }
+    ensures { IsRun T.eq (command.now ∷ []) (map vec_layout images.old) (map vec_layout images.new) (result ∷ []) }
 {
     match accept::<T, B>(images, command) {
         Ok(reply) => reply,
@@ -100,7 +100,7 @@ fn step<T: Copy + Eq, B: Below<T>>(images: &mut [ImgVec<T>], command: &Command<T
 pub fn replay_into<T: Copy + Eq, B: Below<T>>(images: &mut [ImgVec<T>], commands: &[Command<T>], replies: &mut [Reply<T>])
     requires all_fit { All Fits (map vec_layout images.old) }
     requires as_many { length replies.old ≡ length commands.now }
-    ensures run { IsRun T.eq commands.now (map vec_layout images.old) (map vec_layout images.new) replies.new }
+    ensures { IsRun T.eq commands.now (map vec_layout images.old) (map vec_layout images.new) replies.new }
 {
     for (i, command) in commands.iter().enumerate() {
         replies[i] = step::<T, B>(images, command);
@@ -110,7 +110,7 @@ pub fn replay_into<T: Copy + Eq, B: Below<T>>(images: &mut [ImgVec<T>], commands
 /// The same, with the replies in a list of their own, one for each command and in order. Room for all of them is taken before
 /// the first command: where there is none, no image has changed.
 pub fn replay<T: Copy + Eq, B: Below<T>>(alloc: Global, images: &mut [ImgVec<T>], commands: &[Command<T>]) -> Result<Vec<Reply<T>>, AllocError>
-    requires all_fit { All Fits (map vec_layout images.old) }
+    requires { All Fits (map vec_layout images.old) }
     ensures run { IfOk result (λ replies. IsRun T.eq commands.now (map vec_layout images.old) (map vec_layout images.new) replies.items) }
     ensures unchanged { OnErr result (images.new ≡ images.old) }
 {

@@ -10,9 +10,6 @@ use crate::window::Window;
 use imgref::{ImgRef, ImgVec};
 
 pub trait Below<T> {
-    fn image_ref(image: &ImgVec<T>) -> ImgRef<'_, T>
-        ensures { ref_layout result ≡ vec_layout image.now };
-
     fn columns(image: ImgRef<'_, T>) -> usize
         ensures width { result ≡ width_of image.entry }
         ensures within { result ≤ stride_of image.entry };

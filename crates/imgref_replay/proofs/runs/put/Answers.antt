@@ -15,7 +15,7 @@ put_at-requires g c =
       record { image = c.index-images-spot.result; there = c.in_ok-window.ensures.image; is = c.index-images-spot.is; shown = ap vec_layout (sym c.index-images-spot.is); path_is = c.deref.ensures.value } in
     let seen : grid_of (ref_layout c.in_ok-window.window) ≡ path_view (grid_of l) (windows_of c.deref.result.now) = c.in_ok-window.ensures.view ∙ sym (named_view spot images l c.deref.result.now names) in
     record {
-      fits = named_fits spot images l c.deref.result.now names c.requires.all_fit;
+      fits = named_fits spot images l c.deref.result.now names c.requires;
       inside = named_inside spot images l c.deref.result.now names c.in_ok-window.ensures.fault;
       column = omega (arith, ap (λ h. h.width) seen);
       row = omega (arith, ap (λ h. h.height) seen);
@@ -35,4 +35,4 @@ pub returns-then-y-height-clause-outside : goal.returns-then-y-height-clause-out
 returns-then-y-height-clause-outside g c = outsides_set c.args.images.now c.args.spot.now.image c.index-images-spot.result c.put_at.new.image c.in_ok-window.ensures.image c.put_at.ensures.outside
 
 pub returns-then-y-height-clause-fits : goal.returns-then-y-height-clause-fits
-returns-then-y-height-clause-fits g c = fits_set c.args.images.now c.args.spot.now.image c.put_at.new.image c.put_at.ensures.fits c.requires.all_fit
+returns-then-y-height-clause-fits g c = fits_set c.args.images.now c.args.spot.now.image c.put_at.new.image c.put_at.ensures.fits c.requires

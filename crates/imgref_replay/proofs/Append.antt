@@ -6,11 +6,12 @@ use Rattle.std.proofs.lemmas.Option.{same_Some, slice_get_within, slice_get-get_
 use Rattle.image_model.specs.Layout.{Layout, Fits, SameOutside}
 use Rattle.image_model.specs.Grid.{Grid, grid_of}
 use Rattle.image_model.specs.Kept.{IsPacked, IsKept}
+use Rattle.image_model.proofs.Places.{outside_refl}
+use Rattle.image_model.proofs.Kept.{kept_twice}
 use Rattle.imgref_replay.specs.Steps.{reply_to, after, replies_to, after_all}
 use Rattle.imgref_replay.specs.Run.{compacts, IsRun}
 use Rattle.imgref_replay.specs.declared.commands.Command.{Command}
 use Rattle.imgref_replay.specs.declared.commands.Reply.{Reply}
-use Rattle.imgref_replay.proofs.Images.{outside_refl}
 
 replies_append : {T : Type 0} (eq : T → T → Bool) (cs ds : List (Command T)) (grids : List (Grid T)) → replies_to eq (cs ++ ds) grids ≡ replies_to eq cs grids ++ replies_to eq ds (after_all cs grids)
 replies_append eq [] ds grids = refl
