@@ -1,11 +1,11 @@
 -- Runs of commands, one after another.
-use Rattle.std.proofs.Common.{◌≡◌, ℕ, ◌<◌, Bool, true, false, ◌||◌, List, [], ◌∷◌, ◌++◌, length, map, get_or, Some, refl, sym, ap, ◌∙◌, subst, arith}
-use Rattle.std.specs.Prelude.{slice_get, MatchBool, All}
+use Rattle.std.proofs.Common.{◌≡◌, ◌<◌, Bool, true, false, ◌||◌, List, [], ◌∷◌, ◌++◌, length, map, get_or, refl, sym, ap, ◌∙◌, subst, arith}
+use Rattle.std.specs.Prelude.{All}
 use Rattle.std.specs.List.{list_any}
 use Rattle.std.proofs.lemmas.Option.{same_Some, slice_get_within, slice_get-get_or}
 use Rattle.image_model.specs.Layout.{Layout, Fits, SameOutside}
 use Rattle.image_model.specs.Grid.{Grid, grid_of}
-use Rattle.image_model.specs.Kept.{IsPacked, IsKept}
+use Rattle.image_model.specs.Kept.{IsKept}
 use Rattle.image_model.proofs.Places.{outside_refl}
 use Rattle.image_model.proofs.Kept.{kept_twice}
 use Rattle.imgref_replay.specs.Steps.{reply_to, after, replies_to, after_all}
@@ -31,19 +31,19 @@ any_append p (x ∷ xs) ys = ap (λ b. p x || b) (any_append p xs ys) ∙ or_ass
 
 -- two runs, one after the other
 pub run_append : {T : Type 0} (eq : T → T → Bool) (cs ds : List (Command T)) (olds mids news : List (Layout T)) (rs qs : List (Reply T))
-  → length mids ≡ length olds → IsRun eq cs olds mids rs → IsRun eq ds mids news qs → IsRun eq (cs ++ ds) olds news (rs ++ qs)
+    → length mids ≡ length olds → IsRun eq cs olds mids rs → IsRun eq ds mids news qs → IsRun eq (cs ++ ds) olds news (rs ++ qs)
 run_append eq cs ds olds mids news rs qs as_many a b = record {
   replies_are =
-    ap (λ xs. xs ++ qs) a.replies_are
-    ∙ ap (λ ys. replies_to eq cs (map grid_of olds) ++ ys) (b.replies_are ∙ ap (replies_to eq ds) a.grids_are)
-    ∙ sym (replies_append eq cs ds (map grid_of olds));
+      ap (λ xs. xs ++ qs) a.replies_are
+      ∙ ap (λ ys. replies_to eq cs (map grid_of olds) ++ ys) (b.replies_are ∙ ap (replies_to eq ds) a.grids_are)
+      ∙ sym (replies_append eq cs ds (map grid_of olds));
   grids_are = b.grids_are ∙ ap (after_all ds) a.grids_are ∙ sym (after_append cs ds (map grid_of olds));
   all_kept = λ i old new in_old in_new.
-    let there : i < length mids = omega (arith, slice_get_within olds i old in_old) in
-    let mid = get_or mids i old in
-    let in_mid = slice_get-get_or mids i old there in
-    subst (λ compacted. IsKept compacted old new) (sym (any_append (compacts i) cs ds))
-    (kept_twice (list_any (compacts i) cs) (list_any (compacts i) ds) old mid new (a.all_kept i old mid in_old in_mid) (b.all_kept i mid new in_mid in_new));
+      let there : i < length mids = omega (arith, slice_get_within olds i old in_old) in
+      let mid = get_or mids i old in
+      let in_mid = slice_get-get_or mids i old there in
+      subst (λ compacted. IsKept compacted old new) (sym (any_append (compacts i) cs ds))
+      (kept_twice (list_any (compacts i) cs) (list_any (compacts i) ds) old mid new (a.all_kept i old mid in_old in_mid) (b.all_kept i mid new in_mid in_new));
   all_fit = b.all_fit;
 }
 

@@ -1,5 +1,5 @@
 -- Lists of images: the layout and the grid of each by its number, and what a place names in them.
-use Rattle.std.proofs.Common.{◌≡◌, ℕ, zero, suc, ◌<◌, List, [], ◌∷◌, length, map, set, get_or, ◌≢◌, Some, None, Option, refl, ap, sym, ◌∙◌, subst, ⊎_elim, arith}
+use Rattle.std.proofs.Common.{◌≡◌, ℕ, zero, suc, ◌<◌, List, [], ◌∷◌, length, map, set, get_or, Some, None, Option, refl, ap, sym, ◌∙◌, subst, ⊎_elim, arith}
 use Rattle.std.specs.Prelude.{Vec, All, slice_get, if◌then◌else◌, is_some}
 use Rattle.std.proofs.lemmas.Bool.{lt-leb, cond-false, cases_eq}
 use Rattle.std.proofs.lemmas.Option.{same_Some, get_or_from_slice_get}
@@ -17,7 +17,6 @@ use Rattle.imgref_replay.specs.Steps.{grid_at, grids_of, lacks_image, window_fau
 use Rattle.imgref_replay.specs.Run.{AllOutsidesStay}
 use Rattle.imgref_replay.specs.declared.window.Window.{Window}
 use Rattle.imgref_replay.specs.declared.commands.Place.{Place}
-use Rattle.imgref_replay.specs.declared.commands.Refusal.{Refusal}
 use Rattle.imgref_replay.specs.declared.commands.Refusal.TheVariants.{WindowOutside}
 
 -- as many grids as images
@@ -40,15 +39,15 @@ fits_at (first ∷ images) (suc i) image h is fits = fits_at images i image (ome
 layouts_set : {T : Type 0} (ls : List (Layout T)) (i : ℕ) (d new : Layout T) → i < length ls → SameOutside (get_or ls i d) new → AllOutsidesStay ls (set ls i new)
 layouts_set ls i d new within outside j before now in_old in_new =
     ⊎_elim (λ same.
-      let old_is : get_or ls i d ≡ before = get_or_from_slice_get ls i before d (ap (slice_get ls) (sym same) ∙ in_old) in
-      let there : i < length (set ls i new) = rw length-set within in
-      let new_is : new ≡ now =
-        sym (get_or-set_same ls i new d within)
-        ∙ get_or_from_slice_get (set ls i new) i now d (ap (slice_get (set ls i new)) (sym same) ∙ in_new) in
-      subst (λ l. SameOutside l now) old_is (subst (SameOutside (get_or ls i d)) new_is outside))
+    let old_is : get_or ls i d ≡ before = get_or_from_slice_get ls i before d (ap (slice_get ls) (sym same) ∙ in_old) in
+    let there : i < length (set ls i new) = rw length-set within in
+    let new_is : new ≡ now =
+    sym (get_or-set_same ls i new d within)
+    ∙ get_or_from_slice_get (set ls i new) i now d (ap (slice_get (set ls i new)) (sym same) ∙ in_new) in
+    subst (λ l. SameOutside l now) old_is (subst (SameOutside (get_or ls i d)) new_is outside))
     (λ differ.
-      let stays : before ≡ now = same_Some before now (sym in_old ∙ sym (slice_get-set_other ls i j new differ) ∙ in_new) in
-      subst (SameOutside before) stays (outside_refl before))
+    let stays : before ≡ now = same_Some before now (sym in_old ∙ sym (slice_get-set_other ls i j new differ) ∙ in_new) in
+    subst (SameOutside before) stays (outside_refl before))
     (cases_eq j i)
 
 -- what a write to image i leaves: its grid alone is another
@@ -61,7 +60,7 @@ fits_set images i new fits all_fit = subst (All Fits) (sym (map-set vec_layout i
 
 -- each outside stays where that of the new image does
 pub outsides_set : {T Z : Type 0} (images : List (Img (Vec T Z))) (i : ℕ) (d new : Img (Vec T Z)) → i < length images → SameOutside (vec_layout (get_or images i d)) (vec_layout new)
-  → AllOutsidesStay (map vec_layout images) (map vec_layout (set images i new))
+    → AllOutsidesStay (map vec_layout images) (map vec_layout (set images i new))
 outsides_set images i d new there outside =
     let ls = map vec_layout images in
     let within : i < length ls = rw (length-map images vec_layout) there in
@@ -88,11 +87,11 @@ module _ {T Z : Type 0} (spot : Place) (images : List (Img (Vec T Z))) (l : Layo
   -- the path alone decides whether the window is refused
   pub named_fault : (outside : Option ℕ) → first_outside l.width l.height (windows_of path) ≡ outside → window_fault spot (grids_of images) ≡ (if is_some outside then Some WindowOutside else None)
   named_fault outside at_path =
-    let there : spot.image < length (grids_of images) = rw (length-grids images) names.there in
-    cond-false (lacks_image spot.image (grids_of images)) _ _ (lt-leb (length (grids_of images)) spot.image there)
-    ∙ ap (λ h. if is_some (first_outside h.width h.height (windows_of spot.path.items)) then Some WindowOutside else None) named_grid
-    ∙ ap (λ ws. if is_some (first_outside l.width l.height (windows_of ws)) then Some WindowOutside else None) (sym names.path_is)
-    ∙ ap (λ o. if is_some o then Some WindowOutside else None) at_path
+      let there : spot.image < length (grids_of images) = rw (length-grids images) names.there in
+      cond-false (lacks_image spot.image (grids_of images)) _ _ (lt-leb (length (grids_of images)) spot.image there)
+      ∙ ap (λ h. if is_some (first_outside h.width h.height (windows_of spot.path.items)) then Some WindowOutside else None) named_grid
+      ∙ ap (λ ws. if is_some (first_outside l.width l.height (windows_of ws)) then Some WindowOutside else None) (sym names.path_is)
+      ∙ ap (λ o. if is_some o then Some WindowOutside else None) at_path
 
   -- what is seen through the path is what the place names
   pub named_view : path_view (grid_of l) (windows_of path) ≡ view_named spot (grids_of images)
@@ -108,7 +107,7 @@ module _ {T Z : Type 0} (spot : Place) (images : List (Img (Vec T Z))) (l : Layo
 
   -- a change of that grid is one of the grid that the place names
   pub named_change : (change : List Window → Grid T → Grid T) (new : Img (Vec T Z)) → grid_of (vec_layout new) ≡ change path (grid_of l)
-    → grids_of (set images spot.image new) ≡ set (grids_of images) spot.image (change spot.path.items (grid_at (grids_of images) spot.image))
+      → grids_of (set images spot.image new) ≡ set (grids_of images) spot.image (change spot.path.items (grid_at (grids_of images) spot.image))
   named_change change new changed =
-    grids_set images spot.image new
-    ∙ ap (set (grids_of images) spot.image) (changed ∙ ap (λ ws. change ws (grid_of l)) names.path_is ∙ ap (change spot.path.items) (sym named_grid))
+      grids_set images spot.image new
+      ∙ ap (set (grids_of images) spot.image) (changed ∙ ap (λ ws. change ws (grid_of l)) names.path_is ∙ ap (change spot.path.items) (sym named_grid))

@@ -13,7 +13,10 @@ use imgref::{ImgRef, ImgVec};
 use std::alloc::{AllocError, Global};
 
 // The window that a place names, or the fault in that name.
-fn window_of<'i, T, B: Below<T>>(images: &'i [ImgVec<T>], spot: &Place) -> Result<ImgRef<'i, T>, Refusal>
+fn window_of<'i, T, B: Below<T>>(
+    images: &'i [ImgVec<T>],
+    spot: &Place,
+) -> Result<ImgRef<'i, T>, Refusal>
     requires { All Fits (map vec_layout images.now) }
     ensures fault { MatchResult result (λ _. window_fault spot.now (grids_of images.now) ≡ None) (λ refusal. window_fault spot.now (grids_of images.now) ≡ Some refusal) }
     ensures image { OnOk result (spot.now.image < length images.now) }
@@ -30,7 +33,12 @@ fn window_of<'i, T, B: Below<T>>(images: &'i [ImgVec<T>], spot: &Place) -> Resul
 }
 
 // The pixel at a place of a window.
-fn get<T: Copy, B: Below<T>>(images: &[ImgVec<T>], spot: &Place, x: usize, y: usize) -> Result<T, Refusal>
+fn get<T: Copy, B: Below<T>>(
+    images: &[ImgVec<T>],
+    spot: &Place,
+    x: usize,
+    y: usize,
+) -> Result<T, Refusal>
     requires { All Fits (map vec_layout images.now) }
     ensures fault { MatchResult result (λ _. pixel_fault spot.now x y (grids_of images.now) ≡ None) (λ refusal. pixel_fault spot.now x y (grids_of images.now) ≡ Some refusal) }
     ensures pixel { IfOk result (λ pixel. (view_named spot.now (grids_of images.now)).pixel x y ≡ Some pixel) }
@@ -44,7 +52,13 @@ fn get<T: Copy, B: Below<T>>(images: &[ImgVec<T>], spot: &Place, x: usize, y: us
 }
 
 // Writes the pixel at a place of a window.
-fn put<T: Copy, B: Below<T>>(images: &mut [ImgVec<T>], spot: &Place, x: usize, y: usize, value: T) -> Result<(), Refusal>
+fn put<T: Copy, B: Below<T>>(
+    images: &mut [ImgVec<T>],
+    spot: &Place,
+    x: usize,
+    y: usize,
+    value: T,
+) -> Result<(), Refusal>
     requires { All Fits (map vec_layout images.old) }
     ensures fault { MatchResult result (λ _. pixel_fault spot.now x y (grids_of images.old) ≡ None) (λ refusal. pixel_fault spot.now x y (grids_of images.old) ≡ Some refusal) }
     ensures refused { OnErr result (images.new ≡ images.old) }
@@ -62,7 +76,10 @@ fn put<T: Copy, B: Below<T>>(images: &mut [ImgVec<T>], spot: &Place, x: usize, y
 }
 
 // Carries out one command, or tells its first fault and changes nothing.
-fn accept<T: Copy + Eq, B: Below<T>>(images: &mut [ImgVec<T>], command: &Command<T>) -> Result<Reply<T>, Refusal>
+fn accept<T: Copy + Eq, B: Below<T>>(
+    images: &mut [ImgVec<T>],
+    command: &Command<T>,
+) -> Result<Reply<T>, Refusal>
     requires { All Fits (map vec_layout images.old) }
     ensures fault { MatchResult result (λ _. fault_of command.now (grids_of images.old) ≡ None) (λ refusal. fault_of command.now (grids_of images.old) ≡ Some refusal) }
     ensures reply { IfOk result (λ reply. reply ≡ answer T.eq command.now (grids_of images.old)) }
@@ -97,7 +114,11 @@ fn step<T: Copy + Eq, B: Below<T>>(images: &mut [ImgVec<T>], command: &Command<T
 /// Carries out the commands from the first to the last and writes the reply to each, over what `replies` held. Replies and new
 /// pixels are those of the commands' meaning on grids (`replies_to`, `after_all`), and each image keeps its padding, stride and
 /// length until a command compacts it. A command with a fault changes nothing.
-pub fn replay_into<T: Copy + Eq, B: Below<T>>(images: &mut [ImgVec<T>], commands: &[Command<T>], replies: &mut [Reply<T>])
+pub fn replay_into<T: Copy + Eq, B: Below<T>>(
+    images: &mut [ImgVec<T>],
+    commands: &[Command<T>],
+    replies: &mut [Reply<T>],
+)
     requires all_fit { All Fits (map vec_layout images.old) }
     requires as_many { length replies.old ≡ length commands.now }
     ensures { IsRun T.eq commands.now (map vec_layout images.old) (map vec_layout images.new) replies.new }
@@ -109,7 +130,11 @@ pub fn replay_into<T: Copy + Eq, B: Below<T>>(images: &mut [ImgVec<T>], commands
 
 /// The same, with the replies in a list of their own, one for each command and in order. Room for all of them is taken before
 /// the first command: where there is none, no image has changed.
-pub fn replay<T: Copy + Eq, B: Below<T>>(alloc: Global, images: &mut [ImgVec<T>], commands: &[Command<T>]) -> Result<Vec<Reply<T>>, AllocError>
+pub fn replay<T: Copy + Eq, B: Below<T>>(
+    alloc: Global,
+    images: &mut [ImgVec<T>],
+    commands: &[Command<T>],
+) -> Result<Vec<Reply<T>>, AllocError>
     requires { All Fits (map vec_layout images.old) }
     ensures run { IfOk result (λ replies. IsRun T.eq commands.now (map vec_layout images.old) (map vec_layout images.new) replies.items) }
     ensures unchanged { OnErr result (images.new ≡ images.old) }

@@ -1,4 +1,4 @@
-use Rattle.std.proofs.Common.{◌≡◌, ◌+◌, ◌<◌, get_or, ap, sym, ◌∙◌, arith}
+use Rattle.std.proofs.Common.{◌≡◌, ◌+◌, get_or, ap, sym, ◌∙◌, arith}
 use Rattle.image_model.specs.Grid.{patch, uniform, grid_of}
 use Rattle.image_model.specs.Windows.{corner_left, corner_top, path_view}
 use Rattle.imgref.specs.Image.{vec_layout, ref_layout}
@@ -12,7 +12,7 @@ put_at-requires g c =
     let images = c.args.images.now in
     let l = vec_layout (get_or images spot.image c.index-images-spot.result) in
     let names : Names spot images l c.deref.result.now =
-      record { image = c.index-images-spot.result; there = c.in_ok-window.ensures.image; is = c.index-images-spot.is; shown = ap vec_layout (sym c.index-images-spot.is); path_is = c.deref.ensures.value } in
+    record { image = c.index-images-spot.result; there = c.in_ok-window.ensures.image; is = c.index-images-spot.is; shown = ap vec_layout (sym c.index-images-spot.is); path_is = c.deref.ensures.value } in
     let seen : grid_of (ref_layout c.in_ok-window.window) ≡ path_view (grid_of l) (windows_of c.deref.result.now) = c.in_ok-window.ensures.view ∙ sym (named_view spot images l c.deref.result.now names) in
     record {
       fits = named_fits spot images l c.deref.result.now names c.requires;
@@ -27,7 +27,7 @@ returns-then-y-height-clause-grids g c =
     let images = c.args.images.now in
     let l = vec_layout (get_or images spot.image c.index-images-spot.result) in
     let names : Names spot images l c.deref.result.now =
-      record { image = c.index-images-spot.result; there = c.in_ok-window.ensures.image; is = c.index-images-spot.is; shown = ap vec_layout (sym c.index-images-spot.is); path_is = c.deref.ensures.value } in
+    record { image = c.index-images-spot.result; there = c.in_ok-window.ensures.image; is = c.index-images-spot.is; shown = ap vec_layout (sym c.index-images-spot.is); path_is = c.deref.ensures.value } in
     named_change spot images l c.deref.result.now names
     (λ ws h. patch h (corner_left (windows_of ws) + c.args.x) (corner_top (windows_of ws) + c.args.y) (uniform 1 1 c.args.value)) c.put_at.new.image c.put_at.ensures.grid
 

@@ -9,13 +9,13 @@ use Rattle.imgref_replay.proofs.runs.window_of.Goals as goal
 pub window_at-requires : goal.window_at-requires
 window_at-requires g c =
     let names : Names c.args.spot.now c.args.images.now (ref_layout c.as_ref.result) c.deref.result.now =
-      record { image = c.in-Some.image.now; there = c.in-Some.ensures.lookup.3.0; is = c.in-Some.ensures.lookup.1; shown = c.as_ref.ensures; path_is = c.deref.ensures.value } in
+    record { image = c.in-Some.image.now; there = c.in-Some.ensures.lookup.3.0; is = c.in-Some.ensures.lookup.1; shown = c.as_ref.ensures; path_is = c.deref.ensures.value } in
     named_fits c.args.spot.now c.args.images.now (ref_layout c.as_ref.result) c.deref.result.now names c.requires
 
 pub returns-in-Ok : goal.returns-in-Ok
 returns-in-Ok g c =
     let names : Names c.args.spot.now c.args.images.now (ref_layout c.as_ref.result) c.deref.result.now =
-      record { image = c.in-Some.image.now; there = c.in-Some.ensures.lookup.3.0; is = c.in-Some.ensures.lookup.1; shown = c.as_ref.ensures; path_is = c.deref.ensures.value } in
+    record { image = c.in-Some.image.now; there = c.in-Some.ensures.lookup.3.0; is = c.in-Some.ensures.lookup.1; shown = c.as_ref.ensures; path_is = c.deref.ensures.value } in
     let seen : grid_of (ref_layout c.in-Ok.window) ≡ path_view (grid_of (ref_layout c.as_ref.result)) (windows_of c.deref.result.now) = c.in-Ok.ensures.view in
     record {
       fault = named_fault c.args.spot.now c.args.images.now (ref_layout c.as_ref.result) c.deref.result.now names None c.in-Ok.ensures.inside;
@@ -27,5 +27,5 @@ returns-in-Ok g c =
 pub returns-in-Err-clause-fault : goal.returns-in-Err-clause-fault
 returns-in-Err-clause-fault g c =
     let names : Names c.args.spot.now c.args.images.now (ref_layout c.as_ref.result) c.deref.result.now =
-      record { image = c.in-Some.image.now; there = c.in-Some.ensures.lookup.3.0; is = c.in-Some.ensures.lookup.1; shown = c.as_ref.ensures; path_is = c.deref.ensures.value } in
+    record { image = c.in-Some.image.now; there = c.in-Some.ensures.lookup.3.0; is = c.in-Some.ensures.lookup.1; shown = c.as_ref.ensures; path_is = c.deref.ensures.value } in
     named_fault c.args.spot.now c.args.images.now (ref_layout c.as_ref.result) c.deref.result.now names (Some c.in-Err.field-0) c.in-Err.ensures.outside
