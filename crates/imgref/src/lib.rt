@@ -4,6 +4,8 @@
 mod containers;
 mod img;
 mod index;
+#[cfg(test)]
+mod tests;
 mod window;
 
 pub use containers::{AsMutCell, AsMutSlice, AsSlice};

@@ -1,5 +1,15 @@
 //! Windows of windows: a path of them is one window of the image.
 
+ghost use Rattle.std.specs.Prelude.{◌≡◌, ℕ, ◌+◌, ◌≤◌, ◌<◌, ◌^◌, [], ◌∷◌, length, IfOk};
+ghost use Rattle.std.specs.Result.{result_err};
+ghost use Rattle.std.specs.Borrow.{sem, follows, follows_if, Array};
+ghost use Rattle.image_model.specs.Layout.{Fits, Reaches, layout};
+ghost use Rattle.image_model.specs.Windows.{IsInside, is_inside, first_outside, with_stretch, stretch_cells, path_stretch, path_layout, whole};
+ghost use Rattle.imgref.specs.Image.{buf_of, width_of, height_of, stride_of, mut_layout, ref_layout};
+ghost use Rattle.imgref_replay.specs.Paths.{window_of, windows_of, stretch_of, path_region, name_of};
+
+use imgref::{ImgRef, ImgRefMut};
+
 /// A window of an image or of another window: its corner and its size, in pixels.
 #[derive(Clone, Copy, PartialEq, Eq)]
 pub struct Window {
@@ -11,4 +21,120 @@ pub struct Window {
     pub width: usize,
     /// How many rows it has.
     pub height: usize,
+}
+
+/// The cells of a window, as a stretch of its image's cells, and its size.
+#[derive(Clone, Copy)]
+struct Region {
+    start: usize,
+    len: usize,
+    width: usize,
+    height: usize,
+}
+
+impl Region {
+    /// Whether the window lies inside.
+    fn has(&self, window: &Window) -> bool
+        ensures { result ≡ is_inside self.now.width self.now.height (window_of window.now) }
+    {
+        window.left <= self.width
+            && window.width <= self.width - window.left
+            && window.top <= self.height
+            && window.height <= self.height - window.top
+    }
+
+    /// The region of a window that lies inside.
+    fn window(&self, stride: usize, window: &Window) -> Region
+        requires inside { IsInside self.now.width self.now.height (window_of window.now) }
+        requires bounded { self.now.start + self.now.len < 2 ^ 64 }
+        requires within { self.now.width ≤ stride }
+        requires fits { Reaches self.now.len self.now.width self.now.height stride }
+        ensures value { result ≡ path_region stride self.now (window_of window.now ∷ []) }
+        ensures inside { result.start + result.len ≤ self.now.start + self.now.len }
+        ensures fits { Reaches result.len result.width result.height stride }
+    {
+        let Window {
+            left,
+            top,
+            width,
+            height,
+        } = *window;
+        if width == 0 || height == 0 {
+            return Region {
+                start: self.start,
+                len: 0,
+                width,
+                height,
+            };
+        }
+        let corner = stride * top + left;
+        let room = self.len - corner;
+        let exact = stride * (height - 1) + width;
+        let rest = stride - width;
+        let len = if room - exact >= rest { exact + rest } else { exact };
+        Region {
+            start: self.start + corner,
+            len,
+            width,
+            height,
+        }
+    }
+}
+
+/// Where a path leads in a region, or the number of its first window outside.
+fn region_at(whole: Region, stride: usize, path: &[Window]) -> Result<Region, usize>
+    requires bounded { whole.start + whole.len < 2 ^ 64 }
+    requires within { whole.width ≤ stride }
+    requires fits { Reaches whole.len whole.width whole.height stride }
+    ensures outside { result_err result ≡ first_outside whole.width whole.height (windows_of path.now) }
+    ensures region { IfOk result (λ r. r ≡ path_region stride whole (windows_of path.now)) }
+    ensures inside { IfOk result (λ r. r.start + r.len ≤ whole.start + whole.len) }
+    ensures narrow { IfOk result (λ r. r.width ≤ whole.width) }
+    ensures low { IfOk result (λ r. r.height ≤ whole.height) }
+    ensures fits { IfOk result (λ r. Reaches r.len r.width r.height stride) }
+{
+    let mut region = whole;
+    for (index, window) in path.iter().enumerate() {
+        if !region.has(window) {
+            return Err(index);
+        }
+        region = region.window(stride, window);
+    }
+    Ok(region)
+}
+
+/// The image of a region's cells, lent on.
+fn into_region<'s, T>(cells: &'s mut [T], region: Region, stride: usize) -> ImgRefMut<'s, T>
+    requires in_bounds { region.start + region.len ≤ length cells.old }
+    requires positive { 1 ≤ stride }
+    requires within { region.width ≤ stride }
+    requires width_fits { region.width < 2 ^ 32 }
+    requires height_fits { region.height < 2 ^ 32 }
+    ensures* hands_on { sem 𝓛 (follows (Array T.row 0) (Array T.row 0) cells.entry.ghost_name (buf_of result).ghost_name (with_stretch cells.old (stretch_of region))) }
+    ensures layout { mut_layout result ≡ layout (stretch_cells cells.old (stretch_of region)) region.width region.height stride }
+{
+    let end = region.start + region.len;
+    ImgRefMut::new_stride(&mut cells[region.start..end], region.width, region.height, stride)
+}
+
+/// The nested window for writing, in place of the image; or the number, from 0, of the first
+/// window of the path that isn't inside the size before it. Then no cell has changed, and the
+/// borrow ends.
+pub fn into_window_at<'s, T>(img: ImgRefMut<'s, T>, path: &[Window]) -> Result<ImgRefMut<'s, T>, usize>
+    requires fits { Fits (mut_layout img) }
+    ensures* hands_on { sem 𝓛 (follows_if (Array T.row 0) (Array T.row 0) (buf_of img.entry).ghost_name (name_of result) (with_stretch (buf_of img.entry).now (path_stretch (stride_of img.entry) (whole (buf_of img.entry).now) (windows_of path.now))) (buf_of img.entry).now) }
+    ensures outside { result_err result ≡ first_outside (width_of img.entry) (height_of img.entry) (windows_of path.now) }
+    ensures layout { IfOk result (λ w. mut_layout w ≡ path_layout (mut_layout img.entry) (windows_of path.now)) }
+{
+    let (cells, width, height, stride) = img.into_parts();
+    let whole = Region {
+        start: 0,
+        len: cells.len(),
+        width,
+        height,
+    };
+    match region_at(whole, stride, path) {
+        Ok(region) => Ok(into_region(cells, region, stride)),
+        Err(index) => Err(index),
+    }
 }
