@@ -85,13 +85,13 @@ module _ {T Z : Type 0} (spot : Place) (images : List (Img (Vec T Z))) (l : Layo
   named_grid = grid_at-images images spot.image names.image names.there names.is ∙ ap grid_of (sym names.shown)
 
   -- the path alone decides whether the window is refused
-  pub named_fault : (outside : Option ℕ) → first_outside l.width l.height (windows_of path) ≡ outside → window_fault spot (grids_of images) ≡ (if is_some outside then Some WindowOutside else None)
+  pub named_fault : (outside : Option ℕ) → outside ≡ first_outside l.width l.height (windows_of path) → window_fault spot (grids_of images) ≡ (if is_some outside then Some WindowOutside else None)
   named_fault outside at_path =
       let there : spot.image < length (grids_of images) = rw (length-grids images) names.there in
       cond-false (lacks_image spot.image (grids_of images)) _ _ (lt-leb (length (grids_of images)) spot.image there)
       ∙ ap (λ h. if is_some (first_outside h.width h.height (windows_of spot.path.items)) then Some WindowOutside else None) named_grid
       ∙ ap (λ ws. if is_some (first_outside l.width l.height (windows_of ws)) then Some WindowOutside else None) (sym names.path_is)
-      ∙ ap (λ o. if is_some o then Some WindowOutside else None) at_path
+      ∙ ap (λ o. if is_some o then Some WindowOutside else None) (sym at_path)
 
   -- what is seen through the path is what the place names
   pub named_view : path_view (grid_of l) (windows_of path) ≡ view_named spot (grids_of images)

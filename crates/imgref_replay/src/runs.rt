@@ -44,7 +44,7 @@ fn get<T: Copy, B: Below<T>>(
     ensures pixel { IfOk result (λ pixel. (view_named spot.now (grids_of images.now)).pixel x y ≡ Some pixel) }
 {
     let window = window_of::<T, B>(images, spot)?;
-    if x < B::columns(window) && y < window.height() {
+    if x < window.width() && y < window.height() {
         Ok(window[(x, y)])
     } else {
         Err(Refusal::PlaceOutside)
@@ -67,7 +67,7 @@ fn put<T: Copy, B: Below<T>>(
     ensures fits { OnOk result (All Fits (map vec_layout images.new)) }
 {
     let window = window_of::<T, B>(images, spot)?;
-    if x < B::columns(window) && y < window.height() {
+    if x < window.width() && y < window.height() {
         B::put_at(&mut images[spot.image], &spot.path, x, y, value);
         Ok(())
     } else {

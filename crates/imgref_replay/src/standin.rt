@@ -1,5 +1,6 @@
 // STAND-IN, to be removed: what `window` and `imgref` are to offer.
-ghost use Rattle.std.specs.Prelude.{◌≡◌, ◌+◌, ◌<◌, ◌≤◌, Some, None, IfOk, IfErr, OnOk};
+ghost use Rattle.std.specs.Prelude.{◌≡◌, ◌+◌, ◌<◌, ◌≤◌, Some, None, IfOk};
+ghost use Rattle.std.specs.Result.{result_err};
 ghost use Rattle.image_model.specs.Layout.{Fits, SameOutside};
 ghost use Rattle.image_model.specs.Grid.{grid_of, patch, uniform};
 ghost use Rattle.image_model.specs.Windows.{first_outside, path_layout, path_width, path_height, path_view, corner_left, corner_top};
@@ -10,14 +11,9 @@ use crate::window::Window;
 use imgref::{ImgRef, ImgVec};
 
 pub trait Below<T> {
-    fn columns(image: ImgRef<'_, T>) -> usize
-        ensures width { result ≡ width_of image.entry }
-        ensures within { result ≤ stride_of image.entry };
-
     fn window_at<'s>(img: ImgRef<'s, T>, path: &[Window]) -> Result<ImgRef<'s, T>, usize>
         requires { Fits (ref_layout img) }
-        ensures outside { IfErr result (λ n. first_outside (width_of img.entry) (height_of img.entry) (windows_of path.now) ≡ Some n) }
-        ensures inside { OnOk result (first_outside (width_of img.entry) (height_of img.entry) (windows_of path.now) ≡ None) }
+        ensures outside { result_err result ≡ first_outside (width_of img.entry) (height_of img.entry) (windows_of path.now) }
         ensures layout { IfOk result (λ window. ref_layout window ≡ path_layout (ref_layout img.entry) (windows_of path.now)) }
         ensures fits { IfOk result (λ window. Fits (ref_layout window)) }
         ensures view { IfOk result (λ window. grid_of (ref_layout window) ≡ path_view (grid_of (ref_layout img.entry)) (windows_of path.now)) };

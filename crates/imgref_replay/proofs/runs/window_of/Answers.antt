@@ -18,7 +18,7 @@ returns-in-Ok g c =
     record { image = c.in-Some.image.now; there = c.in-Some.ensures.lookup.3.0; is = c.in-Some.ensures.lookup.1; shown = c.as_ref.ensures; path_is = c.deref.ensures.value } in
     let seen : grid_of (ref_layout c.in-Ok.window) ≡ path_view (grid_of (ref_layout c.as_ref.result)) (windows_of c.deref.result.now) = c.in-Ok.ensures.view in
     record {
-      fault = named_fault c.args.spot.now c.args.images.now (ref_layout c.as_ref.result) c.deref.result.now names None c.in-Ok.ensures.inside;
+      fault = named_fault c.args.spot.now c.args.images.now (ref_layout c.as_ref.result) c.deref.result.now names None c.in-Ok.ensures.outside;
       image = names.there;
       view = seen ∙ named_view c.args.spot.now c.args.images.now (ref_layout c.as_ref.result) c.deref.result.now names;
       fits = c.in-Ok.ensures.fits;
