@@ -4,6 +4,8 @@
 mod commands;
 mod runs;
 mod standin;
+#[cfg(test)]
+mod tests;
 mod window;
 
 pub use commands::{Command, Place, Refusal, Reply};

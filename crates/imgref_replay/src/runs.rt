@@ -8,12 +8,12 @@ ghost use Rattle.imgref_replay.specs.Steps.{grids_of, window_named, view_named, 
 ghost use Rattle.imgref_replay.specs.Run.{AllOutsidesStay, AllKept, IsRun};
 
 use crate::commands::{Command, Place, Refusal, Reply};
-use crate::standin::Below;
+use crate::standin::{put_at, window_at};
 use imgref::{ImgRef, ImgVec};
 use std::alloc::{AllocError, Global};
 
 // The window that a place names, or the fault in that name.
-fn window_of<'i, T, B: Below<T>>(
+fn window_of<'i, T>(
     images: &'i [ImgVec<T>],
     spot: &Place,
 ) -> Result<ImgRef<'i, T>, Refusal>
@@ -26,14 +26,14 @@ fn window_of<'i, T, B: Below<T>>(
     let Some(image) = images.get(spot.image) else {
         return Err(Refusal::NoImage);
     };
-    match B::window_at(image.as_ref(), &spot.path) {
+    match window_at(image.as_ref(), &spot.path) {
         Ok(window) => Ok(window),
         Err(_) => Err(Refusal::WindowOutside),
     }
 }
 
 // The pixel at a place of a window.
-fn get<T: Copy, B: Below<T>>(
+fn get<T: Copy>(
     images: &[ImgVec<T>],
     spot: &Place,
     x: usize,
@@ -43,7 +43,7 @@ fn get<T: Copy, B: Below<T>>(
     ensures fault { MatchResult result (λ _. pixel_fault spot.now x y (grids_of images.now) ≡ None) (λ refusal. pixel_fault spot.now x y (grids_of images.now) ≡ Some refusal) }
     ensures pixel { IfOk result (λ pixel. (view_named spot.now (grids_of images.now)).pixel x y ≡ Some pixel) }
 {
-    let window = window_of::<T, B>(images, spot)?;
+    let window = window_of(images, spot)?;
     if x < window.width() && y < window.height() {
         Ok(window[(x, y)])
     } else {
@@ -52,7 +52,7 @@ fn get<T: Copy, B: Below<T>>(
 }
 
 // Writes the pixel at a place of a window.
-fn put<T: Copy, B: Below<T>>(
+fn put<T: Copy>(
     images: &mut [ImgVec<T>],
     spot: &Place,
     x: usize,
@@ -66,9 +66,9 @@ fn put<T: Copy, B: Below<T>>(
     ensures outside { OnOk result (AllOutsidesStay (map vec_layout images.old) (map vec_layout images.new)) }
     ensures fits { OnOk result (All Fits (map vec_layout images.new)) }
 {
-    let window = window_of::<T, B>(images, spot)?;
+    let window = window_of(images, spot)?;
     if x < window.width() && y < window.height() {
-        B::put_at(&mut images[spot.image], &spot.path, x, y, value);
+        put_at(&mut images[spot.image], &spot.path, x, y, value);
         Ok(())
     } else {
         Err(Refusal::PlaceOutside)
@@ -76,7 +76,7 @@ fn put<T: Copy, B: Below<T>>(
 }
 
 // Carries out one command, or tells its first fault and changes nothing.
-fn accept<T: Copy + Eq, B: Below<T>>(
+fn accept<T: Copy + Eq>(
     images: &mut [ImgVec<T>],
     command: &Command<T>,
 ) -> Result<Reply<T>, Refusal>
@@ -90,22 +90,22 @@ fn accept<T: Copy + Eq, B: Below<T>>(
 {
     match command {
         Command::Get { spot, x, y } => {
-            let pixel = get::<T, B>(images, spot, *x, *y)?;
+            let pixel = get(images, spot, *x, *y)?;
             Ok(Reply::Pixel(pixel))
         }
         Command::Put { spot, x, y, value } => {
-            put::<T, B>(images, spot, *x, *y, *value)?;
+            put(images, spot, *x, *y, *value)?;
             Ok(Reply::Done)
         }
     }
 }
 
 // Carries out one command, or refuses it.
-fn step<T: Copy + Eq, B: Below<T>>(images: &mut [ImgVec<T>], command: &Command<T>) -> Reply<T>
+fn step<T: Copy + Eq>(images: &mut [ImgVec<T>], command: &Command<T>) -> Reply<T>
     requires { All Fits (map vec_layout images.old) }
     ensures { IsRun T.eq (command.now ∷ []) (map vec_layout images.old) (map vec_layout images.new) (result ∷ []) }
 {
-    match accept::<T, B>(images, command) {
+    match accept(images, command) {
         Ok(reply) => reply,
         Err(refusal) => Reply::Refused(refusal),
     }
@@ -114,7 +114,7 @@ fn step<T: Copy + Eq, B: Below<T>>(images: &mut [ImgVec<T>], command: &Command<T
 /// Carries out the commands from the first to the last and writes the reply to each, over what `replies` held. Replies and new
 /// pixels are those of the commands' meaning on grids (`replies_to`, `after_all`), and each image keeps its padding, stride and
 /// length until a command compacts it. A command with a fault changes nothing.
-pub fn replay_into<T: Copy + Eq, B: Below<T>>(
+pub fn replay_into<T: Copy + Eq>(
     images: &mut [ImgVec<T>],
     commands: &[Command<T>],
     replies: &mut [Reply<T>],
@@ -124,13 +124,13 @@ pub fn replay_into<T: Copy + Eq, B: Below<T>>(
     ensures { IsRun T.eq commands.now (map vec_layout images.old) (map vec_layout images.new) replies.new }
 {
     for (i, command) in commands.iter().enumerate() {
-        replies[i] = step::<T, B>(images, command);
+        replies[i] = step(images, command);
     }
 }
 
 /// The same, with the replies in a list of their own, one for each command and in order. Room for all of them is taken before
 /// the first command: where there is none, no image has changed.
-pub fn replay<T: Copy + Eq, B: Below<T>>(
+pub fn replay<T: Copy + Eq>(
     alloc: Global,
     images: &mut [ImgVec<T>],
     commands: &[Command<T>],
@@ -141,6 +141,6 @@ pub fn replay<T: Copy + Eq, B: Below<T>>(
 {
     let mut replies = Vec::new(alloc);
     replies.resize_with(commands.len(), || Reply::Done)?;
-    replay_into::<T, B>(images, commands, &mut replies);
+    replay_into(images, commands, &mut replies);
     Ok(replies)
 }
