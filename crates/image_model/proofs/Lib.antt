@@ -8,4 +8,7 @@ pub mod Rows
 pub mod Pixels
 pub mod Kept
 pub mod Agreement
+pub mod Shifts
+pub mod Alike
+pub mod Tiles
 pub mod Examples

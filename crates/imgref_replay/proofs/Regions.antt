@@ -1,22 +1,12 @@
 -- Windows of a region of cells, and a path of them on the way to its end.
-use Rattle.std.proofs.Common.{◌≡◌, ℕ, zero, suc, ◌+◌, ◌-◌, ◌*◌, ◌<◌, ◌≤◌, Bool, true, false, cond, List, [], ◌∷◌, drop, map, refl, sym, ap, ◌∙◌, arith, mul-le-mul_left}
+use Rattle.std.proofs.Common.{◌≡◌, ℕ, ◌+◌, ◌≤◌, true, false, cond, List, [], ◌∷◌, drop, refl, sym, ap, ◌∙◌, arith}
 use Rattle.std.specs.Prelude.{Option, Some, None}
 use Rattle.std.specs.Option.{option_map}
-use native.Mathlib.Nat.{mul-add}
 use Rattle.image_model.specs.Layout.{Reaches}
-use Rattle.image_model.specs.Windows as model
 use Rattle.image_model.specs.Windows.{IsInside, is_inside, first_outside}
 use Rattle.imgref_replay.specs.declared.window.Region.{Region}
 use Rattle.imgref_replay.specs.declared.window.Window.{Window}
 use Rattle.imgref_replay.specs.Paths.{window_of, windows_of, path_region}
-
--- a window with pixels lies within the cells
-pub window_reaches : (count width height stride : ℕ) (w : model.Window) → 0 < w.width → 0 < w.height → Reaches count width height stride → IsInside width height w
-    → (stride * w.top + w.left) + (stride * (w.height - 1) + w.width) ≤ count
-window_reaches count width height stride w wide high fits inside =
-    let all : stride * (height - 1) + width ≤ count = fits (omega (arith, inside)) (omega (arith, inside)) in
-    let rows : w.top + (w.height - 1) ≤ height - 1 = omega (arith, inside) in
-    omega (arith, all, inside, mul-le-mul_left stride rows, mul-add stride w.top (w.height - 1))
 
 -- after n windows of a path, all inside, a region is left: the rest of the path leads on from there
 pub record IsOnWay (stride : ℕ) (whole : Region) (path : List Window) (n : ℕ) (left : Region) : Type 0 where

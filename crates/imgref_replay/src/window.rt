@@ -1,14 +1,16 @@
 //! Windows of windows: a path of them is one window of the image.
 
-ghost use Rattle.std.specs.Prelude.{◌≡◌, ℕ, ◌+◌, ◌≤◌, ◌<◌, ◌^◌, [], ◌∷◌, length, IfOk};
+ghost use Rattle.std.specs.Prelude.{◌≡◌, ℕ, ◌+◌, ◌≤◌, ◌<◌, ◌^◌, [], ◌∷◌, length, IfOk, None, slice_set};
 ghost use Rattle.std.specs.Result.{result_err};
 ghost use Rattle.std.specs.Borrow.{sem, follows, follows_if, Array};
-ghost use Rattle.image_model.specs.Layout.{Fits, Reaches, layout};
-ghost use Rattle.image_model.specs.Windows.{IsInside, is_inside, first_outside, with_stretch, stretch_cells, path_stretch, path_layout, whole};
-ghost use Rattle.imgref.specs.Image.{buf_of, width_of, height_of, stride_of, mut_layout, ref_layout};
+ghost use Rattle.image_model.specs.Layout.{Fits, Reaches, SameOutside, layout, cell_of};
+ghost use Rattle.image_model.specs.Grid.{grid_of, patch, uniform};
+ghost use Rattle.image_model.specs.Windows.{IsInside, is_inside, first_outside, with_stretch, stretch_cells, path_width, path_height, corner_left, corner_top, path_stretch, path_layout, path_view, whole};
+ghost use Rattle.imgref.specs.Image.{buf_of, width_of, height_of, stride_of, with_buf, layout_by, mut_layout, ref_layout, vec_layout};
+ghost use Rattle.imgref.specs.contracts.img.Img.{the_row};
 ghost use Rattle.imgref_replay.specs.Paths.{window_of, windows_of, stretch_of, path_region, name_of};
 
-use imgref::{ImgRef, ImgRefMut};
+use imgref::{AsMutSlice, AsSlice, Img, ImgRef, ImgRefMut, ImgVec};
 
 /// A window of an image or of another window: its corner and its size, in pixels.
 #[derive(Clone, Copy, PartialEq, Eq)]
@@ -91,7 +93,6 @@ fn region_at(whole: Region, stride: usize, path: &[Window]) -> Result<Region, us
     ensures inside { IfOk result (λ r. r.start + r.len ≤ whole.start + whole.len) }
     ensures narrow { IfOk result (λ r. r.width ≤ whole.width) }
     ensures low { IfOk result (λ r. r.height ≤ whole.height) }
-    ensures fits { IfOk result (λ r. Reaches r.len r.width r.height stride) }
 {
     let mut region = whole;
     for (index, window) in path.iter().enumerate() {
@@ -101,6 +102,27 @@ fn region_at(whole: Region, stride: usize, path: &[Window]) -> Result<Region, us
         region = region.window(stride, window);
     }
     Ok(region)
+}
+
+/// The nested window that a path leads to; or the number, from 0, of the first window of the path
+/// that isn't inside the size before it.
+pub fn window_at<'s, T>(img: ImgRef<'s, T>, path: &[Window]) -> Result<ImgRef<'s, T>, usize>
+    requires fits { Fits (ref_layout img) }
+    ensures outside { result_err result ≡ first_outside (width_of img.entry) (height_of img.entry) (windows_of path.now) }
+    ensures layout { IfOk result (λ w. ref_layout w ≡ path_layout (ref_layout img.entry) (windows_of path.now)) }
+    ensures fits { IfOk result (λ w. Fits (ref_layout w)) }
+    ensures view { IfOk result (λ w. grid_of (ref_layout w) ≡ path_view (grid_of (ref_layout img.entry)) (windows_of path.now)) }
+{
+    let (cells, width, height, stride) = img.into_parts();
+    let whole = Region {
+        start: 0,
+        len: cells.len(),
+        width,
+        height,
+    };
+    let region = region_at(whole, stride, path)?;
+    let end = region.start + region.len;
+    Ok(ImgRef::new_stride(&cells[region.start..end], region.width, region.height, stride))
 }
 
 /// The image of a region's cells, lent on.
@@ -125,6 +147,8 @@ pub fn into_window_at<'s, T>(img: ImgRefMut<'s, T>, path: &[Window]) -> Result<I
     ensures* hands_on { sem 𝓛 (follows_if (Array T.row 0) (Array T.row 0) (buf_of img.entry).ghost_name (name_of result) (with_stretch (buf_of img.entry).now (path_stretch (stride_of img.entry) (whole (buf_of img.entry).now) (windows_of path.now))) (buf_of img.entry).now) }
     ensures outside { result_err result ≡ first_outside (width_of img.entry) (height_of img.entry) (windows_of path.now) }
     ensures layout { IfOk result (λ w. mut_layout w ≡ path_layout (mut_layout img.entry) (windows_of path.now)) }
+    ensures fits { IfOk result (λ w. Fits (mut_layout w)) }
+    ensures view { IfOk result (λ w. grid_of (mut_layout w) ≡ path_view (grid_of (mut_layout img.entry)) (windows_of path.now)) }
 {
     let (cells, width, height, stride) = img.into_parts();
     let whole = Region {
@@ -137,4 +161,52 @@ pub fn into_window_at<'s, T>(img: ImgRefMut<'s, T>, path: &[Window]) -> Result<I
         Ok(region) => Ok(into_region(cells, region, stride)),
         Err(index) => Err(index),
     }
+}
+
+/// The cells, the width, the height and the stride of the window that a path inside leads to. Once
+/// the borrow ends, the image has what was left in those cells, and no other cell has changed.
+pub(crate) fn window_parts_at<'a, C: AsMutSlice>(image: &'a mut Img<C>, path: &[Window]) -> (&'a mut [C::Item], usize, usize, usize)
+    requires fits { Fits (layout_by C.AsSlice.cells image.old) }
+    requires inside { first_outside (width_of image.old) (height_of image.old) (windows_of path.now) ≡ None }
+    ensures* hands_on { sem 𝓛 (follows (the_row C.row) (Array C.Item.row 0) image.entry.ghost_name result.0.ghost_name (λ others. with_buf image.old (C.with_cells (buf_of image.old) (whole (C.AsSlice.cells (buf_of image.old))) (with_stretch (C.AsSlice.cells (buf_of image.old)) (path_stretch (stride_of image.old) (whole (C.AsSlice.cells (buf_of image.old))) (windows_of path.now)) others)))) }
+    ensures layout { layout result.0.now result.1 result.2 result.3 ≡ path_layout (layout_by C.AsSlice.cells image.old) (windows_of path.now) }
+    ensures fits { Fits (layout result.0.now result.1 result.2 result.3) }
+    ensures stride_positive { 1 ≤ result.3 }
+    ensures width_within { result.1 ≤ result.3 }
+    ensures width_fits { result.1 < 2 ^ 32 }
+    ensures height_fits { result.2 < 2 ^ 32 }
+{
+    let Ok(window) = into_window_at(image.as_mut(), path) else { unreachable!() };
+    window.into_parts()
+}
+
+/// Writes `value` at column `x` of row `y` of the window that a path inside leads to.
+pub(crate) fn put_at<T: Copy>(image: &mut ImgVec<T>, path: &[Window], x: usize, y: usize, value: T)
+    requires fits { Fits (vec_layout image.old) }
+    requires inside { first_outside (width_of image.old) (height_of image.old) (windows_of path.now) ≡ None }
+    requires column { x < path_width (width_of image.old) (windows_of path.now) }
+    requires line { y < path_height (height_of image.old) (windows_of path.now) }
+    ensures grid { grid_of (vec_layout image.new) ≡ patch (grid_of (vec_layout image.old)) (corner_left (windows_of path.now) + x) (corner_top (windows_of path.now) + y) (uniform 1 1 value) }
+    ensures outside { SameOutside (vec_layout image.old) (vec_layout image.new) }
+    ensures fits { Fits (vec_layout image.new) }
+{
+    // Its contract says that the image's width is within it.
+    let _stride = image.stride();
+    let (cells, width, height, stride) = window_parts_at(image, path);
+    put_in(cells, width, height, stride, x, y, value);
+}
+
+/// Writes `value` at column `x` of row `y` of the image that the cells make.
+fn put_in<T: Copy>(cells: &mut [T], width: usize, height: usize, stride: usize, x: usize, y: usize, value: T)
+    requires stride_positive { 1 ≤ stride }
+    requires width_within { width ≤ stride }
+    requires width_fits { width < 2 ^ 32 }
+    requires height_fits { height < 2 ^ 32 }
+    requires fits { Fits (layout cells.old width height stride) }
+    requires column { x < width }
+    requires line { y < height }
+    ensures { cells.new ≡ slice_set cells.old (cell_of (layout cells.old width height stride) x y) value }
+{
+    let mut img = ImgRefMut::new_stride(cells, width, height, stride);
+    img[(x, y)] = value;
 }

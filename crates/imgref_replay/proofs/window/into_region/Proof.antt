@@ -15,9 +15,9 @@ use prog.Wp.{WpFn}
 use contract.BorrowLft.{◌⊑◌, ⊑_refl, ⊑_trans, ⊑_meet}
 use contract.Monad.{fact, fact_i}
 use contract.Running.{tables}
-use types.Kit.{Item, ‵, ◌⊛◌, raw, later, some, prop, ◌$◌, ◌∵◌, !, qed, by, move, keep, drop, split, split3, join, fsplit, fsplit3, fjoin, fpick, rewrite, regoal, use0, use1, use2, await, pick, updating, now, done}
+use types.Kit.{Item, ‵, ◌⊛◌, raw, later, some, prop, ◌$◌, ◌∵◌, !, qed, by, move, keep, drop, split, split3, join, fsplit, fjoin, rewrite, regoal, use0, use1, use2, await, pick, updating, now, done}
 use types.Part.{whole, sub, agg}
-use types.Run.{stop, fld, addr, bin, of_opd, size_word, and_then, no_more, returns, enter}
+use types.Run.{stop, fld, addr, bin, size_word, and_then, no_more, returns, enter}
 use types.ByLocal.{alloc_all, pass_all, free_all, look_at, get, get_in, through, is, sets, lands_as}
 use denote.Array.{Array}
 use denote.Builtin.{usize}
@@ -47,7 +47,6 @@ use Rattle.imgref.proofs.img.Img.new_stride.Met as made
 use Rattle.imgref.proofs.Values.{img_val, img_row, img_told}
 use Rattle.imgref.proofs.Parts.{uncapped, cut_at, part_lent, lends_part}
 use Rattle.imgref_replay.specs.declared.window.Region.{Region}
-use Rattle.imgref_replay.specs.contracts.window.Region as region
 use Rattle.imgref_replay.proofs.Rows.{Cells, cells_laws, region_val, region_told}
 use Rattle.imgref_replay.specs.contracts.window.into_region.{ended, clauses}
 use Rattle.imgref_replay.specs.contracts.window.into_region.Key.{name as #self}
