@@ -3,11 +3,10 @@
 
 mod commands;
 mod runs;
-mod standin;
 #[cfg(test)]
 mod tests;
 mod window;
 
 pub use commands::{Command, Place, Refusal, Reply};
 pub use runs::{replay, replay_into};
-pub use window::Window;
+pub use window::{Window, into_window_at, window_at};

@@ -8,7 +8,7 @@ ghost use Rattle.imgref_replay.specs.Steps.{grids_of, window_named, view_named, 
 ghost use Rattle.imgref_replay.specs.Run.{AllOutsidesStay, AllKept, IsRun};
 
 use crate::commands::{Command, Place, Refusal, Reply};
-use crate::standin::{put_at, window_at};
+use crate::window::{put_at, window_at};
 use imgref::{ImgRef, ImgVec};
 use std::alloc::{AllocError, Global};
 

@@ -18,7 +18,7 @@ put_at-requires g c =
       fits = named_fits spot images l c.deref.result.now names c.requires;
       inside = named_inside spot images l c.deref.result.now names c.in_ok-window.ensures.fault;
       column = omega (arith, ap (λ h. h.width) seen);
-      row = omega (arith, ap (λ h. h.height) seen);
+      line = omega (arith, ap (λ h. h.height) seen);
     }
 
 pub returns-then-y-height-clause-grids : goal.returns-then-y-height-clause-grids

@@ -10,7 +10,7 @@ pub window_at-requires : goal.window_at-requires
 window_at-requires g c =
     let names : Names c.args.spot.now c.args.images.now (ref_layout c.as_ref.result) c.deref.result.now =
     record { image = c.in-Some.image.now; there = c.in-Some.ensures.lookup.3.0; is = c.in-Some.ensures.lookup.1; shown = c.as_ref.ensures; path_is = c.deref.ensures.value } in
-    named_fits c.args.spot.now c.args.images.now (ref_layout c.as_ref.result) c.deref.result.now names c.requires
+    record { fits = named_fits c.args.spot.now c.args.images.now (ref_layout c.as_ref.result) c.deref.result.now names c.requires }
 
 pub returns-in-Ok : goal.returns-in-Ok
 returns-in-Ok g c =
