@@ -13,10 +13,7 @@ use imgref::{ImgRef, ImgVec};
 use std::alloc::{AllocError, Global};
 
 // The window that a place names, or the fault in that name.
-fn window_of<'i, T>(
-    images: &'i [ImgVec<T>],
-    spot: &Place,
-) -> Result<ImgRef<'i, T>, Refusal>
+fn locate<'i, T>(images: &'i [ImgVec<T>], spot: &Place) -> Result<ImgRef<'i, T>, Refusal>
     requires { All Fits (map vec_layout images.now) }
     ensures fault { MatchResult result (λ _. window_fault spot.now (grids_of images.now) ≡ None) (λ refusal. window_fault spot.now (grids_of images.now) ≡ Some refusal) }
     ensures image { OnOk result (spot.now.image < length images.now) }
@@ -26,24 +23,19 @@ fn window_of<'i, T>(
     let Some(image) = images.get(spot.image) else {
         return Err(Refusal::NoImage);
     };
-    match window_at(image.as_ref(), &spot.path) {
+    match window_at(image.as_ref(), spot.path.as_slice()) {
         Ok(window) => Ok(window),
         Err(_) => Err(Refusal::WindowOutside),
     }
 }
 
 // The pixel at a place of a window.
-fn get<T: Copy>(
-    images: &[ImgVec<T>],
-    spot: &Place,
-    x: usize,
-    y: usize,
-) -> Result<T, Refusal>
+fn get<T: Copy>(images: &[ImgVec<T>], spot: &Place, x: usize, y: usize) -> Result<T, Refusal>
     requires { All Fits (map vec_layout images.now) }
     ensures fault { MatchResult result (λ _. pixel_fault spot.now x y (grids_of images.now) ≡ None) (λ refusal. pixel_fault spot.now x y (grids_of images.now) ≡ Some refusal) }
     ensures pixel { IfOk result (λ pixel. (view_named spot.now (grids_of images.now)).pixel x y ≡ Some pixel) }
 {
-    let window = window_of(images, spot)?;
+    let window = locate(images, spot)?;
     if x < window.width() && y < window.height() {
         Ok(window[(x, y)])
     } else {
@@ -66,9 +58,9 @@ fn put<T: Copy>(
     ensures outside { OnOk result (AllOutsidesStay (map vec_layout images.old) (map vec_layout images.new)) }
     ensures fits { OnOk result (All Fits (map vec_layout images.new)) }
 {
-    let window = window_of(images, spot)?;
+    let window = locate(images, spot)?;
     if x < window.width() && y < window.height() {
-        put_at(&mut images[spot.image], &spot.path, x, y, value);
+        put_at(&mut images[spot.image], spot.path.as_slice(), x, y, value);
         Ok(())
     } else {
         Err(Refusal::PlaceOutside)
@@ -76,10 +68,7 @@ fn put<T: Copy>(
 }
 
 // Carries out one command, or tells its first fault and changes nothing.
-fn accept<T: Copy + Eq>(
-    images: &mut [ImgVec<T>],
-    command: &Command<T>,
-) -> Result<Reply<T>, Refusal>
+fn accept<T: Copy + Eq>(images: &mut [ImgVec<T>], command: &Command<T>) -> Result<Reply<T>, Refusal>
     requires { All Fits (map vec_layout images.old) }
     ensures fault { MatchResult result (λ _. fault_of command.now (grids_of images.old) ≡ None) (λ refusal. fault_of command.now (grids_of images.old) ≡ Some refusal) }
     ensures reply { IfOk result (λ reply. reply ≡ answer T.eq command.now (grids_of images.old)) }

@@ -20,11 +20,25 @@ struct Rgb {
     blue: u8,
 }
 
-const SKY: Rgb = Rgb { red: 90, green: 160, blue: 250 };
+const SKY: Rgb = Rgb {
+    red: 90,
+    green: 160,
+    blue: 250,
+};
 
-const SAND: Rgb = Rgb { red: 220, green: 200, blue: 150 };
+const SAND: Rgb = Rgb {
+    red: 220,
+    green: 200,
+    blue: 150,
+};
 
-fn image<T: Copy + Drop>(alloc: Global, cells: &[T], width: usize, height: usize, stride: usize) -> Result<ImgVec<T>, AllocError>
+fn image<T: Copy + Drop>(
+    alloc: Global,
+    cells: &[T],
+    width: usize,
+    height: usize,
+    stride: usize,
+) -> Result<ImgVec<T>, AllocError>
     requires positive { 1 ≤ stride }
     requires within { width ≤ stride }
     requires width_fits { width < 2 ^ 32 }
@@ -43,10 +57,21 @@ fn place(alloc: Global, image: usize, path: &[Window]) -> Result<Place, AllocErr
 }
 
 fn window(left: usize, top: usize, width: usize, height: usize) -> Window {
-    Window { left, top, width, height }
+    Window {
+        left,
+        top,
+        width,
+        height,
+    }
 }
 
-fn get<T>(alloc: Global, image: usize, path: &[Window], x: usize, y: usize) -> Result<Command<T>, AllocError> {
+fn get<T>(
+    alloc: Global,
+    image: usize,
+    path: &[Window],
+    x: usize,
+    y: usize,
+) -> Result<Command<T>, AllocError> {
     Ok(Command::Get {
         spot: place(alloc, image, path)?,
         x,
@@ -54,7 +79,14 @@ fn get<T>(alloc: Global, image: usize, path: &[Window], x: usize, y: usize) -> R
     })
 }
 
-fn put<T: Drop>(alloc: Global, image: usize, path: &[Window], x: usize, y: usize, value: T) -> Result<Command<T>, AllocError> {
+fn put<T: Drop>(
+    alloc: Global,
+    image: usize,
+    path: &[Window],
+    x: usize,
+    y: usize,
+    value: T,
+) -> Result<Command<T>, AllocError> {
     Ok(Command::Put {
         spot: place(alloc, image, path)?,
         x,
@@ -67,25 +99,37 @@ fn put<T: Drop>(alloc: Global, image: usize, path: &[Window], x: usize, y: usize
 // it is refused.
 
 fn one_grid_in_two_layouts(rt: &impl Abort, alloc: Global) -> Result<(), AllocError> {
-    let commands = [put(alloc, 0, &[window(1, 1, 2, 1)], 0, 0, 9u8)?, get(alloc, 0, &[], 1, 1)?];
+    let commands = [
+        put(alloc, 0, &[window(1, 1, 2, 1)], 0, 0, 9u8)?,
+        get(alloc, 0, &[], 1, 1)?,
+    ];
     let mut padded = [image(alloc, &A, 3, 2, 4)?];
     let mut packed = [image(alloc, &[1u8, 2, 3, 5, 6, 7], 3, 2, 3)?];
     let of_padded = replay(alloc, &mut padded, &commands)?;
     let of_packed = replay(alloc, &mut packed, &commands)?;
     assert!(rt; of_padded.as_slice() == [Reply::Done, Reply::Pixel(9u8)].as_slice());
     assert!(rt; of_packed.as_slice() == [Reply::Done, Reply::Pixel(9u8)].as_slice());
-    assert_eq!(rt; padded[0].buf().as_slice(), [1u8, 2, 3, 4, 5, 9, 7, 8, 9].as_slice());
+    assert_eq!(rt;
+        padded[0].buf().as_slice(),
+        [1u8, 2, 3, 4, 5, 9, 7, 8, 9].as_slice()
+    );
     assert_eq!(rt; packed[0].buf().as_slice(), [1u8, 2, 3, 5, 9, 7].as_slice());
     Ok(())
 }
 
 fn nested_windows(rt: &impl Abort, alloc: Global) -> Result<(), AllocError> {
     let path = [window(1, 0, 2, 2), window(1, 0, 1, 2)];
-    let commands = [get(alloc, 0, &path, 0, 1)?, put(alloc, 0, &path, 0, 0, 0u8)?];
+    let commands = [
+        get(alloc, 0, &path, 0, 1)?,
+        put(alloc, 0, &path, 0, 0, 0u8)?,
+    ];
     let mut images = [image(alloc, &A, 3, 2, 4)?];
     let replies = replay(alloc, &mut images, &commands)?;
     assert!(rt; replies.as_slice() == [Reply::Pixel(7u8), Reply::Done].as_slice());
-    assert_eq!(rt; images[0].buf().as_slice(), [1u8, 2, 0, 4, 5, 6, 7, 8, 9].as_slice());
+    assert_eq!(rt;
+        images[0].buf().as_slice(),
+        [1u8, 2, 0, 4, 5, 6, 7, 8, 9].as_slice()
+    );
     Ok(())
 }
 
@@ -99,38 +143,45 @@ fn padding_survives_put(rt: &impl Abort, alloc: Global) -> Result<(), AllocError
     let mut images = [image(alloc, &A, 3, 2, 4)?];
     let replies = replay(alloc, &mut images, &commands)?;
     assert!(rt; replies.as_slice() == [Reply::Done; 6].as_slice());
-    assert_eq!(rt; images[0].buf().as_slice(), [0u8, 0, 0, 4, 0, 0, 0, 8, 9].as_slice());
+    assert_eq!(rt;
+        images[0].buf().as_slice(),
+        [0u8, 0, 0, 4, 0, 0, 0, 8, 9].as_slice()
+    );
     Ok(())
 }
 
 fn first_fault(rt: &impl Abort, alloc: Global) -> Result<(), AllocError> {
-    let greatest = window(GREATEST, GREATEST, GREATEST, GREATEST);
-    let commands = [
-        get(alloc, 1, &[greatest], GREATEST, GREATEST)?,
-        put(alloc, GREATEST, &[], 0, 0, 0u8)?,
-        get(alloc, 0, &[greatest], GREATEST, GREATEST)?,
-        put(alloc, 0, &[window(2, 0, 2, 1)], 0, 0, 0u8)?,
-        get(alloc, 0, &[window(0, 0, 2, 2), window(1, 0, 2, 1)], 0, 0)?,
-        get(alloc, 0, &[window(1, 0, GREATEST, 1)], 0, 0)?,
-        get(alloc, 0, &[], 3, 0)?,
-        put(alloc, 0, &[], 0, 2, 0u8)?,
-        put(alloc, 0, &[], GREATEST, GREATEST, 0u8)?,
-        get(alloc, 0, &[window(3, 0, 0, 2)], 0, 0)?,
+    let greatest = [window(GREATEST, GREATEST, GREATEST, GREATEST)];
+    let wide = [window(1, 0, GREATEST, 1)];
+    let nested = [window(0, 0, 2, 2), window(1, 0, 2, 1)];
+    let empty = [window(3, 0, 0, 2)];
+    let spots = [
+        (1, greatest.as_slice(), GREATEST, GREATEST, Refusal::NoImage),
+        (GREATEST, &[], 0, 0, Refusal::NoImage),
+        (
+            0,
+            greatest.as_slice(),
+            GREATEST,
+            GREATEST,
+            Refusal::WindowOutside,
+        ),
+        (0, wide.as_slice(), 0, 0, Refusal::WindowOutside),
+        (0, nested.as_slice(), 0, 0, Refusal::WindowOutside),
+        (0, empty.as_slice(), 0, 0, Refusal::PlaceOutside),
+        (0, &[], 3, 0, Refusal::PlaceOutside),
+        (0, &[], 0, 2, Refusal::PlaceOutside),
+        (0, &[], GREATEST, GREATEST, Refusal::PlaceOutside),
     ];
+    let mut commands = Vec::new(alloc);
+    let mut wanted = Vec::new(alloc);
+    for (number, path, x, y, refusal) in spots.iter() {
+        commands.push(put(alloc, *number, *path, *x, *y, 0u8)?)?;
+        commands.push(get(alloc, *number, *path, *x, *y)?)?;
+        wanted.push(Reply::Refused(*refusal))?;
+        wanted.push(Reply::Refused(*refusal))?;
+    }
     let mut images = [image(alloc, &A, 3, 2, 4)?];
     let replies = replay(alloc, &mut images, &commands)?;
-    let wanted: [Reply<u8>; 10] = [
-        Reply::Refused(Refusal::NoImage),
-        Reply::Refused(Refusal::NoImage),
-        Reply::Refused(Refusal::WindowOutside),
-        Reply::Refused(Refusal::WindowOutside),
-        Reply::Refused(Refusal::WindowOutside),
-        Reply::Refused(Refusal::WindowOutside),
-        Reply::Refused(Refusal::PlaceOutside),
-        Reply::Refused(Refusal::PlaceOutside),
-        Reply::Refused(Refusal::PlaceOutside),
-        Reply::Refused(Refusal::PlaceOutside),
-    ];
     assert!(rt; replies.as_slice() == wanted.as_slice());
     assert_eq!(rt; images[0].buf().as_slice(), A.as_slice());
     Ok(())
@@ -142,7 +193,10 @@ fn lists_of_images(rt: &impl Abort, alloc: Global) -> Result<(), AllocError> {
     let commands = [put(alloc, 1, &[], 0, 0, 9u8)?, get(alloc, 0, &[], 0, 0)?];
     let refused = replay(alloc, &mut none, &commands)?;
     assert!(rt; refused.as_slice() == [Reply::Refused(Refusal::NoImage); 2].as_slice());
-    let mut two = [image(alloc, &[1u8, 2], 2, 1, 2)?, image(alloc, &[3u8, 4], 1, 2, 1)?];
+    let mut two = [
+        image(alloc, &[1u8, 2], 2, 1, 2)?,
+        image(alloc, &[3u8, 4], 1, 2, 1)?,
+    ];
     let mut replies = [Reply::Truth(true); 2];
     replay_into(&mut two, &commands, &mut replies);
     assert!(rt; replies.as_slice() == [Reply::Done, Reply::Pixel(1u8)].as_slice());
@@ -152,15 +206,36 @@ fn lists_of_images(rt: &impl Abort, alloc: Global) -> Result<(), AllocError> {
 }
 
 fn other_pixels(rt: &impl Abort, alloc: Global) -> Result<(), AllocError> {
-    let paint = [put(alloc, 0, &[], 1, 1, SAND)?, get(alloc, 0, &[], 1, 1)?, get(alloc, 0, &[], 0, 1)?];
+    let paint = [
+        put(alloc, 0, &[], 1, 1, SAND)?,
+        get(alloc, 0, &[], 1, 1)?,
+        get(alloc, 0, &[], 0, 1)?,
+    ];
     let mut painted = [image(alloc, &[SKY; 5], 2, 2, 3)?];
     let colours = replay(alloc, &mut painted, &paint)?;
-    assert!(rt; colours.as_slice() == [Reply::Done, Reply::Pixel(SAND), Reply::Pixel(SKY)].as_slice());
-    assert_eq!(rt; painted[0].buf().as_slice(), [SKY, SKY, SKY, SKY, SAND].as_slice());
-    let touch = [put(alloc, 0, &[], 1, 1, ())?, get(alloc, 0, &[], 1, 1)?, get(alloc, 0, &[], 2, 1)?];
+    assert!(rt;
+        colours.as_slice() == [Reply::Done, Reply::Pixel(SAND), Reply::Pixel(SKY)].as_slice()
+    );
+    assert_eq!(rt;
+        painted[0].buf().as_slice(),
+        [SKY, SKY, SKY, SKY, SAND].as_slice()
+    );
+    let touch = [
+        put(alloc, 0, &[], 1, 1, ())?,
+        get(alloc, 0, &[], 1, 1)?,
+        get(alloc, 0, &[], 2, 1)?,
+    ];
     let mut blank = [image(alloc, &[(); 5], 2, 2, 3)?];
     let units = replay(alloc, &mut blank, &touch)?;
-    assert!(rt; units.as_slice() == [Reply::Done, Reply::Pixel(()), Reply::Refused(Refusal::PlaceOutside)].as_slice());
+    assert!(rt;
+        units.as_slice()
+            == [
+                Reply::Done,
+                Reply::Pixel(()),
+                Reply::Refused(Refusal::PlaceOutside)
+            ]
+            .as_slice()
+    );
     Ok(())
 }
 
@@ -177,7 +252,10 @@ fn refused_memory(rt: &impl Abort, alloc: Global) -> Result<(), AllocError> {
 
 #[test]
 fn one_grid_in_two_layouts_gives_the_same_replies(rt: HostRuntime) -> Result<(), Fail> {
-    Ok(one_grid_in_two_layouts(&rt, rt.alloc()).or_else(|_| one_grid_in_two_layouts(&rt, rt.alloc()))?)
+    Ok(one_grid_in_two_layouts(&rt, rt.alloc()).or_else(|_| one_grid_in_two_layouts(
+        &rt,
+        rt.alloc(),
+    ))?)
 }
 
 #[test]

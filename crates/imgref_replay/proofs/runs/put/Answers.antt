@@ -11,12 +11,12 @@ put_at-requires g c =
     let spot = c.args.spot.now in
     let images = c.args.images.now in
     let l = vec_layout (get_or images spot.image c.index-images-spot.result) in
-    let names : Names spot images l c.deref.result.now =
-    record { image = c.index-images-spot.result; there = c.in_ok-window.ensures.image; is = c.index-images-spot.is; shown = ap vec_layout (sym c.index-images-spot.is); path_is = c.deref.ensures.value } in
-    let seen : grid_of (ref_layout c.in_ok-window.window) ≡ path_view (grid_of l) (windows_of c.deref.result.now) = c.in_ok-window.ensures.view ∙ sym (named_view spot images l c.deref.result.now names) in
+    let names : Names spot images l c.as_slice.result.now =
+    record { image = c.index-images-spot.result; there = c.in_ok-window.ensures.image; is = c.index-images-spot.is; shown = ap vec_layout (sym c.index-images-spot.is); path_is = c.as_slice.ensures.value } in
+    let seen : grid_of (ref_layout c.in_ok-window.window) ≡ path_view (grid_of l) (windows_of c.as_slice.result.now) = c.in_ok-window.ensures.view ∙ sym (named_view spot images l c.as_slice.result.now names) in
     record {
-      fits = named_fits spot images l c.deref.result.now names c.requires;
-      inside = named_inside spot images l c.deref.result.now names c.in_ok-window.ensures.fault;
+      fits = named_fits spot images l c.as_slice.result.now names c.requires;
+      inside = named_inside spot images l c.as_slice.result.now names c.in_ok-window.ensures.fault;
       column = omega (arith, ap (λ h. h.width) seen);
       line = omega (arith, ap (λ h. h.height) seen);
     }
@@ -26,9 +26,9 @@ returns-then-y-height-clause-grids g c =
     let spot = c.args.spot.now in
     let images = c.args.images.now in
     let l = vec_layout (get_or images spot.image c.index-images-spot.result) in
-    let names : Names spot images l c.deref.result.now =
-    record { image = c.index-images-spot.result; there = c.in_ok-window.ensures.image; is = c.index-images-spot.is; shown = ap vec_layout (sym c.index-images-spot.is); path_is = c.deref.ensures.value } in
-    named_change spot images l c.deref.result.now names
+    let names : Names spot images l c.as_slice.result.now =
+    record { image = c.index-images-spot.result; there = c.in_ok-window.ensures.image; is = c.index-images-spot.is; shown = ap vec_layout (sym c.index-images-spot.is); path_is = c.as_slice.ensures.value } in
+    named_change spot images l c.as_slice.result.now names
     (λ ws h. patch h (corner_left (windows_of ws) + c.args.x) (corner_top (windows_of ws) + c.args.y) (uniform 1 1 c.args.value)) c.put_at.new.image c.put_at.ensures.grid
 
 pub returns-then-y-height-clause-outside : goal.returns-then-y-height-clause-outside
