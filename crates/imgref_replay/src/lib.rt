@@ -1,8 +1,10 @@
 //! Commands over images: nested windows, and lists of commands with their replies.
 #![tactic(auto)]
 
-mod replay;
+mod commands;
+mod stand_in;
 mod window;
 
-pub use replay::{Command, Place, Refusal, Reply};
+pub use commands::{Command, Place, Refusal, Reply};
+pub use stand_in::replay;
 pub use window::Window;
