@@ -119,8 +119,12 @@ window_in-back : (w : Window) → IsWindow w → window_in (window_parts w) ≡ 
 unfolding window_in
 window_in-back w is =
     let number = first_back number_of decimal IsWord number_law in
-    rw (number w.left (decimal w.top ∷ decimal w.width ∷ decimal w.height ∷ []) is.left, number w.top (decimal w.width ∷ decimal w.height ∷ []) is.top,
-        number w.width (decimal w.height ∷ []) is.width, number w.height [] is.height) refl
+    rw (
+      number w.left (decimal w.top ∷ decimal w.width ∷ decimal w.height ∷ []) is.left,
+      number w.top (decimal w.width ∷ decimal w.height ∷ []) is.top,
+      number w.width (decimal w.height ∷ []) is.width,
+      number w.height [] is.height,
+    ) refl
 
 lacks-window_parts : (c : ℕ) (w : Window) → c < 48 → IsWindow w → AllLack c (window_parts w)
 lacks-window_parts c w small is =
@@ -170,15 +174,16 @@ unfolding path_of
 path_is field ws e =
     elim (choice (bytes_eq field (45 ∷ [])) (some []) (each_of window_of (parts_of 47 field)) (some ws) e) [
       | inl t ↦ subst (λ (vs : List Window). (field ≡ path_text vs) × IsPath vs) (some_is [] ws t.1) (unfold path_text in (bytes_eq-Decides field (45 ∷ [])).0 t.0, tt)
-      | inr t ↦ let all = each_is window_of window_text IsWindow window_law (parts_of 47 field) ws t.1 in (joined_windows field ws all.0, all.1) ]
+      | inr t ↦ let all = each_is window_of window_text IsWindow window_law (parts_of 47 field) ws t.1 in (joined_windows field ws all.0, all.1)
+    ]
 
 path_back : (ws : List Window) → IsPath ws → path_of (path_text ws) ≡ Some ws
 unfolding path_of path_text
 path_back [] all = refl
 path_back (w ∷ ws) all =
     rw (no_dash w ws all)
-        (ap (each_of window_of) (parts_of-join 47 (window_text w) (map window_text ws) (lacks-windows 47 (w ∷ ws) (omega arith) (omega arith) all))
-            ∙ each_back window_of window_text IsWindow window_law (w ∷ ws) all)
+    (ap (each_of window_of) (parts_of-join 47 (window_text w) (map window_text ws) (lacks-windows 47 (w ∷ ws) (omega arith) (omega arith) all))
+    ∙ each_back window_of window_text IsWindow window_law (w ∷ ws) all)
 
 pub path_law : ReadsText path_of path_text IsPath
 path_law = record { is = path_is; back = path_back }

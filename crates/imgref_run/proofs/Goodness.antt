@@ -1,7 +1,7 @@
 -- Good lines: what a script that is read line by line comes to.
 use Rattle.std.proofs.Common.{◌≡◌, ℕ, suc, ◌+◌, ◌-◌, ◌<◌, ◌≤◌, Bool, true, false, eqb, List, [], ◌∷◌, ◌++◌, map, length, take, drop, get_or, Result, Ok, Err, refl, sym, ap, subst, ◌∙◌, inl, inr, arith, add-one, below_more}
 use Rattle.std.specs.Prelude.{OnOk, IsErrOf}
-use Rattle.std.proofs.lemmas.Bool.{eqb-false}
+use Rattle.std.proofs.lemmas.Bool.{eqb-false, eqb-true}
 use Rattle.std.proofs.lemmas.List.{take_all, length-drop, append-nil}
 use Rattle.std.proofs.Math.Seq.{drop-cons, take-suc}
 use Rattle.std.specs.List.{AllByRecursion}
@@ -79,7 +79,10 @@ next_is all n line rest e =
 
 -- ---- a script that is read line by line
 
--- a list that isn't empty
+pub none_mapped : {A B : Type 0} (f : A → B) (xs : List A) (n : ℕ) → n ≡ length xs → true ≡ eqb n 0 → map f xs ≡ []
+none_mapped f [] n e test = refl
+none_mapped f (x ∷ xs) n e test = absurd (omega (arith, eqb-true n 0 (sym test)))
+
 pub some_mapped : {A B : Type 0} (f : A → B) (xs : List A) (n : ℕ) → n ≡ length xs → false ≡ eqb n 0 → 0 < length (map f xs)
 some_mapped f [] n e test = absurd (eqb-false n 0 (sym test) e)
 some_mapped f (x ∷ xs) n e test = omega arith

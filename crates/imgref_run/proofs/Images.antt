@@ -36,7 +36,7 @@ sized_is i e stride cells =
 is_sized-image : (i : Layout ℕ) → IsImage i → is_sized i ≡ true
 is_sized-image i is =
     rw (le-leb i.width 4294967295 is.width, le-leb i.height 4294967295 is.height, le-leb 1 i.stride is.stride_positive, le-leb i.width i.stride is.width_within)
-        ((is_fitting_decides i).1 is.fits)
+    ((is_fitting_decides i).1 is.fits)
 
 pub image_is : (fields : List (List ℕ)) (i : Layout ℕ) → image_in fields ≡ Some i → (codes "image" ∷ fields ≡ image_fields i) × IsImage i
 unfolding image_in
@@ -54,14 +54,19 @@ image_is fields i e =
     let dt = each_is pixel_of decimal IsPixel pixel_law c.0.1 d.0 d.1 in
     let whole = then fields _ _ _ at.0 (then a.0.1 _ _ _ bt.0 (then b.0.1 _ _ _ ct.0 dt.0)) in
     subst (λ (v : Layout ℕ). (codes "image" ∷ fields ≡ image_fields v) × IsImage v) end.1
-        (ap (λ (l : List (List ℕ)). codes "image" ∷ l) whole, sized_is made end.0 ct.1 dt.1)
+    (ap (λ (l : List (List ℕ)). codes "image" ∷ l) whole, sized_is made end.0 ct.1 dt.1)
 
 pub image_back : (i : Layout ℕ) → IsImage i → image_in (decimal i.width ∷ decimal i.height ∷ decimal i.stride ∷ map decimal i.cells) ≡ Some i
 unfolding image_in
 image_back i is =
     let number = first_back number_of decimal IsWord number_law in
-    rw (number i.width (decimal i.height ∷ decimal i.stride ∷ map decimal i.cells) (omega (arith, is.width)), number i.height (decimal i.stride ∷ map decimal i.cells) (omega (arith, is.height)),
-        number i.stride (map decimal i.cells) is.stride, each_back pixel_of decimal IsPixel pixel_law i.cells is.cells, is_sized-image i is) refl
+    rw (
+      number i.width (decimal i.height ∷ decimal i.stride ∷ map decimal i.cells) (omega (arith, is.width)),
+      number i.height (decimal i.stride ∷ map decimal i.cells) (omega (arith, is.height)),
+      number i.stride (map decimal i.cells) is.stride,
+      each_back pixel_of decimal IsPixel pixel_law i.cells is.cells,
+      is_sized-image i is,
+    ) refl
 
 lacks-cells : (cells : List ℕ) → AllByRecursion IsPixel cells → AllLack 32 (map decimal cells)
 lacks-cells [] all = tt
@@ -69,6 +74,13 @@ lacks-cells (cell ∷ cells) all = (lacks-decimal 32 cell (omega arith) (omega (
 
 -- no field of an image has a space
 pub lacks-image : (i : Layout ℕ) → IsImage i → AllLack 32 (image_fields i)
-lacks-image i is =
-    (refl, (lacks-decimal 32 i.width (omega arith) (omega (arith, is.width)), (lacks-decimal 32 i.height (omega arith) (omega (arith, is.height)),
-        (lacks-decimal 32 i.stride (omega arith) is.stride, lacks-cells i.cells is.cells))))
+lacks-image i is = (
+  refl,
+  (
+    lacks-decimal 32 i.width (omega arith) (omega (arith, is.width)),
+    (
+      lacks-decimal 32 i.height (omega arith) (omega (arith, is.height)),
+      (lacks-decimal 32 i.stride (omega arith) is.stride, lacks-cells i.cells is.cells),
+    ),
+  ),
+)

@@ -56,7 +56,7 @@ lacks-join c separator [] ne h = refl
 lacks-join c separator (piece ∷ []) ne h = h.0
 lacks-join c separator (piece ∷ next ∷ more) ne h =
     lacks-append c piece (separator ∷ join_with_byte separator (next ∷ more)) h.0
-        (rw (other_eqb separator c ne, lacks-join c separator (next ∷ more) ne h.1) refl)
+    (rw (other_eqb separator c ne, lacks-join c separator (next ∷ more) ne h.1) refl)
 
 lacks-digit : (c k : ℕ) → c < 48 → lacks c ((48 + k) ∷ []) ≡ true
 lacks-digit c k small = rw (other_eqb (48 + k) c (λ e. omega (arith, e, small))) refl

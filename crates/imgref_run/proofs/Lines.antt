@@ -32,7 +32,7 @@ line_in-is [] e h = absurd cc
 line_in-is (word ∷ fields) e h =
     let P : Entry → Type 0 = λ v. ((word ∷ fields) ≡ entry_fields v) × IsEntry v in
     let same : (text : List ℕ) (rest : List (List ℕ)) → bytes_eq word text ≡ true → (text ∷ fields) ≡ rest → (word ∷ fields) ≡ rest =
-        λ text rest t whole. ap (λ (w : List ℕ). w ∷ fields) ((bytes_eq-Decides word text).0 t) ∙ whole in
+    λ text rest t whole. ap (λ (w : List ℕ). w ∷ fields) ((bytes_eq-Decides word text).0 t) ∙ whole in
     elim (choice (bytes_eq word (codes "image")) (option_map image_line (image_in fields)) (cond (bytes_eq word (codes "get")) (option_map order_line (get_in fields)) (cond (bytes_eq word (codes "put")) (option_map order_line (put_in fields)) None)) (some e) h) [
       | inl t ↦ let m = map_some (image_in fields) image_line e t.1 in let l = image_is fields m.0 m.1 in
           subst P m.2 (same (codes "image") (image_fields m.0) t.0 l.0, l.1)
@@ -40,7 +40,9 @@ line_in-is (word ∷ fields) e h =
         | inl g ↦ let m = map_some (get_in fields) order_line e g.1 in let l = get_is fields m.0 m.1 in
             subst P m.2 (same (codes "get") (order_fields m.0) g.0 l.0, l.1)
         | inr g ↦ let p = last_word (bytes_eq word (codes "put")) (put_in fields) e g.1 in let l = put_is fields p.0 p.2.0 in
-            subst P p.2.1 (same (codes "put") (order_fields p.0) p.1 l.0, l.1) ] ]
+            subst P p.2.1 (same (codes "put") (order_fields p.0) p.1 l.0, l.1)
+      ]
+    ]
 
 line_in-back : (e : Entry) → IsEntry e → line_in (entry_fields e) ≡ Some e
 unfolding line_in

@@ -77,8 +77,12 @@ pub put_back : (s : Spot) (x y value : ℕ) → IsOrder (put s x y value) → pu
 unfolding put_in
 put_back s x y value is =
     let number = first_back number_of decimal IsWord number_law in
-    rw (spot_back s (decimal x ∷ decimal y ∷ decimal value ∷ []) is.0, number x (decimal y ∷ decimal value ∷ []) is.1, number y (decimal value ∷ []) is.2,
-        first_back pixel_of decimal IsPixel pixel_law value [] is.3) refl
+    rw (
+      spot_back s (decimal x ∷ decimal y ∷ decimal value ∷ []) is.0,
+      number x (decimal y ∷ decimal value ∷ []) is.1,
+      number y (decimal value ∷ []) is.2,
+      first_back pixel_of decimal IsPixel pixel_law value [] is.3,
+    ) refl
 
 -- ---- no field of a command has a space
 
@@ -88,6 +92,8 @@ lacks-spot s rest is more = (lacks-decimal 32 s.image (omega arith) is.image, (l
 pub lacks-order : (o : Order) → IsOrder o → AllLack 32 (order_fields o)
 lacks-order (get s x y) is =
     (refl, lacks-spot s (decimal x ∷ decimal y ∷ []) is.0 (lacks-decimal 32 x (omega arith) is.1, (lacks-decimal 32 y (omega arith) is.2, tt)))
-lacks-order (put s x y value) is =
-    (refl, lacks-spot s (decimal x ∷ decimal y ∷ decimal value ∷ []) is.0
-        (lacks-decimal 32 x (omega arith) is.1, (lacks-decimal 32 y (omega arith) is.2, (lacks-decimal 32 value (omega arith) (omega (arith, is.3)), tt))))
+lacks-order (put s x y value) is = (
+  refl,
+  lacks-spot s (decimal x ∷ decimal y ∷ decimal value ∷ []) is.0
+      (lacks-decimal 32 x (omega arith) is.1, (lacks-decimal 32 y (omega arith) is.2, (lacks-decimal 32 value (omega arith) (omega (arith, is.3)), tt))),
+)

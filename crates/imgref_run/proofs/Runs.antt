@@ -1,5 +1,5 @@
 -- What a run wrote, from what its parts did.
-use Rattle.std.proofs.Common.{◌≡◌, ℕ, ◌≤◌, List, [], ◌∷◌, ◌++◌, map, length, take, Option, Some, None, Result, Ok, Err, refl, sym, ap, subst, ◌∙◌}
+use Rattle.std.proofs.Common.{◌≡◌, ℕ, ◌≤◌, Vec, Global, List, [], ◌∷◌, ◌++◌, map, length, take, Option, Some, None, Result, Ok, Err, refl, sym, ap, subst, ◌∙◌}
 use Rattle.std.specs.Prelude.{IfSome, OnOk, OnErr, IfErr, All}
 use Rattle.std.specs.List.{AllByRecursion}
 use Rattle.std.specs.Io.KnownBytes.{Consumes, IsAtEnd, Appends}
@@ -38,3 +38,11 @@ reader_kept (Err Output) fault = refl
 reader_kept (Err Input) fault = absurd cc
 reader_kept (Err Memory) fault = refl
 reader_kept (Err (Line n)) fault = refl
+
+images_fit : (images : List (Img (Vec ℕ Global))) → AllByRecursion IsImage (map vec_layout images) → AllByRecursion (λ i. Fits (vec_layout i)) images
+images_fit [] all = tt
+images_fit (i ∷ images) all = (all.0.fits, images_fit images all.1)
+
+-- the images of a script fit, so its commands may be run on them
+pub All-fit : (images : List (Img (Vec ℕ Global))) → AllByRecursion IsImage (map vec_layout images) → All (λ i. Fits (vec_layout i)) images
+All-fit images all = All-from_recursion (λ i. Fits (vec_layout i)) images (images_fit images all)

@@ -21,7 +21,10 @@ impl<D> Counted<D> {
         ensures device { device_of result ≡ device }
         ensures failures { failures_of result ≡ 0 }
     {
-        Counted { device, failures: 0 }
+        Counted {
+            device,
+            failures: 0,
+        }
     }
 
     /// How many calls have failed: each that answered an error, and each write that took no byte of

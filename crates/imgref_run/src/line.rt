@@ -73,7 +73,12 @@ fn window(text: &[u8]) -> Result<Window, LineFault>
     if !parts.is_done() {
         return Err(LineFault::Bad);
     }
-    Ok(Window { left, top, width, height })
+    Ok(Window {
+        left,
+        top,
+        width,
+        height,
+    })
 }
 
 fn windows(alloc: Global, parts: &mut Parts<'_>) -> Result<Vec<Window>, LineFault>

@@ -15,7 +15,6 @@ pub use fault::RunFault;
 pub use line::{Line, read_line};
 pub use script::{Script, read_script};
 pub use session::run;
-
 use std::process::ExitCode;
 
 /// Runs the script on standard input, and writes its output to standard output. Where the run ends

@@ -62,7 +62,11 @@ fn push_image(text: &mut String, image: &ImgVec<u8>) -> Result<(), AllocError>
 }
 
 /// A line for each reply, and then one for each image.
-pub fn output(alloc: Global, replies: &[Reply<u8>], images: &[ImgVec<u8>]) -> Result<String, AllocError>
+pub fn output(
+    alloc: Global,
+    replies: &[Reply<u8>],
+    images: &[ImgVec<u8>],
+) -> Result<String, AllocError>
     ensures { IfOk result (λ text. string_bytes text ≡ output_text replies.now (map vec_layout images.now)) }
 {
     let mut text = String::new(alloc);

@@ -49,7 +49,10 @@ impl<'a> Parts<'a> {
     pub fn new(bytes: &'a [u8], separator: u8) -> Self
         ensures { parts_left result ≡ parts_of separator bytes.now }
     {
-        Parts { rest: Some(bytes), separator }
+        Parts {
+            rest: Some(bytes),
+            separator,
+        }
     }
 
     /// Whether no part is left.

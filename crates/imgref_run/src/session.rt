@@ -28,7 +28,11 @@ fn answer(alloc: Global, input: &[u8]) -> Result<String, RunFault>
 
 /// Reads a whole script, runs its commands on its images, and writes the replies and then the
 /// images. Nothing is written before the whole output is in memory.
-pub fn run<R: Read, W: Write>(alloc: Global, reader: &mut Counted<R>, writer: &mut Counted<W>) -> Result<(), RunFault>
+pub fn run<R: Read, W: Write>(
+    alloc: Global,
+    reader: &mut Counted<R>,
+    writer: &mut Counted<W>,
+) -> Result<(), RunFault>
     requires reader_counts { failures_of reader.old < u64.MAX }
     requires writer_counts { failures_of writer.old < u64.MAX }
 

@@ -37,7 +37,7 @@ returns-in-Err-Bad-clause-fault c =
     let lines = lines_of c.args.bytes.now in
     let next = next_is lines c.loop-line.number c.in-Some.line.now _ (c.loop-line.invariant.left ∙ c.in-Some.ensures) in
     first_bad lines c.loop-line.number c.in-Some.line.now _ next c.loop-line.invariant.good
-        (c.in-Err-Bad.ensures.bad (ap (λ e. Err e) c.in-Err-Bad.field-0-is) (take c.loop-line.number lines) c.loop-line.invariant.script)
+    (c.in-Err-Bad.ensures.bad (ap (λ e. Err e) c.in-Err-Bad.field-0-is) (take c.loop-line.number lines) c.loop-line.invariant.script)
 
 pub returns-clause-script : goal.returns-clause-script
 returns-clause-script c =

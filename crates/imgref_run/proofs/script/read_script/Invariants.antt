@@ -10,7 +10,7 @@ invariant-loop-line l = record {
   script : IsScript (take l.number (lines_of l.bytes)) (images_of l.script) (orders_of l.script);
   good : AreGood (lines_of l.bytes) l.number;
   left : drop l.number (lines_of l.bytes) ≡ whole_lines (parts_left l.pieces);
-  within : l.number ≤ length (lines_of l.bytes)
+  within : l.number ≤ length (lines_of l.bytes);
 }
 
 abbrev pub decreases-loop-line : goal.decreases-loop-line
