@@ -8,6 +8,8 @@ mod output;
 mod parts;
 mod script;
 mod session;
+#[cfg(test)]
+mod tests;
 mod transfer;
 
 pub use device::Counted;
