@@ -68,7 +68,7 @@ pub fn replay<T: Copy + Eq>(
     images: &mut [ImgVec<T>],
     commands: &[Command<T>],
 ) -> Result<Vec<Reply<T>>, AllocError>
-    requires { All (λ i. Fits (vec_layout i)) images.old }
+    requires { All Fits (map vec_layout images.old) }
     ensures ok { IfOk result (λ replies. IsRun T.eq commands.now (map vec_layout images.old) (map vec_layout images.new) replies.items) }
     ensures err { OnErr result (images.new ≡ images.old) }
 {

@@ -1,12 +1,10 @@
 -- What a run wrote, from what its parts did.
-use Rattle.std.proofs.Common.{◌≡◌, ℕ, ◌≤◌, Vec, Global, List, [], ◌∷◌, ◌++◌, map, length, take, Option, Some, None, Result, Ok, Err, refl, sym, ap, subst, ◌∙◌}
+use Rattle.std.proofs.Common.{◌≡◌, ℕ, ◌≤◌, List, [], ◌∷◌, ◌++◌, length, take, Option, Some, None, Result, Ok, Err, refl, sym, ap, subst, ◌∙◌}
 use Rattle.std.specs.Prelude.{IfSome, OnOk, OnErr, IfErr, All}
 use Rattle.std.specs.List.{AllByRecursion}
 use Rattle.std.specs.Io.KnownBytes.{Consumes, IsAtEnd, Appends}
 use Rattle.std.proofs.lemmas.List.{append-nil}
 use Rattle.std.proofs.lemmas.List.Elements.{All-from_recursion}
-use Rattle.imgref.specs.declared.img.Img.{Img}
-use Rattle.imgref.specs.Image.{vec_layout}
 use Rattle.image_model.specs.Layout.{Layout, Fits}
 use Rattle.imgref_run.specs.declared.fault.RunFault.{RunFault}
 use Rattle.imgref_run.specs.declared.fault.RunFault.TheVariants.{Line, Memory, Input, Output}
@@ -39,10 +37,10 @@ reader_kept (Err Input) fault = absurd cc
 reader_kept (Err Memory) fault = refl
 reader_kept (Err (Line n)) fault = refl
 
-images_fit : (images : List (Img (Vec ℕ Global))) → AllByRecursion IsImage (map vec_layout images) → AllByRecursion (λ i. Fits (vec_layout i)) images
-images_fit [] all = tt
-images_fit (i ∷ images) all = (all.0.fits, images_fit images all.1)
+layouts_fit : (images : List (Layout ℕ)) → AllByRecursion IsImage images → AllByRecursion Fits images
+layouts_fit [] all = tt
+layouts_fit (i ∷ images) all = (all.0.fits, layouts_fit images all.1)
 
 -- the images of a script fit, so its commands may be run on them
-pub All-fit : (images : List (Img (Vec ℕ Global))) → AllByRecursion IsImage (map vec_layout images) → All (λ i. Fits (vec_layout i)) images
-All-fit images all = All-from_recursion (λ i. Fits (vec_layout i)) images (images_fit images all)
+pub All-fit : (images : List (Layout ℕ)) → AllByRecursion IsImage images → All Fits images
+All-fit images all = All-from_recursion Fits images (layouts_fit images all)
