@@ -41,6 +41,15 @@ impl<D> Counted<D> {
     {
         &self.device
     }
+
+    // Counts a call that failed.
+    fn fail(&mut self)
+        requires { failures_of self.old < u64.MAX }
+        ensures device { device_of self.new ≡ device_of self.old }
+        ensures failures { failures_of self.new ≡ failures_of self.old + 1 }
+    {
+        self.failures += 1;
+    }
 }
 
 impl<D: Read> Counted<D> {
@@ -53,11 +62,11 @@ impl<D: Read> Counted<D> {
         ensures bytes { ReadConsumes (D.remaining (device_of self.old)) (D.remaining (device_of self.new)) result buf.new }
         ensures count { failures_of self.new ≡ failures_of self.old + errors result }
     {
-        let answer = self.device.read(buf);
-        if answer.is_err() {
-            self.failures += 1;
+        let given = self.device.read(buf);
+        if given.is_err() {
+            self.fail();
         }
-        answer
+        given
     }
 }
 
@@ -72,13 +81,13 @@ impl<D: Write> Counted<D> {
         ensures bytes { WriteAppends (D.contents (device_of self.old)) (D.contents (device_of self.new)) result buf.now }
         ensures count { failures_of self.new ≡ failures_of self.old + misses result buf.now }
     {
-        let answer = self.device.write(buf);
-        match &answer {
-            Ok(0) if !buf.is_empty() => self.failures += 1,
+        let taken = self.device.write(buf);
+        match &taken {
+            Ok(0) if !buf.is_empty() => self.fail(),
             Ok(_) => {}
-            Err(_) => self.failures += 1,
+            Err(_) => self.fail(),
         }
-        answer
+        taken
     }
 
     /// Flushes the device, and passes its answer on. An error counts as a failure.
@@ -87,10 +96,10 @@ impl<D: Write> Counted<D> {
         ensures bytes { Keeps (D.contents (device_of self.old)) (D.contents (device_of self.new)) }
         ensures count { failures_of self.new ≡ failures_of self.old + errors result }
     {
-        let answer = self.device.flush();
-        if answer.is_err() {
-            self.failures += 1;
+        let flushed = self.device.flush();
+        if flushed.is_err() {
+            self.fail();
         }
-        answer
+        flushed
     }
 }

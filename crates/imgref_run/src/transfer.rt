@@ -1,8 +1,9 @@
 //! All of the input into memory, and a whole text out of it.
 
-ghost use Rattle.std.specs.Prelude.{◌≡◌, ◌<◌, ◌≤◌, ◌+◌, ℕ, length, take, IfOk, OnOk, IfErr, MatchResult, OnErr};
+ghost use Rattle.std.specs.Prelude.{◌≡◌, ◌<◌, ◌+◌, IfOk, OnOk, IfErr, OnErr};
 ghost use Rattle.std.specs.Io.KnownBytes.{Consumes, IsAtEnd, Appends};
 ghost use Rattle.imgref_run.specs.Devices.{device_of, failures_of};
+ghost use Rattle.imgref_run.specs.Runs.{AppendsBeginning};
 ghost use Rattle.imgref_run.specs.Faults.{reader_failures, writer_failures, IsReadFault};
 
 use crate::device::Counted;
@@ -40,10 +41,8 @@ pub fn read_all<R: Read>(alloc: Global, reader: &mut Counted<R>) -> Result<Vec<u
 /// Writes the whole text, and then flushes once.
 pub fn write_all<W: Write>(writer: &mut Counted<W>, text: &[u8]) -> Result<(), RunFault>
     requires { failures_of writer.old < u64.MAX }
-    ensures ok { OnOk result (Appends (W.contents (device_of writer.old)) (W.contents (device_of writer.new)) text.now) }
-    // What was written is a beginning of the text.
-    ensures err { OnErr result ((sent : ℕ) × (sent ≤ length text.now)
-        × Appends (W.contents (device_of writer.old)) (W.contents (device_of writer.new)) (take sent text.now)) }
+    ensures whole { OnOk result (Appends (W.contents (device_of writer.old)) (W.contents (device_of writer.new)) text.now) }
+    ensures beginning { OnErr result (AppendsBeginning (W.contents (device_of writer.old)) (W.contents (device_of writer.new)) text.now) }
     ensures count { failures_of writer.new ≡ failures_of writer.old + writer_failures result }
     ensures fault { IfErr result (λ e. e ≡ RunFault.Output) }
 {
