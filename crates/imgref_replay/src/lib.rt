@@ -2,9 +2,11 @@
 #![tactic(auto)]
 
 mod commands;
-mod stand_in;
+mod runs;
+#[cfg(test)]
+mod tests;
 mod window;
 
 pub use commands::{Command, Place, Refusal, Reply};
-pub use stand_in::replay;
-pub use window::Window;
+pub use runs::{replay, replay_into};
+pub use window::{Window, into_window_at, window_at};
