@@ -1,6 +1,5 @@
 -- Good lines: what a script that is read line by line comes to.
-use Rattle.std.proofs.Common.{◌≡◌, ℕ, suc, ◌+◌, ◌-◌, ◌<◌, ◌≤◌, Bool, true, false, eqb, List, [], ◌∷◌, ◌++◌, map, length, take, drop, get_or, Result, Ok, Err, refl, sym, ap, subst, ◌∙◌, inl, inr, arith, add-one, below_more}
-use Rattle.std.specs.Prelude.{OnOk, IsErrOf}
+use Rattle.std.proofs.Common.{◌≡◌, ℕ, suc, ◌+◌, ◌-◌, ◌<◌, ◌≤◌, true, false, eqb, List, [], ◌∷◌, ◌++◌, map, length, take, drop, get_or, refl, sym, ap, subst, ◌∙◌, arith, add-one, below_more}
 use Rattle.std.proofs.lemmas.Bool.{eqb-false, eqb-true}
 use Rattle.std.proofs.lemmas.List.{take_all, length-drop, append-nil}
 use Rattle.std.proofs.Math.Seq.{drop-cons, take-suc}
@@ -8,8 +7,8 @@ use Rattle.std.specs.List.{AllByRecursion}
 use Rattle.image_model.specs.Layout.{Layout}
 use Rattle.imgref_run.specs.Values.{Order, Entry, image_line, order_line}
 use Rattle.imgref_run.specs.Text.{image_text, order_text}
-use Rattle.imgref_run.specs.Ranges.{IsImage, IsOrder, IsEntry, IsLineOf}
-use Rattle.imgref_run.specs.Script.{lines_of, IsScript, NoCommand, MayFollow, IsGood, IsGoodAt, AreGood, IsFirstBad}
+use Rattle.imgref_run.specs.Ranges.{IsImage, IsOrder, IsLineOf}
+use Rattle.imgref_run.specs.Script.{IsScript, NoCommand, MayFollow, IsGood, IsGoodAt, AreGood, IsFirstBad}
 use Rattle.imgref_run.proofs.Lines.{one_value}
 
 -- ---- one more line

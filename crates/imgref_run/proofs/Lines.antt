@@ -4,7 +4,6 @@ use Rattle.std.specs.Prelude.{codes, IfOk, IsErrOf}
 use Rattle.std.specs.Option.{option_map}
 use Rattle.std.specs.Str.{bytes_eq}
 use Rattle.std.proofs.lemmas.Slice.Eq.{bytes_eq-Decides}
-use Rattle.image_model.specs.Layout.{Layout}
 use Rattle.imgref_run.specs.Values.{Order, get, put, Entry, image_line, order_line}
 use Rattle.imgref_run.specs.Text.{image_fields, order_fields, entry_fields, entry_text}
 use Rattle.imgref_run.specs.Ranges.{IsEntry, IsLineOf, EachTextHasOneValue}
@@ -15,7 +14,7 @@ use Rattle.imgref_run.specs.Held.{entry_of}
 use Rattle.imgref_run.specs.declared.line.Line.{Line}
 use Rattle.imgref_run.specs.declared.parts.LineFault.{LineFault}
 use Rattle.imgref_run.specs.declared.parts.LineFault.TheVariants.{Memory, Bad}
-use Rattle.imgref_run.proofs.Lacking.{AllLack, parts_of-join}
+use Rattle.imgref_run.proofs.Lacking.{parts_of-join}
 use Rattle.imgref_run.proofs.Options.{some, some_is, map_some, choice}
 use Rattle.imgref_run.proofs.Fields.{join_is}
 use Rattle.imgref_run.proofs.Images.{image_is, image_back, lacks-image}

@@ -1,4 +1,4 @@
-use Rattle.std.proofs.Common.{◌≡◌, ◌∙◌, sym, ap, map, take, arith, Err}
+use Rattle.std.proofs.Common.{◌∙◌, sym, ap, map, take, arith, Err}
 use Rattle.imgref.specs.Image.{vec_layout}
 use Rattle.imgref_run.specs.Values.{order_of}
 use Rattle.imgref_run.specs.Script.{whole_lines, lines_of}
