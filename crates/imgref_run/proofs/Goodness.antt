@@ -36,10 +36,6 @@ only_images before images orders script none =
 pub good_image : (before : List (List ℕ)) (line : List ℕ) (i : Layout ℕ) → IsLineOf line (image_line i) → NoCommand before → IsGood before line
 good_image before line i is none = record { entry = image_line i; in_range = is.in_range; text = is.text; may_follow = none }
 
--- a command's line is good anywhere
-pub good_order : (before : List (List ℕ)) (line : List ℕ) (o : Order) → IsLineOf line (order_line o) → IsGood before line
-good_order before line o is = record { entry = order_line o; in_range = is.in_range; text = is.text; may_follow = tt }
-
 follows_none : (before : List (List ℕ)) (images : List (Layout ℕ)) (o : Order) (orders : List Order) (i : Layout ℕ) (d : Entry) → IsScript before images (o ∷ orders) → image_line i ≡ d → MayFollow before d → ⊥
 follows_none before images o orders i d script same may =
     let none : NoCommand before = subst (MayFollow before) (sym same) may in
