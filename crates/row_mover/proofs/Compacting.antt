@@ -5,7 +5,7 @@ use Rattle.std.proofs.Math.Nat.{mul-le-mul_left}
 use Rattle.image_model.specs.Layout.{Layout, layout, Fits}
 use Rattle.image_model.specs.Rows.{row, joined_rows}
 use Rattle.image_model.specs.Shifts.{shifted}
-use Rattle.image_model.proofs.Rows.{joined_upto, joined_upto_more, length-joined_upto, row_is, rows_from_fits, joined_in_place}
+use Rattle.image_model.proofs.Rows.{HasRows, joined_upto, joined_upto_more, length-joined_upto, row_is, rows_from_fits, joined_in_place}
 use Rattle.row_mover.specs.State.{State}
 
 -- the list with its first y rows joined at the front, and as it was behind them
@@ -24,30 +24,22 @@ drop_behind : {T : Type 0} (front cells : List T) (n k : ℕ) → length front �
 drop_behind front cells n k e =
     sym (drop-drop k n (front ++ drop n cells)) ∙ ap (λ xs. drop k xs) (drop_at front (drop n cells) n e) ∙ drop-drop k n cells
 
-module _ {T : Type 0} (l : Layout T) (y : ℕ) (fits : Fits l) (some : 0 < l.width) (covers : l.width ≤ l.stride) (below : y < l.height) where
-  -- the next row is in the list
-  pub source_inside : y * l.stride + l.width ≤ length l.cells
-  source_inside = rows_from_fits l fits some y below
-
-  -- and so is its new place, which does not lie behind it
-  pub target_inside : y * l.width + l.width ≤ length l.cells
-  target_inside = omega (arith, source_inside, mul-le-mul_left y covers)
-
-  -- a shift joins one row more
-  pub compacted_upto-more : shifted (compacted_upto l y) (y * l.stride) l.width (y * l.width) ≡ compacted_upto l (y + 1)
-  compacted_upto-more =
-      let n = y * l.width in
-      let front = joined_upto l y in
-      let now = compacted_upto l y in
-      let len : length front ≡ n = length-joined_upto l y (λ j lt. rows_from_fits l fits some j (omega arith)) in
-      let gap : n + (y * l.stride - n) ≡ y * l.stride = omega (arith, mul-le-mul_left y covers) in
-      let kept : take n now ≡ front = take_at front (drop n l.cells) n len in
-      let source : drop (y * l.stride) now ≡ drop (y * l.stride) l.cells = rw gap at (drop_behind front l.cells n (y * l.stride - n) len) in
-      let rest : drop (n + l.width) now ≡ drop (n + l.width) l.cells = drop_behind front l.cells n l.width len in
-      let next : row l y ≡ take l.width (drop (y * l.stride) l.cells) = row_is l y source_inside in
-      let more : joined_upto l (y + 1) ≡ front ++ row l y = joined_upto_more l y in
-      let end : (y + 1) * l.width ≡ n + l.width = omega arith in
-      rw (kept, source, rest, more, next, end) refl
+-- a shift joins one row more
+pub compacted_upto-more : {T : Type 0} (l : Layout T) (y : ℕ) → Fits l → 0 < l.width → l.width ≤ l.stride → y < l.height → shifted (compacted_upto l y) (y * l.stride) l.width (y * l.width) ≡ compacted_upto l (y + 1)
+compacted_upto-more l y fits some covers below =
+    let whole : HasRows l l.height = rows_from_fits l fits some in
+    let n = y * l.width in
+    let front = joined_upto l y in
+    let now = compacted_upto l y in
+    let len : length front ≡ n = length-joined_upto l y (λ j lt. whole j (omega arith)) in
+    let gap : n + (y * l.stride - n) ≡ y * l.stride = omega (arith, mul-le-mul_left y covers) in
+    let kept : take n now ≡ front = take_at front (drop n l.cells) n len in
+    let source : drop (y * l.stride) now ≡ drop (y * l.stride) l.cells = rw gap at (drop_behind front l.cells n (y * l.stride - n) len) in
+    let rest : drop (n + l.width) now ≡ drop (n + l.width) l.cells = drop_behind front l.cells n l.width len in
+    let next : row l y ≡ take l.width (drop (y * l.stride) l.cells) = row_is l y (whole y below) in
+    let more : joined_upto l (y + 1) ≡ front ++ row l y = joined_upto_more l y in
+    let end : (y + 1) * l.width ≡ n + l.width = omega arith in
+    rw (kept, source, rest, more, next, end) refl
 
 -- the row at the front is there from the beginning
 pub compacted_upto-one : {T : Type 0} (l : Layout T) → Fits l → 0 < l.width → 0 < l.height → compacted_upto l 1 ≡ l.cells

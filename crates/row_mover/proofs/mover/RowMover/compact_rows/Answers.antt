@@ -1,6 +1,6 @@
 use Rattle.std.proofs.Common.{◌∙◌, arith, refl, sym}
 use Rattle.image_model.specs.Layout.{layout}
-use Rattle.row_mover.proofs.Compacting.{source_inside, target_inside, compacted_upto-more, compacted_upto-one, compacted_already}
+use Rattle.row_mover.proofs.Compacting.{compacted_upto-more, compacted_upto-one, compacted_already}
 use Rattle.row_mover.proofs.mover.RowMover.compact_rows.Goals as goal
 
 pub returns-then-width-eq0-clause-cells : goal.returns-then-width-eq0-clause-cells
@@ -13,18 +13,6 @@ loop-y-init g c =
     let a = c.args in
     let l = layout a.self.now.cells a.width a.height a.stride in
     record { cells_are = sym (compacted_upto-one l c.requires.fits (omega arith) (omega arith)); length_stays = refl; count_is = omega arith; lender_stays = refl }
-
-pub shift-requires-clause-source : goal.shift-requires-clause-source
-shift-requires-clause-source g c =
-    let a = c.args in
-    let l = layout a.self.now.cells a.width a.height a.stride in
-    omega (arith, source_inside l c.loop-y.y c.requires.fits (omega arith) c.requires.stride_covers_width (omega arith))
-
-pub shift-requires-clause-target : goal.shift-requires-clause-target
-shift-requires-clause-target g c =
-    let a = c.args in
-    let l = layout a.self.now.cells a.width a.height a.stride in
-    omega (arith, target_inside l c.loop-y.y c.requires.fits (omega arith) c.requires.stride_covers_width (omega arith))
 
 pub loop-y-preserved : goal.loop-y-preserved
 loop-y-preserved g c =
