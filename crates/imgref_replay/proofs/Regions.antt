@@ -1,4 +1,4 @@
--- Windows of a region of cells, and a path of them on the way to its end.
+-- A path of windows on the way to its end: the region that is left, and the number of windows before it.
 use Rattle.std.proofs.Common.{◌≡◌, ℕ, ◌<◌, ◌+◌, ◌≤◌, true, cond, List, [], ◌∷◌, length, drop, get_or, refl, sym, ap, subst, ◌∙◌, arith}
 use Rattle.std.proofs.lemmas.List.{drop_more}
 use Rattle.std.specs.Prelude.{Option, Some, None}
