@@ -10,6 +10,9 @@ ghost use Rattle.imgref_callers.specs.Windows.{as_window};
 
 use imgref::{ImgRefMut, ImgVec};
 
+#[cfg(test)]
+mod tests;
+
 /// A corner and a size within an image, in pixels.
 #[derive(Clone, Copy)]
 pub struct Window {
