@@ -1,10 +1,18 @@
--- A shift, cell by cell.
+-- A shift: the new state, and its cells one by one.
 use Rattle.std.proofs.Common.{◌≡◌, ℕ, ◌+◌, ◌-◌, ◌<◌, ◌≤◌, ◌⊎◌, inl, inr, List, ◌++◌, length, take, drop, get_or, sym, ap, ◌∙◌, arith, length-append, length-take, length-drop}
 use Rattle.std.specs.List.{slice_get}
 use Rattle.std.proofs.lemmas.List.{get_or_append_left, get_or-append_right, get_or-take, get_or-drop}
 use Rattle.std.proofs.lemmas.Option.{slice_get_cases, slice_get_past}
 use Rattle.image_model.specs.Shifts.{shifted}
 use Rattle.image_model.proofs.Pixels.{same_cell}
+use Rattle.row_mover.specs.State.{State}
+
+-- the new state is the old one with one shift more
+pub record IsShifted {T : Type 0} (old new : State T) (start len target : ℕ) : Type 0 where
+  pub cells_are : new.cells ≡ shifted old.cells start len target
+  pub length_stays : length new.cells ≡ length old.cells
+  pub count_is : new.shifts ≡ old.shifts + 1
+  pub lender_stays : new.lender ≡ old.lender
 
 module _ {T : Type 0} (cells : List T) (start len target : ℕ) (source_inside : start + len ≤ length cells) (target_inside : target + len ≤ length cells) where
   abbrev before : List T
@@ -23,7 +31,7 @@ module _ {T : Type 0} (cells : List T) (start len target : ℕ) (source_inside :
   length-front = omega (arith, length-append before moved, length-before, length-moved)
 
   -- a shift keeps the length
-  pub length-shifted : length (shifted cells start len target) ≡ length cells
+  length-shifted : length (shifted cells start len target) ≡ length cells
   length-shifted = omega (arith, length-append (before ++ moved) (drop (target + len) cells), length-front, length-drop (target + len) cells)
 
   read_target : (j : ℕ) (d : T) → j < len → get_or (shifted cells start len target) (target + j) d ≡ get_or cells (start + j) d

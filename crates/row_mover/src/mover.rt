@@ -6,6 +6,8 @@ use std::marker::Model;
 /// Shifts cells within one list that was lent to it, and counts the shifts.
 ///
 /// Contracts see a mover as a `State`: the cells now, the shifts so far, and which list was lent.
+/// Cells are numbered from 0. What a call asks of its numbers stands in its `requires`, and under
+/// those it always succeeds and takes no memory.
 #[derive(Drop)]
 pub struct RowMover<'a, T: Copy> {
     cells: &'a mut [T],

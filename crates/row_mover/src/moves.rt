@@ -10,6 +10,7 @@ impl<T: Copy> RowMover<'_, T> {
     /// cells become its `joined_rows`, and later cells stay. The size is in pixels, the stride in
     /// cells. Each row but the first takes one shift, and rows that touch already take none
     /// (`rows_compacted`).
+    #[tactic(auto, using(crate::proofs::Compacting::compacting))]
     pub fn compact_rows(&mut self, width: usize, height: usize, stride: usize)
         requires fits { Fits (layout self.old.cells width height stride) }
         requires stride_positive { 1 ≤ stride }
@@ -23,7 +24,7 @@ impl<T: Copy> RowMover<'_, T> {
         if width == 0 || width == stride || height == 0 {
             return;
         }
-        // No row ends past the list, so no number of a cell wraps.
+        // No row ends past the list, and its length is a `usize`: so no cell's number wraps.
         prove!(self.cells().len() <= usize::MAX);
         for y in 1..height {
             self.shift(y * stride, width, y * width);
@@ -34,6 +35,7 @@ impl<T: Copy> RowMover<'_, T> {
     /// place and overlapping or not: each target row becomes the old source row, and every other
     /// cell stays (`MovesRows`). The size is in pixels, the stride in cells. Each row takes one
     /// shift (`rows_moved`). The corners of an empty window aren't looked at.
+    #[tactic(auto, using(crate::proofs::Moving::moving))]
     pub fn move_rows(&mut self, stride: usize, from: usize, to: usize, width: usize, height: usize)
         requires stride_positive { 1 ≤ stride }
         requires stride_covers_width { width ≤ stride }
@@ -47,6 +49,7 @@ impl<T: Copy> RowMover<'_, T> {
         if width == 0 || height == 0 {
             return;
         }
+        // As above, no cell's number wraps.
         prove!(self.cells().len() <= usize::MAX);
         // A row is read before it is overwritten: towards the front from the first row on, and
         // towards the back from the last.
