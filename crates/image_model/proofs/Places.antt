@@ -1,0 +1,66 @@
+-- What fits, where pixels lie, and what stays outside them.
+use Rattle.std.proofs.Common.{ℕ, ◌+◌, ◌-◌, ◌*◌, ◌<◌, ◌≤◌, length, set, refl, sym, ap, ◌∙◌, arith, length-set}
+use Rattle.std.specs.Bool.{Decides}
+use Rattle.std.specs.Prelude.{◌==◌, nat_le, ◌||◌}
+use Rattle.std.proofs.lemmas.Bool.Decides.{nat_tests}
+use Rattle.std.proofs.Math.Nat.{mul-le-mul_right, mul_comm}
+use Rattle.image_model.specs.Layout.{Layout, Fits, is_fitting, cell_of, SameOutside}
+use Rattle.image_model.proofs.Cells.{slice_get-set_other}
+
+-- the test of the fit tells whether a layout fits
+pub is_fitting_decides : {T : Type 0} (l : Layout T) → Decides (is_fitting l) (Fits l)
+is_fitting_decides l = fitting l.width l.height (l.stride * (l.height - 1) + l.width) (length l.cells)
+  where
+    fitting : (width height end count : ℕ) → Decides ((width == 0) || ((height == 0) || nat_le end count)) (0 < width → 0 < height → end ≤ count)
+    fitting width height end count = (λ e wide high. grind (arith, nat_tests), λ h. grind (arith, nat_tests))
+
+-- a pixel has a cell
+pub cell_within : {T : Type 0} (l : Layout T) → Fits l → (x y : ℕ) → x < l.width → y < l.height → cell_of l x y < length l.cells
+cell_within l fits x y column line =
+    let reach : l.stride * (l.height - 1) + l.width ≤ length l.cells = fits (omega arith) (omega arith) in
+    let up : y * l.stride ≤ (l.height - 1) * l.stride = mul-le-mul_right l.stride (omega arith) in
+    omega (arith, up, mul_comm l.stride (l.height - 1))
+
+-- ---- the outside
+
+pub outside_refl : {T : Type 0} (l : Layout T) → SameOutside l l
+outside_refl l = record { width_stays = refl; height_stays = refl; stride_stays = refl; length_stays = refl; padding_stays = λ k p. refl }
+
+-- what stays twice stays
+pub outside_trans : {T : Type 0} (old mid new : Layout T) → SameOutside old mid → SameOutside mid new → SameOutside old new
+outside_trans old mid new one two = record {
+  width_stays = two.width_stays ∙ one.width_stays;
+  height_stays = two.height_stays ∙ one.height_stays;
+  stride_stays = two.stride_stays ∙ one.stride_stays;
+  length_stays = two.length_stays ∙ one.length_stays;
+  padding_stays = λ k padding.
+      two.padding_stays k (λ x y in_width in_height at.
+      padding x y (omega (arith, one.width_stays)) (omega (arith, one.height_stays)) (ap (λ s. y * s + x) (sym one.stride_stays) ∙ at))
+      ∙ one.padding_stays k padding;
+}
+
+-- with the same outside, what fits fits
+pub outside_fits : {T : Type 0} (old new : Layout T) → SameOutside old new → Fits old → Fits new
+outside_fits old new same fits wide high =
+    let reach : old.stride * (old.height - 1) + old.width ≤ length old.cells = fits (omega (arith, same.width_stays)) (omega (arith, same.height_stays)) in
+    rw (same.stride_stays, same.height_stays, same.width_stays, same.length_stays) reach
+
+-- ---- a write at a place
+
+-- the layout with a value in the cell of a place
+abbrev pub written : {T : Type 0} → Layout T → ℕ → ℕ → T → Layout T
+written l x y value = record l { cells = set l.cells (cell_of l x y) value }
+
+-- a write at a place leaves the outside
+pub written_outside : {T : Type 0} (l : Layout T) (x y : ℕ) (value : T) → x < l.width → y < l.height → SameOutside l (written l x y value)
+written_outside l x y value column line = record {
+  width_stays = refl;
+  height_stays = refl;
+  stride_stays = refl;
+  length_stays = length-set l.cells (cell_of l x y) value;
+  padding_stays = λ k padding. slice_get-set_other l.cells (cell_of l x y) k value (λ e. padding x y column line (sym e));
+}
+
+-- and the layout fits as before
+pub written_fits : {T : Type 0} (l : Layout T) (x y : ℕ) (value : T) → Fits l → Fits (written l x y value)
+written_fits l x y value fits wide high = rw length-set (fits wide high)
