@@ -4,8 +4,10 @@
 mod containers;
 mod img;
 mod index;
+mod pixels;
 mod window;
 
 pub use containers::{AsMutCell, AsMutSlice, AsSlice};
 pub use img::{Img, ImgRef, ImgRefMut, ImgVec};
+pub use pixels::{PixelsIter, PixelsIterMut, PixelsRefIter};
 pub use window::Stretch;
