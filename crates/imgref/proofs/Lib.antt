@@ -2,6 +2,7 @@ pub mod Parts
 pub mod Places
 pub mod Values
 pub mod Marks
+pub mod Marked
 pub mod Cursors
 pub mod Seen
 pub mod Lent

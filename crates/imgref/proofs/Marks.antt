@@ -56,7 +56,7 @@ module _ {X : Type 0} where
   all_true (suc n) ms [] h = absurd (omega (arith, h))
   all_true (suc n) ms (x ∷ xs) h = let r = all_true n ms xs (omega (arith, h)) in omega (arith, r)
 
-  all_false : (n : ℕ) (ms : List _) (xs : List X) → n ≤ length xs → pick (replicate n false ++ ms) xs ≡ pick ms (drop n xs)
+  pub all_false : (n : ℕ) (ms : List _) (xs : List X) → n ≤ length xs → pick (replicate n false ++ ms) xs ≡ pick ms (drop n xs)
   all_false zero ms xs h = refl
   all_false (suc n) ms [] h = absurd (omega (arith, h))
   all_false (suc n) ms (x ∷ xs) h = all_false n ms xs (omega (arith, h))
