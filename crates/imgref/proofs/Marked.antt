@@ -1,9 +1,9 @@
 -- The marks of a fitting size choose its pixels, and writing over them changes its places alone.
-use Rattle.std.proofs.Common.{◌≡◌, ◌≢◌, ℕ, zero, suc, ◌+◌, ◌-◌, ◌*◌, ◌<◌, ◌≤◌, Bool, true, false, List, [], ◌∷◌, ◌++◌, length, take, drop, replicate, map, Some, refl, sym, ap, ◌∙◌, subst, arith, inl, inr, append_assoc, cond, length-drop, drop-drop}
+use Rattle.std.proofs.Common.{◌≡◌, ◌≢◌, ℕ, zero, suc, ◌+◌, ◌-◌, ◌*◌, ◌<◌, ◌≤◌, ◌^◌, Bool, true, false, List, [], ◌∷◌, ◌++◌, length, take, drop, replicate, map, Some, refl, sym, ap, ◌∙◌, subst, arith, inl, inr, append_assoc, cond, length-drop, drop-drop}
 use Rattle.std.specs.List.{slice_get, flat_map, range_with_len}
 use Rattle.std.proofs.lemmas.List.{length-replicate, append-nil}
 use mathlib.Core.Path.{ap₂}
-use native.Mathlib.Nat.{zero-mul}
+use native.Mathlib.Nat.{zero-mul, mul-le-mul_left, mul-le-mul_right}
 use Rattle.std.specs.Prelude.{◌==◌}
 use Rattle.std.proofs.lemmas.Bool.{cases_lt, true≢false}
 use Rattle.std.proofs.lemmas.Bool.Decides.{nat_tests}
@@ -217,3 +217,7 @@ module _ (w h s : ℕ) (wide : w ≤ s) where
     length_stays = length-covered v (marks_of w h s) cells;
     padding_stays = λ k padding. covered_other v (marks_of w h s) cells k (padding_unmarked cells k padding);
   }
+
+-- a size within the limits has a countable number of places
+pub area_fits : (w h : ℕ) → w < 2 ^ 32 → h < 2 ^ 32 → w * h < 2 ^ 64
+area_fits w h wide high = omega (arith, mul-le-mul_right h (let le : w ≤ 4294967295 = omega arith in le), mul-le-mul_left 4294967295 (let le : h ≤ 4294967295 = omega arith in le))

@@ -1,9 +1,24 @@
-ghost use Rattle.std.specs.Prelude.{◌≡◌, ◌+◌, ◌*◌, ◌^◌, ◌<◌, ◌≤◌, length, List};
-ghost use Rattle.std.specs.Borrow.{GName, ftrue};
+ghost use Rattle.std.specs.Prelude.{◌≡◌, ◌+◌, ◌-◌, ◌*◌, ◌^◌, ◌<◌, ◌≤◌, length, List};
+ghost use Rattle.std.specs.Borrow.{GName, ftrue, sem, follows, Array};
+ghost use Rattle.image_model.specs.Layout.{Fits, layout};
+ghost use Rattle.image_model.specs.Rows.{pixels as pixels_of};
 ghost use Rattle.imgref.specs.Held.{seen, lent};
+ghost use Rattle.imgref.specs.Marks.{first_line, lines_after};
 
+use crate::containers::{AsMutSlice, AsSlice};
+use crate::img::Img;
 use std::iter::{ExactSizeIterator, FusedIterator};
 use std::marker::{Model, PhantomData};
+
+// How many pixels the first line of a size has, and how many lines come after it.
+fn lines(width: u32, height: u32) -> (usize, usize)
+    ensures first { result.0 ≡ first_line width height }
+    ensures after { result.1 ≡ lines_after width height }
+{
+    let first = if height == 0 { 0 } else { width as usize };
+    let after = if width == 0 { 0 } else { (height as usize).saturating_sub(1) };
+    (first, after)
+}
 
 /// The pixels of an image for reading, row by row and from left to right, without the padding.
 ///
@@ -55,6 +70,18 @@ impl<'a, T> PixelsRefIter<'a, T> {
             pad,
             marker: PhantomData,
         }
+    }
+
+    // The pixels of a fitting layout.
+    pub(crate) fn of_layout(cells: &'a [T], width: u32, height: u32, stride: usize) -> PixelsRefIter<'a, T>
+        requires fits { Fits (layout cells.now width height stride) }
+        requires within { width ≤ stride }
+        ensures pixels { refs_left result ≡ pixels_of (layout cells.now width height stride) }
+        ensures count { length (refs_left result) ≡ width * height }
+        ensures countable { length (refs_left result) < 2 ^ 64 }
+    {
+        let (left, rows_left) = lines(width, height);
+        PixelsRefIter::over(cells, left, rows_left, width as usize, stride - width as usize)
     }
 }
 
@@ -173,39 +200,6 @@ impl<'a, T> Model for PixelsIterMut<'a, T> {
     ghost also_shares = { λ _ _ _. ftrue };
 }
 
-impl<'a, T> PixelsIterMut<'a, T> {
-    ghost use Rattle.std.specs.Prelude.{◌≡◌, ◌+◌, ◌*◌, ◌<◌, ◌≤◌, length};
-    ghost use Rattle.std.specs.Borrow.{sem, follows, Array};
-    ghost use Rattle.imgref.specs.Marks.{pick, marks};
-    ghost use Rattle.imgref.specs.Pixels.{muts_left};
-
-    // The first `left` cells, and then `rows_left` rows of `width` cells with `pad` before each.
-    // Once the borrow ends, the cells are what the cursor left.
-    pub(crate) fn over(
-        cells: &'a mut [T],
-        left: usize,
-        rows_left: usize,
-        width: usize,
-        pad: usize,
-    ) -> PixelsIterMut<'a, T>
-        requires reaches { left + rows_left * (pad + width) ≤ length cells.old }
-        requires wide { 0 < rows_left → 0 < width }
-        ensures* hands_on { sem 𝓛 (follows (Array T.row 0) (Array T.row 0) cells.entry.ghost_name result.name (λ ws. ws)) }
-        ensures cells { result.cells ≡ cells.old }
-        ensures counts { marks result.left result.rows_left result.width result.pad ≡ marks left rows_left width pad }
-        ensures pixels { muts_left result ≡ pick (marks left rows_left width pad) cells.old }
-    {
-        PixelsIterMut {
-            current: cells.as_mut_ptr(),
-            left,
-            rows_left,
-            width,
-            pad,
-            marker: PhantomData,
-        }
-    }
-}
-
 impl<'a, T> Iterator for PixelsIterMut<'a, T> {
     type Item = &'a mut T;
 
@@ -272,5 +266,125 @@ impl<T> Drop for PixelsIterMut<'_, T> {
             pad: _,
             marker: _,
         } = self;
+    }
+}
+
+impl<'s, T> Img<&'s [T]> {
+    ghost use Rattle.imgref.specs.Image.{ref_layout, width_of, height_of};
+    ghost use Rattle.imgref.specs.Pixels.{refs_left, copies_left};
+
+    /// The pixels for reading, row by row and from left to right: `width` times `height` of them,
+    /// without the padding. The image must fit, as `is_valid` tells.
+    pub fn pixels_ref(&self) -> PixelsRefIter<'s, T>
+        requires fits { Fits (ref_layout self.now) }
+        ensures pixels { refs_left result ≡ pixels_of (ref_layout self.now) }
+        ensures count { length (refs_left result) ≡ width_of self.now * height_of self.now }
+        ensures countable { length (refs_left result) < 2 ^ 64 }
+    {
+        PixelsRefIter::of_layout(self.buf, self.width, self.height, self.stride)
+    }
+}
+
+impl<'s, T: Copy> Img<&'s [T]> {
+    ghost use Rattle.imgref.specs.Image.{ref_layout, width_of, height_of};
+    ghost use Rattle.imgref.specs.Pixels.{refs_left, copies_left};
+
+    /// Copies of the pixels, row by row and from left to right: `width` times `height` of them,
+    /// without the padding. The image must fit, as `is_valid` tells.
+    pub fn pixels(&self) -> PixelsIter<'s, T>
+        requires fits { Fits (ref_layout self.now) }
+        ensures pixels { copies_left result ≡ pixels_of (ref_layout self.now) }
+        ensures count { length (copies_left result) ≡ width_of self.now * height_of self.now }
+        ensures countable { length (copies_left result) < 2 ^ 64 }
+    {
+        PixelsIter {
+            inner: PixelsRefIter::of_layout(self.buf, self.width, self.height, self.stride),
+        }
+    }
+}
+
+impl<T: Copy> Img<&mut [T]> {
+    ghost use Rattle.imgref.specs.Image.{mut_layout, width_of, height_of};
+    ghost use Rattle.imgref.specs.Pixels.{copies_left};
+
+    /// Copies of the pixels, row by row and from left to right: `width` times `height` of them,
+    /// without the padding. The image must fit, as `is_valid` tells.
+    pub fn pixels(&self) -> PixelsIter<'_, T>
+        requires fits { Fits (mut_layout self.now) }
+        ensures pixels { copies_left result ≡ pixels_of (mut_layout self.now) }
+        ensures count { length (copies_left result) ≡ width_of self.now * height_of self.now }
+        ensures countable { length (copies_left result) < 2 ^ 64 }
+    {
+        PixelsIter {
+            inner: PixelsRefIter::of_layout(&*self.buf, self.width, self.height, self.stride),
+        }
+    }
+}
+
+impl<T: Copy> Img<Vec<T>> {
+    ghost use Rattle.imgref.specs.Image.{vec_layout, width_of, height_of};
+    ghost use Rattle.imgref.specs.Pixels.{copies_left};
+
+    /// Copies of the pixels, row by row and from left to right: `width` times `height` of them,
+    /// without the padding. The image must fit, as `is_valid` tells.
+    pub fn pixels(&self) -> PixelsIter<'_, T>
+        requires fits { Fits (vec_layout self.now) }
+        ensures pixels { copies_left result ≡ pixels_of (vec_layout self.now) }
+        ensures count { length (copies_left result) ≡ width_of self.now * height_of self.now }
+        ensures countable { length (copies_left result) < 2 ^ 64 }
+    {
+        PixelsIter {
+            inner: PixelsRefIter::of_layout(self.buf.as_slice(), self.width, self.height, self.stride),
+        }
+    }
+}
+
+impl<C: AsMutSlice> Img<C> {
+    ghost use Rattle.imgref.specs.contracts.img.Img.{the_row};
+    ghost use Rattle.imgref.specs.Image.{buf_of, width_of, height_of, stride_of, with_buf, layout_by};
+    ghost use Rattle.imgref.specs.Marks.{marks, marks_of};
+    ghost use Rattle.imgref.specs.Pixels.{muts_left, marks_left, cells_left, name_of};
+
+    // All cells, and the counts of a cursor over the pixels among them.
+    fn lines_mut(&mut self) -> (&mut [C::Item], usize, usize, usize, usize)
+        ensures* hands_on { sem 𝓛 (follows (the_row C.row) (Array C.Item.row 0) self.entry.ghost_name result.0.ghost_name (λ ws. with_buf self.old (C.with_cells (buf_of self.old) 0 ws))) }
+        ensures cells { result.0.now ≡ C.AsSlice.cells (buf_of self.old) }
+        ensures left { result.1 ≡ first_line (width_of self.old) (height_of self.old) }
+        ensures rows_left { result.2 ≡ lines_after (width_of self.old) (height_of self.old) }
+        ensures width { result.3 ≡ width_of self.old }
+        ensures pad { result.4 ≡ stride_of self.old - width_of self.old }
+        ensures width_fits { width_of self.old < 2 ^ 32 }
+        ensures height_fits { height_of self.old < 2 ^ 32 }
+    {
+        let (left, rows_left) = lines(self.width, self.height);
+        let width = self.width as usize;
+        let pad = self.stride - width;
+        let end = self.buf.as_slice().len();
+        let cells = self.buf.stretch_mut(0, end);
+        (cells, left, rows_left, width, pad)
+    }
+
+    /// The pixels for writing, row by row and from left to right: `width` times `height` of them,
+    /// without the padding. The image must fit, as `is_valid` tells.
+    ///
+    /// Once the borrow ends, the image has the cells that the cursor and its items left.
+    pub fn pixels_mut(&mut self) -> PixelsIterMut<'_, C::Item>
+        requires fits { Fits (layout_by C.AsSlice.cells self.old) }
+        ensures* writes_back { sem 𝓛 (follows (the_row C.row) (Array C.Item.row 0) self.entry.ghost_name (name_of result) (λ ws. with_buf self.old (C.with_cells (buf_of self.old) 0 ws))) }
+        ensures cells { cells_left result ≡ C.AsSlice.cells (buf_of self.old) }
+        ensures marks { marks_left result ≡ marks_of (width_of self.old) (height_of self.old) (stride_of self.old) }
+        ensures pixels { muts_left result ≡ pixels_of (layout_by C.AsSlice.cells self.old) }
+        ensures count { length (muts_left result) ≡ width_of self.old * height_of self.old }
+        ensures countable { length (muts_left result) < 2 ^ 64 }
+    {
+        let (cells, left, rows_left, width, pad) = self.lines_mut();
+        PixelsIterMut {
+            current: cells.as_mut_ptr(),
+            left,
+            rows_left,
+            width,
+            pad,
+            marker: PhantomData,
+        }
     }
 }
