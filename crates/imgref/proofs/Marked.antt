@@ -221,3 +221,11 @@ module _ (w h s : ℕ) (wide : w ≤ s) where
 -- a size within the limits has a countable number of places
 pub area_fits : (w h : ℕ) → w < 2 ^ 32 → h < 2 ^ 32 → w * h < 2 ^ 64
 area_fits w h wide high = omega (arith, mul-le-mul_right h (let le : w ≤ 4294967295 = omega arith in le), mul-le-mul_left 4294967295 (let le : h ≤ 4294967295 = omega arith in le))
+
+-- what the counts of a cursor over a fitting image have to be
+pub cursor_over : {X : Type 0} (l : Layout X) (zs : List X) (left rows width pad : ℕ) → Fits l → l.width ≤ l.stride
+    → zs ≡ l.cells → left ≡ first_line l.width l.height → rows ≡ lines_after l.width l.height → width ≡ l.width → pad ≡ l.stride - l.width
+    → (left + rows * (pad + width) ≤ length zs) × (0 < rows → 0 < width) × (marks left rows width pad ≡ marks_of l.width l.height l.stride) × (pick (marks left rows width pad) zs ≡ pixels l)
+cursor_over l zs left rows width pad fits wide ez el er ew ep =
+    let same : marks left rows width pad ≡ marks_of l.width l.height l.stride = λ i. marks (el i) (er i) (ew i) (ep i) in
+    (rw (el, er, ew, ep, ez) (marks_reach l fits wide), rw (er, ew) (lines_wide l.width l.height), same, (λ i. pick (same i) (ez i)) ∙ marked_pixels l.cells l.width l.height l.stride fits wide)
