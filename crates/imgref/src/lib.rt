@@ -2,6 +2,7 @@
 #![tactic(auto)]
 
 mod containers;
+mod fill;
 mod img;
 mod index;
 mod pixels;
