@@ -62,7 +62,7 @@ use Rattle.imgref.specs.Marks.{covered}
 use Rattle.imgref.specs.contracts.pixels.PixelsIterMut as P
 use Rattle.imgref.specs.declared.pixels.PixelsIterMut.{PixelsIterMut}
 use Rattle.imgref.proofs.Marks.{covered_past, covered_none}
-use Rattle.imgref.proofs.Ends.{ends_beside, ends_then, ends_itself, some_out, none_out}
+use Rattle.imgref.proofs.Ends.{Ends, begins, ends_beside, ends_then, ends_itself, some_out, none_out}
 use Rattle.imgref.specs.contracts.pixels.PixelsIterMutIterator.next as N
 use Rattle.imgref.specs.contracts.pixels.PixelsIterMutIterator.next.Key.{name as #next}
 use Rattle.imgref.proofs.pixels.PixelsIterMutIterator.next.Met as next
@@ -137,27 +137,6 @@ module _ (E : El) where
 
   abbrev Told : Sort → Option (MutBor D) → Sort → Type 0
   Told s m t = YieldsFirstMut muts_left s m t × MakesProgress (λ _. Unit {0}) (item_count muts_left) s m t × Moves s m t
-
-module _ {M : Type 1} {𝓤 : Ura M} (𝓛 : Logic 𝓤) (ρ : Lft) (q : Share) where
-  open 𝓛 use {H, A}
-
-  abbrev Ends : ℕ → Share → SProp 𝓤
-  Ends a s = wand 𝓤 (A.lft (a ∷ ρ) s) (H.⇛ (sep 𝓤 (A.dead (a ∷ ρ)) (A.lft ρ q)))
-
-  abbrev Begun : ℕ × Share → SProp 𝓤
-  Begun p = sep 𝓤 (A.lft (p.0 ∷ ρ) p.1) (Ends p.0 p.1)
-
-  -- a new lifetime inside ρ, with its token, and the way to end it
-  begins : ent 𝓤 (A.lft ρ q) (H.⇛ (ex 𝓤 Begun))
-  begins =
-      qed 𝓛 (‵ (flft ρ q) ∷ []) ∵ updating ! $ lft_new ! tt (λ a.
-      let s : Share = (common full_share q).0 in
-      let Back' : SProp 𝓤 = wand 𝓤 (A.lft (a ∷ ρ) s) (sep 𝓤 (A.lft (a ∷ []) full_share) (A.lft ρ q)) in
-      use2 𝓛 (‵ (flft (a ∷ ρ) s) ⊛ raw Back') (lft-common 𝓛 (a ∷ []) ρ full_share q) $ split ! $ move ! (1 ∷ []) $
-      use1 𝓛 (raw (Ends a s)) (wand_i 𝓤 Back' (A.lft (a ∷ ρ) s) _ (qed 𝓛 (raw Back' ∷ ‵ (flft (a ∷ ρ) s) ∷ []) ∵ updating ! $ move ! (1 ∷ 0 ∷ []) $
-      use2 𝓛 (‵ (flft (a ∷ []) full_share) ⊛ ‵ (flft ρ q)) (apply∗ 𝓤 (A.lft (a ∷ ρ) s) (sep 𝓤 (A.lft (a ∷ []) full_share) (A.lft ρ q))) $ split ! $ lft_end ! tt $
-      use1 𝓛 (‵ (fdead (a ∷ ρ))) (𝓛.lfts.dead-incl (a ∷ ρ) (a ∷ []) (meet_⊑_left (a ∷ []) ρ)) $ at_once ! $ done !)) $
-      at_once ! $ show ! Begun (a, s) $ move ! (1 ∷ 0 ∷ []) $ done !)
 
 module _ (E : El) {M : Type 1} {𝓤 : Ura M} (𝓛 : Logic 𝓤) (at_mem : Memory → SProp 𝓤) (run : Routine → Fun 𝓤) where
   open 𝓛 use {H, A}
