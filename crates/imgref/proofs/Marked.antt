@@ -2,6 +2,7 @@
 use Rattle.std.proofs.Common.{◌≡◌, ◌≢◌, ℕ, zero, suc, ◌+◌, ◌-◌, ◌*◌, ◌<◌, ◌≤◌, ◌^◌, Bool, true, false, List, [], ◌∷◌, ◌++◌, length, take, drop, replicate, map, Some, refl, sym, ap, ◌∙◌, subst, arith, inl, inr, append_assoc, cond, length-drop, drop-drop}
 use Rattle.std.specs.List.{slice_get, flat_map, range_with_len}
 use Rattle.std.proofs.lemmas.List.{length-replicate, append-nil}
+use Rattle.std.proofs.Math.Seq.{drop-length}
 use mathlib.Core.Path.{ap₂}
 use native.Mathlib.Nat.{zero-mul, mul-le-mul_left, mul-le-mul_right}
 use Rattle.std.specs.Prelude.{◌==◌}
@@ -229,3 +230,7 @@ pub cursor_over : {X : Type 0} (l : Layout X) (zs : List X) (left rows width pad
 cursor_over l zs left rows width pad fits wide ez el er ew ep =
     let same : marks left rows width pad ≡ marks_of l.width l.height l.stride = λ i. marks (el i) (er i) (ew i) (ep i) in
     (rw (el, er, ew, ep, ez) (marks_reach l fits wide), rw (er, ew) (lines_wide l.width l.height), same, (λ i. pick (same i) (ez i)) ∙ marked_pixels l.cells l.width l.height l.stride fits wide)
+
+-- a list of the same length written over a whole list from its start
+pub written_over : {X : Type 0} (xs ws : List X) → length ws ≡ length xs → take 0 xs ++ (ws ++ drop (length ws) (drop 0 xs)) ≡ ws
+written_over xs ws same = ap (λ n. ws ++ drop n xs) same ∙ ap (λ ys. ws ++ ys) (drop-length xs) ∙ append-nil ws

@@ -1,7 +1,8 @@
-ghost use Rattle.std.specs.Prelude.{◌≡◌};
+ghost use Rattle.std.specs.Prelude.{◌≡◌, ◌^◌, ◌<◌, ◌≤◌};
 ghost use Rattle.std.specs.Borrow.{sem};
-ghost use Rattle.image_model.specs.Layout.{Fits};
-ghost use Rattle.imgref.specs.Image.{buf_of, width_of, height_of, stride_of, with_buf, layout_by};
+ghost use Rattle.image_model.specs.Layout.{Fits, SameOutside, layout};
+ghost use Rattle.image_model.specs.Grid.{grid_of, uniform};
+ghost use Rattle.imgref.specs.Image.{buf_of, width_of, height_of, stride_of, with_buf, layout_by, vec_layout, mut_layout};
 ghost use Rattle.imgref.specs.Marks.{covered, marks_of};
 ghost use Rattle.imgref.specs.Pixels.{fills};
 
@@ -27,4 +28,45 @@ where
 {
     let mut pixels = image.pixels_mut();
     fill_rest(&mut pixels, value);
+}
+
+impl<T: Copy> Img<Vec<T>> {
+    /// Every pixel becomes `value`; the padding stays. The image must fit, as `is_valid` tells.
+    pub fn fill(&mut self, value: T)
+        requires fits { Fits (vec_layout self.old) }
+        ensures grid { grid_of (vec_layout self.new) ≡ uniform (width_of self.old) (height_of self.old) value }
+        ensures outside { SameOutside (vec_layout self.old) (vec_layout self.new) }
+    {
+        cover(self, value);
+    }
+}
+
+impl<T: Copy> Img<&mut [T]> {
+    /// Every pixel becomes `value`; the padding stays. The image must fit, as `is_valid` tells.
+    pub fn fill(&mut self, value: T)
+        requires fits { Fits (mut_layout self.old) }
+        ensures grid { grid_of (mut_layout self.new) ≡ uniform (width_of self.old) (height_of self.old) value }
+        ensures outside { SameOutside (mut_layout self.old) (mut_layout self.new) }
+        ensures loan { (buf_of self.new).ghost_name ≡ (buf_of self.old).ghost_name }
+    {
+        cover(self, value);
+    }
+}
+
+/// Every pixel of the image of `width` by `height` pixels in `cells`, whose rows begin `stride`
+/// cells apart, becomes `value`; the padding stays.
+///
+/// It is `fill` for a caller that is itself proved and has the cells of a window from a call: a
+/// lent slice keeps its tie to what lent it as it goes into this call.
+pub fn fill_pixels<T: Copy>(cells: &mut [T], width: usize, height: usize, stride: usize, value: T)
+    requires stride_positive { 1 ≤ stride }
+    requires width_within { width ≤ stride }
+    requires width_fits { width < 2 ^ 32 }
+    requires height_fits { height < 2 ^ 32 }
+    requires fits { Fits (layout cells.old width height stride) }
+    ensures grid { grid_of (layout cells.new width height stride) ≡ uniform width height value }
+    ensures outside { SameOutside (layout cells.old width height stride) (layout cells.new width height stride) }
+{
+    let mut image = Img::new_stride(cells, width, height, stride);
+    image.fill(value);
 }
