@@ -7,3 +7,4 @@ pub mod Cursors
 pub mod Seen
 pub mod Lent
 pub mod Ends
+pub mod Runs

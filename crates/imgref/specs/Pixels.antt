@@ -10,11 +10,11 @@ use Rattle.imgref.specs.declared.pixels.PixelsIterMut.{PixelsIterMut}
 
 module _ {T : Type 0} where
   -- the pixels that a cursor still gives, for reading
-  abbrev pub refs_left : PixelsRefIter T → List T
+  unfoldable pub refs_left : PixelsRefIter T → List T
   refs_left s = pick (marks s.left s.rows_left s.width s.pad) s.cells
 
   -- the copies that a cursor still gives
-  abbrev pub copies_left : PixelsIter T → List T
+  unfoldable pub copies_left : PixelsIter T → List T
   copies_left s = refs_left s.inner
 
   -- the cells from the next one on
@@ -26,7 +26,7 @@ module _ {T : Type 0} where
   marks_left s = marks s.left s.rows_left s.width s.pad
 
   -- the pixels that a cursor still gives, for writing
-  abbrev pub muts_left : PixelsIterMut T → List T
+  unfoldable pub muts_left : PixelsIterMut T → List T
   muts_left s = pick (marks_left s) (cells_left s)
 
   -- the loan of these cells

@@ -5,6 +5,8 @@ mod containers;
 mod fill;
 mod img;
 mod index;
+#[cfg(test)]
+mod pixel_tests;
 mod pixels;
 mod window;
 

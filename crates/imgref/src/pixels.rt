@@ -1,5 +1,9 @@
+#![tactic(auto, using(crate::proofs::Runs::copies_run), unfolding(crate::specs::Pixels::copies_left))]
+
 ghost use Rattle.std.specs.Prelude.{◌≡◌, ◌+◌, ◌-◌, ◌*◌, ◌^◌, ◌<◌, ◌≤◌, length, List};
 ghost use Rattle.std.specs.Borrow.{GName, ftrue, sem, follows, Array};
+ghost use Rattle.std.specs.Iterator.{YieldsFirst, YieldsFirstRef};
+ghost use Rattle.std.specs.Iterator.Runs.{YieldsInOrder, YieldsRefsInOrder};
 ghost use Rattle.image_model.specs.Layout.{Fits, layout};
 ghost use Rattle.image_model.specs.Rows.{pixels as pixels_of};
 ghost use Rattle.imgref.specs.Held.{seen, lent};
@@ -280,6 +284,7 @@ impl<'s, T> Img<&'s [T]> {
         ensures pixels { refs_left result ≡ pixels_of (ref_layout self.now) }
         ensures count { length (refs_left result) ≡ width_of self.now * height_of self.now }
         ensures countable { length (refs_left result) < 2 ^ 64 }
+        ensures runs { YieldsRefsInOrder (YieldsFirstRef (refs_left {T = T})) refs_left }
     {
         PixelsRefIter::of_layout(self.buf, self.width, self.height, self.stride)
     }
@@ -296,6 +301,7 @@ impl<'s, T: Copy> Img<&'s [T]> {
         ensures pixels { copies_left result ≡ pixels_of (ref_layout self.now) }
         ensures count { length (copies_left result) ≡ width_of self.now * height_of self.now }
         ensures countable { length (copies_left result) < 2 ^ 64 }
+        ensures runs { YieldsInOrder (YieldsFirst (copies_left {T = T})) copies_left }
     {
         PixelsIter {
             inner: PixelsRefIter::of_layout(self.buf, self.width, self.height, self.stride),
@@ -314,6 +320,7 @@ impl<T: Copy> Img<&mut [T]> {
         ensures pixels { copies_left result ≡ pixels_of (mut_layout self.now) }
         ensures count { length (copies_left result) ≡ width_of self.now * height_of self.now }
         ensures countable { length (copies_left result) < 2 ^ 64 }
+        ensures runs { YieldsInOrder (YieldsFirst (copies_left {T = T})) copies_left }
     {
         PixelsIter {
             inner: PixelsRefIter::of_layout(&*self.buf, self.width, self.height, self.stride),
@@ -332,6 +339,7 @@ impl<T: Copy> Img<Vec<T>> {
         ensures pixels { copies_left result ≡ pixels_of (vec_layout self.now) }
         ensures count { length (copies_left result) ≡ width_of self.now * height_of self.now }
         ensures countable { length (copies_left result) < 2 ^ 64 }
+        ensures runs { YieldsInOrder (YieldsFirst (copies_left {T = T})) copies_left }
     {
         PixelsIter {
             inner: PixelsRefIter::of_layout(self.buf.as_slice(), self.width, self.height, self.stride),

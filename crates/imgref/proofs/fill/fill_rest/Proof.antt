@@ -235,7 +235,7 @@ module _ (E : El) {M : Type 1} {𝓤 : Ura M} (𝓛 : Logic 𝓤) (at_mem : Memo
         then_goes : (s : Sort E) (don : List (D E)) (e : don ++ cov E value s ≡ cov E value h) (m : Option (MutBor (D E))) (t : Sort E) → Told E s m t → (u : Val)
             → Sq 𝓛 (‵ (flft κ₁ q₁) ∷ ‵ (lent κ γ t) ∷ ‵ (flft κ q) ∷ ‵ (flft κ₂ q₂) ∷ ‵ ((OP.the_row Pixel).own_val m (u ∷ [])) ∷ ‵ (hands_on (Y E) s m t) ∷ ‵ ((Y E).own_val value (v ∷ []))
             ∷ ‵ (ends_as (A₀ E) (A₀ E) h.name s.name (λ ws. don ++ ws)) ∷ Locals) (lands 𝓣.C 𝓣.Λ En (place 4 []) u (match_on turn) (any_q (Turned (s, don, e))))
-        unfolding after_turn
+        unfolding muts_left after_turn
         then_goes s don e None t told u =
             let none : muts_left t ≡ [] = told.0.1 in
             let all : don ++ cells_left t ≡ cov E value h = ap (λ zs. don ++ zs) (sym (ap (λ (z : Sort E). cov E value z) (sym told.2) ∙ covered_none (marks_left t) value (cells_left t) none)) ∙ e in

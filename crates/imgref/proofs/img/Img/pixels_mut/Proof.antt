@@ -67,6 +67,7 @@ abbrev lines_row : Lft → RattleType → RattleType
 lines_row κ R = Tuple (MutSlice (named 0) κ R ∷ usize ∷ usize ∷ usize ∷ usize ∷ [])
 
 pub pixels_mut_spec : {M : Type 1} → statement M
+unfolding muts_left
 pixels_mut_spec 𝓤 𝓛 𝓜 𝓡 wired X Y LX LY gh d gs ds bm bs =
     let H = 𝓛.H in
     let En = ended X Y gh d gs ds in

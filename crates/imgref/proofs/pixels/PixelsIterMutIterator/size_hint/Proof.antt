@@ -48,6 +48,7 @@ use Rattle.imgref.proofs.pixels.PixelsIterMutIterator.size_hint.Statement.{state
 use Rattle.imgref.proofs.pixels.PixelsIterMutIterator.size_hint.Code as code
 
 pub size_hint_spec : {M : Type 1} → statement M
+unfolding muts_left
 size_hint_spec 𝓤 𝓛 𝓜 𝓡 wired T' L =
     let R : RattleType = param 0 T' in let En = f.ended T' in let c = f.clauses T' 𝓛 𝓜.mem 𝓡.returns in
     let slot = RefOf (0 ∷ []) tt (plain (λ κs. P.the_row (named_lft 3 1 tt κs) R)) (λ _. tt) in

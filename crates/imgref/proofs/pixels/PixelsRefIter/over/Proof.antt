@@ -41,6 +41,7 @@ use Rattle.imgref.proofs.pixels.PixelsRefIter.over.Statement.{statement}
 use Rattle.imgref.proofs.pixels.PixelsRefIter.over.Code as code
 
 pub over_spec : {M : Type 1} → statement M
+unfolding refs_left
 over_spec 𝓤 𝓛 𝓜 𝓡 wired T' L =
     let R : RattleType = param 0 T' in let En = f.ended T' in let c = f.clauses T' 𝓛 𝓜.mem 𝓡.returns in let number = stay_dropped (plain (λ κs. usize)) yes in
     let hs : Stays En.signature.params En.kept = (stay_dropped (shr_slice_of (0 ∷ []) tt (plain (λ _. R))) yes, (number, (number, (number, (number, tt))))) in

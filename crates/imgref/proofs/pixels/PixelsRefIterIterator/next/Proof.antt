@@ -74,7 +74,7 @@ abbrev stayed : (T : RattleType) → Stays (f.ended T).signature.params (f.ended
 stayed T = (stay_ref (0 ∷ []) tt (plain (λ κs. P.the_row (named_lft 3 1 tt κs) (param 0 T))), tt)
 
 pub next_spec : {M : Type 1} → statement M
-unfolding both_by
+unfolding refs_left both_by
 next_spec 𝓤 𝓛 𝓜 𝓡 wired T' L =
     let R : RattleType = param 0 T' in let En = f.ended T' in let hs = stayed T' in let c = f.clauses T' 𝓛 𝓜.mem 𝓡.returns in
     let inst = layouts (a_type ∷ []) (T', tt) in let fn : Fn = inst_fn inst code.function in let 𝓣 = tables 𝓤 𝓛.H 𝓜 𝓡 𝓡.env in
