@@ -1,6 +1,14 @@
 pub mod Cells
 pub mod Places
 pub mod Grids
+pub mod Stretches
+pub mod Windows
+pub mod Paths
 pub mod Rows
 pub mod Pixels
+pub mod Kept
+pub mod Agreement
+pub mod Shifts
+pub mod Alike
+pub mod Tiles
 pub mod Examples

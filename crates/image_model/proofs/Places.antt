@@ -4,7 +4,7 @@ use Rattle.std.specs.Bool.{Decides}
 use Rattle.std.specs.Prelude.{◌==◌, nat_le, ◌||◌}
 use Rattle.std.proofs.lemmas.Bool.Decides.{nat_tests}
 use Rattle.std.proofs.Math.Nat.{mul-le-mul_right, mul_comm}
-use Rattle.image_model.specs.Layout.{Layout, Fits, is_fitting, cell_of, SameOutside}
+use Rattle.image_model.specs.Layout.{Layout, Reaches, Fits, is_fitting, cell_of, SameOutside}
 use Rattle.image_model.proofs.Cells.{slice_get-set_other}
 
 -- the test of the fit tells whether a layout fits
@@ -14,12 +14,16 @@ is_fitting_decides l = fitting l.width l.height (l.stride * (l.height - 1) + l.w
     fitting : (width height end count : ℕ) → Decides ((width == 0) || ((height == 0) || nat_le end count)) (0 < width → 0 < height → end ≤ count)
     fitting width height end count = (λ e wide high. grind (arith, nat_tests), λ h. grind (arith, nat_tests))
 
+-- where so many cells reach the last pixel, each has one
+pub reached : (count width height stride x y : ℕ) → Reaches count width height stride → x < width → y < height → y * stride + x < count
+reached count width height stride x y reaches column line =
+    let reach : stride * (height - 1) + width ≤ count = reaches (omega arith) (omega arith) in
+    let up : y * stride ≤ (height - 1) * stride = mul-le-mul_right stride (omega arith) in
+    omega (arith, up, mul_comm stride (height - 1))
+
 -- a pixel has a cell
 pub cell_within : {T : Type 0} (l : Layout T) → Fits l → (x y : ℕ) → x < l.width → y < l.height → cell_of l x y < length l.cells
-cell_within l fits x y column line =
-    let reach : l.stride * (l.height - 1) + l.width ≤ length l.cells = fits (omega arith) (omega arith) in
-    let up : y * l.stride ≤ (l.height - 1) * l.stride = mul-le-mul_right l.stride (omega arith) in
-    omega (arith, up, mul_comm l.stride (l.height - 1))
+cell_within l fits x y column line = reached (length l.cells) l.width l.height l.stride x y fits column line
 
 -- ---- the outside
 

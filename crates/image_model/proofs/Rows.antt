@@ -1,31 +1,99 @@
 -- Rows and joined rows as stretches of the cells.
 use Rattle.std.proofs.Common.{◌==◌, false, cond, subst, ◌≡◌, ℕ, zero, suc, ◌+◌, ◌-◌, ◌*◌, ◌<◌, ◌≤◌, List, [], ◌∷◌, ◌++◌, length, take, drop, map, refl, sym, ap, ◌∙◌, arith, add-one, add-zero, inl, inr, add_assoc, length-append, length-take, length-drop}
 use Rattle.std.specs.List.{slice_get, filter_map, flat_map, range_with_len}
-use Rattle.std.proofs.lemmas.List.{drop_more, append-nil}
+use Rattle.std.proofs.lemmas.List.{drop_more, drop_all, append-nil}
+use Rattle.std.specs.Prelude.{Some, Option}
+use Rattle.std.specs.List.{cons_option}
 use Rattle.std.proofs.lemmas.List.Concat.{flat_map-append}
-use Rattle.std.proofs.lemmas.List.FromFn.{map-range_with_len_more}
-use Rattle.std.proofs.Math.Seq.{take-add}
+use Rattle.std.proofs.lemmas.List.FromFn.{map-range_with_len_more, length-map-range_with_len, get_or-map-range_with_len}
+use Rattle.std.proofs.Math.Seq.{take-add, take-nil}
 use Rattle.std.proofs.lemmas.Bool.Decides.{nat_tests}
 use Rattle.std.proofs.Math.Nat.{mul-le-mul_left}
-use Rattle.std.proofs.lemmas.Option.{slice_get_cases}
-use Rattle.image_model.specs.Layout.{Layout, layout, Fits}
-use Rattle.image_model.specs.Rows.{row, joined_rows}
+use Rattle.std.proofs.lemmas.Option.{slice_get_cases, slice_get-get_or}
+use Rattle.std.proofs.lemmas.Bool.{cond-false, cond_both, ne_eqb}
+use Rattle.image_model.specs.Layout.{Layout, layout, Fits, pixel}
+use Rattle.image_model.specs.Grid.{grid_of}
+use Rattle.image_model.specs.Rows.{row, rows, row_count, joined_rows, grid_row, grid_rows, grid_joined_rows}
+use Rattle.image_model.proofs.Grids.{pixel_at}
 
--- a stretch of the cells, tabulated
-pub tabulated : {T : Type 0} (cells : List T) (b a n : ℕ) → b + a + n ≤ length cells → filter_map (λ x. slice_get cells (b + x)) (range_with_len a n) ≡ take n (drop (b + a) cells)
-tabulated cells b a zero h = refl
-tabulated cells b a (suc n) h =
+-- ---- one row
+
+-- a stretch of the cells, tabulated: past the last cell there is nothing
+tabulated : {T : Type 0} (cells : List T) (b a n : ℕ) → filter_map (λ x. slice_get cells (b + x)) (range_with_len a n) ≡ take n (drop (b + a) cells)
+tabulated cells b a zero = refl
+tabulated cells b a (suc n) =
+    let tail = tabulated cells b (a + 1) n in
     elim (slice_get_cases cells (b + a)).1 [
       | inl w ↦
-          let tail = tabulated cells b (a + 1) n (omega arith) in
           let split = drop_more cells (b + a) w.0 w.1 in
           rw (w.2, split, w.3, tail, add_assoc b a 1) refl
-      | inr w ↦ absurd (omega arith)
+      | inr w ↦
+          let none = drop_all (b + a) cells w.0 in
+          let later = drop_all (b + (a + 1)) cells (omega arith) in
+          rw (w.1, none) (tail ∙ ap (take n) later ∙ take-nil n)
     ]
 
--- a row is a stretch of the cells
+-- a row is a stretch of the cells, shorter where they end before it does
+pub row_stretch : {T : Type 0} (l : Layout T) (y : ℕ) → row l y ≡ take l.width (drop (y * l.stride) l.cells)
+row_stretch l y = tabulated l.cells (y * l.stride) 0 l.width ∙ ap (λ k. take l.width (drop k l.cells)) (add-zero (y * l.stride))
+
+-- a row that the cells have is a stretch of them
 pub row_is : {T : Type 0} (l : Layout T) (y : ℕ) → y * l.stride + l.width ≤ length l.cells → row l y ≡ take l.width (drop (y * l.stride) l.cells)
-row_is l y h = tabulated l.cells (y * l.stride) 0 l.width (omega arith) ∙ ap (λ k. take l.width (drop k l.cells)) (add-zero (y * l.stride))
+row_is l y _ = row_stretch l y
+
+pub length-row : {T : Type 0} (l : Layout T) (y : ℕ) → y * l.stride + l.width ≤ length l.cells → length (row l y) ≡ l.width
+length-row l y h = rw (row_stretch l y) (omega (arith, length-take l.width (drop (y * l.stride) l.cells), length-drop (y * l.stride) l.cells))
+
+-- ---- all rows
+
+pub slice_get-tabulated : {X : Type 0} (f : ℕ → X) (a n k : ℕ) → k < n → slice_get (map f (range_with_len a n)) k ≡ Some (f (a + k))
+slice_get-tabulated f a n k below =
+    slice_get-get_or (map f (range_with_len a n)) k (f (a + k)) (omega (arith, length-map-range_with_len f a n))
+    ∙ ap Some (get_or-map-range_with_len f a n k (a + k) (f (a + k)) below refl)
+
+pub length-rows : {T : Type 0} (l : Layout T) → length (rows l) ≡ row_count l.width l.height
+length-rows l = length-map-range_with_len (row l) 0 (row_count l.width l.height)
+
+-- each row by its number
+pub row_at : {T : Type 0} (l : Layout T) (y : ℕ) → y < row_count l.width l.height → slice_get (rows l) y ≡ Some (row l y)
+row_at l y below = slice_get-tabulated (row l) 0 (row_count l.width l.height) y below ∙ (let e : 0 + y ≡ y = omega arith in ap (λ n. Some (row l n)) e)
+
+-- with a column there are as many rows as the height says
+pub row_count-wide : (width height : ℕ) → 0 < width → row_count width height ≡ height
+row_count-wide width height wide = cond-false (width == 0) 0 height (ne_eqb width 0 (λ e. omega arith))
+
+pub row_count-le : (width height : ℕ) → row_count width height ≤ height
+row_count-le width height = cond_both (width == 0) 0 height (λ n. n ≤ height) (λ _. omega arith) (λ _. omega arith)
+
+-- ---- the rows of a grid
+
+filter_map-same : {X : Type 0} (f g : ℕ → Option X) (a n : ℕ) → ((x : ℕ) → x < a + n → f x ≡ g x) → filter_map f (range_with_len a n) ≡ filter_map g (range_with_len a n)
+filter_map-same f g a zero each = refl
+filter_map-same f g a (suc n) each =
+    let here = each a (omega arith) in
+    let rest = filter_map-same f g (a + 1) n (λ x below. each x (omega arith)) in
+    λ i. cons_option (here i) (rest i)
+
+map-same : {X : Type 0} (f g : ℕ → X) (a n : ℕ) → ((x : ℕ) → x < a + n → f x ≡ g x) → map f (range_with_len a n) ≡ map g (range_with_len a n)
+map-same f g a zero each = refl
+map-same f g a (suc n) each =
+    let here = each a (omega arith) in
+    let rest = map-same f g (a + 1) n (λ x below. each x (omega arith)) in
+    λ i. here i ∷ rest i
+
+-- a row of a layout's grid is that of the layout
+pub grid_row_of : {T : Type 0} (l : Layout T) (y : ℕ) → y < l.height → grid_row (grid_of l) y ≡ row l y
+grid_row_of l y line = filter_map-same (λ x. (grid_of l).pixel x y) (λ x. pixel l x y) 0 l.width (λ x below. pixel_at l x y (omega arith) line)
+
+-- and so are all rows
+pub grid_rows_of : {T : Type 0} (l : Layout T) → grid_rows (grid_of l) ≡ rows l
+grid_rows_of l = map-same (grid_row (grid_of l)) (row l) 0 (row_count l.width l.height) (λ y below. grid_row_of l y (omega (arith, row_count-le l.width l.height)))
+
+-- and the joined rows, which are the pixels
+pub grid_joined_rows_of : {T : Type 0} (l : Layout T) → grid_joined_rows (grid_of l) ≡ joined_rows l
+grid_joined_rows_of l = ap (flat_map (λ r. r)) (grid_rows_of l)
+
+-- ---- joined rows
 
 -- the first n rows, joined
 abbrev pub joined_upto : {T : Type 0} → Layout T → ℕ → List T
@@ -56,9 +124,6 @@ joined_is {T} cells (suc v) h s =
 abbrev pub HasRows : {T : Type 0} → Layout T → ℕ → Type 0
 HasRows l n = (y : ℕ) → y < n → y * l.stride + l.width ≤ length l.cells
 
-pub length-row : {T : Type 0} (l : Layout T) (y : ℕ) → y * l.stride + l.width ≤ length l.cells → length (row l y) ≡ l.width
-length-row l y h = rw (row_is l y h) (omega (arith, length-take l.width (drop (y * l.stride) l.cells), length-drop (y * l.stride) l.cells))
-
 pub length-joined_upto : {T : Type 0} (l : Layout T) (n : ℕ) → HasRows l n → length (joined_upto l n) ≡ n * l.width
 length-joined_upto l zero h = omega arith
 length-joined_upto l (suc n) h =
@@ -72,14 +137,13 @@ rows_from_fits l fits some y lt =
     omega (arith, fits some (omega arith), mul-le-mul_left l.stride le)
 
 -- where the rows touch, the joined rows are the first cells
-pub joined_touching : {T : Type 0} (l : Layout T) (n : ℕ) → l.width ≡ l.stride → HasRows l n → joined_upto l n ≡ take (n * l.width) l.cells
-joined_touching l zero e h = ap (λ k. take k l.cells) (let z : 0 ≡ 0 * l.width = omega arith in z)
-joined_touching l (suc n) e h =
-    let below : HasRows l n = λ y lt. h y (omega arith) in
+joined_touching : {T : Type 0} (l : Layout T) (n : ℕ) → l.width ≡ l.stride → joined_upto l n ≡ take (n * l.width) l.cells
+joined_touching l zero e = ap (λ k. take k l.cells) (let z : 0 ≡ 0 * l.width = omega arith in z)
+joined_touching l (suc n) e =
     let places : n * l.stride ≡ n * l.width = ap (λ k. n * k) (sym e) in
-    let next : row l n ≡ take l.width (drop (n * l.width) l.cells) = row_is l n (h n (omega arith)) ∙ ap (λ k. take l.width (drop k l.cells)) places in
+    let next : row l n ≡ take l.width (drop (n * l.width) l.cells) = row_stretch l n ∙ ap (λ k. take l.width (drop k l.cells)) places in
     let end : n * l.width + l.width ≡ suc n * l.width = omega arith in
-    joined_upto_suc l n ∙ ap (λ xs. xs ++ row l n) (joined_touching l n e below) ∙ ap (λ xs. take (n * l.width) l.cells ++ xs) next ∙ sym (take-add (n * l.width) l.width l.cells) ∙ ap (λ k. take k l.cells) end
+    joined_upto_suc l n ∙ ap (λ xs. xs ++ row l n) (joined_touching l n e) ∙ ap (λ xs. take (n * l.width) l.cells ++ xs) next ∙ sym (take-add (n * l.width) l.width l.cells) ∙ ap (λ k. take k l.cells) end
 
 -- with columns, the joined rows are as many cells as there are places
 pub length-joined_rows : {T : Type 0} (cells : List T) (w h s : ℕ) → Fits (layout cells w h s) → length (joined_rows (layout cells w h s)) ≡ w * h
@@ -88,15 +152,19 @@ length-joined_rows {T} cells (suc v) h s fits =
     let l : Layout T = layout cells (suc v) h s in
     rw (joined_is cells (suc v) h s) (omega (arith, length-joined_upto l h (rows_from_fits l fits (omega arith))))
 
--- where rows touch, or there is no pixel, the joined rows are the first cells
-pub joined_in_place : {T : Type 0} (cells : List T) (w h s : ℕ) → Fits (layout cells w h s) → (0 < w → 0 < h → w ≡ s) → joined_rows (layout cells w h s) ≡ take (w * h) cells
-joined_in_place cells zero h s fits touch = let none : 0 ≡ 0 * h = omega arith in ap (λ k. take k cells) none
-joined_in_place {T} cells (suc v) zero s fits touch =
+-- where rows touch, or there is no pixel, the joined rows are the first cells, as many as there are
+pub joined_first : {T : Type 0} (cells : List T) (w h s : ℕ) → (0 < w → 0 < h → w ≡ s) → joined_rows (layout cells w h s) ≡ take (w * h) cells
+joined_first cells zero h s touch = let none : 0 ≡ 0 * h = omega arith in ap (λ k. take k cells) none
+joined_first cells (suc v) zero s touch =
     let none : 0 ≡ suc v * 0 = omega arith in
     joined_is cells (suc v) 0 s ∙ ap (λ k. take k cells) none
-joined_in_place {T} cells (suc v) (suc n) s fits touch =
+joined_first {T} cells (suc v) (suc n) s touch =
     let l : Layout T = layout cells (suc v) (suc n) s in
     let turned : suc n * suc v ≡ suc v * suc n = omega arith in
     joined_is cells (suc v) (suc n) s
-    ∙ joined_touching l (suc n) (touch (omega arith) (omega arith)) (rows_from_fits l fits (omega arith))
+    ∙ joined_touching l (suc n) (touch (omega arith) (omega arith))
     ∙ ap (λ k. take k cells) turned
+
+-- and all of them are there where the layout fits
+pub joined_in_place : {T : Type 0} (cells : List T) (w h s : ℕ) → Fits (layout cells w h s) → (0 < w → 0 < h → w ≡ s) → joined_rows (layout cells w h s) ≡ take (w * h) cells
+joined_in_place cells w h s _ touch = joined_first cells w h s touch

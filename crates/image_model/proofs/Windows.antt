@@ -1,0 +1,234 @@
+-- A window's cells among its parent's: which they are, what they show, and what a write to them does.
+use Rattle.std.proofs.Common.{true, ◌≡◌, ◌≢◌, ℕ, ◌+◌, ◌-◌, ◌*◌, ◌<◌, ◌≤◌, Bool, suc, false, inl, inr, List, length, set, refl, sym, ap, ◌∙◌, subst, arith}
+use Rattle.std.specs.List.{slice_get}
+use Rattle.std.specs.Bool.{Decides}
+use Rattle.std.specs.Prelude.{◌==◌, nat_le, if◌then◌else◌}
+use Rattle.std.proofs.lemmas.Bool.Decides.{nat_tests}
+use Rattle.std.proofs.lemmas.Bool.{and_parts, and_from, leb-true, le-leb, cases_lt, cases_Bool, cond-true, cond-false, cond_both, or_parts, eqb-false, true≢false}
+use Rattle.std.proofs.lemmas.Nat.{same_from_place}
+use Rattle.std.proofs.Math.Nat.{mul-le-mul_left, mul-add, add-mul, mul-suc, mul_comm}
+use Rattle.image_model.specs.Layout.{Layout, layout, Reaches, Fits, cell_of, pixel, SameOutside}
+use Rattle.image_model.specs.Grid.{Grid, grid_of, covers, patch}
+use Rattle.image_model.specs.Windows.{Window, IsInside, is_inside, is_empty, window_view, Stretch, window_start, exact_stretch, roomy_stretch, stretch_cells, with_stretch, exact_window, roomy_window}
+use Rattle.image_model.proofs.Places.{reached, written}
+use Rattle.image_model.proofs.Grids.{covers_decides, pixel_at, same_grids, is_patch, patch_of_view}
+use Rattle.image_model.proofs.Stretches.{stretch_cell, length-stretch_cells, length-with_stretch, with_stretch_at, with_stretch_beside, with_stretch-set}
+
+-- the test of a window tells whether it is inside
+pub is_inside_decides : (width height : ℕ) (w : Window) → Decides (is_inside width height w) (IsInside width height w)
+is_inside_decides width height w = (
+  λ e. let p = and_parts _ _ e in (leb-true (w.left + w.width) width p.0, leb-true (w.top + w.height) height p.1),
+  λ p. and_from _ _ (le-leb (w.left + w.width) width p.0) (le-leb (w.top + w.height) height p.1),
+)
+
+-- a window's last pixel has a cell
+pub window_within : (count stride width height : ℕ) (w : Window) → Reaches count width height stride → IsInside width height w
+    → 0 < w.width → 0 < w.height → stride * w.top + w.left + (stride * (w.height - 1) + w.width) ≤ count
+window_within count stride width height w fits inside wide high =
+    let all : stride * (height - 1) + width ≤ count = fits (omega (arith, inside)) (omega (arith, inside)) in
+    let lines : w.top + (w.height - 1) ≤ height - 1 = omega (arith, inside) in
+    omega (arith, inside, all, mul-le-mul_left stride lines, mul-add stride w.top (w.height - 1))
+
+-- ---- which cells a window has
+
+-- a stretch of so many cells has a window's: where there is a pixel it begins at the corner and reaches the last one
+pub record HasWindow (count stride : ℕ) (w : Window) (s : Stretch) : Type 0 where
+  pub begins : 0 < w.width → 0 < w.height → s.start ≡ stride * w.top + w.left
+  pub reaches : Reaches s.len w.width w.height stride
+  pub within : s.start + s.len ≤ count
+
+-- a window is empty, or it has a column and a line
+is_empty_decides : (w : Window) → Decides (is_empty w) (0 < w.width → 0 < w.height → ⊥)
+is_empty_decides w = (λ e wide high. grind (arith, nat_tests), λ none. grind (arith, nat_tests))
+
+has_place : (w : Window) → is_empty w ≡ false → (0 < w.width) × (0 < w.height)
+has_place w some =
+    let p = or_parts (w.width == 0) (w.height == 0) some in
+    let wide = eqb-false w.width 0 p.0 in
+    let high = eqb-false w.height 0 p.1 in
+    (positive w.width wide, positive w.height high)
+  where
+    positive : (n : ℕ) → (n ≡ 0 → ⊥) → 0 < n
+    positive n some = omega arith
+
+-- so many cells from a window's corner have it, where they reach its last pixel and are there
+from_corner : (count stride : ℕ) (w : Window) (len : ℕ) → Reaches len w.width w.height stride → (0 < w.width → 0 < w.height → stride * w.top + w.left + len ≤ count)
+    → HasWindow count stride w (record { start = window_start stride w; len = if is_empty w then 0 else len })
+from_corner count stride w len reaches within =
+    elim (cases_Bool (is_empty w)) [
+      | inl empty ↦
+          let none = (is_empty_decides w).0 empty in
+          let start : window_start stride w ≡ 0 = cond-true (is_empty w) 0 (stride * w.top + w.left) empty in
+          let no_len : (if is_empty w then 0 else len) ≡ 0 = cond-true (is_empty w) 0 len empty in
+          record {
+            begins = λ wide high. absurd (none wide high);
+            reaches = λ wide high. absurd (none wide high);
+            within = rw (start, no_len) (omega arith);
+          }
+      | inr some ↦
+          let start : window_start stride w ≡ stride * w.top + w.left = cond-false (is_empty w) 0 (stride * w.top + w.left) some in
+          let all : (if is_empty w then 0 else len) ≡ len = cond-false (is_empty w) 0 len some in
+          record {
+            begins = λ wide high. start;
+            reaches = λ wide high. rw all (reaches wide high);
+            within = let p = has_place w some in rw (start, all) (within p.0 p.1);
+          }
+    ]
+
+-- the exact stretch has a window inside
+pub exact_has : (count stride width height : ℕ) (w : Window) → Reaches count width height stride → IsInside width height w → HasWindow count stride w (exact_stretch stride w)
+exact_has count stride width height w fits inside =
+    from_corner count stride w (stride * (w.height - 1) + w.width) (λ wide high. omega arith) (window_within count stride width height w fits inside)
+
+-- and so has the roomy stretch
+pub roomy_has : (count stride width height : ℕ) (w : Window) → width ≤ stride → Reaches count width height stride → IsInside width height w → HasWindow count stride w (roomy_stretch count stride w)
+roomy_has count stride width height w wide fits inside =
+    let exact : ℕ = stride * (w.height - 1) + w.width in
+    let all : ℕ = stride * w.height in
+    let room : Bool = nat_le (stride * w.top + w.left + all) count in
+    let enough : 0 < w.width → 0 < w.height → exact ≤ all = λ column line.
+    let last : w.height ≡ suc (w.height - 1) = omega arith in
+    omega (arith, inside, ap (λ n. stride * n) last ∙ mul-suc stride (w.height - 1)) in
+    from_corner count stride w (if room then all else exact)
+    (cond_both room all exact (λ n. Reaches n w.width w.height stride) (λ _. enough) (λ _ column line. omega arith))
+    (cond_both room all exact (λ n. 0 < w.width → 0 < w.height → stride * w.top + w.left + n ≤ count)
+    (λ e column line. leb-true (stride * w.top + w.left + all) count e)
+    (λ _. window_within count stride width height w fits inside))
+
+-- ---- what they show
+
+-- the window of a stretch as a layout of its own
+abbrev pub stretch_window : {T : Type 0} → Layout T → Window → Stretch → Layout T
+stretch_window l w s = layout (stretch_cells l.cells s) w.width w.height l.stride
+
+-- the image with other cells in the place of a stretch
+abbrev pub handed_on : {T : Type 0} → Layout T → Stretch → List T → Layout T
+handed_on l s others = record l { cells = with_stretch l.cells s others }
+
+module _ {T : Type 0} (l : Layout T) (w : Window) (s : Stretch) (has : HasWindow (length l.cells) l.stride w s) where
+  -- a window fits
+  pub window_fits : Fits (stretch_window l w s)
+  window_fits wide high = rw (length-stretch_cells l.cells s has.within) (has.reaches wide high)
+
+  -- a place's cell lies after the window's start by the cell that the window has for it
+  pub window_cell : (x y : ℕ) → x < w.width → y < w.height → s.start + (y * l.stride + x) ≡ cell_of l (w.left + x) (w.top + y)
+  window_cell x y column line =
+      omega (arith, has.begins (omega arith) (omega arith), add-mul w.top y l.stride, mul_comm l.stride w.top)
+
+  -- a window's place has the pixel of the summed place
+  pub window_pixel : (x y : ℕ) → x < w.width → y < w.height → pixel (stretch_window l w s) x y ≡ pixel l (w.left + x) (w.top + y)
+  window_pixel x y column line =
+      stretch_cell l.cells s (y * l.stride + x) (reached s.len w.width w.height l.stride x y has.reaches column line)
+      ∙ ap (slice_get l.cells) (window_cell x y column line)
+
+  -- a window shows the view
+  pub window_grid : IsInside l.width l.height w → grid_of (stretch_window l w s) ≡ window_view (grid_of l) w
+  window_grid inside =
+      same_grids w.width w.height (pixel (stretch_window l w s)) (λ x y. (grid_of l).pixel (w.left + x) (w.top + y)) (λ x y column line.
+      window_pixel x y column line ∙ sym (pixel_at l (w.left + x) (w.top + y) (omega (arith, inside)) (omega (arith, inside))))
+
+  -- a write at a window's place is a write at the summed place
+  pub window_written : (x y : ℕ) (value : T) → x < w.width → y < w.height
+      → handed_on l s (written (stretch_window l w s) x y value).cells ≡ written l (w.left + x) (w.top + y) value
+  window_written x y value column line =
+      ap (λ cells. record l { cells = cells })
+      (with_stretch-set l.cells s has.within (y * l.stride + x) value (reached s.len w.width w.height l.stride x y has.reaches column line)
+      ∙ ap (λ k. set l.cells k value) (window_cell x y column line))
+
+  module _ (others : List T) (same : SameOutside (stretch_window l w s) (layout others w.width w.height l.stride)) where
+    as_many : length others ≡ s.len
+    as_many = same.length_stays ∙ length-stretch_cells l.cells s has.within
+
+    -- each cell that is no place of the window stays
+    elsewhere : (k : ℕ) → ((x y : ℕ) → x < w.width → y < w.height → cell_of l (w.left + x) (w.top + y) ≢ k)
+        → slice_get (with_stretch l.cells s others) k ≡ slice_get l.cells k
+    elsewhere k none =
+        let beside = with_stretch_beside l.cells s others has.within as_many k in
+        elim (cases_lt k s.start) [
+          | inl before ↦ beside (inl before)
+          | inr from ↦ elim (cases_lt k (s.start + s.len)) [
+            | inl to ↦
+                let j : ℕ = k - s.start in
+                let there : s.start + j ≡ k = omega arith in
+                ap (slice_get (with_stretch l.cells s others)) (sym there)
+                ∙ with_stretch_at l.cells s others has.within j (omega (arith, as_many))
+                ∙ same.padding_stays j (λ x y column line e. none x y column line (sym (window_cell x y column line) ∙ ap (λ n. s.start + n) e ∙ there))
+                ∙ stretch_cell l.cells s j (omega arith)
+                ∙ ap (slice_get l.cells) there
+            | inr after ↦ beside (inr after)
+          ]
+        ]
+
+    outside_of : IsInside l.width l.height w → SameOutside l (handed_on l s others)
+    outside_of inside = record {
+      width_stays = refl;
+      height_stays = refl;
+      stride_stays = refl;
+      length_stays = length-with_stretch l.cells s others has.within as_many;
+      padding_stays = λ k padding. elsewhere k (λ x y column line. padding (w.left + x) (w.top + y) (omega (arith, inside)) (omega (arith, inside)));
+    }
+
+    grid_of_others : l.width ≤ l.stride → IsInside l.width l.height w
+        → grid_of (handed_on l s others) ≡ patch (grid_of l) w.left w.top (grid_of (layout others w.width w.height l.stride))
+    grid_of_others wide inside = is_patch (grid_of l) w.left w.top (grid_of (layout others w.width w.height l.stride)) (pixel (handed_on l s others)) in_window beside
+      where
+        in_window : (u v : ℕ) → u < l.width → v < l.height → covers w.left w.top w.width w.height u v ≡ true
+            → pixel (handed_on l s others) u v ≡ (grid_of (layout others w.width w.height l.stride)).pixel (u - w.left) (v - w.top)
+        in_window u v in_u in_v hit =
+            let c = (covers_decides w.left w.top w.width w.height u v).0 hit in
+            let x : ℕ = u - w.left in
+            let y : ℕ = v - w.top in
+            let same_u : w.left + x ≡ u = omega (arith, c) in
+            let same_v : w.top + y ≡ v = omega (arith, c) in
+            let column : x < w.width = omega (arith, c) in
+            let line : y < w.height = omega (arith, c) in
+            let there : cell_of l (w.left + x) (w.top + y) ≡ cell_of l u v = ap (cell_of l (w.left + x)) same_v ∙ ap (λ n. cell_of l n v) same_u in
+            ap (slice_get (with_stretch l.cells s others)) (sym (window_cell x y column line ∙ there))
+            ∙ with_stretch_at l.cells s others has.within (y * l.stride + x) (omega (arith, as_many, reached s.len w.width w.height l.stride x y has.reaches column line))
+            ∙ sym (pixel_at (layout others w.width w.height l.stride) x y column line)
+
+        beside : (u v : ℕ) → u < l.width → v < l.height → covers w.left w.top w.width w.height u v ≡ false → pixel (handed_on l s others) u v ≡ (grid_of l).pixel u v
+        beside u v in_u in_v miss =
+            let other : (x y : ℕ) → x < w.width → y < w.height → cell_of l (w.left + x) (w.top + y) ≢ cell_of l u v = λ x y column line e.
+            let one = same_from_place (w.top + y) (w.left + x) v u l.stride (omega (arith, inside)) (omega arith) e in
+            let hit = (covers_decides w.left w.top w.width w.height u v).1 (omega (arith, one), omega (arith, one), omega (arith, one), omega (arith, one)) in
+            true≢false (sym hit ∙ miss) in
+            elsewhere (cell_of l u v) other ∙ sym (pixel_at l u v in_u in_v)
+
+  -- a window with its outside as before is its new cells, with the old size and stride
+  same_layout : (n : Layout T) → SameOutside (stretch_window l w s) n → n ≡ layout n.cells w.width w.height l.stride
+  same_layout n same = λ i. layout n.cells (same.width_stays i) (same.height_stays i) (same.stride_stays i)
+
+  -- a window that keeps its outside and is put back leaves the parent's outside, the pixels beside the window among it
+  pub handed_on_outside : (n : Layout T) → SameOutside (stretch_window l w s) n → IsInside l.width l.height w → SameOutside l (handed_on l s n.cells)
+  handed_on_outside n same = outside_of n.cells (subst (SameOutside (stretch_window l w s)) (same_layout n same) same)
+
+  -- and patches the parent's grid with its own
+  pub handed_on_grid : (n : Layout T) → SameOutside (stretch_window l w s) n → l.width ≤ l.stride → IsInside l.width l.height w
+      → grid_of (handed_on l s n.cells) ≡ patch (grid_of l) w.left w.top (grid_of n)
+  handed_on_grid n same wide inside =
+      grid_of_others n.cells (subst (SameOutside (stretch_window l w s)) (same_layout n same) same) wide inside
+      ∙ ap (λ m. patch (grid_of l) w.left w.top (grid_of m)) (sym (same_layout n same))
+
+  -- so what patches the window patches the parent at the summed corner
+  pub handed_on_patch : (n : Layout T) → SameOutside (stretch_window l w s) n → l.width ≤ l.stride → IsInside l.width l.height w
+      → (x y : ℕ) (p : Grid T) → x + p.width ≤ w.width → y + p.height ≤ w.height → grid_of n ≡ patch (grid_of (stretch_window l w s)) x y p
+      → grid_of (handed_on l s n.cells) ≡ patch (grid_of l) (w.left + x) (w.top + y) p
+  handed_on_patch n same wide inside x y p across down e =
+      handed_on_grid n same wide inside
+      ∙ ap (patch (grid_of l) w.left w.top) (e ∙ ap (λ g. patch g x y p) (window_grid inside))
+      ∙ patch_of_view (grid_of l) w.left w.top w.width w.height x y p across down
+
+-- ---- the two windows of the definitions
+
+pub exact_fits : {T : Type 0} (l : Layout T) (w : Window) → Fits l → IsInside l.width l.height w → Fits (exact_window l w)
+exact_fits l w fits inside = window_fits l w (exact_stretch l.stride w) (exact_has (length l.cells) l.stride l.width l.height w fits inside)
+
+pub exact_grid : {T : Type 0} (l : Layout T) (w : Window) → Fits l → IsInside l.width l.height w → grid_of (exact_window l w) ≡ window_view (grid_of l) w
+exact_grid l w fits inside = window_grid l w (exact_stretch l.stride w) (exact_has (length l.cells) l.stride l.width l.height w fits inside) inside
+
+pub roomy_fits : {T : Type 0} (l : Layout T) (w : Window) → l.width ≤ l.stride → Fits l → IsInside l.width l.height w → Fits (roomy_window l w)
+roomy_fits l w wide fits inside = window_fits l w (roomy_stretch (length l.cells) l.stride w) (roomy_has (length l.cells) l.stride l.width l.height w wide fits inside)
+
+pub roomy_grid : {T : Type 0} (l : Layout T) (w : Window) → l.width ≤ l.stride → Fits l → IsInside l.width l.height w → grid_of (roomy_window l w) ≡ window_view (grid_of l) w
+roomy_grid l w wide fits inside = window_grid l w (roomy_stretch (length l.cells) l.stride w) (roomy_has (length l.cells) l.stride l.width l.height w wide fits inside) inside
