@@ -21,8 +21,8 @@ use denote.Struct.Declared.{shape}
 use denote.Struct.Struct.{within}
 use Rattle.imgref.specs.declared.img.Img.{Img}
 use Rattle.imgref.specs.contracts.img.Img.{the_row, the_type}
-use Rattle.imgref.specs.declared.window.Stretch.{Stretch}
-use Rattle.imgref.specs.contracts.window.Stretch as stretch
+use Rattle.imgref.specs.declared.window.Region.{Region}
+use Rattle.imgref.specs.contracts.window.Region as region
 
 abbrev pub img_val : ℕ × ℕ → ℕ → ℕ → ℕ → ℕ → Val
 img_val p n width height stride = vstruct (vcons (slice_val p n) (vcons (vint w32 width) (vcons (vint w32 height) (vcons (vint w64 stride) vnil))))
@@ -35,9 +35,13 @@ module _ (ℓ : Lifetime) (κ : Lft) (R : RattleType) where
   Cells = MutBor (List R.Denot)
 
   pub img_told : (x : Img Cells) (vs : List Val) → Is img_row x vs → (vs ≡ img_val x.buf.ref_ptr (length x.buf.now) x.width x.height x.stride ∷ []) × Room R (length x.buf.now) × (x.width < 2 ^ 32) × (x.height < 2 ^ 32) × (x.stride < 2 ^ 64)
-  img_told x vs s =
-      (s.1.0 ∙ (λ i. vstruct (of_list (s.1.1.0.0.0 i ++ (s.1.1.1.0.0 i ++ (s.1.1.1.1.0.0 i ++ (s.1.1.1.1.1.0.0 i ++ []))))) ∷ []),
-      s.1.1.0.0.1, s.1.1.1.0.1, s.1.1.1.1.0.1, s.1.1.1.1.1.0.1)
+  img_told x vs s = (
+    s.1.0 ∙ (λ i. vstruct (of_list (s.1.1.0.0.0 i ++ (s.1.1.1.0.0 i ++ (s.1.1.1.1.0.0 i ++ (s.1.1.1.1.1.0.0 i ++ []))))) ∷ []),
+    s.1.1.0.0.1,
+    s.1.1.1.0.1,
+    s.1.1.1.1.0.1,
+    s.1.1.1.1.1.0.1,
+  )
 
   module _ {M : Type 1} {𝓤 : Ura M} (𝓛 : Logic 𝓤) where
     -- the image of a slice and three numbers
@@ -52,11 +56,15 @@ module _ (ℓ : Lifetime) (κ : Lft) (R : RattleType) where
         fpack ! (Valss (MutSlice ℓ κ R ∷ u32 ∷ u32 ∷ usize ∷ [])) (within (shape (the_type (MutSlice ℓ κ R))) (x.buf, (x.width, (x.height, (x.stride, tt)))) (img_val p n x.width x.height x.stride ∷ []))
         (slice_val p n ∷ [], (vint w32 x.width ∷ [], (vint w32 x.height ∷ [], (vint w64 x.stride ∷ [], tt)))) $ done !
 
--- ---- a stretch by value
-abbrev pub stretch_val : Stretch → Val
-stretch_val r = vstruct (vcons (vint w64 r.start) (vcons (vint w64 r.len) (vcons (vint w32 r.width) (vcons (vint w32 r.height) vnil))))
+-- ---- a region by value
+abbrev pub region_val : Region → Val
+region_val r = vstruct (vcons (vint w64 r.start) (vcons (vint w64 r.len) (vcons (vint w32 r.width) (vcons (vint w32 r.height) vnil))))
 
-pub stretch_told : (r : Stretch) (vs : List Val) → Is stretch.the_row r vs → (vs ≡ stretch_val r ∷ []) × (r.start < 2 ^ 64) × (r.len < 2 ^ 64) × (r.width < 2 ^ 32) × (r.height < 2 ^ 32)
-stretch_told r vs s =
-    (s.1.0 ∙ (λ i. vstruct (of_list (s.1.1.0.0 i ++ (s.1.1.1.0.0 i ++ (s.1.1.1.1.0.0 i ++ (s.1.1.1.1.1.0.0 i ++ []))))) ∷ []),
-    s.1.1.0.1, s.1.1.1.0.1, s.1.1.1.1.0.1, s.1.1.1.1.1.0.1)
+pub region_told : (r : Region) (vs : List Val) → Is region.the_row r vs → (vs ≡ region_val r ∷ []) × (r.start < 2 ^ 64) × (r.len < 2 ^ 64) × (r.width < 2 ^ 32) × (r.height < 2 ^ 32)
+region_told r vs s = (
+  s.1.0 ∙ (λ i. vstruct (of_list (s.1.1.0.0 i ++ (s.1.1.1.0.0 i ++ (s.1.1.1.1.0.0 i ++ (s.1.1.1.1.1.0.0 i ++ []))))) ∷ []),
+  s.1.1.0.1,
+  s.1.1.1.0.1,
+  s.1.1.1.1.0.1,
+  s.1.1.1.1.1.0.1,
+)

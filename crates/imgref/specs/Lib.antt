@@ -1,6 +1,7 @@
-pub mod Image
-pub mod Layout
-pub mod Stretch
-pub mod Marks
+pub mod Containers
 pub mod Held
+pub mod Image
+pub mod Index
+pub mod Marks
 pub mod Pixels
+pub mod Window

@@ -1,7 +1,8 @@
-ghost use Rattle.std.specs.Prelude.{◌≡◌, ℕ, ◌+◌, ◌≤◌, ◌<◌, List, length, slice_range, slice_set};
+ghost use Rattle.std.specs.Prelude.{◌≡◌, refl, Bool, true, false, ℕ, ◌+◌, ◌-◌, ◌≤◌, ◌<◌, List, length, slice_range, slice_set};
 ghost use Rattle.std.specs.Borrow.{sem, Lends, Array};
 ghost use Rattle.std.specs.Vec.{with_items_from, with_item};
-ghost use Rattle.imgref.specs.Layout.{patched};
+ghost use Rattle.imgref.specs.Containers.{others_of_vec};
+ghost use Rattle.image_model.specs.Windows.{Stretch, stretch_cells, with_stretch};
 
 /// A container whose cells can be read as a slice.
 pub trait AsSlice {
@@ -13,17 +14,25 @@ pub trait AsSlice {
         ensures { result.now ≡ cells self.now };
 }
 
-/// A container whose cells can be written as a slice.
+/// A container whose cells can be written, a stretch at a time.
 pub trait AsMutSlice: AsSlice {
-    // The container with these cells from an index on.
-    ghost with_cells: { Self → ℕ → List Self.Item → Self };
+    ghost roomy_windows: { Bool };
 
-    // The cells from `start` to `end`. Once the borrow ends, the container has what was left there.
-    fn stretch_mut(&mut self, start: usize, end: usize) -> &mut [Self::Item]
-        requires start_le_end { start ≤ end }
-        requires in_bounds { end ≤ length (Self.cells self.old) }
-        ensures* writes_back { sem 𝓛 (Lends Self.row (Array Self.Item.row 0) self.entry result (with_cells self.old start)) }
-        ensures value { result.now ≡ slice_range (Self.cells self.old) start end };
+    /// The container with other cells in the place of a stretch.
+    ghost with_cells: { Self → Stretch → List Self.Item → Self };
+
+    /// Whether a window for writing takes whole strides where the container has them. Where this is false a window ends at its last pixel.
+    fn has_roomy_windows() -> bool
+        ensures { result ≡ roomy_windows };
+
+    /// The `len` cells from number `start` on. Once the borrow ends, the container has what was left there.
+    fn stretch_mut(&mut self, start: usize, len: usize) -> &mut [Self::Item]
+        requires in_bounds { start + len ≤ length (Self.cells self.old) }
+        ensures* writes_back { sem 𝓛 (Lends Self.row (Array Self.Item.row 0) self.entry result (with_cells self.old (record { start = start; len = len }))) }
+        ensures value { result.now ≡ stretch_cells (Self.cells self.old) (record { start = start; len = len }) };
+
+    /// As many cells in the place of a stretch leave every other cell.
+    ghost others_stay: { (c : Self) (s : Stretch) (ws : List Self.Item) → s.start + s.len ≤ length (Self.cells c) → length ws ≡ s.len → Self.cells (with_cells c s ws) ≡ with_stretch (Self.cells c) s ws };
 }
 
 impl<T> AsSlice for Vec<T> {
@@ -37,11 +46,19 @@ impl<T> AsSlice for Vec<T> {
 }
 
 impl<T> AsMutSlice for Vec<T> {
-    ghost with_cells = { with_items_from };
+    ghost roomy_windows = { false };
 
-    fn stretch_mut(&mut self, start: usize, end: usize) -> &mut [T] {
-        self.slice_mut(start..end)
+    ghost with_cells = { λ v s ws. with_items_from v s.start ws };
+
+    fn has_roomy_windows() -> bool {
+        false
     }
+
+    fn stretch_mut(&mut self, start: usize, len: usize) -> &mut [T] {
+        self.slice_mut(start..start + len)
+    }
+
+    ghost others_stay = { others_of_vec };
 }
 
 impl<'a, T> AsSlice for &'a [T] {
@@ -50,7 +67,7 @@ impl<'a, T> AsSlice for &'a [T] {
     ghost cells = { λ s. s.now };
 
     fn as_slice(&self) -> &[T] {
-        *self
+        &self[..]
     }
 }
 
@@ -65,11 +82,19 @@ impl<'a, T> AsSlice for &'a mut [T] {
 }
 
 impl<'a, T> AsMutSlice for &'a mut [T] {
-    ghost with_cells = { λ s start ws. record s { now = patched s.now start ws } };
+    ghost roomy_windows = { true };
 
-    fn stretch_mut(&mut self, start: usize, end: usize) -> &mut [T] {
-        &mut self[start..end]
+    ghost with_cells = { λ c s ws. record c { now = with_stretch c.now s ws } };
+
+    fn has_roomy_windows() -> bool {
+        true
     }
+
+    fn stretch_mut(&mut self, start: usize, len: usize) -> &mut [T] {
+        &mut self[start..start + len]
+    }
+
+    ghost others_stay = { λ c s ws within same. refl };
 }
 
 /// A container whose cells can be written one by one.
@@ -81,6 +106,9 @@ pub trait AsMutCell: AsSlice {
     fn cell_mut(&mut self, at: usize) -> &mut Self::Item
         requires in_bounds { at < length (Self.cells self.old) }
         ensures* writes_back { sem 𝓛 (Lends Self.row Self.Item.row self.entry result (with_cell self.old at)) };
+
+    /// Another cell at an index leaves every other cell.
+    ghost other_cells_stay: { (c : Self) (at : ℕ) (value : Self.Item) → at < length (Self.cells c) → Self.cells (with_cell c at value) ≡ slice_set (Self.cells c) at value };
 }
 
 impl<T> AsMutCell for Vec<T> {
@@ -89,12 +117,16 @@ impl<T> AsMutCell for Vec<T> {
     fn cell_mut(&mut self, at: usize) -> &mut T {
         &mut self[at]
     }
+
+    ghost other_cells_stay = { λ c at value within. refl };
 }
 
 impl<'a, T> AsMutCell for &'a mut [T] {
     ghost with_cell = { λ s at w. record s { now = slice_set s.now at w } };
 
     fn cell_mut(&mut self, at: usize) -> &mut T {
-        &mut self[at]
+        &mut (*self)[at]
     }
+
+    ghost other_cells_stay = { λ c at value within. refl };
 }

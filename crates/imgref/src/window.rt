@@ -1,41 +1,43 @@
-ghost use Rattle.std.specs.Prelude.{◌≡◌, ◌+◌, ◌-◌, ◌*◌, ◌^◌, ◌≤◌, ◌<◌, length, take, drop, slice_range};
+ghost use Rattle.std.specs.Prelude.{◌≡◌, ◌+◌, ◌-◌, ◌*◌, ◌^◌, ◌≤◌, ◌<◌, Bool, if◌then◌else◌, length};
 ghost use Rattle.std.specs.Borrow.{sem, follows, Array};
+ghost use Rattle.image_model.specs.Layout.{Fits, layout};
+ghost use Rattle.image_model.specs.Grid.{grid_of};
+ghost use Rattle.image_model.specs.Windows.{window, whole, window_view, IsInside, exact_stretch, roomy_stretch, stretch_cells, with_stretch, roomy_window, exact_window};
 ghost use Rattle.imgref.specs.contracts.img.Img.{the_row};
-ghost use Rattle.imgref.specs.Image.{buf_of, width_of, height_of, stride_of, with_buf};
-ghost use Rattle.imgref.specs.Stretch.{window_stretch};
-ghost use Rattle.imgref.specs.Layout.{Fits, HasWindow, with_stretch, window_start, roomy_len};
+ghost use Rattle.imgref.specs.Image.{buf_of, width_of, height_of, stride_of, with_buf, layout_by, vec_layout, ref_layout, mut_layout};
+ghost use Rattle.imgref.specs.Window.{stretch_of, window_of, IsWithin, region};
 
 use crate::containers::{AsMutSlice, AsSlice};
-use crate::img::{Img, ImgRefMut};
+use crate::img::{Img, ImgRef, ImgRefMut, ImgVec};
 
-/// A stretch of an image's cells, with the size of the window that it holds.
+/// A stretch of an image's cells, and the size of the window that it holds.
 #[derive(Clone, Copy)]
-pub struct Stretch {
-    pub start: usize,
-    pub len: usize,
-    pub width: u32,
-    pub height: u32,
+pub(crate) struct Region {
+    pub(crate) start: usize,
+    pub(crate) len: usize,
+    pub(crate) width: u32,
+    pub(crate) height: u32,
 }
 
-/// The cells that a window takes of `cells` cells: whole strides where they are there.
-pub(crate) fn roomy_stretch(
+/// The stretch of a window: whole strides where that is asked for and `cells` cells have them, and else up to its last pixel. An empty window has no cells, and its corner is never computed.
+pub(crate) fn window_region(
+    roomy: bool,
     cells: usize,
     stride: usize,
-    parent_width: u32,
-    parent_height: u32,
     left: usize,
     top: usize,
     width: usize,
     height: usize,
-) -> Stretch
-    requires within { parent_width ≤ stride }
-    requires fits { Fits cells parent_width parent_height stride }
-    requires inside { HasWindow parent_width parent_height left top width height }
-    ensures value { result ≡ window_stretch cells stride left top width height }
-    ensures inside { result.start + result.len ≤ cells }
+) -> Region
+    requires narrow { width ≤ stride }
+    requires width_fits { width < 2 ^ 32 }
+    requires height_fits { height < 2 ^ 32 }
+    requires room { IsWithin cells (exact_stretch stride (window left top width height)) }
+    ensures value { result ≡ region (stretch_of roomy cells stride (window left top width height)) (window left top width height) }
+    ensures inside { IsWithin cells (stretch_of roomy cells stride (window left top width height)) }
 {
     if width == 0 || height == 0 {
-        return Stretch {
+        return Region {
             start: 0,
             len: 0,
             width: width as u32,
@@ -43,10 +45,14 @@ pub(crate) fn roomy_stretch(
         };
     }
     let start = stride * top + left;
-    let room = cells - start;
     let exact = stride * (height - 1) + width;
-    let len = if room - exact >= stride - width { exact + (stride - width) } else { exact };
-    Stretch {
+    let spare = stride - width;
+    let len = if roomy && cells - start - exact >= spare {
+        exact + spare
+    } else {
+        exact
+    };
+    Region {
         start,
         len,
         width: width as u32,
@@ -54,15 +60,37 @@ pub(crate) fn roomy_stretch(
     }
 }
 
-/// The window whose cells are the `len` from `start`.
-pub(crate) fn into_stretch<'s, T>(img: ImgRefMut<'s, T>, start: usize, len: usize, width: u32, height: u32) -> ImgRefMut<'s, T>
+/// The roomy stretch of a window.
+fn roomy_region(
+    cells: usize,
+    stride: usize,
+    left: usize,
+    top: usize,
+    width: usize,
+    height: usize,
+) -> Region
+    requires narrow { width ≤ stride }
+    requires width_fits { width < 2 ^ 32 }
+    requires height_fits { height < 2 ^ 32 }
+    requires room { IsWithin cells (exact_stretch stride (window left top width height)) }
+    ensures value { result ≡ region (roomy_stretch cells stride (window left top width height)) (window left top width height) }
+    ensures inside { IsWithin cells (roomy_stretch cells stride (window left top width height)) }
+{
+    window_region(true, cells, stride, left, top, width, height)
+}
+
+/// The image cut down to the window whose cells are the `len` from number `start` on.
+fn into_stretch<'s, T>(
+    img: ImgRefMut<'s, T>,
+    start: usize,
+    len: usize,
+    width: u32,
+    height: u32,
+) -> ImgRefMut<'s, T>
     requires in_bounds { start + len ≤ length (buf_of img).now }
-    requires within { width ≤ width_of img }
-    ensures* hands_on { sem 𝓛 (follows (Array T.row 0) (Array T.row 0) (buf_of img.entry).ghost_name (buf_of result).ghost_name (with_stretch (buf_of img.entry).now start len)) }
-    ensures cells { (buf_of result).now ≡ take len (drop start (buf_of img.entry).now) }
-    ensures width { width_of result ≡ width }
-    ensures height { height_of result ≡ height }
-    ensures stride { stride_of result ≡ stride_of img.entry }
+    requires narrow { width ≤ width_of img }
+    ensures* hands_on { sem 𝓛 (follows (Array T.row 0) (Array T.row 0) (buf_of img.entry).ghost_name (buf_of result).ghost_name (with_stretch (buf_of img.entry).now (record { start = start; len = len }))) }
+    ensures layout { mut_layout result ≡ layout (stretch_cells (buf_of img.entry).now (record { start = start; len = len })) width height (stride_of img.entry) }
 {
     let Img {
         buf,
@@ -79,69 +107,137 @@ pub(crate) fn into_stretch<'s, T>(img: ImgRefMut<'s, T>, start: usize, len: usiz
     }
 }
 
-impl<'s, T> Img<&'s mut [T]> {
-    /// The window with its corner at `left`, `top`, in place of the image.
-    pub fn into_sub_image_mut(self, left: usize, top: usize, width: usize, height: usize) -> ImgRefMut<'s, T>
-        requires fits { Fits (length (buf_of self).now) (width_of self) (height_of self) (stride_of self) }
-        requires inside { HasWindow (width_of self) (height_of self) left top width height }
-        ensures* hands_on { sem 𝓛 (follows (Array T.row 0) (Array T.row 0) (buf_of self.entry).ghost_name (buf_of result).ghost_name (with_stretch (buf_of self.entry).now (window_start (stride_of self.entry) left top width height) (roomy_len (length (buf_of self.entry).now) (stride_of self.entry) left top width height))) }
-        ensures cells { (buf_of result).now ≡ take (roomy_len (length (buf_of self.entry).now) (stride_of self.entry) left top width height) (drop (window_start (stride_of self.entry) left top width height) (buf_of self.entry).now) }
-        ensures width { width_of result ≡ width }
-        ensures height { height_of result ≡ height }
-        ensures stride { stride_of result ≡ stride_of self.entry }
+/// The window that a region of shared cells is.
+fn shared_window<'s, T>(cells: &'s [T], region: Region, stride: usize) -> ImgRef<'s, T>
+    requires positive { 1 ≤ stride }
+    requires narrow { region.width ≤ stride }
+    requires in_bounds { region.start + region.len ≤ length cells.now }
+    ensures { ref_layout result ≡ layout (stretch_cells cells.now (record { start = region.start; len = region.len })) region.width region.height stride }
+{
+    Img {
+        buf: &cells[region.start..region.start + region.len],
+        width: region.width,
+        height: region.height,
+        stride,
+    }
+}
+
+impl<C: AsSlice> Img<C> {
+    /// The stretch of a window, where the image fits and the window is inside.
+    fn region(&self, roomy: bool, left: usize, top: usize, width: usize, height: usize) -> Region
+        requires fits { Fits (layout_by C.cells self.now) }
+        requires inside { IsInside (width_of self.now) (height_of self.now) (window left top width height) }
+        ensures value { result ≡ region (stretch_of roomy (length (C.cells (buf_of self.now))) (stride_of self.now) (window left top width height)) (window left top width height) }
+        ensures inside { IsWithin (length (C.cells (buf_of self.now))) (stretch_of roomy (length (C.cells (buf_of self.now))) (stride_of self.now) (window left top width height)) }
+        ensures narrow { result.width ≤ stride_of self.now }
+        ensures width_fits { result.width < 2 ^ 32 }
+        ensures height_fits { result.height < 2 ^ 32 }
     {
-        let stretch = roomy_stretch(self.buf.len(), self.stride, self.width, self.height, left, top, width, height);
-        into_stretch(self, stretch.start, stretch.len, stretch.width, stretch.height)
+        let cells = self.buf.as_slice().len();
+        let _width = self.width;
+        let _height = self.height;
+        window_region(roomy, cells, self.stride, left, top, width, height)
+    }
+}
+
+impl<'s, T> Img<&'s [T]> {
+    /// The window with its corner at `left`, `top`: whole strides of cells where the image has them.
+    pub fn sub_image(&self, left: usize, top: usize, width: usize, height: usize) -> ImgRef<'s, T>
+        requires fits { Fits (ref_layout self.now) }
+        requires inside { IsInside (width_of self.now) (height_of self.now) (window left top width height) }
+        ensures layout { ref_layout result ≡ roomy_window (ref_layout self.now) (window left top width height) }
+        ensures fits { Fits (ref_layout result) }
+        ensures view { grid_of (ref_layout result) ≡ window_view (grid_of (ref_layout self.now)) (window left top width height) }
+    {
+        let window = self.region(true, left, top, width, height);
+        shared_window(self.buf, window, self.stride)
+    }
+}
+
+impl<T> Img<Vec<T>> {
+    /// The window with its corner at `left`, `top`: whole strides of cells where the image has them.
+    pub fn sub_image(&self, left: usize, top: usize, width: usize, height: usize) -> ImgRef<'_, T>
+        requires fits { Fits (vec_layout self.now) }
+        requires inside { IsInside (width_of self.now) (height_of self.now) (window left top width height) }
+        ensures layout { ref_layout result ≡ roomy_window (vec_layout self.now) (window left top width height) }
+        ensures fits { Fits (ref_layout result) }
+        ensures view { grid_of (ref_layout result) ≡ window_view (grid_of (vec_layout self.now)) (window left top width height) }
+    {
+        let region = self.region(true, left, top, width, height);
+        shared_window(self.buf.as_slice(), region, self.stride)
+    }
+
+    /// The whole image, shared, with its whole buffer.
+    pub fn as_ref(&self) -> ImgRef<'_, T>
+        ensures { ref_layout result ≡ vec_layout self.now }
+    {
+        Img {
+            buf: self.buf.as_slice(),
+            width: self.width,
+            height: self.height,
+            stride: self.stride,
+        }
+    }
+}
+
+impl<'s, T> Img<&'s mut [T]> {
+    /// The window with its corner at `left`, `top`, for reading: whole strides of cells where the image has them.
+    pub fn sub_image(&self, left: usize, top: usize, width: usize, height: usize) -> ImgRef<'_, T>
+        requires fits { Fits (mut_layout self.now) }
+        requires inside { IsInside (width_of self.now) (height_of self.now) (window left top width height) }
+        ensures layout { ref_layout result ≡ roomy_window (mut_layout self.now) (window left top width height) }
+        ensures fits { Fits (ref_layout result) }
+        ensures view { grid_of (ref_layout result) ≡ window_view (grid_of (mut_layout self.now)) (window left top width height) }
+    {
+        let part = self.region(true, left, top, width, height);
+        shared_window(&*self.buf, part, self.stride)
+    }
+
+    /// The whole image, shared, with its whole buffer.
+    pub fn as_ref(&self) -> ImgRef<'_, T>
+        ensures { ref_layout result ≡ mut_layout self.now }
+    {
+        Img {
+            buf: &*self.buf,
+            width: self.width,
+            height: self.height,
+            stride: self.stride,
+        }
+    }
+}
+
+impl<'s, T> Img<&'s mut [T]> {
+    /// The image cut down to the window with its corner at `left`, `top`: whole strides of cells where the image has them.
+    pub fn into_sub_image_mut(
+        self,
+        left: usize,
+        top: usize,
+        width: usize,
+        height: usize,
+    ) -> ImgRefMut<'s, T>
+        requires fits { Fits (mut_layout self) }
+        requires inside { IsInside (width_of self) (height_of self) (window left top width height) }
+        ensures* hands_on { sem 𝓛 (follows (Array T.row 0) (Array T.row 0) (buf_of self.entry).ghost_name (buf_of result).ghost_name (with_stretch (buf_of self.entry).now (roomy_stretch (length (buf_of self.entry).now) (stride_of self.entry) (window left top width height)))) }
+        ensures layout { mut_layout result ≡ roomy_window (mut_layout self.entry) (window left top width height) }
+        ensures fits { Fits (mut_layout result) }
+        ensures view { grid_of (mut_layout result) ≡ window_view (grid_of (mut_layout self.entry)) (window left top width height) }
+    {
+        let region = roomy_region(self.buf.len(), self.stride, left, top, width, height);
+        into_stretch(self, region.start, region.len, region.width, region.height)
     }
 }
 
 impl<C: AsMutSlice> Img<C> {
-    /// The whole image, for writing.
+    /// The whole image, for writing, with its whole buffer.
     pub fn as_mut(&mut self) -> Img<&mut [C::Item]>
-        ensures* hands_on { sem 𝓛 (follows (the_row C.row) (Array C.Item.row 0) self.entry.ghost_name (buf_of result).ghost_name (λ w. with_buf self.old (C.with_cells (buf_of self.old) 0 w))) }
-        ensures cells { (buf_of result).now ≡ C.AsSlice.cells (buf_of self.old) }
-        ensures width { width_of result ≡ width_of self.old }
-        ensures height { height_of result ≡ height_of self.old }
-        ensures stride { stride_of result ≡ stride_of self.old }
+        ensures* hands_on { sem 𝓛 (follows (the_row C.row) (Array C.Item.row 0) self.entry.ghost_name (buf_of result).ghost_name (λ ws. with_buf self.old (C.with_cells (buf_of self.old) (whole (C.AsSlice.cells (buf_of self.old))) ws))) }
+        ensures layout { mut_layout result ≡ layout_by C.AsSlice.cells self.old }
     {
         let width = self.width;
         let height = self.height;
         let stride = self.stride;
-        let end = self.buf.as_slice().len();
-        let buf = self.buf.stretch_mut(0, end);
-        Img {
-            buf,
-            width,
-            height,
-            stride,
-        }
-    }
-}
-
-impl<C: AsMutSlice> Img<C> {
-    // The cells from `start` to `end`, for a window.
-    pub fn stretch_cells(&mut self, start: usize, end: usize) -> &mut [C::Item]
-        requires start_le_end { start ≤ end }
-        requires in_bounds { end ≤ length (C.AsSlice.cells (buf_of self.old)) }
-        ensures* hands_on { sem 𝓛 (follows (the_row C.row) (Array C.Item.row 0) self.entry.ghost_name result.ghost_name (λ w. with_buf self.old (C.with_cells (buf_of self.old) start w))) }
-        ensures cells { result.now ≡ slice_range (C.AsSlice.cells (buf_of self.old)) start end }
-    {
-        self.buf.stretch_mut(start, end)
-    }
-
-    // The window whose cells are those from `start` to `end`.
-    pub fn stretch_window(&mut self, start: usize, end: usize, width: u32, height: u32) -> Img<&mut [C::Item]>
-        requires start_le_end { start ≤ end }
-        requires in_bounds { end ≤ length (C.AsSlice.cells (buf_of self.old)) }
-        requires within { width ≤ width_of self.old }
-        ensures* hands_on { sem 𝓛 (follows (the_row C.row) (Array C.Item.row 0) self.entry.ghost_name (buf_of result).ghost_name (λ w. with_buf self.old (C.with_cells (buf_of self.old) start w))) }
-        ensures cells { (buf_of result).now ≡ slice_range (C.AsSlice.cells (buf_of self.old)) start end }
-        ensures width { width_of result ≡ width }
-        ensures height { height_of result ≡ height }
-        ensures stride { stride_of result ≡ stride_of self.old }
-    {
-        let stride = self.stride;
-        let buf = self.buf.stretch_mut(start, end);
+        let len = self.buf.as_slice().len();
+        let buf = self.buf.stretch_mut(0, len);
         Img {
             buf,
             width,
@@ -150,18 +246,54 @@ impl<C: AsMutSlice> Img<C> {
         }
     }
 
-    // The cells, width, height and stride of a window.
-    pub fn stretch_parts(&mut self, start: usize, end: usize, width: usize, height: usize) -> (&mut [C::Item], usize, usize, usize)
-        requires start_le_end { start ≤ end }
-        requires in_bounds { end ≤ length (C.AsSlice.cells (buf_of self.old)) }
-        ensures* hands_on { sem 𝓛 (follows (the_row C.row) (Array C.Item.row 0) self.entry.ghost_name result.0.ghost_name (λ w. with_buf self.old (C.with_cells (buf_of self.old) start w))) }
-        ensures cells { result.0.now ≡ slice_range (C.AsSlice.cells (buf_of self.old)) start end }
-        ensures width { result.1 ≡ width }
-        ensures height { result.2 ≡ height }
-        ensures stride { result.3 ≡ stride_of self.old }
+    /// The window with its corner at `left`, `top`, for writing.
+    pub fn sub_image_mut(
+        &mut self,
+        left: usize,
+        top: usize,
+        width: usize,
+        height: usize,
+    ) -> Img<&mut [C::Item]>
+        requires fits { Fits (layout_by C.AsSlice.cells self.old) }
+        requires inside { IsInside (width_of self.old) (height_of self.old) (window left top width height) }
+        ensures* hands_on { sem 𝓛 (follows (the_row C.row) (Array C.Item.row 0) self.entry.ghost_name (buf_of result).ghost_name (λ ws. with_buf self.old (C.with_cells (buf_of self.old) (stretch_of C.roomy_windows (length (C.AsSlice.cells (buf_of self.old))) (stride_of self.old) (window left top width height)) ws))) }
+        ensures layout { mut_layout result ≡ window_of C.roomy_windows (layout_by C.AsSlice.cells self.old) (window left top width height) }
+        ensures fits { Fits (mut_layout result) }
+        ensures view { grid_of (mut_layout result) ≡ window_view (grid_of (layout_by C.AsSlice.cells self.old)) (window left top width height) }
     {
+        let region = self.region(C::has_roomy_windows(), left, top, width, height);
         let stride = self.stride;
-        let cells = self.buf.stretch_mut(start, end);
-        (cells, width, height, stride)
+        let buf = self.buf.stretch_mut(region.start, region.len);
+        Img {
+            buf,
+            width: region.width,
+            height: region.height,
+            stride,
+        }
+    }
+
+    /// The window with its corner at `left`, `top`, for writing, as its cells, its width, its height and its stride.
+    pub fn window_parts_mut(
+        &mut self,
+        left: usize,
+        top: usize,
+        width: usize,
+        height: usize,
+    ) -> (&mut [C::Item], usize, usize, usize)
+        requires fits { Fits (layout_by C.AsSlice.cells self.old) }
+        requires inside { IsInside (width_of self.old) (height_of self.old) (window left top width height) }
+        ensures* hands_on { sem 𝓛 (follows (the_row C.row) (Array C.Item.row 0) self.entry.ghost_name result.0.ghost_name (λ ws. with_buf self.old (C.with_cells (buf_of self.old) (stretch_of C.roomy_windows (length (C.AsSlice.cells (buf_of self.old))) (stride_of self.old) (window left top width height)) ws))) }
+        ensures layout { layout result.0.now result.1 result.2 result.3 ≡ window_of C.roomy_windows (layout_by C.AsSlice.cells self.old) (window left top width height) }
+        ensures positive { 1 ≤ result.3 }
+        ensures narrow { result.1 ≤ result.3 }
+        ensures width_fits { result.1 < 2 ^ 32 }
+        ensures height_fits { result.2 < 2 ^ 32 }
+        ensures fits { Fits (layout result.0.now result.1 result.2 result.3) }
+        ensures view { grid_of (layout result.0.now result.1 result.2 result.3) ≡ window_view (grid_of (layout_by C.AsSlice.cells self.old)) (window left top width height) }
+    {
+        let part = self.region(C::has_roomy_windows(), left, top, width, height);
+        let stride = self.stride;
+        let cells = self.buf.stretch_mut(part.start, part.len);
+        (cells, part.width as usize, part.height as usize, stride)
     }
 }

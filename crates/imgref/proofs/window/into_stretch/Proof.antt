@@ -29,6 +29,7 @@ use denote.Steps.{nothing, heard}
 use denote.Triple.Walked.{Stays, stay_dropped, walk_of, Goes-dropped}
 use borrow.Table.Elements.{at, at_mul, length-take-le}
 use Rattle.std.proofs.raw_atomic.Walks.{proved_at, leaves}
+use Rattle.imgref.specs.Image.{mut_layout}
 use Rattle.imgref.specs.declared.img.Img.{Img}
 use Rattle.imgref.proofs.Values.{img_val, img_row, img_told, img_made}
 use Rattle.imgref.proofs.Parts.{uncapped, cut_at, part_lent, lends_part}
@@ -121,6 +122,6 @@ into_stretch_spec 𝓤 𝓛 𝓜 𝓡 wired T L =
     -- [the image; the token of κ; what follows; the token of κT; nothing]
     move ! (3 ∷ 4 ∷ []) $ join ! $ move ! (2 ∷ 0 ∷ []) $ join ! $
     nothing ! $ nothing ! $ fjoin ! $ nothing ! $ fjoin ! $ nothing ! $ fjoin ! $ nothing ! $ fjoin ! $ nothing ! $ fjoin ! $
-    use0 𝓛 (raw (fact 𝓤 (img.stride ≡ img.stride))) (fact_i 𝓤 (img.stride ≡ img.stride) (emp 𝓤) refl) $ use0 𝓛 (raw (fact 𝓤 (height ≡ height))) (fact_i 𝓤 (height ≡ height) (emp 𝓤) refl) $ join ! $ use0 𝓛 (raw (fact 𝓤 (width ≡ width))) (fact_i 𝓤 (width ≡ width) (emp 𝓤) refl) $ join ! $ use0 𝓛 (raw (fact 𝓤 (mid ≡ mid))) (fact_i 𝓤 (mid ≡ mid) (emp 𝓤) refl) $ join ! $
+    use0 𝓛 (raw (fact 𝓤 (mut_layout out ≡ mut_layout out))) (fact_i 𝓤 (mut_layout out ≡ mut_layout out) (emp 𝓤) refl) $
     move ! (4 ∷ 0 ∷ []) $ join ! $ move ! (2 ∷ 1 ∷ 3 ∷ 0 ∷ []) $
     by ! (leaves 𝓛 En stays c z told_out out ((tt, tt), (tt, (tt, (tt, (tt, tt))))) (tt, (tt, (tt, (tt, (tt, tt)))))))))))))

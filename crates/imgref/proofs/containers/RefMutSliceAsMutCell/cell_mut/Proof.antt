@@ -10,7 +10,6 @@ use borrow.Rule.Slice.AtParam.{inhabits}
 use types.Follow.{after}
 use types.Hole.{here}
 use denote.Slice.{heres}
-
 use seplogic.Ra.Ura.{Ura}
 use base.Fraction.{full_share}
 use base.Logic.{SProp, ent, sep, ex}

@@ -1,28 +1,23 @@
--- `&mut self[start..end]` at a `&mut &mut [T]`: a stretch of the inner slice is lent, and the outer reference follows it. A walk of its MIR by hand.
+-- `&mut self[start..start + len]` at a `&mut &mut [T]`: a stretch of the inner slice is lent, and the outer reference follows it. A walk of its MIR by hand.
 use mathlib.Core.Path.{◌≡◌, refl, sym, ap, subst, ◌∙◌}
-use Prim.Native.Nat.{ℕ, zero, suc, ◌+◌, ◌-◌, ◌*◌, ◌^◌, ◌<◌, ◌≤◌}
-use native.Mathlib.Nat.{mul-le-mul_right, zero-mul, suc-mul}
+use Prim.Native.Nat.{ℕ, ◌+◌, ◌-◌, ◌*◌, ◌^◌, ◌<◌, ◌≤◌}
+use native.Mathlib.Nat.{mul-le-mul_right}
 use native.Mathlib.Omega.{arith}
 use mathlib.Core.List.{List, [], ◌∷◌, ◌++◌}
-use lib.ListN.{length, take, drop as drop_list, take-append-drop, length-drop, length-append}
+use lib.ListN.{length, take, drop as drop_list, length-drop}
 use seplogic.Ra.Ura.{Ura}
 use base.Fraction.{full_share}
-use base.Logic.{SProp, ent, sep, ex}
-use base.Stored.{coded_list}
-use base.Fml.{Lft, GName, Share, ftrue, flft, fobs, fbor, fat}
-use mir.Syntax.{Args, Fn, Ty, Lifetime, named, erased, mut, ty_ref, ty_param, w64, a_type}
+use base.Logic.{SProp, ent}
+use base.Fml.{Lft, GName, Share, ftrue, flft, fat}
+use mir.Syntax.{Args, Fn, Ty, named, erased, mut, ty_ref, ty_param, w64, a_type}
 use mir.MapTy.{inst_fn}
 use mir.Val.{Val, vint, vptr}
-use prog.Memory.{Memory, size, capped}
-use prog.Capped.{capped_is}
+use prog.Memory.{Memory, size}
 use prog.Routine.{Routine}
 use prog.Wp.{Calls, Loops, WpFn, Tables}
-use types.Logic.{Logic, sem}
-use types.SemTy.{cells, Arr}
-use types.SemTy.{Body as Borrowed}
-use types.Follow.{takes_part}
+use types.Logic.{Logic}
 use types.Mut.{open_ref, close_ref}
-use types.Kit.{Item, ‵, ◌⊛◌, raw, given, some, later, ◌$◌, ◌∵◌, !, qed, by, move, keep, drop, split, split3, join, group, learn, fsplit, fsplit3, fjoin, fjoin3, feq_i, feq_l, flt_l, flt_i, rewrite, updating, use1, use2, use3, await, pick, now, show, suffices, frame, done}
+use types.Kit.{Item, ‵, ◌⊛◌, raw, given, some, later, ◌$◌, ◌∵◌, !, qed, by, move, keep, drop, split, split3, join, learn, fsplit, fsplit3, fjoin, fjoin3, feq_i, feq_l, flt_l, flt_i, rewrite, use1, use2, use3, await, pick, suffices, frame, done}
 use types.Part.{whole, sub, look_in, agg}
 use types.Run.{stop, fld, hop, load, addr, bin, of_opd, size_word, and_then, no_more, returns, enter}
 use types.ByLocal.{alloc_all, pass_all, free_all, look_at, get, get_in, through, is, sets}
@@ -35,7 +30,6 @@ use denote.Array.{Array}
 use denote.Builtin.{usize}
 use denote.Exit.{yes, no}
 use denote.Follow.{follows, follows_then}
-use denote.FollowSlice.{heres_id, slice_of}
 use denote.Memory.{mem, part_at}
 use denote.Param.{param, layout, layouts}
 use denote.Plain.{uint_vals, uint_Tells}
@@ -50,78 +44,13 @@ use denote.Triple.Entry.{on_entry}
 use denote.Triple.Spec.{Meets, triple_of}
 use denote.Triple.Table.{entered}
 use denote.Triple.Walked.{says, Stays, stay_dropped, walk_of, ends_at, walked, Goes-dropped, Goes-spent_ref, walk_Meets}
-use borrow.Table.Elements.{at, at_mul, cut_app, join_app, length-take-le}
+use borrow.Table.Elements.{at, at_mul, length-take-le}
 use borrow.Table.OneValue.{part_out_at, part_in_at}
-use Rattle.imgref.specs.Layout.{patched}
+use Rattle.imgref.proofs.Parts.{uncapped, cut_at, part_lent, lends_part}
 use Rattle.imgref.specs.contracts.containers.RefMutSliceAsMutSlice.stretch_mut as F
 use Rattle.imgref.specs.contracts.containers.RefMutSliceAsMutSlice.stretch_mut.Key.{name as #self}
 use Rattle.imgref.proofs.containers.RefMutSliceAsMutSlice.stretch_mut.Statement as stated
 use Rattle.imgref.proofs.containers.RefMutSliceAsMutSlice.stretch_mut.Code as code
-
--- where the product fits a word, the count is zero or the size fits too
-uncapped : (i k : ℕ) → i * k < 2 ^ 64 → i * capped k ≡ i * k
-uncapped zero k h = zero-mul (capped k) ∙ sym (zero-mul k)
-uncapped (suc i) k h = let step = suc-mul i k in ap (λ (j : ℕ). suc i * j) (capped_is k (omega arith))
-
--- a list is its first i elements, the next n, and the rest
-cut_at : {A : Type 0} (i n : ℕ) (xs : List A) → xs ≡ take i xs ++ (take n (drop_list i xs) ++ drop_list n (drop_list i xs))
-cut_at {A} i n xs = sym (take-append-drop i xs) ∙ ap (λ (l : List A). take i xs ++ l) (sym (take-append-drop n (drop_list i xs)))
-
--- ---- the loan of n elements from index i on
-module _ {M : Type 1} {𝓤 : Ura M} (𝓛 : Logic 𝓤) (ℓ : Lifetime) (κ : Lft) (q : Share) (b o : ℕ) (γ : GName) (R : RattleType)
-    (xs : List R.Denot) (i n : ℕ) (within : i + n ≤ length xs) (p : ℕ) (on : at o (mem R).size (length (take i xs)) ≡ p) (rm : Room R (length (take n (drop_list i xs)))) where
-  open 𝓛 use {H, A}
-
-  abbrev mid : List R.Denot
-  mid = take n (drop_list i xs)
-
-  abbrev rest : ℕ → List R.Denot
-  rest k = drop_list k (drop_list i xs)
-
-  abbrev part_lent : GName → Item 𝓤
-  part_lent δ = ‵ ((MutSlice ℓ κ R).own_val (record { ref_ptr = (b, p); ghost_name = δ; now = mid }) (slice_val (b, p) (length mid) ∷ [])) ⊛ ‵ (flft κ q) ⊛ ‵ (follows (Array R 0) (Array R 0) γ δ (patched xs i))
-
-  abbrev PartLent : GName → SProp 𝓤
-  PartLent δ = sep 𝓤 (sem 𝓛 ((MutSlice ℓ κ R).own_val (record { ref_ptr = (b, p); ghost_name = δ; now = mid }) (slice_val (b, p) (length mid) ∷ []))) (sep 𝓤 (A.lft κ q) (sem 𝓛 (follows (Array R 0) (Array R 0) γ δ (patched xs i))))
-
-  abbrev Others : SProp 𝓤
-  Others = sep 𝓤 (sem 𝓛 (cells (mem R) (take i xs) b o)) (sem 𝓛 (cells (mem R) (rest n) b (at p (mem R).size n)))
-
-  front_long : length (take i xs) ≡ i
-  front_long = length-take-le i xs (omega arith)
-
-  mid_long : length mid ≡ n
-  mid_long = let left = length-drop i xs in length-take-le n (drop_list i xs) (omega arith)
-
-  put_back : (ws : List R.Denot) → ent 𝓤 (sep 𝓤 (sem 𝓛 ((Arr (mem R) (length mid)).own_at ws b p)) Others) (sem 𝓛 ((Arr (mem R) (length xs)).own_at (patched xs i ws) b o))
-  put_back ws = qed 𝓛 (‵ ((Arr (mem R) (length mid)).own_at ws b p) ∷ ‵ (cells (mem R) (take i xs) b o) ∷ ‵ (cells (mem R) (rest n) b (at p (mem R).size n)) ∷ []) ∵
-      fsplit ! $ feq_l ! (λ e.
-      let one = front_long in
-      let same : length ws ≡ n = e ∙ mid_long in
-      let tail : List R.Denot = rest (length ws) in
-      let left : length (drop_list i xs) ≡ length xs - i = length-drop i xs in
-      let last : length tail ≡ length (drop_list i xs) - length ws = length-drop (length ws) (drop_list i xs) in
-      let all : length (patched xs i ws) ≡ length (take i xs) + length (ws ++ tail) = length-append (take i xs) (ws ++ tail) in
-      let inner : length (ws ++ tail) ≡ length ws + length tail = length-append ws tail in
-      rewrite ! 2 (λ (k : ℕ). ‵ (cells (mem R) (rest k) b (at p (mem R).size k))) (sym same) refl $ move ! (0 ∷ 2 ∷ []) $
-      use2 𝓛 (‵ (cells (mem R) (ws ++ tail) b p)) (join_app 𝓛 (mem R) ws tail b p) $
-      rewrite ! 0 (λ (k : ℕ). ‵ (cells (mem R) (ws ++ tail) b k)) (sym on) refl $ move ! (1 ∷ 0 ∷ []) $
-      use2 𝓛 (‵ (cells (mem R) (patched xs i ws) b o)) (join_app 𝓛 (mem R) (take i xs) (ws ++ tail) b o) $
-      feq_i ! ℕ (length (patched xs i ws)) (length xs) (omega arith) $ fjoin ! $ done !)
-
-  lends_part : (vs : List Val)
-      → ent 𝓤 (sep 𝓤 (sem 𝓛 ((MutSlice ℓ κ R).own_val (record { ref_ptr = (b, o); ghost_name = γ; now = xs }) vs)) (A.lft κ q)) (H.⇛ (ex 𝓤 PartLent))
-  lends_part vs = qed 𝓛 (‵ ((MutSlice ℓ κ R).own_val (record { ref_ptr = (b, o); ghost_name = γ; now = xs }) vs) ∷ ‵ (flft κ q) ∷ []) ∵ updating ! $ fsplit3 ! $ drop ! $
-      rewrite ! 0 (λ (l : List R.Denot). ‵ (fobs γ ((coded_list R.coded).code l))) (heres_id R xs) refl $ open_ref ! tt (Arr (mem R) (length xs)) {b = b} {o = o} $ fsplit ! $ drop ! $
-      rewrite ! 0 (λ (l : List R.Denot). ‵ (cells (mem R) l b o)) (cut_at i n xs) refl $
-      use1 𝓛 (‵ (cells (mem R) (take i xs) b o) ⊛ ‵ (cells (mem R) (mid ++ rest n) b (at o (mem R).size (length (take i xs))))) (cut_app 𝓛 (mem R) (take i xs) (mid ++ rest n) b o) $ split ! $ move ! (1 ∷ []) $
-      rewrite ! 0 (λ (k : ℕ). ‵ (cells (mem R) (mid ++ rest n) b k)) on refl $
-      use1 𝓛 (‵ (cells (mem R) mid b p) ⊛ ‵ (cells (mem R) (rest n) b (at p (mem R).size (length mid)))) (cut_app 𝓛 (mem R) mid (rest n) b p) $ split ! $
-      rewrite ! 1 (λ (k : ℕ). ‵ (cells (mem R) (rest n) b (at p (mem R).size k))) mid_long refl $
-      feq_i ! ℕ (length mid) (length mid) refl $ fjoin ! $ move ! (2 ∷ 1 ∷ []) $ join ! $ move ! (2 ∷ 3 ∷ 4 ∷ 1 ∷ 0 ∷ []) $ group ! 5 $
-      use1 𝓛 (later (some (λ (δ : GName). ‵ (fobs δ ((coded_list R.coded).code mid)) ⊛ ‵ (fbor κ (Borrowed (Arr (mem R) (length mid)) b p δ)) ⊛ ‵ (flft κ q) ⊛ ‵ (follows (Array R 0) (Array R 0) γ δ (patched xs i)))))
-      (takes_part 𝓛 (Arr (mem R) (length xs)) (Arr (mem R) (length mid)) (patched xs i) κ q b o b p γ Others put_back ((coded_list R.coded).code xs) ((coded_list R.coded).code xs) mid) $ await ! tt $ pick ! (λ δ. split3 ! $
-      use2 𝓛 (‵ ((MutSlice ℓ κ R).own_val (record { ref_ptr = (b, p); ghost_name = δ; now = mid }) (slice_val (b, p) (length mid) ∷ []))) (slice_of 𝓛 R ℓ κ b p δ mid rm) $ now ! $ show ! PartLent δ $ done !)
 
 -- ---- the function
 module _ (X : RattleType) where
@@ -146,7 +75,7 @@ module _ (X : RattleType) {M : Type 1} {𝓤 : Ura M} (𝓛 : Logic 𝓤) (at_me
   abbrev clauses : Clauses 𝓤 (ended X)
   clauses = F.clauses X 𝓛 at_mem run
 
-  module _ (C : Calls 𝓤 H) (Λ : Loops 𝓤 H) (κ κ' κT : Lft) (q q' qT : Share) (bd : AllOutlive 3 (ended X).signature.outlives (κ, (κ', (κT, tt)))) (b o : ℕ) (γ : GName) (y : MutBor (List (R X).Denot)) (i j : ℕ) where
+  module _ (C : Calls 𝓤 H) (Λ : Loops 𝓤 H) (κ κ' κT : Lft) (q q' qT : Share) (bd : AllOutlive 3 (ended X).signature.outlives (κ, (κ', (κT, tt)))) (b o : ℕ) (γ : GName) (y : MutBor (List (R X).Denot)) (i n : ℕ) where
     abbrev Sl : RattleType
     Sl = MutSlice (named 1) κ' (R X)
 
@@ -154,7 +83,7 @@ module _ (X : RattleType) {M : Type 1} {𝓤 : Ura M} (𝓛 : Logic 𝓤) (at_me
     self = record { ref_ptr = (b, o); ghost_name = γ; now = y }
 
     abbrev bound : (walk_of 𝓛 (ended X) (stayed X) clauses).Ghost
-    bound = (((κ, (κ', (κT, tt))), (q, (q', (qT, tt))), bd, (self, (i, (j, tt))), (mut_vals self, (vint w64 i ∷ [], (vint w64 j ∷ [], tt)))), tt)
+    bound = (((κ, (κ', (κT, tt))), (q, (q', (qT, tt))), bd, (self, (i, (n, tt))), (mut_vals self, (vint w64 i ∷ [], (vint w64 n ∷ [], tt)))), tt)
 
     abbrev Post : Val → SProp 𝓤
     Post = (walk_of 𝓛 (ended X) (stayed X) clauses).post bound
@@ -162,31 +91,35 @@ module _ (X : RattleType) {M : Type 1} {𝓤 : Ura M} (𝓛 : Logic 𝓤) (at_me
     abbrev xs : List (R X).Denot
     xs = y.now
 
-    walk : i < 2 ^ 64 → j < 2 ^ 64 → i ≤ j → j ≤ length xs
-        → ent 𝓤 (on_entry 𝓛 (ended X).signature (κ, (κ', (κT, tt))) (q, (q', (qT, tt))) (self, (i, (j, tt))) (mut_vals self, (vint w64 i ∷ [], (vint w64 j ∷ [], tt)))) (WpFn 𝓤 H C Λ (function X) (vptr b o ∷ vint w64 i ∷ vint w64 j ∷ []) Post)
-    walk fi fj lo hi =
+    walk : i < 2 ^ 64 → n < 2 ^ 64 → i + n ≤ length xs
+        → ent 𝓤 (on_entry 𝓛 (ended X).signature (κ, (κ', (κT, tt))) (q, (q', (qT, tt))) (self, (i, (n, tt))) (mut_vals self, (vint w64 i ∷ [], (vint w64 n ∷ [], tt)))) (WpFn 𝓤 H C Λ (function X) (vptr b o ∷ vint w64 i ∷ vint w64 n ∷ []) Post)
+    walk fi fn within =
         let s : ℕ = size (layout X) in
         let b' : ℕ = y.ref_ptr.0 in
         let o' : ℕ = y.ref_ptr.1 in
-        let n : ℕ = j - i in
-        let fn : n < 2 ^ 64 = omega arith in
-        let within : i + n ≤ length xs = omega arith in
+        let j : ℕ = i + n in
+        let m : ℕ = j - i in
+        let same : m ≡ n = omega arith in
         let p : ℕ = i * s + o' in
         let on : at o' s (length (take i xs)) ≡ p = at_mul o' s (length (take i xs)) ∙ ap (λ (k : ℕ). k * s + o') (length-take-le i xs (omega arith)) in
+        let front : List X.Denot = take i xs in
         let mid : List X.Denot = take n (drop_list i xs) in
+        let back : List X.Denot = drop_list j xs in
+        let cut : xs ≡ front ++ (mid ++ back) = cut_at i n j xs refl in
         let left : length (drop_list i xs) ≡ length xs - i = length-drop i xs in
         let long : length mid ≡ n = length-take-le n (drop_list i xs) (omega arith) in
         let Inner : Ty = slice_ty (ty_ref erased mut (ty_param 0)) in
         let Whole : GName → Item 𝓤 = λ δ. ‵ ((MutSlice (named 0) κ (R X)).own_val (renamed y δ) (mut_slice_vals y)) ⊛ ‵ (flft κ q) ⊛ ‵ (follows Sl (Array (R X) 0) γ δ (at_last y)) in
-        qed 𝓛 ((‵ (flft κ q) ⊛ ‵ (flft κ' q') ⊛ ‵ (flft κT qT) ⊛ ‵ ftrue) ∷ ‵ (owns (MutRef (named 0) κ Sl ∷ usize ∷ usize ∷ []) (self, (i, (j, tt))) (mut_vals self, (vint w64 i ∷ [], (vint w64 j ∷ [], tt)))) ∷ []) ∵
-        enter ! C Λ (function X) (vptr b o ∷ vint w64 i ∷ vint w64 j ∷ []) _ $
-        alloc_all ! (λ l. pass_all ! refl ((tt, tt), ((tt, record { fits = fi }), ((tt, record { fits = fj }), tt))) $
+        qed 𝓛 ((‵ (flft κ q) ⊛ ‵ (flft κ' q') ⊛ ‵ (flft κT qT) ⊛ ‵ ftrue) ∷ ‵ (owns (MutRef (named 0) κ Sl ∷ usize ∷ usize ∷ []) (self, (i, (n, tt))) (mut_vals self, (vint w64 i ∷ [], (vint w64 n ∷ [], tt)))) ∷ []) ∵
+        enter ! C Λ (function X) (vptr b o ∷ vint w64 i ∷ vint w64 n ∷ []) _ $
+        alloc_all ! (λ l. pass_all ! refl ((tt, tt), ((tt, record { fits = fi }), ((tt, record { fits = fn }), tt))) $
         split ! $ move ! (2 ∷ []) $ fsplit ! $ move ! (0 ∷ 2 ∷ []) $
         fsplit3 ! $ move ! (1 ∷ 2 ∷ 3 ∷ []) $ open_ref ! tt (mem Sl) {b = b} {o = o} $
         use1 𝓛 (some (λ (v : Val). ‵ (fat full_share Inner b o v) ⊛ ‵ (Sl.own_val y (v ∷ [])))) (part_out_at 𝓛 Sl refl full_share y b o Inner refl) $ pick ! (λ v. split ! $ move ! (1 ∷ []) $ fsplit3 ! $ fsplit3 ! $
         feq_l ! (λ e. flt_l ! (λ fits. flt_l ! (λ small.
         let bytes : i * s ≤ length xs * s = mul-le-mul_right s (omega arith) in
         let fs : i * s < 2 ^ 64 = omega arith in
+        let fj : j < 2 ^ 64 = omega arith in
         let part : length mid * s ≤ length xs * s = mul-le-mul_right s (omega arith) in
         let room : Room (R X) (length mid) = (omega arith, omega arith) in
         rewrite ! 2 (λ (w : Val). ‵ (fat full_share Inner b o w)) (ap only e) refl $
@@ -194,9 +127,10 @@ module _ (X : RattleType) {M : Type 1} {𝓤 : Ura M} (𝓛 : Logic 𝓤) (at_me
         sets ! (of_opd ! (load ! (through ! refl (fld ! refl (stop !))) (look_in ! 2 (sub ! 1 refl (whole !))))) refl (tt, record { fits = fits }) $
         sets ! (addr ! (through ! refl (fld ! refl (hop ! (look_in ! 2 (sub ! 0 refl (whole !))) (stop !))))) refl (tt, tt) $
         sets ! (agg ! (and_then ! (get ! refl) (and_then ! (get ! refl) (no_more !)))) refl (tt, (tt, (record { fits = fits }, tt))) $
+        sets ! (bin ! (get ! refl) (get ! refl) (record { fits = fj })) refl (tt, record { fits = fj }) $
         sets ! (is ! (bin ! (get ! refl) (size_word !) (record { fits = subst (λ (k : ℕ). k < 2 ^ 64) (sym (uncapped i s fs)) fs })) (ap (vint w64) (uncapped i s fs))) refl (tt, record { fits = fs }) $
         sets ! (bin ! (get_in ! (fld ! refl (stop !)) (sub ! 0 refl (whole !))) (get ! refl) tt) refl (tt, tt) $
-        sets ! (bin ! (get ! refl) (get ! refl) lo) refl (tt, record { fits = fn }) $
+        sets ! (is ! (bin ! (get ! refl) (get ! refl) (omega arith)) (ap (vint w64) same)) refl (tt, record { fits = fn }) $
         sets ! (addr ! (through ! refl (stop !))) refl (tt, tt) $
         sets ! (agg ! (and_then ! (get ! refl) (and_then ! (get ! refl) (no_more !)))) refl (tt, (tt, (record { fits = fn }, tt))) $
         flt_i ! (length xs * (mem (R X)).size) (2 ^ 63) small $ flt_i ! (length xs) (2 ^ 64) fits $ feq_i ! (List Val) (mut_slice_vals y) (mut_slice_vals y) refl $ fjoin3 ! $ fjoin3 ! $ move ! (1 ∷ 0 ∷ []) $
@@ -204,9 +138,9 @@ module _ (X : RattleType) {M : Type 1} {𝓤 : Ura M} (𝓛 : Logic 𝓤) (at_me
         close_ref ! tt (mem Sl) y {b = b} {o = o} $
         use3 𝓛 (later (some Whole)) (lends_inner_slice 𝓛 (R X) (named 0) (named 1) κ κ' self bd.0 (fits, small) q) $ await ! tt $ pick ! (λ δ₁. split3 ! $
         -- [the whole slice; the token; the outer follows it; ..]
-        use2 𝓛 (later (some (part_lent 𝓛 (named 0) κ q b' o' δ₁ (R X) xs i n within p on room))) (lends_part 𝓛 (named 0) κ q b' o' δ₁ (R X) xs i n within p on room (mut_slice_vals y)) $ await ! tt $ pick ! (λ δ. split3 ! $
+        use2 𝓛 (later (some (part_lent 𝓛 (named 0) κ q b' o' δ₁ (R X) xs front mid back cut p on room))) (lends_part 𝓛 (named 0) κ q b' o' δ₁ (R X) xs front mid back cut p on room (mut_slice_vals y)) $ await ! tt $ pick ! (λ δ. split3 ! $
         -- [the stretch; the token; the whole follows it; the outer follows the whole; ..]
-        move ! (3 ∷ 2 ∷ []) $ use2 𝓛 (‵ (follows Sl (Array (R X) 0) γ δ (λ w. at_last y (patched xs i w)))) (follows_then 𝓛 Sl (Array (R X) 0) (Array (R X) 0) (at_last y) (patched xs i) γ δ₁ δ) $
+        move ! (3 ∷ 2 ∷ []) $ use2 𝓛 (‵ (follows Sl (Array (R X) 0) γ δ (λ w. at_last y (front ++ (w ++ back))))) (follows_then 𝓛 Sl (Array (R X) 0) (Array (R X) 0) (at_last y) (λ w. front ++ (w ++ back)) γ δ₁ δ) $
         returns ! (look_at ! 0 refl) $ free_all ! refl $ keep ! (1 ∷ 2 ∷ 0 ∷ 5 ∷ []) $
         rewrite ! 0 (λ (k : ℕ). ‵ ((MutSlice (named 0) κ (R X)).own_val (record { ref_ptr = (b', p); ghost_name = δ; now = mid }) (slice_val (b', p) k ∷ []))) long refl $
         suffices ! _ (ends_at 𝓛 (ended X) (stayed X) clauses bound (slice_val (b', p) n) (record { ref_ptr = (b', p); ghost_name = δ; now = mid }) (tt, (tt, (tt, tt))) (tt, (tt, (tt, tt)))) $
@@ -219,9 +153,9 @@ module _ (X : RattleType) {M : Type 1} {𝓤 : Ura M} (𝓛 : Logic 𝓤) (at_me
       (walked 𝓛 (ended X) (stayed X) clauses (WpFn 𝓤 H 𝓣.C 𝓣.Λ (function X)) (λ κs. (mut_vals, (uint_vals w64, (uint_vals w64, tt)))) (λ κs. (mut_Tells (named 0) κs.0 (MutSlice (named 1) κs.1.0 (R X)), (uint_Tells w64, (uint_Tells w64, tt))))
       (λ κs qs bounds a g are.
       let On : SProp 𝓤 = on_entry 𝓛 (ended X).signature κs qs a (mut_vals a.0, (vint w64 a.1.0 ∷ [], (vint w64 a.1.1.0 ∷ [], tt))) in
-      qed 𝓛 (raw On ∷ (given (κs.1.1.0 ⊑ X.lives) (‵ ftrue) ⊛ given (a.1.0 ≤ a.1.1.0) (‵ ftrue) ⊛ given (a.1.1.0 ≤ length a.0.now.now) (‵ ftrue)) ∷ []) ∵
-      move ! (1 ∷ []) $ split3 ! $ drop ! $ learn ! (λ lo. drop ! $ learn ! (λ hi. drop ! $
-      by ! (walk 𝓣.C 𝓣.Λ κs.0 κs.1.0 κs.1.1.0 qs.0 qs.1.0 qs.1.1.0 bounds a.0.ref_ptr.0 a.0.ref_ptr.1 a.0.ghost_name a.0.now a.1.0 a.1.1.0 are.1.0.1 are.1.1.0.1 lo hi)))))
+      qed 𝓛 (raw On ∷ (given (κs.1.1.0 ⊑ X.lives) (‵ ftrue) ⊛ given (a.1.0 + a.1.1.0 ≤ length a.0.now.now) (‵ ftrue)) ∷ []) ∵
+      move ! (1 ∷ []) $ split ! $ drop ! $ learn ! (λ within. drop ! $
+      by ! (walk 𝓣.C 𝓣.Λ κs.0 κs.1.0 κs.1.1.0 qs.0 qs.1.0 qs.1.1.0 bounds a.0.ref_ptr.0 a.0.ref_ptr.1 a.0.ghost_name a.0.now a.1.0 a.1.1.0 are.1.0.1 are.1.1.0.1 within))))
 
 pub stretch_mut_spec : {M : Type 1} → stated.statement M
 unfolding tables_of

@@ -2,8 +2,9 @@
 use mathlib.Core.Path.{◌≡◌, refl, ap, ◌∙◌}
 use Prim.Native.Nat.{ℕ, ◌+◌, ◌^◌, ◌<◌, ◌≤◌}
 use native.Mathlib.Omega.{arith}
+use mathlib.Core.Bool.{true}
 use mathlib.Core.List.{List, [], ◌∷◌, ◌++◌}
-use lib.ListN.{length, take, drop as drop_list}
+use lib.ListN.{length}
 use base.Logic.{SProp, emp, id⊢}
 use base.Fml.{Lft, GName, Share, ftrue, flft}
 use mir.Syntax.{Args, Fn, named, w32, w64, a_type}
@@ -33,14 +34,18 @@ use denote.Triple.Spec.{triple_of}
 use denote.Triple.Table.{framed}
 use denote.Triple.Walked.{Stays, stay_dropped, walk_of, Goes-dropped}
 use Rattle.std.proofs.raw_atomic.Walks.{proved_at, leaves}
-use Rattle.imgref.specs.Layout.{Fits, HasWindow, with_stretch}
-use Rattle.imgref.specs.Stretch.{window_stretch}
+use Rattle.image_model.specs.Layout.{layout as laid, Fits}
+use Rattle.image_model.specs.Grid.{grid_of}
+use Rattle.image_model.specs.Windows.{window_view, Window, Stretch, window, IsInside, exact_stretch, roomy_stretch, stretch_cells, with_stretch, roomy_window}
+use Rattle.imgref.specs.Image.{mut_layout}
+use Rattle.imgref.specs.Window.{IsWithin, region}
 use Rattle.imgref.specs.declared.img.Img.{Img}
-use Rattle.imgref.specs.declared.window.Stretch.{Stretch}
-use Rattle.imgref.specs.contracts.window.Stretch as stretch
-use Rattle.imgref.proofs.Values.{img_val, img_row, img_told, stretch_told}
-use Rattle.imgref.specs.contracts.window.roomy_stretch as f
-use Rattle.imgref.proofs.window.roomy_stretch.Met as find
+use Rattle.imgref.specs.declared.window.Region.{Region}
+use Rattle.imgref.specs.contracts.window.Region as of_region
+use Rattle.imgref.proofs.Places.{window_within, window_fits, window_shows}
+use Rattle.imgref.proofs.Values.{img_val, img_row, img_told, region_told}
+use Rattle.imgref.specs.contracts.window.roomy_region as f
+use Rattle.imgref.proofs.window.roomy_region.Met as find
 use Rattle.imgref.specs.contracts.window.into_stretch as g
 use Rattle.imgref.proofs.window.into_stretch.Met as part
 use Rattle.imgref.specs.contracts.window.Img+mut+slice+T.into_sub_image_mut.{ended, clauses}
@@ -83,13 +88,17 @@ into_sub_image_mut_spec 𝓤 𝓛 𝓜 𝓡 wired T L =
     let fw : width < 2 ^ 64 = are.1.1.1.0.1 in
     let fh : height < 2 ^ 64 = are.1.1.1.1.0.1 in
     let w : Val = img_val img.buf.ref_ptr (length xs) img.width img.height img.stride in
-    let there : Stretch = window_stretch (length xs) img.stride left top width height in
-    let Holds : Type 0 = Fits (length xs) img.width img.height img.stride in
-    let Inside : Type 0 = HasWindow img.width img.height left top width height in
-    let Within : Type 0 = img.width ≤ img.stride in
+    let here : Window = window left top width height in
+    let there : Stretch = roomy_stretch (length xs) img.stride here in
+    let Holds : Type 0 = Fits (mut_layout img) in
+    let Inside : Type 0 = IsInside img.width img.height here in
+    let Narrow₁ : Type 0 = width ≤ img.stride in
+    let FitsWidth : Type 0 = width < 2 ^ 32 in
+    let FitsHeight : Type 0 = height < 2 ^ 32 in
+    let Exact : Type 0 = IsWithin (length xs) (exact_stretch img.stride here) in
     let Tok : Item 𝓤 = ‵ (flft κ q) ⊛ ‵ (flft κT qT) ⊛ ‵ ftrue in
     let G = triple_of 𝓛 f.signature (f.spec 𝓛 𝓜.mem 𝓡.returns) in
-    let z₁ : G.Ghost = ((tt, tt, tt, (length xs, (img.stride, (img.width, (img.height, (left, (top, (width, (height, tt)))))))), (vint w64 (length xs) ∷ [], (vint w64 img.stride ∷ [], (vint w32 img.width ∷ [], (vint w32 img.height ∷ [], (vint w64 left ∷ [], (vint w64 top ∷ [], (vint w64 width ∷ [], (vint w64 height ∷ [], tt))))))))), tt) in
+    let z₁ : G.Ghost = ((tt, tt, tt, (length xs, (img.stride, (left, (top, (width, (height, tt)))))), (vint w64 (length xs) ∷ [], (vint w64 img.stride ∷ [], (vint w64 left ∷ [], (vint w64 top ∷ [], (vint w64 width ∷ [], (vint w64 height ∷ [], tt))))))), tt) in
     qed 𝓛 ((Tok ⊛ ‵ (owns (types_at ps z.0.0) a vss)) ∷ (raw (fact 𝓤 (κT ⊑ T.lives)) ⊛ raw (fact 𝓤 Holds) ⊛ raw (fact 𝓤 Inside)) ∷ []) ∵
     move ! (1 ∷ []) $ split3 ! $ heard ! (κT ⊑ T.lives) (λ le. heard ! Holds (λ holds. heard ! Inside (λ inside. split ! $ move ! (1 ∷ []) $ fsplit ! $ keep ! (0 ∷ 2 ∷ []) $
     -- [the image; the tokens]
@@ -99,27 +108,32 @@ into_sub_image_mut_spec 𝓤 𝓛 𝓜 𝓡 wired T L =
     alloc_all ! (λ l. pass_all ! refl ((tt, ((tt, (record { fits = told.1.0 }, tt)), (record { fits = told.2 }, (record { fits = told.3 }, (record { fits = told.4 }, tt))))), ((tt, record { fits = fl }), ((tt, record { fits = ft }), ((tt, record { fits = fw }), ((tt, record { fits = fh }), tt))))) $
     sets ! (of_opd ! (get_in ! (fld ! refl (fld ! refl (stop !))) (sub ! 1 refl (sub ! 0 refl (whole !))))) refl (tt, record { fits = told.1.0 }) $
     sets ! (of_opd ! (get_in ! (fld ! refl (stop !)) (sub ! 3 refl (whole !)))) refl (tt, record { fits = told.4 }) $
-    sets ! (of_opd ! (get_in ! (fld ! refl (stop !)) (sub ! 1 refl (whole !)))) refl (tt, record { fits = told.2 }) $
-    sets ! (of_opd ! (get_in ! (fld ! refl (stop !)) (sub ! 2 refl (whole !)))) refl (tt, record { fits = told.3 }) $
     nothing ! $ owned ! usize (Is usize) (uint_Makes 𝓛 w64) height (vint w64 height ∷ []) (refl, fh) $ join ! $ owned ! usize (Is usize) (uint_Makes 𝓛 w64) width (vint w64 width ∷ []) (refl, fw) $ join ! $
     owned ! usize (Is usize) (uint_Makes 𝓛 w64) top (vint w64 top ∷ []) (refl, ft) $ join ! $ owned ! usize (Is usize) (uint_Makes 𝓛 w64) left (vint w64 left ∷ []) (refl, fl) $ join ! $
-    owned ! u32 (Is u32) (uint_Makes 𝓛 w32) img.height (vint w32 img.height ∷ []) (refl, told.3) $ join ! $ owned ! u32 (Is u32) (uint_Makes 𝓛 w32) img.width (vint w32 img.width ∷ []) (refl, told.2) $ join ! $
     owned ! usize (Is usize) (uint_Makes 𝓛 w64) img.stride (vint w64 img.stride ∷ []) (refl, told.4) $ join ! $ owned ! usize (Is usize) (uint_Makes 𝓛 w64) (length xs) (vint w64 (length xs) ∷ []) (refl, told.1.0) $ join ! $
     nothing ! $ join ! $
-    use0 𝓛 (raw (fact 𝓤 Inside)) (fact_i 𝓤 Inside (emp 𝓤) inside) $ use0 𝓛 (raw (fact 𝓤 Holds)) (fact_i 𝓤 Holds (emp 𝓤) holds) $ join ! $ use0 𝓛 (raw (fact 𝓤 Within)) (fact_i 𝓤 Within (emp 𝓤) img.width_within) $ join ! $
+    let across : left + width ≤ img.width = inside.0 in
+    let down : top + height ≤ img.height = inside.1 in
+    let narrow₁ : Narrow₁ = omega (arith, across, img.width_within) in
+    let fits_width : FitsWidth = omega (arith, across, told.2) in
+    let fits_height : FitsHeight = omega (arith, down, told.3) in
+    let exact : Exact = window_within (length xs) img.stride img.width img.height here holds inside in
+    use0 𝓛 (raw (fact 𝓤 Exact)) (fact_i 𝓤 Exact (emp 𝓤) exact) $ use0 𝓛 (raw (fact 𝓤 FitsHeight)) (fact_i 𝓤 FitsHeight (emp 𝓤) fits_height) $ join ! $ use0 𝓛 (raw (fact 𝓤 FitsWidth)) (fact_i 𝓤 FitsWidth (emp 𝓤) fits_width) $ join ! $ use0 𝓛 (raw (fact 𝓤 Narrow₁)) (fact_i 𝓤 Narrow₁ (emp 𝓤) narrow₁) $ join ! $
     move ! (1 ∷ 0 ∷ []) $ use2 𝓛 (raw (G.pre z₁)) (id⊢ 𝓤 _) $
-    calls_at ! fm G (find.met 𝓤 𝓛 𝓜 𝓡 (compiled.calls-imgref::window::roomy_stretch 𝓡.env wired)) z₁ (and_then ! (get ! refl) (and_then ! (get ! refl) (and_then ! (get ! refl) (and_then ! (get ! refl) (and_then ! (get ! refl) (and_then ! (get ! refl) (and_then ! (get ! refl) (and_then ! (get ! refl) (no_more !))))))))) (λ v.
-    use1 𝓛 (later (some (λ (y : Stretch). (‵ ftrue ⊛ ‵ (stretch.the_row.own_val y (v ∷ []))) ⊛ some (λ (ws : Unit {0} × (Unit {0} × (Unit {0} × (Unit {0} × (Unit {0} × (Unit {0} × (Unit {0} × (Unit {0} × Unit {0})))))))). ‵ (lasts f.ended z₁.0.0 z₁.0.3 ws)
-    ⊛ raw (fact 𝓤 (y ≡ there)) ⊛ raw (fact 𝓤 (y.start + y.len ≤ length xs)))))) (id⊢ 𝓤 _) $
-    await ! tt $ pick ! (λ y. split ! $ split ! $ move ! (2 ∷ []) $ pick ! (λ ws. split ! $ drop ! $ split ! $ heard ! (y ≡ there) (λ e. heard ! (y.start + y.len ≤ length xs) (λ room.
-    move ! (1 ∷ []) $ peeks ! stretch.the_row (Is stretch.the_row) (shows 𝓛 stretch.the_row) y (v ∷ []) (λ is. drop ! $ drop ! $
+    calls_at ! fm G (find.met 𝓤 𝓛 𝓜 𝓡 (compiled.calls-imgref::window::roomy_region 𝓡.env wired)) z₁ (and_then ! (get ! refl) (and_then ! (get ! refl) (and_then ! (get ! refl) (and_then ! (get ! refl) (and_then ! (get ! refl) (and_then ! (get ! refl) (no_more !))))))) (λ v.
+    use1 𝓛 (later (some (λ (y : Region). (‵ ftrue ⊛ ‵ (of_region.the_row.own_val y (v ∷ []))) ⊛ some (λ (ws : Unit {0} × (Unit {0} × (Unit {0} × (Unit {0} × (Unit {0} × (Unit {0} × Unit {0})))))). ‵ (lasts f.ended z₁.0.0 z₁.0.3 ws)
+    ⊛ raw (fact 𝓤 (y ≡ region there here)) ⊛ raw (fact 𝓤 (IsWithin (length xs) there)))))) (id⊢ 𝓤 _) $
+    await ! tt $ pick ! (λ y. split ! $ split ! $ move ! (2 ∷ []) $ pick ! (λ ws. split ! $ drop ! $ split ! $ heard ! (y ≡ region there here) (λ e. heard ! (IsWithin (length xs) there) (λ room.
+    move ! (1 ∷ []) $ peeks ! of_region.the_row (Is of_region.the_row) (shows 𝓛 of_region.the_row) y (v ∷ []) (λ is. drop ! $ drop ! $
     -- [the image; the tokens]
-    let t = stretch_told y (v ∷ []) is in
+    let t = region_told y (v ∷ []) is in
     let In : Type 0 = y.start + y.len ≤ length xs in
     let Narrow : Type 0 = y.width ≤ img.width in
-    let wide : y.width ≡ width = ap (λ (m : Stretch). m.width) e in
-    let high : y.height ≡ height = ap (λ (m : Stretch). m.height) e in
-    let across : left + width ≤ img.width = inside.0 in
+    let begins : y.start ≡ there.start = ap (λ (m : Region). m.start) e in
+    let long : y.len ≡ there.len = ap (λ (m : Region). m.len) e in
+    let wide : y.width ≡ width = ap (λ (m : Region). m.width) e in
+    let high : y.height ≡ height = ap (λ (m : Region). m.height) e in
+    let fits_in : In = omega (arith, begins, long, room) in
     let narrow : Narrow = omega (arith, wide, across) in
     let G₂ = triple_of 𝓛 (g.signature T) (g.spec T 𝓛 𝓜.mem 𝓡.returns) in
     let z₂ : G₂.Ghost = (((κ, (κT, tt)), (q, (qT, tt)), z.0.2, (img, (y.start, (y.len, (y.width, (y.height, tt))))), (w ∷ [], (vint w64 y.start ∷ [], (vint w64 y.len ∷ [], (vint w32 y.width ∷ [], (vint w32 y.height ∷ [], tt)))))), tt) in
@@ -128,25 +142,28 @@ into_sub_image_mut_spec 𝓤 𝓛 𝓜 𝓡 wired T L =
     nothing ! $ owned ! u32 (Is u32) (uint_Makes 𝓛 w32) y.height (vint w32 y.height ∷ []) (refl, t.4) $ join ! $ owned ! u32 (Is u32) (uint_Makes 𝓛 w32) y.width (vint w32 y.width ∷ []) (refl, t.3) $ join ! $
     owned ! usize (Is usize) (uint_Makes 𝓛 w64) y.len (vint w64 y.len ∷ []) (refl, t.2) $ join ! $ owned ! usize (Is usize) (uint_Makes 𝓛 w64) y.start (vint w64 y.start ∷ []) (refl, t.1) $ join ! $
     move ! (1 ∷ 0 ∷ []) $ join ! $ move ! (1 ∷ 0 ∷ []) $ join ! $
-    use0 𝓛 (raw (fact 𝓤 Narrow)) (fact_i 𝓤 Narrow (emp 𝓤) narrow) $ use0 𝓛 (raw (fact 𝓤 In)) (fact_i 𝓤 In (emp 𝓤) room) $ join ! $ use0 𝓛 (raw (fact 𝓤 (κT ⊑ T.lives))) (fact_i 𝓤 (κT ⊑ T.lives) (emp 𝓤) le) $ join ! $
+    use0 𝓛 (raw (fact 𝓤 Narrow)) (fact_i 𝓤 Narrow (emp 𝓤) narrow) $ use0 𝓛 (raw (fact 𝓤 In)) (fact_i 𝓤 In (emp 𝓤) fits_in) $ join ! $ use0 𝓛 (raw (fact 𝓤 (κT ⊑ T.lives))) (fact_i 𝓤 (κT ⊑ T.lives) (emp 𝓤) le) $ join ! $
     move ! (1 ∷ 0 ∷ []) $ use2 𝓛 (raw (G₂.pre z₂)) (id⊢ 𝓤 _) $
     calls_at ! fm G₂ (part.met 𝓤 𝓛 𝓜 𝓡 (compiled.calls-imgref::window::into_stretch 𝓡.env wired) T L) z₂
     (and_then ! (get ! refl) (and_then ! (get_in ! (fld ! refl (stop !)) (sub ! 0 refl (whole !))) (and_then ! (get_in ! (fld ! refl (stop !)) (sub ! 1 refl (whole !))) (and_then ! (get_in ! (fld ! refl (stop !)) (sub ! 2 refl (whole !))) (and_then ! (get_in ! (fld ! refl (stop !)) (sub ! 3 refl (whole !))) (no_more !)))))) (λ v₂.
-    use1 𝓛 (later (some (λ (r₂ : Img (MutBor (List T.Denot))). (Tok ⊛ ‵ (Row.own_val r₂ (v₂ ∷ []))) ⊛ some (λ (ws : (Unit {0} × Unit {0}) × (Unit {0} × (Unit {0} × (Unit {0} × (Unit {0} × Unit {0}))))). ‵ (lasts (g.ended T) z₂.0.0 z₂.0.3 ws) ⊛ (‵ (follows (Array R 0) (Array R 0) γ r₂.buf.ghost_name (with_stretch xs y.start y.len))
-    ⊛ raw (fact 𝓤 (r₂.buf.now ≡ take y.len (drop_list y.start xs))) ⊛ raw (fact 𝓤 (r₂.width ≡ y.width)) ⊛ raw (fact 𝓤 (r₂.height ≡ y.height)) ⊛ raw (fact 𝓤 (r₂.stride ≡ img.stride))))))) (id⊢ 𝓤 _) $
-    await ! tt $ pick ! (λ r₂. split ! $ split ! $ move ! (2 ∷ []) $ pick ! (λ ws₂. split ! $ drop ! $ split ! $ move ! (1 ∷ []) $ split ! $ heard ! (r₂.buf.now ≡ take y.len (drop_list y.start xs)) (λ e₁. split ! $ heard ! (r₂.width ≡ y.width) (λ e₂. split ! $ heard ! (r₂.height ≡ y.height) (λ e₃. heard ! (r₂.stride ≡ img.stride) (λ e₄.
+    use1 𝓛 (later (some (λ (r₂ : Img (MutBor (List T.Denot))). (Tok ⊛ ‵ (Row.own_val r₂ (v₂ ∷ []))) ⊛ some (λ (ws : (Unit {0} × Unit {0}) × (Unit {0} × (Unit {0} × (Unit {0} × (Unit {0} × Unit {0}))))). ‵ (lasts (g.ended T) z₂.0.0 z₂.0.3 ws) ⊛ (‵ (follows (Array R 0) (Array R 0) γ r₂.buf.ghost_name (with_stretch xs (record { start = y.start; len = y.len })))
+    ⊛ raw (fact 𝓤 (mut_layout r₂ ≡ laid (stretch_cells xs (record { start = y.start; len = y.len })) y.width y.height img.stride))))))) (id⊢ 𝓤 _) $
+    await ! tt $ pick ! (λ r₂. split ! $ split ! $ move ! (2 ∷ []) $ pick ! (λ ws₂. split ! $ drop ! $ split ! $ move ! (1 ∷ []) $ heard ! (mut_layout r₂ ≡ laid (stretch_cells xs (record { start = y.start; len = y.len })) y.width y.height img.stride) (λ e₂.
     -- [what follows; the tokens; the window]
     move ! (2 ∷ []) $ peeks ! Row (Is Row) (shows 𝓛 Row) r₂ (v₂ ∷ []) (λ is₂. let t₂ = img_told (named 0) κ R r₂ (v₂ ∷ []) is₂ in
     let w₂ : Val = img_val r₂.buf.ref_ptr (length r₂.buf.now) r₂.width r₂.height r₂.stride in
-    let Cells : Type 0 = r₂.buf.now ≡ take there.len (drop_list there.start xs) in
+    let Is₂ : Type 0 = mut_layout r₂ ≡ roomy_window (mut_layout img) here in
+    let Fits₂ : Type 0 = Fits (mut_layout r₂) in
+    let Shows : Type 0 = grid_of (mut_layout r₂) ≡ window_view (grid_of (mut_layout img)) here in
     rewrite ! 0 (λ (us : List Val). ‵ (Row.own_val r₂ us)) (t₂.0) refl $
     lands_as ! (ap only (t₂.0)) refl (tt, ((tt, (record { fits = t₂.1.0 }, tt)), (record { fits = t₂.2 }, (record { fits = t₂.3 }, (record { fits = t₂.4 }, tt))))) $
     returns ! (look_at ! 0 refl) $ free_all ! refl $
     -- [the window; what follows; the tokens]
-    move ! (1 ∷ []) $ rewrite ! 0 (λ (m : Stretch). ‵ (follows (Array R 0) (Array R 0) γ r₂.buf.ghost_name (with_stretch xs m.start m.len))) e refl $
-    use0 𝓛 (raw (fact 𝓤 (r₂.stride ≡ img.stride))) (fact_i 𝓤 (r₂.stride ≡ img.stride) (emp 𝓤) e₄) $ use0 𝓛 (raw (fact 𝓤 (r₂.height ≡ height))) (fact_i 𝓤 (r₂.height ≡ height) (emp 𝓤) (e₃ ∙ high)) $ join ! $ use0 𝓛 (raw (fact 𝓤 (r₂.width ≡ width))) (fact_i 𝓤 (r₂.width ≡ width) (emp 𝓤) (e₂ ∙ wide)) $ join ! $
-    use0 𝓛 (raw (fact 𝓤 Cells)) (fact_i 𝓤 Cells (emp 𝓤) (e₁ ∙ ap (λ (m : Stretch). take m.len (drop_list m.start xs)) e)) $ join ! $ move ! (1 ∷ 0 ∷ []) $ join ! $
+    move ! (1 ∷ []) $ rewrite ! 0 (λ (m : Region). ‵ (follows (Array R 0) (Array R 0) γ r₂.buf.ghost_name (with_stretch xs (record { start = m.start; len = m.len })))) e refl $
+    let is : Is₂ = e₂ ∙ ap (λ (m : Region). laid (stretch_cells xs (record { start = m.start; len = m.len })) m.width m.height img.stride) e in
+    use0 𝓛 (raw (fact 𝓤 Shows)) (fact_i 𝓤 Shows (emp 𝓤) (window_shows (mut_layout img) img.width_within holds here inside true (mut_layout r₂) is)) $ use0 𝓛 (raw (fact 𝓤 Fits₂)) (fact_i 𝓤 Fits₂ (emp 𝓤) (window_fits (mut_layout img) img.width_within holds here inside true (mut_layout r₂) is)) $ join ! $
+    use0 𝓛 (raw (fact 𝓤 Is₂)) (fact_i 𝓤 Is₂ (emp 𝓤) is) $ join ! $ move ! (1 ∷ 0 ∷ []) $ join ! $
     -- [the ensures; the window; the tokens]
     nothing ! $ nothing ! $ fjoin ! $ nothing ! $ fjoin ! $ nothing ! $ fjoin ! $ nothing ! $ fjoin ! $ nothing ! $ fjoin ! $
     move ! (3 ∷ 0 ∷ 2 ∷ 1 ∷ []) $
-    by ! (leaves 𝓛 En stays c z w₂ r₂ ((tt, tt), (tt, (tt, (tt, (tt, tt))))) (tt, (tt, (tt, (tt, (tt, tt)))))))))))))))))))))))))
+    by ! (leaves 𝓛 En stays c z w₂ r₂ ((tt, tt), (tt, (tt, (tt, (tt, tt))))) (tt, (tt, (tt, (tt, (tt, tt))))))))))))))))))))))
