@@ -12,6 +12,7 @@ use Rattle.std.proofs.lemmas.Option.{same_Some, none-some}
 use Rattle.image_model.specs.Layout.{Layout, layout, Fits, SameOutside, IsPadding}
 use Rattle.image_model.specs.Grid.{grid_of, uniform}
 use Rattle.image_model.specs.Rows.{row, pixels}
+use Rattle.image_model.specs.Windows.{whole, with_stretch}
 use Rattle.image_model.proofs.Rows.{HasRows, joined_is, row_is, row_empty, rows_from_fits}
 use Rattle.image_model.proofs.Cells.{slice_get-append_right}
 use Rattle.image_model.proofs.Places.{cell_within}
@@ -231,6 +232,6 @@ cursor_over l zs left rows width pad fits wide ez el er ew ep =
     let same : marks left rows width pad ≡ marks_of l.width l.height l.stride = λ i. marks (el i) (er i) (ew i) (ep i) in
     (rw (el, er, ew, ep, ez) (marks_reach l fits wide), rw (er, ew) (lines_wide l.width l.height), same, (λ i. pick (same i) (ez i)) ∙ marked_pixels l.cells l.width l.height l.stride fits wide)
 
--- a list of the same length written over a whole list from its start
-pub written_over : {X : Type 0} (xs ws : List X) → length ws ≡ length xs → take 0 xs ++ (ws ++ drop (length ws) (drop 0 xs)) ≡ ws
-written_over xs ws same = ap (λ n. ws ++ drop n xs) same ∙ ap (λ ys. ws ++ ys) (drop-length xs) ∙ append-nil ws
+-- other cells in the place of them all
+pub all_others : {X : Type 0} (xs ws : List X) → with_stretch xs (whole xs) ws ≡ ws
+all_others xs ws = let end : 0 + length xs ≡ length xs = omega arith in ap (λ n. ws ++ drop n xs) end ∙ ap (λ ys. ws ++ ys) (drop-length xs) ∙ append-nil ws

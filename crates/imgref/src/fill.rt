@@ -2,6 +2,7 @@ ghost use Rattle.std.specs.Prelude.{◌≡◌, ◌^◌, ◌<◌, ◌≤◌};
 ghost use Rattle.std.specs.Borrow.{sem};
 ghost use Rattle.image_model.specs.Layout.{Fits, SameOutside, layout};
 ghost use Rattle.image_model.specs.Grid.{grid_of, uniform};
+ghost use Rattle.image_model.specs.Windows.{whole};
 ghost use Rattle.imgref.specs.Image.{buf_of, width_of, height_of, stride_of, with_buf, layout_by, vec_layout, mut_layout};
 ghost use Rattle.imgref.specs.Marks.{covered, marks_of};
 ghost use Rattle.imgref.specs.Pixels.{fills};
@@ -24,10 +25,22 @@ fn cover<'a, C: AsMutSlice>(image: &'a mut Img<C>, value: C::Item)
 where
     C::Item: Copy + 'a,
     requires fits { Fits (layout_by C.AsSlice.cells image.old) }
-    ensures { image.new ≡ with_buf image.old (C.with_cells (buf_of image.old) 0 (covered (marks_of (width_of image.old) (height_of image.old) (stride_of image.old)) value (C.AsSlice.cells (buf_of image.old)))) }
+    ensures { image.new ≡ with_buf image.old (C.with_cells (buf_of image.old) (whole (C.AsSlice.cells (buf_of image.old))) (covered (marks_of (width_of image.old) (height_of image.old) (stride_of image.old)) value (C.AsSlice.cells (buf_of image.old)))) }
 {
     let mut pixels = image.pixels_mut();
     fill_rest(&mut pixels, value);
+}
+
+// The same, seen place by place.
+fn fill_all<'a, C: AsMutSlice>(image: &'a mut Img<C>, value: C::Item)
+where
+    C::Item: Copy + 'a,
+    requires fits { Fits (layout_by C.AsSlice.cells image.old) }
+    ensures grid { grid_of (layout_by C.AsSlice.cells image.new) ≡ uniform (width_of image.old) (height_of image.old) value }
+    ensures outside { SameOutside (layout_by C.AsSlice.cells image.old) (layout_by C.AsSlice.cells image.new) }
+    ensures container { image.new ≡ with_buf image.old (C.with_cells (buf_of image.old) (whole (C.AsSlice.cells (buf_of image.old))) (C.AsSlice.cells (buf_of image.new))) }
+{
+    cover(image, value);
 }
 
 impl<T: Copy> Img<Vec<T>> {
@@ -37,7 +50,7 @@ impl<T: Copy> Img<Vec<T>> {
         ensures grid { grid_of (vec_layout self.new) ≡ uniform (width_of self.old) (height_of self.old) value }
         ensures outside { SameOutside (vec_layout self.old) (vec_layout self.new) }
     {
-        cover(self, value);
+        fill_all(self, value);
     }
 }
 
@@ -49,7 +62,7 @@ impl<T: Copy> Img<&mut [T]> {
         ensures outside { SameOutside (mut_layout self.old) (mut_layout self.new) }
         ensures loan { (buf_of self.new).ghost_name ≡ (buf_of self.old).ghost_name }
     {
-        cover(self, value);
+        fill_all(self, value);
     }
 }
 

@@ -47,10 +47,32 @@ fn count_equal(image: ImgRef<'_, u8>, value: u8) -> usize
     count
 }
 
-#[test]
-fn pixels_without_padding(rt: HostRuntime) -> Result<(), Fail> {
+fn padded(rt: &HostRuntime) -> Result<ImgVec<u8>, Fail>
+    ensures { IfOk result (λ i. Fits (vec_layout i)) }
+{
     let image = ImgVec::new_stride(Vec::from_array(rt.alloc(), PADDED)?, 3, 2, 4);
-    let found: Vec<u8> = image.pixels().collect(rt.alloc())?;
-    assert_eq!(rt; found.as_slice(), [1u8, 2, 3, 5, 6, 7].as_slice());
+    assert!(rt; image.is_valid());
+    Ok(image)
+}
+
+#[test]
+fn pixels_leave_out_the_padding(rt: HostRuntime) -> Result<(), Fail> {
+    let mut image = padded(&rt)?;
+    let expected = [1u8, 2, 3, 5, 6, 7];
+    let owned: Vec<u8> = image.pixels().collect(rt.alloc())?;
+    assert_eq!(rt; owned.as_slice(), expected.as_slice());
+    let lent: Vec<u8> = image.as_ref().pixels().collect(rt.alloc())?;
+    assert_eq!(rt; lent.as_slice(), expected.as_slice());
+    let writing: Vec<u8> = image.as_mut().pixels().collect(rt.alloc())?;
+    assert_eq!(rt; writing.as_slice(), expected.as_slice());
+    let seen: Vec<u8> = image.as_ref().pixels_ref().copied().collect(rt.alloc())?;
+    assert_eq!(rt; seen.as_slice(), expected.as_slice());
+    let view = ImgRef::new_stride(PADDED.as_slice(), 3, 2, 4);
+    assert!(rt; view.is_valid());
+    assert_eq!(rt; sum_pixels(view), 24);
+    assert_eq!(rt; count_pixels(view), 6);
+    assert!(rt; all_below(view, 8) && !all_below(view, 7));
+    assert_eq!(rt; count_equal(view, 5), 1);
+    assert_eq!(rt; count_equal(view, 4), 0);
     Ok(())
 }

@@ -6,6 +6,7 @@ ghost use Rattle.std.specs.Iterator.{YieldsFirst, YieldsFirstRef};
 ghost use Rattle.std.specs.Iterator.Runs.{YieldsInOrder, YieldsRefsInOrder};
 ghost use Rattle.image_model.specs.Layout.{Fits, layout};
 ghost use Rattle.image_model.specs.Rows.{pixels as pixels_of};
+ghost use Rattle.image_model.specs.Windows.{whole};
 ghost use Rattle.imgref.specs.Held.{seen, lent};
 ghost use Rattle.imgref.specs.Marks.{first_line, lines_after};
 
@@ -355,7 +356,7 @@ impl<C: AsMutSlice> Img<C> {
 
     // All cells, and the counts of a cursor over the pixels among them.
     fn lines_mut(&mut self) -> (&mut [C::Item], usize, usize, usize, usize)
-        ensures* hands_on { sem 𝓛 (follows (the_row C.row) (Array C.Item.row 0) self.entry.ghost_name result.0.ghost_name (λ ws. with_buf self.old (C.with_cells (buf_of self.old) 0 ws))) }
+        ensures* hands_on { sem 𝓛 (follows (the_row C.row) (Array C.Item.row 0) self.entry.ghost_name result.0.ghost_name (λ ws. with_buf self.old (C.with_cells (buf_of self.old) (whole (C.AsSlice.cells (buf_of self.old))) ws))) }
         ensures cells { result.0.now ≡ C.AsSlice.cells (buf_of self.old) }
         ensures left { result.1 ≡ first_line (width_of self.old) (height_of self.old) }
         ensures rows_left { result.2 ≡ lines_after (width_of self.old) (height_of self.old) }
@@ -367,8 +368,8 @@ impl<C: AsMutSlice> Img<C> {
         let (left, rows_left) = lines(self.width, self.height);
         let width = self.width as usize;
         let pad = self.stride - width;
-        let end = self.buf.as_slice().len();
-        let cells = self.buf.stretch_mut(0, end);
+        let len = self.buf.as_slice().len();
+        let cells = self.buf.stretch_mut(0, len);
         (cells, left, rows_left, width, pad)
     }
 
@@ -378,7 +379,7 @@ impl<C: AsMutSlice> Img<C> {
     /// Once the borrow ends, the image has the cells that the cursor and its items left.
     pub fn pixels_mut(&mut self) -> PixelsIterMut<'_, C::Item>
         requires fits { Fits (layout_by C.AsSlice.cells self.old) }
-        ensures* writes_back { sem 𝓛 (follows (the_row C.row) (Array C.Item.row 0) self.entry.ghost_name (name_of result) (λ ws. with_buf self.old (C.with_cells (buf_of self.old) 0 ws))) }
+        ensures* writes_back { sem 𝓛 (follows (the_row C.row) (Array C.Item.row 0) self.entry.ghost_name (name_of result) (λ ws. with_buf self.old (C.with_cells (buf_of self.old) (whole (C.AsSlice.cells (buf_of self.old))) ws))) }
         ensures cells { cells_left result ≡ C.AsSlice.cells (buf_of self.old) }
         ensures marks { marks_left result ≡ marks_of (width_of self.old) (height_of self.old) (stride_of self.old) }
         ensures pixels { muts_left result ≡ pixels_of (layout_by C.AsSlice.cells self.old) }

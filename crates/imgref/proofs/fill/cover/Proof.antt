@@ -41,6 +41,7 @@ use denote.Triple.Walked.{Stays, stay_ref, stay_dropped, walk_of, Goes-ref, Goes
 use Rattle.std.proofs.raw_atomic.Walks.{proved, leaves}
 use Rattle.image_model.specs.Layout.{Layout, Fits}
 use Rattle.image_model.specs.Rows.{pixels}
+use Rattle.image_model.specs.Windows.{whole}
 use Rattle.imgref.specs.Image.{with_buf, layout_by}
 use Rattle.imgref.specs.Marks.{covered, marks_of}
 use Rattle.imgref.specs.Pixels.{cells_left, marks_left, muts_left, name_of, ends_as, fills}
@@ -109,7 +110,7 @@ cover_spec 𝓤 𝓛 𝓜 𝓡 wired X Y LX LY CY gh d gs ds gc dc bm bs bc =
     calls_at ! fm G₁ (making.met 𝓤 𝓛 𝓜 𝓡 (compiled.calls-imgref::img::Img::pixels_mut 𝓡.env wired) X Y LX LY gh d gs ds bm bs) z₁ (and_then ! (get ! refl) (no_more !)) (λ v₁.
     let cursor : RattleType = P.the_row (named_lft 3 0 tt (α, (κ₁, (κ₂, tt)))) (param 1 Y) in
     let Sort : Type 0 = PixelsIterMut Y.Denot in
-    let F : List Y.Denot → Img X.Denot = λ ws. with_buf x.now (gh.with_cells x.now.buf 0 ws) in
+    let F : List Y.Denot → Img X.Denot = λ ws. with_buf x.now (gh.with_cells x.now.buf (whole old.cells) ws) in
     let marked = marks_of x.now.width x.now.height x.now.stride in
     use1 𝓛 (later (some (λ (r : Sort). ((‵ (flft α qα) ⊛ ‵ (flft κ₁ q₁) ⊛ ‵ (flft κ₂ q₂) ⊛ ‵ ftrue) ⊛ ‵ (cursor.own_val r (v₁ ∷ []))) ⊛ some (λ (ws : Unit {0} × Unit {0}). ‵ (lasts (M.ended X Y gh d gs ds) z₁.0.0 z₁.0.3 ws)
       ⊛ (‵ (follows Whole (Array (param 1 Y) 0) δ (name_of r) F) ⊛ raw (fact 𝓤 (cells_left r ≡ old.cells)) ⊛ raw (fact 𝓤 (marks_left r ≡ marked)) ⊛ raw (fact 𝓤 (muts_left r ≡ pixels old))
@@ -185,7 +186,7 @@ cover_spec 𝓤 𝓛 𝓜 𝓡 wired X Y LX LY CY gh d gs ds gc dc bm bs bc =
     move ! (2 ∷ 1 ∷ []) $ use2 𝓛 (‵ (flft κ₀ q₀)) (𝓛.lfts.lft_join κ₀ q₀) $
     returns ! (look_at ! 0 refl) $ free_all ! refl $
     -- [κ₀; the image; κ₂; nothing; the borrow of the cursor; nothing; κ₁]
-    let Is_filled : Type 0 = F zs ≡ with_buf x.now (gh.with_cells x.now.buf 0 (covered marked value old.cells)) in
+    let Is_filled : Type 0 = F zs ≡ with_buf x.now (gh.with_cells x.now.buf (whole old.cells) (covered marked value old.cells)) in
     use0 𝓛 (raw (fact 𝓤 Is_filled)) (fact_i 𝓤 Is_filled (emp 𝓤) (λ i. F (covered (marked_is i) value (cells i)))) $
     feq_i ! (List Val) (vunit ∷ []) (vunit ∷ []) refl $ nothing ! $ nothing ! $ fjoin ! $ move ! (4 ∷ 0 ∷ []) $ fjoin ! $
     nothing ! $ move ! (5 ∷ 0 ∷ []) $ join ! $ move ! (8 ∷ 0 ∷ []) $ join ! $ move ! (4 ∷ 0 ∷ []) $ join ! $

@@ -42,6 +42,7 @@ use Rattle.std.proofs.raw_atomic.Walks.{proved_at, leaves}
 use Rattle.image_model.specs.Layout.{Layout, Fits}
 use Rattle.image_model.specs.Rows.{pixels}
 use Rattle.image_model.proofs.Rows.{length-joined_rows}
+use Rattle.image_model.specs.Windows.{whole as whole_of}
 use Rattle.imgref.specs.Image.{with_buf, layout_by}
 use Rattle.imgref.specs.Marks.{marks_of, first_line, lines_after}
 use Rattle.imgref.specs.Pixels.{marks_left, muts_left}
@@ -111,7 +112,7 @@ pixels_mut_spec 𝓤 𝓛 𝓜 𝓡 wired X Y LX LY gh d gs ds bm bs =
     move ! (1 ∷ 0 ∷ []) $ use2 𝓛 (raw (G.pre z₁)) (id⊢ 𝓤 _) $
     calls_at ! fm G (all.met 𝓤 𝓛 𝓜 𝓡 (compiled.calls-imgref::img::Img::lines_mut 𝓡.env wired) X Y LX LY gh d gs ds bm bs) z₁ (and_then ! (get ! refl) (no_more !)) (λ v.
     let Tok : Item 𝓤 = ‵ (flft κ qs.0) ⊛ ‵ (flft κX qs.1.0) ⊛ ‵ (flft κY qs.1.1.0) ⊛ ‵ ftrue in
-    let F : List Y.Denot → Img X.Denot = λ ws. with_buf x.now (gh.with_cells x.now.buf 0 ws) in
+    let F : List Y.Denot → Img X.Denot = λ ws. with_buf x.now (gh.with_cells x.now.buf (whole_of old.cells) ws) in
     let wide : ℕ = x.now.width in let high : ℕ = x.now.height in
     use1 𝓛 (later (some (λ (r : MutBor (List Y.Denot) × ℕ × ℕ × ℕ × ℕ). (Tok ⊛ ‵ (Tup.own_val r (v ∷ []))) ⊛ some (λ (ws : Unit {0} × Unit {0}). ‵ (lasts (f.ended X Y gh d gs ds) z₁.0.0 z₁.0.3 ws) ⊛ (‵ (follows Whole (Array R 0) x.ghost_name r.0.ghost_name F)
       ⊛ raw (fact 𝓤 (r.0.now ≡ old.cells)) ⊛ raw (fact 𝓤 (r.1 ≡ first_line wide high)) ⊛ raw (fact 𝓤 (r.2 ≡ lines_after wide high)) ⊛ raw (fact 𝓤 (r.3 ≡ wide)) ⊛ raw (fact 𝓤 (r.4 ≡ x.now.stride - wide))
