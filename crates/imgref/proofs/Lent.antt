@@ -40,9 +40,10 @@ module _ (a : NamedLft) (R : RattleType) where
   pub made : {M : Type 1} {𝓤 : Ura M} (𝓛 : Logic 𝓤) (d : PixelsIterMut R.Denot) (b o : ℕ) → d.current ≡ block_ptr b o → d.left < 2 ^ 64 → d.rows_left < 2 ^ 64 → d.width < 2 ^ 64 → d.pad < 2 ^ 64
       → ent 𝓤 (emp 𝓤) (sem 𝓛 (Data.own_val (to (P.the_type a R) d) (words b o d.left d.rows_left d.width d.pad ∷ [])))
   made 𝓛 d b o e fl fr fw fp = makes_shadow 𝓛 (Data.own_val (to (P.the_type a R) d) (words b o d.left d.rows_left d.width d.pad ∷ []))
-      (λ vss. (tt, (tt, ((tt, tt), ((tt, tt), ((tt, tt), ((tt, tt), ((λ uss. (tt, tt)), tt))))))))
-      ((vptr b o ∷ [], (vint w64 d.left ∷ [], (vint w64 d.rows_left ∷ [], (vint w64 d.width ∷ [], (vint w64 d.pad ∷ [], (vstruct vnil ∷ [], tt)))))),
-      (refl, (ap (λ p. ptr_val p ∷ []) (sym e), ((refl, fl), ((refl, fr), ((refl, fw), ((refl, fp), ((tt, (refl, tt)), tt))))))))
+      (λ vss. (tt, (tt, ((tt, tt), ((tt, tt), ((tt, tt), ((tt, tt), ((λ uss. (tt, tt)), tt)))))))) (
+        (vptr b o ∷ [], (vint w64 d.left ∷ [], (vint w64 d.rows_left ∷ [], (vint w64 d.width ∷ [], (vint w64 d.pad ∷ [], (vstruct vnil ∷ [], tt)))))),
+        (refl, (ap (λ p. ptr_val p ∷ []) (sym e), ((refl, fl), ((refl, fr), ((refl, fw), ((refl, fp), ((tt, (refl, tt)), tt))))))),
+      )
 
 module _ {M : Type 1} {𝓤 : Ura M} (𝓛 : Logic 𝓤) (R : RattleType) (ℓ : Lifetime) (κ : Lft) (q : Share) (b o : ℕ) (γ : GName) (front : List R.Denot) (y : R.Denot) (back : List R.Denot) where
   open 𝓛 use {H, A}
@@ -77,7 +78,7 @@ module _ {M : Type 1} {𝓤 : Ura M} (𝓛 : Logic 𝓤) (R : RattleType) (ℓ :
       -- [the pixel; the cells behind it; those before; the open borrow; obs; auth]
       move ! (1 ∷ []) $ feq_i ! ℕ (length back) (length back) refl $ fjoin ! $ move ! (3 ∷ 4 ∷ 5 ∷ 1 ∷ 0 ∷ 2 ∷ []) $ group ! 6 $
       use1 𝓛 (later (some (λ (γs : GName × GName). (‵ (fobs γs.0 (R.coded.code y)) ⊛ ‵ (fbor κ (Body (mem R) b here γs.0))) ⊛ (‵ (fobs γs.1 ((coded_list R.coded).code back)) ⊛ ‵ (fbor κ (Body (Arr (mem R) (length back)) b next γs.1)))
-        ⊛ ‵ (flft κ q) ⊛ ‵ (after₂ (Arr (mem R) 0) (mem R) (Arr (mem R) 0) γ γs.0 γs.1 joins))))
+      ⊛ ‵ (flft κ q) ⊛ ‵ (after₂ (Arr (mem R) 0) (mem R) (Arr (mem R) 0) γ γs.0 γs.1 joins))))
       (takes_two 𝓛 (Arr (mem R) (length all)) (mem R) (Arr (mem R) (length back)) joins κ q b o b here b next γ (sem 𝓛 (cells (mem R) front b o)) mend ((coded_list R.coded).code all) ((coded_list R.coded).code all) y back) $ await ! tt $ pick ! (λ γs. split ! $
       split ! $ feq_i ! (List Val) (vptr b here ∷ []) (vptr b here ∷ []) refl $ fjoin3 ! $ now ! $ show ! Taken γs $ done !)
 

@@ -1,5 +1,5 @@
 -- The marks of a fitting size choose its pixels, and writing over them changes its places alone.
-use Rattle.std.proofs.Common.{◌≡◌, ◌≢◌, ℕ, zero, suc, ◌+◌, ◌-◌, ◌*◌, ◌<◌, ◌≤◌, ◌^◌, Bool, true, false, List, [], ◌∷◌, ◌++◌, length, take, drop, replicate, map, Some, refl, sym, ap, ◌∙◌, subst, arith, inl, inr, append_assoc, cond, length-drop, drop-drop}
+use Rattle.std.proofs.Common.{◌≡◌, ◌≢◌, ℕ, zero, suc, ◌+◌, ◌-◌, ◌*◌, ◌<◌, ◌≤◌, ◌^◌, Bool, true, false, List, [], ◌∷◌, ◌++◌, length, take, drop, replicate, map, Some, refl, sym, ap, ◌∙◌, arith, inl, inr, cond, length-drop, drop-drop}
 use Rattle.std.specs.List.{slice_get, flat_map, range_with_len}
 use Rattle.std.proofs.lemmas.List.{length-replicate, append-nil}
 use Rattle.std.proofs.Math.Seq.{drop-length}

@@ -35,9 +35,10 @@ module _ (a : NamedLft) (R : RattleType) where
   pub made : {M : Type 1} {𝓤 : Ura M} (𝓛 : Logic 𝓤) (d : PixelsRefIter R.Denot) (b o : ℕ) → d.current ≡ block_ptr b o → d.left < 2 ^ 64 → d.rows_left < 2 ^ 64 → d.width < 2 ^ 64 → d.pad < 2 ^ 64
       → ent 𝓤 (emp 𝓤) (sem 𝓛 (Data.own_val (to (P.the_type a R) d) (words b o d.left d.rows_left d.width d.pad ∷ [])))
   made 𝓛 d b o e fl fr fw fp = makes_shadow 𝓛 (Data.own_val (to (P.the_type a R) d) (words b o d.left d.rows_left d.width d.pad ∷ []))
-      (λ vss. (tt, (tt, ((tt, tt), ((tt, tt), ((tt, tt), ((tt, tt), ((λ uss. (tt, tt)), tt))))))))
-      ((vptr b o ∷ [], (vint w64 d.left ∷ [], (vint w64 d.rows_left ∷ [], (vint w64 d.width ∷ [], (vint w64 d.pad ∷ [], (vstruct vnil ∷ [], tt)))))),
-      (refl, (ap (λ p. ptr_val p ∷ []) (sym e), ((refl, fl), ((refl, fr), ((refl, fw), ((refl, fp), ((tt, (refl, tt)), tt))))))))
+      (λ vss. (tt, (tt, ((tt, tt), ((tt, tt), ((tt, tt), ((tt, tt), ((λ uss. (tt, tt)), tt)))))))) (
+        (vptr b o ∷ [], (vint w64 d.left ∷ [], (vint w64 d.rows_left ∷ [], (vint w64 d.width ∷ [], (vint w64 d.pad ∷ [], (vstruct vnil ∷ [], tt)))))),
+        (refl, (ap (λ p. ptr_val p ∷ []) (sym e), ((refl, fl), ((refl, fr), ((refl, fw), ((refl, fp), ((tt, (refl, tt)), tt))))))),
+      )
 
 -- a `&` to the elements has one to the element behind the first few, and one to those after it
 module _ {M : Type 1} {𝓤 : Ura M} (𝓛 : Logic 𝓤) {D : Type 0} (c : D → ℕ → ℕ → Lft → Fml) (s b : ℕ) (κ : Lft) (y : D) (back : List D) where

@@ -33,6 +33,10 @@ module _ {T : Type 0} where
   abbrev pub name_of : PixelsIterMut T → GName
   name_of s = s.name
 
+  -- what lent them
+  abbrev pub lender_of : PixelsIterMut T → GName
+  lender_of s = s.lender
+
   -- how many cells a cursor passes over before the next pixel
   abbrev pub gap : PixelsIterMut T → ℕ
   gap s = skipped s.left s.pad

@@ -27,7 +27,7 @@ where
     requires fits { Fits (layout_by C.AsSlice.cells image.old) }
     ensures { image.new ≡ with_buf image.old (C.with_cells (buf_of image.old) (whole (C.AsSlice.cells (buf_of image.old))) (covered (marks_of (width_of image.old) (height_of image.old) (stride_of image.old)) value (C.AsSlice.cells (buf_of image.old)))) }
 {
-    let mut pixels = image.pixels_mut();
+    let mut pixels = image.exact_pixels_mut();
     fill_rest(&mut pixels, value);
 }
 

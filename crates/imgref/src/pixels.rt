@@ -21,7 +21,11 @@ fn lines(width: u32, height: u32) -> (usize, usize)
     ensures after { result.1 ≡ lines_after width height }
 {
     let first = if height == 0 { 0 } else { width as usize };
-    let after = if width == 0 { 0 } else { (height as usize).saturating_sub(1) };
+    let after = if width == 0 {
+        0
+    } else {
+        (height as usize).saturating_sub(1)
+    };
     (first, after)
 }
 
@@ -78,7 +82,12 @@ impl<'a, T> PixelsRefIter<'a, T> {
     }
 
     // The pixels of a fitting layout.
-    pub(crate) fn of_layout(cells: &'a [T], width: u32, height: u32, stride: usize) -> PixelsRefIter<'a, T>
+    pub(crate) fn of_layout(
+        cells: &'a [T],
+        width: u32,
+        height: u32,
+        stride: usize,
+    ) -> PixelsRefIter<'a, T>
         requires fits { Fits (layout cells.now width height stride) }
         requires within { width ≤ stride }
         ensures pixels { refs_left result ≡ pixels_of (layout cells.now width height stride) }
@@ -86,7 +95,13 @@ impl<'a, T> PixelsRefIter<'a, T> {
         ensures countable { length (refs_left result) < 2 ^ 64 }
     {
         let (left, rows_left) = lines(width, height);
-        PixelsRefIter::over(cells, left, rows_left, width as usize, stride - width as usize)
+        PixelsRefIter::over(
+            cells,
+            left,
+            rows_left,
+            width as usize,
+            stride - width as usize,
+        )
     }
 }
 
@@ -191,8 +206,9 @@ pub struct PixelsIterMut<'a, T> {
     width: usize,
     pad: usize,
     marker: PhantomData<&'a mut [T]>,
-    // The loan of the cells from the pointer on, and these cells.
+    // The loan of the cells from the pointer on, what lent them, and these cells.
     ghost name: { GName },
+    ghost lender: { GName },
     ghost cells: { List T },
     ghost reaches: { left + rows_left * (pad + width) ≤ length cells },
     ghost wide: { 0 < rows_left → 0 < width },
@@ -343,7 +359,12 @@ impl<T: Copy> Img<Vec<T>> {
         ensures runs { YieldsInOrder (YieldsFirst (copies_left {T = T})) copies_left }
     {
         PixelsIter {
-            inner: PixelsRefIter::of_layout(self.buf.as_slice(), self.width, self.height, self.stride),
+            inner: PixelsRefIter::of_layout(
+                self.buf.as_slice(),
+                self.width,
+                self.height,
+                self.stride,
+            ),
         }
     }
 }
@@ -352,7 +373,7 @@ impl<C: AsMutSlice> Img<C> {
     ghost use Rattle.imgref.specs.contracts.img.Img.{the_row};
     ghost use Rattle.imgref.specs.Image.{buf_of, width_of, height_of, stride_of, with_buf, layout_by};
     ghost use Rattle.imgref.specs.Marks.{marks, marks_of};
-    ghost use Rattle.imgref.specs.Pixels.{muts_left, marks_left, cells_left, name_of};
+    ghost use Rattle.imgref.specs.Pixels.{muts_left, marks_left, cells_left, name_of, lender_of};
 
     // All cells, and the counts of a cursor over the pixels among them.
     fn lines_mut(&mut self) -> (&mut [C::Item], usize, usize, usize, usize)
@@ -376,10 +397,25 @@ impl<C: AsMutSlice> Img<C> {
     /// The pixels for writing, row by row and from left to right: `width` times `height` of them,
     /// without the padding. The image must fit, as `is_valid` tells.
     ///
-    /// Once the borrow ends, the image has the cells that the cursor and its items left.
+    /// Once the borrow ends, the items hold what was last written, and all else is as before:
+    /// `exact_pixels_mut` says so.
     pub fn pixels_mut(&mut self) -> PixelsIterMut<'_, C::Item>
         requires fits { Fits (layout_by C.AsSlice.cells self.old) }
+        ensures* lends { sem 𝓛 (follows (the_row C.row) (the_row C.row) self.entry.ghost_name (lender_of result) (λ image. image)) }
+        ensures pixels { muts_left result ≡ pixels_of (layout_by C.AsSlice.cells self.old) }
+        ensures count { length (muts_left result) ≡ width_of self.old * height_of self.old }
+        ensures countable { length (muts_left result) < 2 ^ 64 }
+    {
+        self.exact_pixels_mut()
+    }
+
+    /// The cursor of `pixels_mut`, with the clause that says what the image ends as: it has the
+    /// cells that the cursor and its items left. Only a proof by hand can cite that clause, so a
+    /// generated proof can't call this.
+    pub fn exact_pixels_mut(&mut self) -> PixelsIterMut<'_, C::Item>
+        requires fits { Fits (layout_by C.AsSlice.cells self.old) }
         ensures* writes_back { sem 𝓛 (follows (the_row C.row) (Array C.Item.row 0) self.entry.ghost_name (name_of result) (λ ws. with_buf self.old (C.with_cells (buf_of self.old) (whole (C.AsSlice.cells (buf_of self.old))) ws))) }
+        ensures lender { lender_of result ≡ self.entry.ghost_name }
         ensures cells { cells_left result ≡ C.AsSlice.cells (buf_of self.old) }
         ensures marks { marks_left result ≡ marks_of (width_of self.old) (height_of self.old) (stride_of self.old) }
         ensures pixels { muts_left result ≡ pixels_of (layout_by C.AsSlice.cells self.old) }

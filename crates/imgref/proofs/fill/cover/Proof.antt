@@ -44,15 +44,15 @@ use Rattle.image_model.specs.Rows.{pixels}
 use Rattle.image_model.specs.Windows.{whole}
 use Rattle.imgref.specs.Image.{with_buf, layout_by}
 use Rattle.imgref.specs.Marks.{covered, marks_of}
-use Rattle.imgref.specs.Pixels.{cells_left, marks_left, muts_left, name_of, ends_as, fills}
+use Rattle.imgref.specs.Pixels.{cells_left, marks_left, muts_left, name_of, lender_of, ends_as, fills}
 use Rattle.imgref.specs.declared.img.Img.{Img}
 use Rattle.imgref.specs.declared.pixels.PixelsIterMut.{PixelsIterMut}
 use Rattle.imgref.specs.contracts.img.Img.{the_row}
 use Rattle.imgref.specs.contracts.pixels.PixelsIterMut as P
 use Rattle.imgref.proofs.pixels.PixelsIterMut.TheLaws as laws
 use Rattle.imgref.proofs.Ends.{Ends, begins, ends_said}
-use Rattle.imgref.specs.contracts.img.Img.pixels_mut as M
-use Rattle.imgref.proofs.img.Img.pixels_mut.Met as making
+use Rattle.imgref.specs.contracts.img.Img.exact_pixels_mut as M
+use Rattle.imgref.proofs.img.Img.exact_pixels_mut.Met as making
 use Rattle.imgref.specs.contracts.fill.fill_rest as W
 use Rattle.imgref.proofs.fill.fill_rest.Met as writing
 use Rattle.imgref.specs.contracts.pixels.PixelsIterMut.drop as D
@@ -107,15 +107,15 @@ cover_spec 𝓤 𝓛 𝓜 𝓡 wired X Y LX LY CY gh d gs ds gc dc bm bs bc =
     use0 𝓛 (raw (fact 𝓤 Fit)) (fact_i 𝓤 Fit (emp 𝓤) fits) $ use0 𝓛 (raw (fact 𝓤 (κ₂ ⊑ Y.lives))) (fact_i 𝓤 (κ₂ ⊑ Y.lives) (emp 𝓤) inY) $ join ! $ use0 𝓛 (raw (fact 𝓤 (κ₁ ⊑ X.lives))) (fact_i 𝓤 (κ₁ ⊑ X.lives) (emp 𝓤) inX) $ join ! $
     move ! (1 ∷ 0 ∷ []) $ use2 𝓛 (raw (G₁.pre z₁)) (id⊢ 𝓤 _) $
     -- [what the call asks; what is kept; the end of α; the value]
-    calls_at ! fm G₁ (making.met 𝓤 𝓛 𝓜 𝓡 (compiled.calls-imgref::img::Img::pixels_mut 𝓡.env wired) X Y LX LY gh d gs ds bm bs) z₁ (and_then ! (get ! refl) (no_more !)) (λ v₁.
+    calls_at ! fm G₁ (making.met 𝓤 𝓛 𝓜 𝓡 (compiled.calls-imgref::img::Img::exact_pixels_mut 𝓡.env wired) X Y LX LY gh d gs ds bm bs) z₁ (and_then ! (get ! refl) (no_more !)) (λ v₁.
     let cursor : RattleType = P.the_row (named_lft 3 0 tt (α, (κ₁, (κ₂, tt)))) (param 1 Y) in
     let Sort : Type 0 = PixelsIterMut Y.Denot in
     let F : List Y.Denot → Img X.Denot = λ ws. with_buf x.now (gh.with_cells x.now.buf (whole old.cells) ws) in
     let marked = marks_of x.now.width x.now.height x.now.stride in
     use1 𝓛 (later (some (λ (r : Sort). ((‵ (flft α qα) ⊛ ‵ (flft κ₁ q₁) ⊛ ‵ (flft κ₂ q₂) ⊛ ‵ ftrue) ⊛ ‵ (cursor.own_val r (v₁ ∷ []))) ⊛ some (λ (ws : Unit {0} × Unit {0}). ‵ (lasts (M.ended X Y gh d gs ds) z₁.0.0 z₁.0.3 ws)
-      ⊛ (‵ (follows Whole (Array (param 1 Y) 0) δ (name_of r) F) ⊛ raw (fact 𝓤 (cells_left r ≡ old.cells)) ⊛ raw (fact 𝓤 (marks_left r ≡ marked)) ⊛ raw (fact 𝓤 (muts_left r ≡ pixels old))
-      ⊛ raw (fact 𝓤 (length (muts_left r) ≡ x.now.width * x.now.height)) ⊛ raw (fact 𝓤 (length (muts_left r) < 2 ^ 64))))))) (id⊢ 𝓤 _) $
-    await ! tt $ pick ! (λ r. split ! $ split ! $ move ! (2 ∷ []) $ pick ! (λ ws₁. split ! $ drop ! $ split ! $ move ! (1 ∷ []) $ split ! $ heard ! (cells_left r ≡ old.cells) (λ cells. split ! $ heard ! (marks_left r ≡ marked) (λ marked_is. drop ! $
+    ⊛ (‵ (follows Whole (Array (param 1 Y) 0) δ (name_of r) F) ⊛ raw (fact 𝓤 (lender_of r ≡ δ)) ⊛ raw (fact 𝓤 (cells_left r ≡ old.cells)) ⊛ raw (fact 𝓤 (marks_left r ≡ marked)) ⊛ raw (fact 𝓤 (muts_left r ≡ pixels old))
+    ⊛ raw (fact 𝓤 (length (muts_left r) ≡ x.now.width * x.now.height)) ⊛ raw (fact 𝓤 (length (muts_left r) < 2 ^ 64))))))) (id⊢ 𝓤 _) $
+    await ! tt $ pick ! (λ r. split ! $ split ! $ move ! (2 ∷ []) $ pick ! (λ ws₁. split ! $ drop ! $ split ! $ move ! (1 ∷ []) $ split ! $ drop ! $ split ! $ heard ! (cells_left r ≡ old.cells) (λ cells. split ! $ heard ! (marks_left r ≡ marked) (λ marked_is. drop ! $
     -- [what follows; the tokens; the cursor; what is kept; the end of α; the value]
     let lowered : Sort → Val = laws.lowered (named_lft 3 0 tt (α, (κ₁, (κ₂, tt)))) (param 1 Y) (param_laws 1 Y LY) in
     let low = laws.lowers (named_lft 3 0 tt (α, (κ₁, (κ₂, tt)))) (param 1 Y) (param_laws 1 Y LY) in

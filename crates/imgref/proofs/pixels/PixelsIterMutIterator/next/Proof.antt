@@ -32,7 +32,6 @@ use Rattle.imgref.proofs.Cursors.{words, then_runs, then_arm}
 use Rattle.imgref.proofs.Lent.{Data, made}
 use Rattle.imgref.proofs.Marks.{marks_in_line, marks_new_row, parts, pick_past, skipped_in_line, one_at_least, times_one_less}
 use Rattle.imgref.proofs.Lent.{Taken, takes}
-
 use denote.Param.{param, layouts}
 use denote.Param.Laws.{param_laws}
 use denote.Ref.{MutRef, MutBor, mut_vals, mut_Tells}
@@ -102,49 +101,49 @@ next_spec 𝓤 𝓛 𝓜 𝓡 wired T' L =
     -- [the cell; obs δ; its borrow; the open borrow; obs; auth; the tokens]
     let X : Type 0 = T'.Denot in let sk : ℕ = skipped h.left h.pad in let front : List X = take sk h.cells in
     let tail : (p left rows : ℕ) (x : X) (back : List X) → h.cells ≡ front ++ x ∷ back → at o s (length front) ≡ p → 1 ≤ left → left < 2 ^ 64 → rows < 2 ^ 64 → (left - 1) + rows * (h.pad + h.width) ≤ length back → (0 < rows → 0 < h.width)
-        → muts_left h ≡ x ∷ chosen (marks (left - 1) rows h.width h.pad) back → length front ≡ sk → marks h.left h.rows_left h.width h.pad ≡ replicate sk false ++ true ∷ marks (left - 1) rows h.width h.pad → length back < n
-        → Sq 𝓛 (‵ (fat full_share written rb ro (words b p left rows h.width h.pad)) ∷ ‵ (fobs δ ((coded_list R.coded).code h.cells)) ∷ ‵ (fbor κ₁ (Body (Arr (mem R) n) b o δ)) ∷ ‵ (fobor κ₀ q₀ (Body (mem It) rb ro γ)) ∷ ‵ (fobs γ (It.coded.code h)) ∷ ‵ (fauth γ (It.coded.code h))
-        ∷ (‵ (flft κ₁ q₁) ⊛ ‵ (flft κ₂ q₂) ⊛ ‵ ftrue) ∷ holding 𝓛 Ev ((1, vptr rb ro) ∷ [])) (prop (Wp 𝓤 𝓛.H 𝓣.C 𝓣.Λ Ev (after 3 fn.body) (post 𝓤 𝓛.H (at_ret Ev Post)))) = λ p left rows x back cut at_p pos fl' fr' reaches' wide' px lf mk less.
-      let one : 1 ≤ n = omega arith in let first' : 1 * s ≤ n * s = mul-le-mul_right s one in let once : 1 * s ≡ s = one-mul s in let below : length back * s ≤ n * s = mul-le-mul_right s (omega arith) in
-      let fn' : n < 2 ^ 64 = rm.0 in let fit : n * s < 2 ^ 63 = rm.1 in
-      let tiny : s < 2 ^ 64 = omega arith in let f₁ : 1 * s < 2 ^ 64 = omega arith in let fm : left - 1 < 2 ^ 64 = omega arith in
-      let on : at o s (length front) + s ≡ 1 * s + p = omega (arith, at_p) in
-      let r : GName → MutBor X = λ ν. record { ref_ptr = (b, p); ghost_name = ν; now = x } in
-      let new : GName → PixelsIterMut X = λ ν. record { current = block_ptr b (1 * s + p); left = left - 1; rows_left = rows; width = h.width; pad = h.pad; marker = h.marker; name = ν; cells = back; reaches = reaches'; wide = wide'; small = omega (arith, less, rm.0) } in
-      let shorter : length (chosen (marks (left - 1) rows h.width h.pad) back) < length (muts_left h) = omega (arith, ap length px) in
-      exec ! 𝓣.C 𝓣.Λ Ev (after 3 fn.body) (at_ret Ev Post) $
-      sets ! (of_opd ! (load ! (through ! refl (fld ! refl (stop !))) (look_in ! 0 (sub ! 0 refl (whole !))))) refl (tt, tt) $
-      first ! $ blocks ! $ sets ! (of_opd ! (get ! refl)) refl (tt, tt) $
-      sets ! (bin ! (lit ! tt) (size_lit ! (record { fits = tiny })) (record { fits = f₁ })) refl (tt, record { fits = f₁ }) $
-      sets ! (bin ! (get ! refl) (get ! refl) tt) refl (tt, tt) $
-      assigns_last ! (of_opd ! (get ! refl)) (through ! refl (fld ! refl (stop !))) (store_in ! 0 (sub ! 0 refl (whole !)) (tt, tt)) $
-      exec ! 𝓣.C 𝓣.Λ Ev (after 5 fn.body) (at_ret Ev Post) $
-      sets ! (of_opd ! (load ! (through ! refl (fld ! refl (stop !))) (look_in ! 0 (sub ! 1 refl (whole !))))) refl (tt, record { fits = fl' }) $
-      sets ! (bin ! (get ! refl) (lit ! tt) pos) refl (tt, record { fits = fm }) $
-      assigns ! (of_opd ! (get ! refl)) (through ! refl (fld ! refl (stop !))) (store_in ! 0 (sub ! 1 refl (whole !)) (tt, record { fits = fm })) $
-      first ! $ blocks ! $ sets_last ! (addr ! (through ! refl (stop !))) refl (tt, tt) $
-      exec ! 𝓣.C 𝓣.Λ Ev (after 9 fn.body) (at_ret Ev Post) $
-      sets ! (of_opd ! (get ! refl)) refl (tt, tt) $
-      sets ! (agg ! (and_then ! (lit ! tt) (and_then ! (get ! refl) (no_more !)))) refl (tt, (record { fits = lit< tt }, (tt, tt))) $
-      use1 𝓛 (‵ (fat full_share (bare written) rb ro (words b (1 * s + p) (left - 1) rows h.width h.pad))) (𝓛.laws.at_raw full_share written rb ro (words b (1 * s + p) (left - 1) rows h.width h.pad)) $
-      -- the pixel is cut out of the cells
-      move ! (6 ∷ []) $ split ! $ move ! (3 ∷ 4 ∷ 0 ∷ []) $
-      rewrite ! 0 (λ (zs : List X). ‵ (fobs δ ((coded_list R.coded).code zs))) cut refl $ rewrite ! 1 (λ (zs : List X). ‵ (fbor κ₁ (Body (Arr (mem R) (length zs)) b o δ))) cut refl $ group ! 3 $
-      use1 𝓛 (later (some (λ (νs : GName × GName). raw (Taken 𝓛 R (named 1) κ₁ q₁ b o δ front x back νs)))) (takes 𝓛 R (named 1) κ₁ q₁ b o δ front x back) $ await ! tt $ pick ! (λ νs.
-      use1 𝓛 (‵ ((MutRef (named 1) κ₁ R).own_val (record { ref_ptr = (b, at o s (length front)); ghost_name = νs.0; now = x }) (vptr b (at o s (length front)) ∷ [])) ⊛ (‵ (fobs νs.1 ((coded_list R.coded).code back)) ⊛ ‵ (fbor κ₁ (Body (Arr (mem R) (length back)) b (at o s (length front) + s) νs.1))) ⊛ ‵ (flft κ₁ q₁) ⊛ ‵ (after₂ (Arr (mem R) 0) (mem R) (Arr (mem R) 0) δ νs.0 νs.1 (λ w ws. front ++ w ∷ ws))) (id⊢ 𝓤 _) $ split3 ! $
-      rewrite ! 0 (λ (k : ℕ). ‵ ((MutRef (named 1) κ₁ R).own_val (record { ref_ptr = (b, k); ghost_name = νs.0; now = x }) (vptr b k ∷ []))) at_p refl $ move ! (1 ∷ []) $ split ! $
-      -- [obs; its borrow; the pixel; the token and what follows; the token of T; the cell; the open borrow; obs; auth]
-      rewrite ! 1 (λ (k : ℕ). ‵ (fbor κ₁ (Body (Arr (mem R) (length back)) b k νs.1))) on refl $ fjoin ! $ pure_i ! (room R (length back)) (tt, tt) (omega arith, omega arith) $ fjoin ! $
-      use0 𝓛 (‵ ((Data α R).own_val (to (P.the_type α R) (new νs.1)) (words b (1 * s + p) (left - 1) rows h.width h.pad ∷ []))) (made α R 𝓛 (new νs.1) b (1 * s + p) refl fm fr' fw fp) $ fjoin ! $
-      move ! (4 ∷ 0 ∷ 5 ∷ 6 ∷ 7 ∷ []) $ closes ! tt It (new νs.1) (words b (1 * s + p) (left - 1) rows h.width h.pad ∷ []) rb ro $
-      returns ! (look_at ! 0 refl) $ free_all ! refl $
-      -- [obs; the borrow of self; its token; the pixel; the token of 'a and what follows; the token of T]
-      move ! (4 ∷ []) $ split ! $ move ! (0 ∷ 6 ∷ []) $ join ! $ move ! (4 ∷ 0 ∷ []) $ join ! $
-      move ! (2 ∷ 3 ∷ []) $ feq_i ! (List Val) (vptr rb ro ∷ []) (vptr rb ro ∷ []) refl $ fjoin3 ! $ nothing ! $ move ! (1 ∷ 0 ∷ []) $ fjoin ! $
-      move ! (3 ∷ []) $ use1 𝓛 (‵ ((OP.the_row (MutRef (named 1) κ₁ R)).own_val (Some (r νs.0)) (live 1 (of_list (vptr b p ∷ [])) ∷ []))) (Some-of 𝓛 (MutRef (named 1) κ₁ R) (r νs.0) (vptr b p)) $
-      let Goes : Type 0 = MakesProgress (λ _. Unit {0}) (item_count muts_left) h (Some (r νs.0)) (new νs.1) in let Steps : Type 0 = YieldsFirstMut muts_left h (Some (r νs.0)) (new νs.1) in let Moved : Type 0 = Moves h (Some (r νs.0)) (new νs.1) in
-      move ! (3 ∷ []) $ use0 𝓛 (raw (fact 𝓤 Moved)) (fact_i 𝓤 Moved (emp 𝓤) (cut, lf, mk)) $ join ! $ use0 𝓛 (raw (fact 𝓤 Goes)) (fact_i 𝓤 Goes (emp 𝓤) (firm (tt, tt, shorter) (λ _. tt))) $ join ! $ use0 𝓛 (raw (fact 𝓤 Steps)) (fact_i 𝓤 Steps (emp 𝓤) px) $ join ! $
-      move ! (3 ∷ 2 ∷ 1 ∷ 0 ∷ []) $ by ! (leaves 𝓛 En hs c y (live 1 (of_list (vptr b p ∷ []))) (Some (r νs.0)) (new νs.1, tt) (tt, tt)))
+    → muts_left h ≡ x ∷ chosen (marks (left - 1) rows h.width h.pad) back → length front ≡ sk → marks h.left h.rows_left h.width h.pad ≡ replicate sk false ++ true ∷ marks (left - 1) rows h.width h.pad → length back < n
+    → Sq 𝓛 (‵ (fat full_share written rb ro (words b p left rows h.width h.pad)) ∷ ‵ (fobs δ ((coded_list R.coded).code h.cells)) ∷ ‵ (fbor κ₁ (Body (Arr (mem R) n) b o δ)) ∷ ‵ (fobor κ₀ q₀ (Body (mem It) rb ro γ)) ∷ ‵ (fobs γ (It.coded.code h)) ∷ ‵ (fauth γ (It.coded.code h))
+    ∷ (‵ (flft κ₁ q₁) ⊛ ‵ (flft κ₂ q₂) ⊛ ‵ ftrue) ∷ holding 𝓛 Ev ((1, vptr rb ro) ∷ [])) (prop (Wp 𝓤 𝓛.H 𝓣.C 𝓣.Λ Ev (after 3 fn.body) (post 𝓤 𝓛.H (at_ret Ev Post)))) = λ p left rows x back cut at_p pos fl' fr' reaches' wide' px lf mk less.
+    let one : 1 ≤ n = omega arith in let first' : 1 * s ≤ n * s = mul-le-mul_right s one in let once : 1 * s ≡ s = one-mul s in let below : length back * s ≤ n * s = mul-le-mul_right s (omega arith) in
+    let fn' : n < 2 ^ 64 = rm.0 in let fit : n * s < 2 ^ 63 = rm.1 in
+    let tiny : s < 2 ^ 64 = omega arith in let f₁ : 1 * s < 2 ^ 64 = omega arith in let fm : left - 1 < 2 ^ 64 = omega arith in
+    let on : at o s (length front) + s ≡ 1 * s + p = omega (arith, at_p) in
+    let r : GName → MutBor X = λ ν. record { ref_ptr = (b, p); ghost_name = ν; now = x } in
+    let new : GName → PixelsIterMut X = λ ν. record { current = block_ptr b (1 * s + p); left = left - 1; rows_left = rows; width = h.width; pad = h.pad; marker = h.marker; name = ν; lender = h.lender; cells = back; reaches = reaches'; wide = wide'; small = omega (arith, less, rm.0) } in
+    let shorter : length (chosen (marks (left - 1) rows h.width h.pad) back) < length (muts_left h) = omega (arith, ap length px) in
+    exec ! 𝓣.C 𝓣.Λ Ev (after 3 fn.body) (at_ret Ev Post) $
+    sets ! (of_opd ! (load ! (through ! refl (fld ! refl (stop !))) (look_in ! 0 (sub ! 0 refl (whole !))))) refl (tt, tt) $
+    first ! $ blocks ! $ sets ! (of_opd ! (get ! refl)) refl (tt, tt) $
+    sets ! (bin ! (lit ! tt) (size_lit ! (record { fits = tiny })) (record { fits = f₁ })) refl (tt, record { fits = f₁ }) $
+    sets ! (bin ! (get ! refl) (get ! refl) tt) refl (tt, tt) $
+    assigns_last ! (of_opd ! (get ! refl)) (through ! refl (fld ! refl (stop !))) (store_in ! 0 (sub ! 0 refl (whole !)) (tt, tt)) $
+    exec ! 𝓣.C 𝓣.Λ Ev (after 5 fn.body) (at_ret Ev Post) $
+    sets ! (of_opd ! (load ! (through ! refl (fld ! refl (stop !))) (look_in ! 0 (sub ! 1 refl (whole !))))) refl (tt, record { fits = fl' }) $
+    sets ! (bin ! (get ! refl) (lit ! tt) pos) refl (tt, record { fits = fm }) $
+    assigns ! (of_opd ! (get ! refl)) (through ! refl (fld ! refl (stop !))) (store_in ! 0 (sub ! 1 refl (whole !)) (tt, record { fits = fm })) $
+    first ! $ blocks ! $ sets_last ! (addr ! (through ! refl (stop !))) refl (tt, tt) $
+    exec ! 𝓣.C 𝓣.Λ Ev (after 9 fn.body) (at_ret Ev Post) $
+    sets ! (of_opd ! (get ! refl)) refl (tt, tt) $
+    sets ! (agg ! (and_then ! (lit ! tt) (and_then ! (get ! refl) (no_more !)))) refl (tt, (record { fits = lit< tt }, (tt, tt))) $
+    use1 𝓛 (‵ (fat full_share (bare written) rb ro (words b (1 * s + p) (left - 1) rows h.width h.pad))) (𝓛.laws.at_raw full_share written rb ro (words b (1 * s + p) (left - 1) rows h.width h.pad)) $
+    -- the pixel is cut out of the cells
+    move ! (6 ∷ []) $ split ! $ move ! (3 ∷ 4 ∷ 0 ∷ []) $
+    rewrite ! 0 (λ (zs : List X). ‵ (fobs δ ((coded_list R.coded).code zs))) cut refl $ rewrite ! 1 (λ (zs : List X). ‵ (fbor κ₁ (Body (Arr (mem R) (length zs)) b o δ))) cut refl $ group ! 3 $
+    use1 𝓛 (later (some (λ (νs : GName × GName). raw (Taken 𝓛 R (named 1) κ₁ q₁ b o δ front x back νs)))) (takes 𝓛 R (named 1) κ₁ q₁ b o δ front x back) $ await ! tt $ pick ! (λ νs.
+    use1 𝓛 (‵ ((MutRef (named 1) κ₁ R).own_val (record { ref_ptr = (b, at o s (length front)); ghost_name = νs.0; now = x }) (vptr b (at o s (length front)) ∷ [])) ⊛ (‵ (fobs νs.1 ((coded_list R.coded).code back)) ⊛ ‵ (fbor κ₁ (Body (Arr (mem R) (length back)) b (at o s (length front) + s) νs.1))) ⊛ ‵ (flft κ₁ q₁) ⊛ ‵ (after₂ (Arr (mem R) 0) (mem R) (Arr (mem R) 0) δ νs.0 νs.1 (λ w ws. front ++ w ∷ ws))) (id⊢ 𝓤 _) $ split3 ! $
+    rewrite ! 0 (λ (k : ℕ). ‵ ((MutRef (named 1) κ₁ R).own_val (record { ref_ptr = (b, k); ghost_name = νs.0; now = x }) (vptr b k ∷ []))) at_p refl $ move ! (1 ∷ []) $ split ! $
+    -- [obs; its borrow; the pixel; the token and what follows; the token of T; the cell; the open borrow; obs; auth]
+    rewrite ! 1 (λ (k : ℕ). ‵ (fbor κ₁ (Body (Arr (mem R) (length back)) b k νs.1))) on refl $ fjoin ! $ pure_i ! (room R (length back)) (tt, tt) (omega arith, omega arith) $ fjoin ! $
+    use0 𝓛 (‵ ((Data α R).own_val (to (P.the_type α R) (new νs.1)) (words b (1 * s + p) (left - 1) rows h.width h.pad ∷ []))) (made α R 𝓛 (new νs.1) b (1 * s + p) refl fm fr' fw fp) $ fjoin ! $
+    move ! (4 ∷ 0 ∷ 5 ∷ 6 ∷ 7 ∷ []) $ closes ! tt It (new νs.1) (words b (1 * s + p) (left - 1) rows h.width h.pad ∷ []) rb ro $
+    returns ! (look_at ! 0 refl) $ free_all ! refl $
+    -- [obs; the borrow of self; its token; the pixel; the token of 'a and what follows; the token of T]
+    move ! (4 ∷ []) $ split ! $ move ! (0 ∷ 6 ∷ []) $ join ! $ move ! (4 ∷ 0 ∷ []) $ join ! $
+    move ! (2 ∷ 3 ∷ []) $ feq_i ! (List Val) (vptr rb ro ∷ []) (vptr rb ro ∷ []) refl $ fjoin3 ! $ nothing ! $ move ! (1 ∷ 0 ∷ []) $ fjoin ! $
+    move ! (3 ∷ []) $ use1 𝓛 (‵ ((OP.the_row (MutRef (named 1) κ₁ R)).own_val (Some (r νs.0)) (live 1 (of_list (vptr b p ∷ [])) ∷ []))) (Some-of 𝓛 (MutRef (named 1) κ₁ R) (r νs.0) (vptr b p)) $
+    let Goes : Type 0 = MakesProgress (λ _. Unit {0}) (item_count muts_left) h (Some (r νs.0)) (new νs.1) in let Steps : Type 0 = YieldsFirstMut muts_left h (Some (r νs.0)) (new νs.1) in let Moved : Type 0 = Moves h (Some (r νs.0)) (new νs.1) in
+    move ! (3 ∷ []) $ use0 𝓛 (raw (fact 𝓤 Moved)) (fact_i 𝓤 Moved (emp 𝓤) (cut, lf, mk)) $ join ! $ use0 𝓛 (raw (fact 𝓤 Goes)) (fact_i 𝓤 Goes (emp 𝓤) (firm (tt, tt, shorter) (λ _. tt))) $ join ! $ use0 𝓛 (raw (fact 𝓤 Steps)) (fact_i 𝓤 Steps (emp 𝓤) px) $ join ! $
+    move ! (3 ∷ 2 ∷ 1 ∷ 0 ∷ []) $ by ! (leaves 𝓛 En hs c y (live 1 (of_list (vptr b p ∷ []))) (Some (r νs.0)) (new νs.1, tt) (tt, tt)))
     in
     let m : ℕ = h.pad + h.width in let arm = then_arm (head (after 2 fn.body)) in let q = then_runs 𝓛 𝓣.C 𝓣.Λ Ev (after 3 fn.body) (at_ret Ev Post) in
     sets ! (of_opd ! (load ! (through ! refl (fld ! refl (stop !))) (look_in ! 0 (sub ! 1 refl (whole !))))) refl (tt, record { fits = fl }) $

@@ -33,7 +33,6 @@ use Rattle.imgref.proofs.Cursors.{words, then_runs, then_arm}
 use Rattle.imgref.proofs.Seen.{Data, made}
 use Rattle.imgref.proofs.Marks.{marks_in_line, marks_new_row, parts, pick_past, skipped_in_line, one_at_least, times_one_less}
 use Rattle.imgref.proofs.Seen.{gives}
-
 use denote.Param.{param, layouts}
 use denote.Param.Laws.{param_laws}
 use denote.Ref.{MutRef, Bor, ShrRef, mut_vals, mut_Tells}
@@ -101,47 +100,47 @@ next_spec 𝓤 𝓛 𝓜 𝓡 wired T' L =
     -- [the cell; obs δ; its borrow; the open borrow; obs; auth; the tokens]
     let X : Type 0 = T'.Denot in let sk : ℕ = skipped h.left h.pad in let front : List X = take sk h.cells in
     let tail : (p left rows : ℕ) (x : X) (back : List X) → h.cells ≡ front ++ x ∷ back → at o s (length front) ≡ p → 1 ≤ left → left < 2 ^ 64 → rows < 2 ^ 64 → (left - 1) + rows * (h.pad + h.width) ≤ length back → (0 < rows → 0 < h.width)
-        → refs_left h ≡ x ∷ chosen (marks (left - 1) rows h.width h.pad) back → length back < n
-        → Sq 𝓛 (‵ (fat full_share written rb ro (words b p left rows h.width h.pad)) ∷ ‵ (fhide (elements_shared R h.cells b o κ₁)) ∷ ‵ (fobor κ₀ q₀ (Body (mem It) rb ro γ)) ∷ ‵ (fobs γ (It.coded.code h)) ∷ ‵ (fauth γ (It.coded.code h))
-        ∷ (‵ (flft κ₁ q₁) ⊛ ‵ (flft κ₂ q₂) ⊛ ‵ ftrue) ∷ holding 𝓛 Ev ((1, vptr rb ro) ∷ [])) (prop (Wp 𝓤 𝓛.H 𝓣.C 𝓣.Λ Ev (after 3 fn.body) (post 𝓤 𝓛.H (at_ret Ev Post)))) = λ p left rows x back cut at_p pos fl' fr' reaches' wide' px less.
-      let one : 1 ≤ n = omega arith in let first' : 1 * s ≤ n * s = mul-le-mul_right s one in let once : 1 * s ≡ s = one-mul s in let below : length back * s ≤ n * s = mul-le-mul_right s (omega arith) in
-      let fn' : n < 2 ^ 64 = rm.0 in let fit : n * s < 2 ^ 63 = rm.1 in
-      let tiny : s < 2 ^ 64 = omega arith in let f₁ : 1 * s < 2 ^ 64 = omega arith in let fm : left - 1 < 2 ^ 64 = omega arith in
-      let on : at o s (length front) + s ≡ 1 * s + p = omega (arith, at_p) in
-      let r : Bor X = record { ref_ptr = (b, p); now = x } in
-      let new : PixelsRefIter X = record { current = block_ptr b (1 * s + p); left = left - 1; rows_left = rows; width = h.width; pad = h.pad; marker = h.marker; cells = back; reaches = reaches'; wide = wide'; small = omega (arith, less, rm.0) } in
-      let shorter : length (chosen (marks (left - 1) rows h.width h.pad) back) < length (refs_left h) = omega (arith, ap length px) in
-      exec ! 𝓣.C 𝓣.Λ Ev (after 3 fn.body) (at_ret Ev Post) $
-      sets ! (of_opd ! (load ! (through ! refl (fld ! refl (stop !))) (look_in ! 0 (sub ! 0 refl (whole !))))) refl (tt, tt) $
-      first ! $ blocks ! $ sets ! (of_opd ! (get ! refl)) refl (tt, tt) $
-      sets ! (bin ! (lit ! tt) (size_lit ! (record { fits = tiny })) (record { fits = f₁ })) refl (tt, record { fits = f₁ }) $
-      sets ! (bin ! (get ! refl) (get ! refl) tt) refl (tt, tt) $
-      assigns_last ! (of_opd ! (get ! refl)) (through ! refl (fld ! refl (stop !))) (store_in ! 0 (sub ! 0 refl (whole !)) (tt, tt)) $
-      exec ! 𝓣.C 𝓣.Λ Ev (after 5 fn.body) (at_ret Ev Post) $
-      sets ! (of_opd ! (load ! (through ! refl (fld ! refl (stop !))) (look_in ! 0 (sub ! 1 refl (whole !))))) refl (tt, record { fits = fl' }) $
-      sets ! (bin ! (get ! refl) (lit ! tt) pos) refl (tt, record { fits = fm }) $
-      assigns ! (of_opd ! (get ! refl)) (through ! refl (fld ! refl (stop !))) (store_in ! 0 (sub ! 1 refl (whole !)) (tt, record { fits = fm })) $
-      first ! $ blocks ! $ sets_last ! (addr ! (through ! refl (stop !))) refl (tt, tt) $
-      exec ! 𝓣.C 𝓣.Λ Ev (after 9 fn.body) (at_ret Ev Post) $
-      sets ! (of_opd ! (get ! refl)) refl (tt, tt) $
-      sets ! (agg ! (and_then ! (lit ! tt) (and_then ! (get ! refl) (no_more !)))) refl (tt, (record { fits = lit< tt }, (tt, tt))) $
-      use1 𝓛 (‵ (fat full_share (bare written) rb ro (words b (1 * s + p) (left - 1) rows h.width h.pad))) (𝓛.laws.at_raw full_share written rb ro (words b (1 * s + p) (left - 1) rows h.width h.pad)) $
-      -- the pixel is seen among the cells
-      move ! (1 ∷ []) $ rewrite ! 0 (λ (zs : List X). ‵ (fhide (elements_shared R zs b o κ₁))) cut refl $ unhide ! $
-      use1 𝓛 (‵ (shared_of R x b (at o s (length front)) κ₁) ⊛ ‵ (elements_shared R back b (at o s (length front) + s) κ₁)) (gives 𝓛 (shared_of R) s b κ₁ x back front o) $ split ! $
-      rewrite ! 0 (λ (k : ℕ). ‵ (shared_of R x b k κ₁)) at_p refl $ hide ! $ move ! (1 ∷ []) $
-      rewrite ! 0 (λ (k : ℕ). ‵ (elements_shared R back b k κ₁)) on refl $ hide ! $ pure_i ! (room R (length back)) (tt, tt) (omega arith, omega arith) $ fjoin ! $
-      use0 𝓛 (‵ ((Data α R).own_val (to (P.the_type α R) new) (words b (1 * s + p) (left - 1) rows h.width h.pad ∷ []))) (made α R 𝓛 new b (1 * s + p) refl fm fr' fw fp) $ fjoin ! $
-      -- [the cursor; the pixel; the cell; the open borrow; obs; auth; the tokens]
-      move ! (2 ∷ 0 ∷ 3 ∷ 4 ∷ 5 ∷ []) $ closes ! tt It new (words b (1 * s + p) (left - 1) rows h.width h.pad ∷ []) rb ro $
-      returns ! (look_at ! 0 refl) $ free_all ! refl $
-      -- [obs; the borrow of self; its token; the pixel; the tokens of 'a and of T]
-      move ! (2 ∷ 4 ∷ []) $ join ! $ move ! (1 ∷ 2 ∷ []) $ feq_i ! (List Val) (vptr rb ro ∷ []) (vptr rb ro ∷ []) refl $ fjoin3 ! $ nothing ! $ move ! (1 ∷ 0 ∷ []) $ fjoin ! $
-      move ! (2 ∷ []) $ feq_i ! (List Val) (vptr b p ∷ []) (vptr b p ∷ []) refl $ fjoin ! $
-      use1 𝓛 (‵ ((OP.the_row (ShrRef (named 1) κ₁ R)).own_val (Some r) (live 1 (of_list (vptr b p ∷ [])) ∷ []))) (Some-of 𝓛 (ShrRef (named 1) κ₁ R) r (vptr b p)) $
-      let Goes : Type 0 = MakesProgress (λ _. Unit {0}) (item_count refs_left) h (Some r) new in let Steps : Type 0 = YieldsFirstRef refs_left h (Some r) new in
-      use0 𝓛 (raw (fact 𝓤 Goes)) (fact_i 𝓤 Goes (emp 𝓤) (firm (tt, tt, shorter) (λ _. tt))) $ use0 𝓛 (raw (fact 𝓤 Steps)) (fact_i 𝓤 Steps (emp 𝓤) px) $ join ! $
-      move ! (3 ∷ 2 ∷ 1 ∷ 0 ∷ []) $ by ! (leaves 𝓛 En hs c y (live 1 (of_list (vptr b p ∷ []))) (Some r) (new, tt) (tt, tt))
+    → refs_left h ≡ x ∷ chosen (marks (left - 1) rows h.width h.pad) back → length back < n
+    → Sq 𝓛 (‵ (fat full_share written rb ro (words b p left rows h.width h.pad)) ∷ ‵ (fhide (elements_shared R h.cells b o κ₁)) ∷ ‵ (fobor κ₀ q₀ (Body (mem It) rb ro γ)) ∷ ‵ (fobs γ (It.coded.code h)) ∷ ‵ (fauth γ (It.coded.code h))
+    ∷ (‵ (flft κ₁ q₁) ⊛ ‵ (flft κ₂ q₂) ⊛ ‵ ftrue) ∷ holding 𝓛 Ev ((1, vptr rb ro) ∷ [])) (prop (Wp 𝓤 𝓛.H 𝓣.C 𝓣.Λ Ev (after 3 fn.body) (post 𝓤 𝓛.H (at_ret Ev Post)))) = λ p left rows x back cut at_p pos fl' fr' reaches' wide' px less.
+    let one : 1 ≤ n = omega arith in let first' : 1 * s ≤ n * s = mul-le-mul_right s one in let once : 1 * s ≡ s = one-mul s in let below : length back * s ≤ n * s = mul-le-mul_right s (omega arith) in
+    let fn' : n < 2 ^ 64 = rm.0 in let fit : n * s < 2 ^ 63 = rm.1 in
+    let tiny : s < 2 ^ 64 = omega arith in let f₁ : 1 * s < 2 ^ 64 = omega arith in let fm : left - 1 < 2 ^ 64 = omega arith in
+    let on : at o s (length front) + s ≡ 1 * s + p = omega (arith, at_p) in
+    let r : Bor X = record { ref_ptr = (b, p); now = x } in
+    let new : PixelsRefIter X = record { current = block_ptr b (1 * s + p); left = left - 1; rows_left = rows; width = h.width; pad = h.pad; marker = h.marker; cells = back; reaches = reaches'; wide = wide'; small = omega (arith, less, rm.0) } in
+    let shorter : length (chosen (marks (left - 1) rows h.width h.pad) back) < length (refs_left h) = omega (arith, ap length px) in
+    exec ! 𝓣.C 𝓣.Λ Ev (after 3 fn.body) (at_ret Ev Post) $
+    sets ! (of_opd ! (load ! (through ! refl (fld ! refl (stop !))) (look_in ! 0 (sub ! 0 refl (whole !))))) refl (tt, tt) $
+    first ! $ blocks ! $ sets ! (of_opd ! (get ! refl)) refl (tt, tt) $
+    sets ! (bin ! (lit ! tt) (size_lit ! (record { fits = tiny })) (record { fits = f₁ })) refl (tt, record { fits = f₁ }) $
+    sets ! (bin ! (get ! refl) (get ! refl) tt) refl (tt, tt) $
+    assigns_last ! (of_opd ! (get ! refl)) (through ! refl (fld ! refl (stop !))) (store_in ! 0 (sub ! 0 refl (whole !)) (tt, tt)) $
+    exec ! 𝓣.C 𝓣.Λ Ev (after 5 fn.body) (at_ret Ev Post) $
+    sets ! (of_opd ! (load ! (through ! refl (fld ! refl (stop !))) (look_in ! 0 (sub ! 1 refl (whole !))))) refl (tt, record { fits = fl' }) $
+    sets ! (bin ! (get ! refl) (lit ! tt) pos) refl (tt, record { fits = fm }) $
+    assigns ! (of_opd ! (get ! refl)) (through ! refl (fld ! refl (stop !))) (store_in ! 0 (sub ! 1 refl (whole !)) (tt, record { fits = fm })) $
+    first ! $ blocks ! $ sets_last ! (addr ! (through ! refl (stop !))) refl (tt, tt) $
+    exec ! 𝓣.C 𝓣.Λ Ev (after 9 fn.body) (at_ret Ev Post) $
+    sets ! (of_opd ! (get ! refl)) refl (tt, tt) $
+    sets ! (agg ! (and_then ! (lit ! tt) (and_then ! (get ! refl) (no_more !)))) refl (tt, (record { fits = lit< tt }, (tt, tt))) $
+    use1 𝓛 (‵ (fat full_share (bare written) rb ro (words b (1 * s + p) (left - 1) rows h.width h.pad))) (𝓛.laws.at_raw full_share written rb ro (words b (1 * s + p) (left - 1) rows h.width h.pad)) $
+    -- the pixel is seen among the cells
+    move ! (1 ∷ []) $ rewrite ! 0 (λ (zs : List X). ‵ (fhide (elements_shared R zs b o κ₁))) cut refl $ unhide ! $
+    use1 𝓛 (‵ (shared_of R x b (at o s (length front)) κ₁) ⊛ ‵ (elements_shared R back b (at o s (length front) + s) κ₁)) (gives 𝓛 (shared_of R) s b κ₁ x back front o) $ split ! $
+    rewrite ! 0 (λ (k : ℕ). ‵ (shared_of R x b k κ₁)) at_p refl $ hide ! $ move ! (1 ∷ []) $
+    rewrite ! 0 (λ (k : ℕ). ‵ (elements_shared R back b k κ₁)) on refl $ hide ! $ pure_i ! (room R (length back)) (tt, tt) (omega arith, omega arith) $ fjoin ! $
+    use0 𝓛 (‵ ((Data α R).own_val (to (P.the_type α R) new) (words b (1 * s + p) (left - 1) rows h.width h.pad ∷ []))) (made α R 𝓛 new b (1 * s + p) refl fm fr' fw fp) $ fjoin ! $
+    -- [the cursor; the pixel; the cell; the open borrow; obs; auth; the tokens]
+    move ! (2 ∷ 0 ∷ 3 ∷ 4 ∷ 5 ∷ []) $ closes ! tt It new (words b (1 * s + p) (left - 1) rows h.width h.pad ∷ []) rb ro $
+    returns ! (look_at ! 0 refl) $ free_all ! refl $
+    -- [obs; the borrow of self; its token; the pixel; the tokens of 'a and of T]
+    move ! (2 ∷ 4 ∷ []) $ join ! $ move ! (1 ∷ 2 ∷ []) $ feq_i ! (List Val) (vptr rb ro ∷ []) (vptr rb ro ∷ []) refl $ fjoin3 ! $ nothing ! $ move ! (1 ∷ 0 ∷ []) $ fjoin ! $
+    move ! (2 ∷ []) $ feq_i ! (List Val) (vptr b p ∷ []) (vptr b p ∷ []) refl $ fjoin ! $
+    use1 𝓛 (‵ ((OP.the_row (ShrRef (named 1) κ₁ R)).own_val (Some r) (live 1 (of_list (vptr b p ∷ [])) ∷ []))) (Some-of 𝓛 (ShrRef (named 1) κ₁ R) r (vptr b p)) $
+    let Goes : Type 0 = MakesProgress (λ _. Unit {0}) (item_count refs_left) h (Some r) new in let Steps : Type 0 = YieldsFirstRef refs_left h (Some r) new in
+    use0 𝓛 (raw (fact 𝓤 Goes)) (fact_i 𝓤 Goes (emp 𝓤) (firm (tt, tt, shorter) (λ _. tt))) $ use0 𝓛 (raw (fact 𝓤 Steps)) (fact_i 𝓤 Steps (emp 𝓤) px) $ join ! $
+    move ! (3 ∷ 2 ∷ 1 ∷ 0 ∷ []) $ by ! (leaves 𝓛 En hs c y (live 1 (of_list (vptr b p ∷ []))) (Some r) (new, tt) (tt, tt))
     in
     let m : ℕ = h.pad + h.width in let arm = then_arm (head (after 2 fn.body)) in let q = then_runs 𝓛 𝓣.C 𝓣.Λ Ev (after 3 fn.body) (at_ret Ev Post) in
     sets ! (of_opd ! (load ! (through ! refl (fld ! refl (stop !))) (look_in ! 0 (sub ! 1 refl (whole !))))) refl (tt, record { fits = fl }) $
