@@ -1,7 +1,7 @@
 ghost use Rattle.std.specs.Prelude.{◌≡◌, ◌*◌, ◌^◌, ◌<◌, ◌↔◌, IsTrue, All, count_by, nat_eq, sum};
 ghost use Rattle.image_model.specs.Layout.{Fits};
 ghost use Rattle.image_model.specs.Rows.{pixels};
-ghost use Rattle.imgref.specs.Image.{width_of, height_of, ref_layout};
+ghost use Rattle.imgref.specs.Image.{width_of, height_of, ref_layout, mut_layout};
 
 use crate::{ImgRef, ImgRefMut, ImgVec, fill_pixels};
 use std::alloc::{AllocError, Global};
@@ -66,8 +66,27 @@ fn len_of<I: ExactSizeIterator>(items: &I) -> usize {
 fn is_over<I: FusedIterator>(items: &mut I) -> bool
 where
     I::Item: Drop,
+    requires { I.can_next items.old }
 {
-    items.next().is_none() && items.next().is_none()
+    items.next().is_none()
+}
+
+fn count_lent(image: &ImgRefMut<'_, u8>) -> usize
+    requires { Fits (mut_layout image.now) }
+{
+    image.pixels().count()
+}
+
+fn count_seen(image: &ImgRefMut<'_, u8>) -> usize
+    requires { Fits (mut_layout image.now) }
+{
+    image.as_ref().pixels().count()
+}
+
+fn count_written(image: &mut ImgRefMut<'_, u8>) -> usize
+    requires { Fits (mut_layout image.old) }
+{
+    image.pixels_mut().count()
 }
 
 // A pixel that can't be copied.
@@ -77,22 +96,35 @@ struct Bead {
 }
 
 #[test]
-fn pixels_leave_out_the_padding(rt: HostRuntime) -> Result<(), Fail> {
-    let mut image = padded(rt.alloc())?;
-    let expected = [1u8, 2, 3, 5, 6, 7];
+fn an_owner_gives_its_pixels(rt: HostRuntime) -> Result<(), Fail> {
+    let image = padded(rt.alloc())?;
     assert!(rt; image.is_valid());
-    let owned: Vec<u8> = image.pixels().collect(rt.alloc())?;
-    assert_eq!(rt; owned.as_slice(), expected.as_slice());
+    let found: Vec<u8> = image.pixels().collect(rt.alloc())?;
+    assert_eq!(rt; found.as_slice(), [1u8, 2, 3, 5, 6, 7].as_slice());
+    Ok(())
+}
+
+#[test]
+fn a_view_gives_its_pixels(rt: HostRuntime) -> Result<(), Fail> {
     let view = ImgRef::new_stride(PADDED.as_slice(), 3, 2, 4);
     assert!(rt; view.is_valid());
-    let lent: Vec<u8> = view.pixels().collect(rt.alloc())?;
-    assert_eq!(rt; lent.as_slice(), expected.as_slice());
-    let seen: Vec<u8> = view.pixels_ref().copied().collect(rt.alloc())?;
-    assert_eq!(rt; seen.as_slice(), expected.as_slice());
-    let for_writing = image.as_mut();
-    assert!(rt; for_writing.is_valid());
-    let copied: Vec<u8> = for_writing.pixels().collect(rt.alloc())?;
-    assert_eq!(rt; copied.as_slice(), expected.as_slice());
+    let found: Vec<u8> = view.pixels().collect(rt.alloc())?;
+    assert_eq!(rt; found.as_slice(), [1u8, 2, 3, 5, 6, 7].as_slice());
+    let mut seen = view.pixels_ref();
+    for expected in [1u8, 2, 3, 5, 6, 7] {
+        assert_eq!(rt; seen.next().copied(), Some(expected));
+    }
+    assert!(rt; is_over(&mut seen) && is_over(&mut seen));
+    Ok(())
+}
+
+#[test]
+fn an_image_for_writing_gives_its_pixels(rt: HostRuntime) -> Result<(), Fail> {
+    let mut cells = PADDED;
+    let image = ImgRefMut::new_stride(cells.as_mut_slice(), 3, 2, 4);
+    assert!(rt; image.is_valid());
+    let found: Vec<u8> = image.pixels().collect(rt.alloc())?;
+    assert_eq!(rt; found.as_slice(), [1u8, 2, 3, 5, 6, 7].as_slice());
     Ok(())
 }
 
@@ -138,13 +170,13 @@ fn pixels_without_size(rt: HostRuntime) -> Result<(), Fail> {
         assert!(rt; pixels.next().is_some());
     }
     assert_eq!(rt; len_of(&pixels), 0);
-    assert!(rt; is_over(&mut pixels));
+    assert!(rt; is_over(&mut pixels) && is_over(&mut pixels));
     let mut seen = image.pixels_ref();
     for left in [4, 3, 2, 1] {
         assert_eq!(rt; len_of(&seen), left);
         assert!(rt; seen.next().is_some());
     }
-    assert!(rt; is_over(&mut seen));
+    assert!(rt; is_over(&mut seen) && is_over(&mut seen));
     let mut writing = ImgRefMut::new_stride(cells.as_mut_slice(), 2, 2, 3);
     assert!(rt; writing.is_valid());
     let mut items = writing.pixels_mut();
@@ -152,7 +184,7 @@ fn pixels_without_size(rt: HostRuntime) -> Result<(), Fail> {
         assert_eq!(rt; len_of(&items), left);
         assert!(rt; items.next().is_some());
     }
-    assert!(rt; is_over(&mut items));
+    assert!(rt; is_over(&mut items) && is_over(&mut items));
     Ok(())
 }
 
@@ -173,7 +205,7 @@ fn sizes_of_pixels_that_are_no_copies(rt: HostRuntime) -> Result<(), Fail> {
         assert_eq!(rt; pixels.next().map(|bead| bead.weight), Some(weight));
     }
     assert_eq!(rt; pixels.size_hint(), (0, Some(0)));
-    assert!(rt; is_over(&mut pixels));
+    assert!(rt; is_over(&mut pixels) && is_over(&mut pixels));
     Ok(())
 }
 
@@ -237,7 +269,7 @@ fn one_row_at_the_greatest_stride(rt: HostRuntime) -> Result<(), Fail> {
     assert!(rt; image.is_valid());
     let mut pixels = image.pixels();
     assert_eq!(rt; pixels.next(), Some(5));
-    assert!(rt; is_over(&mut pixels));
+    assert!(rt; is_over(&mut pixels) && is_over(&mut pixels));
     image.fill(7);
     assert_eq!(rt; cells, [7u8]);
     Ok(())
@@ -300,21 +332,18 @@ fn every_small_size_has_its_pixels(rt: HostRuntime) -> Result<(), Fail> {
 #[test]
 fn each_kind_has_all_its_pixels(rt: HostRuntime) -> Result<(), Fail> {
     let mut cells = cells_of(rt.alloc(), 10000, 0)?;
+    let mut others = cells_of(rt.alloc(), 10000, 0)?;
     for width in 1..10usize {
         for height in 1..15usize {
-            let mut image = ImgVec::new_stride(cells, width, height, 100);
-            assert!(rt; image.is_valid());
-            assert_eq!(rt; image.pixels_mut().count(), width * height);
-            let lent = image.as_mut();
+            let mut owner = ImgVec::new_stride(cells, width, height, 100);
+            assert!(rt; owner.is_valid());
+            assert_eq!(rt; owner.pixels_mut().count(), width * height);
+            cells = owner.into_buf();
+            let mut lent = ImgRefMut::new_stride(others.as_mut_slice(), width, height, 100);
             assert!(rt; lent.is_valid());
-            assert_eq!(rt; lent.pixels().count(), width * height);
-            let seen = lent.as_ref();
-            assert!(rt; seen.is_valid());
-            assert_eq!(rt; seen.pixels().count(), width * height);
-            let mut again = image.as_mut();
-            assert!(rt; again.is_valid());
-            assert_eq!(rt; again.pixels_mut().count(), width * height);
-            cells = image.into_buf();
+            assert_eq!(rt; count_lent(&lent), width * height);
+            assert_eq!(rt; count_seen(&lent), width * height);
+            assert_eq!(rt; count_written(&mut lent), width * height);
         }
     }
     Ok(())

@@ -98,7 +98,7 @@ pixels_mut_spec 𝓤 𝓛 𝓜 𝓡 wired X Y LX LY gh d gs ds bm bs =
     let marked = marks_of x.now.width x.now.height x.now.stride in
     let Pixels : PixelsIterMut Y.Denot → Type 0 = λ r. muts_left r ≡ pixels old in let Count : PixelsIterMut Y.Denot → Type 0 = λ r. length (muts_left r) ≡ x.now.width * x.now.height in let Countable : PixelsIterMut Y.Denot → Type 0 = λ r. length (muts_left r) < 2 ^ 64 in
     use1 𝓛 (later (some (λ (r : PixelsIterMut Y.Denot). (Tok ⊛ ‵ (cursor.own_val r (v ∷ []))) ⊛ some (λ (ws : Unit {0} × Unit {0}). ‵ (lasts (f.ended X Y gh d gs ds) z₁.0.0 z₁.0.3 ws) ⊛ (‵ (follows Whole (Array R 0) x.ghost_name (name_of r) F)
-      ⊛ raw (fact 𝓤 (lender_of r ≡ x.ghost_name)) ⊛ raw (fact 𝓤 (cells_left r ≡ old.cells)) ⊛ raw (fact 𝓤 (marks_left r ≡ marked)) ⊛ raw (fact 𝓤 (Pixels r)) ⊛ raw (fact 𝓤 (Count r)) ⊛ raw (fact 𝓤 (Countable r))))))) (id⊢ 𝓤 _) $
+    ⊛ raw (fact 𝓤 (lender_of r ≡ x.ghost_name)) ⊛ raw (fact 𝓤 (cells_left r ≡ old.cells)) ⊛ raw (fact 𝓤 (marks_left r ≡ marked)) ⊛ raw (fact 𝓤 (Pixels r)) ⊛ raw (fact 𝓤 (Count r)) ⊛ raw (fact 𝓤 (Countable r))))))) (id⊢ 𝓤 _) $
     await ! tt $ pick ! (λ r. split ! $ split ! $ move ! (2 ∷ []) $ pick ! (λ ws. split ! $ drop ! $ split ! $ drop ! $
     split ! $ heard ! (lender_of r ≡ x.ghost_name) (λ same. split ! $ drop ! $ split ! $ drop ! $ split ! $ heard ! (Pixels r) (λ is_pixels. split ! $ heard ! (Count r) (λ count. heard ! (Countable r) (λ countable.
     -- [the tokens; the cursor]
