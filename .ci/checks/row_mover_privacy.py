@@ -15,7 +15,7 @@ import sys
 import tempfile
 
 RT = os.environ.get("RT", "rt")
-ROOT = os.path.dirname(os.path.dirname(os.path.realpath(__file__)))
+ROOT = os.path.dirname(os.path.dirname(os.path.dirname(os.path.realpath(__file__))))
 # row_mover and what it stands on: the kept work of these makes the checks quick
 CRATES = ("image_model", "row_mover")
 MOVER, MOVES = "src/mover.rt", "src/moves.rt"
