@@ -1,0 +1,56 @@
+//! Commands over images, and their replies.
+
+use crate::window::Window;
+
+/// A window of one image: the image's number and a path of nested windows.
+#[derive(Drop)]
+pub struct Place {
+    /// The number of the image, from 0.
+    pub image: usize,
+    /// Windows, each of the one before it; the empty path is the whole image.
+    pub path: Vec<Window>,
+}
+
+/// What is done to images, or asked of them.
+#[derive(Drop)]
+pub enum Command<T> {
+    /// The pixel at column `x` of row `y` of a window.
+    Get {
+        spot: Place,
+        x: usize,
+        y: usize,
+    },
+    /// `value` is written at column `x` of row `y` of a window.
+    Put {
+        spot: Place,
+        x: usize,
+        y: usize,
+        value: T,
+    },
+}
+
+/// What a command answers.
+#[derive(Clone, Copy, PartialEq, Eq)]
+pub enum Reply<T> {
+    /// The pixel that was asked for.
+    Pixel(T),
+    /// How many pixels there are.
+    Counted(usize),
+    /// Whether it is so.
+    Truth(bool),
+    /// The command was carried out.
+    Done,
+    /// The command has this fault, and changed nothing.
+    Refused(Refusal),
+}
+
+/// The first fault of a command.
+#[derive(Clone, Copy, PartialEq, Eq)]
+pub enum Refusal {
+    /// The image number isn't below the number of images.
+    NoImage,
+    /// A window of the path isn't inside the size before it.
+    WindowOutside,
+    /// The place isn't one of the window.
+    PlaceOutside,
+}
