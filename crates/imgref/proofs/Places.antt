@@ -1,23 +1,47 @@
--- A window that is inside an image that fits has its cells.
-use Rattle.std.proofs.Common.{ℕ, ◌+◌, ◌-◌, ◌*◌, ◌<◌, ◌≤◌, arith, mul-le-mul_left, if◌then◌else◌}
-use Rattle.std.specs.Prelude.{◌==◌, ◌||◌}
-use Rattle.std.proofs.lemmas.Bool.Decides.{nat_tests}
-use native.Mathlib.Nat.{mul-add}
-use Rattle.image_model.specs.Layout.{Reaches}
-use Rattle.image_model.specs.Windows.{Window, IsInside, exact_stretch}
-use Rattle.imgref.specs.Window.{IsWithin}
+-- What a window shows of an image that fits.
+use Rattle.std.proofs.Common.{◌≡◌, ℕ, ◌≤◌, Bool, true, false, List, length, refl, sym, ap, subst, ◌∙◌}
+use Rattle.image_model.specs.Layout.{Layout, layout, Reaches, Fits}
+use Rattle.image_model.specs.Grid.{grid_of}
+use Rattle.image_model.specs.Windows.{Window, IsInside, exact_stretch, stretch_cells, window_view}
+use Rattle.image_model.proofs.Windows.{exact_has, exact_fits, exact_grid, roomy_fits, roomy_grid}
+use Rattle.imgref.specs.Window.{IsWithin, stretch_of, window_of, region}
+use Rattle.imgref.specs.declared.window.Region.{Region}
 
-corner_within : (count stride width height left top w h : ℕ) → 0 < w → 0 < h → Reaches count width height stride → left + w ≤ width → top + h ≤ height → (stride * top + left) + (stride * (h - 1) + w) ≤ count
-corner_within count stride width height left top w h wide high fits across down =
-    let all : stride * (height - 1) + width ≤ count = fits (omega arith) (omega arith) in
-    let rows : top + (h - 1) ≤ height - 1 = omega arith in
-    omega (arith, all, across, mul-le-mul_left stride rows, mul-add stride top (h - 1))
-
--- where a window is not empty its cells are there, and an empty one has none
-with_none : (count start len w h : ℕ) → (0 < w → 0 < h → start + len ≤ count) → (if (w == 0) || (h == 0) then 0 else start) + (if (w == 0) || (h == 0) then 0 else len) ≤ count
-with_none count start len w h holds = grind (arith, nat_tests)
-
+-- a window that is inside has its cells
 pub window_within : (count stride width height : ℕ) (w : Window) → Reaches count width height stride → IsInside width height w → IsWithin count (exact_stretch stride w)
-window_within count stride width height w fits inside =
-    with_none count (stride * w.top + w.left) (stride * (w.height - 1) + w.width) w.width w.height
-    (λ wide high. corner_within count stride width height w.left w.top w.width w.height wide high fits inside.0 inside.1)
+window_within count stride width height w fits inside = (exact_has count stride width height w fits inside).within
+
+module _ {T : Type 0} (l : Layout T) (narrow : l.width ≤ l.stride) (fits : Fits l) (w : Window) (inside : IsInside l.width l.height w) where
+  of_fits : (roomy : Bool) → Fits (window_of roomy l w)
+  of_fits true = roomy_fits l w narrow fits inside
+  of_fits false = exact_fits l w fits inside
+
+  of_grid : (roomy : Bool) → grid_of (window_of roomy l w) ≡ window_view (grid_of l) w
+  of_grid true = roomy_grid l w narrow fits inside
+  of_grid false = exact_grid l w fits inside
+
+  -- a window fits
+  pub window_fits : (roomy : Bool) (m : Layout T) → m ≡ window_of roomy l w → Fits m
+  window_fits roomy m e = subst Fits (sym e) (of_fits roomy)
+
+  -- and shows the view
+  pub window_shows : (roomy : Bool) (m : Layout T) → m ≡ window_of roomy l w → grid_of m ≡ window_view (grid_of l) w
+  window_shows roomy m e = ap grid_of e ∙ of_grid roomy
+
+-- the stretch that was asked for, and the window of its cells
+pub stretch_is : {T : Type 0} (l : Layout T) (w : Window) (roomy asked : Bool) (r : Region) → r ≡ region (stretch_of asked (length l.cells) l.stride w) w → asked ≡ roomy
+    → record { start = r.start; len = r.len } ≡ stretch_of roomy (length l.cells) l.stride w
+stretch_is l w roomy asked r e same = ap (λ (q : Region). record { start = q.start; len = q.len }) e ∙ ap (λ (b : Bool). stretch_of b (length l.cells) l.stride w) same
+
+of_stretch : {T : Type 0} (l : Layout T) (w : Window) (roomy : Bool) → layout (stretch_cells l.cells (stretch_of roomy (length l.cells) l.stride w)) w.width w.height l.stride ≡ window_of roomy l w
+of_stretch l w true = refl
+of_stretch l w false = refl
+
+pub window_is : {T : Type 0} (l : Layout T) (w : Window) (roomy asked : Bool) (r : Region) (cells : List T) → r ≡ region (stretch_of asked (length l.cells) l.stride w) w → asked ≡ roomy → cells ≡ stretch_cells l.cells (record { start = r.start; len = r.len })
+    → layout cells w.width w.height l.stride ≡ window_of roomy l w
+window_is l w roomy asked r cells e same are = ap (λ cs. layout cs w.width w.height l.stride) (are ∙ ap (stretch_cells l.cells) (stretch_is l w roomy asked r e same)) ∙ of_stretch l w roomy
+
+-- the same, with the size that the region has
+pub region_is : {T : Type 0} (l : Layout T) (w : Window) (roomy asked : Bool) (r : Region) (cells : List T) → r ≡ region (stretch_of asked (length l.cells) l.stride w) w → asked ≡ roomy → cells ≡ stretch_cells l.cells (record { start = r.start; len = r.len })
+    → layout cells r.width r.height l.stride ≡ window_of roomy l w
+region_is l w roomy asked r cells e same are = ap (λ (q : Region). layout cells q.width q.height l.stride) e ∙ window_is l w roomy asked r cells e same are

@@ -67,7 +67,7 @@ impl<'a, T> AsSlice for &'a [T] {
     ghost cells = { λ s. s.now };
 
     fn as_slice(&self) -> &[T] {
-        *self
+        &self[..]
     }
 }
 
@@ -125,7 +125,7 @@ impl<'a, T> AsMutCell for &'a mut [T] {
     ghost with_cell = { λ s at w. record s { now = slice_set s.now at w } };
 
     fn cell_mut(&mut self, at: usize) -> &mut T {
-        &mut self[at]
+        &mut (*self)[at]
     }
 
     ghost other_cells_stay = { λ c at value within. refl };

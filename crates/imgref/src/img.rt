@@ -130,19 +130,15 @@ impl<Container> Img<Container> {
     pub fn into_buf(self) -> Container
         ensures { result ≡ buf_of self }
     {
-        let Img {
-            buf,
-            width: _,
-            height: _,
-            stride: _,
-        } = self;
+        let (buf, _, _, _) = self.into_parts();
         buf
     }
 
     /// The container, the width, the height and the stride, taken out of the image.
     ///
-    /// For a caller that is itself proved: a lent slice keeps its tie to what lent it as it goes
-    /// through this call and on into `new_stride`, where a returned image loses it.
+    /// In code that is itself proved, take a lent slice out in a function that returns it: its
+    /// caller then knows it for the slice that the image was made of, and what is written there
+    /// for a write to the lender. Of a slice that ends where it was taken out, nothing is known.
     pub fn into_parts(self) -> (Container, usize, usize, usize)
         ensures buf { result.0 ≡ buf_of self }
         ensures width { result.1 ≡ width_of self }

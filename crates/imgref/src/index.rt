@@ -1,11 +1,10 @@
 ghost use Rattle.std.specs.Prelude.{◌≡◌, ◌+◌, ◌≤◌, ◌<◌, length, take, drop, Some};
-ghost use Rattle.std.specs.Borrow.{sem, Lends, follows, Array};
-ghost use Rattle.image_model.specs.Layout.{Fits, cell_of, pixel};
+ghost use Rattle.std.specs.Borrow.{sem, Lends, Array};
+ghost use Rattle.image_model.specs.Layout.{Fits, pixel};
 ghost use Rattle.image_model.specs.Rows.{row as row_of};
-ghost use Rattle.image_model.specs.Windows.{window_start};
 ghost use Rattle.imgref.specs.contracts.img.Img.{the_row};
-ghost use Rattle.imgref.specs.Image.{buf_of, width_of, height_of, stride_of, with_buf, layout_by};
-ghost use Rattle.imgref.specs.Index.{HasCell, row_window};
+ghost use Rattle.imgref.specs.Image.{buf_of, width_of, height_of, layout_by};
+ghost use Rattle.imgref.specs.Index.{HasCell, row_start, with_cell_at, with_row};
 
 use crate::containers::{AsMutCell, AsMutSlice, AsSlice};
 use crate::img::Img;
@@ -32,7 +31,7 @@ impl<C: AsSlice> Index<(usize, usize)> for Img<C> {
 impl<C: AsMutCell> IndexMut<(usize, usize)> for Img<C> {
     fn index_mut(&mut self, index: (usize, usize)) -> &mut C::Item
         requires { HasCell (layout_by C.AsSlice.cells self.old) index.0 index.1 }
-        ensures* writes_back { sem 𝓛 (Lends (the_row C.row) C.Item.row self.entry result (λ cell. with_buf self.old (C.with_cell (buf_of self.old) (cell_of (layout_by C.AsSlice.cells self.old) index.0 index.1) cell))) }
+        ensures* writes_back { sem 𝓛 (Lends (the_row C.row) C.Item.row self.entry result (with_cell_at C.AsSlice.cells C.with_cell self.old index.0 index.1)) }
     {
         let _len = self.buf.as_slice().len();
         let at = index.1 * self.stride + index.0;
@@ -57,7 +56,7 @@ impl<C: AsSlice> Index<(u32, u32)> for Img<C> {
 impl<C: AsMutCell> IndexMut<(u32, u32)> for Img<C> {
     fn index_mut(&mut self, index: (u32, u32)) -> &mut C::Item
         requires { HasCell (layout_by C.AsSlice.cells self.old) index.0 index.1 }
-        ensures* writes_back { sem 𝓛 (Lends (the_row C.row) C.Item.row self.entry result (λ cell. with_buf self.old (C.with_cell (buf_of self.old) (cell_of (layout_by C.AsSlice.cells self.old) index.0 index.1) cell))) }
+        ensures* writes_back { sem 𝓛 (Lends (the_row C.row) C.Item.row self.entry result (with_cell_at C.AsSlice.cells C.with_cell self.old index.0 index.1)) }
     {
         &mut self[(index.0 as usize, index.1 as usize)]
     }
@@ -68,7 +67,7 @@ impl<C: AsSlice> Img<C> {
     fn row_start(&self, y: usize) -> usize
         requires below { y < height_of self.now }
         requires fits { Fits (layout_by C.cells self.now) }
-        ensures value { result ≡ window_start (stride_of self.now) (row_window (layout_by C.cells self.now) y) }
+        ensures value { result ≡ row_start (layout_by C.cells self.now) y }
         ensures room { result + width_of self.now ≤ length (C.cells (buf_of self.now)) }
         ensures cells { take (width_of self.now) (drop result (C.cells (buf_of self.now))) ≡ row_of (layout_by C.cells self.now) y }
     {
@@ -81,7 +80,8 @@ impl<C: AsSlice> Img<C> {
     pub fn row(&self, y: usize) -> &[C::Item]
         requires below { y < height_of self.now }
         requires fits { Fits (layout_by C.cells self.now) }
-        ensures { result.now ≡ row_of (layout_by C.cells self.now) y }
+        ensures value { result.now ≡ row_of (layout_by C.cells self.now) y }
+        ensures len { length result.now ≡ width_of self.now }
     {
         let start = self.row_start(y);
         let cells = self.buf.as_slice();
@@ -96,8 +96,9 @@ impl<C: AsMutSlice> Img<C> {
     pub fn row_mut(&mut self, y: usize) -> &mut [C::Item]
         requires below { y < height_of self.old }
         requires fits { Fits (layout_by C.AsSlice.cells self.old) }
-        ensures* hands_on { sem 𝓛 (follows (the_row C.row) (Array C.Item.row 0) self.entry.ghost_name result.ghost_name (λ cells. with_buf self.old (C.with_cells (buf_of self.old) (record { start = window_start (stride_of self.old) (row_window (layout_by C.AsSlice.cells self.old) y); len = width_of self.old }) cells))) }
-        ensures cells { result.now ≡ row_of (layout_by C.AsSlice.cells self.old) y }
+        ensures* writes_back { sem 𝓛 (Lends (the_row C.row) (Array C.Item.row 0) self.entry result (with_row C.AsSlice.cells C.with_cells self.old y)) }
+        ensures value { result.now ≡ row_of (layout_by C.AsSlice.cells self.old) y }
+        ensures len { length result.now ≡ width_of self.old }
     {
         let start = self.row_start(y);
         let _len = self.buf.as_slice().len();

@@ -1,6 +1,7 @@
-ghost use Rattle.std.specs.Prelude.{◌<◌};
-ghost use Rattle.image_model.specs.Layout.{Fits};
-ghost use Rattle.imgref.specs.Image.{height_of, layout_by};
+ghost use Rattle.std.specs.Prelude.{◌≡◌, ◌*◌, ◌<◌, ◌++◌, length, take, drop, slice_set};
+ghost use Rattle.image_model.specs.Layout.{Fits, layout, cell_of};
+ghost use Rattle.imgref.specs.Image.{width_of, height_of, layout_by, vec_layout, mut_layout};
+ghost use Rattle.imgref.specs.Index.{HasCell};
 
 use crate::{AsSlice, Img, ImgRef, ImgRefMut, ImgVec};
 use std::ops::{Index, IndexMut};
@@ -37,6 +38,71 @@ fn row_of<C: AsSlice>(image: &Img<C>, y: usize) -> &[C::Item]
     image.row(y)
 }
 
+// What a caller learns of its writes: one cell, or those of one row, and all else as before.
+fn set_owned<T: Copy>(image: &mut ImgVec<T>, x: usize, y: usize, value: T)
+    requires { HasCell (vec_layout image.old) x y }
+    ensures { let old = vec_layout image.old in vec_layout image.new
+        ≡ layout (slice_set old.cells (cell_of old x y) value) old.width old.height old.stride }
+{
+    image[(x, y)] = value;
+}
+
+fn set_lent<T: Copy>(image: &mut ImgRefMut<'_, T>, x: u32, y: u32, value: T)
+    requires { HasCell (mut_layout image.old) x y }
+    ensures { let old = mut_layout image.old in mut_layout image.new
+        ≡ layout (slice_set old.cells (cell_of old x y) value) old.width old.height old.stride }
+{
+    image[(x, y)] = value;
+}
+
+fn set_row<T: Copy>(image: &mut ImgVec<T>, y: usize, values: &[T])
+    requires below { y < height_of image.old }
+    requires some { 0 < width_of image.old }
+    requires fits { Fits (vec_layout image.old) }
+    requires long { length values.now ≡ width_of image.old }
+    ensures { let old = vec_layout image.old in vec_layout image.new
+        ≡ layout (take (y * old.stride) old.cells ++ (values.now ++ drop (length values.now) (drop (y * old.stride) old.cells))) old.width old.height old.stride }
+{
+    image.row_mut(y).copy_from_slice(values);
+}
+
+// An image in between, of which the lender learns every write.
+fn set_first_two<T: Copy>(cells: &mut [T], value: T)
+    requires { 1 < length cells.old }
+    ensures { cells.new ≡ slice_set (slice_set cells.old 0 value) 1 value }
+{
+    let mut image = Img::new_stride(cells, 1, 1, 1);
+    image.row_mut(0)[0] = value;
+    image[(0usize, 1usize)] = value;
+}
+
+// The slice that an image was made of, taken out of it: the same loan.
+fn there_and_back<T>(cells: &mut [T]) -> &mut [T]
+    ensures same_loan { result.ghost_name ≡ cells.entry.ghost_name }
+    ensures value { result.now ≡ cells.old }
+{
+    let (cells, _, _, _) = Img::new_stride(cells, 1, 1, 1).into_parts();
+    cells
+}
+
+fn set_first<T: Copy>(cells: &mut [T], value: T)
+    requires { 0 < length cells.old }
+    ensures { cells.new ≡ slice_set cells.old 0 value }
+{
+    let back = there_and_back(cells);
+    back[0] = value;
+}
+
+#[test]
+fn a_lender_learns_what_was_written(rt: HostRuntime) -> Result<(), Fail> {
+    let mut cells = [1u8, 2, 3];
+    set_first_two(&mut cells, 7);
+    assert_eq!(rt; cells, [7u8, 7, 3]);
+    set_first(&mut cells, 9);
+    assert_eq!(rt; cells, [9u8, 7, 3]);
+    Ok(())
+}
+
 #[test]
 fn accessors_give_the_parts(rt: HostRuntime) -> Result<(), Fail> {
     let cells = [1u8, 2, 3, 4, 5, 6, 7, 8];
@@ -69,6 +135,7 @@ fn a_container_is_left_in_place(rt: HostRuntime) -> Result<(), Fail> {
     image.buf_mut().push(4)?;
     image.buf_mut().push(5)?;
     assert!(rt; image.is_valid());
+    assert_eq!(rt; image.row(1), [4u8, 5].as_slice());
     assert_eq!(rt; image.width(), 2);
     assert_eq!(rt; image.height(), 2);
     assert_eq!(rt; image.stride(), 3);
@@ -185,7 +252,7 @@ fn a_stride_past_u32_is_no_matter(rt: HostRuntime) -> Result<(), Fail> {
 fn a_write_at_a_place_changes_one_cell(rt: HostRuntime) -> Result<(), Fail> {
     let mut cells = [1u8, 2, 3, 4, 5, 6, 7, 8];
     let mut owned: ImgVec<u8> = Img::new_stride(cells.to_vec(rt.alloc())?, 2, 2, 3);
-    owned[(1usize, 1usize)] = 50;
+    set_owned(&mut owned, 1, 1, 50);
     owned[(2u32, 0u32)] = 30;
     assert_eq!(rt;
         owned.into_buf().as_slice(),
@@ -193,7 +260,7 @@ fn a_write_at_a_place_changes_one_cell(rt: HostRuntime) -> Result<(), Fail> {
     );
     let mut lent = Img::new_stride(cells.as_mut_slice(), 2, 2, 3);
     lent[(0usize, 1usize)] = 40;
-    lent[(1u32, 2u32)] = 80;
+    set_lent(&mut lent, 1, 2, 80);
     assert_eq!(rt; cells.as_slice(), [1u8, 2, 3, 40, 5, 6, 7, 80].as_slice());
     Ok(())
 }

@@ -1,7 +1,8 @@
 ghost use Rattle.std.specs.Prelude.{◌≡◌, ◌+◌, ◌-◌, ◌*◌, ◌^◌, ◌≤◌, ◌<◌, Bool, if◌then◌else◌, length};
 ghost use Rattle.std.specs.Borrow.{sem, follows, Array};
 ghost use Rattle.image_model.specs.Layout.{Fits, layout};
-ghost use Rattle.image_model.specs.Windows.{window, whole, IsInside, exact_stretch, roomy_stretch, stretch_cells, with_stretch, roomy_window, exact_window};
+ghost use Rattle.image_model.specs.Grid.{grid_of};
+ghost use Rattle.image_model.specs.Windows.{window, whole, window_view, IsInside, exact_stretch, roomy_stretch, stretch_cells, with_stretch, roomy_window, exact_window};
 ghost use Rattle.imgref.specs.contracts.img.Img.{the_row};
 ghost use Rattle.imgref.specs.Image.{buf_of, width_of, height_of, stride_of, with_buf, layout_by, vec_layout, ref_layout, mut_layout};
 ghost use Rattle.imgref.specs.Window.{stretch_of, window_of, IsWithin, region};
@@ -128,7 +129,9 @@ impl<C: AsSlice> Img<C> {
         requires inside { IsInside (width_of self.now) (height_of self.now) (window left top width height) }
         ensures value { result ≡ region (stretch_of roomy (length (C.cells (buf_of self.now))) (stride_of self.now) (window left top width height)) (window left top width height) }
         ensures inside { IsWithin (length (C.cells (buf_of self.now))) (stretch_of roomy (length (C.cells (buf_of self.now))) (stride_of self.now) (window left top width height)) }
-        ensures narrow { width ≤ stride_of self.now }
+        ensures narrow { result.width ≤ stride_of self.now }
+        ensures width_fits { result.width < 2 ^ 32 }
+        ensures height_fits { result.height < 2 ^ 32 }
     {
         let cells = self.buf.as_slice().len();
         let _width = self.width;
@@ -143,12 +146,11 @@ impl<'s, T> Img<&'s [T]> {
         requires fits { Fits (ref_layout self.now) }
         requires inside { IsInside (width_of self.now) (height_of self.now) (window left top width height) }
         ensures layout { ref_layout result ≡ roomy_window (ref_layout self.now) (window left top width height) }
+        ensures fits { Fits (ref_layout result) }
+        ensures view { grid_of (ref_layout result) ≡ window_view (grid_of (ref_layout self.now)) (window left top width height) }
     {
-        shared_window(
-            self.buf,
-            self.region(true, left, top, width, height),
-            self.stride,
-        )
+        let window = self.region(true, left, top, width, height);
+        shared_window(self.buf, window, self.stride)
     }
 }
 
@@ -158,12 +160,11 @@ impl<T> Img<Vec<T>> {
         requires fits { Fits (vec_layout self.now) }
         requires inside { IsInside (width_of self.now) (height_of self.now) (window left top width height) }
         ensures layout { ref_layout result ≡ roomy_window (vec_layout self.now) (window left top width height) }
+        ensures fits { Fits (ref_layout result) }
+        ensures view { grid_of (ref_layout result) ≡ window_view (grid_of (vec_layout self.now)) (window left top width height) }
     {
-        shared_window(
-            self.buf.as_slice(),
-            self.region(true, left, top, width, height),
-            self.stride,
-        )
+        let region = self.region(true, left, top, width, height);
+        shared_window(self.buf.as_slice(), region, self.stride)
     }
 
     /// The whole image, shared, with its whole buffer.
@@ -185,12 +186,11 @@ impl<'s, T> Img<&'s mut [T]> {
         requires fits { Fits (mut_layout self.now) }
         requires inside { IsInside (width_of self.now) (height_of self.now) (window left top width height) }
         ensures layout { ref_layout result ≡ roomy_window (mut_layout self.now) (window left top width height) }
+        ensures fits { Fits (ref_layout result) }
+        ensures view { grid_of (ref_layout result) ≡ window_view (grid_of (mut_layout self.now)) (window left top width height) }
     {
-        shared_window(
-            &*self.buf,
-            self.region(true, left, top, width, height),
-            self.stride,
-        )
+        let part = self.region(true, left, top, width, height);
+        shared_window(&*self.buf, part, self.stride)
     }
 
     /// The whole image, shared, with its whole buffer.
@@ -219,6 +219,8 @@ impl<'s, T> Img<&'s mut [T]> {
         requires inside { IsInside (width_of self) (height_of self) (window left top width height) }
         ensures* hands_on { sem 𝓛 (follows (Array T.row 0) (Array T.row 0) (buf_of self.entry).ghost_name (buf_of result).ghost_name (with_stretch (buf_of self.entry).now (roomy_stretch (length (buf_of self.entry).now) (stride_of self.entry) (window left top width height)))) }
         ensures layout { mut_layout result ≡ roomy_window (mut_layout self.entry) (window left top width height) }
+        ensures fits { Fits (mut_layout result) }
+        ensures view { grid_of (mut_layout result) ≡ window_view (grid_of (mut_layout self.entry)) (window left top width height) }
     {
         let region = roomy_region(self.buf.len(), self.stride, left, top, width, height);
         into_stretch(self, region.start, region.len, region.width, region.height)
@@ -256,6 +258,8 @@ impl<C: AsMutSlice> Img<C> {
         requires inside { IsInside (width_of self.old) (height_of self.old) (window left top width height) }
         ensures* hands_on { sem 𝓛 (follows (the_row C.row) (Array C.Item.row 0) self.entry.ghost_name (buf_of result).ghost_name (λ ws. with_buf self.old (C.with_cells (buf_of self.old) (stretch_of C.roomy_windows (length (C.AsSlice.cells (buf_of self.old))) (stride_of self.old) (window left top width height)) ws))) }
         ensures layout { mut_layout result ≡ window_of C.roomy_windows (layout_by C.AsSlice.cells self.old) (window left top width height) }
+        ensures fits { Fits (mut_layout result) }
+        ensures view { grid_of (mut_layout result) ≡ window_view (grid_of (layout_by C.AsSlice.cells self.old)) (window left top width height) }
     {
         let region = self.region(C::has_roomy_windows(), left, top, width, height);
         let stride = self.stride;
@@ -280,10 +284,16 @@ impl<C: AsMutSlice> Img<C> {
         requires inside { IsInside (width_of self.old) (height_of self.old) (window left top width height) }
         ensures* hands_on { sem 𝓛 (follows (the_row C.row) (Array C.Item.row 0) self.entry.ghost_name result.0.ghost_name (λ ws. with_buf self.old (C.with_cells (buf_of self.old) (stretch_of C.roomy_windows (length (C.AsSlice.cells (buf_of self.old))) (stride_of self.old) (window left top width height)) ws))) }
         ensures layout { layout result.0.now result.1 result.2 result.3 ≡ window_of C.roomy_windows (layout_by C.AsSlice.cells self.old) (window left top width height) }
+        ensures positive { 1 ≤ result.3 }
+        ensures narrow { result.1 ≤ result.3 }
+        ensures width_fits { result.1 < 2 ^ 32 }
+        ensures height_fits { result.2 < 2 ^ 32 }
+        ensures fits { Fits (layout result.0.now result.1 result.2 result.3) }
+        ensures view { grid_of (layout result.0.now result.1 result.2 result.3) ≡ window_view (grid_of (layout_by C.AsSlice.cells self.old)) (window left top width height) }
     {
-        let region = self.region(C::has_roomy_windows(), left, top, width, height);
+        let part = self.region(C::has_roomy_windows(), left, top, width, height);
         let stride = self.stride;
-        let cells = self.buf.stretch_mut(region.start, region.len);
-        (cells, width, height, stride)
+        let cells = self.buf.stretch_mut(part.start, part.len);
+        (cells, part.width as usize, part.height as usize, stride)
     }
 }

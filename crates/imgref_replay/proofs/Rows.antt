@@ -8,7 +8,7 @@ use lib.ListN.{length}
 use seplogic.Ra.Ura.{Ura}
 use base.Fml.{Lft, GName, fsep, feq, fex}
 use base.Logic.{ent, emp, id⊢}
-use mir.Syntax.{Ty, named, w64, ty_ptr, ty_int, ty_struct, tcons, tnil}
+use mir.Syntax.{Ty, Lifetime, named, w32, w64, ty_ptr, ty_int, ty_struct, tcons, tnil}
 use mir.Val.{Val, vint, vstruct, vcons, vnil, of_list}
 use types.Logic.{Logic, sem}
 use types.Kit.{‵, ◌$◌, ◌∵◌, !, qed, move, fjoin, fpack, feq_i, done}
@@ -34,6 +34,8 @@ use denote.Struct.Tuple.{Tuple}
 use Rattle.std.specs.contracts.result.Result as result
 use Rattle.std.specs.declared.result.Result.{Result}
 use Rattle.std.specs.declared.result.Result.TheVariants.{Ok, Err}
+use Rattle.imgref.specs.contracts.img.Img as image
+use Rattle.imgref.specs.declared.img.Img.{Img}
 use Rattle.imgref_replay.specs.declared.window.Region.{Region}
 use Rattle.imgref_replay.specs.contracts.window.Region.{the_row, the_type}
 
@@ -52,6 +54,23 @@ module _ (κ : Lft) (T : RattleType) where
       let LR : Laws R = param_laws 0 T L in
       arg_laws cells_ty no (MutSlice (named 0) κ R) (of_field (mut_slice_field (record { mir = named 0; lft = κ }) R (is_one R LR)) (mut_slice_laws (record { mir = named 0; lft = κ }) R (is_one R LR)) refl (mut_slice_shared (record { mir = named 0; lft = κ }) R (is_one R LR) (row_shared R LR))) refl
 
+-- ---- an image of such cells
+abbrev pub img_val : ℕ × ℕ → ℕ → ℕ → ℕ → ℕ → Val
+img_val p n width height stride = vstruct (vcons (slice_val p n) (vcons (vint w32 width) (vcons (vint w32 height) (vcons (vint w64 stride) vnil))))
+
+module _ (ℓ : Lifetime) (κ : Lft) (R : RattleType) where
+  abbrev pub img_row : RattleType
+  img_row = image.the_row (MutSlice ℓ κ R)
+
+  pub img_told : (x : Img (MutBor (List R.Denot))) (vs : List Val) → Is img_row x vs → (vs ≡ img_val x.buf.ref_ptr (length x.buf.now) x.width x.height x.stride ∷ []) × Room R (length x.buf.now) × (x.width < 2 ^ 32) × (x.height < 2 ^ 32) × (x.stride < 2 ^ 64)
+  img_told x vs s = (
+    s.1.0 ∙ (λ i. vstruct (of_list (s.1.1.0.0.0 i ++ (s.1.1.1.0.0 i ++ (s.1.1.1.1.0.0 i ++ (s.1.1.1.1.1.0.0 i ++ []))))) ∷ []),
+    s.1.1.0.0.1,
+    s.1.1.1.0.1,
+    s.1.1.1.1.0.1,
+    s.1.1.1.1.1.0.1,
+  )
+
 -- ---- the parts of an image
 abbrev pub parts_val : ℕ × ℕ → ℕ → ℕ → ℕ → ℕ → Val
 parts_val p n width height stride = vstruct (vcons (slice_val p n) (vcons (vint w64 width) (vcons (vint w64 height) (vcons (vint w64 stride) vnil))))
@@ -61,18 +80,26 @@ module _ (κ : Lft) (R : RattleType) where
   Parts = Tuple (MutSlice (named 0) κ R ∷ usize ∷ usize ∷ usize ∷ [])
 
   pub parts_told : (x : MutBor (List R.Denot) × ℕ × ℕ × ℕ) (vs : List Val) → Is Parts x vs → (vs ≡ parts_val x.0.ref_ptr (length x.0.now) x.1 x.2 x.3 ∷ []) × Room R (length x.0.now) × (x.1 < 2 ^ 64) × (x.2 < 2 ^ 64) × (x.3 < 2 ^ 64)
-  parts_told x vs s =
-      (s.1.0 ∙ (λ i. vstruct (of_list (s.1.1.0.0.0 i ++ (s.1.1.1.0.0 i ++ (s.1.1.1.1.0.0 i ++ (s.1.1.1.1.1.0.0 i ++ []))))) ∷ []),
-      s.1.1.0.0.1, s.1.1.1.0.1, s.1.1.1.1.0.1, s.1.1.1.1.1.0.1)
+  parts_told x vs s = (
+    s.1.0 ∙ (λ i. vstruct (of_list (s.1.1.0.0.0 i ++ (s.1.1.1.0.0 i ++ (s.1.1.1.1.0.0 i ++ (s.1.1.1.1.1.0.0 i ++ []))))) ∷ []),
+    s.1.1.0.0.1,
+    s.1.1.1.0.1,
+    s.1.1.1.1.0.1,
+    s.1.1.1.1.1.0.1,
+  )
 
 -- ---- a region
 abbrev pub region_val : Region → Val
 region_val r = vstruct (vcons (vint w64 r.start) (vcons (vint w64 r.len) (vcons (vint w64 r.width) (vcons (vint w64 r.height) vnil))))
 
 pub region_told : (r : Region) (vs : List Val) → Is the_row r vs → (vs ≡ region_val r ∷ []) × (r.start < 2 ^ 64) × (r.len < 2 ^ 64) × (r.width < 2 ^ 64) × (r.height < 2 ^ 64)
-region_told r vs s =
-    (s.1.0 ∙ (λ i. vstruct (of_list (s.1.1.0.0 i ++ (s.1.1.1.0.0 i ++ (s.1.1.1.1.0.0 i ++ (s.1.1.1.1.1.0.0 i ++ []))))) ∷ []),
-    s.1.1.0.1, s.1.1.1.0.1, s.1.1.1.1.0.1, s.1.1.1.1.1.0.1)
+region_told r vs s = (
+  s.1.0 ∙ (λ i. vstruct (of_list (s.1.1.0.0 i ++ (s.1.1.1.0.0 i ++ (s.1.1.1.1.0.0 i ++ (s.1.1.1.1.1.0.0 i ++ []))))) ∷ []),
+  s.1.1.0.1,
+  s.1.1.1.0.1,
+  s.1.1.1.1.0.1,
+  s.1.1.1.1.1.0.1,
+)
 
 module _ {M : Type 1} {𝓤 : Ura M} (𝓛 : Logic 𝓤) where
   pub region_made : (r : Region) → r.start < 2 ^ 64 → r.len < 2 ^ 64 → r.width < 2 ^ 64 → r.height < 2 ^ 64 → ent 𝓤 (emp 𝓤) (sem 𝓛 (the_row.own_val r (region_val r ∷ [])))

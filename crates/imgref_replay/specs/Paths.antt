@@ -1,7 +1,8 @@
 -- Windows of the code as the definitions see them, and what a path of them leads to.
-use Rattle.std.specs.Prelude.{ℕ, List, map, Result, Ok, Err}
+use Rattle.std.specs.Prelude.{◌≡◌, ℕ, ◌+◌, ◌*◌, ◌<◌, List, map, Result, Ok, Err}
 use Rattle.std.specs.Borrow.{MutBor, GName}
 use mathlib.Core.Option as maybe
+use Rattle.image_model.specs.Layout.{Layout}
 use Rattle.image_model.specs.Windows as model
 use Rattle.imgref.specs.declared.img.Img.{Img}
 use Rattle.imgref.specs.Image.{buf_of}
@@ -27,6 +28,11 @@ region s width height = record { start = s.start; len = s.len; width = width; he
 -- the region that is left of one when each window of a path in turn takes its own
 abbrev pub path_region : ℕ → Region → List model.Window → Region
 path_region stride r path = region (model.path_stretch stride (stretch_of r) path) (model.path_width r.width path) (model.path_height r.height path)
+
+-- where a path's window has a place, its cells begin at the summed corner
+abbrev pub BeginsAtCorner : {T : Type 0} → Layout T → List model.Window → Type 0
+BeginsAtCorner l path = 0 < model.path_width l.width path → 0 < model.path_height l.height path
+    → (model.path_stretch l.stride (model.whole l.cells) path).start ≡ l.stride * model.corner_top path + model.corner_left path
 
 -- the name under which the cells of the answered image are lent
 abbrev pub name_of : {T : Type 0} → Result (Img (MutBor (List T))) ℕ → maybe.Option GName

@@ -6,6 +6,8 @@ mod runs;
 #[cfg(test)]
 mod tests;
 mod window;
+#[cfg(test)]
+mod window_tests;
 
 pub use commands::{Command, Place, Refusal, Reply};
 pub use runs::{replay, replay_into};

@@ -52,13 +52,12 @@ use Rattle.image_model.specs.Grid.{grid_of}
 use Rattle.image_model.specs.Layout.{Layout, Fits, layout}
 use Rattle.image_model.specs.Windows as model
 use Rattle.image_model.specs.Windows.{Stretch, first_outside, path_stretch, path_layout, path_view, stretch_cells, whole, with_stretch}
-use Rattle.image_model.proofs.Paths.{path_fits, path_grid}
+use Rattle.image_model.proofs.Paths.{path_has, path_fits, path_grid}
 use Rattle.imgref.specs.Image.{mut_layout}
 use Rattle.imgref.specs.declared.img.Img.{Img}
 use Rattle.imgref.specs.contracts.img.Img.into_parts as parts
 use Rattle.imgref.proofs.img.Img.into_parts.Met as apart
-use Rattle.imgref.proofs.Values.{img_val, img_row, img_told}
-use Rattle.imgref_replay.specs.Paths.{windows_of, stretch_of, path_region}
+use Rattle.imgref_replay.specs.Paths.{BeginsAtCorner, windows_of, stretch_of, path_region}
 use Rattle.imgref_replay.specs.declared.window.Region.{Region}
 use Rattle.imgref_replay.specs.declared.window.Window.{Window}
 use Rattle.imgref_replay.specs.contracts.window.Window as window
@@ -67,7 +66,7 @@ use Rattle.imgref_replay.specs.contracts.window.region_at as f
 use Rattle.imgref_replay.proofs.window.region_at.Met as find
 use Rattle.imgref_replay.specs.contracts.window.into_region as g
 use Rattle.imgref_replay.proofs.window.into_region.Met as part
-use Rattle.imgref_replay.proofs.Rows.{Cells, cells_laws, Parts, parts_told, region_val, region_made, Answer, answer_told, if_some, if_none, ok_made, err_made}
+use Rattle.imgref_replay.proofs.Rows.{img_val, img_row, img_told, Cells, cells_laws, Parts, parts_told, region_val, region_made, Answer, answer_told, if_some, if_none, ok_made, err_made}
 use Rattle.imgref_replay.specs.contracts.window.into_window_at.{ended, clauses}
 use Rattle.imgref_replay.specs.contracts.window.into_window_at.Key.{name as #self}
 use Rattle.imgref_replay.proofs.window.into_window_at.Statement.{statement}
@@ -117,6 +116,7 @@ into_window_at_spec 𝓤 𝓛 𝓜 𝓡 wired T L =
     let F : List T.Denot → List T.Denot = with_stretch xs st in
     let Seen : Result (Img (MutBor (List T.Denot))) ℕ → Type 0 = λ r. result_err r ≡ out in
     let Laid : Result (Img (MutBor (List T.Denot))) ℕ → Type 0 = λ r. IfOk r (λ y. mut_layout y ≡ path_layout li ws) in
+    let Corner : Result (Img (MutBor (List T.Denot))) ℕ → Type 0 = λ r. IfOk r (λ _. BeginsAtCorner li ws) in
     let Fitting : Result (Img (MutBor (List T.Denot))) ℕ → Type 0 = λ r. IfOk r (λ y. Fits (mut_layout y)) in
     let Viewed : Result (Img (MutBor (List T.Denot))) ℕ → Type 0 = λ r. IfOk r (λ y. grid_of (mut_layout y) ≡ path_view (grid_of li) ws) in
     let alive : κ ⊑ T.lives → κ ⊑ X.lives = λ le. ⊑_meet κ κ T.lives (⊑_refl κ) le in
@@ -216,6 +216,7 @@ into_window_at_spec 𝓤 𝓛 𝓜 𝓡 wired T L =
                 await ! tt $ pick ! (λ r₃. split ! $ split ! $ move ! (2 ∷ []) $ pick ! (λ us₃. split ! $ drop ! $ split ! $ move ! (1 ∷ []) $ heard ! (Made r₃) (λ made.
                 -- [what follows; the tokens of κ and κT; the window; the path's token]
                 let laid : Laid (Ok r₃) = made ∙ ap (λ (u : Region). layout (stretch_cells xs (stretch_of u)) u.width u.height img.stride) is_there in
+                let corner : Corner (Ok r₃) = (path_has li ws wide fits (sym all_inside)).begins in
                 let fitting : Fitting (Ok r₃) = subst (λ (u : Layout T.Denot). Fits u) (sym laid) (path_fits li ws wide fits (sym all_inside)) in
                 let viewed : Viewed (Ok r₃) = ap (λ (u : Layout T.Denot). grid_of u) laid ∙ path_grid li ws wide fits (sym all_inside) in
                 move ! (2 ∷ []) $ peeks ! Row (Is Row) (shows 𝓛 Row) r₃ (v₃ ∷ []) (λ is₃. let t = img_told (named 0) κ R r₃ (v₃ ∷ []) is₃ in
@@ -230,7 +231,7 @@ into_window_at_spec 𝓤 𝓛 𝓜 𝓡 wired T L =
                 rewrite ! 0 (λ (u : Region). ‵ (follows (Array R 0) (Array R 0) γ r₃.buf.ghost_name (with_stretch xs (stretch_of u)))) is_there refl $
                 use1 𝓛 (‵ (follows_if (Array R 0) (Array R 0) γ (there r₃.buf.ghost_name) F xs)) (if_some 𝓛 (Array R 0) (Array R 0) γ F xs r₃.buf.ghost_name) $
                 use0 𝓛 (raw (fact 𝓤 (Viewed (Ok r₃)))) (fact_i 𝓤 (Viewed (Ok r₃)) (emp 𝓤) viewed) $ use0 𝓛 (raw (fact 𝓤 (Fitting (Ok r₃)))) (fact_i 𝓤 (Fitting (Ok r₃)) (emp 𝓤) fitting) $ join ! $
-                use0 𝓛 (raw (fact 𝓤 (Laid (Ok r₃)))) (fact_i 𝓤 (Laid (Ok r₃)) (emp 𝓤) laid) $ join ! $ use0 𝓛 (raw (fact 𝓤 (Seen (Ok r₃)))) (fact_i 𝓤 (Seen (Ok r₃)) (emp 𝓤) all_inside) $ join ! $ move ! (1 ∷ 0 ∷ []) $ join ! $
+                use0 𝓛 (raw (fact 𝓤 (Corner (Ok r₃)))) (fact_i 𝓤 (Corner (Ok r₃)) (emp 𝓤) corner) $ join ! $ use0 𝓛 (raw (fact 𝓤 (Laid (Ok r₃)))) (fact_i 𝓤 (Laid (Ok r₃)) (emp 𝓤) laid) $ join ! $ use0 𝓛 (raw (fact 𝓤 (Seen (Ok r₃)))) (fact_i 𝓤 (Seen (Ok r₃)) (emp 𝓤) all_inside) $ join ! $ move ! (1 ∷ 0 ∷ []) $ join ! $
                 -- [the ensures; the answer; the tokens of κ and κT; the path's token]
                 move ! (3 ∷ []) $ split ! $ move ! (4 ∷ []) $ split ! $ move ! (2 ∷ 1 ∷ []) $ join ! $ move ! (1 ∷ 0 ∷ []) $ join ! $ move ! (1 ∷ []) $ drop ! $
                 nothing ! $ nothing ! $ fjoin ! $ nothing ! $ fjoin ! $ move ! (1 ∷ 0 ∷ 3 ∷ 2 ∷ []) $ by ! (leaves 𝓛 En stays c z (live 0 (vcons w₃ vnil)) (Ok r₃) ((tt, tt), (tt, tt)) (tt, (tt, tt))))))))),
@@ -251,7 +252,7 @@ into_window_at_spec 𝓤 𝓛 𝓜 𝓡 wired T L =
                   returns ! (look_at ! 0 refl) $ free_all ! refl $
                   use1 𝓛 (‵ (follows_if (Array R 0) (Array R 0) γ none F xs)) (if_none 𝓛 (Array R 0) (Array R 0) γ F xs) $
                   use0 𝓛 (raw (fact 𝓤 (Viewed (Err k)))) (fact_i 𝓤 (Viewed (Err k)) (emp 𝓤) tt) $ use0 𝓛 (raw (fact 𝓤 (Fitting (Err k)))) (fact_i 𝓤 (Fitting (Err k)) (emp 𝓤) tt) $ join ! $
-                  use0 𝓛 (raw (fact 𝓤 (Laid (Err k)))) (fact_i 𝓤 (Laid (Err k)) (emp 𝓤) tt) $ join ! $ use0 𝓛 (raw (fact 𝓤 (Seen (Err k)))) (fact_i 𝓤 (Seen (Err k)) (emp 𝓤) failed) $ join ! $ move ! (1 ∷ 0 ∷ []) $ join ! $
+                  use0 𝓛 (raw (fact 𝓤 (Corner (Err k)))) (fact_i 𝓤 (Corner (Err k)) (emp 𝓤) tt) $ join ! $ use0 𝓛 (raw (fact 𝓤 (Laid (Err k)))) (fact_i 𝓤 (Laid (Err k)) (emp 𝓤) tt) $ join ! $ use0 𝓛 (raw (fact 𝓤 (Seen (Err k)))) (fact_i 𝓤 (Seen (Err k)) (emp 𝓤) failed) $ join ! $ move ! (1 ∷ 0 ∷ []) $ join ! $
                   use0 𝓛 (‵ ((result.the_row Row usize).own_val (Err k) (live 1 (vcons (vint w64 k) vnil) ∷ []))) (err_made 𝓛 Row k (o.2)) $
                   -- [the answer; the ensures; the path's token; the token of κ; the token of κT]
                   move ! (2 ∷ []) $ split ! $ move ! (4 ∷ []) $ split ! $ move ! (2 ∷ 6 ∷ []) $ join ! $ move ! (1 ∷ 0 ∷ []) $ join ! $ move ! (1 ∷ []) $ drop ! $ move ! (1 ∷ []) $ drop ! $

@@ -3,10 +3,17 @@ use Rattle.std.proofs.Common.{rules, ◌≡◌, ◌≤◌, None, sym, ap, ◌∙
 use Rattle.image_model.specs.Grid.{grid_of}
 use Rattle.image_model.specs.Layout.{Fits}
 use Rattle.image_model.specs.Windows.{first_outside, path_layout}
-use Rattle.image_model.proofs.Paths.{path_fits, path_grid}
+use Rattle.image_model.proofs.Paths.{path_has, path_fits, path_grid}
 use Rattle.imgref.specs.Image.{ref_layout}
 use Rattle.imgref_replay.specs.Paths.{windows_of}
 use Rattle.imgref_replay.proofs.window.window_at.Goals as goal
+
+pub returns-clause-corner : goal.returns-clause-corner
+returns-clause-corner g c =
+    let l = ref_layout c.args.img in
+    let path = windows_of c.args.path.now in
+    let inside : first_outside l.width l.height path ≡ None = search rules in
+    (path_has l path c.into_parts-width.ensures.width_within c.requires.fits inside).begins
 
 pub returns-clause-fits : goal.returns-clause-fits
 returns-clause-fits g c =

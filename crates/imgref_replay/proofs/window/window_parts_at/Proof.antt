@@ -52,14 +52,13 @@ use Rattle.imgref.specs.contracts.img.Img.as_mut as f
 use Rattle.imgref.proofs.img.Img.as_mut.Met as all
 use Rattle.imgref.specs.contracts.img.Img.into_parts as parts
 use Rattle.imgref.proofs.img.Img.into_parts.Met as apart
-use Rattle.imgref.proofs.Values.{img_val, img_row, img_told}
-use Rattle.imgref_replay.specs.Paths.{windows_of, name_of}
+use Rattle.imgref_replay.specs.Paths.{BeginsAtCorner, windows_of, name_of}
 use Rattle.imgref_replay.specs.declared.window.Window.{Window}
 use Rattle.imgref_replay.specs.contracts.window.Window as window
 use Rattle.imgref_replay.specs.contracts.window.into_window_at as g
 use Rattle.imgref_replay.proofs.window.into_window_at.Met as nested
 use Rattle.imgref_replay.proofs.Inside.{ok_from, some_if}
-use Rattle.imgref_replay.proofs.Rows.{Cells, cells_laws, Parts, parts_val, parts_told}
+use Rattle.imgref_replay.proofs.Rows.{img_val, img_row, img_told, Cells, cells_laws, Parts, parts_val, parts_told}
 use Rattle.imgref_replay.specs.contracts.window.window_parts_at.{ended, clauses}
 use Rattle.imgref_replay.specs.contracts.window.window_parts_at.Key.{name as #self}
 use Rattle.imgref_replay.proofs.window.window_parts_at.Statement.{statement}
@@ -144,11 +143,12 @@ window_parts_at_spec 𝓤 𝓛 𝓜 𝓡 wired X Y LX LY gh d gs ds bm bs =
     let Gf : List Y.Denot → List Y.Denot = with_stretch lr.cells (path_stretch lr.stride (whole lr.cells) ws) in
     let Seen : Answered → Type 0 = λ u. result_err u ≡ first_outside r.width r.height ws in
     let Laid : Answered → Type 0 = λ u. IfOk u (λ y. mut_layout y ≡ path_layout lr ws) in
+    let Corner : Answered → Type 0 = λ u. IfOk u (λ _. BeginsAtCorner lr ws) in
     let Fitting : Answered → Type 0 = λ u. IfOk u (λ y. Fits (mut_layout y)) in
     let Viewed : Answered → Type 0 = λ u. IfOk u (λ y. grid_of (mut_layout y) ≡ path_view (grid_of lr) ws) in
     use1 𝓛 (later (some (λ (r₂ : Answered). (Tok₂ ⊛ ‵ (Ans.own_val r₂ (v₂ ∷ []))) ⊛ some (λ (us₂ : (Unit {0} × Unit {0}) × (Unit {0} × Unit {0})). ‵ (lasts (g.ended Y) z₂.0.0 z₂.0.3 us₂)
-    ⊛ (‵ (follows_if (Array R 0) (Array R 0) r.buf.ghost_name (name_of r₂) Gf r.buf.now) ⊛ raw (fact 𝓤 (Seen r₂)) ⊛ raw (fact 𝓤 (Laid r₂)) ⊛ raw (fact 𝓤 (Fitting r₂)) ⊛ raw (fact 𝓤 (Viewed r₂))))))) (id⊢ 𝓤 _) $
-    await ! tt $ pick ! (λ r₂. split ! $ split ! $ move ! (2 ∷ []) $ pick ! (λ us₂. split ! $ drop ! $ split ! $ move ! (1 ∷ []) $ split ! $ heard ! (Seen r₂) (λ seen. split ! $ heard ! (Laid r₂) (λ laid. split ! $ heard ! (Fitting r₂) (λ fitting. drop ! $
+    ⊛ (‵ (follows_if (Array R 0) (Array R 0) r.buf.ghost_name (name_of r₂) Gf r.buf.now) ⊛ raw (fact 𝓤 (Seen r₂)) ⊛ raw (fact 𝓤 (Laid r₂)) ⊛ raw (fact 𝓤 (Corner r₂)) ⊛ raw (fact 𝓤 (Fitting r₂)) ⊛ raw (fact 𝓤 (Viewed r₂))))))) (id⊢ 𝓤 _) $
+    await ! tt $ pick ! (λ r₂. split ! $ split ! $ move ! (2 ∷ []) $ pick ! (λ us₂. split ! $ drop ! $ split ! $ move ! (1 ∷ []) $ split ! $ heard ! (Seen r₂) (λ seen. split ! $ heard ! (Laid r₂) (λ laid. split ! $ drop ! $ split ! $ heard ! (Fitting r₂) (λ fitting. drop ! $
     -- [what the cells follow; the tokens; the answer; the token of κX; what the image follows]
     let none_out : first_outside r.width r.height ws ≡ None = ap (λ (u : Layout Y.Denot). first_outside u.width u.height ws) same ∙ all_inside in
     let found = ok_from r₂ (seen ∙ none_out) in

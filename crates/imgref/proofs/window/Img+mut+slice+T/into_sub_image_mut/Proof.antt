@@ -2,6 +2,7 @@
 use mathlib.Core.Path.{◌≡◌, refl, ap, ◌∙◌}
 use Prim.Native.Nat.{ℕ, ◌+◌, ◌^◌, ◌<◌, ◌≤◌}
 use native.Mathlib.Omega.{arith}
+use mathlib.Core.Bool.{true}
 use mathlib.Core.List.{List, [], ◌∷◌, ◌++◌}
 use lib.ListN.{length}
 use base.Logic.{SProp, emp, id⊢}
@@ -34,13 +35,14 @@ use denote.Triple.Table.{framed}
 use denote.Triple.Walked.{Stays, stay_dropped, walk_of, Goes-dropped}
 use Rattle.std.proofs.raw_atomic.Walks.{proved_at, leaves}
 use Rattle.image_model.specs.Layout.{layout as laid, Fits}
-use Rattle.image_model.specs.Windows.{Window, Stretch, window, IsInside, exact_stretch, roomy_stretch, stretch_cells, with_stretch, roomy_window}
+use Rattle.image_model.specs.Grid.{grid_of}
+use Rattle.image_model.specs.Windows.{window_view, Window, Stretch, window, IsInside, exact_stretch, roomy_stretch, stretch_cells, with_stretch, roomy_window}
 use Rattle.imgref.specs.Image.{mut_layout}
 use Rattle.imgref.specs.Window.{IsWithin, region}
 use Rattle.imgref.specs.declared.img.Img.{Img}
 use Rattle.imgref.specs.declared.window.Region.{Region}
 use Rattle.imgref.specs.contracts.window.Region as of_region
-use Rattle.imgref.proofs.Places.{window_within}
+use Rattle.imgref.proofs.Places.{window_within, window_fits, window_shows}
 use Rattle.imgref.proofs.Values.{img_val, img_row, img_told, region_told}
 use Rattle.imgref.specs.contracts.window.roomy_region as f
 use Rattle.imgref.proofs.window.roomy_region.Met as find
@@ -151,12 +153,16 @@ into_sub_image_mut_spec 𝓤 𝓛 𝓜 𝓡 wired T L =
     move ! (2 ∷ []) $ peeks ! Row (Is Row) (shows 𝓛 Row) r₂ (v₂ ∷ []) (λ is₂. let t₂ = img_told (named 0) κ R r₂ (v₂ ∷ []) is₂ in
     let w₂ : Val = img_val r₂.buf.ref_ptr (length r₂.buf.now) r₂.width r₂.height r₂.stride in
     let Is₂ : Type 0 = mut_layout r₂ ≡ roomy_window (mut_layout img) here in
+    let Fits₂ : Type 0 = Fits (mut_layout r₂) in
+    let Shows : Type 0 = grid_of (mut_layout r₂) ≡ window_view (grid_of (mut_layout img)) here in
     rewrite ! 0 (λ (us : List Val). ‵ (Row.own_val r₂ us)) (t₂.0) refl $
     lands_as ! (ap only (t₂.0)) refl (tt, ((tt, (record { fits = t₂.1.0 }, tt)), (record { fits = t₂.2 }, (record { fits = t₂.3 }, (record { fits = t₂.4 }, tt))))) $
     returns ! (look_at ! 0 refl) $ free_all ! refl $
     -- [the window; what follows; the tokens]
     move ! (1 ∷ []) $ rewrite ! 0 (λ (m : Region). ‵ (follows (Array R 0) (Array R 0) γ r₂.buf.ghost_name (with_stretch xs (record { start = m.start; len = m.len })))) e refl $
-    use0 𝓛 (raw (fact 𝓤 Is₂)) (fact_i 𝓤 Is₂ (emp 𝓤) (e₂ ∙ ap (λ (m : Region). laid (stretch_cells xs (record { start = m.start; len = m.len })) m.width m.height img.stride) e)) $ move ! (1 ∷ 0 ∷ []) $ join ! $
+    let is : Is₂ = e₂ ∙ ap (λ (m : Region). laid (stretch_cells xs (record { start = m.start; len = m.len })) m.width m.height img.stride) e in
+    use0 𝓛 (raw (fact 𝓤 Shows)) (fact_i 𝓤 Shows (emp 𝓤) (window_shows (mut_layout img) img.width_within holds here inside true (mut_layout r₂) is)) $ use0 𝓛 (raw (fact 𝓤 Fits₂)) (fact_i 𝓤 Fits₂ (emp 𝓤) (window_fits (mut_layout img) img.width_within holds here inside true (mut_layout r₂) is)) $ join ! $
+    use0 𝓛 (raw (fact 𝓤 Is₂)) (fact_i 𝓤 Is₂ (emp 𝓤) is) $ join ! $ move ! (1 ∷ 0 ∷ []) $ join ! $
     -- [the ensures; the window; the tokens]
     nothing ! $ nothing ! $ fjoin ! $ nothing ! $ fjoin ! $ nothing ! $ fjoin ! $ nothing ! $ fjoin ! $ nothing ! $ fjoin ! $
     move ! (3 ∷ 0 ∷ 2 ∷ 1 ∷ []) $

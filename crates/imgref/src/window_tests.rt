@@ -1,0 +1,348 @@
+ghost use Rattle.std.specs.Prelude.{◌<◌, length};
+ghost use Rattle.image_model.specs.Layout.{Fits};
+ghost use Rattle.image_model.specs.Windows.{IsInside, window};
+ghost use Rattle.imgref.specs.Image.{width_of, height_of, layout_by, buf_of};
+
+use crate::{AsMutCell, AsMutSlice, AsSlice, Img, ImgRef, ImgRefMut, ImgVec};
+use std::alloc::{AllocError, Global};
+use std::test::Fail;
+
+// Three by two with one cell of padding after each row.
+const PADDED: [u8; 9] = [1, 2, 3, 4, 5, 6, 7, 8, 9];
+
+fn padded(alloc: Global) -> Result<ImgVec<u8>, AllocError> {
+    Ok(Img::new_stride(PADDED.to_vec(alloc)?, 3, 2, 4))
+}
+
+// Writes the cell at a place, where it is there.
+fn set<C: AsMutCell<Item = u8>>(image: &mut Img<C>, x: usize, y: usize, value: u8) -> bool {
+    let cells = image.buf().as_slice().len();
+    let stride = image.stride();
+    if x >= stride || y > cells / stride || y * stride + x >= cells {
+        return false;
+    }
+    image[(x, y)] = value;
+    true
+}
+
+// Each of these calls one bound alone, as a caller that knows no type does.
+fn cells_of<C: AsSlice>(container: &C) -> &[C::Item] {
+    container.as_slice()
+}
+
+fn cell_of<C: AsMutCell>(container: &mut C, at: usize) -> &mut C::Item
+    requires { at < length (C.AsSlice.cells container.old) }
+{
+    container.cell_mut(at)
+}
+
+fn window_len<C: AsMutSlice>(
+    image: &mut Img<C>,
+    left: usize,
+    top: usize,
+    width: usize,
+    height: usize,
+) -> usize
+    requires fits { Fits (layout_by C.AsSlice.cells image.old) }
+    requires inside { IsInside (width_of image.old) (height_of image.old) (window left top width height) }
+{
+    let (cells, _, _, _) = image.window_parts_mut(left, top, width, height);
+    cells.len()
+}
+
+#[test]
+fn a_shared_window_has_whole_strides_where_they_are_there(rt: HostRuntime) -> Result<(), Fail> {
+    let owner = padded(rt.alloc())?;
+    let image = owner.as_ref();
+    assert!(rt; image.is_valid());
+    assert!(rt; image.has_window(1, 0, 2, 2));
+    let window = image.sub_image(1, 0, 2, 2);
+    assert_eq!(rt;
+        (window.width(), window.height(), window.stride()),
+        (2, 2, 4)
+    );
+    assert_eq!(rt; *window.buf(), [2u8, 3, 4, 5, 6, 7, 8, 9].as_slice());
+    let nested = window.sub_image(1, 0, 1, 2);
+    assert_eq!(rt; *nested.buf(), [3u8, 4, 5, 6, 7].as_slice());
+    assert_eq!(rt; nested.row(0), [3u8].as_slice());
+    assert_eq!(rt; nested.row(1), [7u8].as_slice());
+    assert!(rt; image.has_window(0, 1, 3, 1));
+    assert_eq!(rt;
+        *image.sub_image(0, 1, 3, 1).buf(),
+        [5u8, 6, 7, 8].as_slice()
+    );
+    Ok(())
+}
+
+#[test]
+fn each_kind_gives_shared_windows(rt: HostRuntime) -> Result<(), Fail> {
+    let mut cells = PADDED;
+    let mut owner = padded(rt.alloc())?;
+    assert!(rt; owner.is_valid());
+    assert!(rt; owner.has_window(0, 1, 3, 1));
+    assert_eq!(rt;
+        *owner.sub_image(0, 1, 3, 1).buf(),
+        [5u8, 6, 7, 8].as_slice()
+    );
+    let lent = Img::new_stride(cells.as_mut_slice(), 3, 2, 4);
+    assert!(rt; lent.is_valid());
+    assert!(rt; lent.has_window(0, 1, 3, 1));
+    assert_eq!(rt;
+        *lent.sub_image(0, 1, 3, 1).buf(),
+        [5u8, 6, 7, 8].as_slice()
+    );
+    assert_eq!(rt; *lent.as_ref().buf(), PADDED.as_slice());
+    assert_eq!(rt; owner.as_mut().as_ref().buf().len(), 9);
+    Ok(())
+}
+
+#[test]
+fn a_window_of_an_owner_for_writing_ends_at_its_last_pixel(rt: HostRuntime) -> Result<(), Fail> {
+    let mut owner = padded(rt.alloc())?;
+    assert!(rt; owner.is_valid());
+    assert!(rt; owner.has_window(0, 1, 3, 1));
+    assert_eq!(rt;
+        &**owner.sub_image_mut(0, 1, 3, 1).buf(),
+        [5u8, 6, 7].as_slice()
+    );
+    let mut owner = padded(rt.alloc())?;
+    assert!(rt; owner.is_valid());
+    assert!(rt; owner.has_window(0, 0, 1, 2));
+    let mut window = owner.sub_image_mut(0, 0, 1, 2);
+    assert_eq!(rt; &**window.buf(), [1u8, 2, 3, 4, 5].as_slice());
+    assert!(rt; set(&mut window, 1, 0, 9));
+    assert_eq!(rt;
+        owner.into_buf().as_slice(),
+        [1u8, 9, 3, 4, 5, 6, 7, 8, 9].as_slice()
+    );
+    Ok(())
+}
+
+#[test]
+fn a_window_of_a_lent_image_for_writing_has_whole_strides(rt: HostRuntime) -> Result<(), Fail> {
+    let mut owner = padded(rt.alloc())?;
+    let mut lent = owner.as_mut();
+    assert!(rt; lent.is_valid());
+    assert!(rt; lent.has_window(0, 0, 1, 2));
+    let mut window = lent.sub_image_mut(0, 0, 1, 2);
+    assert_eq!(rt; &**window.buf(), [1u8, 2, 3, 4, 5, 6, 7, 8].as_slice());
+    assert!(rt; set(&mut window, 1, 0, 9));
+    assert_eq!(rt;
+        owner.into_buf().as_slice(),
+        [1u8, 9, 3, 4, 5, 6, 7, 8, 9].as_slice()
+    );
+    Ok(())
+}
+
+#[test]
+fn an_image_is_cut_down_to_a_window(rt: HostRuntime) -> Result<(), Fail> {
+    let mut owner = padded(rt.alloc())?;
+    let lent = owner.as_mut();
+    assert!(rt; lent.is_valid());
+    assert!(rt; lent.has_window(1, 0, 2, 2));
+    let window = lent.into_sub_image_mut(1, 0, 2, 2);
+    assert_eq!(rt;
+        (window.width(), window.height(), window.stride()),
+        (2, 2, 4)
+    );
+    assert_eq!(rt; &**window.buf(), [2u8, 3, 4, 5, 6, 7, 8, 9].as_slice());
+    assert!(rt; window.is_valid());
+    assert!(rt; window.has_window(1, 1, 1, 1));
+    let mut nested = window.into_sub_image_mut(1, 1, 1, 1);
+    assert_eq!(rt; &**nested.buf(), [7u8].as_slice());
+    assert!(rt; set(&mut nested, 0, 0, 0));
+    assert_eq!(rt;
+        owner.into_buf().as_slice(),
+        [1u8, 2, 3, 4, 5, 6, 0, 8, 9].as_slice()
+    );
+    Ok(())
+}
+
+#[test]
+fn a_window_of_a_window_is_one_window(rt: HostRuntime) -> Result<(), Fail> {
+    let owner = padded(rt.alloc())?;
+    let image = owner.as_ref();
+    assert!(rt; image.is_valid());
+    assert!(rt; image.has_window(0, 0, 2, 1));
+    assert!(rt; image.has_window(1, 0, 1, 1));
+    let nested = image.sub_image(0, 0, 2, 1).sub_image(1, 0, 1, 1);
+    let one = image.sub_image(1, 0, 1, 1);
+    assert_eq!(rt;
+        (nested.width(), nested.height(), nested.stride()),
+        (1, 1, 4)
+    );
+    assert_eq!(rt; (one.width(), one.height(), one.stride()), (1, 1, 4));
+    assert_eq!(rt; nested.row(0), one.row(0));
+    assert_eq!(rt; *nested.buf(), [2u8].as_slice());
+    assert_eq!(rt; *one.buf(), [2u8, 3, 4, 5].as_slice());
+    Ok(())
+}
+
+#[test]
+fn an_empty_window_has_no_cells(rt: HostRuntime) -> Result<(), Fail> {
+    let mut owner: ImgVec<u8> = Img::new_stride([1u8, 2, 3, 4, 5].to_vec(rt.alloc())?, 2, 2, 3);
+    assert!(rt; owner.is_valid());
+    assert!(rt; owner.has_window(0, 2, 1, 0));
+    let window = owner.sub_image(0, 2, 1, 0);
+    assert_eq!(rt;
+        (window.width(), window.height(), window.stride()),
+        (1, 0, 3)
+    );
+    assert_eq!(rt; window.buf().len(), 0);
+    assert_eq!(rt; owner.sub_image_mut(0, 2, 1, 0).buf().len(), 0);
+    Ok(())
+}
+
+#[test]
+fn the_greatest_stride_has_windows(rt: HostRuntime) -> Result<(), Fail> {
+    let cells = [5u8];
+    let image = Img::new_stride(cells.as_slice(), 1, 1, usize::MAX);
+    assert!(rt; image.is_valid());
+    assert!(rt; image.has_window(0, 0, 1, 1));
+    assert_eq!(rt; *image.sub_image(0, 0, 1, 1).buf(), [5u8].as_slice());
+    // The corner of this one has no number.
+    let tall = Img::new_stride(cells.as_slice(), 0, 4294967295, usize::MAX);
+    assert!(rt; tall.is_valid());
+    assert!(rt; tall.has_window(0, 4294967295, 0, 0));
+    assert_eq!(rt; tall.sub_image(0, 4294967295, 0, 0).buf().len(), 0);
+    Ok(())
+}
+
+#[test]
+fn a_window_reaches_cells_past_its_width(rt: HostRuntime) -> Result<(), Fail> {
+    let mut owner: ImgVec<u8> = Img::new_stride(
+        [1u8, 2, 3, 4, 5, 6, 7, 8].to_vec(rt.alloc())?,
+        2,
+        2,
+        3,
+    );
+    assert!(rt; owner.is_valid());
+    assert!(rt; owner.has_window(1, 1, 1, 1));
+    let window = owner.sub_image_mut(1, 1, 1, 1);
+    assert_eq!(rt; &**window.buf(), [5u8].as_slice());
+    Ok(())
+}
+
+#[test]
+fn the_whole_image_is_written_through(rt: HostRuntime) -> Result<(), Fail> {
+    let mut owner = padded(rt.alloc())?;
+    let mut lent = owner.as_mut();
+    assert_eq!(rt; (lent.width(), lent.height(), lent.stride()), (3, 2, 4));
+    assert!(rt; set(&mut lent.as_mut(), 0, 0, 9));
+    assert_eq!(rt; &**lent.buf(), [9u8, 2, 3, 4, 5, 6, 7, 8, 9].as_slice());
+    assert_eq!(rt;
+        owner.into_buf().as_slice(),
+        [9u8, 2, 3, 4, 5, 6, 7, 8, 9].as_slice()
+    );
+    Ok(())
+}
+
+#[test]
+fn the_parts_of_a_window_make_it(rt: HostRuntime) -> Result<(), Fail> {
+    let mut owner = padded(rt.alloc())?;
+    assert!(rt; owner.is_valid());
+    assert!(rt; owner.has_window(1, 0, 2, 1));
+    let (cells, width, height, stride) = owner.window_parts_mut(1, 0, 2, 1);
+    assert_eq!(rt; &*cells, [2u8, 3].as_slice());
+    assert_eq!(rt; (width, height, stride), (2, 1, 4));
+    let mut window: ImgRefMut<'_, u8> = Img::new_stride(cells, width, height, stride);
+    assert!(rt; set(&mut window, 1, 0, 9));
+    let mut lent = owner.as_mut();
+    assert!(rt; lent.is_valid());
+    assert!(rt; lent.has_window(1, 0, 2, 1));
+    assert_eq!(rt;
+        &*lent.window_parts_mut(1, 0, 2, 1).0,
+        [2u8, 9, 4, 5].as_slice()
+    );
+    Ok(())
+}
+
+#[test]
+fn each_container_is_used_through_its_bound(rt: HostRuntime) -> Result<(), Fail> {
+    let mut cells = PADDED;
+    let mut owned = PADDED.to_vec(rt.alloc())?;
+    assert_eq!(rt; cells_of(&owned), PADDED.as_slice());
+    assert_eq!(rt; cells_of(&PADDED.as_slice()), PADDED.as_slice());
+    assert_eq!(rt; cells_of(&cells.as_mut_slice()), PADDED.as_slice());
+    assert!(rt; owned.len() == 9);
+    *cell_of(&mut owned, 3) = 0;
+    *cell_of(&mut cells.as_mut_slice(), 3) = 0;
+    assert_eq!(rt; owned.as_slice(), [1u8, 2, 3, 0, 5, 6, 7, 8, 9].as_slice());
+    assert_eq!(rt; cells.as_slice(), [1u8, 2, 3, 0, 5, 6, 7, 8, 9].as_slice());
+    let mut owner: ImgVec<u8> = Img::new_stride(owned, 3, 2, 4);
+    assert!(rt; owner.is_valid());
+    assert!(rt; owner.has_window(0, 0, 1, 2));
+    assert_eq!(rt; window_len(&mut owner, 0, 0, 1, 2), 5);
+    let mut lent = Img::new_stride(cells.as_mut_slice(), 3, 2, 4);
+    assert!(rt; lent.is_valid());
+    assert!(rt; lent.has_window(0, 0, 1, 2));
+    assert_eq!(rt; window_len(&mut lent, 0, 0, 1, 2), 8);
+    Ok(())
+}
+
+#[test]
+fn zero(rt: HostRuntime) -> Result<(), Fail> {
+    let mut owner: ImgVec<u8> = Img::new_stride([1u8].to_vec(rt.alloc())?, 0, 0, 1);
+    assert!(rt; owner.is_valid());
+    assert!(rt; owner.has_window(0, 0, 0, 0));
+    assert_eq!(rt; owner.sub_image(0, 0, 0, 0).buf().len(), 0);
+    assert_eq!(rt; owner.sub_image_mut(0, 0, 0, 0).buf().len(), 0);
+    assert_eq!(rt; *owner.as_ref().buf(), [1u8].as_slice());
+    Ok(())
+}
+
+#[test]
+fn zero_width(rt: HostRuntime) -> Result<(), Fail> {
+    let mut owner: ImgVec<u8> = Img::new_stride([1u8].to_vec(rt.alloc())?, 0, 1, 1);
+    assert!(rt; owner.is_valid());
+    assert!(rt; owner.has_window(0, 1, 0, 0));
+    assert!(rt; owner.has_window(0, 0, 0, 1));
+    assert_eq!(rt; owner.sub_image(0, 1, 0, 0).buf().len(), 0);
+    assert_eq!(rt; owner.sub_image_mut(0, 0, 0, 1).buf().len(), 0);
+    Ok(())
+}
+
+#[test]
+fn zero_height(rt: HostRuntime) -> Result<(), Fail> {
+    let mut owner: ImgVec<u8> = Img::new_stride([1u8].to_vec(rt.alloc())?, 1, 0, 1);
+    assert!(rt; owner.is_valid());
+    assert!(rt; owner.has_window(1, 0, 0, 0));
+    assert!(rt; owner.has_window(0, 0, 1, 0));
+    assert_eq!(rt; owner.sub_image(1, 0, 0, 0).buf().len(), 0);
+    assert_eq!(rt; owner.sub_image_mut(0, 0, 1, 0).buf().len(), 0);
+    Ok(())
+}
+
+#[test]
+fn sub(rt: HostRuntime) -> Result<(), Fail> {
+    let mut owner = padded(rt.alloc())?;
+    assert_eq!(rt; owner.buf().as_slice(), PADDED.as_slice());
+    let image: ImgRef<'_, u8> = owner.as_ref();
+    let copy = image;
+    assert_eq!(rt; *copy.buf(), *image.buf());
+    assert!(rt; image.is_valid());
+    assert!(rt; image.has_window(1, 1, 2, 1));
+    let window = image.sub_image(1, 1, 2, 1);
+    assert_eq!(rt;
+        (window.width(), window.height(), window.stride()),
+        (2, 1, 4)
+    );
+    assert_eq!(rt; window.row(0), [6u8, 7].as_slice());
+    assert!(rt; owner.is_valid());
+    assert!(rt; owner.has_window(1, 1, 2, 1));
+    assert_eq!(rt; owner.sub_image_mut(1, 1, 2, 1).row(0), [6u8, 7].as_slice());
+    let mut first = padded(rt.alloc())?;
+    let mut lent = first.as_mut();
+    assert!(rt; lent.is_valid());
+    assert!(rt; lent.has_window(1, 1, 2, 1));
+    assert_eq!(rt; lent.sub_image_mut(1, 1, 2, 1).row(0), [6u8, 7].as_slice());
+    let mut second = padded(rt.alloc())?;
+    let lent = second.as_mut();
+    assert!(rt; lent.is_valid());
+    assert!(rt; lent.has_window(1, 1, 2, 1));
+    assert_eq!(rt;
+        lent.into_sub_image_mut(1, 1, 2, 1).row(0),
+        [6u8, 7].as_slice()
+    );
+    Ok(())
+}
