@@ -1,13 +1,11 @@
 -- Runs of commands, one after the other.
-use Rattle.std.proofs.Common.{◌≡◌, ◌<◌, Bool, true, false, ◌||◌, List, [], ◌∷◌, ◌++◌, length, map, get_or, refl, sym, ap, ◌∙◌, subst, arith}
-use Rattle.std.specs.Prelude.{All}
+use Rattle.std.proofs.Common.{◌≡◌, ◌<◌, Bool, List, [], ◌∷◌, ◌++◌, length, map, get_or, refl, sym, ap, ◌∙◌, subst, arith}
 use Rattle.std.specs.List.{list_any}
 use Rattle.std.proofs.lemmas.List.Folds.{list_any-append}
-use Rattle.std.proofs.lemmas.Option.{same_Some, slice_get_within, slice_get-get_or}
-use Rattle.image_model.specs.Layout.{Layout, Fits, SameOutside}
+use Rattle.std.proofs.lemmas.Option.{slice_get_within, slice_get-get_or}
+use Rattle.image_model.specs.Layout.{Layout}
 use Rattle.image_model.specs.Grid.{Grid, grid_of}
 use Rattle.image_model.specs.Kept.{IsKept}
-use Rattle.image_model.proofs.Places.{outside_refl}
 use Rattle.image_model.proofs.Kept.{kept_twice}
 use Rattle.imgref_replay.specs.Steps.{reply_to, after, replies_to, after_all}
 use Rattle.imgref_replay.specs.Run.{compacts, IsRun}
