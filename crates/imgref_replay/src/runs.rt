@@ -12,7 +12,7 @@ use crate::window::{put_at, window_at};
 use imgref::{ImgRef, ImgVec};
 use std::alloc::{AllocError, Global};
 
-// The window that a place names, or the fault in that name.
+/// The window that a place names, for reading; or the first fault of that name.
 fn locate<'i, T>(images: &'i [ImgVec<T>], spot: &Place) -> Result<ImgRef<'i, T>, Refusal>
     requires { All Fits (map vec_layout images.now) }
     ensures fault { MatchResult result (λ _. window_fault spot.now (grids_of images.now) ≡ None) (λ refusal. window_fault spot.now (grids_of images.now) ≡ Some refusal) }
@@ -29,7 +29,7 @@ fn locate<'i, T>(images: &'i [ImgVec<T>], spot: &Place) -> Result<ImgRef<'i, T>,
     }
 }
 
-// The pixel at a place of a window.
+/// The pixel at a place of a window.
 fn get<T: Copy>(images: &[ImgVec<T>], spot: &Place, x: usize, y: usize) -> Result<T, Refusal>
     requires { All Fits (map vec_layout images.now) }
     ensures fault { MatchResult result (λ _. pixel_fault spot.now x y (grids_of images.now) ≡ None) (λ refusal. pixel_fault spot.now x y (grids_of images.now) ≡ Some refusal) }
@@ -43,7 +43,7 @@ fn get<T: Copy>(images: &[ImgVec<T>], spot: &Place, x: usize, y: usize) -> Resul
     }
 }
 
-// Writes the pixel at a place of a window.
+/// Writes the pixel at a place of a window.
 fn put<T: Copy>(
     images: &mut [ImgVec<T>],
     spot: &Place,
@@ -67,7 +67,7 @@ fn put<T: Copy>(
     }
 }
 
-// Carries out one command, or tells its first fault and changes nothing.
+/// Carries out one command, or tells its first fault and changes nothing.
 fn accept<T: Copy + Eq>(images: &mut [ImgVec<T>], command: &Command<T>) -> Result<Reply<T>, Refusal>
     requires { All Fits (map vec_layout images.old) }
     ensures fault { MatchResult result (λ _. fault_of command.now (grids_of images.old) ≡ None) (λ refusal. fault_of command.now (grids_of images.old) ≡ Some refusal) }
@@ -89,7 +89,7 @@ fn accept<T: Copy + Eq>(images: &mut [ImgVec<T>], command: &Command<T>) -> Resul
     }
 }
 
-// Carries out one command, or refuses it.
+/// Carries out one command, or refuses it.
 fn step<T: Copy + Eq>(images: &mut [ImgVec<T>], command: &Command<T>) -> Reply<T>
     requires { All Fits (map vec_layout images.old) }
     ensures { IsRun T.eq (command.now ∷ []) (map vec_layout images.old) (map vec_layout images.new) (result ∷ []) }
@@ -100,9 +100,10 @@ fn step<T: Copy + Eq>(images: &mut [ImgVec<T>], command: &Command<T>) -> Reply<T
     }
 }
 
-/// Carries out the commands from the first to the last and writes the reply to each, over what `replies` held. Replies and new
-/// pixels are those of the commands' meaning on grids (`replies_to`, `after_all`), and each image keeps its padding, stride and
-/// length until a command compacts it. A command with a fault changes nothing.
+/// Carries out the commands from the first to the last, and writes the reply to each over what
+/// `replies` held there. Replies and new pixels are what the commands mean on grids (`replies_to`
+/// and `after_all`): a command with a fault is refused by its first one and changes nothing. Each
+/// image keeps its size, stride, length and padding, and fits again (`IsRun`).
 pub fn replay_into<T: Copy + Eq>(
     images: &mut [ImgVec<T>],
     commands: &[Command<T>],
@@ -117,8 +118,9 @@ pub fn replay_into<T: Copy + Eq>(
     }
 }
 
-/// The same, with the replies in a list of their own, one for each command and in order. Room for all of them is taken before
-/// the first command: where there is none, no image has changed.
+/// Carries out the commands as `replay_into` does, and answers the replies, one for each command
+/// and in order. Room for all of them is taken before the first command: where it is refused, no
+/// image has changed.
 pub fn replay<T: Copy + Eq>(
     alloc: Global,
     images: &mut [ImgVec<T>],
