@@ -1,8 +1,14 @@
 //! Commands over images: nested windows, and lists of commands with their replies.
 #![tactic(auto)]
 
-mod replay;
+mod commands;
+mod runs;
+#[cfg(test)]
+mod tests;
 mod window;
+#[cfg(test)]
+mod window_tests;
 
-pub use replay::{Command, Place, Refusal, Reply};
-pub use window::Window;
+pub use commands::{Command, Place, Refusal, Reply};
+pub use runs::{replay, replay_into};
+pub use window::{Window, into_window_at, window_at};

@@ -1,4 +1,4 @@
-//! Lists of commands over images, and their replies.
+//! Commands over images, and their replies.
 
 use crate::window::Window;
 
@@ -15,9 +15,18 @@ pub struct Place {
 #[derive(Drop)]
 pub enum Command<T> {
     /// The pixel at column `x` of row `y` of a window.
-    Get { spot: Place, x: usize, y: usize },
+    Get {
+        spot: Place,
+        x: usize,
+        y: usize,
+    },
     /// `value` is written at column `x` of row `y` of a window.
-    Put { spot: Place, x: usize, y: usize, value: T },
+    Put {
+        spot: Place,
+        x: usize,
+        y: usize,
+        value: T,
+    },
 }
 
 /// What a command answers.

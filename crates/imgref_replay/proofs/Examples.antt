@@ -1,0 +1,62 @@
+-- Worked commands, computed: what the definitions say of one small image.
+use Rattle.std.proofs.Common.{◌≡◌, ◌==◌, ◌<◌, ◌^◌, ℕ, List, [], ◌∷◌, length, map, refl, arith}
+use denote.RawPtr.{Ptr}
+use Rattle.std.specs.declared.alloc.Global.{Global}
+use Rattle.image_model.specs.Layout.{layout}
+use Rattle.image_model.specs.Grid.{Grid, grid_of}
+use Rattle.image_model.specs.Rows.{grid_joined_rows}
+use Rattle.imgref_replay.specs.Steps.{replies_to, after_all}
+use Rattle.imgref_replay.specs.declared.window.Window.{Window}
+use Rattle.imgref_replay.specs.declared.commands.Place.{Place}
+use Rattle.imgref_replay.specs.declared.commands.Command.TheVariants.{Get, Put}
+use Rattle.imgref_replay.specs.declared.commands.Reply.TheVariants.{Pixel, Done, Refused}
+use Rattle.imgref_replay.specs.declared.commands.Refusal.TheVariants.{NoImage, WindowOutside, PlaceOutside}
+
+-- 3 by 2 at stride 4, with cells past the last pixel: 1 2 3 above 5 6 7
+abbrev padded : Grid ℕ
+padded = grid_of (layout (1 ∷ 2 ∷ 3 ∷ 4 ∷ 5 ∷ 6 ∷ 7 ∷ 8 ∷ 9 ∷ []) 3 2 4)
+
+abbrev window : ℕ → ℕ → ℕ → ℕ → Window
+window left top width height = record { left = left; top = top; width = width; height = height }
+
+module _ (ptr : Ptr) (alloc : Global) where
+  -- a place of image n, whose path lies somewhere in memory
+  abbrev place : ℕ → (path : List Window) → length path < 2 ^ 63 → Place
+  place n path small = record { image = n; path = record { ptr = ptr; len = length path; cap = length path; alloc = alloc; items = path; ok = (refl, omega arith); small = small } }
+
+  -- the window (1,0,1,2) of the window (1,0,2,2): its place (0,1) is the place (2,1) of the image
+  abbrev nested : Place
+  nested = place 0 (window 1 0 2 2 ∷ window 1 0 1 2 ∷ []) (omega arith)
+
+  abbrev whole : Place
+  whole = place 0 [] (omega arith)
+
+  get_nested : replies_to ◌==◌ (Get nested 0 1 ∷ []) (padded ∷ []) ≡ Pixel 7 ∷ []
+  get_nested = refl
+
+  put_then_get : replies_to ◌==◌ (Put (place 0 (window 1 1 2 1 ∷ []) (omega arith)) 0 0 9 ∷ Get whole 1 1 ∷ []) (padded ∷ []) ≡ Done ∷ Pixel 9 ∷ []
+  put_then_get = refl
+
+  put_patches : map grid_joined_rows (after_all (Put (place 0 (window 1 1 2 1 ∷ []) (omega arith)) 0 0 9 ∷ []) (padded ∷ [])) ≡ (1 ∷ 2 ∷ 3 ∷ 5 ∷ 9 ∷ 7 ∷ []) ∷ []
+  put_patches = refl
+
+  -- the image number is tested before the path, and the path before the place
+  image_first : replies_to ◌==◌ (Get (place 1 (window 9 9 9 9 ∷ []) (omega arith)) 9 9 ∷ []) (padded ∷ []) ≡ Refused NoImage ∷ []
+  image_first = refl
+
+  path_second : replies_to ◌==◌ (Get (place 0 (window 2 0 2 1 ∷ []) (omega arith)) 9 9 ∷ []) (padded ∷ []) ≡ Refused WindowOutside ∷ []
+  path_second = refl
+
+  -- a window is inside the one before it, and not only inside the image
+  path_nested : replies_to ◌==◌ (Get (place 0 (window 0 0 2 2 ∷ window 1 0 2 1 ∷ []) (omega arith)) 0 0 ∷ []) (padded ∷ []) ≡ Refused WindowOutside ∷ []
+  path_nested = refl
+
+  place_last : replies_to ◌==◌ (Get whole 3 0 ∷ Get nested 1 0 ∷ []) (padded ∷ []) ≡ Refused PlaceOutside ∷ Refused PlaceOutside ∷ []
+  place_last = refl
+
+  -- an empty window at the edge is inside, and has no place
+  empty_window : replies_to ◌==◌ (Get (place 0 (window 3 0 0 2 ∷ []) (omega arith)) 0 0 ∷ []) (padded ∷ []) ≡ Refused PlaceOutside ∷ []
+  empty_window = refl
+
+  refused_changes_nothing : after_all (Put whole 3 0 9 ∷ []) (padded ∷ []) ≡ padded ∷ []
+  refused_changes_nothing = refl

@@ -1,0 +1,154 @@
+-- What the walks hand on, as machine values: the cells of an image, its parts, a region, and the answers of `region_at` and `into_window_at`.
+use mathlib.Core.Path.{◌≡◌, refl, ◌∙◌}
+use mathlib.Core.Logic.{◌⊎◌, inl, inr}
+use Prim.Native.Nat.{ℕ, ◌^◌, ◌<◌}
+use mathlib.Core.List.{List, [], ◌∷◌, ◌++◌}
+use mathlib.Core.Option.{some, none}
+use lib.ListN.{length}
+use seplogic.Ra.Ura.{Ura}
+use base.Fml.{Lft, GName, fsep, feq, fex}
+use base.Logic.{ent, emp, id⊢}
+use mir.Syntax.{Ty, Lifetime, named, w32, w64, ty_ptr, ty_int, ty_struct, tcons, tnil}
+use mir.Val.{Val, vint, vstruct, vcons, vnil, of_list}
+use types.Logic.{Logic, sem}
+use types.Kit.{‵, ◌$◌, ◌∵◌, !, qed, move, fjoin, fpack, feq_i, done}
+use types.Match.{live}
+use denote.Builtin.{usize}
+use denote.Enum.Enum.{in_a_row}
+use denote.Exit.{no}
+use denote.Follow.{follows, follows_by, follows_if}
+use denote.Laws.{Is}
+use denote.Param.{param, arg}
+use denote.Param.Laws.{Laws, arg_laws, param_laws, of_field, is_one, row_shared}
+use denote.Param.Shared.{mut_slice_shared}
+use denote.Plain.{uint_Makes}
+use denote.RattleType.{RattleType, Valss, owns}
+use denote.Ref.{MutBor}
+use denote.Slice.{MutSlice, Room, slice_val}
+use denote.Steps.{nothing, owned}
+use denote.Struct.Declared.{shape}
+use denote.Struct.Field.{mut_slice_field}
+use denote.Struct.Laws.{mut_slice_laws}
+use denote.Struct.Struct.{within}
+use denote.Struct.Tuple.{Tuple}
+use Rattle.std.specs.contracts.result.Result as result
+use Rattle.std.specs.declared.result.Result.{Result}
+use Rattle.std.specs.declared.result.Result.TheVariants.{Ok, Err}
+use Rattle.imgref.specs.contracts.img.Img as image
+use Rattle.imgref.specs.declared.img.Img.{Img}
+use Rattle.imgref_replay.specs.declared.window.Region.{Region}
+use Rattle.imgref_replay.specs.contracts.window.Region.{the_row, the_type}
+
+-- ---- cells that are lent for writing
+-- as a call passes it: a pointer and a count
+abbrev cells_ty : Ty
+cells_ty = ty_struct [] (tcons ty_ptr (tcons (ty_int w64) tnil))
+
+module _ (κ : Lft) (T : RattleType) where
+  abbrev pub Cells : RattleType
+  Cells = arg cells_ty no (MutSlice (named 0) κ (param 0 T))
+
+  pub cells_laws : Laws T → Laws Cells
+  cells_laws L =
+      let R : RattleType = param 0 T in
+      let LR : Laws R = param_laws 0 T L in
+      arg_laws cells_ty no (MutSlice (named 0) κ R) (of_field (mut_slice_field (record { mir = named 0; lft = κ }) R (is_one R LR)) (mut_slice_laws (record { mir = named 0; lft = κ }) R (is_one R LR)) refl (mut_slice_shared (record { mir = named 0; lft = κ }) R (is_one R LR) (row_shared R LR))) refl
+
+-- ---- an image of such cells
+abbrev pub img_val : ℕ × ℕ → ℕ → ℕ → ℕ → ℕ → Val
+img_val p n width height stride = vstruct (vcons (slice_val p n) (vcons (vint w32 width) (vcons (vint w32 height) (vcons (vint w64 stride) vnil))))
+
+module _ (ℓ : Lifetime) (κ : Lft) (R : RattleType) where
+  abbrev pub img_row : RattleType
+  img_row = image.the_row (MutSlice ℓ κ R)
+
+  pub img_told : (x : Img (MutBor (List R.Denot))) (vs : List Val) → Is img_row x vs → (vs ≡ img_val x.buf.ref_ptr (length x.buf.now) x.width x.height x.stride ∷ []) × Room R (length x.buf.now) × (x.width < 2 ^ 32) × (x.height < 2 ^ 32) × (x.stride < 2 ^ 64)
+  img_told x vs s = (
+    s.1.0 ∙ (λ i. vstruct (of_list (s.1.1.0.0.0 i ++ (s.1.1.1.0.0 i ++ (s.1.1.1.1.0.0 i ++ (s.1.1.1.1.1.0.0 i ++ []))))) ∷ []),
+    s.1.1.0.0.1,
+    s.1.1.1.0.1,
+    s.1.1.1.1.0.1,
+    s.1.1.1.1.1.0.1,
+  )
+
+-- ---- the parts of an image
+abbrev pub parts_val : ℕ × ℕ → ℕ → ℕ → ℕ → ℕ → Val
+parts_val p n width height stride = vstruct (vcons (slice_val p n) (vcons (vint w64 width) (vcons (vint w64 height) (vcons (vint w64 stride) vnil))))
+
+module _ (κ : Lft) (R : RattleType) where
+  abbrev pub Parts : RattleType
+  Parts = Tuple (MutSlice (named 0) κ R ∷ usize ∷ usize ∷ usize ∷ [])
+
+  pub parts_told : (x : MutBor (List R.Denot) × ℕ × ℕ × ℕ) (vs : List Val) → Is Parts x vs → (vs ≡ parts_val x.0.ref_ptr (length x.0.now) x.1 x.2 x.3 ∷ []) × Room R (length x.0.now) × (x.1 < 2 ^ 64) × (x.2 < 2 ^ 64) × (x.3 < 2 ^ 64)
+  parts_told x vs s = (
+    s.1.0 ∙ (λ i. vstruct (of_list (s.1.1.0.0.0 i ++ (s.1.1.1.0.0 i ++ (s.1.1.1.1.0.0 i ++ (s.1.1.1.1.1.0.0 i ++ []))))) ∷ []),
+    s.1.1.0.0.1,
+    s.1.1.1.0.1,
+    s.1.1.1.1.0.1,
+    s.1.1.1.1.1.0.1,
+  )
+
+-- ---- a region
+abbrev pub region_val : Region → Val
+region_val r = vstruct (vcons (vint w64 r.start) (vcons (vint w64 r.len) (vcons (vint w64 r.width) (vcons (vint w64 r.height) vnil))))
+
+pub region_told : (r : Region) (vs : List Val) → Is the_row r vs → (vs ≡ region_val r ∷ []) × (r.start < 2 ^ 64) × (r.len < 2 ^ 64) × (r.width < 2 ^ 64) × (r.height < 2 ^ 64)
+region_told r vs s = (
+  s.1.0 ∙ (λ i. vstruct (of_list (s.1.1.0.0 i ++ (s.1.1.1.0.0 i ++ (s.1.1.1.1.0.0 i ++ (s.1.1.1.1.1.0.0 i ++ []))))) ∷ []),
+  s.1.1.0.1,
+  s.1.1.1.0.1,
+  s.1.1.1.1.0.1,
+  s.1.1.1.1.1.0.1,
+)
+
+module _ {M : Type 1} {𝓤 : Ura M} (𝓛 : Logic 𝓤) where
+  pub region_made : (r : Region) → r.start < 2 ^ 64 → r.len < 2 ^ 64 → r.width < 2 ^ 64 → r.height < 2 ^ 64 → ent 𝓤 (emp 𝓤) (sem 𝓛 (the_row.own_val r (region_val r ∷ [])))
+  region_made r fs fl fw fh = qed 𝓛 [] ∵
+      nothing ! $ owned ! usize (Is usize) (uint_Makes 𝓛 w64) r.height (vint w64 r.height ∷ []) (refl, fh) $ fjoin ! $
+      owned ! usize (Is usize) (uint_Makes 𝓛 w64) r.width (vint w64 r.width ∷ []) (refl, fw) $ fjoin ! $
+      owned ! usize (Is usize) (uint_Makes 𝓛 w64) r.len (vint w64 r.len ∷ []) (refl, fl) $ fjoin ! $
+      owned ! usize (Is usize) (uint_Makes 𝓛 w64) r.start (vint w64 r.start ∷ []) (refl, fs) $ fjoin ! $
+      feq_i ! (List Val) (region_val r ∷ []) (region_val r ∷ []) refl $ fjoin ! $
+      fpack ! (Valss (usize ∷ usize ∷ usize ∷ usize ∷ [])) (within (shape the_type) (r.start, (r.len, (r.width, (r.height, tt)))) (region_val r ∷ []))
+      (vint w64 r.start ∷ [], (vint w64 r.len ∷ [], (vint w64 r.width ∷ [], (vint w64 r.height ∷ [], tt)))) $ done !
+
+-- ---- a region, or a number
+abbrev pub Answer : RattleType
+Answer = result.the_row the_row usize
+
+abbrev pub Found : Result Region ℕ → List Val → Region → Type 0
+Found r vs x = (r ≡ Ok x) × (vs ≡ live 0 (vcons (region_val x) vnil) ∷ []) × (x.start < 2 ^ 64) × (x.len < 2 ^ 64) × (x.width < 2 ^ 64) × (x.height < 2 ^ 64)
+
+abbrev pub Outside : Result Region ℕ → List Val → ℕ → Type 0
+Outside r vs k = (r ≡ Err k) × (vs ≡ live 1 (vcons (vint w64 k) vnil) ∷ []) × (k < 2 ^ 64)
+
+pub answer_told : (r : Result Region ℕ) (vs : List Val) → Is Answer r vs → ((x : Region) × Found r vs x) ⊎ ((k : ℕ) × Outside r vs k)
+answer_told (Ok x) vs s = let f = s.1.1.1.1.0 in
+    inl (x, (refl, s.1.0 ∙ (λ i. live 0 (of_list ((s.1.1.1.0 ∙ (λ j. (f.1.0 ∙ (λ m. vstruct (of_list (f.1.1.0.0 m ++ (f.1.1.1.0.0 m ++ (f.1.1.1.1.0.0 m ++ (f.1.1.1.1.1.0.0 m ++ []))))) ∷ [])) j ++ [])) i)) ∷ []), f.1.1.0.1, f.1.1.1.0.1, f.1.1.1.1.0.1, f.1.1.1.1.1.0.1))
+answer_told (Err k) vs s =
+    inr (k, (refl, s.1.0 ∙ (λ i. live 1 (of_list ((s.1.1.1.0 ∙ (λ j. s.1.1.1.1.0.0 j ++ [])) i)) ∷ []), s.1.1.1.1.0.1))
+
+module _ {M : Type 1} {𝓤 : Ura M} (𝓛 : Logic 𝓤) where
+  open 𝓛 use {A}
+
+  module _ (R T : RattleType) (γ : GName) (F : T.Denot → R.Denot) (v : R.Denot) where
+    pub if_some : (γ' : GName) → ent 𝓤 (sem 𝓛 (follows R T γ γ' F)) (sem 𝓛 (follows_if R T γ (some γ') F v))
+    unfolding follows_by
+    if_some γ' = id⊢ 𝓤 _
+
+    pub if_none : ent 𝓤 (A.res γ (R.coded.code v)) (sem 𝓛 (follows_if R T γ none F v))
+    unfolding follows_by
+    if_none = id⊢ 𝓤 _
+
+  module _ (Row : RattleType) where
+    pub ok_made : (y : Row.Denot) (w : Val) → ent 𝓤 (sem 𝓛 (Row.own_val y (w ∷ []))) (sem 𝓛 ((result.the_row Row usize).own_val (Ok y) (live 0 (vcons w vnil) ∷ [])))
+    ok_made y w = qed 𝓛 (‵ (Row.own_val y (w ∷ [])) ∷ []) ∵ nothing ! $ move ! (1 ∷ 0 ∷ []) $ fjoin ! $
+        feq_i ! (List Val) (w ∷ []) (w ∷ []) refl $ fjoin ! $ fpack ! (Valss (Row ∷ [])) (in_a_row (Row ∷ []) (owns (Row ∷ []) (y, tt)) (w ∷ [])) (w ∷ [], tt) $
+        feq_i ! (List Val) (live 0 (vcons w vnil) ∷ []) (live 0 (vcons w vnil) ∷ []) refl $ fjoin ! $
+        fpack ! (List Val) (λ us. fsep (feq (List Val) (live 0 (vcons w vnil) ∷ []) (live 0 (of_list us) ∷ [])) (fex (Valss (Row ∷ [])) (in_a_row (Row ∷ []) (owns (Row ∷ []) (y, tt)) us))) (w ∷ []) $ done !
+
+    pub err_made : (k : ℕ) → k < 2 ^ 64 → ent 𝓤 (emp 𝓤) (sem 𝓛 ((result.the_row Row usize).own_val (Err k) (live 1 (vcons (vint w64 k) vnil) ∷ [])))
+    err_made k f = qed 𝓛 [] ∵ nothing ! $ owned ! usize (Is usize) (uint_Makes 𝓛 w64) k (vint w64 k ∷ []) (refl, f) $ fjoin ! $
+        feq_i ! (List Val) (vint w64 k ∷ []) (vint w64 k ∷ []) refl $ fjoin ! $ fpack ! (Valss (usize ∷ [])) (in_a_row (usize ∷ []) (owns (usize ∷ []) (k, tt)) (vint w64 k ∷ [])) (vint w64 k ∷ [], tt) $
+        feq_i ! (List Val) (live 1 (vcons (vint w64 k) vnil) ∷ []) (live 1 (vcons (vint w64 k) vnil) ∷ []) refl $ fjoin ! $
+        fpack ! (List Val) (λ us. fsep (feq (List Val) (live 1 (vcons (vint w64 k) vnil) ∷ []) (live 1 (of_list us) ∷ [])) (fex (Valss (usize ∷ [])) (in_a_row (usize ∷ []) (owns (usize ∷ []) (k, tt)) us))) (vint w64 k ∷ []) $ done !

@@ -1,0 +1,289 @@
+ghost use Rattle.std.specs.Prelude.{◌≡◌, ◌≤◌, ◌<◌, ◌^◌, IfOk, length};
+ghost use Rattle.image_model.specs.Layout.{Fits, Reaches};
+ghost use Rattle.imgref.specs.Image.{vec_layout};
+
+use crate::{Command, Place, Refusal, Reply, Window, replay, replay_into};
+use imgref::{Img, ImgVec};
+use std::alloc::{AllocError, Global};
+use std::process::Abort;
+use std::test::Fail;
+
+const GREATEST: usize = usize::MAX;
+
+// Three columns and two rows at stride 4: the fourth cell is padding, and so are the last two.
+const A: [u8; 9] = [1, 2, 3, 4, 5, 6, 7, 8, 9];
+
+#[derive(Clone, Copy, Debug, PartialEq, Eq)]
+struct Rgb {
+    red: u8,
+    green: u8,
+    blue: u8,
+}
+
+const SKY: Rgb = Rgb {
+    red: 90,
+    green: 160,
+    blue: 250,
+};
+
+const SAND: Rgb = Rgb {
+    red: 220,
+    green: 200,
+    blue: 150,
+};
+
+fn image<T: Copy + Drop>(
+    alloc: Global,
+    cells: &[T],
+    width: usize,
+    height: usize,
+    stride: usize,
+) -> Result<ImgVec<T>, AllocError>
+    requires positive { 1 ≤ stride }
+    requires within { width ≤ stride }
+    requires width_fits { width < 2 ^ 32 }
+    requires height_fits { height < 2 ^ 32 }
+    requires fits { Reaches (length cells.now) width height stride }
+    ensures { IfOk result (λ image. Fits (vec_layout image)) }
+{
+    Ok(Img::new_stride(cells.to_vec(alloc)?, width, height, stride))
+}
+
+fn place(alloc: Global, image: usize, path: &[Window]) -> Result<Place, AllocError> {
+    Ok(Place {
+        image,
+        path: path.to_vec(alloc)?,
+    })
+}
+
+fn window(left: usize, top: usize, width: usize, height: usize) -> Window {
+    Window {
+        left,
+        top,
+        width,
+        height,
+    }
+}
+
+fn get<T>(
+    alloc: Global,
+    image: usize,
+    path: &[Window],
+    x: usize,
+    y: usize,
+) -> Result<Command<T>, AllocError> {
+    Ok(Command::Get {
+        spot: place(alloc, image, path)?,
+        x,
+        y,
+    })
+}
+
+fn put<T: Drop>(
+    alloc: Global,
+    image: usize,
+    path: &[Window],
+    x: usize,
+    y: usize,
+    value: T,
+) -> Result<Command<T>, AllocError> {
+    Ok(Command::Put {
+        spot: place(alloc, image, path)?,
+        x,
+        y,
+        value,
+    })
+}
+
+// Each of these is run once more where the first run found no memory: so a test asserts its answers also where one growth of
+// it is refused.
+
+fn one_grid_in_two_layouts(rt: &impl Abort, alloc: Global) -> Result<(), AllocError> {
+    let commands = [
+        put(alloc, 0, &[window(1, 1, 2, 1)], 0, 0, 9u8)?,
+        get(alloc, 0, &[], 1, 1)?,
+    ];
+    let mut padded = [image(alloc, &A, 3, 2, 4)?];
+    let mut packed = [image(alloc, &[1u8, 2, 3, 5, 6, 7], 3, 2, 3)?];
+    let of_padded = replay(alloc, &mut padded, &commands)?;
+    let of_packed = replay(alloc, &mut packed, &commands)?;
+    assert!(rt; of_padded.as_slice() == [Reply::Done, Reply::Pixel(9u8)].as_slice());
+    assert!(rt; of_packed.as_slice() == [Reply::Done, Reply::Pixel(9u8)].as_slice());
+    assert_eq!(rt;
+        padded[0].buf().as_slice(),
+        [1u8, 2, 3, 4, 5, 9, 7, 8, 9].as_slice()
+    );
+    assert_eq!(rt; packed[0].buf().as_slice(), [1u8, 2, 3, 5, 9, 7].as_slice());
+    Ok(())
+}
+
+fn nested_windows(rt: &impl Abort, alloc: Global) -> Result<(), AllocError> {
+    let path = [window(1, 0, 2, 2), window(1, 0, 1, 2)];
+    let commands = [
+        get(alloc, 0, &path, 0, 1)?,
+        put(alloc, 0, &path, 0, 0, 0u8)?,
+    ];
+    let mut images = [image(alloc, &A, 3, 2, 4)?];
+    let replies = replay(alloc, &mut images, &commands)?;
+    assert!(rt; replies.as_slice() == [Reply::Pixel(7u8), Reply::Done].as_slice());
+    assert_eq!(rt;
+        images[0].buf().as_slice(),
+        [1u8, 2, 0, 4, 5, 6, 7, 8, 9].as_slice()
+    );
+    Ok(())
+}
+
+fn padding_survives_put(rt: &impl Abort, alloc: Global) -> Result<(), AllocError> {
+    let mut commands = Vec::new(alloc);
+    for y in 0..2usize {
+        for x in 0..3usize {
+            commands.push(put(alloc, 0, &[], x, y, 0u8)?)?;
+        }
+    }
+    let mut images = [image(alloc, &A, 3, 2, 4)?];
+    let replies = replay(alloc, &mut images, &commands)?;
+    assert!(rt; replies.as_slice() == [Reply::Done; 6].as_slice());
+    assert_eq!(rt;
+        images[0].buf().as_slice(),
+        [0u8, 0, 0, 4, 0, 0, 0, 8, 9].as_slice()
+    );
+    Ok(())
+}
+
+fn first_fault(rt: &impl Abort, alloc: Global) -> Result<(), AllocError> {
+    let greatest = [window(GREATEST, GREATEST, GREATEST, GREATEST)];
+    let wide = [window(1, 0, GREATEST, 1)];
+    let nested = [window(0, 0, 2, 2), window(1, 0, 2, 1)];
+    let empty = [window(3, 0, 0, 2)];
+    let spots = [
+        (1, greatest.as_slice(), GREATEST, GREATEST, Refusal::NoImage),
+        (GREATEST, &[], 0, 0, Refusal::NoImage),
+        (
+            0,
+            greatest.as_slice(),
+            GREATEST,
+            GREATEST,
+            Refusal::WindowOutside,
+        ),
+        (0, wide.as_slice(), 0, 0, Refusal::WindowOutside),
+        (0, nested.as_slice(), 0, 0, Refusal::WindowOutside),
+        (0, empty.as_slice(), 0, 0, Refusal::PlaceOutside),
+        (0, &[], 3, 0, Refusal::PlaceOutside),
+        (0, &[], 0, 2, Refusal::PlaceOutside),
+        (0, &[], GREATEST, GREATEST, Refusal::PlaceOutside),
+    ];
+    let mut commands = Vec::new(alloc);
+    let mut wanted = Vec::new(alloc);
+    for (number, path, x, y, refusal) in spots.iter() {
+        commands.push(put(alloc, *number, *path, *x, *y, 0u8)?)?;
+        commands.push(get(alloc, *number, *path, *x, *y)?)?;
+        wanted.push(Reply::Refused(*refusal))?;
+        wanted.push(Reply::Refused(*refusal))?;
+    }
+    let mut images = [image(alloc, &A, 3, 2, 4)?];
+    let replies = replay(alloc, &mut images, &commands)?;
+    assert!(rt; replies.as_slice() == wanted.as_slice());
+    assert_eq!(rt; images[0].buf().as_slice(), A.as_slice());
+    Ok(())
+}
+
+fn lists_of_images(rt: &impl Abort, alloc: Global) -> Result<(), AllocError> {
+    let mut none: [ImgVec<u8>; 0] = [];
+    assert_eq!(rt; replay(alloc, &mut none, &[])?.len(), 0);
+    let commands = [put(alloc, 1, &[], 0, 0, 9u8)?, get(alloc, 0, &[], 0, 0)?];
+    let refused = replay(alloc, &mut none, &commands)?;
+    assert!(rt; refused.as_slice() == [Reply::Refused(Refusal::NoImage); 2].as_slice());
+    let mut two = [
+        image(alloc, &[1u8, 2], 2, 1, 2)?,
+        image(alloc, &[3u8, 4], 1, 2, 1)?,
+    ];
+    let mut replies = [Reply::Truth(true); 2];
+    replay_into(&mut two, &commands, &mut replies);
+    assert!(rt; replies.as_slice() == [Reply::Done, Reply::Pixel(1u8)].as_slice());
+    assert_eq!(rt; two[0].buf().as_slice(), [1u8, 2].as_slice());
+    assert_eq!(rt; two[1].buf().as_slice(), [9u8, 4].as_slice());
+    Ok(())
+}
+
+fn other_pixels(rt: &impl Abort, alloc: Global) -> Result<(), AllocError> {
+    let paint = [
+        put(alloc, 0, &[], 1, 1, SAND)?,
+        get(alloc, 0, &[], 1, 1)?,
+        get(alloc, 0, &[], 0, 1)?,
+    ];
+    let mut painted = [image(alloc, &[SKY; 5], 2, 2, 3)?];
+    let colours = replay(alloc, &mut painted, &paint)?;
+    assert!(rt;
+        colours.as_slice() == [Reply::Done, Reply::Pixel(SAND), Reply::Pixel(SKY)].as_slice()
+    );
+    assert_eq!(rt;
+        painted[0].buf().as_slice(),
+        [SKY, SKY, SKY, SKY, SAND].as_slice()
+    );
+    let touch = [
+        put(alloc, 0, &[], 1, 1, ())?,
+        get(alloc, 0, &[], 1, 1)?,
+        get(alloc, 0, &[], 2, 1)?,
+    ];
+    let mut blank = [image(alloc, &[(); 5], 2, 2, 3)?];
+    let units = replay(alloc, &mut blank, &touch)?;
+    assert!(rt;
+        units.as_slice()
+            == [
+                Reply::Done,
+                Reply::Pixel(()),
+                Reply::Refused(Refusal::PlaceOutside)
+            ]
+            .as_slice()
+    );
+    Ok(())
+}
+
+fn refused_memory(rt: &impl Abort, alloc: Global) -> Result<(), AllocError> {
+    let commands = [put(alloc, 0, &[], 0, 0, 9u8)?];
+    let mut images = [image(alloc, &A, 3, 2, 4)?];
+    let answer = replay(alloc, &mut images, &commands);
+    if answer.is_err() {
+        assert_eq!(rt; images[0].buf().as_slice(), A.as_slice());
+    }
+    assert!(rt; answer?.as_slice() == [Reply::Done].as_slice());
+    Ok(())
+}
+
+#[test]
+fn one_grid_in_two_layouts_gives_the_same_replies(rt: HostRuntime) -> Result<(), Fail> {
+    Ok(one_grid_in_two_layouts(&rt, rt.alloc()).or_else(|_| one_grid_in_two_layouts(
+        &rt,
+        rt.alloc(),
+    ))?)
+}
+
+#[test]
+fn a_path_leads_to_the_summed_place(rt: HostRuntime) -> Result<(), Fail> {
+    Ok(nested_windows(&rt, rt.alloc()).or_else(|_| nested_windows(&rt, rt.alloc()))?)
+}
+
+#[test]
+fn padding_stays_as_it_is(rt: HostRuntime) -> Result<(), Fail> {
+    Ok(padding_survives_put(&rt, rt.alloc()).or_else(|_| padding_survives_put(&rt, rt.alloc()))?)
+}
+
+#[test]
+fn the_first_fault_is_the_reply(rt: HostRuntime) -> Result<(), Fail> {
+    Ok(first_fault(&rt, rt.alloc()).or_else(|_| first_fault(&rt, rt.alloc()))?)
+}
+
+#[test]
+fn images_go_by_their_numbers(rt: HostRuntime) -> Result<(), Fail> {
+    Ok(lists_of_images(&rt, rt.alloc()).or_else(|_| lists_of_images(&rt, rt.alloc()))?)
+}
+
+#[test]
+fn pixels_are_of_any_size(rt: HostRuntime) -> Result<(), Fail> {
+    Ok(other_pixels(&rt, rt.alloc()).or_else(|_| other_pixels(&rt, rt.alloc()))?)
+}
+
+#[test]
+fn refused_memory_changes_nothing(rt: HostRuntime) -> Result<(), Fail> {
+    Ok(refused_memory(&rt, rt.alloc()).or_else(|_| refused_memory(&rt, rt.alloc()))?)
+}
