@@ -3,7 +3,7 @@ ghost use Rattle.std.specs.Borrow.{sem};
 ghost use Rattle.image_model.specs.Layout.{Fits, SameOutside, layout};
 ghost use Rattle.image_model.specs.Grid.{grid_of, uniform};
 ghost use Rattle.image_model.specs.Windows.{whole};
-ghost use Rattle.imgref.specs.Image.{buf_of, width_of, height_of, stride_of, with_buf, layout_by, vec_layout, mut_layout};
+ghost use Rattle.imgref.specs.Image.{buf_of, width_of, height_of, stride_of, with_buf, layout_by};
 ghost use Rattle.imgref.specs.Marks.{covered, marks_of};
 ghost use Rattle.imgref.specs.Pixels.{fills};
 
@@ -31,38 +31,17 @@ where
     fill_rest(&mut pixels, value);
 }
 
-// The same, seen place by place.
-fn fill_all<'a, C: AsMutSlice>(image: &'a mut Img<C>, value: C::Item)
-where
-    C::Item: Copy + 'a,
-    requires fits { Fits (layout_by C.AsSlice.cells image.old) }
-    ensures grid { grid_of (layout_by C.AsSlice.cells image.new) ≡ uniform (width_of image.old) (height_of image.old) value }
-    ensures outside { SameOutside (layout_by C.AsSlice.cells image.old) (layout_by C.AsSlice.cells image.new) }
-    ensures container { image.new ≡ with_buf image.old (C.with_cells (buf_of image.old) (whole (C.AsSlice.cells (buf_of image.old))) (C.AsSlice.cells (buf_of image.new))) }
-{
-    cover(image, value);
-}
-
-impl<T: Copy> Img<Vec<T>> {
+impl<C: AsMutSlice> Img<C> {
     /// Every pixel becomes `value`; the padding stays. The image must fit, as `is_valid` tells.
-    pub fn fill(&mut self, value: T)
-        requires fits { Fits (vec_layout self.old) }
-        ensures grid { grid_of (vec_layout self.new) ≡ uniform (width_of self.old) (height_of self.old) value }
-        ensures outside { SameOutside (vec_layout self.old) (vec_layout self.new) }
+    pub fn fill<'a>(&'a mut self, value: C::Item)
+    where
+        C::Item: Copy + 'a,
+        requires fits { Fits (layout_by C.AsSlice.cells self.old) }
+        ensures grid { grid_of (layout_by C.AsSlice.cells self.new) ≡ uniform (width_of self.old) (height_of self.old) value }
+        ensures outside { SameOutside (layout_by C.AsSlice.cells self.old) (layout_by C.AsSlice.cells self.new) }
+        ensures container { self.new ≡ with_buf self.old (C.with_cells (buf_of self.old) (whole (C.AsSlice.cells (buf_of self.old))) (C.AsSlice.cells (buf_of self.new))) }
     {
-        fill_all(self, value);
-    }
-}
-
-impl<T: Copy> Img<&mut [T]> {
-    /// Every pixel becomes `value`; the padding stays. The image must fit, as `is_valid` tells.
-    pub fn fill(&mut self, value: T)
-        requires fits { Fits (mut_layout self.old) }
-        ensures grid { grid_of (mut_layout self.new) ≡ uniform (width_of self.old) (height_of self.old) value }
-        ensures outside { SameOutside (mut_layout self.old) (mut_layout self.new) }
-        ensures loan { (buf_of self.new).ghost_name ≡ (buf_of self.old).ghost_name }
-    {
-        fill_all(self, value);
+        cover(self, value);
     }
 }
 

@@ -1,9 +1,10 @@
-ghost use Rattle.std.specs.Prelude.{◌≡◌, ◌*◌, ◌^◌, ◌<◌, ◌↔◌, IsTrue, All, count_by, nat_eq, sum};
+ghost use Rattle.std.specs.Prelude.{◌≡◌, ◌*◌, ◌^◌, ◌<◌, ◌↔◌, IsTrue, All, count_by, nat_eq, drop};
 ghost use Rattle.image_model.specs.Layout.{Fits};
 ghost use Rattle.image_model.specs.Rows.{pixels};
 ghost use Rattle.imgref.specs.Image.{width_of, height_of, ref_layout, mut_layout};
+ghost use Rattle.imgref.specs.Pixels.{copies_left};
 
-use crate::{ImgRef, ImgRefMut, ImgVec, fill_pixels};
+use crate::{ImgRef, ImgRefMut, ImgVec, PixelsIter, fill_pixels};
 use std::alloc::{AllocError, Global};
 use std::iter::{ExactSizeIterator, FusedIterator};
 use std::test::Fail;
@@ -26,14 +27,6 @@ fn all_below(image: ImgRef<'_, u8>, limit: u8) -> bool
     image.pixels().all(|pixel| pixel < limit)
 }
 
-fn sum_pixels(image: ImgRef<'_, u8>) -> u64
-    requires fits { Fits (ref_layout image) }
-    requires small { sum (pixels (ref_layout image)) < 2 ^ 64 }
-    ensures { result ≡ sum (pixels (ref_layout image.entry)) }
-{
-    image.pixels().map(|pixel| pixel as u64).sum()
-}
-
 // And from a loop.
 fn count_equal(image: ImgRef<'_, u8>, value: u8) -> usize
     requires { Fits (ref_layout image) }
@@ -46,6 +39,15 @@ fn count_equal(image: ImgRef<'_, u8>, value: u8) -> usize
         }
     }
     count
+}
+
+// After some steps a cursor still gives the pixels from that number on.
+fn skip_pixels(pixels: &mut PixelsIter<'_, u8>, count: usize)
+    ensures { copies_left pixels.new ≡ drop count (copies_left pixels.old) }
+{
+    for _ in 0..count {
+        pixels.next();
+    }
 }
 
 fn padded(alloc: Global) -> Result<ImgVec<u8>, AllocError> {
@@ -142,6 +144,9 @@ fn chains_and_loops_over_pixels(rt: HostRuntime) -> Result<(), Fail> {
     assert!(rt; all_below(view, 8) && !all_below(view, 7));
     assert_eq!(rt; count_equal(view, 5), 1);
     assert_eq!(rt; count_equal(view, 4), 0);
+    let mut pixels = view.pixels();
+    skip_pixels(&mut pixels, 4);
+    assert_eq!(rt; (pixels.next(), pixels.next(), pixels.next()), (Some(6), Some(7), None));
     Ok(())
 }
 

@@ -189,7 +189,7 @@ impl<T: Copy> Iterator for PixelsIter<'_, T> {
 
 impl<T: Copy> ExactSizeIterator for PixelsIter<'_, T> {
     fn len(&self) -> usize {
-        self.size_hint().0
+        self.inner.len()
     }
 }
 
@@ -259,14 +259,15 @@ impl<'a, T> Iterator for PixelsIterMut<'a, T> {
         ensures upper { IfSome result.1 (UpTo (item_count muts_left self.now)) }
         ensures exact { (result.0 ≡ length (muts_left self.now)) × (result.1 ≡ Some (length (muts_left self.now))) }
     {
-        let count = self.left + self.rows_left * self.width;
-        (count, Some(count))
+        let items = self.left + self.rows_left * self.width;
+        (items, Some(items))
     }
 }
 
 impl<T: Copy> ExactSizeIterator for PixelsIterMut<'_, T> {
     fn len(&self) -> usize {
-        self.size_hint().0
+        let (items, _) = self.size_hint();
+        items
     }
 }
 
@@ -321,7 +322,7 @@ impl<'s, T: Copy> Img<&'s [T]> {
         ensures runs { YieldsInOrder (YieldsFirst (copies_left {T = T})) copies_left }
     {
         PixelsIter {
-            inner: PixelsRefIter::of_layout(self.buf, self.width, self.height, self.stride),
+            inner: self.pixels_ref(),
         }
     }
 }
