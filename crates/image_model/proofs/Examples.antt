@@ -2,12 +2,13 @@
 use Rattle.std.proofs.Common.{◌≡◌, ◌^◌, ◌+◌, ◌-◌, ◌*◌, ◌<◌, true, false, ℕ, zero, suc, Some, None, List, [], ◌∷◌, refl, set, arith}
 use Rattle.std.specs.List.{slice_get}
 use Rattle.std.specs.Hash as fed
+use Rattle.std.specs.Prelude.{nat_eq}
 use Rattle.image_model.specs.Layout.{Layout, layout, is_fitting, cell_of, pixel}
 use Rattle.image_model.specs.Grid.{grid_of, patch, uniform}
 use Rattle.image_model.specs.Rows.{rows, row, joined_rows, pixels, grid_rows, grid_pixels, grid_joined_rows}
 use Rattle.image_model.specs.Windows.{window, is_inside, window_view, exact_window, roomy_window, with_stretch, stretch_cells, first_outside, path_window, path_stretch, whole, path_layout, path_view}
 use Rattle.image_model.specs.Shifts.{shifted, rows_compacted, rows_moved, MovesRows, IsCellOf}
-use Rattle.image_model.specs.Alike.{fed_by}
+use Rattle.image_model.specs.Alike.{is_alike, fed_by}
 use Rattle.image_model.specs.Kept.{IsPacked}
 use Rattle.image_model.specs.Tiles.{tiles, tile_start}
 
@@ -245,6 +246,28 @@ moves_a_row = record { length_stays = refl; moved = in_the_row; others_stay = be
     before_the_row (suc (suc zero)) h = absurd (h (record { x = 1; y = 0; column = omega arith; line = omega arith; there = refl }))
     before_the_row (suc (suc (suc zero))) h = absurd (h (record { x = 2; y = 0; column = omega arith; line = omega arith; there = refl }))
     before_the_row (suc (suc (suc (suc k)))) h = refl
+
+-- ---- equality
+
+-- padding doesn't tell images apart
+padding_alike : is_alike nat_eq (image (0 ∷ 1 ∷ 255 ∷ 2 ∷ 3 ∷ 255 ∷ []) 2 2 3) (image (0 ∷ 1 ∷ 255 ∷ 2 ∷ 3 ∷ []) 2 2 3) ≡ true
+padding_alike = refl
+
+-- sizes do, though the pixels are the same one after the other
+sizes_unlike : is_alike nat_eq (image (0 ∷ 1 ∷ 2 ∷ 3 ∷ []) 2 2 2) (image (0 ∷ 1 ∷ 2 ∷ 3 ∷ []) 4 1 4) ≡ false
+sizes_unlike = refl
+
+-- also where there is no pixel
+empty_sizes_unlike : is_alike nat_eq (image [] 0 3 1) (image [] 0 5 1) ≡ false
+empty_sizes_unlike = refl
+
+-- images that don't fit are alike if their sizes are equal
+unfit_alike : is_alike nat_eq (image (7 ∷ []) 2 2 (2 ^ 64 - 1)) (image [] 2 2 2) ≡ true
+unfit_alike = refl
+
+-- and differ from every image that fits
+unfit_unlike : is_alike nat_eq (image (7 ∷ []) 2 2 (2 ^ 64 - 1)) (image (1 ∷ 2 ∷ 3 ∷ 4 ∷ []) 2 2 2) ≡ false
+unfit_unlike = refl
 
 -- ---- what a hasher is fed
 

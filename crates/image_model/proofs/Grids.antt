@@ -1,6 +1,5 @@
 -- When grids are one, what their places have, and what a write does to them.
-use Rattle.std.proofs.Common.{◌≡◌, ℕ, ◌+◌, ◌-◌, ◌*◌, ◌<◌, ◌≤◌, Bool, true, false, cond, set, Some, None, Option, refl, sym, ap, ◌∙◌, arith, ⊎_elim}
-use Rattle.std.specs.List.{slice_get}
+use Rattle.std.proofs.Common.{◌≡◌, ◌≢◌, ℕ, ◌+◌, ◌-◌, ◌<◌, ◌≤◌, Bool, true, false, cond, Some, None, Option, refl, sym, ap, ◌∙◌, arith, ⊎_elim}
 use Rattle.std.specs.Bool.{Decides}
 use Rattle.std.specs.Prelude.{if◌then◌else◌}
 use Rattle.std.proofs.lemmas.Nat.{same_from_place}
@@ -73,74 +72,102 @@ is_patch g left top p f inside outside =
 
 -- the view through the whole
 pub view_all : {T : Type 0} (w h : ℕ) (f : ℕ → ℕ → Option T) → view (grid w h f) 0 0 w h ≡ grid w h f
-view_all {T} w h f =
-    let seen : ℕ → ℕ → Option T = λ x y. (grid w h f).pixel (0 + x) (0 + y) in
-    same_grids w h seen f (λ x y column line.
-    let left : 0 + x ≡ x = omega arith in
-    let top : 0 + y ≡ y = omega arith in
-    ap (λ n. (grid w h f).pixel n (0 + y)) left ∙ ap (λ n. (grid w h f).pixel x n) top ∙ at_place w h f x y column line)
+view_all w h f = same_grids w h (λ x y. (grid w h f).pixel (0 + x) (0 + y)) f seen
+  where
+    seen : (x y : ℕ) → x < w → y < h → (grid w h f).pixel (0 + x) (0 + y) ≡ f x y
+    seen x y column line =
+        let left : 0 + x ≡ x = omega arith in
+        let top : 0 + y ≡ y = omega arith in
+        ap (λ n. (grid w h f).pixel n (0 + y)) left ∙ ap (λ n. (grid w h f).pixel x n) top ∙ at_place w h f x y column line
 
 -- a patch over the whole
 pub patch_all : {T : Type 0} (g : Grid T) (f : ℕ → ℕ → Option T) → patch g 0 0 (grid g.width g.height f) ≡ grid g.width g.height f
-patch_all g f =
-    sym (is_patch g 0 0 (grid g.width g.height f) f
-    (λ x y column line _.
-    let left : x - 0 ≡ x = omega arith in
-    let top : y - 0 ≡ y = omega arith in
-    sym (ap (λ n. (grid g.width g.height f).pixel n (y - 0)) left ∙ ap (λ n. (grid g.width g.height f).pixel x n) top ∙ at_place g.width g.height f x y column line))
-    (λ x y column line miss. absurd (true≢false (sym ((covers_decides 0 0 g.width g.height x y).1 (omega arith, omega arith, omega arith, omega arith)) ∙ miss))))
+patch_all g f = sym (is_patch g 0 0 (grid g.width g.height f) f inside outside)
+  where
+    inside : (x y : ℕ) → x < g.width → y < g.height → covers 0 0 g.width g.height x y ≡ true → f x y ≡ (grid g.width g.height f).pixel (x - 0) (y - 0)
+    inside x y column line _ =
+        let left : x - 0 ≡ x = omega arith in
+        let top : y - 0 ≡ y = omega arith in
+        sym (ap (λ n. (grid g.width g.height f).pixel n (y - 0)) left ∙ ap (λ n. (grid g.width g.height f).pixel x n) top ∙ at_place g.width g.height f x y column line)
 
--- a patch of a view, put where the view was seen, is a patch at the summed corner
-pub patch_of_view : {T : Type 0} (g : Grid T) (left top width height x y : ℕ) (p : Grid T) → x + p.width ≤ width → y + p.height ≤ height
-    → patch g left top (patch (view g left top width height) x y p) ≡ patch g (left + x) (top + y) p
-patch_of_view {T} g left top width height x y p wide high =
-    let seen : Grid T = view g left top width height in
-    let inner : ℕ → ℕ → Option T = λ u v. if covers x y p.width p.height u v then p.pixel (u - x) (v - y) else seen.pixel u v in
-    let outer : ℕ → ℕ → Option T = λ u v. if covers left top width height u v then (grid width height inner).pixel (u - left) (v - top) else g.pixel u v in
-    is_patch g (left + x) (top + y) p outer
-    (λ u v in_u in_v hit.
-    let c = (covers_decides (left + x) (top + y) p.width p.height u v).0 hit in
-    let same_u : u - left - x ≡ u - (left + x) = omega (arith, c) in
-    let same_v : v - top - y ≡ v - (top + y) = omega (arith, c) in
-    cond-true (covers left top width height u v) _ _ ((covers_decides left top width height u v).1 (omega (arith, c), omega (arith, c), omega (arith, c), omega (arith, c)))
-    ∙ at_place width height inner (u - left) (v - top) (omega (arith, c)) (omega (arith, c))
-    ∙ cond-true (covers x y p.width p.height (u - left) (v - top)) _ _ ((covers_decides x y p.width p.height (u - left) (v - top)).1 (omega (arith, c), omega (arith, c), omega (arith, c), omega (arith, c)))
-    ∙ ap (λ n. p.pixel n (v - top - y)) same_u
-    ∙ ap (λ n. p.pixel (u - (left + x)) n) same_v)
-    (λ u v in_u in_v miss.
-    ⊎_elim
-    (λ hit.
-    let c = (covers_decides left top width height u v).0 hit in
-    let back_u : left + (u - left) ≡ u = omega (arith, c) in
-    let back_v : top + (v - top) ≡ v = omega (arith, c) in
-    cond-true (covers left top width height u v) _ _ hit
-    ∙ at_place width height inner (u - left) (v - top) (omega (arith, c)) (omega (arith, c))
-    ∙ cond-false (covers x y p.width p.height (u - left) (v - top)) _ _ (false_from_ne_true _ (λ e.
-    let d = (covers_decides x y p.width p.height (u - left) (v - top)).0 e in
-    true≢false (sym ((covers_decides (left + x) (top + y) p.width p.height u v).1 (omega (arith, c, d), omega (arith, c, d), omega (arith, c, d), omega (arith, c, d))) ∙ miss)))
-    ∙ at_place width height (λ m n. g.pixel (left + m) (top + n)) (u - left) (v - top) (omega (arith, c)) (omega (arith, c))
-    ∙ ap (λ n. g.pixel n (top + (v - top))) back_u
-    ∙ ap (λ n. g.pixel u n) back_v)
-    (λ beside. cond-false (covers left top width height u v) _ _ beside)
-    (cases_Bool (covers left top width height u v)))
+    outside : (x y : ℕ) → x < g.width → y < g.height → covers 0 0 g.width g.height x y ≡ false → f x y ≡ g.pixel x y
+    outside x y column line miss =
+        let hit = (covers_decides 0 0 g.width g.height x y).1 (omega arith, omega arith, omega arith, omega arith) in
+        absurd (true≢false (sym hit ∙ miss))
+
+module _ {T : Type 0} (g : Grid T) (left top width height x y : ℕ) (p : Grid T) where
+  -- whether the patch has a place of the grid, seen in the view and in the grid
+  abbrev within : ℕ → ℕ → Bool
+  within u v = covers x y p.width p.height (u - left) (v - top)
+
+  abbrev summed : ℕ → ℕ → Bool
+  summed u v = covers (left + x) (top + y) p.width p.height u v
+
+  -- the patched view, and the grid with it
+  abbrev inner : ℕ → ℕ → Option T
+  inner u v = if covers x y p.width p.height u v then p.pixel (u - x) (v - y) else (view g left top width height).pixel u v
+
+  abbrev outer : ℕ → ℕ → Option T
+  outer u v = if covers left top width height u v then (grid width height inner).pixel (u - left) (v - top) else g.pixel u v
+
+  in_view : (u v : ℕ) → covers left top width height u v ≡ true → outer u v ≡ inner (u - left) (v - top)
+  in_view u v hit =
+      let c = (covers_decides left top width height u v).0 hit in
+      cond-true (covers left top width height u v) _ _ hit ∙ at_place width height inner (u - left) (v - top) (omega (arith, c)) (omega (arith, c))
+
+  beside : (u v : ℕ) → covers left top width height u v ≡ true → summed u v ≡ false → outer u v ≡ g.pixel u v
+  beside u v hit miss =
+      let c = (covers_decides left top width height u v).0 hit in
+      let back_u : left + (u - left) ≡ u = omega (arith, c) in
+      let back_v : top + (v - top) ≡ v = omega (arith, c) in
+      let found : within u v ≡ true → summed u v ≡ true = λ e.
+      let d = (covers_decides x y p.width p.height (u - left) (v - top)).0 e in
+      (covers_decides (left + x) (top + y) p.width p.height u v).1 (omega (arith, c, d), omega (arith, c, d), omega (arith, c, d), omega (arith, c, d)) in
+      in_view u v hit
+      ∙ cond-false (within u v) _ _ (false_from_ne_true (within u v) (λ e. true≢false (sym (found e) ∙ miss)))
+      ∙ at_place width height (λ m n. g.pixel (left + m) (top + n)) (u - left) (v - top) (omega (arith, c)) (omega (arith, c))
+      ∙ ap (λ n. g.pixel n (top + (v - top))) back_u
+      ∙ ap (λ n. g.pixel u n) back_v
+
+  -- a patch of a view, put where the view was seen, is a patch at the summed corner
+  pub patch_of_view : x + p.width ≤ width → y + p.height ≤ height → patch g left top (patch (view g left top width height) x y p) ≡ patch g (left + x) (top + y) p
+  patch_of_view wide high = is_patch g (left + x) (top + y) p outer inside outside
+    where
+      inside : (u v : ℕ) → u < g.width → v < g.height → summed u v ≡ true → outer u v ≡ p.pixel (u - (left + x)) (v - (top + y))
+      inside u v in_u in_v hit =
+          let c = (covers_decides (left + x) (top + y) p.width p.height u v).0 hit in
+          let same_u : u - left - x ≡ u - (left + x) = omega (arith, c) in
+          let same_v : v - top - y ≡ v - (top + y) = omega (arith, c) in
+          in_view u v ((covers_decides left top width height u v).1 (omega (arith, c), omega (arith, c), omega (arith, c), omega (arith, c)))
+          ∙ cond-true (within u v) _ _ ((covers_decides x y p.width p.height (u - left) (v - top)).1 (omega (arith, c), omega (arith, c), omega (arith, c), omega (arith, c)))
+          ∙ ap (λ n. p.pixel n (v - top - y)) same_u
+          ∙ ap (λ n. p.pixel (u - (left + x)) n) same_v
+
+      outside : (u v : ℕ) → u < g.width → v < g.height → summed u v ≡ false → outer u v ≡ g.pixel u v
+      outside u v in_u in_v miss =
+          ⊎_elim (λ hit. beside u v hit miss) (λ past. cond-false (covers left top width height u v) _ _ past) (cases_Bool (covers left top width height u v))
 
 -- ---- a write at a place
 
 -- a write at a place patches the grid with one pixel
 pub written_grid : {T : Type 0} (l : Layout T) (x y : ℕ) (value : T) → Fits l → l.width ≤ l.stride → x < l.width → y < l.height
     → grid_of (written l x y value) ≡ patch (grid_of l) x y (uniform 1 1 value)
-written_grid {T} l x y value fits wide column line =
-    is_patch (grid_of l) x y (uniform 1 1 value) (pixel (written l x y value))
-    (λ u v in_u in_v hit.
-    let parts = (covers_decides x y 1 1 u v).0 hit in
-    let same_u : u ≡ x = omega (arith, parts) in
-    let same_v : v ≡ y = omega (arith, parts) in
-    ap (λ k. slice_get (set l.cells (cell_of l x y) value) k) (ap (λ n. n * l.stride + u) same_v ∙ ap (λ n. y * l.stride + n) same_u)
-    ∙ slice_get-set_same l.cells (cell_of l x y) value (cell_within l fits x y column line)
-    ∙ sym (at_place 1 1 (λ _ _. Some value) (u - x) (v - y) (omega arith) (omega arith)))
-    (λ u v in_u in_v miss.
-    slice_get-set_other l.cells (cell_of l x y) (cell_of l u v) value (λ e.
-    let one = same_from_place v u y x l.stride (omega arith) (omega arith) e in
-    let hit = (covers_decides x y 1 1 u v).1 (omega (arith, one), omega (arith, one), omega (arith, one), omega (arith, one)) in
-    true≢false (sym hit ∙ miss))
-    ∙ sym (pixel_at l u v in_u in_v))
+written_grid l x y value fits wide column line = is_patch (grid_of l) x y (uniform 1 1 value) (pixel (written l x y value)) inside outside
+  where
+    inside : (u v : ℕ) → u < l.width → v < l.height → covers x y 1 1 u v ≡ true → pixel (written l x y value) u v ≡ (uniform 1 1 value).pixel (u - x) (v - y)
+    inside u v in_u in_v hit =
+        let parts = (covers_decides x y 1 1 u v).0 hit in
+        let same_u : u ≡ x = omega (arith, parts) in
+        let same_v : v ≡ y = omega (arith, parts) in
+        ap (λ n. pixel (written l x y value) n v) same_u
+        ∙ ap (pixel (written l x y value) x) same_v
+        ∙ slice_get-set_same l.cells (cell_of l x y) value (cell_within l fits x y column line)
+        ∙ sym (at_place 1 1 (λ _ _. Some value) (u - x) (v - y) (omega arith) (omega arith))
+
+    outside : (u v : ℕ) → u < l.width → v < l.height → covers x y 1 1 u v ≡ false → pixel (written l x y value) u v ≡ (grid_of l).pixel u v
+    outside u v in_u in_v miss =
+        let other : cell_of l u v ≢ cell_of l x y = λ e.
+        let one = same_from_place v u y x l.stride (omega arith) (omega arith) e in
+        let hit = (covers_decides x y 1 1 u v).1 (omega (arith, one), omega (arith, one), omega (arith, one), omega (arith, one)) in
+        true≢false (sym hit ∙ miss) in
+        slice_get-set_other l.cells (cell_of l x y) (cell_of l u v) value other ∙ sym (pixel_at l u v in_u in_v)

@@ -6,4 +6,9 @@ pub mod Windows
 pub mod Paths
 pub mod Rows
 pub mod Pixels
+pub mod Kept
+pub mod Agreement
+pub mod Shifts
+pub mod Alike
+pub mod Tiles
 pub mod Examples

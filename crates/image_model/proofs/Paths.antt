@@ -11,7 +11,7 @@ use Rattle.image_model.specs.Grid.{Grid, grid_of}
 use Rattle.image_model.specs.Windows.{Window, window, IsInside, is_inside, window_view, Stretch, roomy_stretch, roomy_window, stretch_cells, first_outside, corner_left, corner_top, path_width, path_height, path_window, path_view, stretch_within, path_stretch, whole, path_layout}
 use Rattle.image_model.proofs.Grids.{at_place, same_grids}
 use Rattle.image_model.proofs.Stretches.{length-stretch_cells, stretch_cells-within}
-use Rattle.image_model.proofs.Windows.{is_inside_decides, HasWindow, roomy_has, window_fits, window_grid}
+use Rattle.image_model.proofs.Windows.{is_inside_decides, HasWindow, roomy_has, roomy_fits, roomy_grid, window_fits, window_grid}
 
 -- ---- one window in another
 
@@ -45,6 +45,15 @@ nested_has count stride v w s wide has inside =
       reaches = inner.reaches;
       within = omega (arith, has.within, inner.within);
     }
+
+-- a window of a window shows what the one window at the summed corner shows
+pub nested_grid : {T : Type 0} (l : Layout T) (v w : Window) → l.width ≤ l.stride → Fits l → IsInside l.width l.height v → IsInside v.width v.height w
+    → grid_of (roomy_window (roomy_window l v) w) ≡ grid_of (roomy_window l (nested v w))
+nested_grid l v w wide fits outer inner =
+    roomy_grid (roomy_window l v) w (omega (arith, outer)) (roomy_fits l v wide fits outer) inner
+    ∙ ap (λ g. window_view g w) (roomy_grid l v wide fits outer)
+    ∙ view_of_view (grid_of l) v w inner
+    ∙ sym (roomy_grid l (nested v w) wide fits (nested_inside l.width l.height v w outer inner))
 
 -- ---- the window that a path comes to
 

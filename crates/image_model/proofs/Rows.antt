@@ -46,7 +46,7 @@ length-row l y h = rw (row_stretch l y) (omega (arith, length-take l.width (drop
 
 -- ---- all rows
 
-slice_get-tabulated : {X : Type 0} (f : ℕ → X) (a n k : ℕ) → k < n → slice_get (map f (range_with_len a n)) k ≡ Some (f (a + k))
+pub slice_get-tabulated : {X : Type 0} (f : ℕ → X) (a n k : ℕ) → k < n → slice_get (map f (range_with_len a n)) k ≡ Some (f (a + k))
 slice_get-tabulated f a n k below =
     slice_get-get_or (map f (range_with_len a n)) k (f (a + k)) (omega (arith, length-map-range_with_len f a n))
     ∙ ap Some (get_or-map-range_with_len f a n k (a + k) (f (a + k)) below refl)

@@ -1,5 +1,5 @@
 -- A window's cells among its parent's: which they are, what they show, and what a write to them does.
-use Rattle.std.proofs.Common.{◌≡◌, ◌≢◌, ℕ, ◌+◌, ◌-◌, ◌*◌, ◌<◌, ◌≤◌, Bool, suc, false, inl, inr, List, length, set, refl, sym, ap, ◌∙◌, subst, arith}
+use Rattle.std.proofs.Common.{true, ◌≡◌, ◌≢◌, ℕ, ◌+◌, ◌-◌, ◌*◌, ◌<◌, ◌≤◌, Bool, suc, false, inl, inr, List, length, set, refl, sym, ap, ◌∙◌, subst, arith}
 use Rattle.std.specs.List.{slice_get}
 use Rattle.std.specs.Bool.{Decides}
 use Rattle.std.specs.Prelude.{◌==◌, nat_le, if◌then◌else◌}
@@ -8,10 +8,10 @@ use Rattle.std.proofs.lemmas.Bool.{and_parts, and_from, leb-true, le-leb, cases_
 use Rattle.std.proofs.lemmas.Nat.{same_from_place}
 use Rattle.std.proofs.Math.Nat.{mul-le-mul_left, mul-add, add-mul, mul-suc, mul_comm}
 use Rattle.image_model.specs.Layout.{Layout, layout, Reaches, Fits, cell_of, pixel, SameOutside}
-use Rattle.image_model.specs.Grid.{grid_of, patch}
+use Rattle.image_model.specs.Grid.{Grid, grid_of, covers, patch}
 use Rattle.image_model.specs.Windows.{Window, IsInside, is_inside, is_empty, window_view, Stretch, window_start, exact_stretch, roomy_stretch, stretch_cells, with_stretch, exact_window, roomy_window}
 use Rattle.image_model.proofs.Places.{reached, written}
-use Rattle.image_model.proofs.Grids.{covers_decides, pixel_at, same_grids, is_patch}
+use Rattle.image_model.proofs.Grids.{covers_decides, pixel_at, same_grids, is_patch, patch_of_view}
 use Rattle.image_model.proofs.Stretches.{stretch_cell, length-stretch_cells, length-with_stretch, with_stretch_at, with_stretch_beside, with_stretch-set}
 
 -- the test of a window tells whether it is inside
@@ -84,15 +84,15 @@ exact_has count stride width height w fits inside =
 pub roomy_has : (count stride width height : ℕ) (w : Window) → width ≤ stride → Reaches count width height stride → IsInside width height w → HasWindow count stride w (roomy_stretch count stride w)
 roomy_has count stride width height w wide fits inside =
     let exact : ℕ = stride * (w.height - 1) + w.width in
-    let room : Bool = nat_le (stride * w.top + w.left + stride * w.height) count in
-    from_corner count stride w (if room then stride * w.height else exact)
-    (cond_both room (stride * w.height) exact (λ n. Reaches n w.width w.height stride)
-    (λ _ column line.
+    let all : ℕ = stride * w.height in
+    let room : Bool = nat_le (stride * w.top + w.left + all) count in
+    let enough : 0 < w.width → 0 < w.height → exact ≤ all = λ column line.
     let last : w.height ≡ suc (w.height - 1) = omega arith in
-    omega (arith, inside, ap (λ n. stride * n) last ∙ mul-suc stride (w.height - 1)))
-    (λ _ column line. omega arith))
-    (cond_both room (stride * w.height) exact (λ n. 0 < w.width → 0 < w.height → stride * w.top + w.left + n ≤ count)
-    (λ e column line. leb-true (stride * w.top + w.left + stride * w.height) count e)
+    omega (arith, inside, ap (λ n. stride * n) last ∙ mul-suc stride (w.height - 1)) in
+    from_corner count stride w (if room then all else exact)
+    (cond_both room all exact (λ n. Reaches n w.width w.height stride) (λ _. enough) (λ _ column line. omega arith))
+    (cond_both room all exact (λ n. 0 < w.width → 0 < w.height → stride * w.top + w.left + n ≤ count)
+    (λ e column line. leb-true (stride * w.top + w.left + all) count e)
     (λ _. window_within count stride width height w fits inside))
 
 -- ---- what they show
@@ -170,26 +170,30 @@ module _ {T : Type 0} (l : Layout T) (w : Window) (s : Stretch) (has : HasWindow
 
     grid_of_others : l.width ≤ l.stride → IsInside l.width l.height w
         → grid_of (handed_on l s others) ≡ patch (grid_of l) w.left w.top (grid_of (layout others w.width w.height l.stride))
-    grid_of_others wide inside =
-        is_patch (grid_of l) w.left w.top (grid_of (layout others w.width w.height l.stride)) (pixel (handed_on l s others))
-        (λ u v in_u in_v hit.
-        let c = (covers_decides w.left w.top w.width w.height u v).0 hit in
-        let x : ℕ = u - w.left in
-        let y : ℕ = v - w.top in
-        let same_u : w.left + x ≡ u = omega (arith, c) in
-        let same_v : w.top + y ≡ v = omega (arith, c) in
-        let column : x < w.width = omega (arith, c) in
-        let line : y < w.height = omega (arith, c) in
-        let there : cell_of l u v ≡ s.start + (y * l.stride + x) = sym (window_cell x y column line ∙ ap (λ n. n * l.stride + (w.left + x)) same_v ∙ ap (λ n. v * l.stride + n) same_u) in
-        ap (slice_get (with_stretch l.cells s others)) there
-        ∙ with_stretch_at l.cells s others has.within (y * l.stride + x) (omega (arith, as_many, reached s.len w.width w.height l.stride x y has.reaches column line))
-        ∙ sym (pixel_at (layout others w.width w.height l.stride) x y column line))
-        (λ u v in_u in_v miss.
-        elsewhere (cell_of l u v) (λ x y column line e.
-        let one = same_from_place (w.top + y) (w.left + x) v u l.stride (omega (arith, inside)) (omega arith) e in
-        let hit = (covers_decides w.left w.top w.width w.height u v).1 (omega (arith, one), omega (arith, one), omega (arith, one), omega (arith, one)) in
-        true≢false (sym hit ∙ miss))
-        ∙ sym (pixel_at l u v in_u in_v))
+    grid_of_others wide inside = is_patch (grid_of l) w.left w.top (grid_of (layout others w.width w.height l.stride)) (pixel (handed_on l s others)) in_window beside
+      where
+        in_window : (u v : ℕ) → u < l.width → v < l.height → covers w.left w.top w.width w.height u v ≡ true
+            → pixel (handed_on l s others) u v ≡ (grid_of (layout others w.width w.height l.stride)).pixel (u - w.left) (v - w.top)
+        in_window u v in_u in_v hit =
+            let c = (covers_decides w.left w.top w.width w.height u v).0 hit in
+            let x : ℕ = u - w.left in
+            let y : ℕ = v - w.top in
+            let same_u : w.left + x ≡ u = omega (arith, c) in
+            let same_v : w.top + y ≡ v = omega (arith, c) in
+            let column : x < w.width = omega (arith, c) in
+            let line : y < w.height = omega (arith, c) in
+            let there : cell_of l (w.left + x) (w.top + y) ≡ cell_of l u v = ap (cell_of l (w.left + x)) same_v ∙ ap (λ n. cell_of l n v) same_u in
+            ap (slice_get (with_stretch l.cells s others)) (sym (window_cell x y column line ∙ there))
+            ∙ with_stretch_at l.cells s others has.within (y * l.stride + x) (omega (arith, as_many, reached s.len w.width w.height l.stride x y has.reaches column line))
+            ∙ sym (pixel_at (layout others w.width w.height l.stride) x y column line)
+
+        beside : (u v : ℕ) → u < l.width → v < l.height → covers w.left w.top w.width w.height u v ≡ false → pixel (handed_on l s others) u v ≡ (grid_of l).pixel u v
+        beside u v in_u in_v miss =
+            let other : (x y : ℕ) → x < w.width → y < w.height → cell_of l (w.left + x) (w.top + y) ≢ cell_of l u v = λ x y column line e.
+            let one = same_from_place (w.top + y) (w.left + x) v u l.stride (omega (arith, inside)) (omega arith) e in
+            let hit = (covers_decides w.left w.top w.width w.height u v).1 (omega (arith, one), omega (arith, one), omega (arith, one), omega (arith, one)) in
+            true≢false (sym hit ∙ miss) in
+            elsewhere (cell_of l u v) other ∙ sym (pixel_at l u v in_u in_v)
 
   -- a window with its outside as before is its new cells, with the old size and stride
   same_layout : (n : Layout T) → SameOutside (stretch_window l w s) n → n ≡ layout n.cells w.width w.height l.stride
@@ -205,6 +209,15 @@ module _ {T : Type 0} (l : Layout T) (w : Window) (s : Stretch) (has : HasWindow
   handed_on_grid n same wide inside =
       grid_of_others n.cells (subst (SameOutside (stretch_window l w s)) (same_layout n same) same) wide inside
       ∙ ap (λ m. patch (grid_of l) w.left w.top (grid_of m)) (sym (same_layout n same))
+
+  -- so what patches the window patches the parent at the summed corner
+  pub handed_on_patch : (n : Layout T) → SameOutside (stretch_window l w s) n → l.width ≤ l.stride → IsInside l.width l.height w
+      → (x y : ℕ) (p : Grid T) → x + p.width ≤ w.width → y + p.height ≤ w.height → grid_of n ≡ patch (grid_of (stretch_window l w s)) x y p
+      → grid_of (handed_on l s n.cells) ≡ patch (grid_of l) (w.left + x) (w.top + y) p
+  handed_on_patch n same wide inside x y p across down e =
+      handed_on_grid n same wide inside
+      ∙ ap (patch (grid_of l) w.left w.top) (e ∙ ap (λ g. patch g x y p) (window_grid inside))
+      ∙ patch_of_view (grid_of l) w.left w.top w.width w.height x y p across down
 
 -- ---- the two windows of the definitions
 

@@ -1,6 +1,7 @@
 -- When two images are equal, and what a hasher is fed of one.
-use Rattle.std.specs.Prelude.{◌≡◌, Bool, if◌then◌else◌, [], ◌++◌, ◌⊎◌}
+use Rattle.std.specs.Prelude.{◌≡◌, Bool, ◌&&◌, not, ◌==◌, if◌then◌else◌, [], ◌++◌, ◌⊎◌}
 use Rattle.std.specs.List.{flat_map}
+use Rattle.std.specs.Cmp.Lexicographic.{pointwise}
 use Rattle.std.specs.Hash as fed
 use Rattle.std.specs.Hash.{HashWrites}
 use Rattle.image_model.specs.Layout.{Layout, Fits, is_fitting}
@@ -20,6 +21,11 @@ pub record Alike {T : Type 0} (eq : T → T → Bool) (k l : Layout T) : Type 0 
   pub same_width : k.width ≡ l.width
   pub same_height : k.height ≡ l.height
   pub same_pixels : BothShow eq k l ⊎ NeitherFits k l
+
+-- the same as a test
+abbrev pub is_alike : {T : Type 0} → (T → T → Bool) → Layout T → Layout T → Bool
+is_alike eq k l =
+    (k.width == l.width) && ((k.height == l.height) && (if is_fitting k then is_fitting l && pointwise (pointwise eq) (rows k) (rows l) else not (is_fitting l)))
 
 -- a hasher is fed the width and the height as `u32`, and then, where the layout fits, each row
 abbrev pub fed_by : {T : Type 0} → (T → HashWrites) → Layout T → HashWrites

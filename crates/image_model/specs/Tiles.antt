@@ -1,6 +1,8 @@
 -- The tiles of a size: the windows that cover it, cut at its right and lower edge.
-use Rattle.std.specs.Prelude.{ℕ, ◌+◌, ◌-◌, ◌*◌, ◌/◌, ◌%◌, List, map, min}
+use Rattle.std.specs.Prelude.{◌≡◌, ℕ, ◌+◌, ◌-◌, ◌*◌, ◌/◌, ◌%◌, ◌<◌, Bool, IsTrue, List, map, min, slice_get}
+use Rattle.std.specs.Option.{IsSomeAnd}
 use Rattle.std.specs.List.{flat_map, range_with_len}
+use Rattle.image_model.specs.Grid.{covers}
 use Rattle.image_model.specs.Windows.{Window, window}
 
 -- how many tiles of one length begin below another
@@ -25,3 +27,21 @@ tiles width height tile_width tile_height =
 -- where the tile of column x begins, and likewise that of a row
 abbrev pub tile_start : ℕ → ℕ → ℕ
 tile_start tile x = x - x % tile
+
+-- whether column x of row y lies in a window
+abbrev pub has_place : Window → ℕ → ℕ → Bool
+has_place w x y = covers w.left w.top w.width w.height x y
+
+-- column x of row y lies in window number k of a list
+abbrev pub LiesIn : List Window → ℕ → ℕ → ℕ → Type 0
+LiesIn windows x y k = IsSomeAnd (slice_get windows k) (λ w. IsTrue (has_place w x y))
+
+-- column x of row y lies in exactly one window of a list, by its number
+pub record LiesInOne (windows : List Window) (x y : ℕ) : Type 0 where
+  pub number : ℕ
+  pub there : LiesIn windows x y number
+  pub alone : (k : ℕ) → LiesIn windows x y k → k ≡ number
+
+-- each place of a size lies in exactly one window of a list
+abbrev pub EachPlaceInOne : ℕ → ℕ → List Window → Type 0
+EachPlaceInOne width height windows = (x y : ℕ) → x < width → y < height → LiesInOne windows x y
