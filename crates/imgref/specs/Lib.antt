@@ -1,3 +1,4 @@
 pub mod Containers
 pub mod Image
+pub mod Index
 pub mod Window

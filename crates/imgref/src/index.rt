@@ -1,18 +1,23 @@
-ghost use Rattle.std.specs.Prelude.{◌≡◌, ◌+◌, ◌*◌, ◌<◌, length, slice_get, Some};
-ghost use Rattle.std.specs.Borrow.{sem, Lends};
+ghost use Rattle.std.specs.Prelude.{◌≡◌, ◌+◌, ◌≤◌, ◌<◌, length, take, drop, Some};
+ghost use Rattle.std.specs.Borrow.{sem, Lends, Array};
+ghost use Rattle.image_model.specs.Layout.{Fits, pixel};
+ghost use Rattle.image_model.specs.Rows.{row as row_of};
 ghost use Rattle.imgref.specs.contracts.img.Img.{the_row};
-ghost use Rattle.imgref.specs.Image.{buf_of, stride_of, with_buf};
+ghost use Rattle.imgref.specs.Image.{buf_of, width_of, height_of, layout_by};
+ghost use Rattle.imgref.specs.Index.{HasCell, row_start, with_cell_at, with_row};
 
-use crate::containers::{AsMutCell, AsSlice};
+use crate::containers::{AsMutCell, AsMutSlice, AsSlice};
 use crate::img::Img;
 use std::ops::{Index, IndexMut};
 
+/// The cell at column `x` of row `y`, by `img[(x, y)]`: cell `y * stride + x`. The column is below
+/// the stride and the cell within the buffer; it may be padding, or lie below the last row.
 impl<C: AsSlice> Index<(usize, usize)> for Img<C> {
     type Output = C::Item;
 
-    ghost can_index = { λ i p. (p.0 < stride_of i) × (p.1 * stride_of i + p.0 < length (C.cells (buf_of i))) };
+    ghost can_index = { λ i at. HasCell (layout_by C.cells i) at.0 at.1 };
 
-    ghost index_gives = { λ i p v. slice_get (C.cells (buf_of i)) (p.1 * stride_of i + p.0) ≡ Some v };
+    ghost index_gives = { λ i at cell. pixel (layout_by C.cells i) at.0 at.1 ≡ Some cell };
 
     fn index(&self, index: (usize, usize)) -> &C::Item {
         let cells = self.buf.as_slice();
@@ -21,13 +26,83 @@ impl<C: AsSlice> Index<(usize, usize)> for Img<C> {
     }
 }
 
+/// The cell at column `x` of row `y`, for writing. Once the borrow ends, that cell has what was
+/// left there, and no other cell has changed.
 impl<C: AsMutCell> IndexMut<(usize, usize)> for Img<C> {
     fn index_mut(&mut self, index: (usize, usize)) -> &mut C::Item
-        requires { (index.0 < stride_of self.old) × (index.1 * stride_of self.old + index.0 < length (C.AsSlice.cells (buf_of self.old))) }
-        ensures* writes_back { sem 𝓛 (Lends (the_row C.row) C.Item.row self.entry result (λ w. with_buf self.old (C.with_cell (buf_of self.old) (index.1 * stride_of self.old + index.0) w))) }
+        requires { HasCell (layout_by C.AsSlice.cells self.old) index.0 index.1 }
+        ensures* writes_back { sem 𝓛 (Lends (the_row C.row) C.Item.row self.entry result (with_cell_at C.AsSlice.cells C.with_cell self.old index.0 index.1)) }
     {
         let _len = self.buf.as_slice().len();
         let at = index.1 * self.stride + index.0;
         self.buf.cell_mut(at)
+    }
+}
+
+/// The same by `u32`. No product of them wraps: only the cell's number has to be within the buffer.
+impl<C: AsSlice> Index<(u32, u32)> for Img<C> {
+    type Output = C::Item;
+
+    ghost can_index = { λ i at. HasCell (layout_by C.cells i) at.0 at.1 };
+
+    ghost index_gives = { λ i at cell. pixel (layout_by C.cells i) at.0 at.1 ≡ Some cell };
+
+    fn index(&self, index: (u32, u32)) -> &C::Item {
+        &self[(index.0 as usize, index.1 as usize)]
+    }
+}
+
+/// The same by `u32`, for writing.
+impl<C: AsMutCell> IndexMut<(u32, u32)> for Img<C> {
+    fn index_mut(&mut self, index: (u32, u32)) -> &mut C::Item
+        requires { HasCell (layout_by C.AsSlice.cells self.old) index.0 index.1 }
+        ensures* writes_back { sem 𝓛 (Lends (the_row C.row) C.Item.row self.entry result (with_cell_at C.AsSlice.cells C.with_cell self.old index.0 index.1)) }
+    {
+        &mut self[(index.0 as usize, index.1 as usize)]
+    }
+}
+
+impl<C: AsSlice> Img<C> {
+    // The cell that row `y` begins at. At width 0 that is 0: the product might not fit.
+    fn row_start(&self, y: usize) -> usize
+        requires below { y < height_of self.now }
+        requires fits { Fits (layout_by C.cells self.now) }
+        ensures value { result ≡ row_start (layout_by C.cells self.now) y }
+        ensures room { result + width_of self.now ≤ length (C.cells (buf_of self.now)) }
+        ensures cells { take (width_of self.now) (drop result (C.cells (buf_of self.now))) ≡ row_of (layout_by C.cells self.now) y }
+    {
+        let _len = self.buf.as_slice().len();
+        if self.width == 0 { 0 } else { y * self.stride }
+    }
+
+    /// The pixels of row `y`: the `width` cells from `y * stride` on, none at width 0. The image
+    /// fits, and `y` is below the height.
+    pub fn row(&self, y: usize) -> &[C::Item]
+        requires below { y < height_of self.now }
+        requires fits { Fits (layout_by C.cells self.now) }
+        ensures value { result.now ≡ row_of (layout_by C.cells self.now) y }
+        ensures len { length result.now ≡ width_of self.now }
+    {
+        let start = self.row_start(y);
+        let cells = self.buf.as_slice();
+        let _len = cells.len();
+        &cells[start..start + self.width as usize]
+    }
+}
+
+impl<C: AsMutSlice> Img<C> {
+    /// The pixels of row `y`, for writing, under the conditions of `row`. Once the borrow ends,
+    /// those cells have what was left there, and no other cell has changed.
+    pub fn row_mut(&mut self, y: usize) -> &mut [C::Item]
+        requires below { y < height_of self.old }
+        requires fits { Fits (layout_by C.AsSlice.cells self.old) }
+        ensures* writes_back { sem 𝓛 (Lends (the_row C.row) (Array C.Item.row 0) self.entry result (with_row C.AsSlice.cells C.with_cells self.old y)) }
+        ensures value { result.now ≡ row_of (layout_by C.AsSlice.cells self.old) y }
+        ensures len { length result.now ≡ width_of self.old }
+    {
+        let start = self.row_start(y);
+        let _len = self.buf.as_slice().len();
+        let width = self.width as usize;
+        self.buf.stretch_mut(start, width)
     }
 }

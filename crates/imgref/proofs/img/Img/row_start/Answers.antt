@@ -1,0 +1,10 @@
+-- The cells from a row's start on are its pixels, where the image fits.
+use Rattle.std.proofs.Common.{sym, arith}
+use Rattle.image_model.proofs.Rows.{row_is, rows_from_fits}
+use Rattle.imgref.specs.Image.{layout_by}
+use Rattle.imgref.proofs.img.Img.row_start.Goals as goal
+
+pub returns-else-self-eq0-clause-cells : goal.returns-else-self-eq0-clause-cells
+returns-else-self-eq0-clause-cells g c =
+    let l = layout_by g.C.AsSlice.cells c.args.self.now in
+    sym (row_is l c.args.y (rows_from_fits l c.requires.fits (omega arith) c.args.y c.requires.below))

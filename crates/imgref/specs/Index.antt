@@ -1,0 +1,28 @@
+-- What an index of an image names, one cell or the window of one row, and the image after a write there.
+use Rattle.std.specs.Prelude.{ℕ, ◌<◌, List, length}
+use Rattle.image_model.specs.Layout.{Layout, cell_of}
+use Rattle.image_model.specs.Windows.{Window, Stretch, window, window_start}
+use Rattle.imgref.specs.declared.img.Img.{Img}
+use Rattle.imgref.specs.Image.{buf_of, width_of, with_buf, layout_by}
+
+-- there is a cell at column x of row y: it may be padding, or lie below the last row
+abbrev pub HasCell : {T : Type 0} → Layout T → ℕ → ℕ → Type 0
+HasCell l x y = (x < l.stride) × (cell_of l x y < length l.cells)
+
+-- row y as a window: all columns, one row high
+abbrev pub row_window : {T : Type 0} → Layout T → ℕ → Window
+row_window l y = window 0 y l.width 1
+
+-- the cell that row y begins at, or 0 where the rows are empty
+abbrev pub row_start : {T : Type 0} → Layout T → ℕ → ℕ
+row_start l y = window_start l.stride (row_window l y)
+
+-- how a container is read, and how it looks with one other cell or with other cells in the place of a stretch
+module _ {C T : Type 0} (cells : C → List T) where
+  -- the image with another cell at column x of row y
+  abbrev pub with_cell_at : (C → ℕ → T → C) → Img C → ℕ → ℕ → T → Img C
+  with_cell_at with_cell i x y cell = with_buf i (with_cell (buf_of i) (cell_of (layout_by cells i) x y) cell)
+
+  -- the image with other cells in the place of row y
+  abbrev pub with_row : (C → Stretch → List T → C) → Img C → ℕ → List T → Img C
+  with_row with_cells i y others = with_buf i (with_cells (buf_of i) (record { start = row_start (layout_by cells i) y; len = width_of i }) others)
