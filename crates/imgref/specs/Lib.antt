@@ -1,4 +1,5 @@
 pub mod Containers
 pub mod Image
 pub mod Index
+pub mod Rows
 pub mod Window

@@ -16,9 +16,11 @@
 mod containers;
 mod img;
 mod index;
+mod rows;
 #[cfg(test)]
 mod tests;
 mod window;
 
 pub use containers::{AsMutCell, AsMutSlice, AsSlice};
 pub use img::{Img, ImgRef, ImgRefMut, ImgVec};
+pub use rows::RowsIter;
