@@ -1,5 +1,7 @@
 -- The rows of a list of cells, taken off at either end.
-use Rattle.std.proofs.Common.{◌≡◌, ℕ, zero, suc, ◌+◌, ◌-◌, ◌*◌, ◌<◌, ◌≤◌, List, [], ◌∷◌, ◌++◌, All, length, get_or, take, drop, map, refl, sym, ap, ◌∙◌, arith}
+use Rattle.std.proofs.Common.{◌≡◌, ℕ, zero, suc, ◌+◌, ◌-◌, ◌*◌, ◌<◌, ◌≤◌, List, [], ◌∷◌, ◌++◌, All, length, get_or, take, drop, map, refl, sym, ap, ◌∙◌, arith, suc-mul}
+use lib.Dec.{T, T_not, eqb, eqb_refl}
+use mathlib.Core.Bool.{not}
 use mathlib.Core.Path.{ap₂}
 use Rattle.std.specs.List.{range_with_len}
 use Rattle.std.proofs.Math.Nat.{mul-le-mul_right}
@@ -27,6 +29,15 @@ some_column (suc w) h y below = omega arith
 counted_twice : (w h : ℕ) → row_count w (row_count w h) ≡ row_count w h
 counted_twice zero h = refl
 counted_twice (suc w) h = row_count-wide (suc w) (row_count (suc w) h) (omega arith)
+
+-- what a test for 0 tells that fails
+pub one_at_least : (n : ℕ) → T (not (eqb n 0)) → 0 < n
+one_at_least zero t = absurd (T_not (eqb 0 0) t (eqb_refl 0))
+one_at_least (suc n) t = omega arith
+
+pub suc_times : (n s : ℕ) → 0 < n → n * s ≡ (n - 1) * s + s
+suc_times zero s some = absurd (omega (arith, some))
+suc_times (suc n) s some = let e : n ≡ suc n - 1 = omega arith in suc-mul n s ∙ ap (λ k. k * s + s) e
 
 -- with a column the rows are as many as the height says
 tabulated : {T : Type 0} (cells : List T) (w s n : ℕ) → 0 < w → rows (layout cells w n s) ≡ map (row (layout cells w n s)) (range_with_len 0 n)
@@ -83,6 +94,22 @@ module _ {T : Type 0} (cells : List T) (w s : ℕ) where
   pub length-rows_left : (n : ℕ) → (0 < n → 0 < w) → length (rows (layout cells w n s)) ≡ n
   length-rows_left zero some = ap length (rows_none 0 refl)
   length-rows_left (suc n) some = length-rows (layout cells w (suc n) s) ∙ row_count-wide w (suc n) (some (omega arith))
+
+-- the rows behind cells that are skipped
+module _ {T : Type 0} (cells : List T) (skip w s n : ℕ) (wide : 0 < w) (some : 0 < n) (narrow : w ≤ s) where
+  -- the first row comes off, and the padding behind it is skipped next
+  pub first_off : rows (layout (drop skip cells) w n s) ≡ take w (drop skip cells) ∷ rows (layout (drop (s - w) (drop w (drop skip cells))) w (n - 1) s)
+  first_off =
+      let on : w + (s - w) ≡ s = omega arith in
+      rows_first (drop skip cells) w s n (drop (s - w) (drop w (drop skip cells))) wide some (λ _. drop-drop (s - w) w (drop skip cells) ∙ ap (λ k. drop k (drop skip cells)) on)
+
+  -- the last row comes off, and the cells before it stay
+  pub last_off : rows (layout (drop skip cells) w n s) ≡ rows (layout (drop skip (take (skip + (n - 1) * s) cells)) w (n - 1) s) ++ take w (drop (skip + (n - 1) * s) cells) ∷ []
+  last_off =
+      let before : ℕ = (n - 1) * s in
+      let earlier = rows_within (drop skip cells) w s (n - 1) before (λ more. omega (arith, narrow, suc_times (n - 1) s more)) in
+      rows_last (drop skip cells) w s n wide some
+      ∙ ap₂ (λ xs x. xs ++ take w x ∷ []) (sym earlier ∙ ap (λ xs. rows (layout xs w (n - 1) s)) (sym (drop-take skip before cells))) (drop-drop before skip cells)
 
 wide_row : {T : Type 0} (l : Layout T) → Fits l → (y : ℕ) → y < row_count l.width l.height → length (row l y) ≡ l.width
 wide_row l fits y below =
