@@ -1,5 +1,5 @@
 -- What a contract sees of a row iterator: the rows that it still gives, and how writes come back.
-use Rattle.std.specs.Prelude.{◌≡◌, ℕ, ◌+◌, ◌-◌, ◌*◌, List, [], ◌∷◌, ◌++◌, take, drop, Option, Some, None, MatchOption}
+use Rattle.std.specs.Prelude.{◌+◌, ◌-◌, ◌*◌, List, ◌++◌, take, drop, Option, Some, None}
 use Rattle.std.specs.Borrow.{MutBor, GName, Fml, RattleType, ftrue, follows_both, Array}
 use Rattle.image_model.specs.Layout.{layout}
 use Rattle.image_model.specs.Rows.{rows}
@@ -30,14 +30,6 @@ module _ {T : Type 0} where
   -- the cells behind the last row
   abbrev pub behind_last : RowsIterMut T → List T
   behind_last s = drop s.width (drop (s.skip + (s.count - 1) * s.stride) (cells_left s))
-
-  -- the first row comes off; at the end nothing changes
-  abbrev pub StepsFirst : RowsIterMut T → Option (MutBor (List T)) → RowsIterMut T → Type 0
-  StepsFirst s r t = MatchOption r ((muts_left s ≡ []) × (t ≡ s)) (λ row. muts_left s ≡ row.now ∷ muts_left t)
-
-  -- the last row comes off; at the end nothing changes
-  abbrev pub StepsLast : RowsIterMut T → Option (MutBor (List T)) → RowsIterMut T → Type 0
-  StepsLast s r t = MatchOption r ((muts_left s ≡ []) × (t ≡ s)) (λ row. muts_left s ≡ muts_left t ++ row.now ∷ [])
 
 -- the cells of s end as those before the row, what the row ends as, and what the cells of t end as
 abbrev pub hands_on : (R : RattleType) → RowsIterMut R.Denot → Option (MutBor (List R.Denot)) → RowsIterMut R.Denot → Fml

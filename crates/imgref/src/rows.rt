@@ -1,4 +1,4 @@
-ghost use Rattle.std.specs.Prelude.{◌≡◌, ◌+◌, ◌-◌, ◌*◌, ◌^◌, ◌<◌, ◌≤◌, ◌++◌, length, take, drop, All};
+ghost use Rattle.std.specs.Prelude.{◌≡◌, ◌+◌, ◌-◌, ◌*◌, ◌^◌, ◌<◌, ◌≤◌, [], ◌∷◌, ◌++◌, length, take, drop, All, Some};
 ghost use Rattle.std.specs.Borrow.{sem, follows, follows_both, Array};
 ghost use Rattle.image_model.specs.Layout.{Fits, layout};
 ghost use Rattle.image_model.specs.Windows.{whole};
@@ -141,7 +141,7 @@ pub struct RowsIterMut<'a, T> {
 
 impl<'a, T> RowsIterMut<'a, T> {
     ghost use Rattle.std.specs.Borrow.{sem};
-    ghost use Rattle.imgref.specs.Rows.{hands_on, hands_back, muts_left, StepsFirst, StepsLast};
+    ghost use Rattle.imgref.specs.Rows.{hands_on, hands_back, muts_left};
 
     // The rows that are left, which leaves none.
     fn take(&mut self) -> RowsIterMut<'a, T>
@@ -158,13 +158,11 @@ impl<'a, T> RowsIterMut<'a, T> {
     }
 
     // The first row, and the rows after it.
-    fn split_first(self) -> (Option<&'a mut [T]>, RowsIterMut<'a, T>)
-        ensures* hands_on { sem 𝓛 (hands_on T.row self.entry result.0 result.1) }
-        ensures steps { StepsFirst self.entry result.0 result.1 }
+    fn split_first(self) -> (&'a mut [T], RowsIterMut<'a, T>)
+        requires { 0 < self.count }
+        ensures* hands_on { sem 𝓛 (hands_on T.row self.entry (Some result.0) result.1) }
+        ensures steps { muts_left self.entry ≡ result.0.now ∷ muts_left result.1 }
     {
-        if self.count == 0 {
-            return (None, self);
-        }
         let (_, rest) = split(self.cells, self.skip);
         let (row, rest) = split(rest, self.width);
         let left = RowsIterMut {
@@ -174,17 +172,15 @@ impl<'a, T> RowsIterMut<'a, T> {
             width: self.width,
             stride: self.stride,
         };
-        (Some(row), left)
+        (row, left)
     }
 
     // The last row, and the rows before it.
-    fn split_last(self) -> (Option<&'a mut [T]>, RowsIterMut<'a, T>)
-        ensures* hands_back { sem 𝓛 (hands_back T.row self.entry result.0 result.1) }
-        ensures steps { StepsLast self.entry result.0 result.1 }
+    fn split_last(self) -> (&'a mut [T], RowsIterMut<'a, T>)
+        requires { 0 < self.count }
+        ensures* hands_back { sem 𝓛 (hands_back T.row self.entry (Some result.0) result.1) }
+        ensures steps { muts_left self.entry ≡ muts_left result.1 ++ result.0.now ∷ [] }
     {
-        if self.count == 0 {
-            return (None, self);
-        }
         let before = self.count - 1;
         let (rest, tail) = split(self.cells, self.skip + before * self.stride);
         let (row, _) = split(tail, self.width);
@@ -195,7 +191,7 @@ impl<'a, T> RowsIterMut<'a, T> {
             width: self.width,
             stride: self.stride,
         };
-        (Some(row), left)
+        (row, left)
     }
 }
 
@@ -218,9 +214,12 @@ impl<'a, T> Iterator for RowsIterMut<'a, T> {
         ensures ends { IfNone result (self.new ≡ self.old) }
         ensures* hands_on { sem 𝓛 (hands_on T.row self.old result self.new) }
     {
+        if self.count == 0 {
+            return None;
+        }
         let (row, left) = self.take().split_first();
         *self = left;
-        row
+        Some(row)
     }
 
     fn size_hint(&self) -> (usize, Option<usize>)
@@ -246,9 +245,12 @@ impl<'a, T> DoubleEndedIterator for RowsIterMut<'a, T> {
         ensures ends { IfNone result (self.new ≡ self.old) }
         ensures* hands_back { sem 𝓛 (hands_back T.row self.old result self.new) }
     {
+        if self.count == 0 {
+            return None;
+        }
         let (row, left) = self.take().split_last();
         *self = left;
-        row
+        Some(row)
     }
 }
 

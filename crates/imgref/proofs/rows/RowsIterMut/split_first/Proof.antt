@@ -45,7 +45,7 @@ use Rattle.std.specs.Prelude.{Some, None, Option}
 use Rattle.std.specs.contracts.option.Option as OP
 use Rattle.image_model.specs.Layout.{layout}
 use Rattle.image_model.specs.Rows.{rows}
-use Rattle.imgref.specs.Rows.{StepsFirst}
+use Rattle.imgref.specs.Rows.{muts_left}
 use Rattle.imgref.specs.declared.rows.RowsIterMut.{RowsIterMut}
 use Rattle.imgref.specs.contracts.rows.RowsIterMut.{the_row}
 use Rattle.imgref.proofs.PartsLeft.{given_up, cut_behind}
@@ -83,7 +83,6 @@ split_first_spec 𝓤 𝓛 𝓜 𝓡 wired T L =
     let s : RowsIterMut T.Denot = a.0 in
     let It : RattleType = the_row α R in
     let Slice : RattleType = MutSlice (named 0) κ R in
-    let Row : RattleType = OP.the_row Slice in
     let told = iter_told α R s vss.0 are.0 in
     let xs : List T.Denot = s.cells.now in
     let w : Val = val_of α R s in
@@ -96,38 +95,19 @@ split_first_spec 𝓤 𝓛 𝓜 𝓡 wired T L =
     let fc : s.count < 2 ^ 64 = told.2.1 in
     let fw : s.width < 2 ^ 64 = told.2.2 in
     let fs : s.stride < 2 ^ 64 = told.2.3 in
-    qed 𝓛 ((Tok ⊛ ‵ (owns (types_at ps z.0.0) a vss)) ∷ (raw (fact 𝓤 (κT ⊑ T.lives)) ⊛ raw (emp 𝓤)) ∷ []) ∵
-    move ! (1 ∷ []) $ split ! $ heard ! (κT ⊑ T.lives) (λ le. drop ! $ split ! $ move ! (1 ∷ []) $ fsplit ! $ keep ! (0 ∷ 2 ∷ []) $
+    qed 𝓛 ((Tok ⊛ ‵ (owns (types_at ps z.0.0) a vss)) ∷ (raw (fact 𝓤 (κT ⊑ T.lives)) ⊛ raw (fact 𝓤 (0 < s.count))) ∷ []) ∵
+    move ! (1 ∷ []) $ split ! $ heard ! (κT ⊑ T.lives) (λ le. heard ! (0 < s.count) (λ one. split ! $ move ! (1 ∷ []) $ fsplit ! $ keep ! (0 ∷ 2 ∷ []) $
     -- [the iterator; the tokens]
     rewrite ! 0 (λ (vs : List Val). ‵ (It.own_val s vs)) told.0 refl $
     regoal ! (λ (vs : List Val). prop (WpFn 𝓤 H 𝓣.C 𝓣.Λ fn vs Post)) (λ k. told.0 k ++ []) refl $
     enter ! 𝓣.C 𝓣.Λ fn (w ∷ []) Post $
     alloc_all ! (λ l. pass_all ! refl ((tt, ((tt, (record { fits = fn₀ }, tt)), (record { fits = fk }, (record { fits = fc }, (record { fits = fw }, (record { fits = fs }, tt)))))), tt) $
-    sets ! (of_opd ! (get_in ! (fld ! refl (stop !)) (sub ! 2 refl (whole !)))) refl (tt, record { fits = fc }) $
-    sets ! (bin ! (get ! refl) (lit ! tt) tt) refl (tt, tt) $
-    first ! $ branches ! (get ! refl)
-    (λ t. let zero : s.count ≡ 0 = eqb→eq s.count 0 t in
-    sets ! (agg ! (and_then ! (lit ! tt) (no_more !))) refl (tt, (record { fits = lit< tt }, tt)) $
-    sets ! (of_opd ! (get ! refl)) refl (tt, ((tt, (record { fits = fn₀ }, tt)), (record { fits = fk }, (record { fits = fc }, (record { fits = fw }, (record { fits = fs }, tt)))))) $
-    sets ! (agg ! (and_then ! (get ! refl) (and_then ! (get ! refl) (no_more !)))) refl (tt, ((record { fits = lit< tt }, tt), (((tt, (record { fits = fn₀ }, tt)), (record { fits = fk }, (record { fits = fc }, (record { fits = fw }, (record { fits = fs }, tt))))), tt))) $
-    returns_within ! Post refl (look_at ! 0 refl) $ free_all ! refl $
-    let Steps : Type 0 = StepsFirst s None s in
-    let v : Val = pair_val (live 0 (of_list [])) w in
-    use0 𝓛 (‵ (Row.own_val None (live 0 (of_list []) ∷ []))) (none_of 𝓛 Slice) $
-    use2 𝓛 (‵ ((Tuple (Row ∷ It ∷ [])).own_val (None, s) (v ∷ []))) (pair_made Row It 𝓛 None s (live 0 (of_list [])) w) $
-    use0 𝓛 (raw (fact 𝓤 Steps)) (fact_i 𝓤 Steps (emp 𝓤) (rows_none (drop_list s.skip xs) s.width s.stride s.count zero, refl)) $ nothing ! $ join ! $
-    nothing ! $ nothing ! $ fjoin ! $
-    -- [the iterator; the ensures; the result; the tokens]
-    move ! (3 ∷ 0 ∷ 2 ∷ 1 ∷ []) $ by ! (leaves 𝓛 En stays c z v (None, s) ((tt, tt), tt) (tt, tt)))
-    (λ t.
-    skips ! $ exec ! 𝓣.C 𝓣.Λ (env fn.locals l) (after 3 fn.body) (at_ret (env fn.locals l) Post) $
     -- [the iterator; the tokens]
     use1 𝓛 (‵ (Slice.own_val s.cells (slice_val s.cells.ref_ptr (length xs) ∷ []))) (iter_cells α R 𝓛 s (w ∷ [])) $
     sets ! (addr ! (from ! (fld ! refl (fld ! refl (hop ! (look_in_at ! 1 (sub ! 0 refl (sub ! 0 refl (whole !)))) (stop !)))))) refl (tt, tt) $
     sets ! (agg ! (and_then ! (get ! refl) (and_then ! (get_in ! (fld ! refl (fld ! refl (stop !))) (sub ! 1 refl (sub ! 0 refl (whole !)))) (no_more !)))) refl (tt, (tt, (record { fits = fn₀ }, tt))) $
     sets ! (of_opd ! (get_in ! (fld ! refl (stop !)) (sub ! 1 refl (whole !)))) refl (tt, record { fits = fk }) $
     -- [the cells; the tokens]
-    let one : 0 < s.count = one_at_least s.count t in
     let all : s.count * s.stride ≡ (s.count - 1) * s.stride + s.stride = suc_times s.count s.stride one in
     let reach : s.skip + s.width ≤ length xs = omega (arith, s.fits, all, s.wide) in
     let In : Type 0 = s.skip ≤ length xs in
@@ -192,25 +172,23 @@ split_first_spec 𝓤 𝓛 𝓜 𝓡 wired T L =
     sets ! (agg ! (and_then ! (get ! refl) (and_then ! (get ! refl) (and_then ! (get ! refl) (and_then ! (get ! refl) (and_then ! (get ! refl) (no_more !))))))) refl (tt, ((tt, (record { fits = f₁ }, tt)), (record { fits = fd }, (record { fits = fm₁ }, (record { fits = fw }, (record { fits = fs }, tt)))))) $
     sets ! (addr ! (from ! (fld ! refl (hop ! (look_in_at ! 3 (sub ! 0 refl (whole !))) (stop !))))) refl (tt, tt) $
     sets ! (agg ! (and_then ! (get ! refl) (and_then ! (get_in ! (fld ! refl (stop !)) (sub ! 1 refl (whole !))) (no_more !)))) refl (tt, (tt, (record { fits = f₀ }, tt))) $
-    sets ! (agg ! (and_then ! (lit ! tt) (and_then ! (get ! refl) (no_more !)))) refl (tt, (record { fits = lit< tt }, ((tt, (record { fits = f₀ }, tt)), tt))) $
     sets ! (of_opd ! (get ! refl)) refl (tt, ((tt, (record { fits = f₁ }, tt)), (record { fits = fd }, (record { fits = fm₁ }, (record { fits = fw }, (record { fits = fs }, tt)))))) $
-    sets ! (agg ! (and_then ! (get ! refl) (and_then ! (get ! refl) (no_more !)))) refl (tt, ((record { fits = lit< tt }, ((tt, (record { fits = f₀ }, tt)), tt)), (((tt, (record { fits = f₁ }, tt)), (record { fits = fd }, (record { fits = fm₁ }, (record { fits = fw }, (record { fits = fs }, tt))))), tt))) $
+    sets ! (agg ! (and_then ! (get ! refl) (and_then ! (get ! refl) (no_more !)))) refl (tt, ((tt, (record { fits = f₀ }, tt)), (((tt, (record { fits = f₁ }, tt)), (record { fits = fd }, (record { fits = fm₁ }, (record { fits = fw }, (record { fits = fs }, tt))))), tt))) $
     returns ! (look_at ! 0 refl) $ free_all ! refl $
     let row_is : r₂.0.now ≡ take s.width rest = is_row ∙ ap (take s.width) is_rest in
     let left_is : r₂.1.now ≡ drop_list s.width rest = is_left ∙ ap (drop_list s.width) is_rest in
     let less : length r₂.1.now ≡ length r.1.now - s.width = ap length is_left ∙ length-drop s.width r.1.now in
     let left : RowsIterMut T.Denot = record { cells = r₂.1; skip = s.stride - s.width; count = s.count - 1; width = s.width; stride = s.stride; some = λ _. s.some one; wide = s.wide; fits = omega (arith, s.fits, all, s.wide, less, long, reach) } in
-    let row_word : Val = live 1 (of_list (slice_val r₂.0.ref_ptr (length r₂.0.now) ∷ [])) in
+    let row_word : Val = slice_val r₂.0.ref_ptr (length r₂.0.now) in
     let word : Val = pair_val row_word (val_of α R left) in
-    let Steps : Type 0 = StepsFirst s (Some r₂.0) left in
+    let Steps : Type 0 = muts_left s ≡ r₂.0.now ∷ muts_left left in
     let steps : Steps = first_off xs s.skip s.width s.stride s.count (s.some one) one s.wide
       ∙ ap₂ (λ y ys. y ∷ rows (layout (drop_list (s.stride - s.width) ys) s.width (s.count - 1) s.stride)) (sym row_is) (sym left_is) in
     rewrite ! 0 (λ (ys : List T.Denot). ‵ (follows_both (Array R 0) (Array R 0) (Array R 0) s.cells.ghost_name r₂.0.ghost_name r₂.1.ghost_name (λ ws others. ys ++ (ws ++ others)))) is_front refl $
-    move ! (1 ∷ []) $ use1 𝓛 (‵ (Row.own_val (Some r₂.0) (row_word ∷ []))) (Some-of 𝓛 Slice r₂.0 (slice_val r₂.0.ref_ptr (length r₂.0.now))) $
     move ! (2 ∷ []) $ use1 𝓛 (‵ (It.own_val left (val_of α R left ∷ []))) (iter_made α R 𝓛 left r₂.1.ref_ptr (length r₂.1.now) (fd, fm₁, fw, fs)) $
-    move ! (1 ∷ 0 ∷ []) $ use2 𝓛 (‵ ((Tuple (Row ∷ It ∷ [])).own_val (Some r₂.0, left) (word ∷ []))) (pair_made Row It 𝓛 (Some r₂.0) left row_word (val_of α R left)) $
+    move ! (2 ∷ 0 ∷ []) $ use2 𝓛 (‵ ((Tuple (Slice ∷ It ∷ [])).own_val (r₂.0, left) (word ∷ []))) (pair_made Slice It 𝓛 r₂.0 left row_word (val_of α R left)) $
     -- [the result; what follows; the tokens]
     use0 𝓛 (raw (fact 𝓤 Steps)) (fact_i 𝓤 Steps (emp 𝓤) steps) $ move ! (2 ∷ 0 ∷ []) $ join ! $
     nothing ! $ nothing ! $ fjoin ! $
     -- [the iterator; the ensures; the result; the tokens]
-    move ! (3 ∷ 0 ∷ 2 ∷ 1 ∷ []) $ by ! (leaves 𝓛 En stays c z word (Some r₂.0, left) ((tt, tt), tt) (tt, tt))))))))))))))))))
+    move ! (3 ∷ 0 ∷ 2 ∷ 1 ∷ []) $ by ! (leaves 𝓛 En stays c z word (r₂.0, left) ((tt, tt), tt) (tt, tt))))))))))))))))))
