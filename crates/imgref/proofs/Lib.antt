@@ -5,3 +5,5 @@ pub mod Values
 pub mod RowsLeft
 pub mod RowsValues
 pub mod PartsLeft
+pub mod Lifetimes
+pub mod RowsTaken

@@ -92,3 +92,24 @@ module _ (a : NamedLft) (R : RattleType) where
     slices_out r vs = qed 𝓛 (‵ (slices_row.own_val r vs) ∷ []) ∵ fpick ! (λ us. fsplit ! $ drop ! $ fsplit ! $
         peeks ! Sl (Is Sl) (shows 𝓛 Sl) r.0 us.0 (λ is. rewrite ! 0 (λ (ws : List Val). ‵ (Sl.own_val r.0 ws)) is.0.0 refl $ move ! (1 ∷ []) $ fsplit ! $
         peeks ! Sl (Is Sl) (shows 𝓛 Sl) r.1 us.1.0 (λ is'. rewrite ! 0 (λ (ws : List Val). ‵ (Sl.own_val r.1 ws)) is'.0.0 refl $ keep ! (2 ∷ 0 ∷ []) $ done !)))
+
+-- a row and what is left: the machine value that they are, and the two taken out
+module _ (a : NamedLft) (R : RattleType) where
+  abbrev pub cut_row : RattleType
+  cut_row = Tuple (MutSlice a.mir a.lft R ∷ the_row a R ∷ [])
+
+  abbrev pub cut_val : MutBor (List R.Denot) × RowsIterMut R.Denot → Val
+  cut_val r = pair_val (slice_val r.0.ref_ptr (length r.0.now)) (val_of a R r.1)
+
+  pub cut_told : (r : MutBor (List R.Denot) × RowsIterMut R.Denot) (vs : List Val) → Is cut_row r vs → (vs ≡ cut_val r ∷ []) × Room R (length r.0.now) × Room R (length r.1.cells.now) × FitsWords a R r.1
+  cut_told r vs is =
+      let t = iter_told a R r.1 is.0.1.0 is.1.1.1.0 in
+      (is.1.0 ∙ (λ i. vstruct (of_list (is.1.1.0.0.0 i ++ (t.0 i ++ []))) ∷ []), is.1.1.0.0.1, t.1, t.2)
+
+  module _ {M : Type 1} {𝓤 : Ura M} (𝓛 : Logic 𝓤) where
+    pub cut_out : (r : MutBor (List R.Denot) × RowsIterMut R.Denot) (vs : List Val) → ent 𝓤 (sem 𝓛 (cut_row.own_val r vs))
+        (sep 𝓤 (sem 𝓛 ((MutSlice a.mir a.lft R).own_val r.0 (slice_val r.0.ref_ptr (length r.0.now) ∷ []))) (sem 𝓛 ((the_row a R).own_val r.1 (val_of a R r.1 ∷ []))))
+    cut_out r vs = qed 𝓛 (‵ (cut_row.own_val r vs) ∷ []) ∵ fpick ! (λ us. fsplit ! $ drop ! $ fsplit ! $
+        peeks ! (MutSlice a.mir a.lft R) (Is (MutSlice a.mir a.lft R)) (shows 𝓛 (MutSlice a.mir a.lft R)) r.0 us.0 (λ is. rewrite ! 0 (λ (ws : List Val). ‵ ((MutSlice a.mir a.lft R).own_val r.0 ws)) is.0.0 refl $ move ! (1 ∷ []) $ fsplit ! $
+        peeks ! (the_row a R) (Is (the_row a R)) (shows 𝓛 (the_row a R)) r.1 us.1.0 (λ is'. let t = iter_told a R r.1 us.1.0 is' in
+        rewrite ! 0 (λ (ws : List Val). ‵ ((the_row a R).own_val r.1 ws)) t.0 refl $ keep ! (2 ∷ 0 ∷ []) $ done !)))
