@@ -7,7 +7,7 @@ use mir.Val.{Val}
 use base.Fml.{Lft, GName, fres, fobs}
 use base.Logic.{SProp, ent, sep, wand, all, all_e, apply∗}
 use base.Stored.{Gv, coded_list}
-use types.Kit.{‵, raw, ◌⊛◌, ◌$◌, ◌∵◌, !, qed, by, move, keep, drop, split, join, each, assume, fsplit, fsplit3, feq_l, rewrite, use1, use2, done}
+use types.Kit.{‵, raw, ◌⊛◌, ◌$◌, ◌∵◌, !, qed, by, move, keep, drop, split, join, each, assume, fsplit3, rewrite, use1, use2, done}
 use types.Logic.{Logic, sem}
 use denote.Array.{Array}
 use denote.Follow.{follows_both, both_by}

@@ -1,10 +1,11 @@
 -- The rows of a list of cells, taken off at either end.
-use Rattle.std.proofs.Common.{◌≡◌, ℕ, zero, suc, ◌+◌, ◌-◌, ◌*◌, ◌<◌, ◌≤◌, List, [], ◌∷◌, ◌++◌, All, length, get_or, take, drop, map, refl, sym, ap, ◌∙◌, arith, suc-mul}
+use Rattle.std.proofs.Common.{◌≡◌, ℕ, zero, suc, ◌+◌, ◌-◌, ◌*◌, ◌<◌, ◌≤◌, List, [], ◌∷◌, ◌++◌, All, length, get_or, take, drop, map, inl, inr, refl, sym, ap, subst, ◌∙◌, arith, suc-mul, ◌^◌}
 use lib.Dec.{T, T_not, eqb, eqb_refl}
 use mathlib.Core.Bool.{not}
 use mathlib.Core.Path.{ap₂}
 use Rattle.std.specs.List.{range_with_len}
-use Rattle.std.proofs.Math.Nat.{mul-le-mul_right}
+use Rattle.std.proofs.Math.Nat.{mul-le-mul_right, mul_comm, zero-mul}
+use Rattle.std.proofs.lemmas.Bool.{cases_lt}
 use Rattle.std.proofs.lemmas.List.{drop-drop, drop-take, take-take}
 use Rattle.std.proofs.lemmas.List.Elements.{All-map}
 use Rattle.std.proofs.lemmas.List.FromFn.{map-range_with_len_more, length-range_with_len, get_or-range_with_len}
@@ -124,3 +125,32 @@ rows_wide {T} cells w n s fits =
     let number : k < row_count w n = omega (arith, length-range_with_len 0 (row_count w n)) in
     let at : get_or (range_with_len 0 (row_count w n)) k d ≡ k = omega (arith, get_or-range_with_len 0 (row_count w n) k d number) in
     ap (λ y. length (row l y)) at ∙ wide_row l fits k number)
+
+-- a count of the rows of an image is that of an iterator over all of them
+module _ {T : Type 0} (cells : List T) (w h s n : ℕ) (counted : n ≡ row_count w h) where
+  pub rows_are : rows (layout cells w n s) ≡ rows (layout cells w h s)
+  rows_are = ap (λ k. rows (layout cells w k s)) counted ∙ rows_counted cells w s h
+
+  pub rows_number : length (rows (layout cells w n s)) ≡ row_count w h
+  rows_number = ap length rows_are ∙ length-rows (layout cells w h s)
+
+  pub rows_countable : n < 2 ^ 32 → length (rows (layout cells w n s)) < 2 ^ 64
+  rows_countable small = omega (arith, rows_number, counted)
+
+  pub rows_as_wide : Fits (layout cells w h s) → All (λ r. length r ≡ w) (rows (layout cells w n s))
+  rows_as_wide fits = subst (All (λ r. length r ≡ w)) (sym rows_are) (rows_wide cells w h s fits)
+
+  -- a row has a column
+  pub rows_some : 0 < n → 0 < w
+  rows_some some = some_column w h 0 (omega (arith, some, counted))
+
+  -- and the cells reach to the end of the last one
+  pub rows_reach : Fits (layout cells w h s) → w ≤ s → 0 + n * s + w ≤ length cells + s
+  rows_reach fits narrow =
+      elim (cases_lt 0 n) [
+        | inl some ↦
+            let wide : 0 < w = rows_some some in
+            let high : n ≡ h = counted ∙ row_count-wide w h wide in
+            omega (arith, fits wide (omega (arith, some, high)), suc_times n s some, high, mul_comm s (h - 1), ap (λ k. (k - 1) * s) high)
+        | inr none ↦ let z : n * s ≡ 0 = ap (λ k. k * s) (let e : n ≡ 0 = omega (arith, none) in e) ∙ zero-mul s in omega (arith, z, narrow)
+      ]

@@ -1,7 +1,7 @@
 -- The call of `take` on a row iterator behind a `&mut`: what it is given, and what comes back. Assumes `Logic`.
 use mathlib.Core.Path.{◌≡◌, refl}
 use Prim.Native.Nat.{ℕ}
-use mathlib.Core.List.{List, [], ◌∷◌}
+use mathlib.Core.List.{[], ◌∷◌}
 use seplogic.Ra.Ura.{Ura}
 use base.Fml.{Lft, GName, Share, Fml, ftrue, flft, fdead, fres, fbor, fsep}
 use base.Logic.{SProp, ent, sep, emp, ex, apply∗, id⊢}
@@ -79,7 +79,7 @@ module _ (T : RattleType) {M : Type 1} {𝓤 : Ura M} (𝓛 : Logic 𝓤) (at_me
       let κ' : Lft = p.0 ∷ κ₁ in
       qed 𝓛 (raw (Take.post (at_take p δ) v) ∷ raw (ends p) ∷ ‵ (kept p δ) ∷ []) ∵ updating ! $
       use1 𝓛 (later (some (λ (r : RowsIterMut T.Denot). ((‵ (flft κ' p.1) ⊛ ‵ (flft κ₁ (Share.right q₁)) ⊛ ‵ (flft κ₂ q₂) ⊛ ‵ ftrue) ⊛ ‵ (It.own_val r (v ∷ [])))
-        ⊛ some (λ (ws : RowsIterMut T.Denot × Unit {0}). ‵ (fsep (fsep (fres δ (It.coded.code ws.0)) (fbor κ' (Body (mem It) b o δ))) ftrue) ⊛ raw (fact 𝓤 (r ≡ s)))))) (id⊢ 𝓤 _) $ await ! tt $ pick ! (λ r. split ! $
+      ⊛ some (λ (ws : RowsIterMut T.Denot × Unit {0}). ‵ (fsep (fsep (fres δ (It.coded.code ws.0)) (fbor κ' (Body (mem It) b o δ))) ftrue) ⊛ raw (fact 𝓤 (r ≡ s)))))) (id⊢ 𝓤 _) $ await ! tt $ pick ! (λ r. split ! $
       move ! (1 ∷ []) $ pick ! (λ ws. split ! $ fsplit ! $ fsplit ! $ move ! (3 ∷ []) $ heard ! (r ≡ s) (λ same.
       -- [the last value; its borrow; nothing; the tokens with the result; the end; what is kept]
       move ! (3 ∷ []) $ split ! $ split3 ! $ move ! (2 ∷ []) $ split ! $

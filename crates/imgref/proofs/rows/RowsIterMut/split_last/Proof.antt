@@ -4,22 +4,20 @@ use Prim.Native.Nat.{ℕ, ◌+◌, ◌-◌, ◌*◌, ◌^◌, ◌<◌, ◌≤◌
 use native.Mathlib.Omega.{arith}
 use mathlib.Core.List.{List, [], ◌∷◌, ◌++◌}
 use lib.ListN.{length, take, drop as drop_list, length-drop}
-use lib.Dec.{eqb→eq}
 use base.Logic.{SProp, emp, id⊢}
-use base.Fml.{Lft, GName, Share, ftrue, flft, fres}
+use base.Fml.{Lft, Share, ftrue, flft, fres}
 use base.Stored.{coded_list}
 use mir.Syntax.{Args, Fn, named, w64, a_type}
 use mir.MapTy.{inst_fn}
-use mir.Val.{Val, vint, of_list}
+use mir.Val.{Val, vint}
 use prog.Wp.{WpFn}
 use contract.BorrowLft.{◌⊑◌}
 use contract.Monad.{fact, fact_i}
 use contract.Running.{tables}
-use types.Kit.{Item, ‵, ◌⊛◌, raw, later, some, prop, at_ret, ◌$◌, ◌∵◌, !, qed, by, move, keep, drop, split, split3, join, fsplit, fjoin, rewrite, regoal, use0, use1, use2, use3, await, pick, updating, now, done}
-use types.Match.{live}
+use types.Kit.{Item, ‵, ◌⊛◌, raw, later, some, prop, ◌$◌, ◌∵◌, !, qed, by, move, keep, drop, split, join, fsplit, fjoin, rewrite, regoal, use0, use1, use2, use3, await, pick, updating, now, done}
 use types.Part.{whole, sub, agg}
-use types.Run.{stop, fld, hop, from, lit, addr, bin, of_opd, and_then, no_more, first, branches, skips, exec, returns, returns_within, enter}
-use types.ByLocal.{alloc_all, pass_all, free_all, look_at, look_in_at, get, get_in, sets, lands_as, env}
+use types.Run.{stop, fld, hop, from, lit, addr, bin, of_opd, and_then, no_more, returns, enter}
+use types.ByLocal.{alloc_all, pass_all, free_all, look_at, look_in_at, get, get_in, sets, lands_as}
 use borrow.Table.Elements.{length-take-le}
 use denote.Array.{Array}
 use denote.Builtin.{usize}
@@ -38,19 +36,14 @@ use denote.Triple.Clauses.{lasts}
 use denote.Triple.Spec.{triple_of}
 use denote.Triple.Table.{framed}
 use denote.Triple.Walked.{Stays, stay_dropped, walk_of}
-use Rattle.std.proofs.Common.{lit<}
-use Rattle.std.proofs.alloc.Shapes.{after}
-use Rattle.std.proofs.option.Made.{Some-of, none_of}
 use Rattle.std.proofs.raw_atomic.Walks.{proved_at, leaves}
-use Rattle.std.specs.Prelude.{Some, None, Option}
-use Rattle.std.specs.contracts.option.Option as OP
 use Rattle.image_model.specs.Layout.{layout}
 use Rattle.image_model.specs.Rows.{rows}
 use Rattle.imgref.specs.Rows.{muts_left}
 use Rattle.imgref.specs.declared.rows.RowsIterMut.{RowsIterMut}
 use Rattle.imgref.specs.contracts.rows.RowsIterMut.{the_row}
 use Rattle.imgref.proofs.PartsLeft.{given_up, cut_before}
-use Rattle.imgref.proofs.RowsLeft.{rows_none, last_off, suc_times, one_at_least}
+use Rattle.imgref.proofs.RowsLeft.{last_off, suc_times}
 use Rattle.imgref.proofs.RowsValues.{val_of, iter_told, iter_made, iter_cells, slices_row, slices_val, slices_told, slices_out, pair_val, pair_made}
 use Rattle.imgref.specs.contracts.rows.split as f
 use Rattle.imgref.proofs.rows.split.Met as cut
@@ -131,7 +124,7 @@ split_last_spec 𝓤 𝓛 𝓜 𝓡 wired T L =
     calls_at ! fm G (cut.met 𝓤 𝓛 𝓜 𝓡 (compiled.calls-imgref::rows::split 𝓡.env wired) T L) z₁ (and_then ! (get ! refl) (and_then ! (get ! refl) (no_more !))) (λ v.
     let tail : List T.Denot = drop_list mid xs in
     use1 𝓛 (later (some (λ (r : Pair). (Tok ⊛ ‵ (Two.own_val r (v ∷ []))) ⊛ some (λ (ws : Unit {0} × (Unit {0} × Unit {0})). ‵ (lasts (f.ended T) z₁.0.0 z₁.0.3 ws)
-      ⊛ (‵ (follows_both (Array R 0) (Array R 0) (Array R 0) s.cells.ghost_name r.0.ghost_name r.1.ghost_name ◌++◌) ⊛ raw (fact 𝓤 (r.0.now ≡ take mid xs)) ⊛ raw (fact 𝓤 (r.1.now ≡ tail))))))) (id⊢ 𝓤 _) $
+    ⊛ (‵ (follows_both (Array R 0) (Array R 0) (Array R 0) s.cells.ghost_name r.0.ghost_name r.1.ghost_name ◌++◌) ⊛ raw (fact 𝓤 (r.0.now ≡ take mid xs)) ⊛ raw (fact 𝓤 (r.1.now ≡ tail))))))) (id⊢ 𝓤 _) $
     await ! tt $ pick ! (λ r. split ! $ split ! $ move ! (2 ∷ []) $ pick ! (λ ws. split ! $ drop ! $ split ! $ move ! (1 ∷ []) $ split ! $ heard ! (r.0.now ≡ take mid xs) (λ is_front. heard ! (r.1.now ≡ tail) (λ is_tail.
     -- [what follows; the tokens; the two parts]
     move ! (2 ∷ []) $ peeks ! Two (Is Two) (shows 𝓛 Two) r (v ∷ []) (λ is. let t₁ = slices_told α R r (v ∷ []) is in
@@ -155,7 +148,7 @@ split_last_spec 𝓤 𝓛 𝓜 𝓡 wired T L =
     move ! (1 ∷ 0 ∷ []) $ use2 𝓛 (raw (G.pre z₂)) (id⊢ 𝓤 _) $
     calls_at ! fm G (cut.met 𝓤 𝓛 𝓜 𝓡 (compiled.calls-imgref::rows::split 𝓡.env wired) T L) z₂ (and_then ! (get ! refl) (and_then ! (get ! refl) (no_more !))) (λ v₂.
     use1 𝓛 (later (some (λ (r₂ : Pair). (Tok ⊛ ‵ (Two.own_val r₂ (v₂ ∷ []))) ⊛ some (λ (ws : Unit {0} × (Unit {0} × Unit {0})). ‵ (lasts (f.ended T) z₂.0.0 z₂.0.3 ws)
-      ⊛ (‵ (follows_both (Array R 0) (Array R 0) (Array R 0) r.1.ghost_name r₂.0.ghost_name r₂.1.ghost_name ◌++◌) ⊛ raw (fact 𝓤 (r₂.0.now ≡ take s.width r.1.now)) ⊛ raw (fact 𝓤 (r₂.1.now ≡ drop_list s.width r.1.now))))))) (id⊢ 𝓤 _) $
+    ⊛ (‵ (follows_both (Array R 0) (Array R 0) (Array R 0) r.1.ghost_name r₂.0.ghost_name r₂.1.ghost_name ◌++◌) ⊛ raw (fact 𝓤 (r₂.0.now ≡ take s.width r.1.now)) ⊛ raw (fact 𝓤 (r₂.1.now ≡ drop_list s.width r.1.now))))))) (id⊢ 𝓤 _) $
     await ! tt $ pick ! (λ r₂. split ! $ split ! $ move ! (2 ∷ []) $ pick ! (λ ws₂. split ! $ drop ! $ split ! $ move ! (1 ∷ []) $ split ! $ heard ! (r₂.0.now ≡ take s.width r.1.now) (λ is_row. heard ! (r₂.1.now ≡ drop_list s.width r.1.now) (λ is_left.
     move ! (2 ∷ []) $ peeks ! Two (Is Two) (shows 𝓛 Two) r₂ (v₂ ∷ []) (λ is₂. let t₂ = slices_told α R r₂ (v₂ ∷ []) is₂ in
     let f₀ : length r₂.0.now < 2 ^ 64 = t₂.1.0 in
@@ -189,7 +182,7 @@ split_last_spec 𝓤 𝓛 𝓜 𝓡 wired T L =
     let word : Val = pair_val row_word (val_of α R left) in
     let Steps : Type 0 = muts_left s ≡ muts_left left ++ r₂.0.now ∷ [] in
     let steps : Steps = last_off xs s.skip s.width s.stride s.count (s.some one) one s.wide
-      ∙ ap₂ (λ ys y. rows (layout (drop_list s.skip ys) s.width others s.stride) ++ y ∷ []) (sym is_front) (sym row_is) in
+    ∙ ap₂ (λ ys y. rows (layout (drop_list s.skip ys) s.width others s.stride) ++ y ∷ []) (sym is_front) (sym row_is) in
     rewrite ! 0 (λ (ys : List T.Denot). ‵ (follows_both (Array R 0) (Array R 0) (Array R 0) s.cells.ghost_name r₂.0.ghost_name r.0.ghost_name (λ ws before. before ++ (ws ++ ys)))) behind_is refl $
     move ! (3 ∷ []) $ use1 𝓛 (‵ (It.own_val left (val_of α R left ∷ []))) (iter_made α R 𝓛 left r.0.ref_ptr (length r.0.now) (fk, fo, fw, fs)) $
     move ! (2 ∷ 0 ∷ []) $ use2 𝓛 (‵ ((Tuple (Slice ∷ It ∷ [])).own_val (r₂.0, left) (word ∷ []))) (pair_made Slice It 𝓛 r₂.0 left row_word (val_of α R left)) $

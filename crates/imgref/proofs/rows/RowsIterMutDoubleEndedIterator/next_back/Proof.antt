@@ -1,8 +1,8 @@
 -- `next_back` takes the rows out of the `&mut`, cuts the last one off, and puts back what is left: a walk of its MIR by hand.
-use mathlib.Core.Path.{◌≡◌, refl, sym, ap, ◌∙◌}
+use mathlib.Core.Path.{◌≡◌, refl, ap}
 use Prim.Native.Nat.{ℕ, ◌^◌, ◌<◌}
 use native.Mathlib.Omega.{arith}
-use mathlib.Core.List.{List, [], ◌∷◌, ◌++◌}
+use mathlib.Core.List.{List, [], ◌∷◌}
 use lib.ListN.{length, drop as drop_list}
 use lib.Dec.{eqb→eq, lit<}
 use base.Fraction.{full_share}
@@ -11,7 +11,7 @@ use base.Fml.{Lft, GName, Share, Fml, ftrue, flft, fat}
 use mir.Syntax.{Fn, Ty, named, erased, mut, ty_ref, ty_param, ty_int, ty_struct, tcons, tnil, w64, a_type}
 use mir.MapTy.{inst_fn}
 use mir.Raw.{raw as bare}
-use mir.Val.{Val, vptr, of_list}
+use mir.Val.{Val, of_list}
 use contract.BorrowLft.{◌⊑◌}
 use contract.Monad.{fact, fact_i}
 use contract.Running.{tables}
@@ -45,7 +45,7 @@ use Rattle.imgref.specs.Rows.{muts_left, hands_back}
 use Rattle.imgref.specs.declared.rows.RowsIterMut.{RowsIterMut}
 use Rattle.imgref.specs.contracts.rows.RowsIterMut as P
 use Rattle.imgref.proofs.RowsLeft.{rows_none, one_at_least}
-use Rattle.imgref.proofs.RowsTaken.{lent, Take, at_take, kept, ends, take_begins, Taken, take_ends}
+use Rattle.imgref.proofs.RowsTaken.{lent, Take, at_take, kept, ends, take_begins, take_ends}
 use Rattle.imgref.proofs.RowsValues.{val_of, iter_told, cut_row, cut_val, cut_told, cut_out}
 use Rattle.imgref.proofs.rows.RowsIterMut.take.Met as taking
 use Rattle.imgref.specs.contracts.rows.RowsIterMut.split_last as g
@@ -140,7 +140,7 @@ next_back_spec 𝓤 𝓛 𝓜 𝓡 wired T L =
     use2 𝓛 (raw (G.pre z)) (id⊢ 𝓤 _) $
     calls_at ! fm G (cut.met 𝓤 𝓛 𝓜 𝓡 (compiled.calls-imgref::rows::RowsIterMut::split_last 𝓡.env wired) T L) z (and_then ! (get ! refl) (no_more !)) (λ v₂.
     use1 𝓛 (later (some (λ (r : MutBor (List T.Denot) × RowsIterMut T.Denot). (Tok ⊛ ‵ (Cut.own_val r (v₂ ∷ []))) ⊛ some (λ (ws : (Unit {0} × Unit {0}) × Unit {0}). ‵ (lasts (g.ended T) z.0.0 z.0.3 ws)
-      ⊛ (‵ (hands_back R h (Some r.0) r.1) ⊛ raw (fact 𝓤 (Steps (Some r.0) r.1))))))) (id⊢ 𝓤 _) $
+    ⊛ (‵ (hands_back R h (Some r.0) r.1) ⊛ raw (fact 𝓤 (Steps (Some r.0) r.1))))))) (id⊢ 𝓤 _) $
     await ! tt $ pick ! (λ r. split ! $ split ! $ move ! (2 ∷ []) $ pick ! (λ ws. split ! $ drop ! $ split ! $ move ! (1 ∷ []) $ heard ! (Steps (Some r.0) r.1) (λ steps.
     -- [what follows; the tokens; the row and what is left; its token; the iterator]
     move ! (2 ∷ []) $ peeks ! Cut (Is Cut) (shows 𝓛 Cut) r (v₂ ∷ []) (λ is₂. let t₂ = cut_told α R r (v₂ ∷ []) is₂ in
