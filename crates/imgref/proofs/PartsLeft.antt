@@ -1,5 +1,7 @@
 -- Lent cells that are cut in two twice, where one of the three parts is let go: what the whole ends as. Assumes `Logic`.
-use mathlib.Core.Path.{refl}
+use mathlib.Core.Path.{◌≡◌, refl, sym, ap, ap₂, ◌∙◌}
+use Prim.Native.Nat.{ℕ}
+use lib.ListN.{take, drop as drop_list, take-append-drop}
 use mathlib.Core.List.{List, [], ◌∷◌, ◌++◌}
 use seplogic.Ra.Ura.{Ura}
 use mir.Syntax.{Lifetime}
@@ -15,6 +17,13 @@ use denote.FollowSlice.{heres_id}
 use denote.RattleType.{RattleType}
 use denote.Ref.{MutBor}
 use denote.Slice.{MutSlice}
+
+-- a list is its first a cells, the next b, and the rest
+pub three_parts : {X : Type 0} (a b : ℕ) (xs front middle back : List X) → front ≡ take a xs → middle ≡ take b (drop_list a xs) → back ≡ drop_list b (drop_list a xs) → xs ≡ front ++ (middle ++ back)
+three_parts a b xs front middle back is_front is_middle is_back =
+    sym (take-append-drop a xs)
+    ∙ ap (λ ys. take a xs ++ ys) (sym (take-append-drop b (drop_list a xs)))
+    ∙ ap₂ (λ ys zs. ys ++ zs) (sym is_front) (ap₂ (λ ys zs. ys ++ zs) (sym is_middle) (sym is_back))
 
 module _ {M : Type 1} {𝓤 : Ura M} (𝓛 : Logic 𝓤) (R : RattleType) where
   open 𝓛 use {A}

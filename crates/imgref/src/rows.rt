@@ -141,7 +141,7 @@ pub struct RowsIterMut<'a, T> {
 
 impl<'a, T> RowsIterMut<'a, T> {
     ghost use Rattle.std.specs.Borrow.{sem};
-    ghost use Rattle.imgref.specs.Rows.{hands_on, hands_back, muts_left};
+    ghost use Rattle.imgref.specs.Rows.{hands_on, hands_back, muts_left, MovesFirst, MovesLast};
 
     // The rows that are left, which leaves none.
     fn take(&mut self) -> RowsIterMut<'a, T>
@@ -162,6 +162,7 @@ impl<'a, T> RowsIterMut<'a, T> {
         requires { 0 < self.count }
         ensures* hands_on { sem 𝓛 (hands_on T.row self.entry (Some result.0) result.1) }
         ensures steps { muts_left self.entry ≡ result.0.now ∷ muts_left result.1 }
+        ensures moves { MovesFirst self.entry (Some result.0) result.1 }
     {
         let (_, rest) = split(self.cells, self.skip);
         let (row, rest) = split(rest, self.width);
@@ -180,6 +181,7 @@ impl<'a, T> RowsIterMut<'a, T> {
         requires { 0 < self.count }
         ensures* hands_back { sem 𝓛 (hands_back T.row self.entry (Some result.0) result.1) }
         ensures steps { muts_left self.entry ≡ muts_left result.1 ++ result.0.now ∷ [] }
+        ensures moves { MovesLast self.entry (Some result.0) result.1 }
     {
         let before = self.count - 1;
         let (rest, tail) = split(self.cells, self.skip + before * self.stride);
@@ -199,10 +201,10 @@ impl<'a, T> Iterator for RowsIterMut<'a, T> {
     type Item = &'a mut [T];
 
     ghost use Rattle.std.specs.Borrow.{sem};
-    ghost use Rattle.std.specs.Prelude.{◌≡◌, length, Some, IfSome, IfNone};
+    ghost use Rattle.std.specs.Prelude.{◌≡◌, length, Some, IfSome};
     ghost use Rattle.std.specs.Iterator.{YieldsFirstMut, item_count, MakesProgress, UpTo};
     ghost use Rattle.std.specs.Iterator.SizeHint.{IsWithinCount};
-    ghost use Rattle.imgref.specs.Rows.{muts_left, hands_on};
+    ghost use Rattle.imgref.specs.Rows.{muts_left, hands_on, MovesFirst};
 
     ghost next_gives = { YieldsFirstMut muts_left };
 
@@ -211,7 +213,7 @@ impl<'a, T> Iterator for RowsIterMut<'a, T> {
     fn next(&mut self) -> Option<&'a mut [T]>
         ensures steps { YieldsFirstMut muts_left self.old result self.new }
         ensures goes { MakesProgress (λ _. Unit {0}) (item_count muts_left) self.old result self.new }
-        ensures ends { IfNone result (self.new ≡ self.old) }
+        ensures moves { MovesFirst self.old result self.new }
         ensures* hands_on { sem 𝓛 (hands_on T.row self.old result self.new) }
     {
         if self.count == 0 {
@@ -233,16 +235,15 @@ impl<'a, T> Iterator for RowsIterMut<'a, T> {
 
 impl<'a, T> DoubleEndedIterator for RowsIterMut<'a, T> {
     ghost use Rattle.std.specs.Borrow.{sem};
-    ghost use Rattle.std.specs.Prelude.{◌≡◌, IfNone};
     ghost use Rattle.std.specs.Iterator.{YieldsLastMut, item_count, MakesProgress};
-    ghost use Rattle.imgref.specs.Rows.{muts_left, hands_back};
+    ghost use Rattle.imgref.specs.Rows.{muts_left, hands_back, MovesLast};
 
     ghost next_back_gives = { YieldsLastMut muts_left };
 
     fn next_back(&mut self) -> Option<&'a mut [T]>
         ensures steps { YieldsLastMut muts_left self.old result self.new }
         ensures goes { MakesProgress (λ _. Unit {0}) (item_count muts_left) self.old result self.new }
-        ensures ends { IfNone result (self.new ≡ self.old) }
+        ensures moves { MovesLast self.old result self.new }
         ensures* hands_back { sem 𝓛 (hands_back T.row self.old result self.new) }
     {
         if self.count == 0 {
@@ -315,8 +316,8 @@ impl<T> Img<Vec<T>> {
 
 impl<C: AsMutSlice> Img<C> {
     ghost use Rattle.imgref.specs.contracts.img.Img.{the_row};
-    ghost use Rattle.imgref.specs.Image.{buf_of, width_of, height_of, with_buf, layout_by};
-    ghost use Rattle.imgref.specs.Rows.{muts_left, cells_left, name_of};
+    ghost use Rattle.imgref.specs.Image.{buf_of, width_of, height_of, stride_of, with_buf, layout_by};
+    ghost use Rattle.imgref.specs.Rows.{muts_left, cells_left, lines_left, name_of, all_lines};
 
     /// The rows for writing, from top to bottom, or from bottom to top: `height` slices of `width`
     /// cells, and none at width 0. The image must fit, as `is_valid` tells.
@@ -326,6 +327,7 @@ impl<C: AsMutSlice> Img<C> {
         requires fits { Fits (layout_by C.AsSlice.cells self.old) }
         ensures* writes_back { sem 𝓛 (follows (the_row C.row) (Array C.Item.row 0) self.entry.ghost_name (name_of result) (λ ws. with_buf self.old (C.with_cells (buf_of self.old) (whole (C.AsSlice.cells (buf_of self.old))) ws))) }
         ensures cells { cells_left result ≡ C.AsSlice.cells (buf_of self.old) }
+        ensures lines { lines_left result ≡ all_lines (width_of self.old) (height_of self.old) (stride_of self.old) }
         ensures rows { muts_left result ≡ rows_of (layout_by C.AsSlice.cells self.old) }
         ensures count { length (muts_left result) ≡ rows_counted (width_of self.old) (height_of self.old) }
         ensures countable { length (muts_left result) < 2 ^ 64 }

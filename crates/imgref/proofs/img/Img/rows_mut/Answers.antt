@@ -37,6 +37,7 @@ returns g c =
       record {
         writes_back = tt;
         cells = all;
+        lines = ap (λ k. record { skip = 0; count = k; width = i.width; stride = i.stride }) counted;
         rows = same ∙ rows_are cells i.width i.height i.stride n counted;
         count = ap length same ∙ rows_number cells i.width i.height i.stride n counted;
         countable = omega (arith, ap length same, rows_countable cells i.width i.height i.stride n counted c.row_count-count.ensures.small);

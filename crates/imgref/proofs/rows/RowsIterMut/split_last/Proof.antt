@@ -39,10 +39,11 @@ use denote.Triple.Walked.{Stays, stay_dropped, walk_of}
 use Rattle.std.proofs.raw_atomic.Walks.{proved_at, leaves}
 use Rattle.image_model.specs.Layout.{layout}
 use Rattle.image_model.specs.Rows.{rows}
-use Rattle.imgref.specs.Rows.{muts_left}
+use Rattle.std.specs.Prelude.{Some}
+use Rattle.imgref.specs.Rows.{muts_left, MovesLast}
 use Rattle.imgref.specs.declared.rows.RowsIterMut.{RowsIterMut}
 use Rattle.imgref.specs.contracts.rows.RowsIterMut.{the_row}
-use Rattle.imgref.proofs.PartsLeft.{given_up, cut_before}
+use Rattle.imgref.proofs.PartsLeft.{three_parts, given_up, cut_before}
 use Rattle.imgref.proofs.RowsLeft.{last_off, suc_times}
 use Rattle.imgref.proofs.RowsValues.{val_of, iter_told, iter_made, iter_cells, slices_row, slices_val, slices_told, slices_out, pair_val, pair_made}
 use Rattle.imgref.specs.contracts.rows.split as f
@@ -183,11 +184,13 @@ split_last_spec 𝓤 𝓛 𝓜 𝓡 wired T L =
     let Steps : Type 0 = muts_left s ≡ muts_left left ++ r₂.0.now ∷ [] in
     let steps : Steps = last_off xs s.skip s.width s.stride s.count (s.some one) one s.wide
     ∙ ap₂ (λ ys y. rows (layout (drop_list s.skip ys) s.width others s.stride) ++ y ∷ []) (sym is_front) (sym row_is) in
+    let Moves : Type 0 = MovesLast s (Some r₂.0) left in
+    let moves : Moves = (three_parts mid s.width xs r.0.now r₂.0.now (drop_list s.width tail) is_front row_is refl, refl) in
     rewrite ! 0 (λ (ys : List T.Denot). ‵ (follows_both (Array R 0) (Array R 0) (Array R 0) s.cells.ghost_name r₂.0.ghost_name r.0.ghost_name (λ ws before. before ++ (ws ++ ys)))) behind_is refl $
     move ! (3 ∷ []) $ use1 𝓛 (‵ (It.own_val left (val_of α R left ∷ []))) (iter_made α R 𝓛 left r.0.ref_ptr (length r.0.now) (fk, fo, fw, fs)) $
     move ! (2 ∷ 0 ∷ []) $ use2 𝓛 (‵ ((Tuple (Slice ∷ It ∷ [])).own_val (r₂.0, left) (word ∷ []))) (pair_made Slice It 𝓛 r₂.0 left row_word (val_of α R left)) $
     -- [the result; what follows; the tokens]
-    use0 𝓛 (raw (fact 𝓤 Steps)) (fact_i 𝓤 Steps (emp 𝓤) steps) $ move ! (2 ∷ 0 ∷ []) $ join ! $
+    use0 𝓛 (raw (fact 𝓤 Moves)) (fact_i 𝓤 Moves (emp 𝓤) moves) $ use0 𝓛 (raw (fact 𝓤 Steps)) (fact_i 𝓤 Steps (emp 𝓤) steps) $ join ! $ move ! (2 ∷ 0 ∷ []) $ join ! $
     nothing ! $ nothing ! $ fjoin ! $
     -- [the iterator; the ensures; the result; the tokens]
     move ! (3 ∷ 0 ∷ 2 ∷ 1 ∷ []) $ by ! (leaves 𝓛 En stays c z word (r₂.0, left) ((tt, tt), tt) (tt, tt))))))))))))))))))

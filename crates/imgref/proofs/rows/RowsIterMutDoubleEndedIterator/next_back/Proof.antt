@@ -38,10 +38,10 @@ use Rattle.std.proofs.alloc.Shapes.{after}
 use Rattle.std.proofs.iter.Next.{firm}
 use Rattle.std.proofs.option.Made.{Some-of, none_of}
 use Rattle.std.proofs.raw_atomic.Walks.{proved, leaves}
-use Rattle.std.specs.Prelude.{Option, Some, None, IfNone}
+use Rattle.std.specs.Prelude.{Option, Some, None}
 use Rattle.std.specs.Iterator.{MakesProgress, item_count, YieldsLastMut}
 use Rattle.std.specs.contracts.option.Option as OP
-use Rattle.imgref.specs.Rows.{muts_left, hands_back}
+use Rattle.imgref.specs.Rows.{muts_left, hands_back, MovesLast}
 use Rattle.imgref.specs.declared.rows.RowsIterMut.{RowsIterMut}
 use Rattle.imgref.specs.contracts.rows.RowsIterMut as P
 use Rattle.imgref.proofs.RowsLeft.{rows_none, one_at_least}
@@ -91,7 +91,7 @@ next_back_spec 𝓤 𝓛 𝓜 𝓡 wired T L =
     let Item : Type 0 = Option (MutBor (List T.Denot)) in
     let Steps : Item → RowsIterMut T.Denot → Type 0 = YieldsLastMut muts_left h in
     let Goes : Item → RowsIterMut T.Denot → Type 0 = MakesProgress (λ _. Unit {0}) (item_count muts_left) h in
-    let Stay : Item → RowsIterMut T.Denot → Type 0 = λ m t. IfNone m (t ≡ h) in
+    let Moves : Item → RowsIterMut T.Denot → Type 0 = MovesLast h in
     let TakeOf = Take T 𝓛 𝓜.mem 𝓡.returns κ κ₁ κ₂ above q q₁ q₂ b o γ h in
     let at_t = at_take T 𝓛 𝓜.mem 𝓡.returns κ κ₁ κ₂ above q q₁ q₂ b o γ h in
     let self : RowsIterMut T.Denot → Fml = lent T 𝓛 𝓜.mem 𝓡.returns κ κ₁ κ₂ above q q₁ q₂ b o γ h κ γ in
@@ -113,7 +113,7 @@ next_back_spec 𝓤 𝓛 𝓜 𝓡 wired T L =
     (λ t. let none : muts_left h ≡ [] = rows_none (drop_list h.skip h.cells.now) h.width h.stride h.count (eqb→eq h.count 0 t) in
     sets ! (agg ! (and_then ! (lit ! tt) (no_more !))) refl (tt, (record { fits = lit< tt }, tt)) $
     returns_within ! Post refl (look_at ! 0 refl) $ free_all ! refl $
-    nothing ! $ use0 𝓛 (raw (fact 𝓤 (Stay None h))) (fact_i 𝓤 (Stay None h) (emp 𝓤) refl) $ join ! $
+    nothing ! $ use0 𝓛 (raw (fact 𝓤 (Moves None h))) (fact_i 𝓤 (Moves None h) (emp 𝓤) refl) $ join ! $
     use0 𝓛 (raw (fact 𝓤 (Goes None h))) (fact_i 𝓤 (Goes None h) (emp 𝓤) (firm tt (λ _. tt))) $ join ! $
     use0 𝓛 (raw (fact 𝓤 (Steps None h))) (fact_i 𝓤 (Steps None h) (emp 𝓤) (none, none)) $ join ! $
     use0 𝓛 (‵ (Row.own_val None (live 0 (of_list []) ∷ []))) (none_of 𝓛 Slice) $
@@ -140,8 +140,8 @@ next_back_spec 𝓤 𝓛 𝓜 𝓡 wired T L =
     use2 𝓛 (raw (G.pre z)) (id⊢ 𝓤 _) $
     calls_at ! fm G (cut.met 𝓤 𝓛 𝓜 𝓡 (compiled.calls-imgref::rows::RowsIterMut::split_last 𝓡.env wired) T L) z (and_then ! (get ! refl) (no_more !)) (λ v₂.
     use1 𝓛 (later (some (λ (r : MutBor (List T.Denot) × RowsIterMut T.Denot). (Tok ⊛ ‵ (Cut.own_val r (v₂ ∷ []))) ⊛ some (λ (ws : (Unit {0} × Unit {0}) × Unit {0}). ‵ (lasts (g.ended T) z.0.0 z.0.3 ws)
-    ⊛ (‵ (hands_back R h (Some r.0) r.1) ⊛ raw (fact 𝓤 (Steps (Some r.0) r.1))))))) (id⊢ 𝓤 _) $
-    await ! tt $ pick ! (λ r. split ! $ split ! $ move ! (2 ∷ []) $ pick ! (λ ws. split ! $ drop ! $ split ! $ move ! (1 ∷ []) $ heard ! (Steps (Some r.0) r.1) (λ steps.
+    ⊛ (‵ (hands_back R h (Some r.0) r.1) ⊛ raw (fact 𝓤 (Steps (Some r.0) r.1)) ⊛ raw (fact 𝓤 (Moves (Some r.0) r.1))))))) (id⊢ 𝓤 _) $
+    await ! tt $ pick ! (λ r. split ! $ split ! $ move ! (2 ∷ []) $ pick ! (λ ws. split ! $ drop ! $ split ! $ move ! (1 ∷ []) $ split ! $ heard ! (Steps (Some r.0) r.1) (λ steps. heard ! (Moves (Some r.0) r.1) (λ moves.
     -- [what follows; the tokens; the row and what is left; its token; the iterator]
     move ! (2 ∷ []) $ peeks ! Cut (Is Cut) (shows 𝓛 Cut) r (v₂ ∷ []) (λ is₂. let t₂ = cut_told α R r (v₂ ∷ []) is₂ in
     let f₀ : length r.0.now < 2 ^ 64 = t₂.1.0 in
@@ -168,9 +168,9 @@ next_back_spec 𝓤 𝓛 𝓜 𝓡 wired T L =
     let word : Val = live 1 (of_list (row_word ∷ [])) in
     move ! (2 ∷ []) $ use1 𝓛 (‵ (Row.own_val (Some r.0) (word ∷ []))) (Some-of 𝓛 Slice r.0 row_word) $
     -- [the result; the iterator; its token; what follows; the tokens]
-    move ! (3 ∷ []) $ use0 𝓛 (raw (fact 𝓤 (Stay (Some r.0) r.1))) (fact_i 𝓤 (Stay (Some r.0) r.1) (emp 𝓤) tt) $ join ! $
+    move ! (3 ∷ []) $ use0 𝓛 (raw (fact 𝓤 (Moves (Some r.0) r.1))) (fact_i 𝓤 (Moves (Some r.0) r.1) (emp 𝓤) moves) $ join ! $
     use0 𝓛 (raw (fact 𝓤 (Goes (Some r.0) r.1))) (fact_i 𝓤 (Goes (Some r.0) r.1) (emp 𝓤) (firm (tt, tt, omega (arith, ap length steps, length-append (muts_left r.1) (r.0.now ∷ []))) (λ _. tt))) $ join ! $
     use0 𝓛 (raw (fact 𝓤 (Steps (Some r.0) r.1))) (fact_i 𝓤 (Steps (Some r.0) r.1) (emp 𝓤) steps) $ join ! $ move ! (1 ∷ []) $
     -- [the result; the ensures; the iterator; its token; the tokens]
     nothing ! $ move ! (3 ∷ 0 ∷ []) $ fjoin ! $ move ! (3 ∷ 4 ∷ []) $ join ! $ move ! (0 ∷ 1 ∷ 2 ∷ 3 ∷ []) $
-    by ! (leaves 𝓛 En hs c y word (Some r.0) (r.1, tt) (tt, tt)))))))))))))))))))
+    by ! (leaves 𝓛 En hs c y word (Some r.0) (r.1, tt) (tt, tt))))))))))))))))))))
