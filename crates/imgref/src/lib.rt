@@ -16,6 +16,8 @@
 mod containers;
 mod img;
 mod index;
+#[cfg(test)]
+mod row_tests;
 mod rows;
 #[cfg(test)]
 mod tests;
@@ -23,4 +25,4 @@ mod window;
 
 pub use containers::{AsMutCell, AsMutSlice, AsSlice};
 pub use img::{Img, ImgRef, ImgRefMut, ImgVec};
-pub use rows::RowsIter;
+pub use rows::{RowsIter, RowsIterMut};
