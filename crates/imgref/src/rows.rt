@@ -107,7 +107,7 @@ impl<'a, T> DoubleEndedIterator for RowsIter<'a, T> {
 
 impl<T> ExactSizeIterator for RowsIter<'_, T> {
     fn len(&self) -> usize {
-        self.count
+        self.size_hint().0
     }
 }
 
@@ -229,7 +229,8 @@ impl<'a, T> Iterator for RowsIterMut<'a, T> {
         ensures upper { IfSome result.1 (UpTo (item_count muts_left self.now)) }
         ensures exact { (result.0 ≡ length (muts_left self.now)) × (result.1 ≡ Some (length (muts_left self.now))) }
     {
-        (self.count, Some(self.count))
+        let left = self.count;
+        (left, Some(left))
     }
 }
 
@@ -257,7 +258,8 @@ impl<'a, T> DoubleEndedIterator for RowsIterMut<'a, T> {
 
 impl<T> ExactSizeIterator for RowsIterMut<'_, T> {
     fn len(&self) -> usize {
-        self.count
+        let (left, _) = self.size_hint();
+        left
     }
 }
 

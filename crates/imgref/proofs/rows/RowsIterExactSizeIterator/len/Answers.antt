@@ -1,8 +1,0 @@
-use Rattle.std.proofs.Common.{sym}
-use Rattle.imgref.proofs.RowsLeft.{length-rows_left}
-use Rattle.imgref.proofs.rows.RowsIterExactSizeIterator.len.Goals as goal
-
-pub returns-clause-value : goal.returns-clause-value
-returns-clause-value g c =
-    let s = c.args.self.now in
-    sym (length-rows_left s.cells.now s.width s.stride s.count s.some)
