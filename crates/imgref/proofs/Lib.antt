@@ -8,3 +8,8 @@ pub mod Seen
 pub mod Lent
 pub mod Ends
 pub mod Runs
+pub mod RowsLeft
+pub mod RowsValues
+pub mod PartsLeft
+pub mod Lifetimes
+pub mod RowsTaken

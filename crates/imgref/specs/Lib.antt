@@ -4,4 +4,5 @@ pub mod Image
 pub mod Index
 pub mod Marks
 pub mod Pixels
+pub mod Rows
 pub mod Window

@@ -21,6 +21,9 @@ mod index;
 mod pixel_tests;
 mod pixels;
 #[cfg(test)]
+mod row_tests;
+mod rows;
+#[cfg(test)]
 mod tests;
 mod window;
 #[cfg(test)]
@@ -30,3 +33,4 @@ pub use containers::{AsMutCell, AsMutSlice, AsSlice};
 pub use fill::fill_pixels;
 pub use img::{Img, ImgRef, ImgRefMut, ImgVec};
 pub use pixels::{PixelsIter, PixelsIterMut, PixelsRefIter};
+pub use rows::{RowsIter, RowsIterMut};

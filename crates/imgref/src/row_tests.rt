@@ -1,0 +1,310 @@
+ghost use Rattle.std.specs.Prelude.{◌≡◌, ◌^◌, ◌<◌, ◌↔◌, IsTrue, All, length, slice_index};
+ghost use Rattle.image_model.specs.Layout.{Fits};
+ghost use Rattle.image_model.specs.Rows.{rows, row_count};
+ghost use Rattle.imgref.specs.Image.{width_of, height_of, ref_layout, mut_layout, vec_layout};
+
+use crate::{Img, ImgRef, ImgRefMut, ImgVec};
+use std::alloc::{AllocError, Global};
+use std::iter::{ExactSizeIterator, FusedIterator};
+use std::test::Fail;
+
+// Three by two with one cell of padding after each row, and one behind them.
+const PADDED: [u8; 9] = [1, 2, 3, 4, 5, 6, 7, 8, 9];
+
+// Three by three with one cell of padding between two rows.
+const SQUARE: [u8; 11] = [1, 2, 3, 0, 4, 5, 6, 0, 7, 8, 9];
+
+// What a caller learns from a chain over the rows.
+fn count_rows(image: ImgRef<'_, u8>) -> usize
+    requires { Fits (ref_layout image) }
+    ensures { result ≡ row_count (width_of image.entry) (height_of image.entry) }
+{
+    image.rows().count()
+}
+
+fn count_from_the_end(image: ImgRef<'_, u8>) -> usize
+    requires { Fits (ref_layout image) }
+    ensures { result ≡ row_count (width_of image.entry) (height_of image.entry) }
+{
+    image.rows().fuse().rev().count()
+}
+
+fn count_for_writing(image: &mut ImgVec<u8>) -> usize
+    requires { Fits (vec_layout image.old) }
+    ensures { result ≡ row_count (width_of image.old) (height_of image.old) }
+{
+    image.rows_mut().rev().count()
+}
+
+fn all_rows_begin_with(image: ImgRef<'_, u8>, value: u8) -> bool
+    requires { Fits (ref_layout image) }
+    ensures { IsTrue result ↔ All (λ row. (0 < length row) × (slice_index row 0 ≡ value)) (rows (ref_layout image.entry)) }
+{
+    image.rows().all(|row| row.len() > 0 && row[0] == value)
+}
+
+// And from a loop: each row is as long as the image is wide.
+fn sum_of_last_column(image: ImgRef<'_, u8>) -> u64
+    requires fits { Fits (ref_layout image) }
+    requires some { 0 < width_of image }
+{
+    let mut sum = 0u64;
+    for row in image.rows() {
+        sum = sum.wrapping_add(row[row.len() - 1] as u64);
+    }
+    sum
+}
+
+// The rows of a window, counted in each direction, and its first cell.
+fn counts_and_first(window: &mut ImgRefMut<'_, u8>) -> ([usize; 4], u8)
+    requires fits { Fits (mut_layout window.old) }
+    requires some { 0 < width_of window.old }
+{
+    let counts = [
+        window.rows().count(),
+        window.rows_mut().count(),
+        window.rows_mut().rev().count(),
+        window.rows_mut().fuse().rev().count(),
+    ];
+    let first = match window.rows().next() {
+        Some(row) => row[0],
+        None => 0,
+    };
+    (counts, first)
+}
+
+fn padded(alloc: Global) -> Result<ImgVec<u8>, AllocError> {
+    Ok(Img::new_stride(PADDED.to_vec(alloc)?, 3, 2, 4))
+}
+
+// Each of these calls one bound alone, as a caller that knows no type does.
+fn len_of<I: ExactSizeIterator>(rows: &I) -> usize {
+    rows.len()
+}
+
+fn is_over<I: FusedIterator>(rows: &mut I) -> bool
+where
+    I::Item: Drop,
+    requires { I.can_next rows.old }
+{
+    rows.next().is_none()
+}
+
+fn last_of<I: DoubleEndedIterator>(rows: &mut I) -> Option<I::Item>
+    requires { I.can_next_back rows.old }
+{
+    rows.next_back()
+}
+
+#[test]
+fn rows_come_from_both_ends(rt: HostRuntime) -> Result<(), Fail> {
+    let mut cells = SQUARE;
+    let owned: ImgVec<u8> = Img::new_stride(SQUARE.to_vec(rt.alloc())?, 3, 3, 4);
+    let lent: ImgRefMut<'_, u8> = Img::new_stride(cells.as_mut_slice(), 3, 3, 4);
+    let view = Img::new_stride(SQUARE.as_slice(), 3, 3, 4);
+    assert!(rt; owned.is_valid() && lent.is_valid() && view.is_valid());
+    for mut rows in [owned.rows(), lent.rows(), view.rows()] {
+        assert_eq!(rt; len_of(&rows), 3);
+        assert_eq!(rt; rows.next(), Some([1u8, 2, 3].as_slice()));
+        assert_eq!(rt; len_of(&rows), 2);
+        assert_eq!(rt; last_of(&mut rows), Some([7u8, 8, 9].as_slice()));
+        assert_eq!(rt; len_of(&rows), 1);
+        assert_eq!(rt; rows.next(), Some([4u8, 5, 6].as_slice()));
+        assert_eq!(rt; len_of(&rows), 0);
+        assert!(rt; is_over(&mut rows) && is_over(&mut rows));
+        assert_eq!(rt; last_of(&mut rows), None);
+    }
+    Ok(())
+}
+
+#[test]
+fn a_written_row_stands_alone(rt: HostRuntime) -> Result<(), Fail> {
+    let left = [1u8, 2, 3, 4, 0, 0, 0, 8, 9];
+    let mut owned = padded(rt.alloc())?;
+    assert!(rt; owned.is_valid());
+    if let Some(row) = owned.rows_mut().next_back() {
+        row.fill(0);
+    }
+    assert_eq!(rt; owned.buf().as_slice(), left.as_slice());
+    let mut cells = PADDED;
+    let mut lent: ImgRefMut<'_, u8> = Img::new_stride(cells.as_mut_slice(), 3, 2, 4);
+    assert!(rt; lent.is_valid());
+    if let Some(row) = lent.rows_mut().next_back() {
+        row.fill(0);
+    }
+    assert_eq!(rt; cells, left);
+    Ok(())
+}
+
+#[test]
+fn rows_written_before_a_drop_stand(rt: HostRuntime) -> Result<(), Fail> {
+    // Each mix of the two ends: at each step the front where the bit is 0. After each number of
+    // steps the iterator is dropped.
+    for mix in 0..8u32 {
+        for steps in 0..5u32 {
+            let mut image: ImgVec<u8> = Img::new_stride(SQUARE.to_vec(rt.alloc())?, 3, 3, 4);
+            assert!(rt; image.is_valid());
+            let mut rows = image.rows_mut();
+            let mut front = 0usize;
+            let mut back = 3usize;
+            for step in 0..steps {
+                let (row, at_front) = if mix >> step & 1 == 0 {
+                    (rows.next(), true)
+                } else {
+                    (rows.next_back(), false)
+                };
+                assert_eq!(rt; row.is_some(), front < back, "step {step} of mix {mix}");
+                if let Some(row) = row {
+                    row.fill(100);
+                    if at_front {
+                        front = front.saturating_add(1);
+                    } else {
+                        back = back.saturating_sub(1);
+                    }
+                }
+            }
+            assert_eq!(rt; len_of(&rows), back - front, "{steps} of mix {mix}");
+            drop(rows);
+            for (cell, now) in image.buf().as_slice().iter().enumerate() {
+                let row = cell / 4;
+                let written = cell % 4 < 3 && (row < front || row >= back);
+                let expected = if written { 100 } else { SQUARE[cell] };
+                assert_eq!(rt; *now, expected, "cell {cell} after {steps} of mix {mix}");
+            }
+        }
+    }
+    Ok(())
+}
+
+#[test]
+fn an_image_without_columns_has_no_row(rt: HostRuntime) -> Result<(), Fail> {
+    let mut cells = [9u8, 9];
+    let view = Img::new_stride(cells.as_slice(), 0, 2, 1);
+    assert!(rt; view.is_valid());
+    assert_eq!(rt; (view.height(), count_rows(view)), (2, 0));
+    assert!(rt; is_over(&mut view.rows()));
+    let mut lent: ImgRefMut<'_, u8> = Img::new_stride(cells.as_mut_slice(), 0, 2, 1);
+    assert!(rt; lent.is_valid());
+    assert!(rt; is_over(&mut lent.rows()) && is_over(&mut lent.rows_mut()));
+    let empty: ImgRef<'_, u8> = Img::new_stride(&[], 0, 3, 1);
+    assert!(rt; empty.is_valid());
+    assert_eq!(rt; (empty.height(), count_rows(empty)), (3, 0));
+    Ok(())
+}
+
+#[test]
+fn an_image_without_lines_has_no_row(rt: HostRuntime) -> Result<(), Fail> {
+    let mut cells = [0u8];
+    let view = Img::new_stride(cells.as_slice(), 1, 0, 1);
+    assert!(rt; view.is_valid() && view.has_window(1, 0, 0, 0));
+    assert_eq!(rt; count_rows(view), 0);
+    assert_eq!(rt; view.sub_image(1, 0, 0, 0).rows().count(), 0);
+    let mut lent: ImgRefMut<'_, u8> = Img::new_stride(cells.as_mut_slice(), 1, 0, 1);
+    assert!(rt; lent.is_valid() && lent.has_window(0, 0, 1, 0));
+    assert_eq!(rt; lent.rows_mut().count(), 0);
+    let mut window = lent.sub_image_mut(0, 0, 1, 0);
+    assert_eq!(rt; (window.rows().count(), window.rows_mut().count()), (0, 0));
+    Ok(())
+}
+
+#[test]
+fn rows_far_apart(rt: HostRuntime) -> Result<(), Fail> {
+    let mut cells: Vec<u8> = Vec::new(rt.alloc());
+    cells.resize(10000, 0)?;
+    let mut image: ImgVec<u8> = Img::new_stride(cells, 10, 15, 100);
+    assert!(rt; image.is_valid());
+    assert_eq!(rt; image.rows().count(), 15);
+    assert_eq!(rt; image.rows().rev().count(), 15);
+    assert_eq!(rt; count_from_the_end(image.as_ref()), 15);
+    assert_eq!(rt; count_for_writing(&mut image), 15);
+    Ok(())
+}
+
+#[test]
+fn a_window_has_its_own_rows(rt: HostRuntime) -> Result<(), Fail> {
+    let owned = padded(rt.alloc())?;
+    assert!(rt; owned.is_valid() && owned.has_window(1, 1, 2, 1));
+    let window = owned.sub_image(1, 1, 2, 1);
+    assert_eq!(rt; window.rows().next(), Some([6u8, 7].as_slice()));
+    assert_eq!(rt; window.rows().count(), 1);
+    assert_eq!(rt; window.rows().rev().count(), 1);
+    assert_eq!(rt; window.rows().fuse().rev().count(), 1);
+    let mut copy = padded(rt.alloc())?;
+    assert!(rt; copy.is_valid() && copy.has_window(1, 1, 2, 1));
+    assert_eq!(rt;
+        counts_and_first(&mut copy.sub_image_mut(1, 1, 2, 1)),
+        ([1, 1, 1, 1], 6)
+    );
+    let mut cells = PADDED;
+    let mut lent: ImgRefMut<'_, u8> = Img::new_stride(cells.as_mut_slice(), 3, 2, 4);
+    assert!(rt; lent.is_valid() && lent.has_window(1, 1, 2, 1));
+    assert_eq!(rt;
+        counts_and_first(&mut lent.sub_image_mut(1, 1, 2, 1)),
+        ([1, 1, 1, 1], 6)
+    );
+    assert_eq!(rt;
+        counts_and_first(&mut lent.into_sub_image_mut(1, 1, 2, 1)),
+        ([1, 1, 1, 1], 6)
+    );
+    Ok(())
+}
+
+#[test]
+fn every_small_size_has_its_rows(rt: HostRuntime) -> Result<(), Fail> {
+    for width in 1..16usize {
+        for height in 1..8usize {
+            for padding in 0..3usize {
+                let stride = width + padding;
+                let mut cells: Vec<u8> = Vec::new(rt.alloc());
+                cells.resize(stride * height + padding, 1)?;
+                let image: ImgVec<u8> = Img::new_stride(cells, width, height, stride);
+                assert!(rt; image.is_valid());
+                assert_eq!(rt; image.rows().count(), height);
+                let mut rows = image.rows();
+                assert_eq!(rt; rows.next().map(|row| row.len()), Some(width));
+                assert_eq!(rt; rows.size_hint(), (height - 1, Some(height - 1)));
+                assert_eq!(rt; rows.count(), height - 1);
+            }
+        }
+    }
+    Ok(())
+}
+
+#[test]
+fn rows_of_pixels_without_size(rt: HostRuntime) -> Result<(), Fail> {
+    let mut cells = [(), (), (), (), ()];
+    let mut image: ImgRefMut<'_, ()> = Img::new_stride(cells.as_mut_slice(), 2, 2, 3);
+    assert!(rt; image.is_valid());
+    let mut rows = image.rows_mut();
+    assert_eq!(rt; rows.next_back().map(|row| row.len()), Some(2));
+    assert_eq!(rt; rows.size_hint(), (1, Some(1)));
+    assert_eq!(rt; rows.next().map(|row| row.len()), Some(2));
+    assert!(rt; is_over(&mut rows) && is_over(&mut rows));
+    Ok(())
+}
+
+#[test]
+fn one_row_at_the_greatest_stride(rt: HostRuntime) -> Result<(), Fail> {
+    let mut cells = [5u8];
+    let mut image: ImgRefMut<'_, u8> = Img::new_stride(cells.as_mut_slice(), 1, 1, usize::MAX);
+    assert!(rt; image.is_valid());
+    let mut rows = image.rows();
+    assert_eq!(rt; rows.next(), Some([5u8].as_slice()));
+    assert!(rt; is_over(&mut rows));
+    if let Some(row) = last_of(&mut image.rows_mut()) {
+        row.fill(7);
+    }
+    assert_eq!(rt; cells, [7u8]);
+    Ok(())
+}
+
+#[test]
+fn loops_and_tests_over_rows(rt: HostRuntime) -> Result<(), Fail> {
+    let view = Img::new_stride(SQUARE.as_slice(), 3, 3, 4);
+    assert!(rt; view.is_valid());
+    assert_eq!(rt; sum_of_last_column(view), 18);
+    assert!(rt; !all_rows_begin_with(view, 1));
+    let row = Img::new(SQUARE.as_slice(), 11, 1);
+    assert!(rt; row.is_valid() && all_rows_begin_with(row, 1));
+    Ok(())
+}
