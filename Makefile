@@ -12,8 +12,9 @@ run: $(PROGRAM)
 
 $(PROGRAM): $(SOURCES)
 	@echo "Proving and building the program, once for each change: this takes some minutes." >&2
-	@cd crates/imgref_run && rt run < /dev/null > out.log 2>&1; status=$$?; \
-	if [ $$status -eq 0 ]; then rm out.log; touch out/imgref_run; else cat out.log >&2; rm out.log; exit $$status; fi
+	@cd crates/imgref_run && mkdir -p out && rt run < /dev/null > out/build.log 2>&1 \
+	|| { status=$$?; cat out/build.log >&2; exit $$status; }
+	@touch $@
 
 test:
 	@python3 .ci/gate.py

@@ -2,6 +2,7 @@ pub mod Cells
 pub mod Places
 pub mod Grids
 pub mod Stretches
+pub mod Lent
 pub mod Windows
 pub mod Paths
 pub mod Rows

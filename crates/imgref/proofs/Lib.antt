@@ -1,4 +1,10 @@
 pub mod Numbers
-pub mod Parts
 pub mod Places
 pub mod Values
+pub mod Marks
+pub mod Marked
+pub mod Cursors
+pub mod Seen
+pub mod Lent
+pub mod Ends
+pub mod Runs

@@ -1,4 +1,4 @@
-ghost use Rattle.std.specs.Prelude.{◌≡◌, refl, Bool, true, false, ℕ, ◌+◌, ◌-◌, ◌≤◌, ◌<◌, List, length, slice_range, slice_set};
+ghost use Rattle.std.specs.Prelude.{◌≡◌, refl, Bool, true, false, ℕ, ◌+◌, ◌-◌, ◌≤◌, ◌<◌, List, length, slice_range, slice_set, slice_get, Some};
 ghost use Rattle.std.specs.Borrow.{sem, Lends, Array};
 ghost use Rattle.std.specs.Vec.{with_items_from, with_item};
 ghost use Rattle.imgref.specs.Containers.{others_of_vec};
@@ -8,24 +8,28 @@ ghost use Rattle.image_model.specs.Windows.{Stretch, stretch_cells, with_stretch
 pub trait AsSlice {
     type Item;
 
+    /// The cells, in their order.
     ghost cells: { Self → List Self.Item };
 
+    /// The cells as a slice.
     fn as_slice(&self) -> &[Self::Item]
         ensures { result.now ≡ cells self.now };
 }
 
-/// A container whose cells can be written, a stretch at a time.
+/// A container of which a stretch of cells can be written at a time, as an image lends its windows.
 pub trait AsMutSlice: AsSlice {
     ghost roomy_windows: { Bool };
 
     /// The container with other cells in the place of a stretch.
     ghost with_cells: { Self → Stretch → List Self.Item → Self };
 
-    /// Whether a window for writing takes whole strides where the container has them. Where this is false a window ends at its last pixel.
+    /// Whether a window for writing takes whole strides where the container has them: so for a lent
+    /// slice. In a `Vec` it ends at its last pixel.
     fn has_roomy_windows() -> bool
         ensures { result ≡ roomy_windows };
 
-    /// The `len` cells from number `start` on. Once the borrow ends, the container has what was left there.
+    /// The `len` cells from number `start` on, for writing. Once the borrow ends, the container has
+    /// what was left there in their place.
     fn stretch_mut(&mut self, start: usize, len: usize) -> &mut [Self::Item]
         requires in_bounds { start + len ≤ length (Self.cells self.old) }
         ensures* writes_back { sem 𝓛 (Lends Self.row (Array Self.Item.row 0) self.entry result (with_cells self.old (record { start = start; len = len }))) }
@@ -97,15 +101,17 @@ impl<'a, T> AsMutSlice for &'a mut [T] {
     ghost others_stay = { λ c s ws within same. refl };
 }
 
-/// A container whose cells can be written one by one.
+/// A container of which one cell can be written at a time, as an image does by index.
 pub trait AsMutCell: AsSlice {
-    // The container with this cell at an index.
+    /// The container with another cell at an index.
     ghost with_cell: { Self → ℕ → Self.Item → Self };
 
-    // One cell. Once the borrow ends, the container has what was left there.
+    /// The cell at an index, for writing. Once the borrow ends, the container has what was left
+    /// there.
     fn cell_mut(&mut self, at: usize) -> &mut Self::Item
         requires in_bounds { at < length (Self.cells self.old) }
-        ensures* writes_back { sem 𝓛 (Lends Self.row Self.Item.row self.entry result (with_cell self.old at)) };
+        ensures* writes_back { sem 𝓛 (Lends Self.row Self.Item.row self.entry result (with_cell self.old at)) }
+        ensures value { slice_get (Self.cells self.old) at ≡ Some result.now };
 
     /// Another cell at an index leaves every other cell.
     ghost other_cells_stay: { (c : Self) (at : ℕ) (value : Self.Item) → at < length (Self.cells c) → Self.cells (with_cell c at value) ≡ slice_set (Self.cells c) at value };

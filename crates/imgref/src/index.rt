@@ -32,6 +32,7 @@ impl<C: AsMutCell> IndexMut<(usize, usize)> for Img<C> {
     fn index_mut(&mut self, index: (usize, usize)) -> &mut C::Item
         requires { HasCell (layout_by C.AsSlice.cells self.old) index.0 index.1 }
         ensures* writes_back { sem 𝓛 (Lends (the_row C.row) C.Item.row self.entry result (with_cell_at C.AsSlice.cells C.with_cell self.old index.0 index.1)) }
+        ensures value { pixel (layout_by C.AsSlice.cells self.old) index.0 index.1 ≡ Some result.now }
     {
         let _len = self.buf.as_slice().len();
         let at = index.1 * self.stride + index.0;
@@ -57,6 +58,7 @@ impl<C: AsMutCell> IndexMut<(u32, u32)> for Img<C> {
     fn index_mut(&mut self, index: (u32, u32)) -> &mut C::Item
         requires { HasCell (layout_by C.AsSlice.cells self.old) index.0 index.1 }
         ensures* writes_back { sem 𝓛 (Lends (the_row C.row) C.Item.row self.entry result (with_cell_at C.AsSlice.cells C.with_cell self.old index.0 index.1)) }
+        ensures value { pixel (layout_by C.AsSlice.cells self.old) index.0 index.1 ≡ Some result.now }
     {
         &mut self[(index.0 as usize, index.1 as usize)]
     }

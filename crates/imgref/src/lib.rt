@@ -14,8 +14,12 @@
 #![tactic(auto)]
 
 mod containers;
+mod fill;
 mod img;
 mod index;
+#[cfg(test)]
+mod pixel_tests;
+mod pixels;
 #[cfg(test)]
 mod tests;
 mod window;
@@ -23,4 +27,6 @@ mod window;
 mod window_tests;
 
 pub use containers::{AsMutCell, AsMutSlice, AsSlice};
+pub use fill::fill_pixels;
 pub use img::{Img, ImgRef, ImgRefMut, ImgVec};
+pub use pixels::{PixelsIter, PixelsIterMut, PixelsRefIter};

@@ -1,5 +1,5 @@
-ghost use Rattle.std.specs.Prelude.{◌≡◌, ◌*◌, ◌<◌, ◌++◌, length, take, drop, slice_set};
-ghost use Rattle.image_model.specs.Layout.{Fits, layout, cell_of};
+ghost use Rattle.std.specs.Prelude.{◌≡◌, ◌*◌, ◌<◌, ◌++◌, length, take, drop, slice_set, All, IfSome, ◌+◌};
+ghost use Rattle.image_model.specs.Layout.{Fits, layout, cell_of, pixel};
 ghost use Rattle.imgref.specs.Image.{width_of, height_of, layout_by, vec_layout, mut_layout};
 ghost use Rattle.imgref.specs.Index.{HasCell};
 
@@ -91,6 +91,17 @@ fn set_first<T: Copy>(cells: &mut [T], value: T)
 {
     let back = there_and_back(cells);
     back[0] = value;
+}
+
+// A cell that is read and written in one: what it holds at first is known.
+fn add_one(image: &mut ImgVec<u32>, x: usize, y: usize)
+    requires has_cell { HasCell (vec_layout image.old) x y }
+    requires room { All (λ cell. cell < 100) (vec_layout image.old).cells }
+    ensures { let old = vec_layout image.old in
+        IfSome (pixel old x y) (λ cell. vec_layout image.new
+        ≡ layout (slice_set old.cells (cell_of old x y) (cell + 1)) old.width old.height old.stride) }
+{
+    image[(x, y)] += 1;
 }
 
 #[test]

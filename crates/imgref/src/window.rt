@@ -19,7 +19,9 @@ pub(crate) struct Region {
     pub(crate) height: u32,
 }
 
-/// The stretch of a window: whole strides where that is asked for and `cells` cells have them, and else up to its last pixel. An empty window has no cells, and its corner is never computed.
+/// The stretch of a window: whole strides where that is asked for and `cells` cells have them, and
+/// else the exact stretch, up to its last pixel. An empty window has no cells, and its corner is
+/// never computed: the product might not fit.
 pub(crate) fn window_region(
     roomy: bool,
     cells: usize,
@@ -123,7 +125,7 @@ fn shared_window<'s, T>(cells: &'s [T], region: Region, stride: usize) -> ImgRef
 }
 
 impl<C: AsSlice> Img<C> {
-    /// The stretch of a window, where the image fits and the window is inside.
+    /// The stretch of a window that is inside an image that fits.
     fn region(&self, roomy: bool, left: usize, top: usize, width: usize, height: usize) -> Region
         requires fits { Fits (layout_by C.cells self.now) }
         requires inside { IsInside (width_of self.now) (height_of self.now) (window left top width height) }
@@ -141,7 +143,13 @@ impl<C: AsSlice> Img<C> {
 }
 
 impl<'s, T> Img<&'s [T]> {
-    /// The window with its corner at `left`, `top`: whole strides of cells where the image has them.
+    /// The window of `width` by `height` pixels with its corner at column `left` of row `top`, over
+    /// the same pixels, at the same stride. The image fits and the window is inside it (`is_valid`,
+    /// `has_window`).
+    ///
+    /// Its buffer begins at its first pixel and has `height` whole strides where the image's cells
+    /// reach so far, and else ends at its last pixel (`roomy_window`). That of an empty window is
+    /// empty.
     pub fn sub_image(&self, left: usize, top: usize, width: usize, height: usize) -> ImgRef<'s, T>
         requires fits { Fits (ref_layout self.now) }
         requires inside { IsInside (width_of self.now) (height_of self.now) (window left top width height) }
@@ -155,7 +163,13 @@ impl<'s, T> Img<&'s [T]> {
 }
 
 impl<T> Img<Vec<T>> {
-    /// The window with its corner at `left`, `top`: whole strides of cells where the image has them.
+    /// The window of `width` by `height` pixels with its corner at column `left` of row `top`, over
+    /// the same pixels, at the same stride. The image fits and the window is inside it (`is_valid`,
+    /// `has_window`).
+    ///
+    /// Its buffer begins at its first pixel and has `height` whole strides where the image's cells
+    /// reach so far, and else ends at its last pixel (`roomy_window`). That of an empty window is
+    /// empty.
     pub fn sub_image(&self, left: usize, top: usize, width: usize, height: usize) -> ImgRef<'_, T>
         requires fits { Fits (vec_layout self.now) }
         requires inside { IsInside (width_of self.now) (height_of self.now) (window left top width height) }
@@ -167,7 +181,7 @@ impl<T> Img<Vec<T>> {
         shared_window(self.buf.as_slice(), region, self.stride)
     }
 
-    /// The whole image, shared, with its whole buffer.
+    /// The whole image for reading, with its whole buffer. It need not fit.
     pub fn as_ref(&self) -> ImgRef<'_, T>
         ensures { ref_layout result ≡ vec_layout self.now }
     {
@@ -181,7 +195,9 @@ impl<T> Img<Vec<T>> {
 }
 
 impl<'s, T> Img<&'s mut [T]> {
-    /// The window with its corner at `left`, `top`, for reading: whole strides of cells where the image has them.
+    /// The window of `width` by `height` pixels with its corner at column `left` of row `top`, for
+    /// reading, as `sub_image` of an image of shared pixels gives it: with whole strides where the
+    /// image has them (`roomy_window`).
     pub fn sub_image(&self, left: usize, top: usize, width: usize, height: usize) -> ImgRef<'_, T>
         requires fits { Fits (mut_layout self.now) }
         requires inside { IsInside (width_of self.now) (height_of self.now) (window left top width height) }
@@ -193,7 +209,7 @@ impl<'s, T> Img<&'s mut [T]> {
         shared_window(&*self.buf, part, self.stride)
     }
 
-    /// The whole image, shared, with its whole buffer.
+    /// The whole image for reading, with its whole buffer. It need not fit.
     pub fn as_ref(&self) -> ImgRef<'_, T>
         ensures { ref_layout result ≡ mut_layout self.now }
     {
@@ -207,7 +223,12 @@ impl<'s, T> Img<&'s mut [T]> {
 }
 
 impl<'s, T> Img<&'s mut [T]> {
-    /// The image cut down to the window with its corner at `left`, `top`: whole strides of cells where the image has them.
+    /// The image cut down to the window of `width` by `height` pixels with its corner at column
+    /// `left` of row `top`, for as long as its pixels are lent. The image fits and the window is
+    /// inside it (`is_valid`, `has_window`).
+    ///
+    /// Its buffer has whole strides where the image has them (`roomy_window`). Once the borrow
+    /// ends, the lent cells are as they were, with that stretch of them as the window left it.
     pub fn into_sub_image_mut(
         self,
         left: usize,
@@ -228,7 +249,8 @@ impl<'s, T> Img<&'s mut [T]> {
 }
 
 impl<C: AsMutSlice> Img<C> {
-    /// The whole image, for writing, with its whole buffer.
+    /// The whole image for writing, with its whole buffer. It need not fit. Once the borrow ends,
+    /// the image has the cells that were left there.
     pub fn as_mut(&mut self) -> Img<&mut [C::Item]>
         ensures* hands_on { sem 𝓛 (follows (the_row C.row) (Array C.Item.row 0) self.entry.ghost_name (buf_of result).ghost_name (λ ws. with_buf self.old (C.with_cells (buf_of self.old) (whole (C.AsSlice.cells (buf_of self.old))) ws))) }
         ensures layout { mut_layout result ≡ layout_by C.AsSlice.cells self.old }
@@ -246,7 +268,15 @@ impl<C: AsMutSlice> Img<C> {
         }
     }
 
-    /// The window with its corner at `left`, `top`, for writing.
+    /// The window of `width` by `height` pixels with its corner at column `left` of row `top`, for
+    /// writing, at the same stride. The image fits and the window is inside it (`is_valid`,
+    /// `has_window`).
+    ///
+    /// Its buffer begins at its first pixel. For an `ImgVec` it ends at the last pixel, always
+    /// (`exact_window`); for an `ImgRefMut` it has `height` whole strides where the image's cells
+    /// reach so far (`roomy_window`). That of an empty window is empty. Once the borrow ends, the
+    /// image's cells are as they were, with that stretch of them as the window left it: a write at
+    /// a place of the window is a write at the place that lies its corner further.
     pub fn sub_image_mut(
         &mut self,
         left: usize,
@@ -272,7 +302,12 @@ impl<C: AsMutSlice> Img<C> {
         }
     }
 
-    /// The window with its corner at `left`, `top`, for writing, as its cells, its width, its height and its stride.
+    /// The window of `sub_image_mut` as its cells, its width, its height and its stride, from which
+    /// `new_stride` makes it.
+    ///
+    /// For a caller that is itself proved and says what its writes leave: pass the cells to a
+    /// function of its own that makes the image from them, and they keep their tie to this image.
+    /// A returned image loses that tie in another crate's proof. All else takes `sub_image_mut`.
     pub fn window_parts_mut(
         &mut self,
         left: usize,

@@ -10,6 +10,9 @@ ghost use Rattle.imgref_callers.specs.Windows.{as_window};
 
 use imgref::{ImgRefMut, ImgVec};
 
+#[cfg(test)]
+mod tests;
+
 /// A corner and a size within an image, in pixels.
 #[derive(Clone, Copy)]
 pub struct Window {
@@ -113,13 +116,13 @@ pub fn put_in_lent<T: Copy>(
     ensures outside { SameOutside (mut_layout img.old) (mut_layout img.new) }
     ensures same_reference { (buf_of img.new).ghost_name ≡ (buf_of img.old).ghost_name }
 {
-    let (cells, width, height, stride) = img.window_parts_mut(
+    let (lent, width, height, stride) = img.window_parts_mut(
         first.left,
         first.top,
         first.width,
         first.height,
     );
-    put_inside(cells, width, height, stride, second, spot, value);
+    put_inside(lent, width, height, stride, second, spot, value);
 }
 
 /// Writes one pixel of a window of a window of the image that these cells are.

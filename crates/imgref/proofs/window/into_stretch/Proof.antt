@@ -32,7 +32,7 @@ use Rattle.std.proofs.raw_atomic.Walks.{proved_at, leaves}
 use Rattle.imgref.specs.Image.{mut_layout}
 use Rattle.imgref.specs.declared.img.Img.{Img}
 use Rattle.imgref.proofs.Values.{img_val, img_row, img_told, img_made}
-use Rattle.imgref.proofs.Parts.{uncapped, cut_at, part_lent, lends_part}
+use Rattle.image_model.proofs.Lent.{uncapped, cut_at, part_lent, lends_part}
 use Rattle.imgref.specs.contracts.window.into_stretch.{ended, clauses}
 use Rattle.imgref.specs.contracts.window.into_stretch.Key.{name as #self}
 use Rattle.imgref.proofs.window.into_stretch.Statement.{statement}

@@ -44,7 +44,7 @@ use Rattle.imgref_replay.specs.Paths.{stretch_of}
 use Rattle.imgref.specs.declared.img.Img.{Img}
 use Rattle.imgref.specs.contracts.img.Img.new_stride as f
 use Rattle.imgref.proofs.img.Img.new_stride.Met as made
-use Rattle.imgref.proofs.Parts.{uncapped, cut_at, part_lent, lends_part}
+use Rattle.image_model.proofs.Lent.{uncapped, cut_at, part_lent, lends_part}
 use Rattle.imgref_replay.specs.declared.window.Region.{Region}
 use Rattle.imgref_replay.proofs.Rows.{img_val, img_row, img_told, Cells, cells_laws, region_val, region_told}
 use Rattle.imgref_replay.specs.contracts.window.into_region.{ended, clauses}

@@ -52,9 +52,10 @@ use denote.Triple.Clauses.{Clauses, Ended, closing}
 use denote.Triple.Entry.{on_entry}
 use denote.Triple.Spec.{Meets, triple_of}
 use denote.Triple.Table.{entered}
-use denote.Triple.Walked.{Stays, stay_dropped, walk_of, ends_at, walked, Goes-dropped, Goes-spent_ref, walk_Meets}
+use denote.Triple.Walked.{says, Stays, stay_dropped, walk_of, ends_at, walked, Goes-dropped, Goes-spent_ref, walk_Meets}
 use borrow.Table.Elements.{at, at_mul}
 use borrow.Table.OneValue.{part_out_at, part_in_at}
+use Rattle.std.proofs.lemmas.Option.{slice_get-get_or}
 use Rattle.imgref.specs.contracts.containers.RefMutSliceAsMutCell.cell_mut as F
 use Rattle.imgref.specs.contracts.containers.RefMutSliceAsMutCell.cell_mut.Key.{name as #self}
 use Rattle.imgref.proofs.containers.RefMutSliceAsMutCell.cell_mut.Statement as stated
@@ -160,7 +161,7 @@ module _ (X : RattleType) {M : Type 1} {𝓤 : Ura M} (𝓛 : Logic 𝓤) (at_me
         move ! (3 ∷ 2 ∷ []) $ use2 𝓛 (‵ (follows Sl (R X) γ δ (λ w. at_last y (set xs i w)))) (follows_then 𝓛 Sl (Array (R X) 0) (R X) (at_last y) (set xs i) γ δ₁ δ) $
         returns ! (look_at ! 0 refl) $ free_all ! refl $ keep ! (1 ∷ 2 ∷ 0 ∷ 5 ∷ []) $
         suffices ! _ (ends_at 𝓛 (ended X) (stayed X) clauses bound (vptr b' p) (record { ref_ptr = (b', p); ghost_name = δ; now = get_or xs i (inhabits xs i lo) }) (tt, (tt, tt)) (tt, (tt, tt))) $
-        nothing ! $ nothing ! $ fjoin ! $ nothing ! $ fjoin ! $ join ! $ move ! (1 ∷ 3 ∷ []) $ join ! $ join ! $ frame ! $ done !)))))))
+        nothing ! $ nothing ! $ fjoin ! $ nothing ! $ fjoin ! $ join ! $ move ! (1 ∷ 3 ∷ []) $ join ! $ join ! $ frame ! $ says ! (slice_get-get_or xs i (inhabits xs i lo) lo) $ done !)))))))
 
   meets : (𝓣 : Tables 𝓤 H) → Meets 𝓛 (ended X).signature (WpFn 𝓤 H 𝓣.C 𝓣.Λ (function X)) (closing 𝓛 (ended X) clauses)
   meets 𝓣 =

@@ -1,0 +1,84 @@
+-- What one name ends as by what another ends as, what an `Option` of one machine value holds, and a new lifetime inside another. Assumes `Logic`.
+use mathlib.Core.Path.{◌≡◌, refl, sym, ap, ◌∙◌}
+use mathlib.Core.List.{List, [], ◌∷◌, ◌++◌}
+use seplogic.Ra.Ura.{Ura}
+use mir.Syntax.{Lifetime}
+use mir.Val.{Val, vptr, of_list}
+use base.Fraction.{full_share}
+use base.FractionLaws.{common}
+use base.Logic.{SProp, ent, emp, sep, wand, wand_i, all, all_e, apply∗, ex, id⊢}
+use base.Fml.{Lft, GName, Share, fres, feq, fsep, flft, fdead}
+use denote.Ref.{MutRef, MutBor}
+use types.Logic.{Logic, sem}
+use types.Match.{live}
+use types.Kit.{‵, raw, ◌⊛◌, some, given, ◌$◌, ◌∵◌, !, qed, by, move, keep, drop, use1, use2, split, join, each, assume, fsplit, fsplit3, fjoin, fjoin3, fpick, feq_l, feq_i, rewrite, show, check, updating, now as at_once, done}
+use types.Tokens.{lft_new, lft_end, lft-common}
+use contract.BorrowLft.{meet_⊑_left}
+use Prim.Native.Nat.{ℕ}
+use denote.RattleType.{RattleType, Valss, owns}
+use denote.Follow.{follows_both, both_by}
+use Rattle.std.specs.Prelude.{Some, None}
+use Rattle.std.specs.contracts.option.Option as OP
+use Rattle.imgref.specs.Pixels.{ends_as}
+
+module _ {M : Type 1} {𝓤 : Ura M} (𝓛 : Logic 𝓤) where
+  open 𝓛 use {A}
+
+  -- one of the two parts is done
+  pub ends_beside : (R T U : RattleType) (γ γ₁ γ₂ : GName) (F : T.Denot → U.Denot → R.Denot) (v : T.Denot)
+      → ent 𝓤 (sep 𝓤 (A.res γ₁ (T.coded.code v)) (sem 𝓛 (follows_both R T U γ γ₁ γ₂ F))) (sem 𝓛 (ends_as R U γ γ₂ (λ w. F v w)))
+  unfolding both_by
+  ends_beside R T U γ γ₁ γ₂ F v =
+      let Both : T.Denot × U.Denot → SProp 𝓤 = λ w. wand 𝓤 (sep 𝓤 (A.res γ₁ (T.coded.code w.0)) (A.res γ₂ (U.coded.code w.1))) (A.res γ (R.coded.code (F w.0 w.1))) in
+      qed 𝓛 (‵ (fres γ₁ (T.coded.code v)) ∷ raw (all 𝓤 Both) ∷ []) ∵ each ! (λ (w : U.Denot). wand 𝓤 (A.res γ₂ (U.coded.code w)) (A.res γ (R.coded.code (F v w)))) (λ w.
+      assume ! (‵ (fres γ₂ (U.coded.code w))) $ move ! (1 ∷ 0 ∷ []) $ join ! $ move ! (1 ∷ []) $ use1 𝓛 (raw (Both (v, w))) (all_e 𝓤 Both (v, w)) $ move ! (1 ∷ 0 ∷ []) $
+      by ! (apply∗ 𝓤 (sep 𝓤 (A.res γ₁ (T.coded.code v)) (A.res γ₂ (U.coded.code w))) (A.res γ (R.coded.code (F v w)))))
+
+  pub ends_then : (R T U : RattleType) (γ γ₁ γ₂ : GName) (F : T.Denot → R.Denot) (G : U.Denot → T.Denot)
+      → ent 𝓤 (sep 𝓤 (sem 𝓛 (ends_as R T γ γ₁ F)) (sem 𝓛 (ends_as T U γ₁ γ₂ G))) (sem 𝓛 (ends_as R U γ γ₂ (λ w. F (G w))))
+  ends_then R T U γ γ₁ γ₂ F G =
+      let One : T.Denot → SProp 𝓤 = λ w. wand 𝓤 (A.res γ₁ (T.coded.code w)) (A.res γ (R.coded.code (F w))) in let Two : U.Denot → SProp 𝓤 = λ w. wand 𝓤 (A.res γ₂ (U.coded.code w)) (A.res γ₁ (T.coded.code (G w))) in
+      qed 𝓛 (raw (all 𝓤 One) ∷ raw (all 𝓤 Two) ∷ []) ∵ each ! (λ (w : U.Denot). wand 𝓤 (A.res γ₂ (U.coded.code w)) (A.res γ (R.coded.code (F (G w))))) (λ w.
+      assume ! (‵ (fres γ₂ (U.coded.code w))) $ move ! (2 ∷ []) $ use1 𝓛 (raw (Two w)) (all_e 𝓤 Two w) $ move ! (1 ∷ 0 ∷ []) $ use2 𝓛 (‵ (fres γ₁ (T.coded.code (G w)))) (apply∗ 𝓤 (A.res γ₂ (U.coded.code w)) (A.res γ₁ (T.coded.code (G w)))) $
+      move ! (1 ∷ []) $ use1 𝓛 (raw (One (G w))) (all_e 𝓤 One (G w)) $ move ! (1 ∷ 0 ∷ []) $ by ! (apply∗ 𝓤 (A.res γ₁ (T.coded.code (G w))) (A.res γ (R.coded.code (F (G w))))))
+
+  pub ends_itself : (R : RattleType) (γ : GName) → ent 𝓤 (emp 𝓤) (sem 𝓛 (ends_as R R γ γ (λ w. w)))
+  ends_itself R γ = qed 𝓛 [] ∵ each ! (λ (w : R.Denot). wand 𝓤 (A.res γ (R.coded.code w)) (A.res γ (R.coded.code w))) (λ w. assume ! (‵ (fres γ (R.coded.code w))) $ done !)
+
+  -- the machine value of a `Some` of a `&mut`, and the `&mut`
+  pub some_out : (ℓ : Lifetime) (κ : Lft) (R : RattleType) (r : MutBor R.Denot) (v : Val) → ent 𝓤 (sem 𝓛 ((OP.the_row (MutRef ℓ κ R)).own_val (Some r) (v ∷ [])))
+      (sep 𝓤 (sem 𝓛 (feq (List Val) (v ∷ []) (live 1 (of_list (vptr r.ref_ptr.0 r.ref_ptr.1 ∷ [])) ∷ []))) (sem 𝓛 ((MutRef ℓ κ R).own_val r (vptr r.ref_ptr.0 r.ref_ptr.1 ∷ []))))
+  some_out ℓ κ R r v = let p : Val = vptr r.ref_ptr.0 r.ref_ptr.1 in qed 𝓛 (‵ ((OP.the_row (MutRef ℓ κ R)).own_val (Some r) (v ∷ [])) ∷ []) ∵ fpick ! (λ us. fsplit ! $ feq_l ! (λ e. fpick ! (λ vss. fsplit ! $ feq_l ! (λ e'. fsplit ! $ move ! (1 ∷ []) $ drop ! $
+      fsplit3 ! $ feq_l ! (λ e''. feq_i ! (List Val) (p ∷ []) (p ∷ []) refl $ fjoin3 ! $ feq_i ! (List Val) (v ∷ []) (live 1 (of_list (p ∷ [])) ∷ []) (e ∙ ap (λ (ws : List Val). live 1 (of_list ws) ∷ []) (e' ∙ ap (λ (ws : List Val). ws ++ []) e'')) $ done !)))))
+
+  pub none_out : (X : RattleType) (v : Val) → ent 𝓤 (sem 𝓛 ((OP.the_row X).own_val None (v ∷ []))) (sem 𝓛 (feq (List Val) (v ∷ []) (live 0 (of_list []) ∷ [])))
+  none_out X v = qed 𝓛 (‵ ((OP.the_row X).own_val None (v ∷ [])) ∷ []) ∵ fpick ! (λ us. fsplit ! $ feq_l ! (λ e. fpick ! (λ vss. fsplit ! $ feq_l ! (λ e'. drop ! $
+      feq_i ! (List Val) (v ∷ []) (live 0 (of_list []) ∷ []) (e ∙ ap (λ (ws : List Val). live 0 (of_list ws) ∷ []) e') $ done !))))
+
+  -- the last value of the second name is learned
+  pub ends_said : (R S : RattleType) (γ δ : GName) (F : S.Denot → R.Denot) (w : S.Denot) → ent 𝓤 (sep 𝓤 (sem 𝓛 (ends_as R S γ δ F)) (A.res δ (S.coded.code w))) (A.res γ (R.coded.code (F w)))
+  ends_said R S γ δ F w =
+      let One : S.Denot → SProp 𝓤 = λ w. wand 𝓤 (A.res δ (S.coded.code w)) (A.res γ (R.coded.code (F w))) in
+      qed 𝓛 (raw (all 𝓤 One) ∷ ‵ (fres δ (S.coded.code w)) ∷ []) ∵ use1 𝓛 (raw (One w)) (all_e 𝓤 One w) $ move ! (1 ∷ 0 ∷ []) $ by ! (apply∗ 𝓤 (A.res δ (S.coded.code w)) (A.res γ (R.coded.code (F w))))
+
+module _ {M : Type 1} {𝓤 : Ura M} (𝓛 : Logic 𝓤) (ρ : Lft) (q : Share) where
+  open 𝓛 use {H, A}
+
+  -- how that lifetime ends
+  abbrev pub Ends : ℕ → Share → SProp 𝓤
+  Ends a s = wand 𝓤 (A.lft (a ∷ ρ) s) (H.⇛ (sep 𝓤 (A.dead (a ∷ ρ)) (A.lft ρ q)))
+
+  abbrev Begun : ℕ × Share → SProp 𝓤
+  Begun p = sep 𝓤 (A.lft (p.0 ∷ ρ) p.1) (Ends p.0 p.1)
+
+  -- a new lifetime inside ρ, with its token, and the way to end it
+  pub begins : ent 𝓤 (A.lft ρ q) (H.⇛ (ex 𝓤 Begun))
+  begins =
+      qed 𝓛 (‵ (flft ρ q) ∷ []) ∵ updating ! $ lft_new ! tt (λ a.
+      let s : Share = (common full_share q).0 in
+      let Back' : SProp 𝓤 = wand 𝓤 (A.lft (a ∷ ρ) s) (sep 𝓤 (A.lft (a ∷ []) full_share) (A.lft ρ q)) in
+      use2 𝓛 (‵ (flft (a ∷ ρ) s) ⊛ raw Back') (lft-common 𝓛 (a ∷ []) ρ full_share q) $ split ! $ move ! (1 ∷ []) $
+      use1 𝓛 (raw (Ends a s)) (wand_i 𝓤 Back' (A.lft (a ∷ ρ) s) _ (qed 𝓛 (raw Back' ∷ ‵ (flft (a ∷ ρ) s) ∷ []) ∵ updating ! $ move ! (1 ∷ 0 ∷ []) $
+      use2 𝓛 (‵ (flft (a ∷ []) full_share) ⊛ ‵ (flft ρ q)) (apply∗ 𝓤 (A.lft (a ∷ ρ) s) (sep 𝓤 (A.lft (a ∷ []) full_share) (A.lft ρ q))) $ split ! $ lft_end ! tt $
+      use1 𝓛 (‵ (fdead (a ∷ ρ))) (𝓛.lfts.dead-incl (a ∷ ρ) (a ∷ []) (meet_⊑_left (a ∷ []) ρ)) $ at_once ! $ done !)) $
+      at_once ! $ show ! Begun (a, s) $ move ! (1 ∷ 0 ∷ []) $ done !)

@@ -1,0 +1,350 @@
+ghost use Rattle.std.specs.Prelude.{◌≡◌, ◌*◌, ◌^◌, ◌<◌, ◌↔◌, IsTrue, All, count_by, nat_eq, sum};
+ghost use Rattle.image_model.specs.Layout.{Fits};
+ghost use Rattle.image_model.specs.Rows.{pixels};
+ghost use Rattle.imgref.specs.Image.{width_of, height_of, ref_layout, mut_layout};
+
+use crate::{ImgRef, ImgRefMut, ImgVec, fill_pixels};
+use std::alloc::{AllocError, Global};
+use std::iter::{ExactSizeIterator, FusedIterator};
+use std::test::Fail;
+
+// Three by two with one cell of padding after each row.
+const PADDED: [u8; 9] = [1, 2, 3, 4, 5, 6, 7, 8, 9];
+
+// What a caller learns from a chain over the pixels.
+fn count_pixels(image: ImgRef<'_, u8>) -> usize
+    requires { Fits (ref_layout image) }
+    ensures { result ≡ width_of image.entry * height_of image.entry }
+{
+    image.pixels().count()
+}
+
+fn all_below(image: ImgRef<'_, u8>, limit: u8) -> bool
+    requires { Fits (ref_layout image) }
+    ensures { IsTrue result ↔ All (λ p. p < limit) (pixels (ref_layout image.entry)) }
+{
+    image.pixels().all(|pixel| pixel < limit)
+}
+
+fn sum_pixels(image: ImgRef<'_, u8>) -> u64
+    requires fits { Fits (ref_layout image) }
+    requires small { sum (pixels (ref_layout image)) < 2 ^ 64 }
+    ensures { result ≡ sum (pixels (ref_layout image.entry)) }
+{
+    image.pixels().map(|pixel| pixel as u64).sum()
+}
+
+// And from a loop.
+fn count_equal(image: ImgRef<'_, u8>, value: u8) -> usize
+    requires { Fits (ref_layout image) }
+    ensures { result ≡ count_by (λ p. nat_eq p value) (pixels (ref_layout image.entry)) }
+{
+    let mut count = 0;
+    for pixel in image.pixels() {
+        if pixel == value {
+            count += 1;
+        }
+    }
+    count
+}
+
+fn padded(alloc: Global) -> Result<ImgVec<u8>, AllocError> {
+    Ok(ImgVec::new_stride(PADDED.to_vec(alloc)?, 3, 2, 4))
+}
+
+fn cells_of(alloc: Global, count: usize, value: u8) -> Result<Vec<u8>, AllocError> {
+    let mut cells = Vec::new(alloc);
+    cells.resize(count, value)?;
+    Ok(cells)
+}
+
+// Each of these calls one bound alone, as a caller that knows no type does.
+fn len_of<I: ExactSizeIterator>(items: &I) -> usize {
+    items.len()
+}
+
+fn is_over<I: FusedIterator>(items: &mut I) -> bool
+where
+    I::Item: Drop,
+    requires { I.can_next items.old }
+{
+    items.next().is_none()
+}
+
+fn count_lent(image: &ImgRefMut<'_, u8>) -> usize
+    requires { Fits (mut_layout image.now) }
+{
+    image.pixels().count()
+}
+
+fn count_seen(image: &ImgRefMut<'_, u8>) -> usize
+    requires { Fits (mut_layout image.now) }
+{
+    image.as_ref().pixels().count()
+}
+
+fn count_written(image: &mut ImgRefMut<'_, u8>) -> usize
+    requires { Fits (mut_layout image.old) }
+{
+    image.pixels_mut().count()
+}
+
+// A pixel that can't be copied.
+#[derive(Drop)]
+struct Bead {
+    weight: u8,
+}
+
+#[test]
+fn an_owner_gives_its_pixels(rt: HostRuntime) -> Result<(), Fail> {
+    let image = padded(rt.alloc())?;
+    assert!(rt; image.is_valid());
+    let found: Vec<u8> = image.pixels().collect(rt.alloc())?;
+    assert_eq!(rt; found.as_slice(), [1u8, 2, 3, 5, 6, 7].as_slice());
+    Ok(())
+}
+
+#[test]
+fn a_view_gives_its_pixels(rt: HostRuntime) -> Result<(), Fail> {
+    let view = ImgRef::new_stride(PADDED.as_slice(), 3, 2, 4);
+    assert!(rt; view.is_valid());
+    let found: Vec<u8> = view.pixels().collect(rt.alloc())?;
+    assert_eq!(rt; found.as_slice(), [1u8, 2, 3, 5, 6, 7].as_slice());
+    let mut seen = view.pixels_ref();
+    for expected in [1u8, 2, 3, 5, 6, 7] {
+        assert_eq!(rt; seen.next().copied(), Some(expected));
+    }
+    assert!(rt; is_over(&mut seen) && is_over(&mut seen));
+    Ok(())
+}
+
+#[test]
+fn an_image_for_writing_gives_its_pixels(rt: HostRuntime) -> Result<(), Fail> {
+    let mut cells = PADDED;
+    let image = ImgRefMut::new_stride(cells.as_mut_slice(), 3, 2, 4);
+    assert!(rt; image.is_valid());
+    let found: Vec<u8> = image.pixels().collect(rt.alloc())?;
+    assert_eq!(rt; found.as_slice(), [1u8, 2, 3, 5, 6, 7].as_slice());
+    Ok(())
+}
+
+#[test]
+fn chains_and_loops_over_pixels(rt: HostRuntime) -> Result<(), Fail> {
+    let view = ImgRef::new_stride(PADDED.as_slice(), 3, 2, 4);
+    assert!(rt; view.is_valid());
+    assert_eq!(rt;
+        view.pixels()
+            .map(|pixel| pixel as u64)
+            .fold(0, u64::wrapping_add),
+        24
+    );
+    assert_eq!(rt; count_pixels(view), 6);
+    assert!(rt; all_below(view, 8) && !all_below(view, 7));
+    assert_eq!(rt; count_equal(view, 5), 1);
+    assert_eq!(rt; count_equal(view, 4), 0);
+    Ok(())
+}
+
+#[test]
+fn pixels_of_a_nested_window(rt: HostRuntime) -> Result<(), Fail> {
+    let view = ImgRef::new_stride(PADDED.as_slice(), 3, 2, 4);
+    assert!(rt; view.is_valid() && view.has_window(1, 0, 2, 2));
+    let outer = view.sub_image(1, 0, 2, 2);
+    assert!(rt; outer.is_valid() && outer.has_window(1, 0, 1, 2));
+    let inner = outer.sub_image(1, 0, 1, 2);
+    assert!(rt; inner.is_valid());
+    let found: Vec<u8> = inner.pixels().collect(rt.alloc())?;
+    assert_eq!(rt; found.as_slice(), [3u8, 7].as_slice());
+    Ok(())
+}
+
+#[test]
+fn pixels_without_size(rt: HostRuntime) -> Result<(), Fail> {
+    let mut cells = [(), (), (), (), ()];
+    let image = ImgRef::new_stride(cells.as_slice(), 2, 2, 3);
+    assert!(rt; image.is_valid());
+    assert_eq!(rt; image.pixels().count(), 4);
+    let mut pixels = image.pixels();
+    for left in [4, 3, 2, 1] {
+        assert_eq!(rt; len_of(&pixels), left);
+        assert!(rt; pixels.next().is_some());
+    }
+    assert_eq!(rt; len_of(&pixels), 0);
+    assert!(rt; is_over(&mut pixels) && is_over(&mut pixels));
+    let mut seen = image.pixels_ref();
+    for left in [4, 3, 2, 1] {
+        assert_eq!(rt; len_of(&seen), left);
+        assert!(rt; seen.next().is_some());
+    }
+    assert!(rt; is_over(&mut seen) && is_over(&mut seen));
+    let mut writing = ImgRefMut::new_stride(cells.as_mut_slice(), 2, 2, 3);
+    assert!(rt; writing.is_valid());
+    let mut items = writing.pixels_mut();
+    for left in [4, 3, 2, 1] {
+        assert_eq!(rt; len_of(&items), left);
+        assert!(rt; items.next().is_some());
+    }
+    assert!(rt; is_over(&mut items) && is_over(&mut items));
+    Ok(())
+}
+
+#[test]
+fn sizes_of_pixels_that_are_no_copies(rt: HostRuntime) -> Result<(), Fail> {
+    let beads = [
+        Bead { weight: 1 },
+        Bead { weight: 2 },
+        Bead { weight: 3 },
+        Bead { weight: 4 },
+        Bead { weight: 5 },
+    ];
+    let image = ImgRef::new_stride(beads.as_slice(), 2, 2, 3);
+    assert!(rt; image.is_valid());
+    let mut pixels = image.pixels_ref();
+    for (left, weight) in [(4, 1u8), (3, 2), (2, 4), (1, 5)] {
+        assert_eq!(rt; pixels.size_hint(), (left, Some(left)));
+        assert_eq!(rt; pixels.next().map(|bead| bead.weight), Some(weight));
+    }
+    assert_eq!(rt; pixels.size_hint(), (0, Some(0)));
+    assert!(rt; is_over(&mut pixels) && is_over(&mut pixels));
+    Ok(())
+}
+
+#[test]
+fn writes_before_a_drop_stand(rt: HostRuntime) -> Result<(), Fail> {
+    let left = [
+        [1u8, 2, 3, 4, 5, 6, 7, 8, 9],
+        [0, 2, 3, 4, 5, 6, 7, 8, 9],
+        [0, 0, 3, 4, 5, 6, 7, 8, 9],
+        [0, 0, 0, 4, 5, 6, 7, 8, 9],
+        [0, 0, 0, 4, 0, 6, 7, 8, 9],
+        [0, 0, 0, 4, 0, 0, 7, 8, 9],
+        [0, 0, 0, 4, 0, 0, 0, 8, 9],
+    ];
+    for count in 0..7usize {
+        let mut image = padded(rt.alloc())?;
+        assert!(rt; image.is_valid());
+        let mut pixels = image.pixels_mut();
+        for _ in 0..count {
+            if let Some(pixel) = pixels.next() {
+                *pixel = 0;
+            }
+        }
+        drop(pixels);
+        assert_eq!(rt;
+            image.buf().as_slice(),
+            left[count].as_slice(),
+            "after {count}"
+        );
+        let mut cells = PADDED;
+        let mut lent = ImgRefMut::new_stride(cells.as_mut_slice(), 3, 2, 4);
+        assert!(rt; lent.is_valid());
+        let mut pixels = lent.pixels_mut();
+        for _ in 0..count {
+            if let Some(pixel) = pixels.next() {
+                *pixel = 0;
+            }
+        }
+        drop(pixels);
+        assert_eq!(rt; cells, left[count], "after {count}");
+    }
+    Ok(())
+}
+
+#[test]
+fn an_image_without_columns_has_no_pixel(rt: HostRuntime) -> Result<(), Fail> {
+    let mut cells = [9u8, 9];
+    let image = ImgRef::new_stride(cells.as_slice(), 0, 2, 1);
+    assert!(rt; image.is_valid());
+    assert!(rt; is_over(&mut image.pixels()) && is_over(&mut image.pixels_ref()));
+    let mut lent = ImgRefMut::new_stride(cells.as_mut_slice(), 0, 2, 1);
+    assert!(rt; lent.is_valid());
+    assert!(rt; is_over(&mut lent.pixels_mut()));
+    Ok(())
+}
+
+#[test]
+fn one_row_at_the_greatest_stride(rt: HostRuntime) -> Result<(), Fail> {
+    let mut cells = [5u8];
+    let mut image = ImgRefMut::new_stride(cells.as_mut_slice(), 1, 1, usize::MAX);
+    assert!(rt; image.is_valid());
+    let mut pixels = image.pixels();
+    assert_eq!(rt; pixels.next(), Some(5));
+    assert!(rt; is_over(&mut pixels) && is_over(&mut pixels));
+    image.fill(7);
+    assert_eq!(rt; cells, [7u8]);
+    Ok(())
+}
+
+#[test]
+fn fills_the_pixels_alone(rt: HostRuntime) -> Result<(), Fail> {
+    let filled = [0u8, 0, 0, 4, 0, 0, 0, 8, 9];
+    let mut owned = padded(rt.alloc())?;
+    assert!(rt; owned.is_valid());
+    owned.fill(0);
+    assert_eq!(rt; owned.buf().as_slice(), filled.as_slice());
+    let mut cells = PADDED;
+    let mut lent = ImgRefMut::new_stride(cells.as_mut_slice(), 3, 2, 4);
+    assert!(rt; lent.is_valid());
+    lent.fill(0);
+    assert_eq!(rt; cells, filled);
+    let mut cells = PADDED;
+    fill_pixels(&mut cells[1..], 2, 2, 4, 0);
+    assert_eq!(rt; cells, [1u8, 0, 0, 4, 5, 0, 0, 8, 9]);
+    Ok(())
+}
+
+#[test]
+fn every_small_size_has_its_pixels(rt: HostRuntime) -> Result<(), Fail> {
+    let column = ImgRef::new([1u8, 2].as_slice(), 1, 2);
+    assert!(rt; column.is_valid());
+    let mut pixels = column.pixels();
+    assert_eq!(rt;
+        (pixels.next(), pixels.next(), pixels.next()),
+        (Some(1), Some(2), None)
+    );
+    for width in 1..16usize {
+        for height in 1..8usize {
+            for padding in 0..3usize {
+                let stride = width + padding;
+                let cells = cells_of(rt.alloc(), stride * height + padding, 1)?;
+                let image = ImgVec::new_stride(cells, width, height, stride);
+                assert!(rt; image.is_valid());
+                let sum = image
+                    .pixels()
+                    .map(|pixel| pixel as usize)
+                    .fold(0, usize::wrapping_add);
+                assert_eq!(rt;
+                    (sum, image.pixels().count()),
+                    (width * height, width * height)
+                );
+                let mut pixels = image.pixels();
+                for taken in 0..width * height {
+                    assert_eq!(rt; len_of(&pixels), width * height - taken);
+                    assert!(rt; pixels.next().is_some());
+                }
+                assert!(rt; is_over(&mut pixels) && len_of(&pixels) == 0);
+            }
+        }
+    }
+    Ok(())
+}
+
+#[test]
+fn each_kind_has_all_its_pixels(rt: HostRuntime) -> Result<(), Fail> {
+    let mut cells = cells_of(rt.alloc(), 10000, 0)?;
+    let mut others = cells_of(rt.alloc(), 10000, 0)?;
+    for width in 1..10usize {
+        for height in 1..15usize {
+            let mut owner = ImgVec::new_stride(cells, width, height, 100);
+            assert!(rt; owner.is_valid());
+            assert_eq!(rt; owner.pixels_mut().count(), width * height);
+            cells = owner.into_buf();
+            let mut lent = ImgRefMut::new_stride(others.as_mut_slice(), width, height, 100);
+            assert!(rt; lent.is_valid());
+            assert_eq!(rt; count_lent(&lent), width * height);
+            assert_eq!(rt; count_seen(&lent), width * height);
+            assert_eq!(rt; count_written(&mut lent), width * height);
+        }
+    }
+    Ok(())
+}

@@ -1,0 +1,14 @@
+pub mod Bytes
+pub mod Numbers
+pub mod Cuts
+pub mod Each
+pub mod Lacking
+pub mod Options
+pub mod Fields
+pub mod Orders
+pub mod Images
+pub mod Lines
+pub mod Joins
+pub mod Lineation
+pub mod Goodness
+pub mod Runs

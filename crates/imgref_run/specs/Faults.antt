@@ -1,0 +1,50 @@
+-- Why a run ended, what it prints then, and which device's count that shows in.
+use Rattle.std.specs.Prelude.{ℕ, List, ◌++◌, codes, Result, Ok, Err}
+use Rattle.std.specs.Fmt.{decimal}
+use Rattle.imgref_run.specs.declared.fault.RunFault.{RunFault}
+use Rattle.imgref_run.specs.declared.fault.RunFault.TheVariants.{Line, Memory, Input, Output}
+use Rattle.imgref_run.specs.Script.{IsFirstBad}
+
+-- the status that the program ends with
+abbrev pub status_of : RunFault → ℕ
+status_of (Line n) = 2
+status_of Memory = 3
+status_of Input = 4
+status_of Output = 4
+
+-- what the program prints
+abbrev pub fault_text : RunFault → List ℕ
+fault_text (Line n) = codes "fault line " ++ decimal n
+fault_text Memory = codes "fault memory"
+fault_text Input = codes "fault input"
+fault_text Output = codes "fault output"
+
+-- by how much a run with this answer raised the reader's count
+abbrev pub reader_failures : {T : Type 0} → Result T RunFault → ℕ
+reader_failures (Ok x) = 0
+reader_failures (Err (Line n)) = 0
+reader_failures (Err Memory) = 0
+reader_failures (Err Input) = 1
+reader_failures (Err Output) = 0
+
+-- by how much a run with this answer raised the writer's count
+abbrev pub writer_failures : {T : Type 0} → Result T RunFault → ℕ
+writer_failures (Ok x) = 0
+writer_failures (Err (Line n)) = 0
+writer_failures (Err Memory) = 0
+writer_failures (Err Input) = 0
+writer_failures (Err Output) = 1
+
+-- the fault is one that reading the input may end with
+abbrev pub IsReadFault : RunFault → Type 0
+IsReadFault (Line n) = ⊥
+IsReadFault Memory = Unit {0}
+IsReadFault Input = Unit {0}
+IsReadFault Output = ⊥
+
+-- the fault is want of memory, or it names the first line that isn't good
+abbrev pub ExplainsBad : List (List ℕ) → RunFault → Type 0
+ExplainsBad lines (Line n) = IsFirstBad lines n
+ExplainsBad lines Memory = Unit {0}
+ExplainsBad lines Input = ⊥
+ExplainsBad lines Output = ⊥

@@ -1,0 +1,12 @@
+pub mod Values
+pub mod Text
+pub mod Ranges
+pub mod Script
+pub mod Output
+pub mod Runs
+pub mod Devices
+pub mod Faults
+pub mod Held
+pub mod Reading
+pub mod Parts
+pub mod Gives

@@ -1,0 +1,32 @@
+-- The output of a run: a line for each reply, and then one for each image.
+use Rattle.std.specs.Prelude.{ℕ, List, [], ◌∷◌, ◌++◌, if◌then◌else◌, codes}
+use Rattle.std.specs.List.{flat_map}
+use Rattle.std.specs.Fmt.{decimal}
+use Rattle.image_model.specs.Layout.{Layout}
+use Rattle.imgref_replay.specs.declared.commands.Reply.{Reply}
+use Rattle.imgref_replay.specs.declared.commands.Reply.TheVariants.{Pixel, Counted, Truth, Done, Refused}
+use Rattle.imgref_replay.specs.declared.commands.Refusal.{Refusal}
+use Rattle.imgref_replay.specs.declared.commands.Refusal.TheVariants.{NoImage, WindowOutside, PlaceOutside}
+use Rattle.imgref_run.specs.Text.{image_text}
+
+-- the number that a refusal is printed as
+abbrev pub refusal_number : Refusal → ℕ
+refusal_number NoImage = 1
+refusal_number WindowOutside = 2
+refusal_number PlaceOutside = 3
+
+-- the line of a reply
+abbrev pub reply_text : Reply ℕ → List ℕ
+reply_text (Pixel value) = codes "pixel " ++ decimal value
+reply_text (Counted number) = codes "count " ++ decimal number
+reply_text (Truth truth) = if truth then codes "true" else codes "false"
+reply_text Done = codes "done"
+reply_text (Refused refusal) = codes "refused " ++ decimal (refusal_number refusal)
+
+-- a line with its line feed
+abbrev pub ended_line : List ℕ → List ℕ
+ended_line line = line ++ 10 ∷ []
+
+-- a line for each reply, and then one for each image
+abbrev pub output_text : List (Reply ℕ) → List (Layout ℕ) → List ℕ
+output_text replies images = flat_map (λ r. ended_line (reply_text r)) replies ++ flat_map (λ i. ended_line (image_text i)) images

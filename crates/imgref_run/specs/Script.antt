@@ -1,0 +1,58 @@
+-- A script, from its values to its bytes, and its first bad line.
+use Rattle.std.specs.Prelude.{◌≡◌, ℕ, ◌-◌, ◌<◌, ◌≤◌, List, [], ◌∷◌, ◌++◌, map, length, take, ◌==◌, if◌then◌else◌}
+use Rattle.std.specs.List.{AllByRecursion, slice_split, slice_index_or}
+use Rattle.image_model.specs.Layout.{Layout}
+use Rattle.imgref_run.specs.Values.{Order, Entry, image_line, order_line}
+use Rattle.imgref_run.specs.Text.{entry_text, image_text, order_text}
+use Rattle.imgref_run.specs.Ranges.{IsImage, IsOrder, IsEntry}
+
+-- the pieces of the bytes between separators
+abbrev pub parts_of : ℕ → List ℕ → List (List ℕ)
+parts_of separator bytes = slice_split (λ b. b == separator) bytes
+
+-- every piece is a line, but for an empty last one
+abbrev pub whole_lines : List (List ℕ) → List (List ℕ)
+whole_lines [] = []
+whole_lines (piece ∷ []) = if length piece == 0 then [] else piece ∷ []
+whole_lines (piece ∷ next ∷ more) = piece ∷ whole_lines (next ∷ more)
+
+-- the lines of the bytes: line feeds part them
+unfoldable pub lines_of : List ℕ → List (List ℕ)
+lines_of bytes = whole_lines (parts_of 10 bytes)
+
+-- the lines are the texts of these images, and then of these commands
+pub record IsScript (lines : List (List ℕ)) (images : List (Layout ℕ)) (orders : List Order) : Type 0 where
+  pub texts : lines ≡ map image_text images ++ map order_text orders
+  pub images_in_range : AllByRecursion IsImage images
+  pub orders_in_range : AllByRecursion IsOrder orders
+
+-- none of the lines is a command's
+abbrev pub NoCommand : List (List ℕ) → Type 0
+NoCommand lines = AllByRecursion (λ line. (o : Order) → IsOrder o → line ≡ order_text o → ⊥) lines
+
+-- an image has no command line before it
+abbrev pub MayFollow : List (List ℕ) → Entry → Type 0
+MayFollow before (image_line i) = NoCommand before
+MayFollow before (order_line o) = Unit {0}
+
+-- a line is good after the lines before it if it is the text of an image or a command that may stand there
+pub record IsGood (before : List (List ℕ)) (line : List ℕ) : Type 0 where
+  pub entry : Entry
+  pub in_range : IsEntry entry
+  pub text : line ≡ entry_text entry
+  pub may_follow : MayFollow before entry
+
+-- line k, from 0, is good where it stands
+abbrev pub IsGoodAt : List (List ℕ) → ℕ → Type 0
+IsGoodAt lines k = IsGood (take k lines) (slice_index_or lines k [])
+
+-- each of the first n lines is good where it stands
+abbrev pub AreGood : List (List ℕ) → ℕ → Type 0
+AreGood lines n = (k : ℕ) → k < n → IsGoodAt lines k
+
+-- line n, from 1, is the first that isn't good
+pub record IsFirstBad (lines : List (List ℕ)) (n : ℕ) : Type 0 where
+  pub positive : 0 < n
+  pub within : n ≤ length lines
+  pub good_before : AreGood lines (n - 1)
+  pub bad : IsGoodAt lines (n - 1) → ⊥

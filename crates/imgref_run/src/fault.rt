@@ -1,0 +1,60 @@
+//! Why a run ended.
+
+ghost use Rattle.std.specs.Prelude.{◌≡◌, Some};
+
+use std::alloc::AllocError;
+use std::fmt;
+
+/// Why a run ended before its whole output was written.
+#[derive(Clone, Copy, Debug, PartialEq, Eq)]
+pub enum RunFault {
+    /// The line of this number, from 1, is the first that isn't good. Nothing was written.
+    Line(u64),
+    /// No memory was found. Nothing was written.
+    Memory,
+    /// The reader failed. Nothing was written.
+    Input,
+    /// The writer failed. A beginning of the output was written, or all of it where only the flush
+    /// failed.
+    Output,
+}
+
+impl RunFault {
+    ghost use Rattle.imgref_run.specs.Faults.{status_of};
+
+    /// The status that the program ends with.
+    pub fn status(&self) -> u8
+        ensures { result ≡ status_of self.now }
+    {
+        match self {
+            RunFault::Line(_) => 2,
+            RunFault::Memory => 3,
+            RunFault::Input | RunFault::Output => 4,
+        }
+    }
+}
+
+impl fmt::Display for RunFault {
+    ghost use Rattle.imgref_run.specs.Faults.{fault_text};
+
+    ghost output = { λ fault. Some (fault_text fault) };
+
+    fn fmt<W: fmt::Write>(&self, f: &mut fmt::Formatter<W>) -> fmt::Result {
+        match self {
+            RunFault::Line(number) => write!(f, "fault line {number}"),
+            RunFault::Memory => write!(f, "fault memory"),
+            RunFault::Input => write!(f, "fault input"),
+            RunFault::Output => write!(f, "fault output"),
+        }
+    }
+}
+
+impl From<AllocError> for RunFault {
+    ghost use Rattle.imgref_run.specs.declared.fault.RunFault.TheVariants.{Memory};
+
+    ghost from_gives = { λ _ e. e ≡ Memory };
+
+    fn from(_e: AllocError) -> RunFault {
+        RunFault::Memory
+    }
+}

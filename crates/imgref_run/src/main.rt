@@ -1,0 +1,35 @@
+//! Commands over images of bytes: a script in, a text out.
+#![tactic(auto)]
+
+mod device;
+mod fault;
+mod line;
+mod output;
+mod parts;
+mod script;
+mod session;
+#[cfg(test)]
+mod tests;
+mod transfer;
+
+pub use device::Counted;
+pub use fault::RunFault;
+pub use line::{Line, read_line};
+pub use script::{Script, read_script};
+pub use session::run;
+use std::process::ExitCode;
+
+/// Runs the script on standard input, and writes its output to standard output. Where the run ends
+/// with a fault, the program prints that and ends with its status.
+fn main(rt: HostRuntime) -> ExitCode {
+    let mut reader = Counted::new(rt.stdin());
+    let mut writer = Counted::new(rt.stdout());
+    match run(rt.alloc(), &mut reader, &mut writer) {
+        Ok(()) => ExitCode::SUCCESS,
+        Err(fault) => {
+            // The status tells of the fault even where its text can't be printed.
+            let _ = println!(rt; "{fault}");
+            ExitCode::from(fault.status())
+        }
+    }
+}

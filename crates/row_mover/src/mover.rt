@@ -1,0 +1,76 @@
+ghost use Rattle.std.specs.Prelude.{◌≡◌, ◌+◌, ◌≤◌, length};
+ghost use Rattle.image_model.specs.Shifts.{shifted};
+
+use std::marker::Model;
+
+/// Shifts cells within one list that was lent to it, and counts the shifts.
+///
+/// Contracts see a mover as a `State`: the cells now, the shifts so far, and which list was lent.
+/// Cells are numbered from 0. What a call asks of its numbers stands in its `requires`, and under
+/// those it always succeeds and takes no memory.
+#[derive(Drop)]
+pub struct RowMover<'a, T: Copy> {
+    cells: &'a mut [T],
+    shifts: u64,
+}
+
+impl<'a, T: Copy> Model for RowMover<'a, T> {
+    ghost use Rattle.row_mover.specs.State.{State};
+
+    ghost Value = { State T };
+
+    ghost view = { λ m. record { cells = m.cells.now; shifts = m.shifts; lender = m.cells.ghost_name } };
+}
+
+impl<'a, T: Copy> RowMover<'a, T> {
+    /// A mover over this list, with no shift so far.
+    pub fn new(cells: &'a mut [T]) -> Self
+        ensures lender { result.lender ≡ cells.entry.ghost_name }
+        ensures cells { result.cells ≡ cells.old }
+        ensures shifts { result.shifts ≡ 0 }
+    {
+        RowMover { cells, shifts: 0 }
+    }
+
+    /// The cells as they are now.
+    pub fn cells(&self) -> &[T]
+        ensures { result.now ≡ self.now.cells }
+    {
+        self.cells
+    }
+
+    /// How many shifts there were so far.
+    pub fn shifts(&self) -> u64
+        ensures { result ≡ self.now.shifts }
+    {
+        self.shifts
+    }
+
+    /// Hands the list that was lent to `new` back whole, with the cells as they are now.
+    pub fn into_cells(self) -> &'a mut [T]
+        ensures lender { result.ghost_name ≡ self.entry.lender }
+        ensures cells { result.now ≡ self.entry.cells }
+    {
+        let RowMover { cells, .. } = self;
+        cells
+    }
+
+    /// Copies the `len` cells from cell `start` on to cell `target` and on, as one shift: the
+    /// stretches may overlap, and every other cell stays (`shifted`).
+    // Out of line: inlined into a loop over rows, the compiler moves the bytes of a row one by one,
+    // and shifts of bytes take eight times as long.
+    #[inline(never)]
+    pub fn shift(&mut self, start: usize, len: usize, target: usize)
+        requires source { start + len ≤ length self.old.cells }
+        requires target { target + len ≤ length self.old.cells }
+        requires count { self.old.shifts + 1 ≤ u64.MAX }
+        ensures cells { self.new.cells ≡ shifted self.old.cells start len target }
+        ensures length { length self.new.cells ≡ length self.old.cells }
+        ensures shifts { self.new.shifts ≡ self.old.shifts + 1 }
+        ensures lender { self.new.lender ≡ self.old.lender }
+    {
+        let RowMover { cells, shifts } = self;
+        *shifts += 1;
+        cells.copy_within(start..start + len, target);
+    }
+}

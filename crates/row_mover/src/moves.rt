@@ -1,0 +1,66 @@
+ghost use Rattle.std.specs.Prelude.{◌≡◌, ◌+◌, ◌-◌, ◌*◌, ◌<◌, ◌≤◌, ◌++◌, length, drop};
+ghost use Rattle.image_model.specs.Layout.{layout, Fits};
+ghost use Rattle.image_model.specs.Rows.{joined_rows};
+ghost use Rattle.image_model.specs.Shifts.{rows_compacted, rows_moved, MovesRows};
+
+use crate::mover::RowMover;
+
+impl<T: Copy> RowMover<'_, T> {
+    /// Joins the rows of an image at the front of the list, in place: the first `width * height`
+    /// cells become its `joined_rows`, and later cells stay. The size is in pixels, the stride in
+    /// cells. Each row but the first takes one shift, and rows that touch already take none
+    /// (`rows_compacted`).
+    #[tactic(auto, using(crate::proofs::Compacting::compacting))]
+    pub fn compact_rows(&mut self, width: usize, height: usize, stride: usize)
+        requires fits { Fits (layout self.old.cells width height stride) }
+        requires stride_positive { 1 ≤ stride }
+        requires stride_covers_width { width ≤ stride }
+        requires count { self.old.shifts + height ≤ u64.MAX }
+        ensures cells { self.new.cells ≡ joined_rows (layout self.old.cells width height stride) ++ drop (width * height) self.old.cells }
+        ensures length { length self.new.cells ≡ length self.old.cells }
+        ensures shifts { self.new.shifts ≡ self.old.shifts + rows_compacted width height stride }
+        ensures lender { self.new.lender ≡ self.old.lender }
+    {
+        if width == 0 || width == stride || height == 0 {
+            return;
+        }
+        // No row ends past the list, and its length is a `usize`: so no cell's number wraps.
+        prove!(self.cells().len() <= usize::MAX);
+        for y in 1..height {
+            self.shift(y * stride, width, y * width);
+        }
+    }
+
+    /// Moves the rows of a window from the corner at cell `from` to the corner at cell `to`, in
+    /// place and overlapping or not: each target row becomes the old source row, and every other
+    /// cell stays (`MovesRows`). The size is in pixels, the stride in cells. Each row takes one
+    /// shift (`rows_moved`). The corners of an empty window aren't looked at.
+    #[tactic(auto, using(crate::proofs::Moving::moving))]
+    pub fn move_rows(&mut self, stride: usize, from: usize, to: usize, width: usize, height: usize)
+        requires stride_positive { 1 ≤ stride }
+        requires stride_covers_width { width ≤ stride }
+        requires count { self.old.shifts + height ≤ u64.MAX }
+        requires source { 0 < width → 0 < height → from + (stride * (height - 1) + width) ≤ length self.old.cells }
+        requires target { 0 < width → 0 < height → to + (stride * (height - 1) + width) ≤ length self.old.cells }
+        ensures cells { MovesRows self.old.cells self.new.cells stride from to width height }
+        ensures shifts { self.new.shifts ≡ self.old.shifts + rows_moved width height }
+        ensures lender { self.new.lender ≡ self.old.lender }
+    {
+        if width == 0 || height == 0 {
+            return;
+        }
+        // As above, no cell's number wraps.
+        prove!(self.cells().len() <= usize::MAX);
+        // A row is read before it is overwritten: towards the front from the first row on, and
+        // towards the back from the last.
+        if to <= from {
+            for y in 0..height {
+                self.shift(from + y * stride, width, to + y * stride);
+            }
+        } else {
+            for y in (0..height).rev() {
+                self.shift(from + y * stride, width, to + y * stride);
+            }
+        }
+    }
+}
