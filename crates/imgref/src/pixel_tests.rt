@@ -146,7 +146,10 @@ fn chains_and_loops_over_pixels(rt: HostRuntime) -> Result<(), Fail> {
     assert_eq!(rt; count_equal(view, 4), 0);
     let mut pixels = view.pixels();
     skip_pixels(&mut pixels, 4);
-    assert_eq!(rt; (pixels.next(), pixels.next(), pixels.next()), (Some(6), Some(7), None));
+    assert_eq!(rt;
+        (pixels.next(), pixels.next(), pixels.next()),
+        (Some(6), Some(7), None)
+    );
     Ok(())
 }
 
