@@ -1,21 +1,21 @@
 -- What one name ends as by what another ends as, what an `Option` of one machine value holds, and a new lifetime inside another. Assumes `Logic`.
-use mathlib.Core.Path.{◌≡◌, refl, sym, ap, ◌∙◌}
+use mathlib.Core.Path.{refl, ap, ◌∙◌}
 use mathlib.Core.List.{List, [], ◌∷◌, ◌++◌}
 use seplogic.Ra.Ura.{Ura}
 use mir.Syntax.{Lifetime}
 use mir.Val.{Val, vptr, of_list}
 use base.Fraction.{full_share}
 use base.FractionLaws.{common}
-use base.Logic.{SProp, ent, emp, sep, wand, wand_i, all, all_e, apply∗, ex, id⊢}
-use base.Fml.{Lft, GName, Share, fres, feq, fsep, flft, fdead}
+use base.Logic.{SProp, ent, emp, sep, wand, wand_i, all, all_e, apply∗, ex}
+use base.Fml.{Lft, GName, Share, fres, feq, flft, fdead}
 use denote.Ref.{MutRef, MutBor}
 use types.Logic.{Logic, sem}
 use types.Match.{live}
-use types.Kit.{‵, raw, ◌⊛◌, some, given, ◌$◌, ◌∵◌, !, qed, by, move, keep, drop, use1, use2, split, join, each, assume, fsplit, fsplit3, fjoin, fjoin3, fpick, feq_l, feq_i, rewrite, show, check, updating, now as at_once, done}
+use types.Kit.{‵, raw, ◌⊛◌, ◌$◌, ◌∵◌, !, qed, by, move, drop, use1, use2, split, join, each, assume, fsplit, fsplit3, fjoin3, fpick, feq_l, feq_i, show, updating, now as at_once, done}
 use types.Tokens.{lft_new, lft_end, lft-common}
 use contract.BorrowLft.{meet_⊑_left}
 use Prim.Native.Nat.{ℕ}
-use denote.RattleType.{RattleType, Valss, owns}
+use denote.RattleType.{RattleType}
 use denote.Follow.{follows_both, both_by}
 use Rattle.std.specs.Prelude.{Some, None}
 use Rattle.std.specs.contracts.option.Option as OP

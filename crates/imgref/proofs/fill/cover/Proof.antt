@@ -1,9 +1,9 @@
 -- `cover` lends the image to a cursor and the cursor to `fill_rest`, and takes both back: the image ends as the cursor's cells do. Assumes `Logic`.
-use mathlib.Core.Path.{◌≡◌, refl, sym, ap, ◌∙◌, subst}
-use Prim.Native.Nat.{ℕ, ◌*◌, ◌<◌, ◌≤◌, ◌^◌}
+use mathlib.Core.Path.{◌≡◌, refl, ap, subst}
+use Prim.Native.Nat.{ℕ, ◌*◌, ◌<◌, ◌^◌}
 use mathlib.Core.List.{List, [], ◌∷◌, ◌++◌}
 use lib.ListN.{length}
-use base.Fml.{Lft, GName, Share, ftrue, fsep, feq, fdead, fres, flft, flent, fat}
+use base.Fml.{Lft, GName, Share, ftrue, fdead, fres, flft, flent, fat}
 use base.Fraction.{full_share}
 use base.Share
 use base.Logic.{SProp, emp, id⊢, apply∗}
@@ -14,7 +14,7 @@ use mir.Val.{Val, vptr, vunit}
 use contract.BorrowLft.{◌⊑◌, ⊑_trans, meet_⊑_right}
 use contract.Monad.{fact, fact_i}
 use contract.Running.{tables}
-use types.Kit.{Item, ‵, ◌⊛◌, raw, later, some, ◌$◌, ◌∵◌, !, qed, by, move, keep, drop, split, split3, join, fsplit, fjoin, fpick, feq_l, feq_i, rewrite, use0, use1, use2, use3, await, pick}
+use types.Kit.{‵, ◌⊛◌, raw, later, some, ◌$◌, ◌∵◌, !, qed, by, move, keep, drop, split, split3, join, fsplit, fjoin, fpick, feq_l, feq_i, rewrite, use0, use1, use2, use3, await, pick}
 use types.Run.{stop, from, addr, of_opd, unit_lit, and_then, no_more, returns, enter}
 use types.ByLocal.{alloc_all, pass_all, free_all, look_at, get, through, sets, lands_as, take_at, give_at}
 use types.SemTy.{Body}
@@ -44,7 +44,7 @@ use Rattle.image_model.specs.Rows.{pixels}
 use Rattle.image_model.specs.Windows.{whole}
 use Rattle.imgref.specs.Image.{with_buf, layout_by}
 use Rattle.imgref.specs.Marks.{covered, marks_of}
-use Rattle.imgref.specs.Pixels.{cells_left, marks_left, muts_left, name_of, lender_of, ends_as, fills}
+use Rattle.imgref.specs.Pixels.{cells_left, marks_left, muts_left, name_of, lender_of, fills}
 use Rattle.imgref.specs.declared.img.Img.{Img}
 use Rattle.imgref.specs.declared.pixels.PixelsIterMut.{PixelsIterMut}
 use Rattle.imgref.specs.contracts.img.Img.{the_row}

@@ -1,21 +1,20 @@
 -- `fill_rest` writes over one pixel after the other: a loop whose invariant is how the first name follows the cursor's. Assumes `Logic`.
 use mathlib.Core.Path.{◌≡◌, refl, sym, ap, ◌∙◌}
-use Prim.Native.Nat.{ℕ, ◌<◌, ◌^◌}
+use Prim.Native.Nat.{ℕ, ◌<◌}
 use native.Mathlib.Omega.{arith}
 use mathlib.Core.Bool.{Bool}
-use mathlib.Core.List.{List, [], ◌∷◌, ◌++◌, append_assoc, append-nil}
+use mathlib.Core.List.{List, [], ◌∷◌, ◌++◌, append_assoc}
 use mathlib.Core.WellFounded.InvImage
-use lib.ListN.{length, take}
+use lib.ListN.{length}
 use lib.WfN.{lt-wf_rel}
 use lib.Dec.{T, lit<}
 use seplogic.Ra.Ura.{Ura}
-use mir.Syntax.{Fn, Body, Ty, Dict, Args, named, a_type, dcons, dnil, seq, assign, block, loop, cond, switch, exit, return, call, call_v, unreachable, lend_static, skip, place, rv_opd, copy, variant, field, deref}
+use mir.Syntax.{Fn, Body, Dict, Args, named, a_type, dcons, dnil, seq, assign, block, loop, cond, switch, exit, return, call, call_v, unreachable, lend_static, skip, place, rv_opd, copy, variant, field, deref}
 use mir.MapTy.{inst_fn}
 use mir.Val.{Val, vptr, vunit, of_list, has_ty, WT}
-use base.Logic.{SProp, ent, sep, emp, ex, wand, wand_i, apply∗, id⊢, guard}
+use base.Logic.{SProp, ent, sep, emp, ex, apply∗, id⊢, guard}
 use base.Share
 use base.Fraction.{full_share}
-use base.FractionLaws.{common}
 use base.Fml.{Lft, GName, Share, Fml, ftrue, fsep, feq, fdead, fres, fbor, fobor, fobs, fauth, flft}
 use prog.Memory.{Memory}
 use prog.Routine.{Routine}
@@ -24,16 +23,15 @@ use types.Logic.{Logic, sem}
 use types.Match.{live, vrt, in_variant}
 use types.Part.{whole}
 use types.SemTy.{Body as BorBody}
-use types.Tokens.{lft_new, lft_end, lft-common}
-use types.Kit.{Item, Sq, ‵, raw, ◌⊛◌, some, given, later, at_ret, runs, lands, any_q, ◌$◌, ◌∵◌, !, qed, by, move, keep, drop, use0, use1, use2, use3, split, split3, join, fsplit, fsplit3, fjoin, fjoin3, fpack, feq_i, feq_l, pick, await, updating, rewrite, group, learn, show, check, done, now as at_once}
+use types.Kit.{Item, Sq, ‵, raw, ◌⊛◌, some, given, later, at_ret, runs, lands, any_q, ◌$◌, ◌∵◌, !, qed, by, move, keep, drop, use0, use1, use2, use3, split, split3, join, fsplit, fsplit3, fjoin, fpack, feq_i, feq_l, pick, await, updating, rewrite, group, learn, show, check, done, now as at_once}
 use types.Run.{enter, of_opd, unit_lit, addr, stop, fld, no_more, and_then, assigns_last, store_raw, first, blocks, jumps, exec, returns, switches_on, loops, again, Below}
 use types.ByLocal.{alloc_all, pass_all, free_all, look_at, get, get_in, get_tag, through, sets, env, forget_but, holding, lands_as}
 use contract.Monad.{Fun, fact, fact_i}
-use contract.BorrowLft.{◌⊑◌, ⊑_trans, meet_⊑_left, meet_⊑_right}
+use contract.BorrowLft.{◌⊑◌, ⊑_trans, meet_⊑_right}
 use contract.Lifetimes.{Lfts, AllOutlive}
 use contract.Running.{tables, tables_of}
 use sound.WpLaws.{fm_of}
-use denote.RattleType.{RattleType, owns}
+use denote.RattleType.{RattleType}
 use denote.Exit.{no}
 use denote.Array.{Array}
 use denote.Follow.{follows_both}
@@ -57,7 +55,7 @@ use Rattle.std.specs.Prelude.{Option, Some, None}
 use Rattle.std.specs.Iterator.{MakesProgress, item_count, YieldsFirstMut}
 use Rattle.std.specs.contracts.option.Option as OP
 use Rattle.std.specs.declared.clone.Clone.{Ghosts}
-use Rattle.imgref.specs.Pixels.{muts_left, cells_left, marks_left, gap, passed, hands_on, Moves, ends_as, fills}
+use Rattle.imgref.specs.Pixels.{muts_left, cells_left, marks_left, gap, passed, hands_on, Moves, ends_as}
 use Rattle.imgref.specs.Marks.{covered}
 use Rattle.imgref.specs.contracts.pixels.PixelsIterMut as P
 use Rattle.imgref.specs.declared.pixels.PixelsIterMut.{PixelsIterMut}

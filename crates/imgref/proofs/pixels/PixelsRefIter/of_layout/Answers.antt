@@ -1,10 +1,8 @@
-use Rattle.std.proofs.Common.{◌≡◌, ◌+◌, ◌-◌, ◌*◌, ◌<◌, ◌^◌, length, ap, ◌∙◌, arith}
+use Rattle.std.proofs.Common.{◌-◌, length, ap, ◌∙◌, arith}
 use mathlib.Core.Path.{ap₂}
 use Rattle.image_model.specs.Layout.{layout}
-use Rattle.image_model.specs.Rows.{pixels}
 use Rattle.image_model.proofs.Rows.{length-joined_rows}
 use Rattle.imgref.specs.Marks.{pick, marks}
-use Rattle.imgref.specs.Pixels.{refs_left}
 use Rattle.imgref.proofs.Marked.{marks_reach, marked_pixels, area_fits}
 use Rattle.imgref.proofs.pixels.PixelsRefIter.of_layout.Goals as goal
 
