@@ -28,9 +28,15 @@ pub enum Command<T> {
         value: T,
     },
     /// `value` is written at every place of a window.
-    Fill { spot: Place, value: T },
+    Fill {
+        spot: Place,
+        value: T,
+    },
     /// How many pixels of a window are equal to `value`.
-    Count { spot: Place, value: T },
+    Count {
+        spot: Place,
+        value: T,
+    },
 }
 
 /// What a command answers.
