@@ -8,8 +8,8 @@ use Rattle.image_model.specs.Rows.{grid_joined_rows}
 use Rattle.imgref_replay.specs.Steps.{replies_to, after_all}
 use Rattle.imgref_replay.specs.declared.window.Window.{Window}
 use Rattle.imgref_replay.specs.declared.commands.Place.{Place}
-use Rattle.imgref_replay.specs.declared.commands.Command.TheVariants.{Get, Put}
-use Rattle.imgref_replay.specs.declared.commands.Reply.TheVariants.{Pixel, Done, Refused}
+use Rattle.imgref_replay.specs.declared.commands.Command.TheVariants.{Get, Put, Fill, Count}
+use Rattle.imgref_replay.specs.declared.commands.Reply.TheVariants.{Pixel, Counted, Done, Refused}
 use Rattle.imgref_replay.specs.declared.commands.Refusal.TheVariants.{NoImage, WindowOutside, PlaceOutside}
 
 -- 3 by 2 at stride 4, with cells past the last pixel: 1 2 3 above 5 6 7
@@ -40,6 +40,15 @@ module _ (ptr : Ptr) (alloc : Global) where
   put_patches : map grid_joined_rows (after_all (Put (place 0 (window 1 1 2 1 ∷ []) (omega arith)) 0 0 9 ∷ []) (padded ∷ [])) ≡ (1 ∷ 2 ∷ 3 ∷ 5 ∷ 9 ∷ 7 ∷ []) ∷ []
   put_patches = refl
 
+  put_then_count : replies_to ◌==◌ (Put (place 0 (window 1 1 2 1 ∷ []) (omega arith)) 0 0 9 ∷ Count whole 9 ∷ Get whole 1 1 ∷ []) (padded ∷ []) ≡ Done ∷ Counted 1 ∷ Pixel 9 ∷ []
+  put_then_count = refl
+
+  fill_patches : map grid_joined_rows (after_all (Fill (place 0 (window 1 0 2 2 ∷ []) (omega arith)) 0 ∷ []) (padded ∷ [])) ≡ (1 ∷ 0 ∷ 0 ∷ 5 ∷ 0 ∷ 0 ∷ []) ∷ []
+  fill_patches = refl
+
+  fill_then_count : replies_to ◌==◌ (Fill (place 0 (window 1 0 2 2 ∷ []) (omega arith)) 0 ∷ Count whole 0 ∷ Count nested 0 ∷ []) (padded ∷ []) ≡ Done ∷ Counted 4 ∷ Counted 2 ∷ []
+  fill_then_count = refl
+
   -- the image number is tested before the path, and the path before the place
   image_first : replies_to ◌==◌ (Get (place 1 (window 9 9 9 9 ∷ []) (omega arith)) 9 9 ∷ []) (padded ∷ []) ≡ Refused NoImage ∷ []
   image_first = refl
@@ -57,6 +66,16 @@ module _ (ptr : Ptr) (alloc : Global) where
   -- an empty window at the edge is inside, and has no place
   empty_window : replies_to ◌==◌ (Get (place 0 (window 3 0 0 2 ∷ []) (omega arith)) 0 0 ∷ []) (padded ∷ []) ≡ Refused PlaceOutside ∷ []
   empty_window = refl
+
+  -- so it is filled and counted without a pixel
+  empty_filled : map grid_joined_rows (after_all (Fill (place 0 (window 3 0 0 2 ∷ []) (omega arith)) 0 ∷ []) (padded ∷ [])) ≡ (1 ∷ 2 ∷ 3 ∷ 5 ∷ 6 ∷ 7 ∷ []) ∷ []
+  empty_filled = refl
+
+  empty_counted : replies_to ◌==◌ (Count (place 0 (window 3 0 0 2 ∷ []) (omega arith)) 1 ∷ []) (padded ∷ []) ≡ Counted 0 ∷ []
+  empty_counted = refl
+
+  windows_refused : replies_to ◌==◌ (Fill (place 1 (window 9 9 9 9 ∷ []) (omega arith)) 0 ∷ Count (place 0 (window 2 0 2 1 ∷ []) (omega arith)) 0 ∷ []) (padded ∷ []) ≡ Refused NoImage ∷ Refused WindowOutside ∷ []
+  windows_refused = refl
 
   refused_changes_nothing : after_all (Put whole 3 0 9 ∷ []) (padded ∷ []) ≡ padded ∷ []
   refused_changes_nothing = refl

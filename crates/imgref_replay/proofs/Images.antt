@@ -75,6 +75,11 @@ pub record Names {T Z : Type 0} (spot : Place) (images : List (Img (Vec T Z))) (
   pub shown : l ≡ vec_layout image
   pub path_is : path ≡ spot.path.items
 
+-- the image that a list has under a place's number, with the windows of its path
+pub names_at : {T Z : Type 0} (spot : Place) (images : List (Img (Vec T Z))) (image : Img (Vec T Z)) (path : List Window) → spot.image < length images → image ≡ get_or images spot.image image
+    → path ≡ spot.path.items → Names spot images (vec_layout (get_or images spot.image image)) path
+names_at spot images image path there is path_is = record { image = image; there = there; is = is; shown = ap vec_layout (sym is); path_is = path_is }
+
 module _ {T Z : Type 0} (spot : Place) (images : List (Img (Vec T Z))) (l : Layout T) (path : List Window) (names : Names spot images l path) where
   -- its layout fits where all do
   pub named_fits : All Fits (map vec_layout images) → Fits l

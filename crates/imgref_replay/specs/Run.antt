@@ -6,13 +6,15 @@ use Rattle.image_model.specs.Grid.{grid_of}
 use Rattle.image_model.specs.Kept.{IsKept}
 use Rattle.imgref_replay.specs.Steps.{replies_to, after_all}
 use Rattle.imgref_replay.specs.declared.commands.Command.{Command}
-use Rattle.imgref_replay.specs.declared.commands.Command.TheVariants.{Get, Put}
+use Rattle.imgref_replay.specs.declared.commands.Command.TheVariants.{Get, Put, Fill, Count}
 use Rattle.imgref_replay.specs.declared.commands.Reply.{Reply}
 
 -- whether a command compacts image i
 abbrev pub compacts : {T : Type 0} → ℕ → Command T → Bool
 compacts i (Get spot x y) = false
 compacts i (Put spot x y value) = false
+compacts i (Fill spot value) = false
+compacts i (Count spot value) = false
 
 -- each image keeps its outside
 abbrev pub AllOutsidesStay : {T : Type 0} → List (Layout T) → List (Layout T) → Type 0

@@ -1,18 +1,19 @@
 -- What commands mean, on grids: replies and new grids speak of places alone, and of no cell, stride or padding.
-use Rattle.std.specs.Prelude.{ℕ, ◌+◌, Bool, not, nat_le, if◌then◌else◌, Option, Some, None, List, [], ◌∷◌, length, map, Vec, slice_set, slice_index_or, is_some}
+use Rattle.std.specs.Prelude.{ℕ, ◌+◌, Bool, not, nat_le, if◌then◌else◌, Option, Some, None, List, [], ◌∷◌, length, map, Vec, slice_set, slice_index_or, is_some, count_by}
 use Rattle.std.specs.Option.{option_map_or}
 use Rattle.image_model.specs.Grid.{Grid, grid, grid_of, is_place, patch, uniform}
+use Rattle.image_model.specs.Rows.{grid_pixels}
 use Rattle.image_model.specs.Windows.{Window, window_view, first_outside, path_window}
 use Rattle.imgref.specs.Image.{vec_layout}
 use Rattle.imgref.specs.declared.img.Img.{Img}
 use Rattle.imgref_replay.specs.Paths.{windows_of}
 use Rattle.imgref_replay.specs.declared.commands.Place.{Place}
 use Rattle.imgref_replay.specs.declared.commands.Command.{Command}
-use Rattle.imgref_replay.specs.declared.commands.Command.TheVariants.{Get, Put}
+use Rattle.imgref_replay.specs.declared.commands.Command.TheVariants.{Get, Put, Fill, Count}
 use Rattle.imgref_replay.specs.declared.commands.Refusal.{Refusal}
 use Rattle.imgref_replay.specs.declared.commands.Refusal.TheVariants.{NoImage, WindowOutside, PlaceOutside}
 use Rattle.imgref_replay.specs.declared.commands.Reply.{Reply}
-use Rattle.imgref_replay.specs.declared.commands.Reply.TheVariants.{Pixel, Done, Refused}
+use Rattle.imgref_replay.specs.declared.commands.Reply.TheVariants.{Pixel, Counted, Done, Refused}
 
 -- ---- what a place names
 
@@ -63,6 +64,8 @@ pixel_fault spot x y grids = first_fault ((lacks_image spot.image grids, NoImage
 abbrev pub fault_of : {T : Type 0} → Command T → List (Grid T) → Option Refusal
 fault_of (Get spot x y) grids = pixel_fault spot x y grids
 fault_of (Put spot x y value) grids = pixel_fault spot x y grids
+fault_of (Fill spot value) grids = window_fault spot grids
+fault_of (Count spot value) grids = window_fault spot grids
 
 -- ---- commands with no fault
 
@@ -74,11 +77,15 @@ patched_at grids i left top h = slice_set grids i (patch (grid_at grids i) left 
 abbrev pub answer : {T : Type 0} → (T → T → Bool) → Command T → List (Grid T) → Reply T
 answer eq (Get spot x y) grids = option_map_or (λ pixel. Pixel pixel) ((view_named spot grids).pixel x y) Done
 answer eq (Put spot x y value) grids = Done
+answer eq (Fill spot value) grids = Done
+answer eq (Count spot value) grids = Counted (count_by (λ pixel. eq pixel value) (grid_pixels (view_named spot grids)))
 
 -- the grids after a command with no fault
 abbrev pub effect : {T : Type 0} → Command T → List (Grid T) → List (Grid T)
 effect (Get spot x y) grids = grids
 effect (Put spot x y value) grids = let w = window_named spot grids in patched_at grids spot.image (w.left + x) (w.top + y) (uniform 1 1 value)
+effect (Fill spot value) grids = let w = window_named spot grids in patched_at grids spot.image w.left w.top (uniform w.width w.height value)
+effect (Count spot value) grids = grids
 
 -- ---- commands
 

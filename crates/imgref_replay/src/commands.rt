@@ -27,6 +27,16 @@ pub enum Command<T> {
         y: usize,
         value: T,
     },
+    /// `value` is written at every place of a window.
+    Fill {
+        spot: Place,
+        value: T,
+    },
+    /// How many pixels of a window are equal to `value`.
+    Count {
+        spot: Place,
+        value: T,
+    },
 }
 
 /// What a command answers.

@@ -1,14 +1,15 @@
 //! Lists of commands, carried out over images.
 
-ghost use Rattle.std.specs.Prelude.{◌≡◌, ◌<◌, ◌+◌, ◌∷◌, [], All, Some, None, IfOk, OnOk, OnErr, MatchResult, length, map};
+ghost use Rattle.std.specs.Prelude.{◌≡◌, ◌<◌, ◌+◌, ◌∷◌, [], All, Some, None, IfOk, OnOk, OnErr, MatchResult, length, map, count_by};
 ghost use Rattle.image_model.specs.Layout.{Fits};
 ghost use Rattle.image_model.specs.Grid.{grid_of, uniform};
+ghost use Rattle.image_model.specs.Rows.{pixels, grid_pixels};
 ghost use Rattle.imgref.specs.Image.{vec_layout, ref_layout};
 ghost use Rattle.imgref_replay.specs.Steps.{grids_of, window_named, view_named, window_fault, pixel_fault, fault_of, patched_at, answer, effect};
 ghost use Rattle.imgref_replay.specs.Run.{AllOutsidesStay, AllKept, IsRun};
 
 use crate::commands::{Command, Place, Refusal, Reply};
-use crate::window::{put_at, window_at};
+use crate::window::{fill_at, put_at, window_at};
 use imgref::{ImgRef, ImgVec};
 use std::alloc::{AllocError, Global};
 
@@ -67,6 +68,43 @@ fn put<T: Copy>(
     }
 }
 
+/// Writes the value at every place of a window.
+fn fill<T: Copy>(images: &mut [ImgVec<T>], spot: &Place, value: T) -> Result<(), Refusal>
+    requires { All Fits (map vec_layout images.old) }
+    ensures fault { MatchResult result (λ _. window_fault spot.now (grids_of images.old) ≡ None) (λ refusal. window_fault spot.now (grids_of images.old) ≡ Some refusal) }
+    ensures refused { OnErr result (images.new ≡ images.old) }
+    ensures grids { OnOk result (let w = window_named spot.now (grids_of images.old) in grids_of images.new ≡ patched_at (grids_of images.old) spot.now.image w.left w.top (uniform w.width w.height value)) }
+    ensures outside { OnOk result (AllOutsidesStay (map vec_layout images.old) (map vec_layout images.new)) }
+    ensures fits { OnOk result (All Fits (map vec_layout images.new)) }
+{
+    locate(images, spot)?;
+    fill_at(&mut images[spot.image], spot.path.as_slice(), value);
+    Ok(())
+}
+
+/// How many pixels of a fitting image are equal to the value.
+fn count_equal<T: Copy + Eq>(image: ImgRef<'_, T>, value: T) -> usize
+    requires { Fits (ref_layout image) }
+    ensures { result ≡ count_by (λ pixel. T.eq pixel value) (pixels (ref_layout image.entry)) }
+{
+    let mut count = 0;
+    for pixel in image.pixels() {
+        if pixel == value {
+            count += 1;
+        }
+    }
+    count
+}
+
+/// How many pixels of a window are equal to the value.
+fn count<T: Copy + Eq>(images: &[ImgVec<T>], spot: &Place, value: T) -> Result<usize, Refusal>
+    requires { All Fits (map vec_layout images.now) }
+    ensures fault { MatchResult result (λ _. window_fault spot.now (grids_of images.now) ≡ None) (λ refusal. window_fault spot.now (grids_of images.now) ≡ Some refusal) }
+    ensures count { IfOk result (λ count. count ≡ count_by (λ pixel. T.eq pixel value) (grid_pixels (view_named spot.now (grids_of images.now)))) }
+{
+    Ok(count_equal(locate(images, spot)?, value))
+}
+
 /// Carries out one command, or tells its first fault and changes nothing.
 fn accept<T: Copy + Eq>(images: &mut [ImgVec<T>], command: &Command<T>) -> Result<Reply<T>, Refusal>
     requires { All Fits (map vec_layout images.old) }
@@ -86,6 +124,11 @@ fn accept<T: Copy + Eq>(images: &mut [ImgVec<T>], command: &Command<T>) -> Resul
             put(images, spot, *x, *y, *value)?;
             Ok(Reply::Done)
         }
+        Command::Fill { spot, value } => {
+            fill(images, spot, *value)?;
+            Ok(Reply::Done)
+        }
+        Command::Count { spot, value } => Ok(Reply::Counted(count(images, spot, *value)?)),
     }
 }
 

@@ -95,20 +95,46 @@ fn put<T: Drop>(
     })
 }
 
+fn fill<T: Drop>(
+    alloc: Global,
+    image: usize,
+    path: &[Window],
+    value: T,
+) -> Result<Command<T>, AllocError> {
+    Ok(Command::Fill {
+        spot: place(alloc, image, path)?,
+        value,
+    })
+}
+
+fn count<T: Drop>(
+    alloc: Global,
+    image: usize,
+    path: &[Window],
+    value: T,
+) -> Result<Command<T>, AllocError> {
+    Ok(Command::Count {
+        spot: place(alloc, image, path)?,
+        value,
+    })
+}
+
 // Each of these is run once more where the first run found no memory: so a test asserts its answers also where one growth of
 // it is refused.
 
 fn one_grid_in_two_layouts(rt: &impl Abort, alloc: Global) -> Result<(), AllocError> {
     let commands = [
         put(alloc, 0, &[window(1, 1, 2, 1)], 0, 0, 9u8)?,
+        count(alloc, 0, &[], 9u8)?,
         get(alloc, 0, &[], 1, 1)?,
     ];
+    let wanted = [Reply::Done, Reply::Counted(1), Reply::Pixel(9u8)];
     let mut padded = [image(alloc, &A, 3, 2, 4)?];
     let mut packed = [image(alloc, &[1u8, 2, 3, 5, 6, 7], 3, 2, 3)?];
     let of_padded = replay(alloc, &mut padded, &commands)?;
     let of_packed = replay(alloc, &mut packed, &commands)?;
-    assert!(rt; of_padded.as_slice() == [Reply::Done, Reply::Pixel(9u8)].as_slice());
-    assert!(rt; of_packed.as_slice() == [Reply::Done, Reply::Pixel(9u8)].as_slice());
+    assert!(rt; of_padded.as_slice() == wanted.as_slice());
+    assert!(rt; of_packed.as_slice() == wanted.as_slice());
     assert_eq!(rt;
         padded[0].buf().as_slice(),
         [1u8, 2, 3, 4, 5, 9, 7, 8, 9].as_slice()
@@ -147,6 +173,119 @@ fn padding_survives_put(rt: &impl Abort, alloc: Global) -> Result<(), AllocError
         images[0].buf().as_slice(),
         [0u8, 0, 0, 4, 0, 0, 0, 8, 9].as_slice()
     );
+    Ok(())
+}
+
+fn padding_survives_fill(rt: &impl Abort, alloc: Global) -> Result<(), AllocError> {
+    let commands = [
+        fill(alloc, 0, &[window(1, 0, 2, 2)], 0u8)?,
+        count(alloc, 0, &[], 0u8)?,
+    ];
+    let wanted = [Reply::Done, Reply::Counted(4)];
+    let mut padded = [image(alloc, &A, 3, 2, 4)?];
+    let mut packed = [image(alloc, &[1u8, 2, 3, 5, 6, 7], 3, 2, 3)?];
+    let of_padded = replay(alloc, &mut padded, &commands)?;
+    let of_packed = replay(alloc, &mut packed, &commands)?;
+    assert!(rt; of_padded.as_slice() == wanted.as_slice());
+    assert!(rt; of_packed.as_slice() == wanted.as_slice());
+    assert_eq!(rt;
+        padded[0].buf().as_slice(),
+        [1u8, 0, 0, 4, 5, 0, 0, 8, 9].as_slice()
+    );
+    assert_eq!(rt; packed[0].buf().as_slice(), [1u8, 0, 0, 5, 0, 0].as_slice());
+    Ok(())
+}
+
+fn fills_and_counts_nested(rt: &impl Abort, alloc: Global) -> Result<(), AllocError> {
+    let path = [window(1, 0, 2, 2), window(1, 0, 1, 2)];
+    let commands = [
+        count(alloc, 0, &path, 7u8)?,
+        count(alloc, 0, &path, 6u8)?,
+        fill(alloc, 0, &path, 6u8)?,
+        count(alloc, 0, &path, 6u8)?,
+        count(alloc, 0, &[], 6u8)?,
+    ];
+    let mut images = [image(alloc, &A, 3, 2, 4)?];
+    let replies = replay(alloc, &mut images, &commands)?;
+    assert!(rt;
+        replies.as_slice()
+            == [
+                Reply::Counted(1),
+                Reply::Counted(0),
+                Reply::Done,
+                Reply::Counted(2),
+                Reply::Counted(3)
+            ]
+            .as_slice()
+    );
+    assert_eq!(rt;
+        images[0].buf().as_slice(),
+        [1u8, 2, 6, 4, 5, 6, 6, 8, 9].as_slice()
+    );
+    Ok(())
+}
+
+fn empty_windows(rt: &impl Abort, alloc: Global) -> Result<(), AllocError> {
+    let right = [window(3, 0, 0, 2)];
+    let below = [window(0, 2, 3, 0)];
+    let corner = [window(1, 1, 2, 1), window(2, 1, 0, 0)];
+    let mut commands = Vec::new(alloc);
+    let mut wanted = Vec::new(alloc);
+    for path in [right.as_slice(), below.as_slice(), corner.as_slice()] {
+        commands.push(count(alloc, 0, path, 0u8)?)?;
+        commands.push(fill(alloc, 0, path, 0u8)?)?;
+        wanted.push(Reply::Counted(0))?;
+        wanted.push(Reply::Done)?;
+    }
+    let mut images = [image(alloc, &A, 3, 2, 4)?];
+    let replies = replay(alloc, &mut images, &commands)?;
+    assert!(rt; replies.as_slice() == wanted.as_slice());
+    assert_eq!(rt; images[0].buf().as_slice(), A.as_slice());
+    Ok(())
+}
+
+fn greatest_stride(rt: &impl Abort, alloc: Global) -> Result<(), AllocError> {
+    let commands = [
+        count(alloc, 0, &[], 2u8)?,
+        fill(alloc, 0, &[], 7u8)?,
+        count(alloc, 0, &[], 7u8)?,
+    ];
+    let mut one_row = [image(alloc, &[1u8, 2, 3], 2, 1, GREATEST)?];
+    let of_row = replay(alloc, &mut one_row, &commands)?;
+    assert!(rt;
+        of_row.as_slice() == [Reply::Counted(1), Reply::Done, Reply::Counted(2)].as_slice()
+    );
+    assert_eq!(rt; one_row[0].buf().as_slice(), [7u8, 7, 3].as_slice());
+    let mut no_row = [image(alloc, &[1u8], 3, 0, GREATEST)?];
+    let of_none = replay(alloc, &mut no_row, &commands)?;
+    assert!(rt;
+        of_none.as_slice() == [Reply::Counted(0), Reply::Done, Reply::Counted(0)].as_slice()
+    );
+    assert_eq!(rt; no_row[0].buf().as_slice(), [1u8].as_slice());
+    Ok(())
+}
+
+fn refused_windows(rt: &impl Abort, alloc: Global) -> Result<(), AllocError> {
+    let greatest = [window(GREATEST, GREATEST, GREATEST, GREATEST)];
+    let nested = [window(0, 0, 2, 2), window(1, 0, 2, 1)];
+    let spots = [
+        (1, greatest.as_slice(), Refusal::NoImage),
+        (GREATEST, &[], Refusal::NoImage),
+        (0, greatest.as_slice(), Refusal::WindowOutside),
+        (0, nested.as_slice(), Refusal::WindowOutside),
+    ];
+    let mut commands = Vec::new(alloc);
+    let mut wanted = Vec::new(alloc);
+    for (number, path, refusal) in spots.iter() {
+        commands.push(fill(alloc, *number, *path, 0u8)?)?;
+        commands.push(count(alloc, *number, *path, 1u8)?)?;
+        wanted.push(Reply::Refused(*refusal))?;
+        wanted.push(Reply::Refused(*refusal))?;
+    }
+    let mut images = [image(alloc, &A, 3, 2, 4)?];
+    let replies = replay(alloc, &mut images, &commands)?;
+    assert!(rt; replies.as_slice() == wanted.as_slice());
+    assert_eq!(rt; images[0].buf().as_slice(), A.as_slice());
     Ok(())
 }
 
@@ -210,20 +349,35 @@ fn other_pixels(rt: &impl Abort, alloc: Global) -> Result<(), AllocError> {
         put(alloc, 0, &[], 1, 1, SAND)?,
         get(alloc, 0, &[], 1, 1)?,
         get(alloc, 0, &[], 0, 1)?,
+        count(alloc, 0, &[], SKY)?,
+        fill(alloc, 0, &[window(0, 0, 2, 1)], SAND)?,
+        count(alloc, 0, &[], SAND)?,
     ];
     let mut painted = [image(alloc, &[SKY; 5], 2, 2, 3)?];
     let colours = replay(alloc, &mut painted, &paint)?;
     assert!(rt;
-        colours.as_slice() == [Reply::Done, Reply::Pixel(SAND), Reply::Pixel(SKY)].as_slice()
+        colours.as_slice()
+            == [
+                Reply::Done,
+                Reply::Pixel(SAND),
+                Reply::Pixel(SKY),
+                Reply::Counted(3),
+                Reply::Done,
+                Reply::Counted(3)
+            ]
+            .as_slice()
     );
     assert_eq!(rt;
         painted[0].buf().as_slice(),
-        [SKY, SKY, SKY, SKY, SAND].as_slice()
+        [SAND, SAND, SKY, SKY, SAND].as_slice()
     );
     let touch = [
         put(alloc, 0, &[], 1, 1, ())?,
         get(alloc, 0, &[], 1, 1)?,
         get(alloc, 0, &[], 2, 1)?,
+        count(alloc, 0, &[], ())?,
+        fill(alloc, 0, &[window(1, 0, 1, 2)], ())?,
+        count(alloc, 0, &[window(1, 0, 1, 2)], ())?,
     ];
     let mut blank = [image(alloc, &[(); 5], 2, 2, 3)?];
     let units = replay(alloc, &mut blank, &touch)?;
@@ -232,10 +386,14 @@ fn other_pixels(rt: &impl Abort, alloc: Global) -> Result<(), AllocError> {
             == [
                 Reply::Done,
                 Reply::Pixel(()),
-                Reply::Refused(Refusal::PlaceOutside)
+                Reply::Refused(Refusal::PlaceOutside),
+                Reply::Counted(4),
+                Reply::Done,
+                Reply::Counted(2)
             ]
             .as_slice()
     );
+    assert_eq!(rt; blank[0].buf().len(), 5);
     Ok(())
 }
 
@@ -266,6 +424,34 @@ fn a_path_leads_to_the_summed_place(rt: HostRuntime) -> Result<(), Fail> {
 #[test]
 fn padding_stays_as_it_is(rt: HostRuntime) -> Result<(), Fail> {
     Ok(padding_survives_put(&rt, rt.alloc()).or_else(|_| padding_survives_put(&rt, rt.alloc()))?)
+}
+
+#[test]
+fn padding_stays_as_windows_are_filled(rt: HostRuntime) -> Result<(), Fail> {
+    Ok(padding_survives_fill(&rt, rt.alloc()).or_else(|_| padding_survives_fill(&rt, rt.alloc()))?)
+}
+
+#[test]
+fn a_path_is_filled_and_counted(rt: HostRuntime) -> Result<(), Fail> {
+    Ok(fills_and_counts_nested(&rt, rt.alloc()).or_else(|_| fills_and_counts_nested(
+        &rt,
+        rt.alloc(),
+    ))?)
+}
+
+#[test]
+fn an_empty_window_has_no_pixel(rt: HostRuntime) -> Result<(), Fail> {
+    Ok(empty_windows(&rt, rt.alloc()).or_else(|_| empty_windows(&rt, rt.alloc()))?)
+}
+
+#[test]
+fn the_greatest_stride_is_walked(rt: HostRuntime) -> Result<(), Fail> {
+    Ok(greatest_stride(&rt, rt.alloc()).or_else(|_| greatest_stride(&rt, rt.alloc()))?)
+}
+
+#[test]
+fn a_refused_window_changes_nothing(rt: HostRuntime) -> Result<(), Fail> {
+    Ok(refused_windows(&rt, rt.alloc()).or_else(|_| refused_windows(&rt, rt.alloc()))?)
 }
 
 #[test]

@@ -10,7 +10,7 @@ ghost use Rattle.imgref.specs.Image.{buf_of, width_of, height_of, stride_of, wit
 ghost use Rattle.imgref.specs.contracts.img.Img.{the_row};
 ghost use Rattle.imgref_replay.specs.Paths.{BeginsAtCorner, window_of, windows_of, stretch_of, path_region, name_of};
 
-use imgref::{AsMutSlice, AsSlice, Img, ImgRef, ImgRefMut, ImgVec};
+use imgref::{AsMutSlice, AsSlice, Img, ImgRef, ImgRefMut, ImgVec, fill_pixels};
 
 /// A window of an image or of another window: its corner and its size, in pixels.
 #[derive(Clone, Copy, PartialEq, Eq)]
@@ -217,6 +217,20 @@ pub(crate) fn put_at<T: Copy>(image: &mut ImgVec<T>, path: &[Window], x: usize, 
     let _stride = image.stride();
     let (cells, width, height, stride) = window_parts_at(image, path);
     put_in(cells, width, height, stride, x, y, value);
+}
+
+/// Writes `value` at every place of the window that a path inside leads to.
+pub(crate) fn fill_at<T: Copy>(image: &mut ImgVec<T>, path: &[Window], value: T)
+    requires fits { Fits (vec_layout image.old) }
+    requires inside { first_outside (width_of image.old) (height_of image.old) (windows_of path.now) ≡ None }
+    ensures grid { grid_of (vec_layout image.new) ≡ patch (grid_of (vec_layout image.old)) (corner_left (windows_of path.now)) (corner_top (windows_of path.now)) (uniform (path_width (width_of image.old) (windows_of path.now)) (path_height (height_of image.old) (windows_of path.now)) value) }
+    ensures outside { SameOutside (vec_layout image.old) (vec_layout image.new) }
+    ensures fits { Fits (vec_layout image.new) }
+{
+    // Tells that the image's width is within it.
+    let _stride = image.stride();
+    let (cells, width, height, stride) = window_parts_at(image, path);
+    fill_pixels(cells, width, height, stride, value);
 }
 
 /// Writes `value` at column `x` of row `y` of the image that the cells make.

@@ -2,12 +2,12 @@
 use Rattle.std.proofs.Common.{◌≡◌, ℕ, cond, List, [], ◌∷◌, Some, None, refl, ap, subst, ◌∙◌, arith}
 use Rattle.std.specs.Prelude.{codes}
 use Rattle.std.specs.Fmt.{decimal}
-use Rattle.imgref_run.specs.Values.{Spot, Order, get, put}
+use Rattle.imgref_run.specs.Values.{Spot, Order, get, put, fill, count}
 use Rattle.imgref_run.specs.Text.{path_text, spot_fields, order_fields}
 use Rattle.imgref_run.specs.Ranges.{IsWord, IsPixel, IsPath, IsSpot, IsOrder}
-use Rattle.imgref_run.specs.Reading.{◌>>=◌, is_nil, number_of, number_at, path_of, path_at, pixel_of, pixel_at, spot_at, get_in, put_in}
+use Rattle.imgref_run.specs.Reading.{◌>>=◌, is_nil, number_of, number_at, path_of, path_at, pixel_of, pixel_at, spot_at, get_in, put_in, spot_and_pixel, fill_in, count_in}
 use Rattle.imgref_run.proofs.Lacking.{AllLack, lacks-decimal}
-use Rattle.imgref_run.proofs.Options.{bind_some, guard_some, some_is, nil_is}
+use Rattle.imgref_run.proofs.Options.{bind_some, map_some, guard_some, some_is, nil_is}
 use Rattle.imgref_run.proofs.Fields.{first_is, first_back, then, number_law, pixel_law, path_law, lacks-path}
 
 -- ---- spots
@@ -84,10 +84,53 @@ put_back s x y value is =
       first_back pixel_of decimal IsPixel pixel_law value [] is.3,
     ) refl
 
+-- ---- the commands of a window and a pixel
+
+-- the fields are those of a spot and of a pixel
+abbrev IsSpotAndPixel : List (List ℕ) → Spot × ℕ → Type 0
+IsSpotAndPixel fields p = (fields ≡ spot_fields p.0 (decimal p.1 ∷ [])) × (IsSpot p.0 × IsPixel p.1)
+
+spot_and_pixel_is : (fields : List (List ℕ)) (p : Spot × ℕ) → spot_and_pixel fields ≡ Some p → IsSpotAndPixel fields p
+unfolding spot_and_pixel
+spot_and_pixel_is fields p e =
+    let a = bind_some (spot_at fields) (λ spot. pixel_at spot.1 >>= λ value. cond (is_nil value.1) (Some (spot.0, value.0)) None) p e in
+    let b = bind_some (pixel_at a.0.1) (λ value. cond (is_nil value.1) (Some (a.0.0, value.0)) None) p a.2 in
+    let end = guard_some (is_nil b.0.1) (a.0.0, b.0.0) p b.2 in
+    let at = spot_is fields a.0 a.1 in
+    let bt = first_is pixel_of decimal IsPixel pixel_law a.0.1 b.0 b.1 in
+    let whole = then_spot fields _ _ _ at.0 (then a.0.1 _ _ _ bt.0 (nil_is b.0.1 end.0)) in
+    subst (IsSpotAndPixel fields) end.1 (whole, (at.1, bt.1))
+
+spot_and_pixel_back : (s : Spot) (value : ℕ) → IsSpot s → IsPixel value → spot_and_pixel (spot_fields s (decimal value ∷ [])) ≡ Some (s, value)
+unfolding spot_and_pixel
+spot_and_pixel_back s value is_spot is_pixel =
+    rw (spot_back s (decimal value ∷ []) is_spot, first_back pixel_of decimal IsPixel pixel_law value [] is_pixel) refl
+
+pub fill_is : (fields : List (List ℕ)) (o : Order) → fill_in fields ≡ Some o → (codes "fill" ∷ fields ≡ order_fields o) × IsOrder o
+fill_is fields o e =
+    let m = map_some (spot_and_pixel fields) (λ p. fill p.0 p.1) o e in
+    let l = spot_and_pixel_is fields m.0 m.1 in
+    subst (λ (v : Order). (codes "fill" ∷ fields ≡ order_fields v) × IsOrder v) m.2 (ap (λ (l : List (List ℕ)). codes "fill" ∷ l) l.0, l.1)
+
+pub fill_back : (s : Spot) (value : ℕ) → IsOrder (fill s value) → fill_in (spot_fields s (decimal value ∷ [])) ≡ Some (fill s value)
+fill_back s value is = rw (spot_and_pixel_back s value is.0 is.1) refl
+
+pub count_is : (fields : List (List ℕ)) (o : Order) → count_in fields ≡ Some o → (codes "count" ∷ fields ≡ order_fields o) × IsOrder o
+count_is fields o e =
+    let m = map_some (spot_and_pixel fields) (λ p. count p.0 p.1) o e in
+    let l = spot_and_pixel_is fields m.0 m.1 in
+    subst (λ (v : Order). (codes "count" ∷ fields ≡ order_fields v) × IsOrder v) m.2 (ap (λ (l : List (List ℕ)). codes "count" ∷ l) l.0, l.1)
+
+pub count_back : (s : Spot) (value : ℕ) → IsOrder (count s value) → count_in (spot_fields s (decimal value ∷ [])) ≡ Some (count s value)
+count_back s value is = rw (spot_and_pixel_back s value is.0 is.1) refl
+
 -- ---- no field of a command has a space
 
 lacks-spot : (s : Spot) (rest : List (List ℕ)) → IsSpot s → AllLack 32 rest → AllLack 32 (spot_fields s rest)
 lacks-spot s rest is more = (lacks-decimal 32 s.image (omega arith) is.image, (lacks-path s.path is.path, more))
+
+lacks-spot_and_pixel : (s : Spot) (value : ℕ) → IsSpot s → IsPixel value → AllLack 32 (spot_fields s (decimal value ∷ []))
+lacks-spot_and_pixel s value is_spot is_pixel = lacks-spot s (decimal value ∷ []) is_spot (lacks-decimal 32 value (omega arith) (omega (arith, is_pixel)), tt)
 
 pub lacks-order : (o : Order) → IsOrder o → AllLack 32 (order_fields o)
 lacks-order (get s x y) is =
@@ -97,3 +140,5 @@ lacks-order (put s x y value) is = (
   lacks-spot s (decimal x ∷ decimal y ∷ decimal value ∷ []) is.0
       (lacks-decimal 32 x (omega arith) is.1, (lacks-decimal 32 y (omega arith) is.2, (lacks-decimal 32 value (omega arith) (omega (arith, is.3)), tt))),
 )
+lacks-order (fill s value) is = (refl, lacks-spot_and_pixel s value is.0 is.1)
+lacks-order (count s value) is = (refl, lacks-spot_and_pixel s value is.0 is.1)

@@ -3,7 +3,7 @@ use Rattle.std.specs.Prelude.{◌≡◌, ℕ, ◌<◌, ◌≤◌, ◌^◌, List}
 use Rattle.std.specs.List.{AllByRecursion}
 use Rattle.image_model.specs.Layout.{Layout, Fits}
 use Rattle.imgref_replay.specs.declared.window.Window.{Window}
-use Rattle.imgref_run.specs.Values.{Spot, Order, get, put, Entry, image_line, order_line}
+use Rattle.imgref_run.specs.Values.{Spot, Order, get, put, fill, count, Entry, image_line, order_line}
 use Rattle.imgref_run.specs.Text.{entry_text}
 
 -- a number that a field may hold
@@ -31,6 +31,8 @@ pub record IsSpot (s : Spot) : Type 0 where
 abbrev pub IsOrder : Order → Type 0
 IsOrder (get spot x y) = IsSpot spot × IsWord x × IsWord y
 IsOrder (put spot x y value) = IsSpot spot × IsWord x × IsWord y × IsPixel value
+IsOrder (fill spot value) = IsSpot spot × IsPixel value
+IsOrder (count spot value) = IsSpot spot × IsPixel value
 
 -- an image that a script may hold: it fits, with a stride of at least 1 and of at least its width
 pub record IsImage (i : Layout ℕ) : Type 0 where

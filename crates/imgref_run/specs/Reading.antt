@@ -5,7 +5,7 @@ use Rattle.std.specs.Str.{all_ascii_digits, bytes_eq}
 use Rattle.std.specs.Str.Parse.{digits_value}
 use Rattle.image_model.specs.Layout.{Layout, layout, is_fitting}
 use Rattle.imgref_replay.specs.declared.window.Window.{Window}
-use Rattle.imgref_run.specs.Values.{Spot, Order, get, put, Entry, image_line, order_line}
+use Rattle.imgref_run.specs.Values.{Spot, Order, get, put, fill, count, Entry, image_line, order_line}
 use Rattle.imgref_run.specs.Script.{parts_of}
 
 infixl 10 ◌>>=◌
@@ -96,6 +96,21 @@ put_in fields = do
   value ← pixel_at y.1
   if is_nil value.1 then Some (put spot.0 x.0 y.0 value.0) else None
 
+-- a spot and a pixel, and no field more
+unfoldable pub spot_and_pixel : List (List ℕ) → Option (Spot × ℕ)
+spot_and_pixel fields = do
+  spot ← spot_at fields
+  value ← pixel_at spot.1
+  if is_nil value.1 then Some (spot.0, value.0) else None
+
+-- the fields of a `fill` after its word
+abbrev pub fill_in : List (List ℕ) → Option Order
+fill_in fields = option_map (λ p. fill p.0 p.1) (spot_and_pixel fields)
+
+-- the fields of a `count` after its word
+abbrev pub count_in : List (List ℕ) → Option Order
+count_in fields = option_map (λ p. count p.0 p.1) (spot_and_pixel fields)
+
 -- whether the sizes are in range and the layout fits
 abbrev pub is_sized : Layout ℕ → Bool
 is_sized i = nat_le i.width 4294967295 && (nat_le i.height 4294967295 && (nat_le 1 i.stride && (nat_le i.width i.stride && is_fitting i)))
@@ -116,4 +131,6 @@ line_in [] = None
 line_in (word ∷ fields) =
     if bytes_eq word (codes "image") then option_map image_line (image_in fields)
     else (if bytes_eq word (codes "get") then option_map order_line (get_in fields)
-    else (if bytes_eq word (codes "put") then option_map order_line (put_in fields) else None))
+    else (if bytes_eq word (codes "put") then option_map order_line (put_in fields)
+    else (if bytes_eq word (codes "fill") then option_map order_line (fill_in fields)
+    else (if bytes_eq word (codes "count") then option_map order_line (count_in fields) else None))))

@@ -4,7 +4,7 @@ use Rattle.std.specs.List.{join_with_byte}
 use Rattle.std.specs.Fmt.{decimal}
 use Rattle.image_model.specs.Layout.{Layout}
 use Rattle.imgref_replay.specs.declared.window.Window.{Window}
-use Rattle.imgref_run.specs.Values.{Spot, Order, get, put, Entry, image_line, order_line}
+use Rattle.imgref_run.specs.Values.{Spot, Order, get, put, fill, count, Entry, image_line, order_line}
 
 -- a window is four numbers joined by commas
 unfoldable pub window_text : Window → List ℕ
@@ -23,6 +23,8 @@ spot_fields s more = decimal s.image ∷ path_text s.path ∷ more
 abbrev pub order_fields : Order → List (List ℕ)
 order_fields (get spot x y) = codes "get" ∷ spot_fields spot (decimal x ∷ decimal y ∷ [])
 order_fields (put spot x y value) = codes "put" ∷ spot_fields spot (decimal x ∷ decimal y ∷ decimal value ∷ [])
+order_fields (fill spot value) = codes "fill" ∷ spot_fields spot (decimal value ∷ [])
+order_fields (count spot value) = codes "count" ∷ spot_fields spot (decimal value ∷ [])
 
 -- an image's word and its sizes
 abbrev pub sizes_fields : Layout ℕ → List (List ℕ)

@@ -4,7 +4,7 @@ use Rattle.image_model.specs.Layout.{Layout}
 use Rattle.imgref_replay.specs.declared.window.Window.{Window}
 use Rattle.imgref_replay.specs.declared.commands.Place.{Place}
 use Rattle.imgref_replay.specs.declared.commands.Command.{Command}
-use Rattle.imgref_replay.specs.declared.commands.Command.TheVariants.{Get, Put}
+use Rattle.imgref_replay.specs.declared.commands.Command.TheVariants.{Get, Put, Fill, Count}
 
 -- an image's number and a path of windows
 pub record Spot : Type 0 where
@@ -15,6 +15,8 @@ pub record Spot : Type 0 where
 pub data Order : Type 0 where
   get : Spot → ℕ → ℕ → Order
   put : Spot → ℕ → ℕ → ℕ → Order
+  fill : Spot → ℕ → Order
+  count : Spot → ℕ → Order
 
 -- what a line stands for
 pub data Entry : Type 0 where
@@ -29,3 +31,5 @@ spot_of p = record { image = p.image; path = p.path.items }
 abbrev pub order_of : Command ℕ → Order
 order_of (Get spot x y) = get (spot_of spot) x y
 order_of (Put spot x y value) = put (spot_of spot) x y value
+order_of (Fill spot value) = fill (spot_of spot) value
+order_of (Count spot value) = count (spot_of spot) value

@@ -7,7 +7,7 @@ ghost use Rattle.imgref_run.specs.Ranges.{IsEntry, IsLineOf};
 ghost use Rattle.imgref_run.specs.Text.{entry_text};
 ghost use Rattle.imgref_run.specs.Script.{parts_of};
 ghost use Rattle.imgref_run.specs.Held.{entry_of};
-ghost use Rattle.imgref_run.specs.Reading.{each_of, pixel_of, pixel_at, window_of, path_of, path_at, spot_at, get_in, put_in, image_in, line_in};
+ghost use Rattle.imgref_run.specs.Reading.{each_of, pixel_of, pixel_at, window_of, path_of, path_at, spot_at, get_in, put_in, spot_and_pixel, fill_in, count_in, image_in, line_in};
 ghost use Rattle.imgref_run.specs.Parts.{parts_left};
 ghost use Rattle.imgref_run.specs.Gives.{Gives};
 
@@ -153,6 +153,32 @@ fn read_put(alloc: Global, fields: &mut Parts<'_>) -> Result<Command<u8>, LineFa
     Ok(Command::Put { spot, x, y, value })
 }
 
+#[tactic(auto, unfolding(crate::specs::Reading::spot_and_pixel))]
+fn spot_and_pixel(alloc: Global, fields: &mut Parts<'_>) -> Result<(Place, u8), LineFault>
+    ensures { Gives (λ p. (spot_of p.0, p.1)) result (spot_and_pixel (parts_left fields.old)) }
+{
+    let spot = next_spot(alloc, fields)?;
+    let value = next_pixel(fields)?;
+    if !fields.is_done() {
+        return Err(LineFault::Bad);
+    }
+    Ok((spot, value))
+}
+
+fn read_fill(alloc: Global, fields: &mut Parts<'_>) -> Result<Command<u8>, LineFault>
+    ensures { Gives order_of result (fill_in (parts_left fields.old)) }
+{
+    let (spot, value) = spot_and_pixel(alloc, fields)?;
+    Ok(Command::Fill { spot, value })
+}
+
+fn read_count(alloc: Global, fields: &mut Parts<'_>) -> Result<Command<u8>, LineFault>
+    ensures { Gives order_of result (count_in (parts_left fields.old)) }
+{
+    let (spot, value) = spot_and_pixel(alloc, fields)?;
+    Ok(Command::Count { spot, value })
+}
+
 // The value that the line is the text of, read field by field.
 #[tactic(auto, unfolding(crate::specs::Reading::line_in))]
 fn parse(alloc: Global, text: &[u8]) -> Result<Line, LineFault>
@@ -168,6 +194,12 @@ fn parse(alloc: Global, text: &[u8]) -> Result<Line, LineFault>
     }
     if word == b"put".as_slice() {
         return Ok(Line::Command(read_put(alloc, &mut fields)?));
+    }
+    if word == b"fill".as_slice() {
+        return Ok(Line::Command(read_fill(alloc, &mut fields)?));
+    }
+    if word == b"count".as_slice() {
+        return Ok(Line::Command(read_count(alloc, &mut fields)?));
     }
     Err(LineFault::Bad)
 }

@@ -159,6 +159,26 @@ fn good_scripts_are_run(rt: HostRuntime) {
             "image 1 1 1 5\nput 0 - 1 0 9\nput 0 - 0 0 9",
             "refused 3\ndone\nimage 1 1 1 9\n",
         ),
+        (
+            "image 3 2 4 1 2 3 4 5 6 7 8 9\nfill 0 1,0,2,2 0\ncount 0 - 0\n",
+            "done\ncount 4\nimage 3 2 4 1 0 0 4 5 0 0 8 9\n",
+        ),
+        (
+            "image 3 2 4 1 2 3 4 5 6 7 8 9\ncount 0 1,0,2,2/1,0,1,2 7\nfill 0 1,0,2,2/1,0,1,2 255",
+            "count 1\ndone\nimage 3 2 4 1 2 255 4 5 6 255 8 9\n",
+        ),
+        (
+            "image 1 1 18446744073709551615 5\nfill 0 - 7",
+            "done\nimage 1 1 18446744073709551615 7\n",
+        ),
+        (
+            "image 2 1 2 1 1\ncount 0 - 1\ncount 0 0,0,0,1 1",
+            "count 2\ncount 0\nimage 2 1 2 1 1\n",
+        ),
+        (
+            "image 2 1 2 1 1\nfill 0 2,0,0,1 9\nfill 0 2,0,1,1 9\ncount 1 9,9,9,9 9",
+            "done\nrefused 2\nrefused 1\nimage 2 1 2 1 1\n",
+        ),
     ];
     for (script, output) in scripts {
         expect_run(&rt, rt.alloc(), script, None, output);
@@ -206,6 +226,18 @@ fn bad_second_lines_are_named(rt: HostRuntime) -> Result<(), Fail> {
         "get 0 - 0 0 0",
         "put 0 - 0 0 256",
         "put 0 - 0 0",
+        "fill 0 - 256",
+        "fill 0 -",
+        "fill 0 7",
+        "fill 0 - 7 7",
+        "fill 0 - 07",
+        "fill",
+        "Fill 0 - 7",
+        "count 0 - 256",
+        "count 0 -",
+        "count 0 - 5 0 0",
+        "count 0 0,0,1 5",
+        "counted 0 - 5",
         "compact 0 0",
         "image 1 1 0 5",
         "image 2 1 1 5 6",

@@ -3,7 +3,7 @@ use Rattle.image_model.specs.Grid.{patch, uniform, grid_of}
 use Rattle.image_model.specs.Windows.{corner_left, corner_top, path_view}
 use Rattle.imgref.specs.Image.{vec_layout, ref_layout}
 use Rattle.imgref_replay.specs.Paths.{windows_of}
-use Rattle.imgref_replay.proofs.Images.{Names, named_fits, named_inside, named_view, named_change, fits_set, outsides_set}
+use Rattle.imgref_replay.proofs.Images.{names_at, named_fits, named_inside, named_view, named_change, fits_set, outsides_set}
 use Rattle.imgref_replay.proofs.runs.put.Goals as goal
 
 pub put_at-requires : goal.put_at-requires
@@ -11,8 +11,7 @@ put_at-requires g c =
     let spot = c.args.spot.now in
     let images = c.args.images.now in
     let l = vec_layout (get_or images spot.image c.index-images-spot.result) in
-    let names : Names spot images l c.as_slice.result.now =
-    record { image = c.index-images-spot.result; there = c.in_ok-window.ensures.image; is = c.index-images-spot.is; shown = ap vec_layout (sym c.index-images-spot.is); path_is = c.as_slice.ensures.value } in
+    let names = names_at spot images c.index-images-spot.result c.as_slice.result.now c.in_ok-window.ensures.image c.index-images-spot.is c.as_slice.ensures.value in
     let seen : grid_of (ref_layout c.in_ok-window.window) ≡ path_view (grid_of l) (windows_of c.as_slice.result.now) = c.in_ok-window.ensures.view ∙ sym (named_view spot images l c.as_slice.result.now names) in
     record {
       fits = named_fits spot images l c.as_slice.result.now names c.requires;
@@ -26,8 +25,7 @@ returns-then-y-height-clause-grids g c =
     let spot = c.args.spot.now in
     let images = c.args.images.now in
     let l = vec_layout (get_or images spot.image c.index-images-spot.result) in
-    let names : Names spot images l c.as_slice.result.now =
-    record { image = c.index-images-spot.result; there = c.in_ok-window.ensures.image; is = c.index-images-spot.is; shown = ap vec_layout (sym c.index-images-spot.is); path_is = c.as_slice.ensures.value } in
+    let names = names_at spot images c.index-images-spot.result c.as_slice.result.now c.in_ok-window.ensures.image c.index-images-spot.is c.as_slice.ensures.value in
     named_change spot images l c.as_slice.result.now names
     (λ ws h. patch h (corner_left (windows_of ws) + c.args.x) (corner_top (windows_of ws) + c.args.y) (uniform 1 1 c.args.value)) c.put_at.new.image c.put_at.ensures.grid
 
