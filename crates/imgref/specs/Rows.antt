@@ -27,7 +27,7 @@ after_last l = record l { count = l.count - 1 }
 
 module _ {T : Type 0} where
   -- the rows that an iterator still gives, for reading: those of the cells that it still holds
-  abbrev pub refs_left : RowsIter T → List (List T)
+  unfoldable pub refs_left : RowsIter T → List (List T)
   refs_left s = rows (layout s.cells.now s.width s.count s.stride)
 
   -- the cells that an iterator still holds
