@@ -27,7 +27,7 @@ after_last l = record l { count = l.count - 1 }
 
 module _ {T : Type 0} where
   -- the rows that an iterator still gives, for reading: those of the cells that it still holds
-  abbrev pub refs_left : RowsIter T → List (List T)
+  unfoldable pub refs_left : RowsIter T → List (List T)
   refs_left s = rows (layout s.cells.now s.width s.count s.stride)
 
   -- the cells that an iterator still holds
@@ -43,7 +43,7 @@ module _ {T : Type 0} where
   lines_left s = record { skip = s.skip; count = s.count; width = s.width; stride = s.stride }
 
   -- the rows that an iterator still gives, for writing
-  abbrev pub muts_left : RowsIterMut T → List (List T)
+  unfoldable pub muts_left : RowsIterMut T → List (List T)
   muts_left s = rows (layout (drop s.skip (cells_left s)) s.width s.count s.stride)
 
   -- the cells before the next row

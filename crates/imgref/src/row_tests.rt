@@ -1,9 +1,10 @@
 ghost use Rattle.std.specs.Prelude.{◌≡◌, ◌^◌, ◌<◌, ◌↔◌, IsTrue, All, length, slice_index};
 ghost use Rattle.image_model.specs.Layout.{Fits};
-ghost use Rattle.image_model.specs.Rows.{rows, row_count};
+ghost use Rattle.image_model.specs.Rows.{row_count};
+ghost use Rattle.imgref.specs.Rows.{refs_left};
 ghost use Rattle.imgref.specs.Image.{width_of, height_of, ref_layout, mut_layout, vec_layout};
 
-use crate::{Img, ImgRef, ImgRefMut, ImgVec};
+use crate::{Img, ImgRef, ImgRefMut, ImgVec, RowsIter};
 use std::alloc::{AllocError, Global};
 use std::iter::{ExactSizeIterator, FusedIterator};
 use std::test::Fail;
@@ -26,7 +27,14 @@ fn count_from_the_end(image: ImgRef<'_, u8>) -> usize
     requires { Fits (ref_layout image) }
     ensures { result ≡ row_count (width_of image.entry) (height_of image.entry) }
 {
-    image.rows().fuse().rev().count()
+    image.rows().rev().count()
+}
+
+fn count_fused(image: ImgRef<'_, u8>) -> usize
+    requires { Fits (ref_layout image) }
+    ensures { result ≡ row_count (width_of image.entry) (height_of image.entry) }
+{
+    image.rows().fuse().count()
 }
 
 fn count_for_writing(image: &mut ImgVec<u8>) -> usize
@@ -36,11 +44,11 @@ fn count_for_writing(image: &mut ImgVec<u8>) -> usize
     image.rows_mut().rev().count()
 }
 
-fn all_rows_begin_with(image: ImgRef<'_, u8>, value: u8) -> bool
-    requires { Fits (ref_layout image) }
-    ensures { IsTrue result ↔ All (λ row. (0 < length row) × (slice_index row 0 ≡ value)) (rows (ref_layout image.entry)) }
+fn all_start_at(rows: RowsIter<'_, u8>, value: u8) -> bool
+    ensures { IsTrue result ↔ All (λ row. (0 < length row) × (slice_index row 0 ≡ value)) (refs_left rows.entry) }
 {
-    image.rows().all(|row| row.len() > 0 && row[0] == value)
+    let mut rows = rows;
+    rows.all(|row| row.len() > 0 && row[0] == value)
 }
 
 // And from a loop: each row is as long as the image is wide.
@@ -55,22 +63,15 @@ fn sum_of_last_column(image: ImgRef<'_, u8>) -> u64
     sum
 }
 
-// The rows of a window, counted in each direction, and its first cell.
-fn counts_and_first(window: &mut ImgRefMut<'_, u8>) -> ([usize; 4], u8)
-    requires fits { Fits (mut_layout window.old) }
-    requires some { 0 < width_of window.old }
+// The rows for writing, counted in each direction.
+fn count_written(image: &mut ImgRefMut<'_, u8>, direction: u32) -> usize
+    requires { Fits (mut_layout image.old) }
 {
-    let counts = [
-        window.rows().count(),
-        window.rows_mut().count(),
-        window.rows_mut().rev().count(),
-        window.rows_mut().fuse().rev().count(),
-    ];
-    let first = match window.rows().next() {
-        Some(row) => row[0],
-        None => 0,
-    };
-    (counts, first)
+    match direction {
+        0 => image.rows_mut().count(),
+        1 => image.rows_mut().rev().count(),
+        _ => image.rows_mut().fuse().rev().count(),
+    }
 }
 
 fn padded(alloc: Global) -> Result<ImgVec<u8>, AllocError> {
@@ -96,6 +97,24 @@ fn last_of<I: DoubleEndedIterator>(rows: &mut I) -> Option<I::Item>
     rows.next_back()
 }
 
+// Whether `next`, `next_back`, `next` and `next` give the rows of the square, one fewer left each time.
+fn gives_the_square(rows: RowsIter<'_, u8>) -> bool {
+    let mut rows = rows;
+    let all = rows.len();
+    let first = rows.next();
+    let two = rows.len();
+    let second = rows.next_back();
+    let one = rows.len();
+    let third = rows.next();
+    let none = rows.len();
+    let fourth = rows.next();
+    first == Some([1u8, 2, 3].as_slice())
+        && second == Some([7u8, 8, 9].as_slice())
+        && third == Some([4u8, 5, 6].as_slice())
+        && fourth.is_none()
+        && [all, two, one, none] == [3, 2, 1, 0]
+}
+
 #[test]
 fn rows_come_from_both_ends(rt: HostRuntime) -> Result<(), Fail> {
     let mut cells = SQUARE;
@@ -103,17 +122,12 @@ fn rows_come_from_both_ends(rt: HostRuntime) -> Result<(), Fail> {
     let lent: ImgRefMut<'_, u8> = Img::new_stride(cells.as_mut_slice(), 3, 3, 4);
     let view = Img::new_stride(SQUARE.as_slice(), 3, 3, 4);
     assert!(rt; owned.is_valid() && lent.is_valid() && view.is_valid());
-    for mut rows in [owned.rows(), lent.rows(), view.rows()] {
-        assert_eq!(rt; len_of(&rows), 3);
-        assert_eq!(rt; rows.next(), Some([1u8, 2, 3].as_slice()));
-        assert_eq!(rt; len_of(&rows), 2);
-        assert_eq!(rt; last_of(&mut rows), Some([7u8, 8, 9].as_slice()));
-        assert_eq!(rt; len_of(&rows), 1);
-        assert_eq!(rt; rows.next(), Some([4u8, 5, 6].as_slice()));
-        assert_eq!(rt; len_of(&rows), 0);
-        assert!(rt; is_over(&mut rows) && is_over(&mut rows));
-        assert_eq!(rt; last_of(&mut rows), None);
-    }
+    assert!(rt; gives_the_square(owned.rows()));
+    assert!(rt; gives_the_square(lent.rows()));
+    assert!(rt; gives_the_square(view.rows()));
+    let mut rows = view.rows();
+    assert_eq!(rt; last_of(&mut rows), Some([7u8, 8, 9].as_slice()));
+    assert_eq!(rt; len_of(&rows), 2);
     Ok(())
 }
 
@@ -163,7 +177,11 @@ fn rows_written_before_a_drop_stand(rt: HostRuntime) -> Result<(), Fail> {
                     }
                 }
             }
-            assert_eq!(rt; len_of(&rows), back - front, "{steps} of mix {mix}");
+            assert_eq!(rt;
+                len_of(&rows),
+                back.saturating_sub(front),
+                "{steps} of mix {mix}"
+            );
             drop(rows);
             for (cell, now) in image.buf().as_slice().iter().enumerate() {
                 let row = cell / 4;
@@ -215,7 +233,9 @@ fn rows_far_apart(rt: HostRuntime) -> Result<(), Fail> {
     assert!(rt; image.is_valid());
     assert_eq!(rt; image.rows().count(), 15);
     assert_eq!(rt; image.rows().rev().count(), 15);
+    assert_eq!(rt; image.rows().fuse().rev().count(), 15);
     assert_eq!(rt; count_from_the_end(image.as_ref()), 15);
+    assert_eq!(rt; count_fused(image.as_ref()), 15);
     assert_eq!(rt; count_for_writing(&mut image), 15);
     Ok(())
 }
@@ -229,23 +249,25 @@ fn a_window_has_its_own_rows(rt: HostRuntime) -> Result<(), Fail> {
     assert_eq!(rt; window.rows().count(), 1);
     assert_eq!(rt; window.rows().rev().count(), 1);
     assert_eq!(rt; window.rows().fuse().rev().count(), 1);
-    let mut copy = padded(rt.alloc())?;
-    assert!(rt; copy.is_valid() && copy.has_window(1, 1, 2, 1));
-    assert_eq!(rt;
-        counts_and_first(&mut copy.sub_image_mut(1, 1, 2, 1)),
-        ([1, 1, 1, 1], 6)
-    );
-    let mut cells = PADDED;
-    let mut lent: ImgRefMut<'_, u8> = Img::new_stride(cells.as_mut_slice(), 3, 2, 4);
-    assert!(rt; lent.is_valid() && lent.has_window(1, 1, 2, 1));
-    assert_eq!(rt;
-        counts_and_first(&mut lent.sub_image_mut(1, 1, 2, 1)),
-        ([1, 1, 1, 1], 6)
-    );
-    assert_eq!(rt;
-        counts_and_first(&mut lent.into_sub_image_mut(1, 1, 2, 1)),
-        ([1, 1, 1, 1], 6)
-    );
+    for direction in 0..3u32 {
+        let mut copy = padded(rt.alloc())?;
+        assert!(rt; copy.is_valid() && copy.has_window(1, 1, 2, 1));
+        let mut window = copy.sub_image_mut(1, 1, 2, 1);
+        assert_eq!(rt; window.rows().next(), Some([6u8, 7].as_slice()));
+        assert_eq!(rt; count_written(&mut window, direction), 1);
+        let mut cells = PADDED;
+        let mut lent: ImgRefMut<'_, u8> = Img::new_stride(cells.as_mut_slice(), 3, 2, 4);
+        assert!(rt; lent.is_valid() && lent.has_window(1, 1, 2, 1));
+        assert_eq!(rt;
+            count_written(&mut lent.sub_image_mut(1, 1, 2, 1), direction),
+            1
+        );
+        let mut cells = PADDED;
+        let lent: ImgRefMut<'_, u8> = Img::new_stride(cells.as_mut_slice(), 3, 2, 4);
+        assert!(rt; lent.is_valid() && lent.has_window(1, 1, 2, 1));
+        let mut window = lent.into_sub_image_mut(1, 1, 2, 1);
+        assert_eq!(rt; count_written(&mut window, direction), 1);
+    }
     Ok(())
 }
 
@@ -286,12 +308,13 @@ fn rows_of_pixels_without_size(rt: HostRuntime) -> Result<(), Fail> {
 #[test]
 fn one_row_at_the_greatest_stride(rt: HostRuntime) -> Result<(), Fail> {
     let mut cells = [5u8];
+    let view: ImgRef<'_, u8> = Img::new_stride(cells.as_slice(), 1, 1, usize::MAX);
+    assert!(rt; view.is_valid());
+    assert_eq!(rt; view.rows().next(), Some([5u8].as_slice()));
+    assert_eq!(rt; count_rows(view), 1);
     let mut image: ImgRefMut<'_, u8> = Img::new_stride(cells.as_mut_slice(), 1, 1, usize::MAX);
     assert!(rt; image.is_valid());
-    let mut rows = image.rows();
-    assert_eq!(rt; rows.next(), Some([5u8].as_slice()));
-    assert!(rt; is_over(&mut rows));
-    if let Some(row) = last_of(&mut image.rows_mut()) {
+    if let Some(row) = image.rows_mut().next_back() {
         row.fill(7);
     }
     assert_eq!(rt; cells, [7u8]);
@@ -303,8 +326,8 @@ fn loops_and_tests_over_rows(rt: HostRuntime) -> Result<(), Fail> {
     let view = Img::new_stride(SQUARE.as_slice(), 3, 3, 4);
     assert!(rt; view.is_valid());
     assert_eq!(rt; sum_of_last_column(view), 18);
-    assert!(rt; !all_rows_begin_with(view, 1));
-    let row = Img::new(SQUARE.as_slice(), 11, 1);
-    assert!(rt; row.is_valid() && all_rows_begin_with(row, 1));
+    assert!(rt; !all_start_at(view.rows(), 1));
+    let line = Img::new(SQUARE.as_slice(), 11, 1);
+    assert!(rt; line.is_valid() && all_start_at(line.rows(), 1));
     Ok(())
 }

@@ -33,6 +33,7 @@ impl<'a, T> RowsIter<'a, T> {
     ghost use Rattle.imgref.specs.Rows.{refs_left};
 
     // The rows of a fitting layout.
+    #[tactic(auto, unfolding(crate::specs::Rows::refs_left))]
     pub(crate) fn of_layout(
         cells: &'a [T],
         width: u32,
@@ -67,6 +68,7 @@ impl<'a, T> Iterator for RowsIter<'a, T> {
 
     ghost remaining = { item_count refs_left };
 
+    #[tactic(auto, unfolding(crate::specs::Rows::refs_left))]
     fn next(&mut self) -> Option<&'a [T]> {
         if self.count == 0 {
             return None;
@@ -79,6 +81,7 @@ impl<'a, T> Iterator for RowsIter<'a, T> {
         Some(&cells[..self.width])
     }
 
+    #[tactic(auto, unfolding(crate::specs::Rows::refs_left))]
     fn size_hint(&self) -> (usize, Option<usize>)
         ensures lower { IsWithinCount result.0 (item_count refs_left self.now) }
         ensures upper { IfSome result.1 (UpTo (item_count refs_left self.now)) }
@@ -94,6 +97,7 @@ impl<'a, T> DoubleEndedIterator for RowsIter<'a, T> {
 
     ghost next_back_gives = { YieldsLastRef refs_left };
 
+    #[tactic(auto, unfolding(crate::specs::Rows::refs_left))]
     fn next_back(&mut self) -> Option<&'a [T]> {
         if self.count == 0 {
             return None;
@@ -224,6 +228,7 @@ impl<'a, T> Iterator for RowsIterMut<'a, T> {
         Some(row)
     }
 
+    #[tactic(auto, unfolding(crate::specs::Rows::muts_left))]
     fn size_hint(&self) -> (usize, Option<usize>)
         ensures lower { IsWithinCount result.0 (item_count muts_left self.now) }
         ensures upper { IfSome result.1 (UpTo (item_count muts_left self.now)) }

@@ -4,6 +4,7 @@ use Rattle.std.proofs.lemmas.List.{take_all}
 use Rattle.image_model.specs.Layout.{layout}
 use Rattle.image_model.specs.Rows.{rows}
 use Rattle.image_model.specs.Windows.{stretch_cells}
+use Rattle.imgref.specs.Rows.{muts_left}
 use Rattle.imgref.proofs.Numbers.{same_image}
 use Rattle.imgref.proofs.RowsLeft.{rows_are, rows_number, rows_countable, rows_as_wide, rows_some, rows_reach}
 use Rattle.imgref.proofs.img.Img.rows_mut.Goals as goal
@@ -25,6 +26,7 @@ invariant_of-result g c =
     }
 
 pub returns : goal.returns
+unfolding muts_left
 returns g c =
     let i = c.args.self.now in
     let counted = c.row_count-count.ensures.value in

@@ -2,10 +2,12 @@ use Rattle.std.proofs.Common.{◌≡◌, ◌+◌, ◌-◌, ◌*◌, ◌<◌, [],
 use Rattle.std.proofs.iter.Next.{firm}
 use Rattle.image_model.specs.Layout.{layout}
 use Rattle.image_model.specs.Rows.{rows}
+use Rattle.imgref.specs.Rows.{refs_left}
 use Rattle.imgref.proofs.RowsLeft.{rows_last, length-rows_left}
 use Rattle.imgref.proofs.rows.RowsIterDoubleEndedIterator.next_back.Goals as goal
 
 pub returns-clause-steps : goal.returns-clause-steps
+unfolding refs_left
 returns-clause-steps g c =
     let s = c.args.self.now in
     let some : 0 < s.count = omega (arith, c.if-self-eq0.false) in
@@ -15,6 +17,7 @@ returns-clause-steps g c =
     ∙ ap (λ n. rows (layout s.cells.now s.width (s.count - 1) s.stride) ++ take n (drop start s.cells.now) ∷ []) long
 
 pub returns-clause-goes : goal.returns-clause-goes
+unfolding refs_left
 returns-clause-goes g c =
     let s = c.args.self.now in
     let some : 0 < s.count = omega (arith, c.if-self-eq0.false) in

@@ -7,6 +7,7 @@ use Rattle.imgref.proofs.rows.RowsIterIterator.next.Goals as goal
 use Rattle.imgref.proofs.rows.RowsIterIterator.next.Goals.{then-self-gt0, else-self-gt0}
 
 pub returns-clause-steps : goal.returns-clause-steps
+unfolding refs_left
 returns-clause-steps g c =
     let s = c.args.self.now in
     let some : 0 < s.count = omega (arith, c.if-self-eq0.false) in
@@ -20,4 +21,5 @@ returns-clause-steps g c =
     ]
 
 pub returns-clause-goes : goal.returns-clause-goes
+unfolding refs_left
 returns-clause-goes g c = firm (tt, tt, omega (arith, ap length (returns-clause-steps g c))) (λ _. tt)

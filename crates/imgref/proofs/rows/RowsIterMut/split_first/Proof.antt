@@ -53,6 +53,7 @@ use Rattle.imgref.proofs.rows.RowsIterMut.split_first.Statement.{statement}
 use Rattle.imgref.proofs.rows.RowsIterMut.split_first.Code as compiled
 
 pub split_first_spec : {M : Type 1} → statement M
+unfolding muts_left
 split_first_spec 𝓤 𝓛 𝓜 𝓡 wired T L =
     let H = 𝓛.H in
     let En = ended T in

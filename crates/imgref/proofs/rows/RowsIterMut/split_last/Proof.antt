@@ -54,6 +54,7 @@ use Rattle.imgref.proofs.rows.RowsIterMut.split_last.Statement.{statement}
 use Rattle.imgref.proofs.rows.RowsIterMut.split_last.Code as compiled
 
 pub split_last_spec : {M : Type 1} → statement M
+unfolding muts_left
 split_last_spec 𝓤 𝓛 𝓜 𝓡 wired T L =
     let H = 𝓛.H in
     let En = ended T in

@@ -56,6 +56,7 @@ use Rattle.imgref.proofs.rows.RowsIterMutDoubleEndedIterator.next_back.Statement
 use Rattle.imgref.proofs.rows.RowsIterMutDoubleEndedIterator.next_back.Code as compiled
 
 pub next_back_spec : {M : Type 1} → statement M
+unfolding muts_left
 next_back_spec 𝓤 𝓛 𝓜 𝓡 wired T L =
     let En = ended T in
     let c = clauses T 𝓛 𝓜.mem 𝓡.returns in

@@ -55,6 +55,7 @@ use Rattle.imgref.proofs.rows.RowsIterMutIterator.next.Statement.{statement}
 use Rattle.imgref.proofs.rows.RowsIterMutIterator.next.Code as compiled
 
 pub next_spec : {M : Type 1} → statement M
+unfolding muts_left
 next_spec 𝓤 𝓛 𝓜 𝓡 wired T L =
     let En = ended T in
     let c = clauses T 𝓛 𝓜.mem 𝓡.returns in
