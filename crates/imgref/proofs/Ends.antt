@@ -1,20 +1,15 @@
--- What one name ends as by what another ends as, what an `Option` of one machine value holds, and a new lifetime inside another. Assumes `Logic`.
+-- What one name ends as by what another ends as, and what an `Option` of one machine value holds. Assumes `Logic`.
 use mathlib.Core.Path.{refl, ap, ◌∙◌}
 use mathlib.Core.List.{List, [], ◌∷◌, ◌++◌}
 use seplogic.Ra.Ura.{Ura}
 use mir.Syntax.{Lifetime}
 use mir.Val.{Val, vptr, of_list}
-use base.Fraction.{full_share}
-use base.FractionLaws.{common}
-use base.Logic.{SProp, ent, emp, sep, wand, wand_i, all, all_e, apply∗, ex}
-use base.Fml.{Lft, GName, Share, fres, feq, flft, fdead}
+use base.Logic.{SProp, ent, emp, sep, wand, all, all_e, apply∗}
+use base.Fml.{Lft, GName, fres, feq}
 use denote.Ref.{MutRef, MutBor}
 use types.Logic.{Logic, sem}
 use types.Match.{live}
-use types.Kit.{‵, raw, ◌⊛◌, ◌$◌, ◌∵◌, !, qed, by, move, drop, use1, use2, split, join, each, assume, fsplit, fsplit3, fjoin3, fpick, feq_l, feq_i, show, updating, now as at_once, done}
-use types.Tokens.{lft_new, lft_end, lft-common}
-use contract.BorrowLft.{meet_⊑_left}
-use Prim.Native.Nat.{ℕ}
+use types.Kit.{‵, raw, ◌$◌, ◌∵◌, !, qed, by, move, drop, use1, use2, join, each, assume, fsplit, fsplit3, fjoin3, fpick, feq_l, feq_i, done}
 use denote.RattleType.{RattleType}
 use denote.Follow.{follows_both, both_by}
 use Rattle.std.specs.Prelude.{Some, None}
@@ -60,25 +55,3 @@ module _ {M : Type 1} {𝓤 : Ura M} (𝓛 : Logic 𝓤) where
   ends_said R S γ δ F w =
       let One : S.Denot → SProp 𝓤 = λ w. wand 𝓤 (A.res δ (S.coded.code w)) (A.res γ (R.coded.code (F w))) in
       qed 𝓛 (raw (all 𝓤 One) ∷ ‵ (fres δ (S.coded.code w)) ∷ []) ∵ use1 𝓛 (raw (One w)) (all_e 𝓤 One w) $ move ! (1 ∷ 0 ∷ []) $ by ! (apply∗ 𝓤 (A.res δ (S.coded.code w)) (A.res γ (R.coded.code (F w))))
-
-module _ {M : Type 1} {𝓤 : Ura M} (𝓛 : Logic 𝓤) (ρ : Lft) (q : Share) where
-  open 𝓛 use {H, A}
-
-  -- how that lifetime ends
-  abbrev pub Ends : ℕ → Share → SProp 𝓤
-  Ends a s = wand 𝓤 (A.lft (a ∷ ρ) s) (H.⇛ (sep 𝓤 (A.dead (a ∷ ρ)) (A.lft ρ q)))
-
-  abbrev Begun : ℕ × Share → SProp 𝓤
-  Begun p = sep 𝓤 (A.lft (p.0 ∷ ρ) p.1) (Ends p.0 p.1)
-
-  -- a new lifetime inside ρ, with its token, and the way to end it
-  pub begins : ent 𝓤 (A.lft ρ q) (H.⇛ (ex 𝓤 Begun))
-  begins =
-      qed 𝓛 (‵ (flft ρ q) ∷ []) ∵ updating ! $ lft_new ! tt (λ a.
-      let s : Share = (common full_share q).0 in
-      let Back' : SProp 𝓤 = wand 𝓤 (A.lft (a ∷ ρ) s) (sep 𝓤 (A.lft (a ∷ []) full_share) (A.lft ρ q)) in
-      use2 𝓛 (‵ (flft (a ∷ ρ) s) ⊛ raw Back') (lft-common 𝓛 (a ∷ []) ρ full_share q) $ split ! $ move ! (1 ∷ []) $
-      use1 𝓛 (raw (Ends a s)) (wand_i 𝓤 Back' (A.lft (a ∷ ρ) s) _ (qed 𝓛 (raw Back' ∷ ‵ (flft (a ∷ ρ) s) ∷ []) ∵ updating ! $ move ! (1 ∷ 0 ∷ []) $
-      use2 𝓛 (‵ (flft (a ∷ []) full_share) ⊛ ‵ (flft ρ q)) (apply∗ 𝓤 (A.lft (a ∷ ρ) s) (sep 𝓤 (A.lft (a ∷ []) full_share) (A.lft ρ q))) $ split ! $ lft_end ! tt $
-      use1 𝓛 (‵ (fdead (a ∷ ρ))) (𝓛.lfts.dead-incl (a ∷ ρ) (a ∷ []) (meet_⊑_left (a ∷ []) ρ)) $ at_once ! $ done !)) $
-      at_once ! $ show ! Begun (a, s) $ move ! (1 ∷ 0 ∷ []) $ done !)

@@ -50,7 +50,8 @@ use Rattle.imgref.specs.declared.pixels.PixelsIterMut.{PixelsIterMut}
 use Rattle.imgref.specs.contracts.img.Img.{the_row}
 use Rattle.imgref.specs.contracts.pixels.PixelsIterMut as P
 use Rattle.imgref.proofs.pixels.PixelsIterMut.TheLaws as laws
-use Rattle.imgref.proofs.Ends.{Ends, begins, ends_said}
+use Rattle.imgref.proofs.Ends.{ends_said}
+use Rattle.imgref.proofs.Lifetimes.{Ends, begins}
 use Rattle.imgref.specs.contracts.img.Img.exact_pixels_mut as M
 use Rattle.imgref.proofs.img.Img.exact_pixels_mut.Met as making
 use Rattle.imgref.specs.contracts.fill.fill_rest as W

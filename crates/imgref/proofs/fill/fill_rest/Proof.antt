@@ -60,7 +60,8 @@ use Rattle.imgref.specs.Marks.{covered}
 use Rattle.imgref.specs.contracts.pixels.PixelsIterMut as P
 use Rattle.imgref.specs.declared.pixels.PixelsIterMut.{PixelsIterMut}
 use Rattle.imgref.proofs.Marks.{covered_past, covered_none}
-use Rattle.imgref.proofs.Ends.{Ends, begins, ends_beside, ends_then, ends_itself, some_out, none_out}
+use Rattle.imgref.proofs.Ends.{ends_beside, ends_then, ends_itself, some_out, none_out}
+use Rattle.imgref.proofs.Lifetimes.{Ends, begins}
 use Rattle.imgref.specs.contracts.pixels.PixelsIterMutIterator.next as N
 use Rattle.imgref.specs.contracts.pixels.PixelsIterMutIterator.next.Key.{name as #next}
 use Rattle.imgref.proofs.pixels.PixelsIterMutIterator.next.Met as next
