@@ -17,17 +17,9 @@ mod containers;
 mod fill;
 mod img;
 mod index;
-#[cfg(test)]
-mod pixel_tests;
 mod pixels;
-#[cfg(test)]
-mod row_tests;
 mod rows;
-#[cfg(test)]
-mod tests;
 mod window;
-#[cfg(test)]
-mod window_tests;
 
 pub use containers::{AsMutCell, AsMutSlice, AsSlice};
 pub use fill::fill_pixels;

@@ -1,4 +1,5 @@
-//! Writes through nested windows, from another crate: each changes the image's pixel at the summed place, and nothing else.
+//! Users of `imgref` from another crate: writes through nested windows, each of which changes the image's pixel at the summed
+//! place and nothing else, and the tests of images, windows, rows and pixels.
 #![tactic(auto)]
 
 ghost use Rattle.std.specs.Prelude.{◌≡◌, ◌+◌, ◌*◌, ◌^◌, ◌≤◌, ◌<◌, length, slice_set};
@@ -11,7 +12,15 @@ ghost use Rattle.imgref_callers.specs.Windows.{as_window};
 use imgref::{ImgRefMut, ImgVec};
 
 #[cfg(test)]
-mod tests;
+mod image_tests;
+#[cfg(test)]
+mod nested_tests;
+#[cfg(test)]
+mod pixel_tests;
+#[cfg(test)]
+mod row_tests;
+#[cfg(test)]
+mod window_tests;
 
 /// A corner and a size within an image, in pixels.
 #[derive(Clone, Copy)]

@@ -3,7 +3,7 @@ ghost use Rattle.image_model.specs.Layout.{Fits, layout, cell_of, pixel};
 ghost use Rattle.imgref.specs.Image.{width_of, height_of, layout_by, vec_layout, mut_layout};
 ghost use Rattle.imgref.specs.Index.{HasCell};
 
-use crate::{AsSlice, Img, ImgRef, ImgRefMut, ImgVec};
+use imgref::{AsSlice, Img, ImgRef, ImgRefMut, ImgVec};
 use std::ops::{Index, IndexMut};
 use std::test::Fail;
 

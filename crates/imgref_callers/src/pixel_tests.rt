@@ -4,7 +4,7 @@ ghost use Rattle.image_model.specs.Rows.{pixels};
 ghost use Rattle.imgref.specs.Image.{width_of, height_of, ref_layout, mut_layout};
 ghost use Rattle.imgref.specs.Pixels.{copies_left};
 
-use crate::{ImgRef, ImgRefMut, ImgVec, PixelsIter, fill_pixels};
+use imgref::{ImgRef, ImgRefMut, ImgVec, PixelsIter, fill_pixels};
 use std::alloc::{AllocError, Global};
 use std::iter::{ExactSizeIterator, FusedIterator};
 use std::test::Fail;

@@ -3,7 +3,7 @@ ghost use Rattle.image_model.specs.Layout.{Fits};
 ghost use Rattle.image_model.specs.Windows.{IsInside, window};
 ghost use Rattle.imgref.specs.Image.{width_of, height_of, layout_by, buf_of};
 
-use crate::{AsMutCell, AsMutSlice, AsSlice, Img, ImgRef, ImgRefMut, ImgVec};
+use imgref::{AsMutCell, AsMutSlice, AsSlice, Img, ImgRef, ImgRefMut, ImgVec};
 use std::alloc::{AllocError, Global};
 use std::test::Fail;
 

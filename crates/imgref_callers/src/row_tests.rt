@@ -4,7 +4,7 @@ ghost use Rattle.image_model.specs.Rows.{row_count};
 ghost use Rattle.imgref.specs.Rows.{refs_left};
 ghost use Rattle.imgref.specs.Image.{width_of, height_of, ref_layout, mut_layout, vec_layout};
 
-use crate::{Img, ImgRef, ImgRefMut, ImgVec, RowsIter};
+use imgref::{Img, ImgRef, ImgRefMut, ImgVec, RowsIter};
 use std::alloc::{AllocError, Global};
 use std::iter::{ExactSizeIterator, FusedIterator};
 use std::test::Fail;
