@@ -83,18 +83,20 @@ abbrev pub first_outside : ℕ → ℕ → List Window → Option ℕ
 first_outside width height [] = None
 first_outside width height (w ∷ path) = if is_inside width height w then option_map (λ n. n + 1) (first_outside w.width w.height path) else Some 0
 
--- the corner of a path is the sum of the corners
+-- the column of a path's corner is the sum of the columns of its corners
 abbrev pub corner_left : List Window → ℕ
 corner_left path = sum_by (λ w. w.left) path
 
+-- the row of a path's corner is the sum of their rows
 abbrev pub corner_top : List Window → ℕ
 corner_top path = sum_by (λ w. w.top) path
 
--- the size of a path is that of its last window, or the size before it
+-- the width of a path is that of its last window, or the width before it
 abbrev pub path_width : ℕ → List Window → ℕ
 path_width width [] = width
 path_width width (w ∷ path) = path_width w.width path
 
+-- the height of a path is that of its last window, or the height before it
 abbrev pub path_height : ℕ → List Window → ℕ
 path_height height [] = height
 path_height height (w ∷ path) = path_height w.height path

@@ -14,15 +14,18 @@ IsWord n = n < 2 ^ 64
 abbrev pub IsPixel : ℕ → Type 0
 IsPixel p = p < 2 ^ 8
 
+-- a window whose numbers fields may hold
 pub record IsWindow (w : Window) : Type 0 where
   pub left : IsWord w.left
   pub top : IsWord w.top
   pub width : IsWord w.width
   pub height : IsWord w.height
 
+-- a path of such windows
 abbrev pub IsPath : List Window → Type 0
 IsPath windows = AllByRecursion IsWindow windows
 
+-- an image's number that a field may hold, with such a path
 pub record IsSpot (s : Spot) : Type 0 where
   pub image : IsWord s.image
   pub path : IsPath s.path

@@ -41,12 +41,15 @@ unfoldable pub first_of_parts : {A : Type 0} → (List ℕ → Option A) → Lis
 first_of_parts read [] = None
 first_of_parts read (part ∷ parts) = option_map (λ value. (value, parts)) (read part)
 
+-- the number that the first part is the text of, and the parts after it
 abbrev pub number_at : List (List ℕ) → Option (ℕ × List (List ℕ))
 number_at parts = first_of_parts number_of parts
 
+-- the pixel that the first part is the text of, and the parts after it
 abbrev pub pixel_at : List (List ℕ) → Option (ℕ × List (List ℕ))
 pixel_at parts = first_of_parts pixel_of parts
 
+-- whether no part is left
 abbrev pub is_nil : {A : Type 0} → List A → Bool
 is_nil [] = true
 is_nil (x ∷ xs) = false
@@ -60,6 +63,7 @@ window_in parts = do
   height ← number_at width.1
   if is_nil height.1 then Some (record { left = left.0; top = top.0; width = width.0; height = height.0 }) else None
 
+-- the window that a part is the text of
 abbrev pub window_of : List ℕ → Option Window
 window_of part = window_in (parts_of 44 part)
 
@@ -67,6 +71,7 @@ window_of part = window_in (parts_of 44 part)
 unfoldable pub path_of : List ℕ → Option (List Window)
 path_of field = if bytes_eq field (45 ∷ []) then Some [] else each_of window_of (parts_of 47 field)
 
+-- the path that the first part is the text of, and the parts after it
 abbrev pub path_at : List (List ℕ) → Option (List Window × List (List ℕ))
 path_at parts = first_of_parts path_of parts
 

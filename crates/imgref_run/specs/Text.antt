@@ -34,6 +34,7 @@ sizes_fields i = codes "image" ∷ decimal i.width ∷ decimal i.height ∷ deci
 abbrev pub image_fields : Layout ℕ → List (List ℕ)
 image_fields i = codes "image" ∷ decimal i.width ∷ decimal i.height ∷ decimal i.stride ∷ map decimal i.cells
 
+-- the fields of an image or a command
 abbrev pub entry_fields : Entry → List (List ℕ)
 entry_fields (image_line i) = image_fields i
 entry_fields (order_line o) = order_fields o
@@ -46,8 +47,10 @@ line_of fields = join_with_byte 32 fields
 abbrev pub entry_text : Entry → List ℕ
 entry_text e = line_of (entry_fields e)
 
+-- the line of an image
 abbrev pub image_text : Layout ℕ → List ℕ
 image_text i = entry_text (image_line i)
 
+-- the line of a command
 abbrev pub order_text : Order → List ℕ
 order_text o = entry_text (order_line o)
