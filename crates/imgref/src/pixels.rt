@@ -109,7 +109,7 @@ impl<'a, T> Iterator for PixelsRefIter<'a, T> {
     type Item = &'a T;
 
     ghost use Rattle.std.specs.Prelude.{◌≡◌, length, Some, IfSome};
-    ghost use Rattle.std.specs.Iterator.{YieldsFirstRef, item_count, MakesProgress, UpTo};
+    ghost use Rattle.std.specs.Iterator.{YieldsFirstRef, item_count, UpTo};
     ghost use Rattle.std.specs.Iterator.SizeHint.{IsWithinCount};
     ghost use Rattle.imgref.specs.Pixels.{refs_left};
 
@@ -117,10 +117,7 @@ impl<'a, T> Iterator for PixelsRefIter<'a, T> {
 
     ghost remaining = { item_count refs_left };
 
-    fn next(&mut self) -> Option<&'a T>
-        ensures steps { YieldsFirstRef refs_left self.old result self.new }
-        ensures goes { MakesProgress (λ _. Unit {0}) (item_count refs_left) self.old result self.new }
-    {
+    fn next(&mut self) -> Option<&'a T> {
         if self.left == 0 {
             if self.rows_left == 0 {
                 return None;
@@ -163,7 +160,7 @@ impl<T: Copy> Iterator for PixelsIter<'_, T> {
     type Item = T;
 
     ghost use Rattle.std.specs.Prelude.{◌≡◌, length, Some, IfSome};
-    ghost use Rattle.std.specs.Iterator.{YieldsFirst, item_count, MakesProgress, UpTo};
+    ghost use Rattle.std.specs.Iterator.{YieldsFirst, item_count, UpTo};
     ghost use Rattle.std.specs.Iterator.SizeHint.{IsWithinCount};
     ghost use Rattle.imgref.specs.Pixels.{copies_left};
 
@@ -221,20 +218,15 @@ impl<'a, T> Model for PixelsIterMut<'a, T> {
     ghost also_shares = { λ _ _ _. ftrue };
 }
 
-impl<'a, T> Iterator for PixelsIterMut<'a, T> {
-    type Item = &'a mut T;
-
+impl<'a, T> PixelsIterMut<'a, T> {
     ghost use Rattle.std.specs.Borrow.{sem};
-    ghost use Rattle.std.specs.Prelude.{◌≡◌, length, Some, IfSome};
-    ghost use Rattle.std.specs.Iterator.{YieldsFirstMut, item_count, MakesProgress, UpTo};
-    ghost use Rattle.std.specs.Iterator.SizeHint.{IsWithinCount};
+    ghost use Rattle.std.specs.Iterator.{YieldsFirstMut, item_count, MakesProgress};
     ghost use Rattle.imgref.specs.Pixels.{muts_left, hands_on, Moves};
 
-    ghost next_gives = { YieldsFirstMut muts_left };
-
-    ghost remaining = { item_count muts_left };
-
-    fn next(&mut self) -> Option<&'a mut T>
+    /// The next pixel, as the iterator gives it, with the clause that says what the cells end as.
+    ///
+    /// A `for` and the adapters go by the trait's own `next`.
+    pub fn next(&mut self) -> Option<&'a mut T>
         ensures steps { YieldsFirstMut muts_left self.old result self.new }
         ensures goes { MakesProgress (λ _. Unit {0}) (item_count muts_left) self.old result self.new }
         ensures moves { Moves self.old result self.new }
@@ -252,6 +244,23 @@ impl<'a, T> Iterator for PixelsIterMut<'a, T> {
         unsafe { self.current = pixel.add(1) };
         self.left -= 1;
         Some(unsafe { &mut *pixel })
+    }
+}
+
+impl<'a, T> Iterator for PixelsIterMut<'a, T> {
+    type Item = &'a mut T;
+
+    ghost use Rattle.std.specs.Prelude.{◌≡◌, length, Some, IfSome};
+    ghost use Rattle.std.specs.Iterator.{YieldsFirstMut, item_count, UpTo};
+    ghost use Rattle.std.specs.Iterator.SizeHint.{IsWithinCount};
+    ghost use Rattle.imgref.specs.Pixels.{muts_left};
+
+    ghost next_gives = { YieldsFirstMut muts_left };
+
+    ghost remaining = { item_count muts_left };
+
+    fn next(&mut self) -> Option<&'a mut T> {
+        PixelsIterMut::next(self)
     }
 
     fn size_hint(&self) -> (usize, Option<usize>)

@@ -145,6 +145,7 @@ pub struct RowsIterMut<'a, T> {
 
 impl<'a, T> RowsIterMut<'a, T> {
     ghost use Rattle.std.specs.Borrow.{sem};
+    ghost use Rattle.std.specs.Iterator.{YieldsFirstMut, YieldsLastMut, item_count, MakesProgress};
     ghost use Rattle.imgref.specs.Rows.{hands_on, hands_back, muts_left, MovesFirst, MovesLast};
 
     // The rows that are left, which leaves none.
@@ -199,22 +200,12 @@ impl<'a, T> RowsIterMut<'a, T> {
         };
         (row, left)
     }
-}
 
-impl<'a, T> Iterator for RowsIterMut<'a, T> {
-    type Item = &'a mut [T];
-
-    ghost use Rattle.std.specs.Borrow.{sem};
-    ghost use Rattle.std.specs.Prelude.{◌≡◌, length, Some, IfSome};
-    ghost use Rattle.std.specs.Iterator.{YieldsFirstMut, item_count, MakesProgress, UpTo};
-    ghost use Rattle.std.specs.Iterator.SizeHint.{IsWithinCount};
-    ghost use Rattle.imgref.specs.Rows.{muts_left, hands_on, MovesFirst};
-
-    ghost next_gives = { YieldsFirstMut muts_left };
-
-    ghost remaining = { item_count muts_left };
-
-    fn next(&mut self) -> Option<&'a mut [T]>
+    /// The first of the rows that are left, as the iterator gives it, with the clause that says
+    /// what the cells end as.
+    ///
+    /// A `for` and the adapters go by the trait's own `next`.
+    pub fn next(&mut self) -> Option<&'a mut [T]>
         ensures steps { YieldsFirstMut muts_left self.old result self.new }
         ensures goes { MakesProgress (λ _. Unit {0}) (item_count muts_left) self.old result self.new }
         ensures moves { MovesFirst self.old result self.new }
@@ -226,6 +217,38 @@ impl<'a, T> Iterator for RowsIterMut<'a, T> {
         let (row, left) = self.take().split_first();
         *self = left;
         Some(row)
+    }
+
+    /// The last of the rows that are left, as `next` gives the first.
+    pub fn next_back(&mut self) -> Option<&'a mut [T]>
+        ensures steps { YieldsLastMut muts_left self.old result self.new }
+        ensures goes { MakesProgress (λ _. Unit {0}) (item_count muts_left) self.old result self.new }
+        ensures moves { MovesLast self.old result self.new }
+        ensures* hands_back { sem 𝓛 (hands_back T.row self.old result self.new) }
+    {
+        if self.count == 0 {
+            return None;
+        }
+        let (row, left) = self.take().split_last();
+        *self = left;
+        Some(row)
+    }
+}
+
+impl<'a, T> Iterator for RowsIterMut<'a, T> {
+    type Item = &'a mut [T];
+
+    ghost use Rattle.std.specs.Prelude.{◌≡◌, length, Some, IfSome};
+    ghost use Rattle.std.specs.Iterator.{YieldsFirstMut, item_count, UpTo};
+    ghost use Rattle.std.specs.Iterator.SizeHint.{IsWithinCount};
+    ghost use Rattle.imgref.specs.Rows.{muts_left};
+
+    ghost next_gives = { YieldsFirstMut muts_left };
+
+    ghost remaining = { item_count muts_left };
+
+    fn next(&mut self) -> Option<&'a mut [T]> {
+        RowsIterMut::next(self)
     }
 
     #[tactic(auto, unfolding(crate::specs::Rows::muts_left))]
@@ -240,24 +263,13 @@ impl<'a, T> Iterator for RowsIterMut<'a, T> {
 }
 
 impl<'a, T> DoubleEndedIterator for RowsIterMut<'a, T> {
-    ghost use Rattle.std.specs.Borrow.{sem};
-    ghost use Rattle.std.specs.Iterator.{YieldsLastMut, item_count, MakesProgress};
-    ghost use Rattle.imgref.specs.Rows.{muts_left, hands_back, MovesLast};
+    ghost use Rattle.std.specs.Iterator.{YieldsLastMut};
+    ghost use Rattle.imgref.specs.Rows.{muts_left};
 
     ghost next_back_gives = { YieldsLastMut muts_left };
 
-    fn next_back(&mut self) -> Option<&'a mut [T]>
-        ensures steps { YieldsLastMut muts_left self.old result self.new }
-        ensures goes { MakesProgress (λ _. Unit {0}) (item_count muts_left) self.old result self.new }
-        ensures moves { MovesLast self.old result self.new }
-        ensures* hands_back { sem 𝓛 (hands_back T.row self.old result self.new) }
-    {
-        if self.count == 0 {
-            return None;
-        }
-        let (row, left) = self.take().split_last();
-        *self = left;
-        Some(row)
+    fn next_back(&mut self) -> Option<&'a mut [T]> {
+        RowsIterMut::next_back(self)
     }
 }
 

@@ -1,7 +1,7 @@
-ghost use Rattle.std.specs.Prelude.{◌≡◌, ◌*◌, ◌^◌, ◌<◌, ◌↔◌, IsTrue, All, count_by, nat_eq, drop};
+ghost use Rattle.std.specs.Prelude.{◌≡◌, ◌+◌, ◌*◌, ◌^◌, ◌<◌, ◌↔◌, IsTrue, All, count_by, fold, nat_eq, drop};
 ghost use Rattle.image_model.specs.Layout.{Fits};
 ghost use Rattle.image_model.specs.Rows.{pixels};
-ghost use Rattle.imgref.specs.Image.{width_of, height_of, ref_layout, mut_layout};
+ghost use Rattle.imgref.specs.Image.{width_of, height_of, ref_layout, mut_layout, vec_layout};
 ghost use Rattle.imgref.specs.Pixels.{copies_left};
 
 use imgref::{ImgRef, ImgRefMut, ImgVec, PixelsIter, fill_pixels};
@@ -27,6 +27,14 @@ fn all_below(image: ImgRef<'_, u8>, limit: u8) -> bool
     image.pixels().all(|pixel| pixel < limit)
 }
 
+fn sum_of(image: ImgRef<'_, u64>) -> u64
+    requires fits { Fits (ref_layout image) }
+    requires small { fold (λ a x. a + x) 0 (pixels (ref_layout image)) < 2 ^ 64 }
+    ensures { result ≡ fold (λ a x. a + x) 0 (pixels (ref_layout image.entry)) }
+{
+    image.pixels().sum()
+}
+
 // And from a loop.
 fn count_equal(image: ImgRef<'_, u8>, value: u8) -> usize
     requires { Fits (ref_layout image) }
@@ -39,6 +47,25 @@ fn count_equal(image: ImgRef<'_, u8>, value: u8) -> usize
         }
     }
     count
+}
+
+// A loop over each kind of cursor needs no proof of its own to end.
+fn sum_seen(image: ImgRef<'_, u8>) -> u64
+    requires { Fits (ref_layout image) }
+{
+    let mut sum = 0u64;
+    for pixel in image.pixels_ref() {
+        sum = sum.wrapping_add(*pixel as u64);
+    }
+    sum
+}
+
+fn add_one(image: &mut ImgVec<u8>)
+    requires { Fits (vec_layout image.old) }
+{
+    for pixel in image.pixels_mut() {
+        *pixel = pixel.wrapping_add(1);
+    }
 }
 
 // After some steps a cursor still gives the pixels from that number on.
@@ -114,9 +141,9 @@ fn a_view_gives_its_pixels(rt: HostRuntime) -> Result<(), Fail> {
     assert_eq!(rt; found.as_slice(), [1u8, 2, 3, 5, 6, 7].as_slice());
     let mut seen = view.pixels_ref();
     for expected in [1u8, 2, 3, 5, 6, 7] {
-        assert_eq!(rt; seen.next().copied(), Some(expected));
+        assert_eq!(rt; seen.next(), Some(&expected));
     }
-    assert!(rt; is_over(&mut seen) && is_over(&mut seen));
+    assert_eq!(rt; (seen.next(), seen.next()), (None, None));
     Ok(())
 }
 
@@ -144,11 +171,24 @@ fn chains_and_loops_over_pixels(rt: HostRuntime) -> Result<(), Fail> {
     assert!(rt; all_below(view, 8) && !all_below(view, 7));
     assert_eq!(rt; count_equal(view, 5), 1);
     assert_eq!(rt; count_equal(view, 4), 0);
+    assert_eq!(rt; sum_seen(view), 24);
     let mut pixels = view.pixels();
     skip_pixels(&mut pixels, 4);
     assert_eq!(rt;
         (pixels.next(), pixels.next(), pixels.next()),
         (Some(6), Some(7), None)
+    );
+    Ok(())
+}
+
+#[test]
+fn a_loop_writes_the_pixels_alone(rt: HostRuntime) -> Result<(), Fail> {
+    let mut image = padded(rt.alloc())?;
+    assert!(rt; image.is_valid());
+    add_one(&mut image);
+    assert_eq!(rt;
+        image.buf().as_slice(),
+        [2u8, 3, 4, 4, 6, 7, 8, 8, 9].as_slice()
     );
     Ok(())
 }

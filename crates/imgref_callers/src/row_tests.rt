@@ -63,6 +63,17 @@ fn sum_of_last_column(image: ImgRef<'_, u8>) -> u64
     sum
 }
 
+// The same for writing.
+fn clear_last_column(image: &mut ImgVec<u8>)
+    requires fits { Fits (vec_layout image.old) }
+    requires some { 0 < width_of image.old }
+{
+    for row in image.rows_mut() {
+        let last = row.len() - 1;
+        row[last] = 0;
+    }
+}
+
 // The rows for writing, counted in each direction.
 fn count_written(image: &mut ImgRefMut<'_, u8>, direction: u32) -> usize
     requires { Fits (mut_layout image.old) }
@@ -329,5 +340,12 @@ fn loops_and_tests_over_rows(rt: HostRuntime) -> Result<(), Fail> {
     assert!(rt; !all_start_at(view.rows(), 1));
     let line = Img::new(SQUARE.as_slice(), 11, 1);
     assert!(rt; line.is_valid() && all_start_at(line.rows(), 1));
+    let mut image: ImgVec<u8> = Img::new_stride(SQUARE.to_vec(rt.alloc())?, 3, 3, 4);
+    assert!(rt; image.is_valid());
+    clear_last_column(&mut image);
+    assert_eq!(rt;
+        image.buf().as_slice(),
+        [1u8, 2, 0, 0, 4, 5, 0, 0, 7, 8, 0].as_slice()
+    );
     Ok(())
 }

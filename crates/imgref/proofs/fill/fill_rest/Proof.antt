@@ -62,9 +62,9 @@ use Rattle.imgref.specs.declared.pixels.PixelsIterMut.{PixelsIterMut}
 use Rattle.imgref.proofs.Marks.{covered_past, covered_none}
 use Rattle.imgref.proofs.Ends.{ends_beside, ends_then, ends_itself, some_out, none_out}
 use Rattle.imgref.proofs.Lifetimes.{Ends, begins}
-use Rattle.imgref.specs.contracts.pixels.PixelsIterMutIterator.next as N
-use Rattle.imgref.specs.contracts.pixels.PixelsIterMutIterator.next.Key.{name as #next}
-use Rattle.imgref.proofs.pixels.PixelsIterMutIterator.next.Met as next
+use Rattle.imgref.specs.contracts.pixels.PixelsIterMut.next as N
+use Rattle.imgref.specs.contracts.pixels.PixelsIterMut.next.Key.{name as #next}
+use Rattle.imgref.proofs.pixels.PixelsIterMut.next.Met as next
 use Rattle.imgref.specs.contracts.fill.fill_rest as F
 use Rattle.imgref.specs.contracts.fill.fill_rest.Key.{name as #self}
 use Rattle.imgref.proofs.fill.fill_rest.Statement.{statement}
@@ -319,4 +319,4 @@ fill_rest_spec 𝓤 𝓛 𝓜 𝓡 wired X L C g d _ =
     let good = (((copied_laws 0 X L).lawful 𝓛).typed a.1.0 (w E a.1.0 ∷ []) are.1.0).0 in
     qed 𝓛 (raw (on_entry 𝓛 (ended E).signature κs qs a (mut_vals a.0, (w E a.1.0 ∷ [], tt))) ∷ (raw (fact 𝓤 (κs.1.1.0 ⊑ X.lives)) ⊛ ‵ ftrue) ∷ []) ∵
     move ! (1 ∷ []) $ split ! $ heard ! (κs.1.1.0 ⊑ X.lives) (λ inT. drop ! $
-    by ! (walk E 𝓛 𝓜.mem 𝓡.returns κs.0 κs.1.0 κs.1.1.0 a.0.ref_ptr.0 a.0.ref_ptr.1 (tables_of 𝓤 𝓛.H 𝓜 (tables 𝓤 𝓛.H 𝓜 𝓡 𝓡.env)) (next.met 𝓤 𝓛 𝓜 𝓡 (code.calls-imgref::pixels::PixelsIterMutIterator::next 𝓡.env wired) X L) qs.0 qs.1.0 qs.1.1.0 bounds inT a.0.ghost_name a.0.now a.1.0 good)))
+    by ! (walk E 𝓛 𝓜.mem 𝓡.returns κs.0 κs.1.0 κs.1.1.0 a.0.ref_ptr.0 a.0.ref_ptr.1 (tables_of 𝓤 𝓛.H 𝓜 (tables 𝓤 𝓛.H 𝓜 𝓡 𝓡.env)) (next.met 𝓤 𝓛 𝓜 𝓡 (code.calls-imgref::pixels::PixelsIterMut::next 𝓡.env wired) X L) qs.0 qs.1.0 qs.1.1.0 bounds inT a.0.ghost_name a.0.now a.1.0 good)))

@@ -42,10 +42,10 @@ use Rattle.std.proofs.raw_atomic.Walks.{proved, leaves}
 use Rattle.imgref.specs.contracts.pixels.PixelsIterMut as P
 use Rattle.imgref.proofs.pixels.PixelsIterMut.TheLaws as laws
 use Rattle.imgref.specs.declared.pixels.PixelsIterMut.{PixelsIterMut}
-use Rattle.imgref.specs.contracts.pixels.PixelsIterMutIterator.next as f
-use Rattle.imgref.specs.contracts.pixels.PixelsIterMutIterator.next.Key.{name as #self}
-use Rattle.imgref.proofs.pixels.PixelsIterMutIterator.next.Statement.{statement}
-use Rattle.imgref.proofs.pixels.PixelsIterMutIterator.next.Code as code
+use Rattle.imgref.specs.contracts.pixels.PixelsIterMut.next as f
+use Rattle.imgref.specs.contracts.pixels.PixelsIterMut.next.Key.{name as #self}
+use Rattle.imgref.proofs.pixels.PixelsIterMut.next.Statement.{statement}
+use Rattle.imgref.proofs.pixels.PixelsIterMut.next.Code as code
 use prog.Wp.{Wp}
 use types.Kit.{prop, post}
 use types.SemTy.{Arr, Body}

@@ -1,4 +1,4 @@
--- `next_back` takes the rows out of the `&mut`, cuts the last one off, and puts back what is left: a walk of its MIR by hand.
+-- `next` takes the rows out of the `&mut`, cuts the first one off, and puts back what is left: a walk of its MIR by hand.
 use mathlib.Core.Path.{◌≡◌, refl, ap}
 use Prim.Native.Nat.{ℕ, ◌^◌, ◌<◌}
 use native.Mathlib.Omega.{arith}
@@ -33,31 +33,30 @@ use denote.Triple.Clauses.{lasts}
 use denote.Triple.Spec.{triple_of}
 use denote.Triple.Table.{framed}
 use denote.Triple.Walked.{Stays, walk_of, stay_ref, Goes-ref}
-use Rattle.std.proofs.Common.{length-append}
 use Rattle.std.proofs.alloc.Shapes.{after}
 use Rattle.std.proofs.iter.Next.{firm}
 use Rattle.std.proofs.option.Made.{Some-of, none_of}
 use Rattle.std.proofs.raw_atomic.Walks.{proved, leaves}
 use Rattle.std.specs.Prelude.{Option, Some, None}
-use Rattle.std.specs.Iterator.{MakesProgress, item_count, YieldsLastMut}
+use Rattle.std.specs.Iterator.{MakesProgress, item_count, YieldsFirstMut}
 use Rattle.std.specs.contracts.option.Option as OP
-use Rattle.imgref.specs.Rows.{muts_left, hands_back, MovesLast}
+use Rattle.imgref.specs.Rows.{muts_left, hands_on, MovesFirst}
 use Rattle.imgref.specs.declared.rows.RowsIterMut.{RowsIterMut}
 use Rattle.imgref.specs.contracts.rows.RowsIterMut as P
 use Rattle.imgref.proofs.RowsLeft.{rows_none, one_at_least}
 use Rattle.imgref.proofs.RowsTaken.{lent, Take, at_take, kept, ends, take_begins, take_ends}
 use Rattle.imgref.proofs.RowsValues.{val_of, iter_told, cut_row, cut_val, cut_told, cut_out}
 use Rattle.imgref.proofs.rows.RowsIterMut.take.Met as taking
-use Rattle.imgref.specs.contracts.rows.RowsIterMut.split_last as g
-use Rattle.imgref.proofs.rows.RowsIterMut.split_last.Met as cut
-use Rattle.imgref.specs.contracts.rows.RowsIterMutDoubleEndedIterator.next_back.{ended, clauses}
-use Rattle.imgref.specs.contracts.rows.RowsIterMutDoubleEndedIterator.next_back.Key.{name as #self}
-use Rattle.imgref.proofs.rows.RowsIterMutDoubleEndedIterator.next_back.Statement.{statement}
-use Rattle.imgref.proofs.rows.RowsIterMutDoubleEndedIterator.next_back.Code as compiled
+use Rattle.imgref.specs.contracts.rows.RowsIterMut.split_first as g
+use Rattle.imgref.proofs.rows.RowsIterMut.split_first.Met as cut
+use Rattle.imgref.specs.contracts.rows.RowsIterMut.next.{ended, clauses}
+use Rattle.imgref.specs.contracts.rows.RowsIterMut.next.Key.{name as #self}
+use Rattle.imgref.proofs.rows.RowsIterMut.next.Statement.{statement}
+use Rattle.imgref.proofs.rows.RowsIterMut.next.Code as compiled
 
-pub next_back_spec : {M : Type 1} → statement M
+pub next_spec : {M : Type 1} → statement M
 unfolding muts_left
-next_back_spec 𝓤 𝓛 𝓜 𝓡 wired T L =
+next_spec 𝓤 𝓛 𝓜 𝓡 wired T L =
     let En = ended T in
     let c = clauses T 𝓛 𝓜.mem 𝓡.returns in
     let inst = layouts (a_type ∷ []) (T, tt) in
@@ -90,9 +89,9 @@ next_back_spec 𝓤 𝓛 𝓜 𝓡 wired T L =
     let Post : Val → SProp 𝓤 = W.post y in
     let written : Ty = ty_struct (P.struct α R).name (tcons (slice_ty (ty_ref erased mut (ty_param 0))) (tcons (ty_int w64) (tcons (ty_int w64) (tcons (ty_int w64) (tcons (ty_int w64) tnil))))) in
     let Item : Type 0 = Option (MutBor (List T.Denot)) in
-    let Steps : Item → RowsIterMut T.Denot → Type 0 = YieldsLastMut muts_left h in
+    let Steps : Item → RowsIterMut T.Denot → Type 0 = YieldsFirstMut muts_left h in
     let Goes : Item → RowsIterMut T.Denot → Type 0 = MakesProgress (λ _. Unit {0}) (item_count muts_left) h in
-    let Moves : Item → RowsIterMut T.Denot → Type 0 = MovesLast h in
+    let Moves : Item → RowsIterMut T.Denot → Type 0 = MovesFirst h in
     let TakeOf = Take T 𝓛 𝓜.mem 𝓡.returns κ κ₁ κ₂ above q q₁ q₂ b o γ h in
     let at_t = at_take T 𝓛 𝓜.mem 𝓡.returns κ κ₁ κ₂ above q q₁ q₂ b o γ h in
     let self : RowsIterMut T.Denot → Fml = lent T 𝓛 𝓜.mem 𝓡.returns κ κ₁ κ₂ above q q₁ q₂ b o γ h κ γ in
@@ -139,9 +138,9 @@ next_back_spec 𝓤 𝓛 𝓜 𝓡 wired T L =
     nothing ! $ move ! (1 ∷ 0 ∷ []) $ fjoin ! $ nothing ! $ move ! (4 ∷ 0 ∷ []) $ join ! $ move ! (3 ∷ 0 ∷ []) $ join ! $ join ! $
     use0 𝓛 (raw (fact 𝓤 (0 < h.count))) (fact_i 𝓤 (0 < h.count) (emp 𝓤) one) $ use0 𝓛 (raw (fact 𝓤 (κ₂ ⊑ T.lives))) (fact_i 𝓤 (κ₂ ⊑ T.lives) (emp 𝓤) le) $ join ! $ move ! (1 ∷ 0 ∷ []) $
     use2 𝓛 (raw (G.pre z)) (id⊢ 𝓤 _) $
-    calls_at ! fm G (cut.met 𝓤 𝓛 𝓜 𝓡 (compiled.calls-imgref::rows::RowsIterMut::split_last 𝓡.env wired) T L) z (and_then ! (get ! refl) (no_more !)) (λ v₂.
+    calls_at ! fm G (cut.met 𝓤 𝓛 𝓜 𝓡 (compiled.calls-imgref::rows::RowsIterMut::split_first 𝓡.env wired) T L) z (and_then ! (get ! refl) (no_more !)) (λ v₂.
     use1 𝓛 (later (some (λ (r : MutBor (List T.Denot) × RowsIterMut T.Denot). (Tok ⊛ ‵ (Cut.own_val r (v₂ ∷ []))) ⊛ some (λ (ws : (Unit {0} × Unit {0}) × Unit {0}). ‵ (lasts (g.ended T) z.0.0 z.0.3 ws)
-    ⊛ (‵ (hands_back R h (Some r.0) r.1) ⊛ raw (fact 𝓤 (Steps (Some r.0) r.1)) ⊛ raw (fact 𝓤 (Moves (Some r.0) r.1))))))) (id⊢ 𝓤 _) $
+    ⊛ (‵ (hands_on R h (Some r.0) r.1) ⊛ raw (fact 𝓤 (Steps (Some r.0) r.1)) ⊛ raw (fact 𝓤 (Moves (Some r.0) r.1))))))) (id⊢ 𝓤 _) $
     await ! tt $ pick ! (λ r. split ! $ split ! $ move ! (2 ∷ []) $ pick ! (λ ws. split ! $ drop ! $ split ! $ move ! (1 ∷ []) $ split ! $ heard ! (Steps (Some r.0) r.1) (λ steps. heard ! (Moves (Some r.0) r.1) (λ moves.
     -- [what follows; the tokens; the row and what is left; its token; the iterator]
     move ! (2 ∷ []) $ peeks ! Cut (Is Cut) (shows 𝓛 Cut) r (v₂ ∷ []) (λ is₂. let t₂ = cut_told α R r (v₂ ∷ []) is₂ in
@@ -170,7 +169,7 @@ next_back_spec 𝓤 𝓛 𝓜 𝓡 wired T L =
     move ! (2 ∷ []) $ use1 𝓛 (‵ (Row.own_val (Some r.0) (word ∷ []))) (Some-of 𝓛 Slice r.0 row_word) $
     -- [the result; the iterator; its token; what follows; the tokens]
     move ! (3 ∷ []) $ use0 𝓛 (raw (fact 𝓤 (Moves (Some r.0) r.1))) (fact_i 𝓤 (Moves (Some r.0) r.1) (emp 𝓤) moves) $ join ! $
-    use0 𝓛 (raw (fact 𝓤 (Goes (Some r.0) r.1))) (fact_i 𝓤 (Goes (Some r.0) r.1) (emp 𝓤) (firm (tt, tt, omega (arith, ap length steps, length-append (muts_left r.1) (r.0.now ∷ []))) (λ _. tt))) $ join ! $
+    use0 𝓛 (raw (fact 𝓤 (Goes (Some r.0) r.1))) (fact_i 𝓤 (Goes (Some r.0) r.1) (emp 𝓤) (firm (tt, tt, omega (arith, ap length steps)) (λ _. tt))) $ join ! $
     use0 𝓛 (raw (fact 𝓤 (Steps (Some r.0) r.1))) (fact_i 𝓤 (Steps (Some r.0) r.1) (emp 𝓤) steps) $ join ! $ move ! (1 ∷ []) $
     -- [the result; the ensures; the iterator; its token; the tokens]
     nothing ! $ move ! (3 ∷ 0 ∷ []) $ fjoin ! $ move ! (3 ∷ 4 ∷ []) $ join ! $ move ! (0 ∷ 1 ∷ 2 ∷ 3 ∷ []) $
