@@ -81,6 +81,13 @@ impl<'a, T> PixelsRefIter<'a, T> {
         }
     }
 
+    // How many pixels are left in the line.
+    fn left_in_line(&self) -> usize
+        ensures { result ≤ length (refs_left self.now) }
+    {
+        self.left
+    }
+
     // The pixels of a fitting layout.
     pub(crate) fn of_layout(
         cells: &'a [T],
@@ -154,6 +161,36 @@ impl<T> FusedIterator for PixelsRefIter<'_, T> {}
 #[derive(Drop)]
 pub struct PixelsIter<'a, T: Copy> {
     inner: PixelsRefIter<'a, T>,
+}
+
+impl<T: Copy> PixelsIter<'_, T> {
+    ghost use Rattle.std.specs.Prelude.{◌≡◌};
+    ghost use Rattle.std.specs.List.{fold};
+    ghost use Rattle.std.specs.Iterator.{CallableInFold, FoldsItems, ActsAsOnTwo};
+    ghost use Rattle.std.specs.Iterator.Runs.{WholeRun};
+    ghost use Rattle.imgref.specs.Pixels.{copies_left};
+
+    /// What `f` makes of `init` and of each pixel in turn, as the iterator's own `fold` gives it.
+    ///
+    /// It goes a line at a time, so that each line is a loop of its own: a sum by it is as fast as
+    /// one over the cells, where a `for` over wide rows of small pixels isn't.
+    pub fn fold<B, F: FnMut(B, T) -> B>(mut self, init: B, mut f: F) -> B
+        requires callable { CallableInFold (YieldsFirst copies_left) F.FnMut self f init }
+        ensures ran { FoldsItems (YieldsFirst copies_left) F.FnMut self.entry f init result }
+        ensures runs { WholeRun (YieldsFirst copies_left) self.entry (λ p. (h : B → T → B) → ActsAsOnTwo F.FnMut f h → result ≡ fold h init p.items) }
+    {
+        let mut acc = init;
+        'lines: while let Some(pixel) = self.next() {
+            acc = f(acc, pixel);
+            'line: while self.inner.left_in_line() > 0 {
+                let Some(pixel) = self.next() else {
+                    break;
+                };
+                acc = f(acc, pixel);
+            }
+        }
+        acc
+    }
 }
 
 impl<T: Copy> Iterator for PixelsIter<'_, T> {

@@ -1,4 +1,4 @@
-ghost use Rattle.std.specs.Prelude.{◌≡◌, ◌+◌, ◌*◌, ◌^◌, ◌<◌, ◌↔◌, IsTrue, All, count_by, fold, nat_eq, drop};
+ghost use Rattle.std.specs.Prelude.{◌≡◌, ◌+◌, ◌*◌, ◌%◌, ◌^◌, ◌<◌, ◌↔◌, IsTrue, All, count_by, fold, nat_eq, drop};
 ghost use Rattle.image_model.specs.Layout.{Fits};
 ghost use Rattle.image_model.specs.Rows.{pixels};
 ghost use Rattle.imgref.specs.Image.{width_of, height_of, ref_layout, mut_layout, vec_layout};
@@ -33,6 +33,15 @@ fn sum_of(image: ImgRef<'_, u64>) -> u64
     ensures { result ≡ fold (λ a x. a + x) 0 (pixels (ref_layout image.entry)) }
 {
     image.pixels().sum()
+}
+
+fn wrapping_sum(image: ImgRef<'_, u8>) -> u64
+    requires { Fits (ref_layout image) }
+    ensures { result ≡ fold (λ a x. (a + x) % 2 ^ 64) 0 (pixels (ref_layout image.entry)) }
+{
+    image
+        .pixels()
+        .fold(0u64, |sum, pixel| sum.wrapping_add(pixel as u64))
 }
 
 // And from a loop.

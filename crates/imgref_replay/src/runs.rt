@@ -87,13 +87,13 @@ fn count_equal<T: Copy + Eq>(image: ImgRef<'_, T>, value: T) -> usize
     requires { Fits (ref_layout image) }
     ensures { result ≡ count_by (λ pixel. T.eq pixel value) (pixels (ref_layout image.entry)) }
 {
-    let mut count = 0;
-    for pixel in image.pixels() {
+    image.pixels().fold(0usize, |count, pixel| {
         if pixel == value {
-            count += 1;
+            count.wrapping_add(1)
+        } else {
+            count
         }
-    }
-    count
+    })
 }
 
 /// How many pixels of a window are equal to the value.
