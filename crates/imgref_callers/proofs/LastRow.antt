@@ -20,7 +20,7 @@ use Rattle.image_model.proofs.Windows.{HasWindow, stretch_window, handed_on_grid
 use Rattle.imgref.specs.Rows.{all_lines, muts_left, cells_left, lines_left, behind_last, MovesLast}
 use Rattle.imgref.specs.declared.rows.RowsIterMut.{RowsIterMut}
 use Rattle.imgref.proofs.RowsLeft.{some_column}
-use Rattle.imgref_callers.specs.Rows.{with_last_row, filled_row}
+use Rattle.imgref_callers.specs.Rows.{with_last_row, with_last_of}
 
 -- ---- what a step from the back says, of an iterator over all rows
 
@@ -32,7 +32,7 @@ module _ {T : Type 0} (l : Layout T) (s t : RowsIterMut T) (value : T) (cells : 
   pub none_left : YieldsLastMut muts_left s None t → MovesLast s None t → cells_left t ≡ filled_cells
   none_left steps moved =
       let none : 0 ≡ row_count l.width l.height = sym (ap length steps.0) ∙ counted in
-      ap (λ (r : RowsIterMut T). cells_left r) moved ∙ cells ∙ ap (λ n. filled_row n (all_lines l.width l.height l.stride) value l.cells) none
+      ap (λ (r : RowsIterMut T). cells_left r) moved ∙ cells ∙ ap (λ n. with_last_of n (all_lines l.width l.height l.stride) value l.cells) none
 
   -- and else the step gives the last one
   pub last_left : Fits l → All (λ row. length row ≡ l.width) (muts_left s) → (row : MutBor (List T)) → YieldsLastMut muts_left s (Some row) t → MovesLast s (Some row) t
@@ -62,7 +62,7 @@ module _ {T : Type 0} (l : Layout T) (s t : RowsIterMut T) (value : T) (cells : 
       let front : cells_left t ≡ take start l.cells = sym (take-append_seam (cells_left t) (row.now ++ behind_last s)) ∙ ap (λ k. take k (cells_left t ++ (row.now ++ behind_last s))) before ∙ ap (take start) parts in
       let more : suc (n - 1) ≡ n = omega (arith, some) in
       (λ i. front i ++ (replicate (wide i) value ++ back i))
-      ∙ ap (λ k. filled_row k (all_lines l.width l.height l.stride) value l.cells) more
+      ∙ ap (λ k. with_last_of k (all_lines l.width l.height l.stride) value l.cells) more
 
 -- ---- what the image shows
 
@@ -73,7 +73,7 @@ all_alike (suc n) value (suc i) h = all_alike n value i (omega arith)
 
 module _ {T : Type 0} (l : Layout T) (narrow : l.width ≤ l.stride) (fits : Fits l) (value : T) where
   abbrev with_rows : ℕ → Layout T
-  with_rows n = record l { cells = filled_row n (all_lines l.width l.height l.stride) value l.cells }
+  with_rows n = record l { cells = with_last_of n (all_lines l.width l.height l.stride) value l.cells }
 
   -- one row of the value
   abbrev one_row : Layout T

@@ -8,7 +8,7 @@ ghost use Rattle.imgref_callers.specs.Rows.{with_last_row};
 
 use imgref::{AsMutSlice, Img};
 
-// Every cell becomes `value`.
+// Every cell becomes `value`. The slice's own `fill` asks for a `clone` that cannot fail.
 fn fill_row<T: Copy>(row: &mut [T], value: T)
     ensures { row.new ≡ replicate (length row.old) value }
 {

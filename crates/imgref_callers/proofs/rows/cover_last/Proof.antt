@@ -1,7 +1,6 @@
 -- `cover_last` lends the image to an iterator, takes its last row, fills that and lets the iterator go: the image ends as its cells do. Assumes `Logic`.
 use mathlib.Core.Path.{◌≡◌, refl, sym, ap, subst}
 use Prim.Native.Nat.{ℕ, ◌^◌, ◌<◌}
-use Rattle.std.proofs.Common.{⊎_elim}
 use mathlib.Core.List.{List, [], ◌∷◌, ◌++◌}
 use lib.ListN.{length, replicate}
 use lib.Dec.{T, lit<}
@@ -44,6 +43,7 @@ use denote.Triple.Spec.{triple_of}
 use denote.Triple.Table.{framed}
 use denote.Triple.Walked.{Stays, stay_ref, stay_dropped, walk_of, Goes-ref, Goes-dropped}
 use Rattle.std.proofs.raw_atomic.Walks.{proved, leaves}
+use Rattle.std.proofs.Common.{⊎_elim}
 use Rattle.std.proofs.alloc.Shapes.{after}
 use Rattle.std.specs.Prelude.{Option, Some, None, All}
 use Rattle.std.specs.Iterator.{MakesProgress, item_count, YieldsLastMut}
@@ -166,11 +166,11 @@ cover_last_spec 𝓤 𝓛 𝓜 𝓡 wired X Y LX LY CY gh d gs ds gc dc bm bs bc
     -- [what the call asks; what is kept of the loan; the end of β; κ₁; what follows; what is kept; the end of α; the value]
     calls_at ! fm G₂ (stepping.met 𝓤 𝓛 𝓜 𝓡 (compiled.calls-imgref::rows::RowsIterMutDoubleEndedIterator::next_back 𝓡.env wired) Y LY) z₂ (and_then ! (get ! refl) (no_more !)) (λ v₂.
     let Slice : RattleType = MutSlice (named 1) α R in
-    let Item' : Type 0 = Option (MutBor (List Y.Denot)) in
-    let Steps : Item' → Sort → Type 0 = YieldsLastMut muts_left r in
-    let Goes : Item' → Sort → Type 0 = MakesProgress (λ _. Unit {0}) (item_count muts_left) r in
-    let Moves : Item' → Sort → Type 0 = MovesLast r in
-    use1 𝓛 (later (some (λ (m : Item'). ((‵ (flft β qβ) ⊛ ‵ (flft α (Share.right qα)) ⊛ ‵ (flft κ₂ q₂) ⊛ ‵ ftrue) ⊛ ‵ ((OP.the_row Slice).own_val m (v₂ ∷ []))) ⊛ some (λ (ws : Sort × Unit {0}). ‵ (lasts (N.ended Y) z₂.0.0 z₂.0.3 ws)
+    let Given : Type 0 = Option (MutBor (List Y.Denot)) in
+    let Steps : Given → Sort → Type 0 = YieldsLastMut muts_left r in
+    let Goes : Given → Sort → Type 0 = MakesProgress (λ _. Unit {0}) (item_count muts_left) r in
+    let Moves : Given → Sort → Type 0 = MovesLast r in
+    use1 𝓛 (later (some (λ (m : Given). ((‵ (flft β qβ) ⊛ ‵ (flft α (Share.right qα)) ⊛ ‵ (flft κ₂ q₂) ⊛ ‵ ftrue) ⊛ ‵ ((OP.the_row Slice).own_val m (v₂ ∷ []))) ⊛ some (λ (ws : Sort × Unit {0}). ‵ (lasts (N.ended Y) z₂.0.0 z₂.0.3 ws)
     ⊛ (raw (fact 𝓤 (Steps m ws.0)) ⊛ (raw (fact 𝓤 (Goes m ws.0)) ⊛ (raw (fact 𝓤 (Moves m ws.0)) ⊛ ‵ (hands_back R r m ws.0)))))))) (id⊢ 𝓤 _) $
     await ! tt $ pick ! (λ m. split ! $ move ! (1 ∷ []) $ pick ! (λ ws₂. let t : Sort = ws₂.0 in split ! $ fsplit ! $ fsplit ! $ move ! (3 ∷ []) $
     split ! $ heard ! (Steps m t) (λ steps. split ! $ drop ! $ split ! $ heard ! (Moves m t) (λ moved.
@@ -212,21 +212,21 @@ cover_last_spec 𝓤 𝓛 𝓜 𝓡 wired X Y LX LY CY gh d gs ds gc dc bm bs bc
     by ! (leaves 𝓛 En hs c bound vunit tt (F zs, (tt, tt)) (tt, (tt, tt))) in
     ⊎_elim
     (λ (e : m ≡ None).
-    let at_end : t ≡ r = subst (λ (m' : Item'). Moves m' t) e moved in
-    rewrite ! 3 (λ (m' : Item'). ‵ ((OP.the_row Slice).own_val m' (v₂ ∷ []))) e refl $
+    let at_end : t ≡ r = subst (λ (m' : Given). Moves m' t) e moved in
+    rewrite ! 3 (λ (m' : Given). ‵ ((OP.the_row Slice).own_val m' (v₂ ∷ []))) e refl $
     move ! (3 ∷ []) $ use1 𝓛 (‵ (feq (List Val) (v₂ ∷ []) (live 0 (of_list []) ∷ []))) (none_out 𝓛 Slice v₂) $ feq_l ! (λ is.
     lands_as ! (ap only is) refl (tt, (record { fits = lit< tt }, tt)) $
     first ! $ switches_on ! (get_tag ! (vrt ! refl (fld ! refl (stop !))) (all_of !)) $ exec ! 𝓣.C 𝓣.Λ E skip next $ skips ! $
     exec ! 𝓣.C 𝓣.Λ E rest (at_ret E Post) $ forget_but ! E (1 ∷ 2 ∷ []) refl $
     -- [how the iterator's cells end; α; κ₂; what follows the row; κ₁; what follows; what is kept; the end of α; the value]
     rewrite ! 0 (λ (s : Sort). Res (name_of s) (cells_left t)) at_end refl $
-    rewrite ! 0 (Res (name_of r)) (none_left old r t value cells in_lines counted (subst (λ (m' : Item'). Steps m' t) e steps) at_end) refl $
+    rewrite ! 0 (Res (name_of r)) (none_left old r t value cells in_lines counted (subst (λ (m' : Given). Steps m' t) e steps) at_end) refl $
     move ! (3 ∷ 8 ∷ []) $ drop ! $ drop ! $ tail))
     (λ (found : (y : MutBor (List Y.Denot)) × (m ≡ Some y)). let y : MutBor (List Y.Denot) = found.0 in let e : m ≡ Some y = found.1 in
     let ν : GName = y.ghost_name in let full : List Y.Denot = replicate (length y.now) value in
     let ends : List Y.Denot → List Y.Denot → List Y.Denot = λ row before. before ++ (row ++ behind_last r) in
-    rewrite ! 3 (λ (m' : Item'). ‵ ((OP.the_row Slice).own_val m' (v₂ ∷ []))) e refl $
-    rewrite ! 4 (λ (m' : Item'). ‵ (hands_back R r m' t)) e refl $
+    rewrite ! 3 (λ (m' : Given). ‵ ((OP.the_row Slice).own_val m' (v₂ ∷ []))) e refl $
+    rewrite ! 4 (λ (m' : Given). ‵ (hands_back R r m' t)) e refl $
     move ! (3 ∷ []) $ use1 𝓛 (‵ (feq (List Val) (v₂ ∷ []) (live 1 (of_list (row_val y ∷ [])) ∷ [])) ⊛ ‵ (Slice.own_val y (row_val y ∷ []))) (some_row 𝓛 (named 1) α R y v₂) $ split ! $ feq_l ! (λ is.
     peeks ! Slice (Is Slice) (shows 𝓛 Slice) y (row_val y ∷ []) (λ is_row.
     let f₀ : length y.now < 2 ^ 64 = is_row.0.1.0 in
@@ -251,7 +251,7 @@ cover_last_spec 𝓤 𝓛 𝓜 𝓡 wired X Y LX LY CY gh d gs ds gc dc bm bs bc
     use1 𝓛 (Res ν ws₃.0) (finally-res 𝓛 R ν ws₃.0) $ rewrite ! 0 (Res ν) is_full refl $
     move ! (0 ∷ 6 ∷ []) $ use2 𝓛 (‵ (ends_as A₀ A₀ (name_of r) (name_of t) (ends full))) (ends_beside 𝓛 A₀ A₀ A₀ (name_of r) ν (name_of t) ends full) $
     move ! (0 ∷ 5 ∷ []) $ use2 𝓛 (Res (name_of r) (ends full (cells_left t))) (ends_said 𝓛 A₀ A₀ (name_of r) (name_of t) (ends full) (cells_left t)) $
-    rewrite ! 0 (Res (name_of r)) (last_left old r t value cells in_lines counted fits wide y (subst (λ (m' : Item'). Steps m' t) e steps) (subst (λ (m' : Item'). Moves m' t) e moved)) refl $
+    rewrite ! 0 (Res (name_of r)) (last_left old r t value cells in_lines counted fits wide y (subst (λ (m' : Given). Steps m' t) e steps) (subst (λ (m' : Given). Moves m' t) e moved)) refl $
     -- [how the cells end; the row's length; its borrow; nothing; the tokens; κ₁; what follows; what is kept; the end of α]
     move ! (1 ∷ 2 ∷ 3 ∷ []) $ drop ! $ drop ! $ drop ! $ move ! (1 ∷ []) $ split3 ! $ move ! (2 ∷ []) $ drop ! $ forget_but ! E (1 ∷ 2 ∷ []) refl $ move ! (2 ∷ 0 ∷ 1 ∷ []) $ tail))))))))
     (none_or_some m)
