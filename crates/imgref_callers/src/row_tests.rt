@@ -4,6 +4,7 @@ ghost use Rattle.image_model.specs.Rows.{row_count};
 ghost use Rattle.imgref.specs.Rows.{refs_left};
 ghost use Rattle.imgref.specs.Image.{width_of, height_of, ref_layout, mut_layout, vec_layout};
 
+use crate::fill_last_row;
 use imgref::{Img, ImgRef, ImgRefMut, ImgVec, RowsIter};
 use std::alloc::{AllocError, Global};
 use std::iter::{ExactSizeIterator, FusedIterator};
@@ -158,6 +159,26 @@ fn a_written_row_stands_alone(rt: HostRuntime) -> Result<(), Fail> {
         row.fill(0);
     }
     assert_eq!(rt; cells, left);
+    Ok(())
+}
+
+#[test]
+fn the_last_row_is_filled(rt: HostRuntime) -> Result<(), Fail> {
+    let mut owned = padded(rt.alloc())?;
+    assert!(rt; owned.is_valid());
+    fill_last_row(&mut owned, 0);
+    assert_eq!(rt;
+        owned.buf().as_slice(),
+        [1u8, 2, 3, 4, 0, 0, 0, 8, 9].as_slice()
+    );
+    // Neither an image without columns nor one without lines has a row.
+    for (width, height) in [(0usize, 2usize), (3, 0)] {
+        let mut cells = PADDED;
+        let mut lent: ImgRefMut<'_, u8> = Img::new_stride(cells.as_mut_slice(), width, height, 4);
+        assert!(rt; lent.is_valid());
+        fill_last_row(&mut lent, 0);
+        assert_eq!(rt; cells, PADDED, "{width} by {height}");
+    }
     Ok(())
 }
 

@@ -1,4 +1,4 @@
-use Rattle.std.proofs.Common.{◌≡◌, List, [], ◌∷◌, drop, Option, Some, None, sym, ap, ◌∙◌, drop-drop}
+use Rattle.std.proofs.Common.{◌≡◌, List, drop, Option, Some, None, sym, ap, ◌∙◌, drop-drop}
 use Rattle.std.specs.Iterator.{YieldsFirst}
 use Rattle.imgref.specs.Pixels.{copies_left}
 use Rattle.imgref_callers.proofs.pixel_tests.skip_pixels.Goals as goal

@@ -1,0 +1,45 @@
+ghost use Rattle.std.specs.Prelude.{◌≡◌, ◌-◌, length, replicate};
+ghost use Rattle.image_model.specs.Layout.{Fits, SameOutside};
+ghost use Rattle.image_model.specs.Grid.{grid_of, patch, uniform};
+ghost use Rattle.imgref.specs.Image.{buf_of, width_of, height_of, stride_of, with_buf, layout_by};
+ghost use Rattle.image_model.specs.Windows.{whole};
+ghost use Rattle.imgref.specs.Rows.{all_lines};
+ghost use Rattle.imgref_callers.specs.Rows.{with_last_row};
+
+use imgref::{AsMutSlice, Img};
+
+// Every cell becomes `value`. The slice's own `fill` asks for a `clone` that cannot fail.
+fn fill_row<T: Copy>(row: &mut [T], value: T)
+    ensures { row.new ≡ replicate (length row.old) value }
+{
+    for i in 0..row.len() {
+        row[i] = value;
+    }
+}
+
+// The last row becomes `value`, and every other cell stays.
+fn cover_last<'a, C: AsMutSlice>(image: &'a mut Img<C>, value: C::Item)
+where
+    C::Item: Copy + 'a,
+    requires fits { Fits (layout_by C.AsSlice.cells image.old) }
+    ensures { image.new ≡ with_buf image.old (C.with_cells (buf_of image.old) (whole (C.AsSlice.cells (buf_of image.old))) (with_last_row (all_lines (width_of image.old) (height_of image.old) (stride_of image.old)) value (C.AsSlice.cells (buf_of image.old)))) }
+{
+    let mut rows = image.rows_mut();
+    if let Some(row) = rows.next_back() {
+        fill_row(row, value);
+    }
+}
+
+/// Every pixel of the last row becomes `value`, through an iterator that is dropped after one row;
+/// every other cell stays. An image of height or width 0 stays as it is. The image must fit, as
+/// `is_valid` tells.
+pub fn fill_last_row<'a, C: AsMutSlice>(image: &'a mut Img<C>, value: C::Item)
+where
+    C::Item: Copy + 'a,
+    requires fits { Fits (layout_by C.AsSlice.cells image.old) }
+    ensures grid { grid_of (layout_by C.AsSlice.cells image.new) ≡ patch (grid_of (layout_by C.AsSlice.cells image.old)) 0 (height_of image.old - 1) (uniform (width_of image.old) 1 value) }
+    ensures outside { SameOutside (layout_by C.AsSlice.cells image.old) (layout_by C.AsSlice.cells image.new) }
+    ensures container { image.new ≡ with_buf image.old (C.with_cells (buf_of image.old) (whole (C.AsSlice.cells (buf_of image.old))) (C.AsSlice.cells (buf_of image.new))) }
+{
+    cover_last(image, value);
+}
