@@ -65,8 +65,8 @@ use Rattle.imgref.proofs.PartsLeft.{given_up}
 use Rattle.imgref.proofs.RowsValues.{val_of, iter_told, iter_cells}
 use Rattle.imgref.specs.contracts.img.Img.rows_mut as M
 use Rattle.imgref.proofs.img.Img.rows_mut.Met as making
-use Rattle.imgref.specs.contracts.rows.RowsIterMutDoubleEndedIterator.next_back as N
-use Rattle.imgref.proofs.rows.RowsIterMutDoubleEndedIterator.next_back.Met as stepping
+use Rattle.imgref.specs.contracts.rows.RowsIterMut.next_back as N
+use Rattle.imgref.proofs.rows.RowsIterMut.next_back.Met as stepping
 use Rattle.imgref_callers.specs.Rows.{with_last_row}
 use Rattle.imgref_callers.proofs.GivenRow.{none_or_some, row_val, some_row}
 use Rattle.imgref_callers.proofs.LastRow.{none_left, last_left}
@@ -164,7 +164,7 @@ cover_last_spec 𝓤 𝓛 𝓜 𝓡 wired X Y LX LY CY gh d gs ds gc dc bm bs bc
     nothing ! $ move ! (1 ∷ 0 ∷ []) $ fjoin ! $ nothing ! $ move ! (6 ∷ 0 ∷ []) $ join ! $ move ! (5 ∷ 0 ∷ []) $ join ! $ move ! (3 ∷ 0 ∷ []) $ join ! $ join ! $
     nothing ! $ use0 𝓛 (raw (fact 𝓤 (κ₂ ⊑ Y.lives))) (fact_i 𝓤 (κ₂ ⊑ Y.lives) (emp 𝓤) inY) $ join ! $ move ! (1 ∷ 0 ∷ []) $ use2 𝓛 (raw (G₂.pre z₂)) (id⊢ 𝓤 _) $
     -- [what the call asks; what is kept of the loan; the end of β; κ₁; what follows; what is kept; the end of α; the value]
-    calls_at ! fm G₂ (stepping.met 𝓤 𝓛 𝓜 𝓡 (compiled.calls-imgref::rows::RowsIterMutDoubleEndedIterator::next_back 𝓡.env wired) Y LY) z₂ (and_then ! (get ! refl) (no_more !)) (λ v₂.
+    calls_at ! fm G₂ (stepping.met 𝓤 𝓛 𝓜 𝓡 (compiled.calls-imgref::rows::RowsIterMut::next_back 𝓡.env wired) Y LY) z₂ (and_then ! (get ! refl) (no_more !)) (λ v₂.
     let Slice : RattleType = MutSlice (named 1) α R in
     let Given : Type 0 = Option (MutBor (List Y.Denot)) in
     let Steps : Given → Sort → Type 0 = YieldsLastMut muts_left r in
