@@ -13,3 +13,4 @@ pub mod RowsValues
 pub mod PartsLeft
 pub mod Lifetimes
 pub mod RowsTaken
+pub mod Filling
