@@ -14,3 +14,4 @@ pub mod PartsLeft
 pub mod Lifetimes
 pub mod RowsTaken
 pub mod Folds
+pub mod Filling

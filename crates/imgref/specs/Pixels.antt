@@ -1,5 +1,5 @@
 -- What a contract sees of a pixel cursor: the pixels that it still gives, and how writes come back.
-use Rattle.std.specs.Prelude.{◌≡◌, ℕ, Bool, List, ◌∷◌, ◌++◌, take, length, replicate, true, false, Option, Some, None}
+use Rattle.std.specs.Prelude.{◌≡◌, ◌<◌, ℕ, Bool, List, [], ◌∷◌, ◌++◌, take, length, replicate, true, false, Option, Some, None}
 use Rattle.std.specs.Borrow.{MutBor, GName, Fml, RattleType, ftrue, fsep, follows_both, Array}
 use base.Fml.{fres, fall, fwand, fex, feq}
 use base.Stored.{coded_list}
@@ -63,6 +63,16 @@ leaves_as R s = fres (name_of s) ((coded_list R.coded).code (cells_left s))
 -- whoever learns the last value of the second name learns the first one's
 abbrev pub ends_as : (R S : RattleType) → GName → GName → (S.Denot → R.Denot) → Fml
 ends_as R S γ δ F = fall S.Denot (λ w. fwand (fres δ (S.coded.code w)) (fres γ (R.coded.code (F w))))
+
+-- whether a pixel was left: fewer are now, or there is none before and after
+abbrev pub Wrote : {T : Type 0} → PixelsIterMut T → Bool → PixelsIterMut T → Type 0
+Wrote s true t = length (muts_left t) < length (muts_left s)
+Wrote s false t = (muts_left s ≡ []) × (muts_left t ≡ [])
+
+-- some of the pixels to come have one value: the cells of s end as some cells and then as those of t, and filling what t has left makes of both what filling s would
+abbrev pub fills_some : (R : RattleType) → R.Denot → PixelsIterMut R.Denot → PixelsIterMut R.Denot → Fml
+fills_some R v s t = fex (List R.Denot) (λ done. fsep (feq (List R.Denot) (done ++ covered (marks_left t) v (cells_left t)) (covered (marks_left s) v (cells_left s)))
+    (ends_as (Array R 0) (Array R 0) (name_of s) (name_of t) (λ ws. done ++ ws)))
 
 -- the cells of s end as some cells and then as those of t, which together are those of s with one value at each mark
 abbrev pub fills : (R : RattleType) → R.Denot → PixelsIterMut R.Denot → PixelsIterMut R.Denot → Fml

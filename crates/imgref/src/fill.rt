@@ -5,19 +5,48 @@ ghost use Rattle.image_model.specs.Grid.{grid_of, uniform};
 ghost use Rattle.image_model.specs.Windows.{whole};
 ghost use Rattle.imgref.specs.Image.{buf_of, width_of, height_of, stride_of, with_buf, layout_by};
 ghost use Rattle.imgref.specs.Marks.{covered, marks_of};
-ghost use Rattle.imgref.specs.Pixels.{fills};
+ghost use Rattle.imgref.specs.Pixels.{Wrote, fills, fills_some};
 
 use crate::containers::{AsMutSlice, AsSlice};
 use crate::img::Img;
 use crate::pixels::PixelsIterMut;
 
-// Every pixel that is still to come becomes `value`.
+// The next pixel becomes `value`; false where there is none.
+#[inline(always)]
+fn write_next<T: Copy>(pixels: &mut PixelsIterMut<'_, T>, value: T) -> bool
+    ensures wrote { Wrote pixels.old result pixels.new }
+    ensures* hands_on { sem 𝓛 (fills_some T.row value pixels.old pixels.new) }
+{
+    match pixels.next() {
+        Some(pixel) => {
+            *pixel = value;
+            true
+        }
+        None => false,
+    }
+}
+
+// The next pixel and those after it in its line become `value`; false where there is none.
+//
+// The test of the line's count at each turn makes the turns of one line a loop of their own, of
+// which the compiler makes vector code.
+#[inline(always)]
+fn fill_line<T: Copy>(pixels: &mut PixelsIterMut<'_, T>, value: T) -> bool
+    ensures wrote { Wrote pixels.old result pixels.new }
+    ensures* hands_on { sem 𝓛 (fills_some T.row value pixels.old pixels.new) }
+{
+    let some = write_next(pixels, value);
+    while pixels.left > 0 {
+        write_next(pixels, value);
+    }
+    some
+}
+
+// Every pixel that is still to come becomes `value`, a line at a time.
 fn fill_rest<T: Copy>(pixels: &mut PixelsIterMut<'_, T>, value: T)
     ensures* hands_on { sem 𝓛 (fills T.row value pixels.old pixels.new) }
 {
-    while let Some(pixel) = pixels.next() {
-        *pixel = value;
-    }
+    while fill_line(pixels, value) {}
 }
 
 // Every pixel becomes `value`, and every other cell stays.

@@ -235,7 +235,7 @@ impl<T: Copy> FusedIterator for PixelsIter<'_, T> {}
 /// the items that it gave leave theirs, and all others as they were.
 pub struct PixelsIterMut<'a, T> {
     current: *mut T,
-    left: usize,
+    pub(crate) left: usize,
     rows_left: usize,
     width: usize,
     pad: usize,
