@@ -1,10 +1,10 @@
 -- A fold that is under way: how the items so far were folded, and that the closure takes those to come.
-use Rattle.std.proofs.Common.{◌≡◌, ℕ, List, ◌∷◌, [], ◌++◌, Option, Some}
-use Rattle.std.proofs.iter.Next.{Ran, again, said, Serves-on, drained}
+use Rattle.std.proofs.Common.{◌≡◌, Option, Some}
+use Rattle.std.proofs.iter.Next.{Ran, again, said, Serves-on}
 use Rattle.std.proofs.slice.Lists.{chained_more}
 use Rattle.std.specs.Fn.{Called}
 use Rattle.std.specs.List.{FoldsTo}
-use Rattle.std.specs.Iterator.{Count, CallableInFold, FoldsItems, FoldTurn, EndsFrom, MakesProgress, items_left}
+use Rattle.std.specs.Iterator.{Count, CallableInFold, FoldTurn, EndsFrom, MakesProgress, items_left}
 use denote.Param.Members.{Mut}
 
 module _ {S A F B : Type 0} (steps : S → Option A → S → Type 0) (left : S → Count) (g : Mut F (B × (A × Unit {0})) B) (f₀ : F) (b₀ : B) (s₀ : S) where

@@ -1,5 +1,5 @@
 -- Counting by steps of one that could wrap is counting, where the whole count fits.
-use Rattle.std.proofs.Common.{◌≡◌, refl, sym, ℕ, ◌+◌, ◌<◌, ◌≤◌, ◌^◌, ◌%◌, arith, Bool, true, false, cond, List, [], ◌∷◌, length, ◌∙◌, ap}
+use Rattle.std.proofs.Common.{◌≡◌, refl, ℕ, ◌+◌, ◌<◌, ◌≤◌, ◌^◌, ◌%◌, arith, Bool, true, false, cond, List, [], ◌∷◌, length, ◌∙◌, ap}
 use Rattle.std.proofs.Math.Nat.{mod-eq_of_lt}
 use Rattle.std.specs.List.{fold}
 
