@@ -4,33 +4,35 @@ use Prim.Native.Nat.{ℕ, ◌<◌}
 use native.Mathlib.Omega.{arith}
 use mathlib.Core.Bool.{Bool, true, false}
 use mathlib.Core.List.{List, [], ◌∷◌, ◌++◌, append_assoc}
+use lib.Dec.{T}
 use lib.ListN.{length}
 use seplogic.Ra.Ura.{Ura}
 use mir.Syntax.{Dict, Args, named, a_type, dcons, dnil, seq, assign, block, loop, cond, switch, exit, return, call, call_v, unreachable, lend_static, skip}
 use mir.Syntax.{Body as Code}
-use mir.Val.{Val, vptr, vbool}
-use base.Logic.{SProp, ent, sep, emp, ex, apply∗, id⊢, guard}
+use mir.Val.{Val, vptr, vbool, has_ty, WT}
+use base.Logic.{SProp, ent, sep, emp, ex, apply∗, id⊢}
 use base.Share
 use base.Fml.{Lft, GName, Share, Fml, ftrue, fsep, feq, fdead, fres, fbor, flft}
 use prog.Memory.{Memory}
 use prog.Routine.{Routine}
 use types.Logic.{Logic, sem}
 use types.SemTy.{Body}
-use types.Kit.{Item, mean, ‵, raw, ◌⊛◌, some, later, ◌$◌, ◌∵◌, !, qed, by, move, keep, use0, use1, use2, use3, split, split3, join, fsplit, fjoin, fpick, fpack, feq_i, feq_l, pick, await, updating, rewrite, group, show, check, done, now as at_once}
+use types.Kit.{Item, Goal, Soaks, Seq, mean, ‵, raw, ◌⊛◌, some, later, ◌$◌, ◌∵◌, !, qed, by, move, keep, drop, use0, use1, use2, use3, split, split3, join, fsplit, fjoin, fpick, fpack, feq_i, feq_l, pick, await, updating, rewrite, group, suffices, show, done, now as at_once}
 use contract.Monad.{Fun, fact, fact_i}
 use contract.BorrowLft.{◌⊑◌, ⊑_trans, meet_⊑_right}
-use contract.Lifetimes.{Lfts, AllOutlive}
+use contract.Lifetimes.{Lfts, Shares, AllOutlive}
 use denote.RattleType.{RattleType}
 use denote.Array.{Array}
 use denote.Builtin.{bool}
 use denote.Exit.{no}
 use denote.Lend.{LentAgain, lends_again, comes_back}
 use denote.Memory.{mem}
-use denote.Param.{copied, bounded}
-use denote.Param.Laws.{Laws, IsCopy, copied_copy}
-use denote.Ref.{MutRef}
+use denote.Param.{copied, layout, bounded}
+use denote.Param.Laws.{Laws, IsCopy, copied_laws, copied_copy}
+use denote.Laws.{Is}
+use denote.Ref.{MutRef, MutBor, mut_vals}
 use denote.Signature.{plain, named_lft}
-use denote.Steps.{nothing, heard}
+use denote.Steps.{nothing, heard, only}
 use denote.Triple.Clauses.{Ended}
 use denote.Triple.Entry.{on_entry}
 use denote.Triple.Spec.{triple_of}
@@ -126,6 +128,7 @@ module _ (E : El) where
     pub ro : ℕ
     pub γ : GName
     pub value : D
+    pub good : T (has_ty (layout E.X) (w value)) × WT (w value)
 
 module _ (E : El) {M : Type 1} {𝓤 : Ura M} (𝓛 : Logic 𝓤) (v : D E) where
   -- some, and then some more
@@ -151,39 +154,38 @@ module _ (E : El) {M : Type 1} {𝓤 : Ura M} (𝓛 : Logic 𝓤) (v : D E) wher
       feq_i ! (List (D E)) (all ++ cells_left t) (cov E v s) (ap (λ zs. all ++ zs) (sym (covered_none (marks_left t) v (cells_left t) none)) ∙ e) $ fjoin ! $
       fpack ! (List (D E)) (λ (zs : List (D E)). fsep (feq (List (D E)) (zs ++ cells_left t) (cov E v s)) (ends_as (A₀ E) (A₀ E) s.name t.name (λ ws. zs ++ ws))) all $ done !))
 
-module _ (E : El) {M : Type 1} {𝓤 : Ura M} (𝓛 : Logic 𝓤) (at_mem : Memory → SProp 𝓤) (run : Routine → Fun 𝓤) (a : Given E) where
+module _ (E : El) {M : Type 1} {𝓤 : Ura M} (𝓛 : Logic 𝓤) (a : Given E) where
   open 𝓛 use {H, A}
-
-  -- what a function that fills some pixels promises
-  abbrev pub Fills : Contract 𝓤
-  Fills = triple_of 𝓛 (W.signature E.X) (W.spec E.X E.g E.d 𝓛 at_mem run)
 
   abbrev pub It : RattleType
   It = Cursor E (a.κ, (a.κ₁, (a.κ₂, tt)))
 
-  abbrev pub v : Val
+  abbrev v : Val
   v = w E a.value
 
   abbrev pub owned : Fml
   owned = (Y E).own_val a.value (v ∷ [])
 
-  abbrev pub lent : Lft → GName → Sort E → Fml
+  abbrev lent : Lft → GName → Sort E → Fml
   lent κ' δ s = (MutRef (named 0) κ' It).own_val (record { ref_ptr = (a.rb, a.ro); ghost_name = δ; now = s }) (vptr a.rb a.ro ∷ [])
 
   -- the cursor, the value and the tokens
   abbrev pub Held : Sort E → Item 𝓤
   Held s = ‵ (flft a.κ a.q) ⊛ ‵ (lent a.κ a.γ s) ⊛ ‵ (flft a.κ₁ a.q₁) ⊛ ‵ (flft a.κ₂ a.q₂) ⊛ ‵ owned
 
-  abbrev pub Some : Sort E → Sort E → Fml
-  Some s t = fills_some (Y E) a.value s t
+  -- what is filled between two states of the cursor
+  abbrev pub Filled : Sort E → Sort E → Item 𝓤
+  Filled s t = ‵ (fills_some (Y E) a.value s t)
 
-  -- what a function that takes such a cursor and a value has at its start
-  pub enters : (h : Sort E) → ent 𝓤 (on_entry 𝓛 (ended E).signature (a.κ, (a.κ₁, (a.κ₂, tt))) (a.q, (a.q₁, (a.q₂, tt))) (record { ref_ptr = (a.rb, a.ro); ghost_name = a.γ; now = h }, (a.value, tt)) (vptr a.rb a.ro ∷ [], (v ∷ [], tt))) (mean 𝓛 (Held h))
-  enters h =
-      qed 𝓛 ((‵ (flft a.κ a.q) ⊛ ‵ (flft a.κ₁ a.q₁) ⊛ ‵ (flft a.κ₂ a.q₂) ⊛ ‵ ftrue) ∷ ‵ (fsep (lent a.κ a.γ h) (fsep owned ftrue)) ∷ []) ∵
-      split3 ! $ move ! (2 ∷ []) $ split ! $ move ! (4 ∷ []) $ fsplit ! $ move ! (1 ∷ []) $ fsplit ! $
-      -- [the value; nothing; the cursor; T's token; nothing; its token; the token of 'a]
-      keep ! (5 ∷ 2 ∷ 6 ∷ 3 ∷ 0 ∷ []) $ done !
+  -- at the return the value is let go
+  pub left : (t : Sort E) (F : Fml) (P : SProp 𝓤) → ent 𝓤 (sep 𝓤 (mean 𝓛 (Held t)) (sep 𝓤 (sem 𝓛 F) P))
+      (sep 𝓤 (mean 𝓛 (‵ (flft a.κ a.q) ⊛ ‵ (flft a.κ₁ a.q₁) ⊛ ‵ (flft a.κ₂ a.q₂) ⊛ ‵ ftrue)) (sep 𝓤 (sem 𝓛 (fsep (lent a.κ a.γ t) (fsep ftrue ftrue))) (sep 𝓤 (sem 𝓛 F) P)))
+  left t F P =
+      qed 𝓛 (Held t ∷ ‵ F ∷ raw P ∷ []) ∵ split3 ! $ move ! (2 ∷ []) $ split3 ! $
+      -- ['a; T's token; the value; the cursor's token; the cursor; the result; the ensures]
+      nothing ! $ nothing ! $ fjoin ! $ move ! (5 ∷ 0 ∷ []) $ fjoin ! $ nothing ! $ move ! (3 ∷ 0 ∷ []) $ join ! $ move ! (2 ∷ 0 ∷ []) $ join ! $ move ! (3 ∷ 0 ∷ []) $ join ! $
+      -- [the tokens; the cursor; the value; the result; the ensures]
+      keep ! (0 ∷ 1 ∷ 3 ∷ 4 ∷ []) $ done !
 
   -- a lifetime and a name to lend the cursor under
   abbrev pub Loan : Type 0
@@ -193,18 +195,13 @@ module _ (E : El) {M : Type 1} {𝓤 : Ura M} (𝓛 : Logic 𝓤) (at_mem : Memo
     abbrev κ' : Lft
     κ' = p.0.0 ∷ a.κ₁
 
-    abbrev pub at_call : Fills.Ghost
-    at_call =
-        let below : κ' ⊑ a.κ₁ = meet_⊑_right (p.0.0 ∷ []) a.κ₁ in let above : a.κ₁ ⊑ a.κ₂ = a.bounds.1.1.0 in
-        (((κ', (a.κ₁, (a.κ₂, tt))), (p.0.1, (Share.right a.q₁, (a.q₂, tt))), (below, (⊑_trans κ' a.κ₁ a.κ₂ below above, (above, tt))), (record { ref_ptr = (a.rb, a.ro); ghost_name = p.1; now = s }, (a.value, tt)), (vptr a.rb a.ro ∷ [], (v ∷ [], tt))), tt)
-
-    -- what its owner keeps meanwhile
-    abbrev pub Kept : Item 𝓤
-    Kept = ‵ (LentAgain It a.κ κ' a.q a.γ a.rb a.ro p.1 s) ⊛ raw (Ends 𝓛 a.κ₁ (Share.left a.q₁) p.0.0 p.0.1) ⊛ ‵ owned
-
     -- what a function has of it
     abbrev pub Lent : Item 𝓤
     Lent = ‵ (flft κ' p.0.1) ⊛ ‵ (flft a.κ₁ (Share.right a.q₁)) ⊛ ‵ (flft a.κ₂ a.q₂) ⊛ ‵ (lent κ' p.1 s)
+
+    -- and what its owner keeps meanwhile
+    abbrev pub Kept : Item 𝓤
+    Kept = ‵ (LentAgain It a.κ κ' a.q a.γ a.rb a.ro p.1 s) ⊛ raw (Ends 𝓛 a.κ₁ (Share.left a.q₁) p.0.0 p.0.1) ⊛ ‵ owned
 
   abbrev Lends : Sort E → Loan → SProp 𝓤
   Lends s p = sep 𝓤 (mean 𝓛 (Lent p s)) (mean 𝓛 (Kept p s))
@@ -216,70 +213,101 @@ module _ (E : El) {M : Type 1} {𝓤 : Ura M} (𝓛 : Logic 𝓤) (at_mem : Memo
       -- ['a; T's token; the value; the cursor's token; the cursor]
       use1 𝓛 (‵ (flft a.κ₁ (Share.left a.q₁)) ⊛ ‵ (flft a.κ₁ (Share.right a.q₁))) (𝓛.lfts.lft_split a.κ₁ a.q₁) $ split ! $
       use1 𝓛 (later (some (λ (p : ℕ × Share). ‵ (flft (p.0 ∷ a.κ₁) p.1) ⊛ raw (Ends 𝓛 a.κ₁ (Share.left a.q₁) p.0 p.1)))) (begins 𝓛 a.κ₁ (Share.left a.q₁)) $ await ! tt $ pick ! (λ p. split ! $
-      let κ' : Lft = p.0 ∷ a.κ₁ in
+      let α : Lft = p.0 ∷ a.κ₁ in
       -- [κ'; its end; 'a; T's token; the value; the cursor's token; the cursor]
-      move ! (6 ∷ 5 ∷ []) $ use2 𝓛 (later (some (λ (δ : GName). ‵ (lent κ' δ s) ⊛ ‵ (LentAgain It a.κ κ' a.q a.γ a.rb a.ro δ s)))) (lends_again 𝓛 It (named 0) a.κ κ' a.q a.γ a.rb a.ro (named 0) s) $ await ! tt $ pick ! (λ δ. split ! $
+      move ! (6 ∷ 5 ∷ []) $ use2 𝓛 (later (some (λ (δ : GName). ‵ (lent α δ s) ⊛ ‵ (LentAgain It a.κ α a.q a.γ a.rb a.ro δ s)))) (lends_again 𝓛 It (named 0) a.κ α a.q a.γ a.rb a.ro (named 0) s) $ await ! tt $ pick ! (λ δ. split ! $
       -- [the loan; what is kept; κ'; its end; 'a; T's token; the value]
       at_once ! $ show ! (Lends s) (p, δ) $ move ! (2 ∷ 4 ∷ 5 ∷ 0 ∷ 1 ∷ 3 ∷ 6 ∷ []) $ group ! 4 $ done !))
 
   -- and taken back
   pub returned : (p : Loan) (s t : Sort E) → ent 𝓤 (sep 𝓤 (A.lft (κ' p s) p.0.1) (sep 𝓤 (A.lft a.κ₁ (Share.right a.q₁)) (sep 𝓤 (A.lft a.κ₂ a.q₂) (sep 𝓤 (A.res p.1 (It.coded.code t)) (mean 𝓛 (Kept p s)))))) (H.⇛ (mean 𝓛 (Held t)))
   returned p s t =
-      let κ' : Lft = p.0.0 ∷ a.κ₁ in let δ : GName = p.1 in
-      qed 𝓛 (‵ (flft κ' p.0.1) ∷ ‵ (flft a.κ₁ (Share.right a.q₁)) ∷ ‵ (flft a.κ₂ a.q₂) ∷ ‵ (fres δ (It.coded.code t)) ∷ Kept p s ∷ []) ∵ updating ! $ move ! (4 ∷ []) $ split3 ! $
+      let α : Lft = κ' p s in
+      qed 𝓛 (‵ (flft α p.0.1) ∷ ‵ (flft a.κ₁ (Share.right a.q₁)) ∷ ‵ (flft a.κ₂ a.q₂) ∷ ‵ (fres p.1 (It.coded.code t)) ∷ Kept p s ∷ []) ∵ updating ! $ move ! (4 ∷ []) $ split3 ! $
       -- [what is kept of the loan; the end of κ'; the value; κ'; 'a; T's token; the last cursor]
-      move ! (3 ∷ 1 ∷ []) $ use2 𝓛 (later (‵ (fdead κ') ⊛ ‵ (flft a.κ₁ (Share.left a.q₁)))) (apply∗ 𝓤 (A.lft κ' p.0.1) _) $ await ! tt $ split ! $
+      move ! (3 ∷ 1 ∷ []) $ use2 𝓛 (later (‵ (fdead α) ⊛ ‵ (flft a.κ₁ (Share.left a.q₁)))) (apply∗ 𝓤 (A.lft α p.0.1) _) $ await ! tt $ split ! $
       -- [over; 'a; what is kept of the loan; the value; 'a; T's token; the last cursor]
-      move ! (0 ∷ 2 ∷ 6 ∷ []) $ use3 𝓛 (later (‵ (lent a.κ a.γ t) ⊛ ‵ (flft a.κ a.q))) (comes_back 𝓛 It (named 0) a.κ κ' a.q a.γ a.rb a.ro δ s t) $ await ! tt $ split ! $
+      move ! (0 ∷ 2 ∷ 6 ∷ []) $ use3 𝓛 (later (‵ (lent a.κ a.γ t) ⊛ ‵ (flft a.κ a.q))) (comes_back 𝓛 It (named 0) a.κ α a.q a.γ a.rb a.ro p.1 s t) $ await ! tt $ split ! $
       -- [the cursor; its token; 'a; the value; 'a; T's token]
       move ! (2 ∷ 4 ∷ []) $ use2 𝓛 (‵ (flft a.κ₁ a.q₁)) (𝓛.lfts.lft_join a.κ₁ a.q₁) $
       -- ['a; the cursor; its token; the value; T's token]
       at_once ! $ move ! (2 ∷ 1 ∷ 0 ∷ 4 ∷ 3 ∷ []) $ done !
 
-  abbrev Asks : Sort E → Loan → SProp 𝓤
-  Asks s p = sep 𝓤 (Fills.pre (at_call p s)) (mean 𝓛 (Kept p s))
+  module _ (at_mem : Memory → SProp 𝓤) (run : Routine → Fun 𝓤) where
+    -- what a function that fills some pixels promises
+    abbrev pub Fills : Contract 𝓤
+    Fills = triple_of 𝓛 (W.signature E.X) (W.spec E.X E.g E.d 𝓛 at_mem run)
 
-  -- the cursor is lent again to a function that fills some pixels
-  pub asks : (s : Sort E) → ent 𝓤 (mean 𝓛 (Held s)) (H.⇛ (ex 𝓤 (Asks s)))
-  asks s =
-      qed 𝓛 (Held s ∷ []) ∵ updating ! $ use1 𝓛 (later (some (λ (p : Loan). Lent p s ⊛ Kept p s))) (lends s) $ await ! tt $ pick ! (λ p. split ! $ move ! (1 ∷ []) $ split3 ! $
-      move ! (2 ∷ []) $ use1 𝓛 (‵ owned ⊛ ‵ owned) (((copied_copy 0 E.X E.CX).copies M 𝓤 𝓛).twice a.value (v ∷ [])) $ split ! $ move ! (4 ∷ []) $ split3 ! $ move ! (2 ∷ []) $ split ! $
-      -- [T's token; the loan; κ'; 'a; the value; the value; what is kept; the end of κ']
-      nothing ! $ move ! (5 ∷ 0 ∷ []) $ fjoin ! $ move ! (2 ∷ 0 ∷ []) $ fjoin ! $ nothing ! $ move ! (2 ∷ 0 ∷ []) $ join ! $ move ! (3 ∷ 0 ∷ []) $ join ! $ move ! (2 ∷ 0 ∷ []) $ join ! $ join ! $
-      nothing ! $ use0 𝓛 (raw (fact 𝓤 (a.κ₂ ⊑ E.X.lives))) (fact_i 𝓤 (a.κ₂ ⊑ E.X.lives) (emp 𝓤) a.in_T) $ join ! $ move ! (1 ∷ 0 ∷ []) $ use2 𝓛 (raw (Fills.pre (at_call p s))) (id⊢ 𝓤 _) $
-      -- [what the call asks; the value; what is kept; the end of κ']
-      at_once ! $ show ! (Asks s) p $ move ! (0 ∷ 2 ∷ 3 ∷ 1 ∷ []) $ done !)
+    abbrev pub at_call : Loan → Sort E → Fills.Ghost
+    at_call p s =
+        let below : κ' p s ⊑ a.κ₁ = meet_⊑_right (p.0.0 ∷ []) a.κ₁ in let above : a.κ₁ ⊑ a.κ₂ = a.bounds.1.1.0 in
+        (((κ' p s, (a.κ₁, (a.κ₂, tt))), (p.0.1, (Share.right a.q₁, (a.q₂, tt))), (below, (⊑_trans (κ' p s) a.κ₁ a.κ₂ below above, (above, tt))), (record { ref_ptr = (a.rb, a.ro); ghost_name = p.1; now = s }, (a.value, tt)), (vptr a.rb a.ro ∷ [], (v ∷ [], tt))), tt)
 
-  abbrev Gave : Sort E → Val → Bool × Sort E → SProp 𝓤
-  Gave s u r = guard 𝓤 (Wrote s r.0 r.1) (sep 𝓤 (sem 𝓛 (bool.own_val r.0 (u ∷ []))) (sep 𝓤 (sem 𝓛 (Some s r.1)) (mean 𝓛 (Held r.1))))
+    module _ {K : Type 0} {Γ : List (Item 𝓤)} {G : Goal 𝓤 H} (t : K) (z : Soaks G) where
+      -- the cursor is lent again to such a function
+      pub asks : (s : Sort E) → ((p : Loan) → Seq K 𝓛 (raw (Fills.pre (at_call p s)) ∷ Kept p s ∷ Γ) G) → Seq K 𝓛 (Held s ∷ Γ) G
+      asks s go =
+          use1 𝓛 (later (some (λ (p : Loan). Lent p s ⊛ Kept p s))) (lends s) $ await t z $ pick t (λ p. split t $ move t (1 ∷ []) $ split3 t $
+          move t (2 ∷ []) $ use1 𝓛 (‵ owned ⊛ ‵ owned) (((copied_copy 0 E.X E.CX).copies M 𝓤 𝓛).twice a.value (v ∷ [])) $ split t $ move t (4 ∷ []) $ split3 t $ move t (2 ∷ []) $ split t $
+          -- [T's token; the loan; κ'; 'a; the value; the value; what is kept; the end of κ']
+          nothing t $ move t (5 ∷ 0 ∷ []) $ fjoin t $ move t (2 ∷ 0 ∷ []) $ fjoin t $ nothing t $ move t (2 ∷ 0 ∷ []) $ join t $ move t (3 ∷ 0 ∷ []) $ join t $ move t (2 ∷ 0 ∷ []) $ join t $ join t $
+          nothing t $ use0 𝓛 (raw (fact 𝓤 (a.κ₂ ⊑ E.X.lives))) (fact_i 𝓤 (a.κ₂ ⊑ E.X.lives) (emp 𝓤) a.in_T) $ join t $ move t (1 ∷ 0 ∷ []) $ use2 𝓛 (raw (Fills.pre (at_call p s))) (id⊢ 𝓤 _) $
+          -- [what the call asks; the value; what is kept; the end of κ']
+          move t (2 ∷ 3 ∷ 1 ∷ []) $ group t 3 $ move t (1 ∷ []) $ go p)
 
-  -- and taken back from it
-  pub gives : (p : Loan) (s : Sort E) (u : Val) → ent 𝓤 (sep 𝓤 (Fills.post (at_call p s) u) (mean 𝓛 (Kept p s))) (H.⇛ (ex 𝓤 (Gave s u)))
-  gives p s u =
-      let κ' : Lft = p.0.0 ∷ a.κ₁ in let δ : GName = p.1 in
-      qed 𝓛 (raw (Fills.post (at_call p s) u) ∷ Kept p s ∷ []) ∵ updating ! $
-      use1 𝓛 (later (some (λ (r : Bool). ((‵ (flft κ' p.0.1) ⊛ ‵ (flft a.κ₁ (Share.right a.q₁)) ⊛ ‵ (flft a.κ₂ a.q₂) ⊛ ‵ ftrue) ⊛ ‵ (bool.own_val r (u ∷ [])))
-      ⊛ some (λ (ws : Sort E × (Unit {0} × Unit {0})). ‵ (fsep (fsep (fres δ (It.coded.code ws.0)) (fbor κ' (Body (mem It) a.rb a.ro δ))) (fsep ftrue ftrue)) ⊛ (raw (fact 𝓤 (Wrote s r ws.0)) ⊛ ‵ (Some s ws.0)))))) (id⊢ 𝓤 _) $ await ! tt $ pick ! (λ r.
-      split ! $ move ! (1 ∷ []) $ pick ! (λ ws. split ! $ fsplit ! $ fsplit ! $ move ! (3 ∷ []) $ split ! $ heard ! (Wrote s r ws.0) (λ told.
-      -- [what is filled; the last cursor; its borrow; nothing; the tokens and the result; what is kept]
-      move ! (4 ∷ []) $ split ! $ split3 ! $ move ! (2 ∷ []) $ split ! $
-      -- [T's token; nothing; κ'; 'a; the result; what is filled; the last cursor; its borrow; nothing; what is kept]
-      move ! (2 ∷ 3 ∷ 0 ∷ 6 ∷ 9 ∷ []) $ group ! 5 $ use1 𝓛 (later (Held ws.0)) (returned p s ws.0) $ await ! tt $
-      at_once ! $ show ! (Gave s u) (r, ws.0) $ check ! told $ keep ! (2 ∷ 3 ∷ 0 ∷ []) $ done !)))
+      -- and taken back from it
+      pub gives : (p : Loan) (s : Sort E) (u : Val) → ((r : Bool) (n : Sort E) → Wrote s r n → u ≡ vbool r → Seq K 𝓛 (Filled s n ∷ Held n ∷ Γ) G) → Seq K 𝓛 (raw (Fills.post (at_call p s) u) ∷ Kept p s ∷ Γ) G
+      gives p s u go =
+          let α : Lft = κ' p s in
+          use1 𝓛 (later (some (λ (r : Bool). ((‵ (flft α p.0.1) ⊛ ‵ (flft a.κ₁ (Share.right a.q₁)) ⊛ ‵ (flft a.κ₂ a.q₂) ⊛ ‵ ftrue) ⊛ ‵ (bool.own_val r (u ∷ [])))
+          ⊛ some (λ (ws : Sort E × (Unit {0} × Unit {0})). ‵ (fsep (fsep (fres p.1 (It.coded.code ws.0)) (fbor α (Body (mem It) a.rb a.ro p.1))) (fsep ftrue ftrue)) ⊛ (raw (fact 𝓤 (Wrote s r ws.0)) ⊛ Filled s ws.0))))) (id⊢ 𝓤 _) $ await t z $ pick t (λ r.
+          split t $ move t (1 ∷ []) $ pick t (λ ws. split t $ fsplit t $ fsplit t $ move t (3 ∷ []) $ split t $ heard t (Wrote s r ws.0) (λ told.
+          -- [what is filled; the last cursor; its borrow; nothing; the tokens and the result; what is kept]
+          move t (4 ∷ []) $ split t $ split3 t $ move t (2 ∷ []) $ split t $
+          -- [T's token; nothing; κ'; 'a; the result; what is filled; the last cursor; its borrow; nothing; what is kept]
+          move t (2 ∷ 3 ∷ 0 ∷ 6 ∷ 9 ∷ []) $ group t 5 $ use1 𝓛 (later (Held ws.0)) (returned p s ws.0) $ await t z $
+          -- [the cursor and the value; nothing; the result; what is filled; its borrow; nothing]
+          move t (2 ∷ []) $ feq_l t (λ is. move t (1 ∷ 3 ∷ 4 ∷ []) $ drop t $ drop t $ drop t $ move t (1 ∷ []) $ go r ws.0 told (ap only is)))))
 
-  module _ (h : Sort E) where
-    abbrev pub Post : Val → SProp 𝓤
-    Post = (walk_of 𝓛 (ended E) (stayed E) (W.clauses E.X E.g E.d 𝓛 at_mem run)).post
-        (((a.κ, (a.κ₁, (a.κ₂, tt))), (a.q, (a.q₁, (a.q₂, tt))), a.bounds, (record { ref_ptr = (a.rb, a.ro); ghost_name = a.γ; now = h }, (a.value, tt)), (vptr a.rb a.ro ∷ [], (v ∷ [], tt))), tt)
+    module _ (h : Sort E) where
+      abbrev bound : (walk_of 𝓛 (ended E) (stayed E) (W.clauses E.X E.g E.d 𝓛 at_mem run)).Ghost
+      bound = (((a.κ, (a.κ₁, (a.κ₂, tt))), (a.q, (a.q₁, (a.q₂, tt))), a.bounds, (record { ref_ptr = (a.rb, a.ro); ghost_name = a.γ; now = h }, (a.value, tt)), (vptr a.rb a.ro ∷ [], (v ∷ [], tt))), tt)
 
-    -- what such a function has at its return
-    pub ends : (t : Sort E) (r : Bool) → Wrote h r t → ent 𝓤 (sep 𝓤 (mean 𝓛 (Held t)) (sem 𝓛 (Some h t))) (Post (vbool r))
-    ends t r told =
-        qed 𝓛 (Held t ∷ ‵ (Some h t) ∷ []) ∵ split3 ! $ move ! (2 ∷ []) $ split3 ! $
-        -- ['a; T's token; the value; the cursor's token; the cursor; what is filled]
-        move ! (5 ∷ []) $ use0 𝓛 (raw (fact 𝓤 (Wrote h r t))) (fact_i 𝓤 (Wrote h r t) (emp 𝓤) told) $ join ! $
-        feq_i ! (List Val) (vbool r ∷ []) (vbool r ∷ []) refl $ nothing ! $ nothing ! $ fjoin ! $ move ! (7 ∷ 0 ∷ []) $ fjoin ! $
-        -- [the cursor; the result; the ensures; 'a; T's token; the value; the cursor's token]
-        nothing ! $ move ! (5 ∷ 0 ∷ []) $ join ! $ move ! (4 ∷ 0 ∷ []) $ join ! $ move ! (5 ∷ 0 ∷ []) $ join ! $
-        keep ! (0 ∷ 1 ∷ 2 ∷ 3 ∷ []) $ by ! (leaves 𝓛 (ended E) (stayed E) (W.clauses E.X E.g E.d 𝓛 at_mem run)
-        (((a.κ, (a.κ₁, (a.κ₂, tt))), (a.q, (a.q₁, (a.q₂, tt))), a.bounds, (record { ref_ptr = (a.rb, a.ro); ghost_name = a.γ; now = h }, (a.value, tt)), (vptr a.rb a.ro ∷ [], (v ∷ [], tt))), tt) (vbool r) r (t, (tt, tt)) (tt, (tt, tt)))
+      abbrev pub Post : Val → SProp 𝓤
+      Post = (walk_of 𝓛 (ended E) (stayed E) (W.clauses E.X E.g E.d 𝓛 at_mem run)).post bound
+
+      -- what such a function has at its return
+      pub ends : (t : Sort E) (r : Bool) → Wrote h r t → ent 𝓤 (sep 𝓤 (mean 𝓛 (Filled h t)) (mean 𝓛 (Held t))) (Post (vbool r))
+      ends t r told =
+          let F : Fml = feq (List Val) (vbool r ∷ []) (vbool r ∷ []) in let P : SProp 𝓤 = sep 𝓤 (fact 𝓤 (Wrote h r t)) (mean 𝓛 (Filled h t)) in
+          qed 𝓛 (Filled h t ∷ Held t ∷ []) ∵ use0 𝓛 (raw (fact 𝓤 (Wrote h r t))) (fact_i 𝓤 (Wrote h r t) (emp 𝓤) told) $ join ! $ feq_i ! (List Val) (vbool r ∷ []) (vbool r ∷ []) refl $ move ! (2 ∷ 0 ∷ 1 ∷ []) $ group ! 3 $
+          suffices ! _ (leaves 𝓛 (ended E) (stayed E) (W.clauses E.X E.g E.d 𝓛 at_mem run) bound (vbool r) r (t, (tt, tt)) (tt, (tt, tt))) $ by ! (left t F P)
+
+module _ (E : El) {M : Type 1} {𝓤 : Ura M} (𝓛 : Logic 𝓤) (κs : Lfts 3) (qs : Shares 3) (bounds : AllOutlive 3 (ended E).signature.outlives κs) (x : MutBor (Sort E)) (value : D E) (is : Is (Y E) value (w E value ∷ [])) where
+  -- what a function that takes such a cursor and a value is given
+  abbrev pub entry : κs.1.1.0 ⊑ E.X.lives → Given E
+  entry in_T = record {
+    κ = κs.0;
+    κ₁ = κs.1.0;
+    κ₂ = κs.1.1.0;
+    q = qs.0;
+    q₁ = qs.1.0;
+    q₂ = qs.1.1.0;
+    bounds = bounds;
+    in_T = in_T;
+    rb = x.ref_ptr.0;
+    ro = x.ref_ptr.1;
+    γ = x.ghost_name;
+    value = value;
+    good = (((copied_laws 0 E.X E.LX).lawful 𝓛).typed value (w E value ∷ []) is).0;
+  }
+
+  -- and has at its start
+  pub starts : (P : SProp 𝓤) → ((in_T : κs.1.1.0 ⊑ E.X.lives) → ent 𝓤 (mean 𝓛 (Held E 𝓛 (entry in_T) x.now)) P)
+      → ent 𝓤 (sep 𝓤 (on_entry 𝓛 (ended E).signature κs qs (x, (value, tt)) (mut_vals x, (w E value ∷ [], tt))) (sep 𝓤 (fact 𝓤 (κs.1.1.0 ⊑ E.X.lives)) (emp 𝓤))) P
+  starts P go =
+      qed 𝓛 (((‵ (flft κs.0 qs.0) ⊛ ‵ (flft κs.1.0 qs.1.0) ⊛ ‵ (flft κs.1.1.0 qs.1.1.0) ⊛ ‵ ftrue) ⊛ ‵ (fsep ((MutRef (named 0) κs.0 (Cursor E κs)).own_val x (mut_vals x)) (fsep ((Y E).own_val value (w E value ∷ [])) ftrue)))
+      ∷ (raw (fact 𝓤 (κs.1.1.0 ⊑ E.X.lives)) ⊛ ‵ ftrue) ∷ []) ∵ move ! (1 ∷ []) $ split ! $ heard ! (κs.1.1.0 ⊑ E.X.lives) (λ in_T. drop ! $
+      split ! $ split3 ! $ move ! (2 ∷ []) $ split ! $ move ! (4 ∷ []) $ fsplit ! $ move ! (1 ∷ []) $ fsplit ! $
+      -- [the value; nothing; the cursor; T's token; nothing; its token; the token of 'a]
+      keep ! (5 ∷ 2 ∷ 6 ∷ 3 ∷ 0 ∷ []) $ by ! (go in_T))

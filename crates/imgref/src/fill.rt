@@ -12,7 +12,6 @@ use crate::img::Img;
 use crate::pixels::PixelsIterMut;
 
 // The next pixel becomes `value`; false where there is none.
-#[inline(always)]
 fn write_next<T: Copy>(pixels: &mut PixelsIterMut<'_, T>, value: T) -> bool
     ensures wrote { Wrote pixels.old result pixels.new }
     ensures* hands_on { sem 𝓛 (fills_some T.row value pixels.old pixels.new) }
@@ -30,16 +29,15 @@ fn write_next<T: Copy>(pixels: &mut PixelsIterMut<'_, T>, value: T) -> bool
 //
 // The test of the line's count at each turn makes the turns of one line a loop of their own, of
 // which the compiler makes vector code.
-#[inline(always)]
 fn fill_line<T: Copy>(pixels: &mut PixelsIterMut<'_, T>, value: T) -> bool
     ensures wrote { Wrote pixels.old result pixels.new }
     ensures* hands_on { sem 𝓛 (fills_some T.row value pixels.old pixels.new) }
 {
-    let some = write_next(pixels, value);
+    let wrote = write_next(pixels, value);
     while pixels.left > 0 {
         write_next(pixels, value);
     }
-    some
+    wrote
 }
 
 // Every pixel that is still to come becomes `value`, a line at a time.

@@ -1,45 +1,39 @@
 -- `fill_rest` calls `fill_line` until nothing is left: a loop whose invariant is what is filled so far. Assumes `Logic`.
-use mathlib.Core.Path.{◌≡◌, refl, ap}
+use mathlib.Core.Path.{◌≡◌, refl}
 use Prim.Native.Nat.{ℕ, ◌<◌}
 use mathlib.Core.Bool.{Bool, true, false}
 use mathlib.Core.List.{List, [], ◌∷◌}
 use mathlib.Core.WellFounded.InvImage
 use lib.ListN.{length}
 use lib.WfN.{lt-wf_rel}
-use lib.Dec.{T}
 use seplogic.Ra.Ura.{Ura}
 use mir.Syntax.{Fn, Body, named, place}
 use mir.MapTy.{inst_fn}
-use mir.Val.{Val, vptr, vbool, vunit, has_ty, WT}
+use mir.Val.{Val, vptr, vbool, vunit}
 use base.Logic.{SProp, ent}
-use base.Fml.{ftrue}
+use base.Fml.{feq}
 use prog.Memory.{Memory}
 use prog.Routine.{Routine}
 use prog.Wp.{Env, WpFn, Tables, Out, Wp, after_turn, after_block, after_seq, at_return}
-use types.Logic.{Logic}
-use types.Kit.{Item, mean, Sq, ‵, raw, ◌⊛◌, some, given, later, at_ret, runs, lands, any_q, ◌$◌, ◌∵◌, !, qed, by, move, keep, drop, use0, use1, use2, split, split3, join, fjoin, feq_i, feq_l, pick, await, learn}
+use types.Logic.{Logic, sem}
+use types.Kit.{Item, mean, Sq, ‵, at_ret, runs, lands, any_q, ◌$◌, ◌∵◌, !, qed, by, move, use0, use1, use2, feq_i, group, suffices}
 use types.Run.{enter, of_opd, unit_lit, addr, stop, no_more, and_then, first, blocks, branches, skips, jumps, exec, returns, loops, again, Below}
 use types.ByLocal.{alloc_all, pass_all, free_all, look_at, get, through, sets, env, forget_but, holding, lands_as}
-use contract.Monad.{Fun, fact}
-use contract.BorrowLft.{◌⊑◌}
+use contract.Monad.{Fun}
 use contract.Running.{tables, tables_of}
 use sound.WpLaws.{fm_of}
-use denote.Builtin.{bool}
 use denote.Exit.{no}
-use denote.Param.{layout}
-use denote.Param.Laws.{copied_laws, copied_copy}
+use denote.Param.Laws.{copied_copy}
 use denote.Ref.{mut_vals, mut_Tells}
 use denote.Signature.{plain}
-use denote.Steps.{nothing, heard, only}
 use denote.Triple.Call.{calls_at}
 use denote.Triple.Clauses.{Ended}
-use denote.Triple.Entry.{on_entry}
 use denote.Triple.Statement.{Contract, Triple}
 use denote.Triple.Walked.{Stays, walk_of, stay_ref, stay_dropped, Goes-ref, Goes-dropped}
 use Rattle.std.proofs.raw_atomic.Walks.{proved, leaves}
 use Rattle.std.proofs.alloc.Shapes.{after}
 use Rattle.imgref.specs.Pixels.{Wrote, muts_left, fills}
-use Rattle.imgref.proofs.Filling.{El, loop_in, args, Y, Sort, Cursor, w, Given, fills_then, fills_none, fills_all, Fills, Held, Some, enters, Loan, at_call, Kept, asks, gives}
+use Rattle.imgref.proofs.Filling.{El, loop_in, args, Y, Sort, Cursor, w, Given, fills_then, fills_none, fills_all, Fills, Held, Filled, left, at_call, asks, gives, entry, starts}
 use Rattle.imgref.specs.contracts.fill.fill_line.Key.{name as #fill_line}
 use Rattle.imgref.proofs.fill.fill_line.Met as fill_line
 use Rattle.imgref.specs.contracts.fill.fill_rest as F
@@ -63,18 +57,17 @@ module _ (E : El) where
   abbrev stayed : Stays ended.signature.params ended.kept
   stayed = (stay_ref (0 ∷ []) tt (plain (Cursor E)), (stay_dropped (plain (λ _. Y E)) no, tt))
 
-module _ (E : El) {M : Type 1} {𝓤 : Ura M} (𝓛 : Logic 𝓤) (at_mem : Memory → SProp 𝓤) (run : Routine → Fun 𝓤) (a : Given E) (𝓣 : Tables 𝓤 𝓛.H) (met : Triple 𝓤 (𝓣.C (#fill_line (args E))) (Fills E 𝓛 at_mem run a))
-    (h : Sort E) (good : T (has_ty (layout E.X) (w E a.value)) × WT (w E a.value)) where
+module _ (E : El) {M : Type 1} {𝓤 : Ura M} (𝓛 : Logic 𝓤) (at_mem : Memory → SProp 𝓤) (run : Routine → Fun 𝓤) (a : Given E) (𝓣 : Tables 𝓤 𝓛.H) (met : Triple 𝓤 (𝓣.C (#fill_line (args E))) (Fills E 𝓛 a at_mem run)) (h : Sort E) where
   open 𝓛 use {H}
 
   abbrev Has : Sort E → Item 𝓤
-  Has s = Held E 𝓛 at_mem run a s
+  Has s = Held E 𝓛 a s
 
   abbrev So_far : Sort E → Sort E → Item 𝓤
-  So_far s t = ‵ (Some E 𝓛 at_mem run a s t)
+  So_far s t = Filled E 𝓛 a s t
 
   abbrev Calls : Contract 𝓤
-  Calls = Fills E 𝓛 at_mem run a
+  Calls = Fills E 𝓛 a at_mem run
 
   abbrev bound : (walk_of 𝓛 (ended E) (stayed E) (F.clauses E.X E.g E.d 𝓛 at_mem run)).Ghost
   bound = (((a.κ, (a.κ₁, (a.κ₂, tt))), (a.q, (a.q₁, (a.q₂, tt))), a.bounds, (record { ref_ptr = (a.rb, a.ro); ghost_name = a.γ; now = h }, (a.value, tt)), (vptr a.rb a.ro ∷ [], (w E a.value ∷ [], tt))), tt)
@@ -106,37 +99,30 @@ module _ (E : El) {M : Type 1} {𝓤 : Ura M} (𝓛 : Logic 𝓤) (at_mem : Memo
     then_goes s t false told u is =
         lands_as ! is refl (tt, tt) $ branches ! (get ! refl) (λ z. absurd z) (λ _. jumps ! $ exec ! 𝓣.C 𝓣.Λ En (rest E) (at_ret En Post) $
         sets ! (of_opd ! (unit_lit !)) refl (tt, tt) $ returns ! (look_at ! 0 refl) $ free_all ! refl $
-        use1 𝓛 (‵ (fills (Y E) a.value h t)) (fills_all E 𝓛 a.value h t told.1) $ move ! (1 ∷ []) $ split3 ! $ move ! (2 ∷ []) $ split3 ! $
-        -- ['a; T's token; the value; the cursor's token; the cursor; the ensures]
-        move ! (5 ∷ []) $ feq_i ! (List Val) (vunit ∷ []) (vunit ∷ []) refl $ nothing ! $ nothing ! $ fjoin ! $ move ! (7 ∷ 0 ∷ []) $ fjoin ! $
-        -- [the cursor; (); the ensures; 'a; T's token; the value; the cursor's token]
-        nothing ! $ move ! (5 ∷ 0 ∷ []) $ join ! $ move ! (4 ∷ 0 ∷ []) $ join ! $ move ! (5 ∷ 0 ∷ []) $ join ! $
-        keep ! (0 ∷ 1 ∷ 2 ∷ 3 ∷ []) $ by ! (leaves 𝓛 (ended E) (stayed E) (F.clauses E.X E.g E.d 𝓛 at_mem run) bound vunit tt (t, (tt, tt)) (tt, (tt, tt))))
+        use1 𝓛 (‵ (fills (Y E) a.value h t)) (fills_all E 𝓛 a.value h t told.1) $ feq_i ! (List Val) (vunit ∷ []) (vunit ∷ []) refl $ move ! (2 ∷ 0 ∷ 1 ∷ []) $ group ! 3 $
+        suffices ! _ (leaves 𝓛 (ended E) (stayed E) (F.clauses E.X E.g E.d 𝓛 at_mem run) bound vunit tt (t, (tt, tt)) (tt, (tt, tt))) $
+        by ! (left E 𝓛 a t (feq (List Val) (vunit ∷ []) (vunit ∷ [])) (sem 𝓛 (fills (Y E) a.value h t))))
 
     turns : (s : Sort E) → Sq 𝓛 (Now s) (runs 𝓣.C 𝓣.Λ En (turn E) (any_q (Turned s)))
     turns s =
         sets ! (addr ! (through ! refl (stop !))) refl (tt, tt) $ move ! (1 ∷ []) $
-        use1 𝓛 (later (some (λ (p : Loan E 𝓛 at_mem run a). raw (Calls.pre (at_call E 𝓛 at_mem run a p s)) ⊛ Kept E 𝓛 at_mem run a p s))) (asks E 𝓛 at_mem run a s) $ await ! tt $ pick ! (λ p. split ! $
-        calls_at ! (fm_of 𝓤 H 𝓛.laws 𝓣) Calls met (at_call E 𝓛 at_mem run a p s) (and_then ! (get ! refl) (and_then ! (get ! refl) (no_more !))) (λ u.
-        use2 𝓛 (later (some (λ (r : Bool × Sort E). given (Wrote s r.0 r.1) (‵ (bool.own_val r.0 (u ∷ [])) ⊛ So_far s r.1 ⊛ Has r.1)))) (gives E 𝓛 at_mem run a p s u) $ await ! tt $ pick ! (λ r. learn ! (λ told. split3 ! $ feq_l ! (λ is.
+        asks E 𝓛 a at_mem run ! tt s (λ p.
+        calls_at ! (fm_of 𝓤 H 𝓛.laws 𝓣) Calls met (at_call E 𝓛 a at_mem run p s) (and_then ! (get ! refl) (and_then ! (get ! refl) (no_more !))) (λ u.
+        gives E 𝓛 a at_mem run ! tt p s u (λ r n told is.
         -- [what the call filled; the cursor and the value; what was filled]
-        move ! (2 ∷ 0 ∷ []) $ use2 𝓛 (So_far h r.1) (fills_then E 𝓛 a.value h s r.1) $ forget_but ! En (1 ∷ 2 ∷ []) refl $
-        then_goes s r.1 r.0 told u (ap only is))))))
+        move ! (2 ∷ 0 ∷ []) $ use2 𝓛 (So_far h n) (fills_then E 𝓛 a.value h s n) $ forget_but ! En (1 ∷ 2 ∷ []) refl $
+        then_goes s n r told u is)))
 
   walk : ent 𝓤 (mean 𝓛 (Has h)) (WpFn 𝓤 H 𝓣.C 𝓣.Λ (fn' E) (vptr a.rb a.ro ∷ w E a.value ∷ []) Post)
   walk =
-      qed 𝓛 (Has h ∷ []) ∵ enter ! 𝓣.C 𝓣.Λ (fn' E) (vptr a.rb a.ro ∷ w E a.value ∷ []) Post $ alloc_all ! (λ l. pass_all ! refl ((tt, tt), (good, tt)) $
+      qed 𝓛 (Has h ∷ []) ∵ enter ! 𝓣.C 𝓣.Λ (fn' E) (vptr a.rb a.ro ∷ w E a.value ∷ []) Post $ alloc_all ! (λ l. pass_all ! refl ((tt, tt), (a.good, tt)) $
       use0 𝓛 (So_far h h) (fills_none E 𝓛 a.value h) $ first ! $ blocks ! $ loops ! 𝓣 Nearer (InvImage.wf (λ (s : Sort E). length (muts_left s)) lt-wf_rel.wf) (Now l) (turns l) h)
 
 pub fill_rest_spec : {M : Type 1} → statement M
 unfolding tables_of
 fill_rest_spec 𝓤 𝓛 𝓜 𝓡 wired X L C g d b =
-    let E : El = record { X = X; LX = L; CX = C; g = g; d = d } in
-    proved 𝓛 (ended E) (stayed E) (F.clauses X g d 𝓛 𝓜.mem 𝓡.returns) 𝓜 𝓡 (Goes-ref 𝓛 3 0 tt (plain (Cursor E)), (Goes-dropped 𝓛 3 (plain (λ _. Y E)) no (λ κs x f. refl), tt)) (#self (args E)) (fn' E) (code.unfolded 𝓤 𝓛.H 𝓜 𝓡 wired (X, tt) d)
+    let E : El = record { X = X; LX = L; CX = C; g = g; d = d } in let c = F.clauses X g d 𝓛 𝓜.mem 𝓡.returns in let 𝓣 = tables_of 𝓤 𝓛.H 𝓜 (tables 𝓤 𝓛.H 𝓜 𝓡 𝓡.env) in
+    proved 𝓛 (ended E) (stayed E) c 𝓜 𝓡 (Goes-ref 𝓛 3 0 tt (plain (Cursor E)), (Goes-dropped 𝓛 3 (plain (λ _. Y E)) no (λ κs x f. refl), tt)) (#self (args E)) (fn' E) (code.unfolded 𝓤 𝓛.H 𝓜 𝓡 wired (X, tt) d)
     (λ κs. (mut_vals, ((λ x. w E x ∷ []), tt))) (λ κs. (mut_Tells (named 0) κs.0 (Cursor E κs), ((copied_copy 0 X C).tells, tt))) (λ κs qs bounds a gh are.
-    let good = (((copied_laws 0 X L).lawful 𝓛).typed a.1.0 (w E a.1.0 ∷ []) are.1.0).0 in
-    qed 𝓛 (raw (on_entry 𝓛 (ended E).signature κs qs a (mut_vals a.0, (w E a.1.0 ∷ [], tt))) ∷ (raw (fact 𝓤 (κs.1.1.0 ⊑ X.lives)) ⊛ ‵ ftrue) ∷ []) ∵
-    move ! (1 ∷ []) $ split ! $ heard ! (κs.1.1.0 ⊑ X.lives) (λ in_T. drop ! $
-    let at : Given E = record { κ = κs.0; κ₁ = κs.1.0; κ₂ = κs.1.1.0; q = qs.0; q₁ = qs.1.0; q₂ = qs.1.1.0; bounds = bounds; in_T = in_T; rb = a.0.ref_ptr.0; ro = a.0.ref_ptr.1; γ = a.0.ghost_name; value = a.1.0 } in
-    use1 𝓛 (Held E 𝓛 𝓜.mem 𝓡.returns at a.0.now) (enters E 𝓛 𝓜.mem 𝓡.returns at a.0.now) $
-    by ! (walk E 𝓛 𝓜.mem 𝓡.returns at (tables_of 𝓤 𝓛.H 𝓜 (tables 𝓤 𝓛.H 𝓜 𝓡 𝓡.env)) (fill_line.met 𝓤 𝓛 𝓜 𝓡 (code.calls-imgref::fill::fill_line 𝓡.env wired) X L C g d b) a.0.now good)))
+    let Goes = WpFn 𝓤 𝓛.H 𝓣.C 𝓣.Λ (fn' E) (vptr a.0.ref_ptr.0 a.0.ref_ptr.1 ∷ w E a.1.0 ∷ []) ((walk_of 𝓛 (ended E) (stayed E) c).post ((κs, qs, bounds, a, (mut_vals a.0, (w E a.1.0 ∷ [], tt))), gh)) in
+    starts E 𝓛 κs qs bounds a.0 a.1.0 are.1.0 Goes (λ in_T. walk E 𝓛 𝓜.mem 𝓡.returns (entry E 𝓛 κs qs bounds a.0 a.1.0 are.1.0 in_T) 𝓣 (fill_line.met 𝓤 𝓛 𝓜 𝓡 (code.calls-imgref::fill::fill_line 𝓡.env wired) X L C g d b) a.0.now))

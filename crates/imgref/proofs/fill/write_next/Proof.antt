@@ -5,11 +5,11 @@ use native.Mathlib.Omega.{arith}
 use mathlib.Core.Bool.{true, false}
 use mathlib.Core.List.{List, [], ◌∷◌, ◌++◌, append_assoc}
 use lib.ListN.{length}
-use lib.Dec.{T, lit<}
+use lib.Dec.{lit<}
 use seplogic.Ra.Ura.{Ura}
 use mir.Syntax.{Fn, Body, named, a_type, seq, assign, place, rv_opd, copy, variant, field, deref, opd_true, opd_false}
 use mir.MapTy.{inst_fn}
-use mir.Val.{Val, vptr, of_list, has_ty, WT}
+use mir.Val.{Val, vptr, of_list}
 use base.Logic.{SProp, ent, sep, emp, ex, id⊢, guard}
 use base.Share
 use base.Fraction.{full_share}
@@ -34,15 +34,14 @@ use denote.Follow.{follows_both}
 use denote.Laws.{Is, shows}
 use denote.Memory.{mem, cell_at}
 use denote.Param.{layout, layouts}
-use denote.Param.Laws.{IsCopy, copied_laws, copied_copy}
+use denote.Param.Laws.{IsCopy, copied_copy}
 use denote.Ref.{MutRef, MutBor, mut_vals, mut_Tells}
 use denote.Signature.{plain}
 use denote.Steps.{nothing, opens, closes, facts, heard, only}
 use denote.Triple.Call.{calls_at}
-use denote.Triple.Entry.{on_entry}
 use denote.Triple.Spec.{triple_of}
 use denote.Triple.Statement.{Contract, Triple}
-use denote.Triple.Walked.{Goes-ref, Goes-dropped}
+use denote.Triple.Walked.{walk_of, Goes-ref, Goes-dropped}
 use Rattle.std.proofs.raw_atomic.Walks.{proved}
 use Rattle.std.proofs.alloc.Shapes.{after}
 use Rattle.std.specs.Prelude.{Option, Some, None}
@@ -53,7 +52,7 @@ use Rattle.imgref.specs.Marks.{covered}
 use Rattle.imgref.proofs.Cursors.{then_runs}
 use Rattle.imgref.proofs.Marks.{covered_past}
 use Rattle.imgref.proofs.Ends.{ends_beside, some_out, none_out}
-use Rattle.imgref.proofs.Filling.{El, args, Y, A₀, D, Sort, Cursor, w, cov, ended, stayed, Given, fills_none, It, owned, Held, enters, Loan, Lent, Kept, lends, returned, Post, ends}
+use Rattle.imgref.proofs.Filling.{El, args, Y, A₀, D, Sort, Cursor, w, cov, ended, stayed, Given, fills_none, It, owned, Held, Loan, Lent, Kept, lends, returned, Post, ends, entry, starts}
 use Rattle.imgref.specs.contracts.pixels.PixelsIterMut.next as N
 use Rattle.imgref.specs.contracts.pixels.PixelsIterMut.next.Key.{name as #next}
 use Rattle.imgref.proofs.pixels.PixelsIterMut.next.Met as next
@@ -82,23 +81,23 @@ module _ (E : El) {M : Type 1} {𝓤 : Ura M} (𝓛 : Logic 𝓤) (at_mem : Memo
   Next = triple_of 𝓛 (N.signature E.X) (N.spec E.X 𝓛 at_mem run)
 
   abbrev Has : Sort E → Item 𝓤
-  Has s = Held E 𝓛 at_mem run a s
+  Has s = Held E 𝓛 a s
 
-  abbrev Keeps : Loan E 𝓛 at_mem run a → Sort E → Item 𝓤
-  Keeps p s = Kept E 𝓛 at_mem run a p s
+  abbrev Keeps : Loan E 𝓛 a → Sort E → Item 𝓤
+  Keeps p s = Kept E 𝓛 a p s
 
   abbrev Pixel : RattleType
   Pixel = MutRef (named 1) a.κ₁ (Y E)
 
-  module _ (p : Loan E 𝓛 at_mem run a) (s : Sort E) where
+  module _ (p : Loan E 𝓛 a) (s : Sort E) where
     abbrev at_next : Next.Ghost
     at_next =
         let κ' : Lft = p.0.0 ∷ a.κ₁ in let below : κ' ⊑ a.κ₁ = meet_⊑_right (p.0.0 ∷ []) a.κ₁ in let above : a.κ₁ ⊑ a.κ₂ = a.bounds.1.1.0 in
         (((κ', (a.κ₁, (a.κ₂, tt))), (p.0.1, (Share.right a.q₁, (a.q₂, tt))), (below, (⊑_trans κ' a.κ₁ a.κ₂ below above, (above, tt))), (record { ref_ptr = (a.rb, a.ro); ghost_name = p.1; now = s }, tt), (vptr a.rb a.ro ∷ [], tt)), tt)
 
-    next_goes : ent 𝓤 (mean 𝓛 (Lent E 𝓛 at_mem run a p s)) (Next.pre at_next)
+    next_goes : ent 𝓤 (mean 𝓛 (Lent E 𝓛 a p s)) (Next.pre at_next)
     next_goes =
-        qed 𝓛 (Lent E 𝓛 at_mem run a p s ∷ []) ∵ split3 ! $ move ! (2 ∷ []) $ split ! $
+        qed 𝓛 (Lent E 𝓛 a p s ∷ []) ∵ split3 ! $ move ! (2 ∷ []) $ split ! $
         -- [T's token; the loan; κ'; 'a]
         use0 𝓛 (raw (emp 𝓤)) (id⊢ 𝓤 (emp 𝓤)) $ use0 𝓛 (raw (fact 𝓤 (a.κ₂ ⊑ E.X.lives))) (fact_i 𝓤 (a.κ₂ ⊑ E.X.lives) (emp 𝓤) a.in_T) $ join ! $
         nothing ! $ move ! (3 ∷ 0 ∷ []) $ fjoin ! $ nothing ! $ move ! (3 ∷ 0 ∷ []) $ join ! $ move ! (4 ∷ 0 ∷ []) $ join ! $ move ! (3 ∷ 0 ∷ []) $ join ! $ join ! $ join ! $ done !
@@ -108,7 +107,7 @@ module _ (E : El) {M : Type 1} {𝓤 : Ura M} (𝓛 : Logic 𝓤) (at_mem : Memo
 
     next_gives : (u : Val) → ent 𝓤 (sep 𝓤 (Next.post at_next u) (mean 𝓛 (Keeps p s))) (H.⇛ (ex 𝓤 (Gave u)))
     next_gives u =
-        let κ' : Lft = p.0.0 ∷ a.κ₁ in let δ : GName = p.1 in let Cursors : RattleType = It E 𝓛 at_mem run a in
+        let κ' : Lft = p.0.0 ∷ a.κ₁ in let δ : GName = p.1 in let Cursors : RattleType = It E 𝓛 a in
         qed 𝓛 (raw (Next.post at_next u) ∷ Keeps p s ∷ []) ∵ updating ! $
         use1 𝓛 (later (some (λ (r : Option (MutBor (D E))). ((‵ (flft κ' p.0.1) ⊛ ‵ (flft a.κ₁ (Share.right a.q₁)) ⊛ ‵ (flft a.κ₂ a.q₂) ⊛ ‵ ftrue) ⊛ ‵ ((OP.the_row Pixel).own_val r (u ∷ [])))
         ⊛ some (λ (ws : Sort E × Unit {0}). ‵ (fsep (fsep (fres δ (Cursors.coded.code ws.0)) (fbor κ' (BorBody (mem Cursors) a.rb a.ro δ))) ftrue)
@@ -118,7 +117,7 @@ module _ (E : El) {M : Type 1} {𝓤 : Ura M} (𝓛 : Logic 𝓤) (at_mem : Memo
         -- [what is handed on; the last cursor; its borrow; nothing; the tokens and the item; what is kept]
         move ! (4 ∷ []) $ split ! $ split3 ! $ move ! (2 ∷ []) $ split ! $
         -- [T's token; nothing; κ'; 'a; the item; what is handed on; the last cursor; its borrow; nothing; what is kept]
-        move ! (2 ∷ 3 ∷ 0 ∷ 6 ∷ 9 ∷ []) $ group ! 5 $ use1 𝓛 (later (Has ws.0)) (returned E 𝓛 at_mem run a p s ws.0) $ await ! tt $
+        move ! (2 ∷ 3 ∷ 0 ∷ 6 ∷ 9 ∷ []) $ group ! 5 $ use1 𝓛 (later (Has ws.0)) (returned E 𝓛 a p s ws.0) $ await ! tt $
         at_once ! $ show ! (Gave u) (r, ws.0) $ check ! (steps, goes, moved) $ keep ! (2 ∷ 3 ∷ 0 ∷ []) $ done !)))))
 
   -- the pixel that was written is closed, and its name is done
@@ -134,12 +133,12 @@ module _ (E : El) {M : Type 1} {𝓤 : Ura M} (𝓛 : Logic 𝓤) (at_mem : Memo
       move ! (0 ∷ 3 ∷ []) $ use2 𝓛 (‵ (ends_as (A₀ E) (A₀ E) γs γt (λ ws. front ++ a.value ∷ ws))) (ends_beside 𝓛 (A₀ E) (Y E) (A₀ E) γs ν γt (λ z ws. front ++ z ∷ ws) a.value) $
       rewrite ! 0 (λ (K : List (D E) → List (D E)). ‵ (ends_as (A₀ E) (A₀ E) γs γt K)) (λ i ws. sym (append_assoc front (a.value ∷ []) ws) i) refl $ at_once ! $ keep ! (2 ∷ 0 ∷ []) $ done !
 
-  module _ (𝓣 : Tables 𝓤 H) (met : Triple 𝓤 (𝓣.C (#next (layouts (a_type ∷ []) (E.X, tt)))) Next) (h : Sort E) (good : T (has_ty (layout E.X) (w E a.value)) × WT (w E a.value)) where
+  module _ (𝓣 : Tables 𝓤 H) (met : Triple 𝓤 (𝓣.C (#next (layouts (a_type ∷ []) (E.X, tt)))) Next) (h : Sort E) where
     abbrev v' : Val
     v' = w E a.value
 
     abbrev Ended : Val → SProp 𝓤
-    Ended = Post E 𝓛 at_mem run a h
+    Ended = Post E 𝓛 a at_mem run h
 
     module _ (l : ℕ → ℕ) where
       abbrev En : Env 𝓤 H
@@ -162,7 +161,7 @@ module _ (E : El) {M : Type 1} {𝓤 : Ura M} (𝓛 : Logic 𝓤) (at_mem : Memo
           sets ! (of_opd ! (get ! refl)) refl (tt, tt) $ returns ! (look_at ! 0 refl) $ free_all ! refl $
           -- [nothing; the cursor and the value]
           use0 𝓛 (‵ (fills_some (Y E) a.value h h)) (fills_none E 𝓛 a.value h) $ rewrite ! 0 (λ (z : Sort E). ‵ (fills_some (Y E) a.value h z)) (sym told.2) refl $
-          keep ! (2 ∷ 0 ∷ []) $ by ! (ends E 𝓛 at_mem run a h t false told.0))
+          keep ! (0 ∷ 2 ∷ []) $ by ! (ends E 𝓛 a at_mem run h t false told.0))
       then_goes (Some x) t told u =
           let pb : ℕ = x.ref_ptr.0 in let po : ℕ = x.ref_ptr.1 in let ν : GName = x.ghost_name in let laws : IsCopy (Y E) = copied_copy 0 E.X E.CX in
           let front : List (D E) = passed h in let done' : List (D E) = front ++ a.value ∷ [] in
@@ -173,11 +172,11 @@ module _ (E : El) {M : Type 1} {𝓤 : Ura M} (𝓛 : Logic 𝓤) (at_mem : Memo
           sets ! (of_opd ! (get_in ! (vrt ! refl (fld ! refl (stop !))) (in_variant ! 1 0 refl refl (whole !)))) refl (tt, tt) $
           -- [the pixel; what is handed on; the cursor and the value]
           move ! (2 ∷ []) $ split3 ! $ move ! (2 ∷ []) $ split3 ! $
-          move ! (2 ∷ []) $ use1 𝓛 (‵ (owned E 𝓛 at_mem run a) ⊛ ‵ (owned E 𝓛 at_mem run a)) ((laws.copies M 𝓤 𝓛).twice a.value (v' ∷ [])) $ split ! $
+          move ! (2 ∷ []) $ use1 𝓛 (‵ (owned E 𝓛 a) ⊛ ‵ (owned E 𝓛 a)) ((laws.copies M 𝓤 𝓛).twice a.value (v' ∷ [])) $ split ! $
           -- [the value; the value; 'a; T's token; the cursor's token; the cursor; the pixel; what is handed on]
           move ! (6 ∷ []) $ fsplit3 ! $ drop ! $ move ! (0 ∷ 1 ∷ 4 ∷ []) $ opens ! tt (Y E) pb po (λ us. move ! (1 ∷ []) $ facts ! (Y E) (Is (Y E)) (shows 𝓛 (Y E)) x.now us (λ is'.
           rewrite ! 0 (λ (ws : List Val). ‵ (cell_at full_share (Y E).mir ws pb po)) (laws.tells x.now us is') refl $
-          assigns ! (of_opd ! (get ! refl)) (through ! refl (stop !)) (store_raw ! 0 refl good) $
+          assigns ! (of_opd ! (get ! refl)) (through ! refl (stop !)) (store_raw ! 0 refl a.good) $
           -- [the cell; the open borrow; obs; auth; the value; the value; T's token; the cursor's token; the cursor; what is handed on]
           move ! (0 ∷ 4 ∷ 1 ∷ 2 ∷ 3 ∷ 9 ∷ []) $ group ! 6 $
           use1 𝓛 (later (‵ (flft a.κ₁ a.q₁) ⊛ ‵ (ends_as (A₀ E) (A₀ E) h.name t.name (λ ws. done' ++ ws)))) (shut pb po ν h.name t.name x.now v' front) $ await ! tt $ split ! $
@@ -187,13 +186,13 @@ module _ (E : El) {M : Type 1} {𝓤 : Ura M} (𝓛 : Logic 𝓤) (at_mem : Memo
           -- [what is filled; 'a; the value; T's token; the cursor's token; the cursor]
           sets_last ! (of_opd ! (true_lit !)) refl (tt, tt) $ exec ! 𝓣.C 𝓣.Λ En rest (at_ret En Ended) $
           sets ! (of_opd ! (get ! refl)) refl (tt, tt) $ returns ! (look_at ! 0 refl) $ free_all ! refl $
-          move ! (4 ∷ 5 ∷ 1 ∷ 3 ∷ 2 ∷ 0 ∷ []) $ group ! 5 $ by ! (ends E 𝓛 at_mem run a h t true (let n : length (muts_left h) ≡ length (x.now ∷ muts_left t) = ap length told.0 in omega (arith, n))))))
+          move ! (0 ∷ 4 ∷ 5 ∷ 1 ∷ 3 ∷ 2 ∷ []) $ by ! (ends E 𝓛 a at_mem run h t true (let n : length (muts_left h) ≡ length (x.now ∷ muts_left t) = ap length told.0 in omega (arith, n))))))
 
     walk : ent 𝓤 (mean 𝓛 (Has h)) (WpFn 𝓤 H 𝓣.C 𝓣.Λ (fn' E) (vptr a.rb a.ro ∷ v' ∷ []) Ended)
     walk =
-        qed 𝓛 (Has h ∷ []) ∵ enter ! 𝓣.C 𝓣.Λ (fn' E) (vptr a.rb a.ro ∷ v' ∷ []) Ended $ alloc_all ! (λ l. pass_all ! refl ((tt, tt), (good, tt)) $
+        qed 𝓛 (Has h ∷ []) ∵ enter ! 𝓣.C 𝓣.Λ (fn' E) (vptr a.rb a.ro ∷ v' ∷ []) Ended $ alloc_all ! (λ l. pass_all ! refl ((tt, tt), (a.good, tt)) $
         sets ! (addr ! (through ! refl (stop !))) refl (tt, tt) $
-        use1 𝓛 (later (some (λ (p : Loan E 𝓛 at_mem run a). Lent E 𝓛 at_mem run a p h ⊛ Keeps p h))) (lends E 𝓛 at_mem run a h) $ await ! tt $ pick ! (λ p. split ! $
+        use1 𝓛 (later (some (λ (p : Loan E 𝓛 a). Lent E 𝓛 a p h ⊛ Keeps p h))) (lends E 𝓛 a h) $ await ! tt $ pick ! (λ p. split ! $
         use1 𝓛 (raw (Next.pre (at_next p h))) (next_goes p h) $
         calls_at ! (fm_of 𝓤 H 𝓛.laws 𝓣) Next met (at_next p h) (and_then ! (get ! refl) (no_more !)) (λ u.
         use2 𝓛 (later (some (λ (r : Option (MutBor (D E)) × Sort E). given (Told E h r.0 r.1) (‵ ((OP.the_row Pixel).own_val r.0 (u ∷ [])) ⊛ ‵ (hands_on (Y E) h r.0 r.1) ⊛ Has r.1)))) (next_gives p h u) $ await ! tt $ pick ! (λ r. learn ! (λ told. split3 ! $
@@ -202,12 +201,8 @@ module _ (E : El) {M : Type 1} {𝓤 : Ura M} (𝓛 : Logic 𝓤) (at_mem : Memo
 pub write_next_spec : {M : Type 1} → statement M
 unfolding tables_of
 write_next_spec 𝓤 𝓛 𝓜 𝓡 wired X L C g d _ =
-    let E : El = record { X = X; LX = L; CX = C; g = g; d = d } in
-    proved 𝓛 (ended E) (stayed E) (F.clauses X g d 𝓛 𝓜.mem 𝓡.returns) 𝓜 𝓡 (Goes-ref 𝓛 3 0 tt (plain (Cursor E)), (Goes-dropped 𝓛 3 (plain (λ _. Y E)) no (λ κs x f. refl), tt)) (#self (args E)) (fn' E) (code.unfolded 𝓤 𝓛.H 𝓜 𝓡 wired (X, tt) d)
+    let E : El = record { X = X; LX = L; CX = C; g = g; d = d } in let c = F.clauses X g d 𝓛 𝓜.mem 𝓡.returns in let 𝓣 = tables_of 𝓤 𝓛.H 𝓜 (tables 𝓤 𝓛.H 𝓜 𝓡 𝓡.env) in
+    proved 𝓛 (ended E) (stayed E) c 𝓜 𝓡 (Goes-ref 𝓛 3 0 tt (plain (Cursor E)), (Goes-dropped 𝓛 3 (plain (λ _. Y E)) no (λ κs x f. refl), tt)) (#self (args E)) (fn' E) (code.unfolded 𝓤 𝓛.H 𝓜 𝓡 wired (X, tt) d)
     (λ κs. (mut_vals, ((λ x. w E x ∷ []), tt))) (λ κs. (mut_Tells (named 0) κs.0 (Cursor E κs), ((copied_copy 0 X C).tells, tt))) (λ κs qs bounds a gh are.
-    let good = (((copied_laws 0 X L).lawful 𝓛).typed a.1.0 (w E a.1.0 ∷ []) are.1.0).0 in
-    qed 𝓛 (raw (on_entry 𝓛 (ended E).signature κs qs a (mut_vals a.0, (w E a.1.0 ∷ [], tt))) ∷ (raw (fact 𝓤 (κs.1.1.0 ⊑ X.lives)) ⊛ ‵ ftrue) ∷ []) ∵
-    move ! (1 ∷ []) $ split ! $ heard ! (κs.1.1.0 ⊑ X.lives) (λ in_T. drop ! $
-    let at : Given E = record { κ = κs.0; κ₁ = κs.1.0; κ₂ = κs.1.1.0; q = qs.0; q₁ = qs.1.0; q₂ = qs.1.1.0; bounds = bounds; in_T = in_T; rb = a.0.ref_ptr.0; ro = a.0.ref_ptr.1; γ = a.0.ghost_name; value = a.1.0 } in
-    use1 𝓛 (Held E 𝓛 𝓜.mem 𝓡.returns at a.0.now) (enters E 𝓛 𝓜.mem 𝓡.returns at a.0.now) $
-    by ! (walk E 𝓛 𝓜.mem 𝓡.returns at (tables_of 𝓤 𝓛.H 𝓜 (tables 𝓤 𝓛.H 𝓜 𝓡 𝓡.env)) (next.met 𝓤 𝓛 𝓜 𝓡 (code.calls-imgref::pixels::PixelsIterMut::next 𝓡.env wired) X L) a.0.now good)))
+    let Goes = WpFn 𝓤 𝓛.H 𝓣.C 𝓣.Λ (fn' E) (vptr a.0.ref_ptr.0 a.0.ref_ptr.1 ∷ w E a.1.0 ∷ []) ((walk_of 𝓛 (ended E) (stayed E) c).post ((κs, qs, bounds, a, (mut_vals a.0, (w E a.1.0 ∷ [], tt))), gh)) in
+    starts E 𝓛 κs qs bounds a.0 a.1.0 are.1.0 Goes (λ in_T. walk E 𝓛 𝓜.mem 𝓡.returns (entry E 𝓛 κs qs bounds a.0 a.1.0 are.1.0 in_T) 𝓣 (next.met 𝓤 𝓛 𝓜 𝓡 (code.calls-imgref::pixels::PixelsIterMut::next 𝓡.env wired) X L) a.0.now))
