@@ -62,6 +62,11 @@ row_at l y below = slice_get-tabulated (row l) 0 (row_count l.width l.height) y 
 pub row_count-wide : (width height : ℕ) → 0 < width → row_count width height ≡ height
 row_count-wide width height wide = cond-false (width == 0) 0 height (ne_eqb width 0 (λ e. omega arith))
 
+-- where there is a row there is a column
+pub some_column : (width height y : ℕ) → y < row_count width height → 0 < width
+some_column zero height y below = absurd (omega (arith, below))
+some_column (suc width) height y below = omega arith
+
 pub row_count-le : (width height : ℕ) → row_count width height ≤ height
 row_count-le width height = cond_both (width == 0) 0 height (λ n. n ≤ height) (λ _. omega arith) (λ _. omega arith)
 

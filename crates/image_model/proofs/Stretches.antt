@@ -2,10 +2,10 @@
 use Rattle.std.proofs.Common.{◌≡◌, ℕ, ◌+◌, ◌-◌, ◌<◌, ◌≤◌, ◌⊎◌, inl, inr, List, ◌++◌, length, set, take, drop, sym, ap, ◌∙◌, arith, length-append, length-take, length-drop, append_assoc}
 use Rattle.std.specs.List.{slice_get}
 use Rattle.std.proofs.lemmas.Bool.{cases_lt}
-use Rattle.std.proofs.lemmas.List.{take-append-drop, take-take, drop-drop, drop-append-le, set-append_left, set-append_right}
+use Rattle.std.proofs.lemmas.List.{append-nil, take-append-drop, take-take, drop-drop, drop-append-le, set-append_left, set-append_right}
 use Rattle.std.proofs.lemmas.Option.{slice_get_past}
-use Rattle.std.proofs.Math.Seq.{take-add}
-use Rattle.image_model.specs.Windows.{Stretch, stretch_cells, with_stretch, stretch_within}
+use Rattle.std.proofs.Math.Seq.{take-add, drop-length}
+use Rattle.image_model.specs.Windows.{Stretch, stretch_cells, with_stretch, stretch_within, whole}
 use Rattle.image_model.proofs.Cells.{slice_get-take, slice_get-drop, slice_get-append_left, slice_get-append_right, same_cells}
 
 module _ {T : Type 0} (cells : List T) (s : Stretch) where
@@ -98,3 +98,7 @@ with_stretch-within {T} cells outer inner others whole part =
     ap (λ l. take outer.start cells ++ l) (append_assoc (take inner.start mid) (others ++ drop (inner.start + inner.len) mid) rest ∙ ap (λ l. take inner.start mid ++ l) (append_assoc others (drop (inner.start + inner.len) mid) rest ∙ ap (λ l. others ++ l) back))
     ∙ sym (append_assoc (take outer.start cells) (take inner.start mid) _)
     ∙ ap (λ l. l ++ (others ++ drop (outer.start + inner.start + inner.len) cells)) front
+
+-- other cells in the place of all
+pub with_whole : {T : Type 0} (cells others : List T) → with_stretch cells (whole cells) others ≡ others
+with_whole cells others = let end : 0 + length cells ≡ length cells = omega arith in ap (λ n. others ++ drop n cells) end ∙ ap (λ rest. others ++ rest) (drop-length cells) ∙ append-nil others

@@ -15,3 +15,4 @@ pub mod Lifetimes
 pub mod RowsTaken
 pub mod Folds
 pub mod Filling
+pub mod Replaced

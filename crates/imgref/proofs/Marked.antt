@@ -231,7 +231,3 @@ pub cursor_over : {X : Type 0} (l : Layout X) (zs : List X) (left rows width pad
 cursor_over l zs left rows width pad fits wide ez el er ew ep =
     let same : marks left rows width pad ≡ marks_of l.width l.height l.stride = λ i. marks (el i) (er i) (ew i) (ep i) in
     (rw (el, er, ew, ep, ez) (marks_reach l fits wide), rw (er, ew) (lines_wide l.width l.height), same, (λ i. pick (same i) (ez i)) ∙ marked_pixels l.cells l.width l.height l.stride fits wide)
-
--- other cells in the place of them all
-pub all_others : {X : Type 0} (xs ws : List X) → with_stretch xs (whole xs) ws ≡ ws
-all_others xs ws = let end : 0 + length xs ≡ length xs = omega arith in ap (λ n. ws ++ drop n xs) end ∙ ap (λ ys. ws ++ ys) (drop-length xs) ∙ append-nil ws

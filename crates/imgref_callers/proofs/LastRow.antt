@@ -14,12 +14,11 @@ use Rattle.image_model.specs.Rows.{row_count}
 use Rattle.image_model.specs.Windows.{Window, window, Stretch, stretch_cells}
 use Rattle.image_model.proofs.Grids.{same_grids}
 use Rattle.image_model.proofs.Places.{outside_refl}
-use Rattle.image_model.proofs.Rows.{row_count-wide}
+use Rattle.image_model.proofs.Rows.{row_count-wide, some_column}
 use Rattle.image_model.proofs.Stretches.{length-stretch_cells}
 use Rattle.image_model.proofs.Windows.{HasWindow, stretch_window, handed_on_grid, handed_on_outside}
 use Rattle.imgref.specs.Rows.{all_lines, muts_left, cells_left, lines_left, behind_last, MovesLast}
 use Rattle.imgref.specs.declared.rows.RowsIterMut.{RowsIterMut}
-use Rattle.imgref.proofs.RowsLeft.{some_column}
 use Rattle.imgref_callers.specs.Rows.{with_last_row, with_last_of}
 
 -- ---- what a step from the back says, of an iterator over all rows

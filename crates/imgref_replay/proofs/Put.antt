@@ -7,15 +7,11 @@ use Rattle.image_model.specs.Grid.{grid_of, patch}
 use Rattle.image_model.specs.Windows.{Window, Stretch, first_outside, path_window, path_width, path_height, corner_left, corner_top, path_stretch, path_layout, whole, with_stretch}
 use Rattle.image_model.proofs.Paths.{path_has, path_inside}
 use Rattle.image_model.proofs.Places.{written}
-use Rattle.image_model.proofs.Stretches.{length-stretch_cells, length-with_stretch}
+use Rattle.image_model.proofs.Stretches.{length-stretch_cells, length-with_stretch, with_whole}
 use Rattle.image_model.proofs.Windows.{handed_on, handed_on_outside, handed_on_grid, window_written}
 use Rattle.imgref.specs.declared.img.Img.{Img}
 use Rattle.imgref.specs.Image.{buf_of, with_buf, vec_layout}
 use Rattle.imgref.specs.Containers.{others_of_vec}
-
--- other cells in the place of all
-pub with_whole : {T : Type 0} (cells others : List T) → with_stretch cells (whole cells) others ≡ others
-with_whole cells others = ap (λ rest. others ++ rest) (drop_all (0 + length cells) cells (omega arith)) ∙ append-nil others
 
 module _ {T Z : Type 0} (i : Img (Vec T Z)) (path : List Window) where
   abbrev l : Layout T

@@ -6,7 +6,7 @@ use Rattle.imgref.specs.Image.{layout_by}
 use Rattle.imgref.specs.Rows.{all_lines}
 use Rattle.imgref_callers.specs.Rows.{with_last_row}
 use Rattle.imgref_callers.proofs.LastRow.{last_row_grid, last_row_outside}
-use Rattle.imgref_callers.proofs.Replaced.{new_layout, new_container}
+use Rattle.imgref.proofs.Replaced.{new_layout, new_container}
 use Rattle.imgref_callers.proofs.rows.fill_last_row.Goals as goal
 
 pub returns-clause-grid : goal.returns-clause-grid

@@ -4,7 +4,7 @@ use Rattle.image_model.specs.Layout.{layout}
 use Rattle.image_model.specs.Windows.{Stretch, whole, with_stretch}
 use Rattle.imgref.specs.Image.{buf_of, width_of, height_of, stride_of, with_buf, layout_by}
 use Rattle.imgref.specs.declared.img.Img.{Img}
-use Rattle.imgref.proofs.Marked.{all_others}
+use Rattle.image_model.proofs.Stretches.{with_whole}
 
 module _ {C T : Type 0} (cells : C → List T) (with_cells : C → Stretch → List T → C)
     (others_stay : (c : C) (s : Stretch) (ws : List T) → s.start + s.len ≤ length (cells c) → length ws ≡ s.len → cells (with_cells c s ws) ≡ with_stretch (cells c) s ws)
@@ -13,7 +13,7 @@ module _ {C T : Type 0} (cells : C → List T) (with_cells : C → Stretch → L
   new_cells =
       let xs : List T = cells (buf_of i) in
       let all : 0 + length xs ≤ length xs = omega arith in
-      ap (λ k. cells (buf_of k)) replaced ∙ others_stay (buf_of i) (whole xs) ys all as_many ∙ all_others xs ys
+      ap (λ k. cells (buf_of k)) replaced ∙ others_stay (buf_of i) (whole xs) ys all as_many ∙ with_whole xs ys
 
   pub new_layout : layout_by cells j ≡ layout ys (width_of i) (height_of i) (stride_of i)
   new_layout = λ t. layout (new_cells t) (width_of (replaced t)) (height_of (replaced t)) (stride_of (replaced t))
