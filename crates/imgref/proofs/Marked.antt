@@ -1,8 +1,7 @@
 -- The marks of a fitting size choose its pixels, and writing over them changes its places alone.
 use Rattle.std.proofs.Common.{◌≡◌, ◌≢◌, ℕ, zero, suc, ◌+◌, ◌-◌, ◌*◌, ◌<◌, ◌≤◌, ◌^◌, Bool, true, false, List, [], ◌∷◌, ◌++◌, length, take, drop, replicate, map, Some, refl, sym, ap, ◌∙◌, arith, inl, inr, cond, length-drop, drop-drop}
 use Rattle.std.specs.List.{slice_get, flat_map, range_with_len}
-use Rattle.std.proofs.lemmas.List.{length-replicate, append-nil}
-use Rattle.std.proofs.Math.Seq.{drop-length}
+use Rattle.std.proofs.lemmas.List.{length-replicate}
 use mathlib.Core.Path.{ap₂}
 use native.Mathlib.Nat.{zero-mul, mul-le-mul_left, mul-le-mul_right}
 use Rattle.std.specs.Prelude.{◌==◌}
@@ -12,7 +11,6 @@ use Rattle.std.proofs.lemmas.Option.{same_Some, none-some}
 use Rattle.image_model.specs.Layout.{Layout, layout, Fits, SameOutside, IsPadding}
 use Rattle.image_model.specs.Grid.{grid_of, uniform}
 use Rattle.image_model.specs.Rows.{row, pixels}
-use Rattle.image_model.specs.Windows.{whole, with_stretch}
 use Rattle.image_model.proofs.Rows.{HasRows, joined_is, row_is, row_empty, rows_from_fits}
 use Rattle.image_model.proofs.Cells.{slice_get-append_right}
 use Rattle.image_model.proofs.Places.{cell_within}

@@ -1,6 +1,5 @@
 -- What becomes of an image that owns its pixels when its cells along a path are lent and written.
-use Rattle.std.proofs.Common.{◌≡◌, ℕ, ◌+◌, ◌<◌, ◌≤◌, List, ◌++◌, length, None, Vec, slice_set, ap, sym, ◌∙◌, subst, arith, length-set}
-use Rattle.std.proofs.lemmas.List.{append-nil, drop_all}
+use Rattle.std.proofs.Common.{◌≡◌, ℕ, ◌+◌, ◌<◌, ◌≤◌, List, length, None, Vec, slice_set, ap, sym, ◌∙◌, subst, arith, length-set}
 use Rattle.std.specs.Vec.{with_items_from}
 use Rattle.image_model.specs.Layout.{Layout, Fits, SameOutside, cell_of}
 use Rattle.image_model.specs.Grid.{grid_of, patch}
