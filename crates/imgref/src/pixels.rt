@@ -83,7 +83,8 @@ impl<'a, T> PixelsRefIter<'a, T> {
 
     // How many pixels are left in the line.
     fn left_in_line(&self) -> usize
-        ensures { result ≤ length (refs_left self.now) }
+        ensures exact { result ≡ self.now.left }
+        ensures among { result ≤ length (refs_left self.now) }
     {
         self.left
     }

@@ -56,9 +56,9 @@ left_in_line_spec 𝓤 𝓛 𝓜 𝓡 wired T' L =
     word_in ! tt h.left b (o + 8) (λ q fl. sets ! (of_opd ! (load ! (through ! refl (fld ! refl (stop !))) (look ! 0 refl))) refl (tt, record { fits = fl }) $ word_out ! tt h.left b (o + 8) fl $
     returns ! (look_at ! 0 refl) $ free_all ! refl $
     -- [the token; the others]
-    let Below : Type 0 = h.left ≤ length (refs_left h) in
+    let Exact : Type 0 = h.left ≡ h.left in let Among : Type 0 = h.left ≤ length (refs_left h) in
     join ! $ nothing ! $ nothing ! $ fjoin ! $
     flt_i ! h.left (2 ^ 64) fl $ feq_i ! (List Val) (vint w64 h.left ∷ []) (vint w64 h.left ∷ []) refl $ fjoin ! $
-    use0 𝓛 (raw (fact 𝓤 Below)) (fact_i 𝓤 Below (emp 𝓤) (omega (arith, is))) $
-    -- [the clause; the result; nothing; the tokens]
+    use0 𝓛 (raw (fact 𝓤 Among)) (fact_i 𝓤 Among (emp 𝓤) (omega (arith, is))) $ use0 𝓛 (raw (fact 𝓤 Exact)) (fact_i 𝓤 Exact (emp 𝓤) refl) $ join ! $
+    -- [the clauses; the result; nothing; the tokens]
     move ! (3 ∷ 2 ∷ 1 ∷ 0 ∷ []) $ by ! (leaves 𝓛 En hs c y (vint w64 h.left) h.left (tt, tt) (tt, tt)))))
