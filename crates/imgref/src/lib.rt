@@ -17,6 +17,7 @@ mod containers;
 mod fill;
 mod img;
 mod index;
+mod lines;
 mod pixels;
 mod rows;
 mod window;

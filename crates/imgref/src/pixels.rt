@@ -1,7 +1,7 @@
 #![tactic(auto, using(crate::proofs::Runs::copies_run), unfolding(crate::specs::Pixels::copies_left))]
 
 ghost use Rattle.std.specs.Prelude.{◌≡◌, ◌+◌, ◌-◌, ◌*◌, ◌^◌, ◌<◌, ◌≤◌, length, List};
-ghost use Rattle.std.specs.Borrow.{GName, ftrue, sem, follows, Array};
+ghost use Rattle.std.specs.Borrow.{Bor, GName, ftrue, sem, follows, Array};
 ghost use Rattle.std.specs.Iterator.{YieldsFirst, YieldsFirstRef};
 ghost use Rattle.std.specs.Iterator.Runs.{YieldsInOrder, YieldsRefsInOrder};
 ghost use Rattle.image_model.specs.Layout.{Fits, layout};
@@ -12,6 +12,7 @@ ghost use Rattle.imgref.specs.Marks.{first_line, lines_after};
 
 use crate::containers::{AsMutSlice, AsSlice};
 use crate::img::Img;
+use crate::lines::{Lines, fold_lines};
 use std::iter::{ExactSizeIterator, FusedIterator};
 use std::marker::{Model, PhantomData};
 
@@ -81,14 +82,6 @@ impl<'a, T> PixelsRefIter<'a, T> {
         }
     }
 
-    // How many pixels are left in the line.
-    fn left_in_line(&self) -> usize
-        ensures exact { result ≡ self.now.left }
-        ensures among { result ≤ length (refs_left self.now) }
-    {
-        self.left
-    }
-
     // The pixels of a fitting layout.
     pub(crate) fn of_layout(
         cells: &'a [T],
@@ -150,6 +143,36 @@ impl<'a, T> Iterator for PixelsRefIter<'a, T> {
     }
 }
 
+impl<'a, T> PixelsRefIter<'a, T> {
+    ghost use Rattle.std.specs.Prelude.{◌≡◌};
+    ghost use Rattle.std.specs.List.{fold};
+    ghost use Rattle.std.specs.Iterator.{CallableInFold, FoldsItems, ActsAsOnTwo};
+    ghost use Rattle.std.specs.Iterator.Runs.{WholeRun};
+    ghost use Rattle.imgref.specs.Pixels.{refs_left};
+
+    /// What `f` makes of `init` and of each pixel in turn, as the iterator's own `fold` gives it.
+    ///
+    /// It goes a line at a time, each a loop of its own: on wide rows of small pixels it is faster
+    /// than a `for`.
+    pub fn fold<B, F: FnMut(B, &'a T) -> B>(self, init: B, f: F) -> B
+        requires callable { CallableInFold (YieldsFirstRef refs_left) F.FnMut self f init }
+        ensures ran { FoldsItems (YieldsFirstRef refs_left) F.FnMut self.entry f init result }
+        ensures runs { WholeRun (YieldsFirstRef refs_left) self.entry (λ p. (h : B → Bor T → B) → ActsAsOnTwo F.FnMut f h → result ≡ fold h init p.items) }
+    {
+        fold_lines(self, init, f)
+    }
+}
+
+impl<T> Lines for PixelsRefIter<'_, T> {
+    ghost use Rattle.std.specs.Prelude.{◌≡◌};
+
+    fn left_in_line(&self) -> usize
+        ensures exact { result ≡ self.now.left }
+    {
+        self.left
+    }
+}
+
 impl<T: Copy> ExactSizeIterator for PixelsRefIter<'_, T> {
     fn len(&self) -> usize {
         self.size_hint().0
@@ -162,36 +185,6 @@ impl<T> FusedIterator for PixelsRefIter<'_, T> {}
 #[derive(Drop)]
 pub struct PixelsIter<'a, T: Copy> {
     inner: PixelsRefIter<'a, T>,
-}
-
-impl<T: Copy> PixelsIter<'_, T> {
-    ghost use Rattle.std.specs.Prelude.{◌≡◌};
-    ghost use Rattle.std.specs.List.{fold};
-    ghost use Rattle.std.specs.Iterator.{CallableInFold, FoldsItems, ActsAsOnTwo};
-    ghost use Rattle.std.specs.Iterator.Runs.{WholeRun};
-    ghost use Rattle.imgref.specs.Pixels.{copies_left};
-
-    /// What `f` makes of `init` and of each pixel in turn, as the iterator's own `fold` gives it.
-    ///
-    /// It goes a line at a time, so that each line is a loop of its own: a sum by it is as fast as
-    /// one over the cells, where a `for` over wide rows of small pixels isn't.
-    pub fn fold<B, F: FnMut(B, T) -> B>(mut self, init: B, mut f: F) -> B
-        requires callable { CallableInFold (YieldsFirst copies_left) F.FnMut self f init }
-        ensures ran { FoldsItems (YieldsFirst copies_left) F.FnMut self.entry f init result }
-        ensures runs { WholeRun (YieldsFirst copies_left) self.entry (λ p. (h : B → T → B) → ActsAsOnTwo F.FnMut f h → result ≡ fold h init p.items) }
-    {
-        let mut acc = init;
-        'lines: while let Some(pixel) = self.next() {
-            acc = f(acc, pixel);
-            'line: while self.inner.left_in_line() > 0 {
-                let Some(pixel) = self.next() else {
-                    break;
-                };
-                acc = f(acc, pixel);
-            }
-        }
-        acc
-    }
 }
 
 impl<T: Copy> Iterator for PixelsIter<'_, T> {
@@ -219,6 +212,32 @@ impl<T: Copy> Iterator for PixelsIter<'_, T> {
         ensures exact { (result.0 ≡ length (copies_left self.now)) × (result.1 ≡ Some (length (copies_left self.now))) }
     {
         self.inner.size_hint()
+    }
+}
+
+impl<T: Copy> PixelsIter<'_, T> {
+    ghost use Rattle.std.specs.Prelude.{◌≡◌};
+    ghost use Rattle.std.specs.List.{fold};
+    ghost use Rattle.std.specs.Iterator.{CallableInFold, FoldsItems, ActsAsOnTwo};
+    ghost use Rattle.std.specs.Iterator.Runs.{WholeRun};
+    ghost use Rattle.imgref.specs.Pixels.{copies_left};
+
+    /// What `f` makes of `init` and of each pixel in turn, as the iterator's own `fold` gives it.
+    ///
+    /// It goes a line at a time, each a loop of its own: on wide rows of small pixels it is faster
+    /// than a `for`.
+    pub fn fold<B, F: FnMut(B, T) -> B>(self, init: B, f: F) -> B
+        requires callable { CallableInFold (YieldsFirst copies_left) F.FnMut self f init }
+        ensures ran { FoldsItems (YieldsFirst copies_left) F.FnMut self.entry f init result }
+        ensures runs { WholeRun (YieldsFirst copies_left) self.entry (λ p. (h : B → T → B) → ActsAsOnTwo F.FnMut f h → result ≡ fold h init p.items) }
+    {
+        fold_lines(self, init, f)
+    }
+}
+
+impl<T: Copy> Lines for PixelsIter<'_, T> {
+    fn left_in_line(&self) -> usize {
+        self.inner.left_in_line()
     }
 }
 

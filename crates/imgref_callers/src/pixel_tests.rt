@@ -44,6 +44,14 @@ fn wrapping_sum(image: ImgRef<'_, u8>) -> u64
         .fold(0u64, |sum, pixel| sum.wrapping_add(pixel as u64))
 }
 
+fn whole_weight(image: ImgRef<'_, Bead>) -> u64
+    requires { Fits (ref_layout image) }
+{
+    image
+        .pixels_ref()
+        .fold(0u64, |sum, bead| sum.wrapping_add(bead.weight as u64))
+}
+
 // And from a loop.
 fn count_equal(image: ImgRef<'_, u8>, value: u8) -> usize
     requires { Fits (ref_layout image) }
@@ -180,7 +188,7 @@ fn chains_and_loops_over_pixels(rt: HostRuntime) -> Result<(), Fail> {
     assert!(rt; all_below(view, 8) && !all_below(view, 7));
     assert_eq!(rt; count_equal(view, 5), 1);
     assert_eq!(rt; count_equal(view, 4), 0);
-    assert_eq!(rt; sum_seen(view), 24);
+    assert_eq!(rt; (sum_seen(view), wrapping_sum(view)), (24, 24));
     let mut pixels = view.pixels();
     skip_pixels(&mut pixels, 4);
     assert_eq!(rt;
@@ -256,6 +264,7 @@ fn sizes_of_pixels_that_are_no_copies(rt: HostRuntime) -> Result<(), Fail> {
     ];
     let image = ImgRef::new_stride(beads.as_slice(), 2, 2, 3);
     assert!(rt; image.is_valid());
+    assert_eq!(rt; whole_weight(image), 12);
     let mut pixels = image.pixels_ref();
     for (left, weight) in [(4, 1u8), (3, 2), (2, 4), (1, 5)] {
         assert_eq!(rt; pixels.size_hint(), (left, Some(left)));
@@ -316,6 +325,9 @@ fn an_image_without_columns_has_no_pixel(rt: HostRuntime) -> Result<(), Fail> {
     let mut lent = ImgRefMut::new_stride(cells.as_mut_slice(), 0, 2, 1);
     assert!(rt; lent.is_valid());
     assert!(rt; is_over(&mut lent.pixels_mut()));
+    let none: ImgRef<'_, u64> = ImgRef::new_stride(&[], 0, 2, 1);
+    assert!(rt; none.is_valid());
+    assert_eq!(rt; sum_of(none), 0);
     Ok(())
 }
 
