@@ -1,9 +1,7 @@
 -- `left_in_line` reads one count. Assumes `Logic`.
 use mathlib.Core.Path.{◌≡◌, refl}
-use Prim.Native.Nat.{ℕ, ◌+◌, ◌*◌, ◌≤◌, ◌^◌}
-use native.Mathlib.Omega.{arith}
+use Prim.Native.Nat.{ℕ, ◌+◌, ◌^◌}
 use mathlib.Core.List.{List, [], ◌∷◌}
-use lib.ListN.{length}
 use mir.Syntax.{Fn, a_type, w64, named}
 use mir.MapTy.{inst_fn}
 use mir.Val.{Val, vint, vptr}
@@ -24,10 +22,8 @@ use denote.Signature.{plain, named_lft, types_at}
 use denote.Steps.{nothing}
 use denote.Triple.Walked.{Stays, walk_of, stay_dropped, Goes-dropped}
 use Rattle.std.proofs.raw_atomic.Walks.{proved, leaves}
-use Rattle.imgref.proofs.Marks.{length-pixels}
 use Rattle.imgref.proofs.Seen.{shown}
 use Rattle.imgref.proofs.Cursors.{word_in, word_out}
-use Rattle.imgref.specs.Pixels.{refs_left}
 use Rattle.imgref.specs.contracts.pixels.PixelsRefIter as P
 use Rattle.imgref.specs.declared.pixels.PixelsRefIter.{PixelsRefIter}
 use Rattle.imgref.specs.contracts.pixels.PixelsRefIterLines.left_in_line as f
