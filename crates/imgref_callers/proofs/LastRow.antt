@@ -1,25 +1,22 @@
 -- The last row of a list of cells: which cells it has, and what an image shows once it is filled.
-use Rattle.std.proofs.Common.{◌≡◌, ℕ, zero, suc, ◌+◌, ◌-◌, ◌*◌, ◌<◌, ◌≤◌, inl, inr, List, [], ◌∷◌, ◌++◌, All, subst, length, take, drop, replicate, None, Some, MutBor, refl, sym, ap, ◌∙◌, arith, length-append, length-drop}
+use Rattle.std.proofs.Common.{◌≡◌, ℕ, zero, suc, ◌+◌, ◌-◌, ◌*◌, ◌<◌, ◌≤◌, List, [], ◌∷◌, ◌++◌, All, subst, length, take, drop, replicate, None, Some, MutBor, refl, sym, ap, ◌∙◌, arith, length-append, length-drop}
 use Rattle.std.specs.Iterator.{YieldsLastMut}
-use Rattle.std.specs.List.{slice_get}
-use Rattle.std.proofs.lemmas.Bool.{cases_lt}
-use Rattle.std.proofs.lemmas.List.{drop-drop, length-replicate}
+use Rattle.std.proofs.lemmas.List.{drop-drop}
 use Rattle.std.proofs.lemmas.List.Elements.{All-contains, Contains-push}
-use Rattle.std.proofs.lemmas.Option.{slice_get_past}
 use Rattle.std.proofs.Math.Nat.{mul_comm, zero-mul}
 use Rattle.std.proofs.Math.Seq.{take-append_seam}
 use Rattle.image_model.specs.Grid.{grid_of, patch, uniform}
-use Rattle.image_model.specs.Layout.{Layout, Fits, SameOutside, layout}
+use Rattle.image_model.specs.Layout.{Layout, Fits, SameOutside}
 use Rattle.image_model.specs.Rows.{row_count}
-use Rattle.image_model.specs.Windows.{Window, window, Stretch, stretch_cells}
+use Rattle.image_model.specs.Windows.{Window, window, Stretch}
 use Rattle.image_model.proofs.Grids.{same_grids}
 use Rattle.image_model.proofs.Places.{outside_refl}
 use Rattle.image_model.proofs.Rows.{row_count-wide, some_column}
-use Rattle.image_model.proofs.Stretches.{length-stretch_cells}
-use Rattle.image_model.proofs.Windows.{HasWindow, stretch_window, handed_on_grid, handed_on_outside}
+use Rattle.image_model.proofs.Windows.{HasWindow}
 use Rattle.imgref.specs.Rows.{all_lines, muts_left, cells_left, lines_left, behind_last, MovesLast}
 use Rattle.imgref.specs.declared.rows.RowsIterMut.{RowsIterMut}
 use Rattle.imgref_callers.specs.Rows.{with_last_row, with_last_of}
+use Rattle.imgref_callers.proofs.OneRow.{one_row_grid_of, one_row_outside}
 
 -- ---- what a step from the back says, of an iterator over all rows
 
@@ -65,24 +62,9 @@ module _ {T : Type 0} (l : Layout T) (s t : RowsIterMut T) (value : T) (cells : 
 
 -- ---- what the image shows
 
-all_alike : {T : Type 0} (n : ℕ) (value : T) (i : ℕ) → i < n → slice_get (replicate n value) i ≡ Some value
-all_alike zero value i h = absurd (omega arith)
-all_alike (suc n) value zero h = refl
-all_alike (suc n) value (suc i) h = all_alike n value i (omega arith)
-
 module _ {T : Type 0} (l : Layout T) (narrow : l.width ≤ l.stride) (fits : Fits l) (value : T) where
   abbrev with_rows : ℕ → Layout T
   with_rows n = record l { cells = with_last_of n (all_lines l.width l.height l.stride) value l.cells }
-
-  -- one row of the value
-  abbrev one_row : Layout T
-  one_row = layout (replicate l.width value) l.width 1 l.stride
-
-  one_row_grid : grid_of one_row ≡ uniform l.width 1 value
-  one_row_grid = same_grids l.width 1 (λ x y. slice_get (replicate l.width value) (y * l.stride + x)) (λ _ _. Some value) (λ x y column line.
-      let top : y ≡ 0 = omega arith in
-      let at : y * l.stride + x ≡ x = omega (arith, ap (λ k. k * l.stride) top, zero-mul l.stride) in
-      ap (slice_get (replicate l.width value)) at ∙ all_alike l.width value x column)
 
   module _ (n : ℕ) (counted : suc n ≡ row_count l.width l.height) where
     abbrev last : Window
@@ -107,29 +89,11 @@ module _ {T : Type 0} (l : Layout T) (narrow : l.width ≤ l.stride) (fits : Fit
       within = omega (arith, start_is, fits wide (omega (arith, high)));
     }
 
-    row_outside : SameOutside (stretch_window l last its_cells) one_row
-    row_outside =
-        let as_long = length-stretch_cells l.cells its_cells has.within in
-        record {
-          width_stays = refl;
-          height_stays = refl;
-          stride_stays = refl;
-          length_stays = length-replicate l.width value ∙ sym as_long;
-          padding_stays = λ k padding. elim (cases_lt k l.width) [
-            | inl in_row ↦ absurd (padding k 0 in_row (omega arith) (omega (arith, zero-mul l.stride)))
-            | inr past ↦
-                slice_get_past (replicate l.width value) k (omega (arith, length-replicate l.width value))
-                ∙ sym (slice_get_past (stretch_cells l.cells its_cells) k (omega (arith, as_long)))
-          ];
-        }
-
     filled_grid : grid_of (with_rows (suc n)) ≡ patch (grid_of l) 0 (l.height - 1) (uniform l.width 1 value)
-    filled_grid =
-        handed_on_grid l last its_cells has one_row row_outside narrow (omega arith, omega (arith, high))
-        ∙ ap (patch (grid_of l) 0 (l.height - 1)) one_row_grid
+    filled_grid = one_row_grid_of l value narrow (l.height - 1) (omega (arith, high)) (0 + n * l.stride) has
 
     filled_outside : SameOutside l (with_rows (suc n))
-    filled_outside = handed_on_outside l last its_cells has one_row row_outside (omega arith, omega (arith, high))
+    filled_outside = one_row_outside l value narrow (l.height - 1) (omega (arith, high)) (0 + n * l.stride) has
 
   -- without a row there is no place
   no_place : 0 ≡ row_count l.width l.height → (x y : ℕ) → x < l.width → y < l.height → ⊥

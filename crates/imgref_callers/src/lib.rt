@@ -1,6 +1,6 @@
 //! Users of `imgref` from another crate: writes through nested windows, each of which changes the image's pixel at the summed
-//! place and nothing else, a row that is filled through an iterator that ends early, and the tests of images, windows, rows
-//! and pixels.
+//! place and nothing else, a row that is filled by its number or through an iterator that ends early, and the tests of
+//! images, windows, rows and pixels.
 #![tactic(auto)]
 
 ghost use Rattle.std.specs.Prelude.{◌≡◌, ◌+◌, ◌*◌, ◌^◌, ◌≤◌, ◌<◌, length, slice_set};
@@ -24,7 +24,7 @@ mod rows;
 #[cfg(test)]
 mod window_tests;
 
-pub use rows::fill_last_row;
+pub use rows::{fill_last_row, fill_row_at};
 
 /// A corner and a size within an image, in pixels.
 #[derive(Clone, Copy)]

@@ -4,7 +4,7 @@ ghost use Rattle.image_model.specs.Rows.{row_count};
 ghost use Rattle.imgref.specs.Rows.{refs_left};
 ghost use Rattle.imgref.specs.Image.{width_of, height_of, ref_layout, mut_layout, vec_layout};
 
-use crate::fill_last_row;
+use crate::{fill_last_row, fill_row_at};
 use imgref::{Img, ImgRef, ImgRefMut, ImgVec, RowsIter};
 use std::alloc::{AllocError, Global};
 use std::iter::{ExactSizeIterator, FusedIterator};
@@ -159,6 +159,23 @@ fn a_written_row_stands_alone(rt: HostRuntime) -> Result<(), Fail> {
         row.fill(0);
     }
     assert_eq!(rt; cells, left);
+    Ok(())
+}
+
+#[test]
+fn a_row_is_filled(rt: HostRuntime) -> Result<(), Fail> {
+    let mut owned: ImgVec<u8> = Img::new_stride(PADDED.to_vec(rt.alloc())?, 3, 2, 4);
+    assert!(rt; owned.is_valid());
+    fill_row_at(&mut owned, 0, 0);
+    assert_eq!(rt;
+        owned.buf().as_slice(),
+        [0u8, 0, 0, 4, 5, 6, 7, 8, 9].as_slice()
+    );
+    let mut cells = PADDED;
+    let mut lent: ImgRefMut<'_, u8> = Img::new_stride(cells.as_mut_slice(), 0, 2, 4);
+    assert!(rt; lent.is_valid());
+    fill_row_at(&mut lent, 1, 0);
+    assert_eq!(rt; cells, PADDED);
     Ok(())
 }
 

@@ -1,4 +1,4 @@
-ghost use Rattle.std.specs.Prelude.{◌≡◌, ◌-◌, length, replicate};
+ghost use Rattle.std.specs.Prelude.{◌≡◌, ◌-◌, ◌<◌, length, replicate};
 ghost use Rattle.image_model.specs.Layout.{Fits, SameOutside};
 ghost use Rattle.image_model.specs.Grid.{grid_of, patch, uniform};
 ghost use Rattle.imgref.specs.Image.{buf_of, width_of, height_of, stride_of, with_buf, layout_by};
@@ -15,6 +15,19 @@ fn fill_row<T: Copy>(row: &mut [T], value: T)
     for i in 0..row.len() {
         row[i] = value;
     }
+}
+
+/// Every pixel of row `y` becomes `value`, and every other cell stays. The image must fit, as
+/// `is_valid` tells.
+pub fn fill_row_at<'a, C: AsMutSlice>(image: &'a mut Img<C>, y: usize, value: C::Item)
+where
+    C::Item: Copy + 'a,
+    requires fits { Fits (layout_by C.AsSlice.cells image.old) }
+    requires below { y < height_of image.old }
+    ensures grid { grid_of (layout_by C.AsSlice.cells image.new) ≡ patch (grid_of (layout_by C.AsSlice.cells image.old)) 0 y (uniform (width_of image.old) 1 value) }
+    ensures outside { SameOutside (layout_by C.AsSlice.cells image.old) (layout_by C.AsSlice.cells image.new) }
+{
+    fill_row(image.row_mut(y), value);
 }
 
 // The last row becomes `value`, and every other cell stays.
