@@ -1,5 +1,5 @@
 -- The text of each value: an image, a command and what stands in them.
-use Rattle.std.specs.Prelude.{ℕ, List, [], ◌∷◌, map, codes}
+use Rattle.std.specs.Prelude.{ℕ, List, [], ◌∷◌, ◌++◌, map, codes}
 use Rattle.std.specs.List.{join_with_byte}
 use Rattle.std.specs.Fmt.{decimal}
 use Rattle.image_model.specs.Layout.{Layout}
@@ -32,7 +32,7 @@ sizes_fields i = codes "image" ∷ decimal i.width ∷ decimal i.height ∷ deci
 
 -- the fields of an image: its word, its sizes and all of its cells
 abbrev pub image_fields : Layout ℕ → List (List ℕ)
-image_fields i = codes "image" ∷ decimal i.width ∷ decimal i.height ∷ decimal i.stride ∷ map decimal i.cells
+image_fields i = sizes_fields i ++ map decimal i.cells
 
 -- the fields of an image or a command
 abbrev pub entry_fields : Entry → List (List ℕ)

@@ -51,7 +51,8 @@ fn read_image(alloc: Global, fields: &mut Parts<'_>) -> Result<ImgVec<u8>, LineF
     let height = fields.number()?;
     let stride = fields.number()?;
     let cells = pixels(alloc, fields)?;
-    if width > 4294967295 || height > 4294967295 || stride < 1 || stride < width {
+    let greatest = u32::MAX as usize;
+    if width > greatest || height > greatest || stride < 1 || stride < width {
         return Err(LineFault::Bad);
     }
     let image = Img::new_stride(cells, width, height, stride);
