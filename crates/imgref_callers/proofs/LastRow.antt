@@ -3,7 +3,7 @@ use Rattle.std.proofs.Common.{◌≡◌, ℕ, zero, suc, ◌+◌, ◌-◌, ◌*�
 use Rattle.std.specs.Iterator.{YieldsLastMut}
 use Rattle.std.proofs.lemmas.List.{drop-drop}
 use Rattle.std.proofs.lemmas.List.Elements.{All-contains, Contains-push}
-use Rattle.std.proofs.Math.Nat.{mul_comm, zero-mul}
+use Rattle.std.proofs.Math.Nat.{mul_comm}
 use Rattle.std.proofs.Math.Seq.{take-append_seam}
 use Rattle.image_model.specs.Grid.{grid_of, patch, uniform}
 use Rattle.image_model.specs.Layout.{Layout, Fits, SameOutside}
@@ -13,10 +13,11 @@ use Rattle.image_model.proofs.Grids.{same_grids}
 use Rattle.image_model.proofs.Places.{outside_refl}
 use Rattle.image_model.proofs.Rows.{row_count-wide, some_column}
 use Rattle.image_model.proofs.Windows.{HasWindow}
+use Rattle.imgref.specs.Index.{row_start}
 use Rattle.imgref.specs.Rows.{all_lines, muts_left, cells_left, lines_left, behind_last, MovesLast}
 use Rattle.imgref.specs.declared.rows.RowsIterMut.{RowsIterMut}
 use Rattle.imgref_callers.specs.Rows.{with_last_row, with_last_of}
-use Rattle.imgref_callers.proofs.OneRow.{one_row_grid_of, one_row_outside}
+use Rattle.imgref_callers.proofs.OneRow.{has_row, one_row_grid_of, one_row_outside}
 
 -- ---- what a step from the back says, of an iterator over all rows
 
@@ -83,11 +84,10 @@ module _ {T : Type 0} (l : Layout T) (narrow : l.width ≤ l.stride) (fits : Fit
     start_is = let e : n ≡ l.height - 1 = omega (arith, high) in ap (λ k. k * l.stride) e ∙ mul_comm (l.height - 1) l.stride
 
     has : HasWindow (length l.cells) l.stride last its_cells
-    has = record {
-      begins = λ _ _. omega (arith, start_is);
-      reaches = λ _ _. let e : l.stride * (1 - 1) ≡ 0 = mul_comm l.stride 0 ∙ zero-mul l.stride in omega (arith, e);
-      within = omega (arith, start_is, fits wide (omega (arith, high)));
-    }
+    has =
+        let row = has_row l fits (l.height - 1) (omega (arith, high)) in
+        let same : row_start l (l.height - 1) ≡ its_cells.start = omega (arith, row.begins wide (omega arith), start_is) in
+        subst (λ k. HasWindow (length l.cells) l.stride last (record { start = k; len = l.width })) same row
 
     filled_grid : grid_of (with_rows (suc n)) ≡ patch (grid_of l) 0 (l.height - 1) (uniform l.width 1 value)
     filled_grid = one_row_grid_of l value narrow (l.height - 1) (omega (arith, high)) (0 + n * l.stride) has

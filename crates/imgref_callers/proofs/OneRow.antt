@@ -18,6 +18,20 @@ all_alike zero value i h = absurd (omega arith)
 all_alike (suc n) value zero h = refl
 all_alike (suc n) value (suc i) h = all_alike n value i (omega arith)
 
+-- the cells that an image has for a row
+pub has_row : {T : Type 0} (l : Layout T) → Fits l → (y : ℕ) → y < l.height → HasWindow (length l.cells) l.stride (window 0 y l.width 1) (record { start = row_start l y; len = l.width })
+has_row l fits y below =
+    let exact = exact_has (length l.cells) l.stride l.width l.height (window 0 y l.width 1) fits (omega arith, omega (arith, below)) in
+    let none : l.stride * (1 - 1) ≡ 0 = mul_comm l.stride 0 ∙ zero-mul l.stride in
+    record {
+      begins = exact.begins;
+      reaches = λ wide high. omega (arith, none);
+      within = elim (cases_lt 0 l.width) [
+        | inl wide ↦ omega (arith, exact.within, exact.reaches wide (omega arith), none)
+        | inr empty ↦ omega (arith, exact.within, empty)
+      ];
+    }
+
 module _ {T : Type 0} (l : Layout T) (value : T) where
   -- one row of the value
   abbrev one_row : Layout T
@@ -61,17 +75,3 @@ module _ {T : Type 0} (l : Layout T) (value : T) where
     -- and what lies outside its pixels is as before
     pub one_row_outside : SameOutside l filled
     one_row_outside = handed_on_outside l (window 0 y l.width 1) its_cells has one_row row_outside (omega arith, omega (arith, below))
-
-  -- the cells that an image has for a row
-  pub has_row : Fits l → (y : ℕ) → y < l.height → HasWindow (length l.cells) l.stride (window 0 y l.width 1) (record { start = row_start l y; len = l.width })
-  has_row fits y below =
-      let exact = exact_has (length l.cells) l.stride l.width l.height (window 0 y l.width 1) fits (omega arith, omega (arith, below)) in
-      let none : l.stride * (1 - 1) ≡ 0 = mul_comm l.stride 0 ∙ zero-mul l.stride in
-      record {
-        begins = exact.begins;
-        reaches = λ wide high. omega (arith, none);
-        within = elim (cases_lt 0 l.width) [
-          | inl wide ↦ omega (arith, exact.within, exact.reaches wide (omega arith), none)
-          | inr empty ↦ omega (arith, exact.within, empty)
-        ];
-      }

@@ -18,7 +18,7 @@ filled g c =
     let i = c.args.image.now in
     let l = layout_by g.C.AsSlice.cells i in
     let s : Stretch = record { start = row_start l c.args.y; len = l.width } in
-    let has = has_row l c.args.value c.requires.fits c.args.y c.requires.below in
+    let has = has_row l c.requires.fits c.args.y c.requires.below in
     let row_is : c.fill_row.new.row ≡ replicate l.width c.args.value = c.fill_row.ensures ∙ ap (λ n. replicate n c.args.value) c.row_mut.ensures.len in
     let as_many : length c.fill_row.new.row ≡ l.width = ap length row_is ∙ length-replicate l.width c.args.value in
     ap (λ cells. layout cells l.width l.height l.stride) (g.met.C.AsMutSlice.others_stay (buf_of i) s c.fill_row.new.row has.within as_many ∙ ap (λ ws. with_stretch l.cells s ws) row_is)
@@ -27,10 +27,10 @@ pub returns-clause-grid : goal.returns-clause-grid
 returns-clause-grid g c =
     let i = c.args.image.now in
     let l = layout_by g.C.AsSlice.cells i in
-    ap grid_of (filled g c) ∙ one_row_grid_of l c.args.value i.width_within c.args.y c.requires.below (row_start l c.args.y) (has_row l c.args.value c.requires.fits c.args.y c.requires.below)
+    ap grid_of (filled g c) ∙ one_row_grid_of l c.args.value i.width_within c.args.y c.requires.below (row_start l c.args.y) (has_row l c.requires.fits c.args.y c.requires.below)
 
 pub returns-clause-outside : goal.returns-clause-outside
 returns-clause-outside g c =
     let i = c.args.image.now in
     let l = layout_by g.C.AsSlice.cells i in
-    subst (SameOutside l) (sym (filled g c)) (one_row_outside l c.args.value i.width_within c.args.y c.requires.below (row_start l c.args.y) (has_row l c.args.value c.requires.fits c.args.y c.requires.below))
+    subst (SameOutside l) (sym (filled g c)) (one_row_outside l c.args.value i.width_within c.args.y c.requires.below (row_start l c.args.y) (has_row l c.requires.fits c.args.y c.requires.below))
