@@ -1,20 +1,17 @@
 # make run [SCRIPT=path]   proves, builds and runs the program on a script
+# make check               proofs and tests over the work that was kept: what to run while writing
 # make test                the whole gate: every proof from nothing, every test, every wrong body
 
 SCRIPT ?= examples/first.script
-PROGRAM := crates/imgref_run/out/imgref_run
-SOURCES := crates.txt $(shell find crates -path '*/out' -prune -o \( -name '*.rt' -o -name '*.antt' \) -print)
 
-.PHONY: run test
+.PHONY: run check test
 
-run: $(PROGRAM)
-	@$(PROGRAM) < $(SCRIPT)
+run:
+	@python3 .ci/program.py
+	@crates/imgref_run/out/imgref_run < $(SCRIPT)
 
-$(PROGRAM): $(SOURCES)
-	@echo "Proving and building the program, once for each change: this takes some minutes." >&2
-	@cd crates/imgref_run && mkdir -p out && rt run < /dev/null > out/build.log 2>&1 \
-	|| { status=$$?; cat out/build.log >&2; exit $$status; }
-	@touch $@
+check:
+	@python3 .ci/gate.py --quick
 
 test:
 	@python3 .ci/gate.py

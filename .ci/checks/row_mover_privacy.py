@@ -1,31 +1,20 @@
 #!/usr/bin/env python3
 """Shows that module `moves` of row_mover changes cells by counted shifts alone.
 
-A body that moves the rows by hand and adds to the count could meet every contract. What refuses it
-is that the list and the count are private to module `mover`, and no must-fail edit can show that,
-since such a body does not reach the prover. So each case here changes a copy of the workspace and
-asks `rt check` about row_mover. The last line counts the cases, and the status is 0 only if all
-passed. RT names another `rt`.
+A body that moves the rows by hand and adds to the count could meet every contract. What refuses it is that the list and
+the count are private to module `mover`, and no wrong body of `must-fail/` can show that, since such a body does not reach
+the prover. So each case here changes a copy of the repository and asks `rt check` about row_mover.
 """
-import os
+import pathlib
 import re
-import shutil
 import subprocess
 import sys
-import tempfile
 
-RT = os.environ.get("RT", "rt")
-ROOT = os.path.dirname(os.path.dirname(os.path.dirname(os.path.realpath(__file__))))
-# row_mover and what it stands on: the kept work of these makes the checks quick
-CRATES = ("image_model", "row_mover")
+sys.path.insert(0, str(pathlib.Path(__file__).resolve().parent.parent))
+from cases import Cases, changeable_copy
+
 MOVER, MOVES = "src/mover.rt", "src/moves.rt"
 BY_HAND = "shift_counted_but_written_by_hand"
-
-
-def left_out(folder, names):
-    """What the copy goes without: the history, and the kept work of the crates above."""
-    crate = os.path.basename(folder)
-    return [it for it in names if it == ".git" or it == "out" and crate not in CRATES]
 
 
 def function(text, name):
@@ -75,39 +64,28 @@ CASES = [
 
 def said_of(crate, file, name, change):
     """What rt check says of the crate with that function of that file changed."""
-    path = f"{crate}/{file}"
-    with open(path, encoding="utf-8") as it:
-        whole = it.read()
+    path = crate / file
+    whole = path.read_text(encoding="utf-8")
     start, end = function(whole, name)
     changed = change(whole[start:end])
     if changed == whole[start:end]:
         raise ValueError(f"error: {name} is not changed")
-    with open(path, "w", encoding="utf-8") as it:
-        it.write(whole[:start] + changed + whole[end:])
-    how = {"cwd": crate, "stdout": subprocess.PIPE, "stderr": subprocess.STDOUT, "text": True}
-    said = subprocess.run([RT, "check"], **how).stdout
-    with open(path, "w", encoding="utf-8") as it:
-        it.write(whole)
+    path.write_text(whole[:start] + changed + whole[end:], encoding="utf-8")
+    said = subprocess.run(["rt", "check"], cwd=crate, stdin=subprocess.DEVNULL, stdout=subprocess.PIPE, stderr=subprocess.STDOUT, text=True).stdout
+    path.write_text(whole, encoding="utf-8")
     return said
 
 
 def main():
-    failed = 0
-    with tempfile.TemporaryDirectory(prefix="row-mover-privacy-") as room:
-        root = f"{room}/workspace"
-        shutil.copytree(ROOT, root, ignore=left_out)
+    cases = Cases()
+    with changeable_copy() as copy:
         for label, file, name, change, is_right in CASES:
             try:
-                said = said_of(f"{root}/crates/row_mover", file, name, change)
+                said = said_of(copy / "crates/row_mover", file, name, change)
             except ValueError as why:
                 said = str(why)
-            passed = is_right(said)
-            failed += not passed
-            print(f"{label}: {'passed' if passed else 'FAILED'}", flush=True)
-            if not passed:
-                print("\n".join(it[:300] for it in said.split("\n") if "error" in it or "no proof" in it))
-    print(f"{len(CASES) - failed} passed, {failed} failed")
-    return 1 if failed else 0
+            cases.count(label, is_right(said), "\n".join(it[:300] for it in said.split("\n") if "error" in it or "no proof" in it))
+    return cases.end()
 
 
 if __name__ == "__main__":

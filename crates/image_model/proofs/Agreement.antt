@@ -74,6 +74,7 @@ module _ {T : Type 0} (eq : T → T → Bool) where
 
   -- the same window of both
   pub agree_view : (g h : Grid T) (left top width height : ℕ) → Agree eq g h → Agree eq (view g left top width height) (view h left top width height)
+  unfolding view
   agree_view g h left top width height a =
       agree_grid width width height height (λ x y. g.pixel (left + x) (top + y)) (λ x y. h.pixel (left + x) (top + y)) refl refl (λ x y _ _. a.alike (left + x) (top + y))
 
@@ -87,6 +88,7 @@ module _ {T : Type 0} (eq : T → T → Bool) where
 
   -- grids that agree, patched with grids that agree
   pub agree_patch : (g h p q : Grid T) (left top : ℕ) → Agree eq g h → Agree eq p q → Agree eq (patch g left top p) (patch h left top q)
+  unfolding patch
   agree_patch g h p q left top a b =
       agree_grid g.width h.width g.height h.height _ _ a.same_width a.same_height (λ x y _ _.
       subst (λ t. AlikePixels eq (cond (covers left top p.width p.height x y) (p.pixel (x - left) (y - top)) (g.pixel x y)) (cond t (q.pixel (x - left) (y - top)) (h.pixel x y)))
@@ -154,6 +156,7 @@ module _ {T : Type 0} (eq : T → T → Bool) where
 
   -- layouts of one size that fit have grids that agree if their joined rows are equal
   pub agree_from_joined : (k l : Layout T) → Fits k → Fits l → k.width ≡ l.width → k.height ≡ l.height → PixelsAlike (joined_rows k) (joined_rows l) → Agree eq (grid_of k) (grid_of l)
+  unfolding grid_of
   agree_from_joined k l k_fits l_fits wide high same =
       agree_grid k.width l.width k.height l.height (pixel k) (pixel l) wide high (λ x y column line.
       let one : slice_get (joined_rows k) (y * l.width + x) ≡ pixel k x y =
@@ -164,4 +167,5 @@ module _ {T : Type 0} (eq : T → T → Bool) where
 
 -- one value everywhere agrees with an equal one
 pub agree_uniform : {T : Type 0} (eq : T → T → Bool) (width height : ℕ) (a b : T) → IsTrue (eq a b) → Agree eq (uniform width height a) (uniform width height b)
+unfolding uniform
 agree_uniform eq width height a b same = agree_grid eq width width height height (λ _ _. Some a) (λ _ _. Some b) refl refl (λ _ _ _ _. same)

@@ -1,5 +1,5 @@
 -- Lists read cell by cell.
-use Rattle.std.proofs.Common.{◌≡◌, ◌≢◌, ℕ, zero, suc, ◌+◌, ◌<◌, List, [], ◌∷◌, ◌++◌, length, set, take, drop, Some, refl, sym, ap, ◌∙◌, arith}
+use Rattle.std.proofs.Common.{◌≡◌, ◌≢◌, ℕ, zero, suc, ◌+◌, ◌<◌, List, [], ◌∷◌, ◌++◌, length, set, take, drop, replicate, Some, refl, sym, ap, ◌∙◌, arith}
 use Rattle.std.specs.List.{slice_get}
 use Rattle.std.proofs.lemmas.Option.{same_Some, none-some}
 
@@ -46,3 +46,9 @@ same_cells [] [] each = refl
 same_cells [] (y ∷ ys) each = absurd (none-some y (each 0))
 same_cells (x ∷ xs) [] each = absurd (none-some x (sym (each 0)))
 same_cells (x ∷ xs) (y ∷ ys) each = let e = same_Some x y (each 0) in let f = same_cells xs ys (λ k. each (suc k)) in λ i. e i ∷ f i
+
+-- each cell of a list of one value
+pub slice_get-replicate : {T : Type 0} (n k : ℕ) (value : T) → k < n → slice_get (replicate n value) k ≡ Some value
+slice_get-replicate zero k value below = absurd (omega (arith, below))
+slice_get-replicate (suc n) zero value below = refl
+slice_get-replicate (suc n) (suc k) value below = slice_get-replicate n k value (omega (arith, below))

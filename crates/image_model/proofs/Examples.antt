@@ -4,7 +4,7 @@ use Rattle.std.specs.List.{slice_get}
 use Rattle.std.specs.Hash as fed
 use Rattle.std.specs.Prelude.{nat_eq}
 use Rattle.image_model.specs.Layout.{Layout, layout, is_fitting, cell_of, pixel}
-use Rattle.image_model.specs.Grid.{grid_of, patch, uniform}
+use Rattle.image_model.specs.Grid.{grid_of, patch, uniform, view}
 use Rattle.image_model.specs.Rows.{rows, row, joined_rows, pixels, grid_rows, grid_pixels, grid_joined_rows}
 use Rattle.image_model.specs.Windows.{window, is_inside, window_view, exact_window, roomy_window, with_stretch, stretch_cells, first_outside, path_window, path_stretch, whole, path_layout, path_view}
 use Rattle.image_model.specs.Shifts.{shifted, rows_compacted, rows_moved, MovesRows, IsCellOf}
@@ -42,6 +42,7 @@ padded_pixels = refl
 
 -- the grid has the same pixels
 padded_grid_pixels : grid_pixels (grid_of padded) ≡ 1 ∷ 2 ∷ 3 ∷ 5 ∷ 6 ∷ 7 ∷ []
+unfolding grid_of
 padded_grid_pixels = refl
 
 -- a row by its number
@@ -54,14 +55,17 @@ past_the_height = refl
 
 -- but no place of the grid
 not_in_the_grid : (grid_of small).pixel 1 2 ≡ None
+unfolding grid_of
 not_in_the_grid = refl
 
 -- nor is column 2 of row 0, a cell of padding
 padding_not_in_the_grid : (grid_of small).pixel 2 0 ≡ None
+unfolding grid_of
 padding_not_in_the_grid = refl
 
 -- the joined rows of the grid are those of the cells
 exact_joined : grid_joined_rows (grid_of exact) ≡ joined_rows exact
+unfolding grid_of
 exact_joined = refl
 
 -- ---- no width, no height
@@ -120,6 +124,7 @@ two_rows_exact = refl
 
 -- its rows are the view's
 two_rows_view : grid_rows (window_view (grid_of padded) (window 1 0 2 2)) ≡ rows (exact_window padded (window 1 0 2 2))
+unfolding view grid_of
 two_rows_view = refl
 
 -- where the parent lacks the last whole stride the window is exact
@@ -149,6 +154,7 @@ nested_pixels = refl
 
 -- the view through the path has them too
 nested_view : grid_pixels (path_view (grid_of padded) (window 1 0 2 2 ∷ window 1 0 1 2 ∷ [])) ≡ 3 ∷ 7 ∷ []
+unfolding view grid_of
 nested_view = refl
 
 -- the corners add up
@@ -181,18 +187,22 @@ put_in_window = refl
 
 -- the grid is patched with one pixel
 put_grid : grid_pixels (patch (grid_of padded) 1 1 (uniform 1 1 9)) ≡ 1 ∷ 2 ∷ 3 ∷ 5 ∷ 9 ∷ 7 ∷ []
+unfolding patch grid_of uniform
 put_grid = refl
 
 -- a copy to the lower right that overlaps its source: the old pixels arrive
 copy_downward : grid_rows (patch (grid_of exact) 1 1 (window_view (grid_of exact) (window 0 0 2 2))) ≡ (1 ∷ 2 ∷ 3 ∷ []) ∷ (4 ∷ 1 ∷ 2 ∷ []) ∷ (7 ∷ 4 ∷ 5 ∷ []) ∷ []
+unfolding patch grid_of view
 copy_downward = refl
 
 -- and one to the upper left
 copy_upward : grid_rows (patch (grid_of exact) 0 0 (window_view (grid_of exact) (window 1 1 2 2))) ≡ (5 ∷ 6 ∷ 3 ∷ []) ∷ (8 ∷ 9 ∷ 6 ∷ []) ∷ (7 ∷ 8 ∷ 9 ∷ []) ∷ []
+unfolding patch grid_of view
 copy_upward = refl
 
 -- a window filled, with the padding and the pixels beside it as before
 fill_grid : grid_pixels (patch (grid_of padded) 1 0 (uniform 2 2 0)) ≡ 1 ∷ 0 ∷ 0 ∷ 5 ∷ 0 ∷ 0 ∷ []
+unfolding patch grid_of uniform
 fill_grid = refl
 
 -- ---- shifts

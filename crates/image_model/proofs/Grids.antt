@@ -35,6 +35,7 @@ at_place w h f x y column line = cond-true (is_place w h x y) (f x y) None ((is_
 
 -- what a layout's grid has at a place
 pub pixel_at : {T : Type 0} (l : Layout T) (x y : ℕ) → x < l.width → y < l.height → (grid_of l).pixel x y ≡ pixel l x y
+unfolding grid_of
 pixel_at l x y column line = at_place l.width l.height (pixel l) x y column line
 
 -- ---- grids that are one
@@ -53,6 +54,7 @@ same_grids w h f g each =
 -- layouts of one size with one pixel at each place have one grid
 pub same_grids_of : {T : Type 0} (k l : Layout T) → k.width ≡ l.width → k.height ≡ l.height
     → ((x y : ℕ) → x < l.width → y < l.height → pixel k x y ≡ pixel l x y) → grid_of k ≡ grid_of l
+unfolding grid_of
 same_grids_of k l wide high each =
     ap (λ w. grid w k.height (pixel k)) wide
     ∙ ap (λ h. grid l.width h (pixel k)) high
@@ -63,6 +65,7 @@ pub is_patch : {T : Type 0} (g : Grid T) (left top : ℕ) (p : Grid T) (f : ℕ 
     → ((x y : ℕ) → x < g.width → y < g.height → covers left top p.width p.height x y ≡ true → f x y ≡ p.pixel (x - left) (y - top))
     → ((x y : ℕ) → x < g.width → y < g.height → covers left top p.width p.height x y ≡ false → f x y ≡ g.pixel x y)
     → grid g.width g.height f ≡ patch g left top p
+unfolding patch
 is_patch g left top p f inside outside =
     same_grids g.width g.height f _ (λ x y column line.
     ⊎_elim
@@ -72,6 +75,7 @@ is_patch g left top p f inside outside =
 
 -- the view through the whole
 pub view_all : {T : Type 0} (w h : ℕ) (f : ℕ → ℕ → Option T) → view (grid w h f) 0 0 w h ≡ grid w h f
+unfolding view
 view_all w h f = same_grids w h (λ x y. (grid w h f).pixel (0 + x) (0 + y)) f seen
   where
     seen : (x y : ℕ) → x < w → y < h → (grid w h f).pixel (0 + x) (0 + y) ≡ f x y
@@ -116,6 +120,7 @@ module _ {T : Type 0} (g : Grid T) (left top width height x y : ℕ) (p : Grid T
       cond-true (covers left top width height u v) _ _ hit ∙ at_place width height inner (u - left) (v - top) (omega (arith, c)) (omega (arith, c))
 
   beside : (u v : ℕ) → covers left top width height u v ≡ true → summed u v ≡ false → outer u v ≡ g.pixel u v
+  unfolding grid_of view patch uniform
   beside u v hit miss =
       let c = (covers_decides left top width height u v).0 hit in
       let back_u : left + (u - left) ≡ u = omega (arith, c) in
@@ -131,6 +136,7 @@ module _ {T : Type 0} (g : Grid T) (left top width height x y : ℕ) (p : Grid T
 
   -- a patch of a view, put where the view was seen, is a patch at the summed corner
   pub patch_of_view : x + p.width ≤ width → y + p.height ≤ height → patch g left top (patch (view g left top width height) x y p) ≡ patch g (left + x) (top + y) p
+  unfolding patch view
   patch_of_view wide high = is_patch g (left + x) (top + y) p outer inside outside
     where
       inside : (u v : ℕ) → u < g.width → v < g.height → summed u v ≡ true → outer u v ≡ p.pixel (u - (left + x)) (v - (top + y))
@@ -152,6 +158,7 @@ module _ {T : Type 0} (g : Grid T) (left top width height x y : ℕ) (p : Grid T
 -- a write at a place patches the grid with one pixel
 pub written_grid : {T : Type 0} (l : Layout T) (x y : ℕ) (value : T) → Fits l → l.width ≤ l.stride → x < l.width → y < l.height
     → grid_of (written l x y value) ≡ patch (grid_of l) x y (uniform 1 1 value)
+unfolding grid_of patch uniform
 written_grid l x y value fits wide column line = is_patch (grid_of l) x y (uniform 1 1 value) (pixel (written l x y value)) inside outside
   where
     inside : (u v : ℕ) → u < l.width → v < l.height → covers x y 1 1 u v ≡ true → pixel (written l x y value) u v ≡ (uniform 1 1 value).pixel (u - x) (v - y)

@@ -7,7 +7,7 @@ use Rattle.std.proofs.Math.Nat.{mul-suc}
 use Rattle.image_model.specs.Layout.{Layout, layout, Fits, SameOutside, pixel}
 use Rattle.image_model.specs.Grid.{grid_of}
 use Rattle.image_model.specs.Rows.{joined_rows}
-use Rattle.image_model.specs.Kept.{least_stride, IsPacked, IsKept}
+use Rattle.image_model.specs.Kept.{least_stride, IsPacked, packed, IsKept}
 use Rattle.image_model.proofs.Places.{outside_trans, written, written_outside}
 use Rattle.image_model.proofs.Grids.{same_grids_of}
 use Rattle.image_model.proofs.Rows.{joined_first, length-joined_rows}
@@ -56,10 +56,6 @@ pub packed_written : {T : Type 0} (l : Layout T) (x y : ℕ) (value : T) → IsP
 packed_written l x y value packed column line = packed_stays l (written l x y value) packed (written_outside l x y value column line)
 
 -- ---- the packed layout of a layout
-
--- the joined rows under the least stride
-abbrev pub packed : {T : Type 0} → Layout T → Layout T
-packed l = layout (joined_rows l) l.width l.height (least_stride l.width)
 
 pub length-joined : {T : Type 0} (l : Layout T) → Fits l → length (joined_rows l) ≡ l.width * l.height
 length-joined l fits = length-joined_rows l.cells l.width l.height l.stride fits

@@ -1,10 +1,11 @@
 pub mod Cells
 pub mod Places
 pub mod Grids
+pub mod Patches
 pub mod Stretches
-pub mod Lent
 pub mod Windows
 pub mod Paths
+pub mod OneRow
 pub mod Rows
 pub mod Pixels
 pub mod Kept

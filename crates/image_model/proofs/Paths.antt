@@ -7,7 +7,7 @@ use Rattle.std.proofs.lemmas.Option.{none-some}
 use Rattle.std.proofs.lemmas.Bool.{cond-true}
 use Rattle.std.proofs.Math.Nat.{mul-add}
 use Rattle.image_model.specs.Layout.{Layout, layout, Fits}
-use Rattle.image_model.specs.Grid.{Grid, grid_of}
+use Rattle.image_model.specs.Grid.{Grid, grid_of, view, patch, uniform}
 use Rattle.image_model.specs.Windows.{Window, window, IsInside, is_inside, window_view, Stretch, roomy_stretch, roomy_window, stretch_cells, first_outside, corner_left, corner_top, path_width, path_height, path_window, path_view, stretch_within, path_stretch, whole, path_layout}
 use Rattle.image_model.proofs.Grids.{at_place, same_grids}
 use Rattle.image_model.proofs.Stretches.{length-stretch_cells, stretch_cells-within}
@@ -21,6 +21,7 @@ nested v w = window (v.left + w.left) (v.top + w.top) w.width w.height
 
 -- a view of a view is the one view at the summed corner
 pub view_of_view : {T : Type 0} (g : Grid T) (v w : Window) → IsInside v.width v.height w → window_view (window_view g v) w ≡ window_view g (nested v w)
+unfolding grid_of view patch uniform
 view_of_view {T} g v w inside =
     let seen : ℕ → ℕ → Option T = λ x y. g.pixel (v.left + x) (v.top + y) in
     same_grids w.width w.height (λ x y. (window_view g v).pixel (w.left + x) (w.top + y)) (λ x y. g.pixel (v.left + w.left + x) (v.top + w.top + y)) (λ x y column line.
@@ -84,6 +85,7 @@ path_inside width height (w ∷ path) e =
 
 -- the view through a path is the view through its rest of that through its first window
 pub path_view-cons : {T : Type 0} (g : Grid T) (w : Window) (path : List Window) → first_outside w.width w.height path ≡ None → path_view g (w ∷ path) ≡ path_view (window_view g w) path
+unfolding grid_of view patch uniform
 path_view-cons g w path e =
     ap (window_view g) (path_window-cons g.width g.height w path)
     ∙ sym (view_of_view g w (path_window w.width w.height path) (path_inside w.width w.height path e))
@@ -123,6 +125,7 @@ module _ {T : Type 0} (l : Layout T) (path : List Window) (wide : l.width ≤ l.
 
   -- and shows the path's view
   pub path_grid : grid_of (path_layout l path) ≡ path_view (grid_of l) path
+  unfolding grid_of
   path_grid = window_grid l (path_window l.width l.height path) (path_stretch l.stride (whole l.cells) path) path_has (path_inside l.width l.height path inside)
 
 -- ---- a path with one more window

@@ -1,5 +1,5 @@
 -- What fits, where pixels lie, and what stays outside them.
-use Rattle.std.proofs.Common.{ℕ, ◌+◌, ◌-◌, ◌*◌, ◌<◌, ◌≤◌, length, set, refl, sym, ap, ◌∙◌, arith, length-set}
+use Rattle.std.proofs.Common.{rules, ℕ, ◌+◌, ◌-◌, ◌*◌, ◌<◌, ◌≤◌, length, set, refl, sym, arith, length-set}
 use Rattle.std.specs.Bool.{Decides}
 use Rattle.std.specs.Prelude.{◌==◌, nat_le, ◌||◌}
 use Rattle.std.proofs.lemmas.Bool.Decides.{nat_tests}
@@ -32,16 +32,7 @@ outside_refl l = record { width_stays = refl; height_stays = refl; stride_stays 
 
 -- what stays twice stays
 pub outside_trans : {T : Type 0} (old mid new : Layout T) → SameOutside old mid → SameOutside mid new → SameOutside old new
-outside_trans old mid new one two = record {
-  width_stays = two.width_stays ∙ one.width_stays;
-  height_stays = two.height_stays ∙ one.height_stays;
-  stride_stays = two.stride_stays ∙ one.stride_stays;
-  length_stays = two.length_stays ∙ one.length_stays;
-  padding_stays = λ k padding.
-      two.padding_stays k (λ x y in_width in_height at.
-      padding x y (omega (arith, one.width_stays)) (omega (arith, one.height_stays)) (ap (λ s. y * s + x) (sym one.stride_stays) ∙ at))
-      ∙ one.padding_stays k padding;
-}
+outside_trans old mid new one two = search rules
 
 -- with the same outside, what fits fits
 pub outside_fits : {T : Type 0} (old new : Layout T) → SameOutside old new → Fits old → Fits new
@@ -62,7 +53,7 @@ written_outside l x y value column line = record {
   height_stays = refl;
   stride_stays = refl;
   length_stays = length-set l.cells (cell_of l x y) value;
-  padding_stays = λ k padding. slice_get-set_other l.cells (cell_of l x y) k value (λ e. padding x y column line (sym e));
+  padding_stays = λ k padding. slice_get-set_other l.cells (cell_of l x y) k value (λ e. padding.no_place x y column line (sym e));
 }
 
 -- and the layout fits as before

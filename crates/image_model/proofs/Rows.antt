@@ -14,6 +14,7 @@ use Rattle.std.proofs.lemmas.Bool.{cond-false, cond_both, ne_eqb}
 use Rattle.image_model.specs.Layout.{Layout, layout, Fits, pixel}
 use Rattle.image_model.specs.Grid.{grid_of}
 use Rattle.image_model.specs.Rows.{row, rows, row_count, joined_rows, grid_row, grid_rows, grid_joined_rows}
+use Rattle.image_model.proofs.Cells.{slice_get-take, slice_get-drop}
 use Rattle.image_model.proofs.Grids.{pixel_at}
 
 -- ---- one row
@@ -36,6 +37,10 @@ tabulated cells b a (suc n) =
 -- a row is a stretch of the cells, shorter where they end before it does
 pub row_stretch : {T : Type 0} (l : Layout T) (y : ℕ) → row l y ≡ take l.width (drop (y * l.stride) l.cells)
 row_stretch l y = tabulated l.cells (y * l.stride) 0 l.width ∙ ap (λ k. take l.width (drop k l.cells)) (add-zero (y * l.stride))
+
+-- place x of a row is its pixel
+pub row_pixel : {T : Type 0} (l : Layout T) (x y : ℕ) → x < l.width → slice_get (row l y) x ≡ pixel l x y
+row_pixel l x y column = ap (λ cells. slice_get cells x) (row_stretch l y) ∙ slice_get-take l.width (drop (y * l.stride) l.cells) x column ∙ slice_get-drop (y * l.stride) l.cells x
 
 -- a row that the cells have is a stretch of them
 pub row_is : {T : Type 0} (l : Layout T) (y : ℕ) → y * l.stride + l.width ≤ length l.cells → row l y ≡ take l.width (drop (y * l.stride) l.cells)
@@ -88,10 +93,12 @@ map-same f g a (suc n) each =
 
 -- a row of a layout's grid is that of the layout
 pub grid_row_of : {T : Type 0} (l : Layout T) (y : ℕ) → y < l.height → grid_row (grid_of l) y ≡ row l y
+unfolding grid_of
 grid_row_of l y line = filter_map-same (λ x. (grid_of l).pixel x y) (λ x. pixel l x y) 0 l.width (λ x below. pixel_at l x y (omega arith) line)
 
 -- and so are all rows
 pub grid_rows_of : {T : Type 0} (l : Layout T) → grid_rows (grid_of l) ≡ rows l
+unfolding grid_of
 grid_rows_of l = map-same (grid_row (grid_of l)) (row l) 0 (row_count l.width l.height) (λ y below. grid_row_of l y (omega (arith, row_count-le l.width l.height)))
 
 -- and the joined rows, which are the pixels

@@ -5,7 +5,7 @@ use Rattle.std.proofs.lemmas.Bool.{true≢false}
 use Rattle.std.proofs.lemmas.Nat.{same_from_place}
 use Rattle.std.proofs.Math.Nat.{add-mul, mul_comm}
 use Rattle.image_model.specs.Layout.{Layout, cell_of, pixel, SameOutside}
-use Rattle.image_model.specs.Grid.{grid_of, covers, patch}
+use Rattle.image_model.specs.Grid.{grid_of, covers, patch, view}
 use Rattle.image_model.specs.Windows.{Window, IsInside, window_view}
 use Rattle.image_model.specs.Shifts.{MovesRows, IsCellOf}
 use Rattle.image_model.proofs.Grids.{covers_decides, pixel_at, at_place, is_patch}
@@ -31,12 +31,13 @@ module _ {T : Type 0} (l : Layout T) (new : List T) (v w : Window) (from to : �
     length_stays = moves.length_stays;
     padding_stays = λ k padding. moves.others_stay k (λ at.
         let p = place_of k at in
-        padding (w.left + p.0) (w.top + p.1) (omega (arith, p.2, inside)) (omega (arith, p.3, inside)) p.4);
+        padding.no_place (w.left + p.0) (w.top + p.1) (omega (arith, p.2, inside)) (omega (arith, p.3, inside)) p.4);
   }
 
   -- the grid is patched with the view of the source
   pub moved_grid : l.width ≤ l.stride → IsInside l.width l.height v → v.width ≡ w.width → v.height ≡ w.height
       → grid_of (record l { cells = new }) ≡ patch (grid_of l) w.left w.top (window_view (grid_of l) v)
+  unfolding grid_of view patch
   moved_grid wide from_inside same_width same_height =
       is_patch (grid_of l) w.left w.top (window_view (grid_of l) v) (pixel (record l { cells = new })) in_target beside
     where

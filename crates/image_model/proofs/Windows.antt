@@ -8,8 +8,8 @@ use Rattle.std.proofs.lemmas.Bool.{and_parts, and_from, leb-true, le-leb, cases_
 use Rattle.std.proofs.lemmas.Nat.{same_from_place}
 use Rattle.std.proofs.Math.Nat.{mul-le-mul_left, mul-add, add-mul, mul-suc, mul_comm}
 use Rattle.image_model.specs.Layout.{Layout, layout, Reaches, Fits, cell_of, pixel, SameOutside}
-use Rattle.image_model.specs.Grid.{Grid, grid_of, covers, patch}
-use Rattle.image_model.specs.Windows.{Window, IsInside, is_inside, is_empty, window_view, Stretch, window_start, exact_stretch, roomy_stretch, stretch_cells, with_stretch, exact_window, roomy_window}
+use Rattle.image_model.specs.Grid.{Grid, grid_of, covers, patch, view, uniform}
+use Rattle.image_model.specs.Windows.{Window, IsInside, is_inside, is_empty, window_view, Stretch, window_start, exact_stretch, roomy_stretch, stretch_cells, with_stretch, exact_window, roomy_window, window_stretch, window_layout, IsWithin}
 use Rattle.image_model.proofs.Places.{reached, written}
 use Rattle.image_model.proofs.Grids.{covers_decides, pixel_at, same_grids, is_patch, patch_of_view}
 use Rattle.image_model.proofs.Stretches.{stretch_cell, length-stretch_cells, length-with_stretch, with_stretch_at, with_stretch_beside, with_stretch-set}
@@ -123,6 +123,7 @@ module _ {T : Type 0} (l : Layout T) (w : Window) (s : Stretch) (has : HasWindow
 
   -- a window shows the view
   pub window_grid : IsInside l.width l.height w → grid_of (stretch_window l w s) ≡ window_view (grid_of l) w
+  unfolding grid_of view patch uniform
   window_grid inside =
       same_grids w.width w.height (pixel (stretch_window l w s)) (λ x y. (grid_of l).pixel (w.left + x) (w.top + y)) (λ x y column line.
       window_pixel x y column line ∙ sym (pixel_at l (w.left + x) (w.top + y) (omega (arith, inside)) (omega (arith, inside))))
@@ -152,7 +153,7 @@ module _ {T : Type 0} (l : Layout T) (w : Window) (s : Stretch) (has : HasWindow
                 let there : s.start + j ≡ k = omega arith in
                 ap (slice_get (with_stretch l.cells s others)) (sym there)
                 ∙ with_stretch_at l.cells s others has.within j (omega (arith, as_many))
-                ∙ same.padding_stays j (λ x y column line e. none x y column line (sym (window_cell x y column line) ∙ ap (λ n. s.start + n) e ∙ there))
+                ∙ same.padding_stays j (record { no_place = λ x y column line e. none x y column line (sym (window_cell x y column line) ∙ ap (λ n. s.start + n) e ∙ there) })
                 ∙ stretch_cell l.cells s j (omega arith)
                 ∙ ap (slice_get l.cells) there
             | inr after ↦ beside (inr after)
@@ -165,11 +166,12 @@ module _ {T : Type 0} (l : Layout T) (w : Window) (s : Stretch) (has : HasWindow
       height_stays = refl;
       stride_stays = refl;
       length_stays = length-with_stretch l.cells s others has.within as_many;
-      padding_stays = λ k padding. elsewhere k (λ x y column line. padding (w.left + x) (w.top + y) (omega (arith, inside)) (omega (arith, inside)));
+      padding_stays = λ k padding. elsewhere k (λ x y column line. padding.no_place (w.left + x) (w.top + y) (omega (arith, inside)) (omega (arith, inside)));
     }
 
     grid_of_others : l.width ≤ l.stride → IsInside l.width l.height w
         → grid_of (handed_on l s others) ≡ patch (grid_of l) w.left w.top (grid_of (layout others w.width w.height l.stride))
+    unfolding grid_of
     grid_of_others wide inside = is_patch (grid_of l) w.left w.top (grid_of (layout others w.width w.height l.stride)) (pixel (handed_on l s others)) in_window beside
       where
         in_window : (u v : ℕ) → u < l.width → v < l.height → covers w.left w.top w.width w.height u v ≡ true
@@ -232,3 +234,36 @@ roomy_fits l w wide fits inside = window_fits l w (roomy_stretch (length l.cells
 
 pub roomy_grid : {T : Type 0} (l : Layout T) (w : Window) → l.width ≤ l.stride → Fits l → IsInside l.width l.height w → grid_of (roomy_window l w) ≡ window_view (grid_of l) w
 roomy_grid l w wide fits inside = window_grid l w (roomy_stretch (length l.cells) l.stride w) (roomy_has (length l.cells) l.stride l.width l.height w wide fits inside) inside
+
+-- ---- windows with either stretch
+
+-- a window that is inside has its exact cells
+pub exact_within : (count stride width height : ℕ) (w : Window) → Reaches count width height stride → IsInside width height w → IsWithin count (exact_stretch stride w)
+exact_within count stride width height w fits inside = (exact_has count stride width height w fits inside).within
+
+module _ {T : Type 0} (l : Layout T) (narrow : l.width ≤ l.stride) (fits : Fits l) (w : Window) (inside : IsInside l.width l.height w) where
+  -- it fits
+  pub layout_fits : (roomy : Bool) → Fits (window_layout roomy l w)
+  layout_fits true = roomy_fits l w narrow fits inside
+  layout_fits false = exact_fits l w fits inside
+
+  -- and shows the view
+  pub layout_shows : (roomy : Bool) → grid_of (window_layout roomy l w) ≡ window_view (grid_of l) w
+  layout_shows true = roomy_grid l w narrow fits inside
+  layout_shows false = exact_grid l w fits inside
+
+  pub fits_as : (roomy : Bool) (m : Layout T) → m ≡ window_layout roomy l w → Fits m
+  fits_as roomy m e = subst Fits (sym e) (layout_fits roomy)
+
+  pub shows_as : (roomy : Bool) (m : Layout T) → m ≡ window_layout roomy l w → grid_of m ≡ window_view (grid_of l) w
+  shows_as roomy m e = ap grid_of e ∙ layout_shows roomy
+
+-- the cells of a window's stretch, in its size, are the window
+pub layout_is : {T : Type 0} (roomy : Bool) (l : Layout T) (w : Window) → stretch_window l w (window_stretch roomy (length l.cells) l.stride w) ≡ window_layout roomy l w
+layout_is true l w = refl
+layout_is false l w = refl
+
+-- a window that is inside has its cells, with either stretch
+pub stretch_has : (roomy : Bool) (count stride width height : ℕ) (w : Window) → width ≤ stride → Reaches count width height stride → IsInside width height w → HasWindow count stride w (window_stretch roomy count stride w)
+stretch_has true count stride width height w wide fits inside = roomy_has count stride width height w wide fits inside
+stretch_has false count stride width height w wide fits inside = exact_has count stride width height w fits inside

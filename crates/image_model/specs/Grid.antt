@@ -1,5 +1,5 @@
 -- Grids: what an image shows at each place, with no cells, stride or padding.
-use Rattle.std.specs.Prelude.{◌≡◌, ℕ, ◌+◌, ◌-◌, Bool, ◌&&◌, nat_lt, nat_le, if◌then◌else◌, Option, Some, None, IsTrue}
+use Rattle.std.specs.Prelude.{◌≡◌, ℕ, ◌+◌, ◌-◌, Bool, ◌&&◌, nat_lt, nat_le, if◌then◌else◌, Option, Some, None, IsTrue, List, length, slice_get}
 use Rattle.image_model.specs.Layout.{Layout, pixel as pixel_of}
 
 -- a width, a height, and what stands at each place: a pixel, or nothing outside the size
@@ -17,11 +17,11 @@ abbrev pub grid : {T : Type 0} → ℕ → ℕ → (ℕ → ℕ → Option T) �
 grid width height pixels = record { width = width; height = height; pixel = λ x y. if is_place width height x y then pixels x y else None }
 
 -- the grid of a layout: each place has its pixel
-abbrev pub grid_of : {T : Type 0} → Layout T → Grid T
+unfoldable pub grid_of : {T : Type 0} → Layout T → Grid T
 grid_of l = grid l.width l.height (pixel_of l)
 
 -- the view through a window: each of its places has the pixel that lies a corner further
-abbrev pub view : {T : Type 0} → Grid T → ℕ → ℕ → ℕ → ℕ → Grid T
+unfoldable pub view : {T : Type 0} → Grid T → ℕ → ℕ → ℕ → ℕ → Grid T
 view g left top width height = grid width height (λ x y. g.pixel (left + x) (top + y))
 
 -- whether column x of row y lies in the rectangle of this size at a corner
@@ -29,12 +29,16 @@ abbrev pub covers : ℕ → ℕ → ℕ → ℕ → ℕ → ℕ → Bool
 covers left top width height x y = nat_le left x && (nat_le top y && is_place (left + width) (top + height) x y)
 
 -- a grid patched with another one at a corner: the rectangle there is the other grid, all else is as before
-abbrev pub patch : {T : Type 0} → Grid T → ℕ → ℕ → Grid T → Grid T
+unfoldable pub patch : {T : Type 0} → Grid T → ℕ → ℕ → Grid T → Grid T
 patch g left top h = grid g.width g.height (λ x y. if covers left top h.width h.height x y then h.pixel (x - left) (y - top) else g.pixel x y)
 
 -- the grid with one value at every place
-abbrev pub uniform : {T : Type 0} → ℕ → ℕ → T → Grid T
+unfoldable pub uniform : {T : Type 0} → ℕ → ℕ → T → Grid T
 uniform width height value = grid width height (λ _ _. Some value)
+
+-- the grid of one row with these pixels
+unfoldable pub one_row : {T : Type 0} → List T → Grid T
+one_row pixels = grid (length pixels) 1 (λ x _. slice_get pixels x)
 
 -- equal pixels, or nothing in both
 abbrev pub AlikePixels : {T : Type 0} → (T → T → Bool) → Option T → Option T → Type 0

@@ -1,6 +1,6 @@
 -- What a run of commands leaves of an image's layout.
 use Rattle.std.specs.Prelude.{◌≡◌, ℕ, ◌==◌, if◌then◌else◌, Bool, MatchBool}
-use Rattle.image_model.specs.Layout.{Layout, SameOutside}
+use Rattle.image_model.specs.Layout.{Layout, layout, SameOutside}
 use Rattle.image_model.specs.Rows.{joined_rows}
 
 -- the least stride of a width: the width, or 1 for width 0
@@ -11,6 +11,10 @@ least_stride width = if width == 0 then 1 else width
 pub record IsPacked {T : Type 0} (l : Layout T) : Type 0 where
   pub stride_is : l.stride ≡ least_stride l.width
   pub joined : l.cells ≡ joined_rows l
+
+-- the packed layout of a layout: its joined rows under the least stride
+abbrev pub packed : {T : Type 0} → Layout T → Layout T
+packed l = layout (joined_rows l) l.width l.height (least_stride l.width)
 
 -- with no compaction between them a layout keeps its outside, and with one it is packed
 abbrev pub IsKept : {T : Type 0} → Bool → Layout T → Layout T → Type 0

@@ -32,9 +32,9 @@ cell_of l x y = y * l.stride + x
 abbrev pub pixel : {T : Type 0} → Layout T → ℕ → ℕ → Option T
 pixel l x y = slice_get l.cells (cell_of l x y)
 
--- cell k is padding if it is no place's cell
-abbrev pub IsPadding : {T : Type 0} → Layout T → ℕ → Type 0
-IsPadding l k = (x y : ℕ) → x < l.width → y < l.height → cell_of l x y ≢ k
+-- cell k is padding of a size at a stride if it is no place's cell
+pub record IsPadding (width height stride k : ℕ) : Type 0 where
+  pub no_place : (x y : ℕ) → x < width → y < height → y * stride + x ≢ k
 
 -- what lies outside the pixels is as before: the size, the stride, the length, and each cell of padding
 pub record SameOutside {T : Type 0} (old new : Layout T) : Type 0 where
@@ -42,4 +42,4 @@ pub record SameOutside {T : Type 0} (old new : Layout T) : Type 0 where
   pub height_stays : new.height ≡ old.height
   pub stride_stays : new.stride ≡ old.stride
   pub length_stays : length new.cells ≡ length old.cells
-  pub padding_stays : (k : ℕ) → IsPadding old k → slice_get new.cells k ≡ slice_get old.cells k
+  pub padding_stays : (k : ℕ) → IsPadding old.width old.height old.stride k → slice_get new.cells k ≡ slice_get old.cells k

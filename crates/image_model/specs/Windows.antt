@@ -76,6 +76,18 @@ exact_window l w = layout (stretch_cells l.cells (exact_stretch l.stride w)) w.w
 abbrev pub roomy_window : {T : Type 0} → Layout T → Window → Layout T
 roomy_window l w = layout (stretch_cells l.cells (roomy_stretch (length l.cells) l.stride w)) w.width w.height l.stride
 
+-- the stretch of a window: whole strides where the parent is roomy and has them, and else the exact one
+abbrev pub window_stretch : Bool → ℕ → ℕ → Window → Stretch
+window_stretch roomy count stride w = if roomy then roomy_stretch count stride w else exact_stretch stride w
+
+-- the window with that stretch
+abbrev pub window_layout : {T : Type 0} → Bool → Layout T → Window → Layout T
+window_layout roomy l w = if roomy then roomy_window l w else exact_window l w
+
+-- a stretch lies within so many cells
+abbrev pub IsWithin : ℕ → Stretch → Type 0
+IsWithin count s = s.start + s.len ≤ count
+
 -- ---- paths: each window lies in the one before it
 
 -- the number, from 0, of the first window that is not inside the size before it

@@ -1,15 +1,15 @@
--- An image over a slice by value: the machine value that it is, its slice taken out, and the image made of its fields.
+-- Machine values by what they hold: a window, a stretch, a shape, an image of a slice for writing, and its parts.
 use mathlib.Core.Path.{◌≡◌, refl, ◌∙◌}
 use Prim.Native.Nat.{ℕ, ◌^◌, ◌<◌}
 use mathlib.Core.List.{List, [], ◌∷◌, ◌++◌}
 use lib.ListN.{length}
 use seplogic.Ra.Ura.{Ura}
 use base.Fml.{Lft}
-use base.Logic.{ent}
+use base.Logic.{ent, emp}
 use mir.Syntax.{Lifetime, w32, w64}
 use mir.Val.{Val, vint, vstruct, vcons, vnil, of_list}
 use types.Logic.{Logic, sem}
-use types.Kit.{‵, ◌$◌, ◌∵◌, !, qed, move, fjoin, fpack, feq_i, done}
+use types.Kit.{‵, ◌$◌, ◌∵◌, !, qed, move, fjoin, fpack, feq_i, use0, done}
 use denote.Builtin.{u32, usize}
 use denote.Laws.{Is}
 use denote.Plain.{uint_Makes}
@@ -17,15 +17,73 @@ use denote.RattleType.{RattleType, Valss}
 use denote.Ref.{MutBor}
 use denote.Slice.{MutSlice, Room, slice_val}
 use denote.Steps.{nothing, owned}
-use denote.Struct.Declared.{shape}
+use denote.Struct.Declared.{shape as fields}
 use denote.Struct.Struct.{within}
+use denote.Struct.Tuple.{Tuple}
+use Rattle.image_shape.specs.declared.window.Window.{Window}
+use Rattle.image_shape.specs.contracts.window.Window as window
+use Rattle.image_shape.specs.declared.window.Stretch.{Stretch}
+use Rattle.image_shape.specs.contracts.window.Stretch as stretch
+use Rattle.image_shape.specs.declared.shape.Shape.{Shape}
+use Rattle.image_shape.specs.contracts.shape.Shape as shape
 use Rattle.imgref.specs.declared.img.Img.{Img}
 use Rattle.imgref.specs.contracts.img.Img.{the_row, the_type}
-use Rattle.imgref.specs.declared.window.Region.{Region}
-use Rattle.imgref.specs.contracts.window.Region as region
 
-abbrev pub img_val : ℕ × ℕ → ℕ → ℕ → ℕ → ℕ → Val
-img_val p n width height stride = vstruct (vcons (slice_val p n) (vcons (vint w32 width) (vcons (vint w32 height) (vcons (vint w64 stride) vnil))))
+-- ---- a window
+abbrev pub window_val : Window → Val
+window_val w = vstruct (vcons (vint w64 w.left) (vcons (vint w64 w.top) (vcons (vint w64 w.width) (vcons (vint w64 w.height) vnil))))
+
+module _ {M : Type 1} {𝓤 : Ura M} (𝓛 : Logic 𝓤) where
+  pub window_made : (w : Window) → w.left < 2 ^ 64 → w.top < 2 ^ 64 → w.width < 2 ^ 64 → w.height < 2 ^ 64 → ent 𝓤 (emp 𝓤) (sem 𝓛 (window.the_row.own_val w (window_val w ∷ [])))
+  window_made w fl ft fw fh = qed 𝓛 [] ∵
+      nothing ! $ owned ! usize (Is usize) (uint_Makes 𝓛 w64) w.height (vint w64 w.height ∷ []) (refl, fh) $ fjoin ! $
+      owned ! usize (Is usize) (uint_Makes 𝓛 w64) w.width (vint w64 w.width ∷ []) (refl, fw) $ fjoin ! $
+      owned ! usize (Is usize) (uint_Makes 𝓛 w64) w.top (vint w64 w.top ∷ []) (refl, ft) $ fjoin ! $
+      owned ! usize (Is usize) (uint_Makes 𝓛 w64) w.left (vint w64 w.left ∷ []) (refl, fl) $ fjoin ! $
+      feq_i ! (List Val) (window_val w ∷ []) (window_val w ∷ []) refl $ fjoin ! $
+      fpack ! (Valss (usize ∷ usize ∷ usize ∷ usize ∷ [])) (within (fields window.the_type) (w.left, (w.top, (w.width, (w.height, tt)))) (window_val w ∷ []))
+      (vint w64 w.left ∷ [], (vint w64 w.top ∷ [], (vint w64 w.width ∷ [], (vint w64 w.height ∷ [], tt)))) $ done !
+
+-- ---- a stretch
+abbrev pub stretch_val : Stretch → Val
+stretch_val s = vstruct (vcons (vint w64 s.start) (vcons (vint w64 s.len) vnil))
+
+pub stretch_told : (s : Stretch) (vs : List Val) → Is stretch.the_row s vs → (vs ≡ stretch_val s ∷ []) × (s.start < 2 ^ 64) × (s.len < 2 ^ 64)
+stretch_told s vs is = (is.1.0 ∙ (λ i. vstruct (of_list (is.1.1.0.0 i ++ (is.1.1.1.0.0 i ++ []))) ∷ []), is.1.1.0.1, is.1.1.1.0.1)
+
+module _ {M : Type 1} {𝓤 : Ura M} (𝓛 : Logic 𝓤) where
+  pub stretch_made : (s : Stretch) → s.start < 2 ^ 64 → s.len < 2 ^ 64 → ent 𝓤 (emp 𝓤) (sem 𝓛 (stretch.the_row.own_val s (stretch_val s ∷ [])))
+  stretch_made s fs fl = qed 𝓛 [] ∵
+      nothing ! $ owned ! usize (Is usize) (uint_Makes 𝓛 w64) s.len (vint w64 s.len ∷ []) (refl, fl) $ fjoin ! $
+      owned ! usize (Is usize) (uint_Makes 𝓛 w64) s.start (vint w64 s.start ∷ []) (refl, fs) $ fjoin ! $
+      feq_i ! (List Val) (stretch_val s ∷ []) (stretch_val s ∷ []) refl $ fjoin ! $
+      fpack ! (Valss (usize ∷ usize ∷ [])) (within (fields stretch.the_type) (s.start, (s.len, tt)) (stretch_val s ∷ [])) (vint w64 s.start ∷ [], (vint w64 s.len ∷ [], tt)) $ done !
+
+-- ---- a shape
+abbrev pub shape_val : Shape → Val
+shape_val s = vstruct (vcons (vint w32 s.width) (vcons (vint w32 s.height) (vcons (vint w64 s.stride) vnil)))
+
+pub shape_told : (s : Shape) (vs : List Val) → Is shape.the_row s vs → (vs ≡ shape_val s ∷ []) × (s.width < 2 ^ 32) × (s.height < 2 ^ 32) × (s.stride < 2 ^ 64)
+shape_told s vs is = (
+  is.1.0 ∙ (λ i. vstruct (of_list (is.1.1.0.0 i ++ (is.1.1.1.0.0 i ++ (is.1.1.1.1.0.0 i ++ [])))) ∷ []),
+  is.1.1.0.1,
+  is.1.1.1.0.1,
+  is.1.1.1.1.0.1,
+)
+
+module _ {M : Type 1} {𝓤 : Ura M} (𝓛 : Logic 𝓤) where
+  pub shape_made : (s : Shape) → s.width < 2 ^ 32 → s.height < 2 ^ 32 → s.stride < 2 ^ 64 → ent 𝓤 (emp 𝓤) (sem 𝓛 (shape.the_row.own_val s (shape_val s ∷ [])))
+  shape_made s fw fh fs = qed 𝓛 [] ∵
+      nothing ! $ owned ! usize (Is usize) (uint_Makes 𝓛 w64) s.stride (vint w64 s.stride ∷ []) (refl, fs) $ fjoin ! $
+      owned ! u32 (Is u32) (uint_Makes 𝓛 w32) s.height (vint w32 s.height ∷ []) (refl, fh) $ fjoin ! $
+      owned ! u32 (Is u32) (uint_Makes 𝓛 w32) s.width (vint w32 s.width ∷ []) (refl, fw) $ fjoin ! $
+      feq_i ! (List Val) (shape_val s ∷ []) (shape_val s ∷ []) refl $ fjoin ! $
+      fpack ! (Valss (u32 ∷ u32 ∷ usize ∷ [])) (within (fields shape.the_type) (s.width, (s.height, (s.stride, tt))) (shape_val s ∷ []))
+      (vint w32 s.width ∷ [], (vint w32 s.height ∷ [], (vint w64 s.stride ∷ [], tt))) $ done !
+
+-- ---- an image
+abbrev pub img_val : ℕ × ℕ → ℕ → Shape → Val
+img_val p n s = vstruct (vcons (slice_val p n) (vcons (shape_val s) vnil))
 
 module _ (ℓ : Lifetime) (κ : Lft) (R : RattleType) where
   abbrev pub img_row : RattleType
@@ -34,37 +92,33 @@ module _ (ℓ : Lifetime) (κ : Lft) (R : RattleType) where
   abbrev pub Cells : Type 0
   Cells = MutBor (List R.Denot)
 
-  pub img_told : (x : Img Cells) (vs : List Val) → Is img_row x vs → (vs ≡ img_val x.buf.ref_ptr (length x.buf.now) x.width x.height x.stride ∷ []) × Room R (length x.buf.now) × (x.width < 2 ^ 32) × (x.height < 2 ^ 32) × (x.stride < 2 ^ 64)
-  img_told x vs s = (
-    s.1.0 ∙ (λ i. vstruct (of_list (s.1.1.0.0.0 i ++ (s.1.1.1.0.0 i ++ (s.1.1.1.1.0.0 i ++ (s.1.1.1.1.1.0.0 i ++ []))))) ∷ []),
-    s.1.1.0.0.1,
-    s.1.1.1.0.1,
-    s.1.1.1.1.0.1,
-    s.1.1.1.1.1.0.1,
-  )
+  pub img_told : (x : Img Cells) (vs : List Val) → Is img_row x vs → (vs ≡ img_val x.buf.ref_ptr (length x.buf.now) x.shape ∷ []) × Room R (length x.buf.now) × (x.shape.width < 2 ^ 32) × (x.shape.height < 2 ^ 32) × (x.shape.stride < 2 ^ 64)
+  img_told x vs is =
+      let s = shape_told x.shape _ is.1.1.1.0 in
+      (is.1.0 ∙ (λ i. vstruct (of_list (is.1.1.0.0.0 i ++ (s.0 i ++ []))) ∷ []), is.1.1.0.0.1, s.1, s.2, s.3)
 
   module _ {M : Type 1} {𝓤 : Ura M} (𝓛 : Logic 𝓤) where
-    -- the image of a slice and three numbers
-    pub img_made : (x : Img Cells) (p : ℕ × ℕ) (n : ℕ) → x.width < 2 ^ 32 → x.height < 2 ^ 32 → x.stride < 2 ^ 64
-        → ent 𝓤 (sem 𝓛 ((MutSlice ℓ κ R).own_val x.buf (slice_val p n ∷ []))) (sem 𝓛 (img_row.own_val x (img_val p n x.width x.height x.stride ∷ [])))
+    -- the image of a slice in a shape
+    pub img_made : (x : Img Cells) (p : ℕ × ℕ) (n : ℕ) → x.shape.width < 2 ^ 32 → x.shape.height < 2 ^ 32 → x.shape.stride < 2 ^ 64
+        → ent 𝓤 (sem 𝓛 ((MutSlice ℓ κ R).own_val x.buf (slice_val p n ∷ []))) (sem 𝓛 (img_row.own_val x (img_val p n x.shape ∷ [])))
     img_made x p n fw fh fs = qed 𝓛 (‵ ((MutSlice ℓ κ R).own_val x.buf (slice_val p n ∷ [])) ∷ []) ∵
-        nothing ! $ owned ! usize (Is usize) (uint_Makes 𝓛 w64) x.stride (vint w64 x.stride ∷ []) (refl, fs) $ fjoin ! $
-        owned ! u32 (Is u32) (uint_Makes 𝓛 w32) x.height (vint w32 x.height ∷ []) (refl, fh) $ fjoin ! $
-        owned ! u32 (Is u32) (uint_Makes 𝓛 w32) x.width (vint w32 x.width ∷ []) (refl, fw) $ fjoin ! $
+        nothing ! $ use0 𝓛 (‵ (shape.the_row.own_val x.shape (shape_val x.shape ∷ []))) (shape_made 𝓛 x.shape fw fh fs) $ fjoin ! $
         move ! (1 ∷ 0 ∷ []) $ fjoin ! $
-        feq_i ! (List Val) (img_val p n x.width x.height x.stride ∷ []) (img_val p n x.width x.height x.stride ∷ []) refl $ fjoin ! $
-        fpack ! (Valss (MutSlice ℓ κ R ∷ u32 ∷ u32 ∷ usize ∷ [])) (within (shape (the_type (MutSlice ℓ κ R))) (x.buf, (x.width, (x.height, (x.stride, tt)))) (img_val p n x.width x.height x.stride ∷ []))
-        (slice_val p n ∷ [], (vint w32 x.width ∷ [], (vint w32 x.height ∷ [], (vint w64 x.stride ∷ [], tt)))) $ done !
+        feq_i ! (List Val) (img_val p n x.shape ∷ []) (img_val p n x.shape ∷ []) refl $ fjoin ! $
+        fpack ! (Valss (MutSlice ℓ κ R ∷ shape.the_row ∷ [])) (within (fields (the_type (MutSlice ℓ κ R))) (x.buf, ((x.shape.width, (x.shape.height, (x.shape.stride, tt))), tt)) (img_val p n x.shape ∷ []))
+        (slice_val p n ∷ [], (shape_val x.shape ∷ [], tt)) $ done !
 
--- ---- a region by value
-abbrev pub region_val : Region → Val
-region_val r = vstruct (vcons (vint w64 r.start) (vcons (vint w64 r.len) (vcons (vint w32 r.width) (vcons (vint w32 r.height) vnil))))
+-- ---- the parts of an image and of a window of it
+abbrev pub parts_val : ℕ × ℕ → ℕ → Stretch → Shape → Val
+parts_val p n at s = vstruct (vcons (slice_val p n) (vcons (stretch_val at) (vcons (shape_val s) vnil)))
 
-pub region_told : (r : Region) (vs : List Val) → Is region.the_row r vs → (vs ≡ region_val r ∷ []) × (r.start < 2 ^ 64) × (r.len < 2 ^ 64) × (r.width < 2 ^ 32) × (r.height < 2 ^ 32)
-region_told r vs s = (
-  s.1.0 ∙ (λ i. vstruct (of_list (s.1.1.0.0 i ++ (s.1.1.1.0.0 i ++ (s.1.1.1.1.0.0 i ++ (s.1.1.1.1.1.0.0 i ++ []))))) ∷ []),
-  s.1.1.0.1,
-  s.1.1.1.0.1,
-  s.1.1.1.1.0.1,
-  s.1.1.1.1.1.0.1,
-)
+module _ (ℓ : Lifetime) (κ : Lft) (R : RattleType) where
+  abbrev pub Parts : RattleType
+  Parts = Tuple (MutSlice ℓ κ R ∷ stretch.the_row ∷ shape.the_row ∷ [])
+
+  pub parts_told : (x : MutBor (List R.Denot) × Stretch × Shape) (vs : List Val) → Is Parts x vs → (vs ≡ parts_val x.0.ref_ptr (length x.0.now) x.1 x.2 ∷ []) × Room R (length x.0.now)
+      × (x.1.start < 2 ^ 64) × (x.1.len < 2 ^ 64) × (x.2.width < 2 ^ 32) × (x.2.height < 2 ^ 32) × (x.2.stride < 2 ^ 64)
+  parts_told x vs is =
+      let at = stretch_told x.1 _ is.1.1.1.0 in
+      let s = shape_told x.2 _ is.1.1.1.1.0 in
+      (is.1.0 ∙ (λ i. vstruct (of_list (is.1.1.0.0.0 i ++ (at.0 i ++ (s.0 i ++ [])))) ∷ []), is.1.1.0.0.1, at.1, at.2, s.1, s.2, s.3)

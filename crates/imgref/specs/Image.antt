@@ -1,7 +1,10 @@
--- What a contract sees of an image: its container, its size and its stride, and the layout that they make.
-use Rattle.std.specs.Prelude.{ℕ, List, Vec}
+-- What a contract sees of an image: its container, its shape and the layout that they make; and the image with other cells.
+use Rattle.std.specs.Prelude.{ℕ, Bool, List, Vec, length}
 use Rattle.std.specs.Borrow.{Bor, MutBor}
-use Rattle.image_model.specs.Layout.{Layout, layout}
+use Rattle.image_model.specs.Layout.{Layout}
+use Rattle.image_model.specs.Windows.{Window, Stretch, window_stretch, whole}
+use Rattle.image_shape.specs.declared.shape.Shape.{Shape}
+use Rattle.image_shape.specs.Shape.{shape_width, shape_height, shape_stride, shaped}
 use Rattle.imgref.specs.declared.img.Img.{Img}
 
 module _ {C : Type 0} where
@@ -9,25 +12,49 @@ module _ {C : Type 0} where
   abbrev pub buf_of : Img C → C
   buf_of i = i.buf
 
+  -- the size and the stride
+  abbrev pub shape_of : Img C → Shape
+  shape_of i = i.shape
+
   -- the number of columns
   abbrev pub width_of : Img C → ℕ
-  width_of i = i.width
+  width_of i = shape_width i.shape
 
   -- the number of rows
   abbrev pub height_of : Img C → ℕ
-  height_of i = i.height
+  height_of i = shape_height i.shape
 
   -- how many cells a row begins after the one before it
   abbrev pub stride_of : Img C → ℕ
-  stride_of i = i.stride
+  stride_of i = shape_stride i.shape
 
   -- the image with another container
   abbrev pub with_buf : Img C → C → Img C
   with_buf i buf = record i { buf = buf }
 
-  -- the layout of an image whose container has these cells
-  abbrev pub layout_by : {T : Type 0} → (C → List T) → Img C → Layout T
-  layout_by cells i = layout (cells i.buf) i.width i.height i.stride
+  -- how a container is read
+  module _ {T : Type 0} (cells : C → List T) where
+    -- the layout of an image whose container has these cells
+    abbrev pub layout_by : Img C → Layout T
+    layout_by i = shaped (cells i.buf) i.shape
+
+    -- the cells that a window takes, with whole strides or up to its last pixel
+    abbrev pub stretch_by : Bool → Img C → Window → Stretch
+    stretch_by roomy i w = window_stretch roomy (length (cells i.buf)) (stride_of i) w
+
+    -- how it looks with other cells in the place of a stretch
+    module _ (with_cells : C → Stretch → List T → C) where
+      -- the image with other cells in the place of all
+      abbrev pub with_all : Img C → List T → Img C
+      with_all i others = with_buf i (with_cells (buf_of i) (whole (cells (buf_of i))) others)
+
+      -- the image with the cells that another one has
+      abbrev pub with_cells_of : Img C → Img C → Img C
+      with_cells_of i other = with_all i (cells other.buf)
+
+      -- the image with other cells in the place of those that a window takes
+      abbrev pub with_window : Bool → Img C → Window → List T → Img C
+      with_window roomy i w others = with_buf i (with_cells (buf_of i) (stretch_by roomy i w) others)
 
 -- the layout of an image that owns its pixels
 abbrev pub vec_layout : {T Z : Type 0} → Img (Vec T Z) → Layout T

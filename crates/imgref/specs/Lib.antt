@@ -1,8 +1,12 @@
+pub use Rattle.image_shape.specs.Shape
+pub use Rattle.image_shape.specs.Window
+pub use Rattle.image_rows.specs.Rows
+pub use Rattle.image_pixels.specs.Marks
+pub use Rattle.image_pixels.specs.Pixels
 pub mod Containers
-pub mod Held
+pub mod Contiguous
+pub mod Copies
+pub mod Eqhash
 pub mod Image
 pub mod Index
-pub mod Marks
-pub mod Pixels
-pub mod Rows
-pub mod Window
+pub mod Pairs

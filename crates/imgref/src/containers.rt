@@ -1,8 +1,13 @@
+//! What images are made of: containers of cells, read and written as slices.
+
 ghost use Rattle.std.specs.Prelude.{◌≡◌, refl, Bool, true, false, ℕ, ◌+◌, ◌-◌, ◌≤◌, ◌<◌, List, length, slice_range, slice_set, slice_get, Some};
 ghost use Rattle.std.specs.Borrow.{sem, Lends, Array};
+ghost use Rattle.std.specs.Cow.{cow_slice_items};
 ghost use Rattle.std.specs.Vec.{with_items_from, with_item};
 ghost use Rattle.imgref.specs.Containers.{others_of_vec};
 ghost use Rattle.image_model.specs.Windows.{Stretch, stretch_cells, with_stretch};
+
+use std::borrow::CowSlice;
 
 /// A container whose cells can be read as a slice.
 pub trait AsSlice {
@@ -16,12 +21,16 @@ pub trait AsSlice {
         ensures { result.now ≡ cells self.now };
 }
 
-/// A container of which a stretch of cells can be written at a time, as an image lends its windows.
+/// A container whose cells can be written: a stretch of them, as an image lends its windows, or one,
+/// as it does by index.
 pub trait AsMutSlice: AsSlice {
     ghost roomy_windows: { Bool };
 
     /// The container with other cells in the place of a stretch.
     ghost with_cells: { Self → Stretch → List Self.Item → Self };
+
+    /// The container with another cell at an index.
+    ghost with_cell: { Self → ℕ → Self.Item → Self };
 
     /// Whether a window for writing takes whole strides where the container has them: so for a lent
     /// slice. In a `Vec` it ends at its last pixel.
@@ -35,8 +44,18 @@ pub trait AsMutSlice: AsSlice {
         ensures* writes_back { sem 𝓛 (Lends Self.row (Array Self.Item.row 0) self.entry result (with_cells self.old (record { start = start; len = len }))) }
         ensures value { result.now ≡ stretch_cells (Self.cells self.old) (record { start = start; len = len }) };
 
+    /// The cell at an index, for writing. Once the borrow ends, the container has what was left
+    /// there.
+    fn cell_mut(&mut self, at: usize) -> &mut Self::Item
+        requires in_bounds { at < length (Self.cells self.old) }
+        ensures* writes_back { sem 𝓛 (Lends Self.row Self.Item.row self.entry result (with_cell self.old at)) }
+        ensures value { slice_get (Self.cells self.old) at ≡ Some result.now };
+
     /// As many cells in the place of a stretch leave every other cell.
     ghost others_stay: { (c : Self) (s : Stretch) (ws : List Self.Item) → s.start + s.len ≤ length (Self.cells c) → length ws ≡ s.len → Self.cells (with_cells c s ws) ≡ with_stretch (Self.cells c) s ws };
+
+    /// Another cell at an index leaves every other cell.
+    ghost other_cells_stay: { (c : Self) (at : ℕ) (value : Self.Item) → at < length (Self.cells c) → Self.cells (with_cell c at value) ≡ slice_set (Self.cells c) at value };
 }
 
 impl<T> AsSlice for Vec<T> {
@@ -54,6 +73,8 @@ impl<T> AsMutSlice for Vec<T> {
 
     ghost with_cells = { λ v s ws. with_items_from v s.start ws };
 
+    ghost with_cell = { with_item };
+
     fn has_roomy_windows() -> bool {
         false
     }
@@ -62,7 +83,13 @@ impl<T> AsMutSlice for Vec<T> {
         self.slice_mut(start..start + len)
     }
 
+    fn cell_mut(&mut self, at: usize) -> &mut T {
+        &mut self[at]
+    }
+
     ghost others_stay = { others_of_vec };
+
+    ghost other_cells_stay = { λ c at value within. refl };
 }
 
 impl<'a, T> AsSlice for &'a [T] {
@@ -90,6 +117,8 @@ impl<'a, T> AsMutSlice for &'a mut [T] {
 
     ghost with_cells = { λ c s ws. record c { now = with_stretch c.now s ws } };
 
+    ghost with_cell = { λ s at w. record s { now = slice_set s.now at w } };
+
     fn has_roomy_windows() -> bool {
         true
     }
@@ -98,41 +127,21 @@ impl<'a, T> AsMutSlice for &'a mut [T] {
         &mut self[start..start + len]
     }
 
-    ghost others_stay = { λ c s ws within same. refl };
-}
-
-/// A container of which one cell can be written at a time, as an image does by index.
-pub trait AsMutCell: AsSlice {
-    /// The container with another cell at an index.
-    ghost with_cell: { Self → ℕ → Self.Item → Self };
-
-    /// The cell at an index, for writing. Once the borrow ends, the container has what was left
-    /// there.
-    fn cell_mut(&mut self, at: usize) -> &mut Self::Item
-        requires in_bounds { at < length (Self.cells self.old) }
-        ensures* writes_back { sem 𝓛 (Lends Self.row Self.Item.row self.entry result (with_cell self.old at)) }
-        ensures value { slice_get (Self.cells self.old) at ≡ Some result.now };
-
-    /// Another cell at an index leaves every other cell.
-    ghost other_cells_stay: { (c : Self) (at : ℕ) (value : Self.Item) → at < length (Self.cells c) → Self.cells (with_cell c at value) ≡ slice_set (Self.cells c) at value };
-}
-
-impl<T> AsMutCell for Vec<T> {
-    ghost with_cell = { with_item };
-
-    fn cell_mut(&mut self, at: usize) -> &mut T {
-        &mut self[at]
-    }
-
-    ghost other_cells_stay = { λ c at value within. refl };
-}
-
-impl<'a, T> AsMutCell for &'a mut [T] {
-    ghost with_cell = { λ s at w. record s { now = slice_set s.now at w } };
-
     fn cell_mut(&mut self, at: usize) -> &mut T {
         &mut (*self)[at]
     }
 
+    ghost others_stay = { λ c s ws within same. refl };
+
     ghost other_cells_stay = { λ c at value within. refl };
+}
+
+impl<'a, T: Clone> AsSlice for CowSlice<'a, T> {
+    type Item = T;
+
+    ghost cells = { cow_slice_items };
+
+    fn as_slice(&self) -> &[T] {
+        self.as_ref()
+    }
 }

@@ -1,9 +1,12 @@
+//! Images: a container of cells in a shape.
+
 ghost use Rattle.std.specs.Prelude.{◌≡◌, ◌^◌, ◌≤◌, ◌<◌, ◌↔◌, IsTrue, ⊤};
 ghost use Rattle.std.specs.Borrow.{sem, Lends};
 ghost use Rattle.image_model.specs.Layout.{Fits};
 ghost use Rattle.image_model.specs.Windows.{IsInside, window};
 
 use crate::containers::AsSlice;
+use image_shape::{Shape, Window};
 use std::alloc::AllocError;
 
 /// A container of cells seen as an image: its width and height in pixels, and the stride, the
@@ -16,11 +19,7 @@ use std::alloc::AllocError;
 #[derive(Drop)]
 pub struct Img<Container> {
     pub(crate) buf: Container,
-    pub(crate) width: u32,
-    pub(crate) height: u32,
-    pub(crate) stride: usize,
-    ghost stride_positive: { 1 ≤ stride },
-    ghost width_within: { width ≤ stride },
+    pub(crate) shape: Shape,
 }
 
 /// An image that owns its pixels.
@@ -45,9 +44,9 @@ impl<Container: Copy> Clone for Img<Container> {
 }
 
 impl<Container> Img<Container> {
-    // These name the type itself, whose ghost fields are declared above.
+    // These name the type itself.
     ghost use Rattle.imgref.specs.contracts.img.Img.{the_row};
-    ghost use Rattle.imgref.specs.Image.{buf_of, width_of, height_of, stride_of, with_buf};
+    ghost use Rattle.imgref.specs.Image.{buf_of, shape_of, width_of, height_of, stride_of, with_buf};
 
     /// The image of `width` by `height` pixels in `buf`, whose rows begin `stride` cells apart. The
     /// number of cells isn't asked: where they are too few, `is_valid` is false.
@@ -61,12 +60,8 @@ impl<Container> Img<Container> {
         ensures height { height_of result ≡ height }
         ensures stride { stride_of result ≡ stride }
     {
-        Img {
-            buf,
-            width: width as u32,
-            height: height as u32,
-            stride,
-        }
+        let shape = Shape::new(width, height, stride);
+        Img { buf, shape }
     }
 
     /// The image of `width` by `height` pixels in `buf` without padding between its rows: its
@@ -83,13 +78,42 @@ impl<Container> Img<Container> {
         Self::new_stride(buf, width, height, width)
     }
 
+    /// The image of these cells in this shape. Nothing is asked: where the cells are too few,
+    /// `is_valid` is false.
+    pub fn from_parts(buf: Container, shape: Shape) -> Self
+        ensures buf { buf_of result ≡ buf }
+        ensures shape { shape_of result ≡ shape }
+    {
+        Img { buf, shape }
+    }
+
+    /// The container and the shape, taken out of the image.
+    ///
+    /// In code that is itself proved, take a lent slice out in a function that returns it: its
+    /// caller then knows it for the slice that the image was made of, and what is written there
+    /// for a write to the lender. Of a slice that ends where it was taken out, nothing is known.
+    pub fn into_parts(self) -> (Container, Shape)
+        ensures buf { result.0 ≡ buf_of self }
+        ensures shape { result.1 ≡ shape_of self }
+    {
+        let Img { buf, shape } = self;
+        (buf, shape)
+    }
+
+    /// The size and the stride.
+    pub fn shape(&self) -> Shape
+        ensures { result ≡ shape_of self.now }
+    {
+        self.shape
+    }
+
     /// The number of pixels in a row.
     pub fn width(&self) -> usize
         ensures value { result ≡ width_of self.now }
         ensures within { width_of self.now ≤ stride_of self.now }
         ensures fits { width_of self.now < 2 ^ 32 }
     {
-        self.width as usize
+        self.shape.width()
     }
 
     /// The number of rows.
@@ -97,7 +121,7 @@ impl<Container> Img<Container> {
         ensures value { result ≡ height_of self.now }
         ensures fits { height_of self.now < 2 ^ 32 }
     {
-        self.height as usize
+        self.shape.height()
     }
 
     /// The number of cells from the start of a row to the start of the next one.
@@ -107,7 +131,7 @@ impl<Container> Img<Container> {
         ensures holds_width { width_of self.now ≤ stride_of self.now }
         ensures fits { stride_of self.now < 2 ^ 64 }
     {
-        self.stride
+        self.shape.stride()
     }
 
     /// The whole container, padding included.
@@ -130,32 +154,8 @@ impl<Container> Img<Container> {
     pub fn into_buf(self) -> Container
         ensures { result ≡ buf_of self }
     {
-        let (buf, _, _, _) = self.into_parts();
+        let (buf, _) = self.into_parts();
         buf
-    }
-
-    /// The container, the width, the height and the stride, taken out of the image.
-    ///
-    /// In code that is itself proved, take a lent slice out in a function that returns it: its
-    /// caller then knows it for the slice that the image was made of, and what is written there
-    /// for a write to the lender. Of a slice that ends where it was taken out, nothing is known.
-    pub fn into_parts(self) -> (Container, usize, usize, usize)
-        ensures buf { result.0 ≡ buf_of self }
-        ensures width { result.1 ≡ width_of self }
-        ensures height { result.2 ≡ height_of self }
-        ensures stride { result.3 ≡ stride_of self }
-        ensures stride_positive { 1 ≤ stride_of self }
-        ensures width_within { width_of self ≤ stride_of self }
-        ensures width_fits { width_of self < 2 ^ 32 }
-        ensures height_fits { height_of self < 2 ^ 32 }
-    {
-        let Img {
-            buf,
-            width,
-            height,
-            stride,
-        } = self;
-        (buf, width as usize, height as usize, stride)
     }
 
     /// Whether the window of `width` by `height` pixels with its corner at column `left` of row
@@ -164,26 +164,32 @@ impl<Container> Img<Container> {
         ensures { IsTrue result
             ↔ IsInside (width_of self.now) (height_of self.now) (window left top width height) }
     {
-        let columns = self.width as usize;
-        let rows = self.height as usize;
-        left <= columns && width <= columns - left && top <= rows && height <= rows - top
+        self.shape.has_window(Window {
+            left,
+            top,
+            width,
+            height,
+        })
     }
 }
 
 impl<Container: AsSlice> Img<Container> {
-    ghost use Rattle.imgref.specs.Image.{layout_by};
+    ghost use Rattle.imgref.specs.Image.{layout_by, ref_layout};
 
     /// Whether the image fits: its cells reach to its last pixel, or it has no pixel at all.
     pub fn is_valid(&self) -> bool
         ensures { IsTrue result ↔ Fits (layout_by Container.cells self.now) }
     {
-        let cells = self.buf.as_slice().len();
-        if self.width == 0 || self.height == 0 {
-            return true;
-        }
-        match self.stride.checked_mul(self.height as usize - 1) {
-            Some(last_row) => last_row <= cells && self.width as usize <= cells - last_row,
-            None => false,
+        self.shape.fits(self.buf.as_slice().len())
+    }
+
+    // The whole image for reading, with its whole buffer.
+    pub(crate) fn seen(&self) -> ImgRef<'_, Container::Item>
+        ensures { ref_layout result ≡ layout_by Container.cells self.now }
+    {
+        Img {
+            buf: self.buf.as_slice(),
+            shape: self.shape,
         }
     }
 }

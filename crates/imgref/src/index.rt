@@ -1,12 +1,14 @@
+//! Cells and rows of an image by number.
+
 ghost use Rattle.std.specs.Prelude.{◌≡◌, ◌+◌, ◌≤◌, ◌<◌, length, take, drop, Some};
 ghost use Rattle.std.specs.Borrow.{sem, Lends, Array};
 ghost use Rattle.image_model.specs.Layout.{Fits, pixel};
 ghost use Rattle.image_model.specs.Rows.{row as row_of};
 ghost use Rattle.imgref.specs.contracts.img.Img.{the_row};
 ghost use Rattle.imgref.specs.Image.{buf_of, width_of, height_of, layout_by};
-ghost use Rattle.imgref.specs.Index.{HasCell, row_start, with_cell_at, with_row};
+ghost use Rattle.imgref.specs.Index.{HasCell, row_start, with_cell_at, with_row, PatchesGrid, KeepsOutside, KeepsFit, RowPatchesGrid, RowKeepsOutside, RowKeepsFit};
 
-use crate::containers::{AsMutCell, AsMutSlice, AsSlice};
+use crate::containers::{AsMutSlice, AsSlice};
 use crate::img::Img;
 use std::ops::{Index, IndexMut};
 
@@ -22,20 +24,23 @@ impl<C: AsSlice> Index<(usize, usize)> for Img<C> {
     fn index(&self, index: (usize, usize)) -> &C::Item {
         let cells = self.buf.as_slice();
         let _len = cells.len();
-        &cells[index.1 * self.stride + index.0]
+        &cells[index.1 * self.shape.stride() + index.0]
     }
 }
 
 /// The cell at column `x` of row `y`, for writing. Once the borrow ends, that cell has what was
 /// left there, and no other cell has changed.
-impl<C: AsMutCell> IndexMut<(usize, usize)> for Img<C> {
+impl<C: AsMutSlice> IndexMut<(usize, usize)> for Img<C> {
     fn index_mut(&mut self, index: (usize, usize)) -> &mut C::Item
         requires { HasCell (layout_by C.AsSlice.cells self.old) index.0 index.1 }
         ensures* writes_back { sem 𝓛 (Lends (the_row C.row) C.Item.row self.entry result (with_cell_at C.AsSlice.cells C.with_cell self.old index.0 index.1)) }
         ensures value { pixel (layout_by C.AsSlice.cells self.old) index.0 index.1 ≡ Some result.now }
+        ensures grid { PatchesGrid C.AsSlice.cells C.with_cell self.old index.0 index.1 }
+        ensures outside { KeepsOutside C.AsSlice.cells C.with_cell self.old index.0 index.1 }
+        ensures fits { KeepsFit C.AsSlice.cells C.with_cell self.old index.0 index.1 }
     {
         let _len = self.buf.as_slice().len();
-        let at = index.1 * self.stride + index.0;
+        let at = index.1 * self.shape.stride() + index.0;
         self.buf.cell_mut(at)
     }
 }
@@ -54,11 +59,14 @@ impl<C: AsSlice> Index<(u32, u32)> for Img<C> {
 }
 
 /// The same by `u32`, for writing.
-impl<C: AsMutCell> IndexMut<(u32, u32)> for Img<C> {
+impl<C: AsMutSlice> IndexMut<(u32, u32)> for Img<C> {
     fn index_mut(&mut self, index: (u32, u32)) -> &mut C::Item
         requires { HasCell (layout_by C.AsSlice.cells self.old) index.0 index.1 }
         ensures* writes_back { sem 𝓛 (Lends (the_row C.row) C.Item.row self.entry result (with_cell_at C.AsSlice.cells C.with_cell self.old index.0 index.1)) }
         ensures value { pixel (layout_by C.AsSlice.cells self.old) index.0 index.1 ≡ Some result.now }
+        ensures grid { PatchesGrid C.AsSlice.cells C.with_cell self.old index.0 index.1 }
+        ensures outside { KeepsOutside C.AsSlice.cells C.with_cell self.old index.0 index.1 }
+        ensures fits { KeepsFit C.AsSlice.cells C.with_cell self.old index.0 index.1 }
     {
         &mut self[(index.0 as usize, index.1 as usize)]
     }
@@ -74,7 +82,11 @@ impl<C: AsSlice> Img<C> {
         ensures cells { take (width_of self.now) (drop result (C.cells (buf_of self.now))) ≡ row_of (layout_by C.cells self.now) y }
     {
         let _len = self.buf.as_slice().len();
-        if self.width == 0 { 0 } else { y * self.stride }
+        if self.shape.width() == 0 {
+            0
+        } else {
+            y * self.shape.stride()
+        }
     }
 
     /// The pixels of row `y`: the `width` cells from `y * stride` on, none at width 0. The image
@@ -88,23 +100,27 @@ impl<C: AsSlice> Img<C> {
         let start = self.row_start(y);
         let cells = self.buf.as_slice();
         let _len = cells.len();
-        &cells[start..start + self.width as usize]
+        &cells[start..start + self.shape.width()]
     }
 }
 
 impl<C: AsMutSlice> Img<C> {
     /// The pixels of row `y`, for writing, under the conditions of `row`. Once the borrow ends,
     /// those cells have what was left there, and no other cell has changed.
+    #[tactic(auto, unfolding(crate::specs::Index::with_row))]
     pub fn row_mut(&mut self, y: usize) -> &mut [C::Item]
         requires below { y < height_of self.old }
         requires fits { Fits (layout_by C.AsSlice.cells self.old) }
         ensures* writes_back { sem 𝓛 (Lends (the_row C.row) (Array C.Item.row 0) self.entry result (with_row C.AsSlice.cells C.with_cells self.old y)) }
         ensures value { result.now ≡ row_of (layout_by C.AsSlice.cells self.old) y }
         ensures len { length result.now ≡ width_of self.old }
+        ensures grid { RowPatchesGrid C.AsSlice.cells C.with_cells self.old y }
+        ensures outside { RowKeepsOutside C.AsSlice.cells C.with_cells self.old y }
+        ensures fits { RowKeepsFit C.AsSlice.cells C.with_cells self.old y }
     {
         let start = self.row_start(y);
         let _len = self.buf.as_slice().len();
-        let width = self.width as usize;
+        let width = self.shape.width();
         self.buf.stretch_mut(start, width)
     }
 }

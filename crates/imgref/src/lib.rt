@@ -13,17 +13,24 @@
 //! pixel, row, window.
 #![tactic(auto)]
 
+mod buffers;
 mod containers;
-mod fill;
+mod contiguous;
+mod copies;
+mod cow;
+mod eqhash;
 mod img;
 mod index;
-mod lines;
+mod padded;
+mod pairs;
 mod pixels;
+mod places;
 mod rows;
 mod window;
 
-pub use containers::{AsMutCell, AsMutSlice, AsSlice};
-pub use fill::fill_pixels;
+pub use containers::{AsMutSlice, AsSlice};
+pub use image_pixels::{PixelsIter, PixelsIterMut, PixelsRefIter, fill_pixels};
+pub use image_rows::{End, RowsIter, RowsIterMut};
+pub use image_shape::{Shape, Stretch, Window};
 pub use img::{Img, ImgRef, ImgRefMut, ImgVec};
-pub use pixels::{PixelsIter, PixelsIterMut, PixelsRefIter};
-pub use rows::{RowsIter, RowsIterMut};
+pub use padded::{ImgExt, ImgExtMut};

@@ -38,6 +38,7 @@ module _ {T : Type 0} (l : Layout T) (value : T) where
   one_row = layout (replicate l.width value) l.width 1 l.stride
 
   one_row_grid : grid_of one_row ≡ uniform l.width 1 value
+  unfolding grid_of uniform
   one_row_grid = same_grids l.width 1 (λ x y. slice_get (replicate l.width value) (y * l.stride + x)) (λ _ _. Some value) (λ x y column line.
       let top : y ≡ 0 = omega arith in
       let at : y * l.stride + x ≡ x = omega (arith, ap (λ k. k * l.stride) top, zero-mul l.stride) in
@@ -59,7 +60,7 @@ module _ {T : Type 0} (l : Layout T) (value : T) where
           stride_stays = refl;
           length_stays = length-replicate l.width value ∙ sym as_long;
           padding_stays = λ k padding. elim (cases_lt k l.width) [
-            | inl in_row ↦ absurd (padding k 0 in_row (omega arith) (omega (arith, zero-mul l.stride)))
+            | inl in_row ↦ absurd (padding.no_place k 0 in_row (omega arith) (omega (arith, zero-mul l.stride)))
             | inr past ↦
                 slice_get_past (replicate l.width value) k (omega (arith, length-replicate l.width value))
                 ∙ sym (slice_get_past (stretch_cells l.cells its_cells) k (omega (arith, as_long)))

@@ -1,12 +1,12 @@
+//! Rows that are filled: by their number, and through an iterator that ends early.
+
 ghost use Rattle.std.specs.Prelude.{◌≡◌, ◌-◌, ◌<◌, length, replicate};
 ghost use Rattle.image_model.specs.Layout.{Fits, SameOutside};
 ghost use Rattle.image_model.specs.Grid.{grid_of, patch, uniform};
-ghost use Rattle.imgref.specs.Image.{buf_of, width_of, height_of, stride_of, with_buf, layout_by};
-ghost use Rattle.image_model.specs.Windows.{whole};
-ghost use Rattle.imgref.specs.Rows.{all_lines};
+ghost use Rattle.imgref.specs.Image.{buf_of, width_of, height_of, layout_by, with_all};
 ghost use Rattle.imgref_callers.specs.Rows.{with_last_row};
 
-use imgref::{AsMutSlice, Img};
+use imgref::{AsMutSlice, End, Img};
 
 // Every cell becomes `value`. The slice's own `fill` asks for a `clone` that cannot fail.
 fn fill_row<T: Copy>(row: &mut [T], value: T)
@@ -19,6 +19,7 @@ fn fill_row<T: Copy>(row: &mut [T], value: T)
 
 /// Every pixel of row `y` becomes `value`, and every other cell stays. The image must fit, as
 /// `is_valid` tells.
+#[tactic(auto, using(image_model::proofs::OneRow::one_row_of_one))]
 pub fn fill_row_at<'a, C: AsMutSlice>(image: &'a mut Img<C>, y: usize, value: C::Item)
 where
     C::Item: Copy + 'a,
@@ -27,6 +28,7 @@ where
     ensures grid { grid_of (layout_by C.AsSlice.cells image.new) ≡ patch (grid_of (layout_by C.AsSlice.cells image.old)) 0 y (uniform (width_of image.old) 1 value) }
     ensures outside { SameOutside (layout_by C.AsSlice.cells image.old) (layout_by C.AsSlice.cells image.new) }
 {
+    let _width = image.width();
     fill_row(image.row_mut(y), value);
 }
 
@@ -35,10 +37,10 @@ fn cover_last<'a, C: AsMutSlice>(image: &'a mut Img<C>, value: C::Item)
 where
     C::Item: Copy + 'a,
     requires fits { Fits (layout_by C.AsSlice.cells image.old) }
-    ensures { image.new ≡ with_buf image.old (C.with_cells (buf_of image.old) (whole (C.AsSlice.cells (buf_of image.old))) (with_last_row (all_lines (width_of image.old) (height_of image.old) (stride_of image.old)) value (C.AsSlice.cells (buf_of image.old)))) }
+    ensures { image.new ≡ with_all C.AsSlice.cells C.with_cells image.old (with_last_row (layout_by C.AsSlice.cells image.old) value) }
 {
-    let mut rows = image.rows_mut();
-    if let Some(row) = rows.next_back() {
+    let (row, _) = image.rows_mut().split_end(End::Last);
+    if let Some(row) = row {
         fill_row(row, value);
     }
 }
@@ -52,7 +54,8 @@ where
     requires fits { Fits (layout_by C.AsSlice.cells image.old) }
     ensures grid { grid_of (layout_by C.AsSlice.cells image.new) ≡ patch (grid_of (layout_by C.AsSlice.cells image.old)) 0 (height_of image.old - 1) (uniform (width_of image.old) 1 value) }
     ensures outside { SameOutside (layout_by C.AsSlice.cells image.old) (layout_by C.AsSlice.cells image.new) }
-    ensures container { image.new ≡ with_buf image.old (C.with_cells (buf_of image.old) (whole (C.AsSlice.cells (buf_of image.old))) (C.AsSlice.cells (buf_of image.new))) }
+    ensures container { image.new ≡ with_all C.AsSlice.cells C.with_cells image.old (C.AsSlice.cells (buf_of image.new)) }
 {
+    let _width = image.width();
     cover_last(image, value);
 }

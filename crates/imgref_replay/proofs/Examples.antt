@@ -3,10 +3,10 @@ use Rattle.std.proofs.Common.{◌≡◌, ◌==◌, ◌<◌, ◌^◌, ℕ, List, 
 use denote.RawPtr.{Ptr}
 use Rattle.std.specs.declared.alloc.Global.{Global}
 use Rattle.image_model.specs.Layout.{layout}
-use Rattle.image_model.specs.Grid.{Grid, grid_of}
+use Rattle.image_model.specs.Grid.{Grid, grid_of, patch, uniform, view}
 use Rattle.image_model.specs.Rows.{grid_joined_rows}
-use Rattle.imgref_replay.specs.Steps.{replies_to, after_all}
-use Rattle.imgref_replay.specs.declared.window.Window.{Window}
+use Rattle.imgref_replay.specs.Run.{replies_to, after_all}
+use Rattle.image_shape.specs.declared.window.Window.{Window}
 use Rattle.imgref_replay.specs.declared.commands.Place.{Place}
 use Rattle.imgref_replay.specs.declared.commands.Command.TheVariants.{Get, Put, Fill, Count}
 use Rattle.imgref_replay.specs.declared.commands.Reply.TheVariants.{Pixel, Counted, Done, Refused}
@@ -32,21 +32,27 @@ module _ (ptr : Ptr) (alloc : Global) where
   whole = place 0 [] (omega arith)
 
   get_nested : replies_to ◌==◌ (Get nested 0 1 ∷ []) (padded ∷ []) ≡ Pixel 7 ∷ []
+  unfolding grid_of view
   get_nested = refl
 
   put_then_get : replies_to ◌==◌ (Put (place 0 (window 1 1 2 1 ∷ []) (omega arith)) 0 0 9 ∷ Get whole 1 1 ∷ []) (padded ∷ []) ≡ Done ∷ Pixel 9 ∷ []
+  unfolding grid_of view patch uniform
   put_then_get = refl
 
   put_patches : map grid_joined_rows (after_all (Put (place 0 (window 1 1 2 1 ∷ []) (omega arith)) 0 0 9 ∷ []) (padded ∷ [])) ≡ (1 ∷ 2 ∷ 3 ∷ 5 ∷ 9 ∷ 7 ∷ []) ∷ []
+  unfolding grid_of patch uniform
   put_patches = refl
 
   put_then_count : replies_to ◌==◌ (Put (place 0 (window 1 1 2 1 ∷ []) (omega arith)) 0 0 9 ∷ Count whole 9 ∷ Get whole 1 1 ∷ []) (padded ∷ []) ≡ Done ∷ Counted 1 ∷ Pixel 9 ∷ []
+  unfolding grid_of view patch uniform
   put_then_count = refl
 
   fill_patches : map grid_joined_rows (after_all (Fill (place 0 (window 1 0 2 2 ∷ []) (omega arith)) 0 ∷ []) (padded ∷ [])) ≡ (1 ∷ 0 ∷ 0 ∷ 5 ∷ 0 ∷ 0 ∷ []) ∷ []
+  unfolding grid_of patch uniform
   fill_patches = refl
 
   fill_then_count : replies_to ◌==◌ (Fill (place 0 (window 1 0 2 2 ∷ []) (omega arith)) 0 ∷ Count whole 0 ∷ Count nested 0 ∷ []) (padded ∷ []) ≡ Done ∷ Counted 4 ∷ Counted 2 ∷ []
+  unfolding grid_of view patch uniform
   fill_then_count = refl
 
   -- the image number is tested before the path, and the path before the place
@@ -54,28 +60,36 @@ module _ (ptr : Ptr) (alloc : Global) where
   image_first = refl
 
   path_second : replies_to ◌==◌ (Get (place 0 (window 2 0 2 1 ∷ []) (omega arith)) 9 9 ∷ []) (padded ∷ []) ≡ Refused WindowOutside ∷ []
+  unfolding grid_of
   path_second = refl
 
   -- a window is inside the one before it, and not only inside the image
   path_nested : replies_to ◌==◌ (Get (place 0 (window 0 0 2 2 ∷ window 1 0 2 1 ∷ []) (omega arith)) 0 0 ∷ []) (padded ∷ []) ≡ Refused WindowOutside ∷ []
+  unfolding grid_of
   path_nested = refl
 
   place_last : replies_to ◌==◌ (Get whole 3 0 ∷ Get nested 1 0 ∷ []) (padded ∷ []) ≡ Refused PlaceOutside ∷ Refused PlaceOutside ∷ []
+  unfolding grid_of
   place_last = refl
 
   -- an empty window at the edge is inside, and has no place
   empty_window : replies_to ◌==◌ (Get (place 0 (window 3 0 0 2 ∷ []) (omega arith)) 0 0 ∷ []) (padded ∷ []) ≡ Refused PlaceOutside ∷ []
+  unfolding grid_of
   empty_window = refl
 
   -- so it is filled and counted without a pixel
   empty_filled : map grid_joined_rows (after_all (Fill (place 0 (window 3 0 0 2 ∷ []) (omega arith)) 0 ∷ []) (padded ∷ [])) ≡ (1 ∷ 2 ∷ 3 ∷ 5 ∷ 6 ∷ 7 ∷ []) ∷ []
+  unfolding grid_of patch
   empty_filled = refl
 
   empty_counted : replies_to ◌==◌ (Count (place 0 (window 3 0 0 2 ∷ []) (omega arith)) 1 ∷ []) (padded ∷ []) ≡ Counted 0 ∷ []
+  unfolding grid_of view
   empty_counted = refl
 
   windows_refused : replies_to ◌==◌ (Fill (place 1 (window 9 9 9 9 ∷ []) (omega arith)) 0 ∷ Count (place 0 (window 2 0 2 1 ∷ []) (omega arith)) 0 ∷ []) (padded ∷ []) ≡ Refused NoImage ∷ Refused WindowOutside ∷ []
+  unfolding grid_of
   windows_refused = refl
 
   refused_changes_nothing : after_all (Put whole 3 0 9 ∷ []) (padded ∷ []) ≡ padded ∷ []
+  unfolding grid_of
   refused_changes_nothing = refl

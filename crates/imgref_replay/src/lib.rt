@@ -2,13 +2,15 @@
 #![tactic(auto)]
 
 mod commands;
-mod runs;
+mod path;
+#[cfg(test)]
+mod path_tests;
+mod run;
+mod step;
 #[cfg(test)]
 mod tests;
-mod window;
-#[cfg(test)]
-mod window_tests;
 
 pub use commands::{Command, Place, Refusal, Reply};
-pub use runs::{replay, replay_into};
-pub use window::{Window, into_window_at, window_at};
+pub use imgref::Window;
+pub use path::{into_window_at, window_at};
+pub use run::{replay, replay_into};

@@ -1,8 +1,12 @@
--- The parts that are left of bytes that are cut at a separator.
-use Rattle.std.specs.Prelude.{ℕ, List, [], Option, Some, None}
+-- Bytes that are cut at a separator.
+use Rattle.std.specs.Prelude.{ℕ, List, [], Option, Some, None, ◌==◌}
+use Rattle.std.specs.List.{slice_split}
 use Rattle.std.specs.Borrow.{Bor}
 use Rattle.imgref_run.specs.declared.parts.Parts.{Parts}
-use Rattle.imgref_run.specs.Script.{parts_of}
+
+-- the pieces of the bytes between separators: no bytes at all are one empty piece
+abbrev pub parts_of : ℕ → List ℕ → List (List ℕ)
+parts_of separator bytes = slice_split (λ b. b == separator) bytes
 
 -- none is left once no bytes are, not even an empty one
 abbrev pub parts_left_of : ℕ → Option (Bor (List ℕ)) → List (List ℕ)

@@ -1,12 +1,33 @@
--- Reading, the other way round: fields of a line as a value, or nothing where they are the text of none.
-use Rattle.std.specs.Prelude.{ℕ, ◌^◌, Bool, true, false, ◌&&◌, ◌||◌, List, [], ◌∷◌, length, Option, Some, None, nat_lt, nat_le, ◌==◌, if◌then◌else◌, slice_index, option_and_then, codes}
+-- Reading, the other way round than texts: fields of a line as a value, or nothing where they are the text of none.
+use Rattle.std.specs.Prelude.{◌≡◌, ℕ, ◌^◌, Bool, true, false, ◌&&◌, ◌||◌, List, [], ◌∷◌, length, Option, Some, None, Result, Ok, Err, nat_lt, nat_le, ◌==◌, if◌then◌else◌, slice_index, option_and_then, codes}
 use Rattle.std.specs.Option.{option_map}
 use Rattle.std.specs.Str.{all_ascii_digits, bytes_eq}
 use Rattle.std.specs.Str.Parse.{digits_value}
 use Rattle.image_model.specs.Layout.{Layout, layout, is_fitting}
-use Rattle.imgref_replay.specs.declared.window.Window.{Window}
-use Rattle.imgref_run.specs.Values.{Spot, Order, get, put, fill, count, Entry, image_line, order_line}
-use Rattle.imgref_run.specs.Script.{parts_of}
+use Rattle.image_shape.specs.declared.window.Window.{Window}
+use Rattle.imgref_run.specs.Parts.{parts_of}
+use Rattle.imgref_run.specs.Line.{Kind, a_number, a_pixel, a_place, Argument, number, pixel, place, form_of, Order, order, Entry, image_line, order_line}
+use Rattle.imgref_run.specs.declared.fault.LineFault.{LineFault}
+use Rattle.imgref_run.specs.declared.fault.LineFault.TheVariants.{Memory, Bad}
+
+-- ---- what a function of the program that reads has answered, beside what is read
+
+-- it found nothing, or what is read, as seen through a view
+abbrev pub Finds : {X Y : Type 0} → (X → Y) → Option X → Option Y → Type 0
+Finds view None read = read ≡ None
+Finds view (Some x) read = read ≡ Some (view x)
+
+-- for want of memory nothing is said; else there is nothing to read
+abbrev pub Fails : {Y : Type 0} → LineFault → Option Y → Type 0
+Fails Memory read = Unit {0}
+Fails Bad read = read ≡ None
+
+-- the same of one that takes memory
+abbrev pub Gives : {X Y : Type 0} → (X → Y) → Result X LineFault → Option Y → Type 0
+Gives view (Ok x) read = read ≡ Some (view x)
+Gives view (Err e) read = Fails e read
+
+-- ---- one step after the other
 
 infixl 10 ◌>>=◌
 abbrev pub ◌>>=◌ : {A B : Type 0} → Option A → (A → Option B) → Option B
@@ -75,46 +96,42 @@ path_of field = if bytes_eq field (45 ∷ []) then Some [] else each_of window_o
 abbrev pub path_at : List (List ℕ) → Option (List Window × List (List ℕ))
 path_at parts = first_of_parts path_of parts
 
--- ---- the fields of a line
+-- ---- what stands after a word
 
 -- an image's number and a path, and the fields after them
-unfoldable pub spot_at : List (List ℕ) → Option (Spot × List (List ℕ))
-spot_at fields = do
+unfoldable pub place_at : List (List ℕ) → Option (Argument × List (List ℕ))
+place_at fields = do
   image ← number_at fields
   path ← path_at image.1
-  Some (record { image = image.0; path = path.0 }, path.1)
+  Some (place image.0 path.0, path.1)
 
--- the fields of a `get` after its word
-unfoldable pub get_in : List (List ℕ) → Option Order
-get_in fields = do
-  spot ← spot_at fields
-  x ← number_at spot.1
-  y ← number_at x.1
-  if is_nil y.1 then Some (get spot.0 x.0 y.0) else None
+-- what the first fields are as an argument of a kind, and the fields after them
+abbrev pub argument_at : Kind → List (List ℕ) → Option (Argument × List (List ℕ))
+argument_at a_number fields = option_map (λ n. (number n.0, n.1)) (number_at fields)
+argument_at a_pixel fields = option_map (λ p. (pixel p.0, p.1)) (pixel_at fields)
+argument_at a_place fields = place_at fields
 
--- the fields of a `put` after its word
-unfoldable pub put_in : List (List ℕ) → Option Order
-put_in fields = do
-  spot ← spot_at fields
-  x ← number_at spot.1
-  y ← number_at x.1
-  value ← pixel_at y.1
-  if is_nil value.1 then Some (put spot.0 x.0 y.0 value.0) else None
+-- arguments of these kinds, and the fields after them
+unfoldable pub arguments_at : List Kind → List (List ℕ) → Option (List Argument × List (List ℕ))
+arguments_at [] fields = Some ([], fields)
+arguments_at (kind ∷ kinds) fields = do
+  first ← argument_at kind fields
+  rest ← arguments_at kinds first.1
+  Some (first.0 ∷ rest.0, rest.1)
 
--- a spot and a pixel, and no field more
-unfoldable pub spot_and_pixel : List (List ℕ) → Option (Spot × ℕ)
-spot_and_pixel fields = do
-  spot ← spot_at fields
-  value ← pixel_at spot.1
-  if is_nil value.1 then Some (spot.0, value.0) else None
+-- a command by its word, and the fields after it
+abbrev pub order_at : List ℕ → List (List ℕ) → Option (Order × List (List ℕ))
+order_at word fields = do
+  form ← form_of word
+  option_map (λ found. (order form.word found.0, found.1)) (arguments_at form.kinds fields)
 
--- the fields of a `fill` after its word
-abbrev pub fill_in : List (List ℕ) → Option Order
-fill_in fields = option_map (λ p. fill p.0 p.1) (spot_and_pixel fields)
+-- a command by its word, and no field more
+unfoldable pub order_in : List ℕ → List (List ℕ) → Option Order
+order_in word fields = do
+  found ← order_at word fields
+  if is_nil found.1 then Some found.0 else None
 
--- the fields of a `count` after its word
-abbrev pub count_in : List (List ℕ) → Option Order
-count_in fields = option_map (λ p. count p.0 p.1) (spot_and_pixel fields)
+-- ---- lines
 
 -- whether the sizes are in range and the layout fits
 abbrev pub is_sized : Layout ℕ → Bool
@@ -135,7 +152,4 @@ unfoldable pub line_in : List (List ℕ) → Option Entry
 line_in [] = None
 line_in (word ∷ fields) =
     if bytes_eq word (codes "image") then option_map image_line (image_in fields)
-    else (if bytes_eq word (codes "get") then option_map order_line (get_in fields)
-    else (if bytes_eq word (codes "put") then option_map order_line (put_in fields)
-    else (if bytes_eq word (codes "fill") then option_map order_line (fill_in fields)
-    else (if bytes_eq word (codes "count") then option_map order_line (count_in fields) else None))))
+    else option_map order_line (order_in word fields)

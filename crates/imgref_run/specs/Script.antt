@@ -1,14 +1,13 @@
 -- A script, from its values to its bytes, and its first bad line.
 use Rattle.std.specs.Prelude.{◌≡◌, ℕ, ◌-◌, ◌<◌, ◌≤◌, List, [], ◌∷◌, ◌++◌, map, length, take, ◌==◌, if◌then◌else◌}
-use Rattle.std.specs.List.{AllByRecursion, slice_split, slice_index_or}
+use Rattle.std.specs.List.{AllByRecursion, slice_index_or}
 use Rattle.image_model.specs.Layout.{Layout}
-use Rattle.imgref_run.specs.Values.{Order, Entry, image_line, order_line}
-use Rattle.imgref_run.specs.Text.{entry_text, image_text, order_text}
-use Rattle.imgref_run.specs.Ranges.{IsImage, IsOrder, IsEntry}
+use Rattle.imgref.specs.Image.{vec_layout}
+use Rattle.imgref_run.specs.Parts.{parts_of}
+use Rattle.imgref_run.specs.Line.{Order, order_of, Entry, image_line, order_line, entry_text, image_text, order_text, IsImage, IsOrder, IsEntry}
+use Rattle.imgref_run.specs.declared.script.Script.{Script}
 
--- the pieces of the bytes between separators
-abbrev pub parts_of : ℕ → List ℕ → List (List ℕ)
-parts_of separator bytes = slice_split (λ b. b == separator) bytes
+-- ---- lines
 
 -- every piece is a line, but for an empty last one
 abbrev pub whole_lines : List (List ℕ) → List (List ℕ)
@@ -20,11 +19,23 @@ whole_lines (piece ∷ next ∷ more) = piece ∷ whole_lines (next ∷ more)
 unfoldable pub lines_of : List ℕ → List (List ℕ)
 lines_of bytes = whole_lines (parts_of 10 bytes)
 
+-- ---- scripts
+
+-- the images of a script of the program
+abbrev pub images_of : Script → List (Layout ℕ)
+images_of s = map vec_layout s.images.items
+
+-- its commands
+abbrev pub orders_of : Script → List Order
+orders_of s = map order_of s.commands.items
+
 -- the lines are the texts of these images, and then of these commands
 pub record IsScript (lines : List (List ℕ)) (images : List (Layout ℕ)) (orders : List Order) : Type 0 where
   pub texts : lines ≡ map image_text images ++ map order_text orders
   pub images_in_range : AllByRecursion IsImage images
   pub orders_in_range : AllByRecursion IsOrder orders
+
+-- ---- good lines
 
 -- none of the lines is a command's
 abbrev pub NoCommand : List (List ℕ) → Type 0

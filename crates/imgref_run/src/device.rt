@@ -14,7 +14,7 @@ pub struct Counted<D> {
 }
 
 impl<D> Counted<D> {
-    ghost use Rattle.imgref_run.specs.Devices.{device_of, failures_of};
+    ghost use Rattle.imgref_run.specs.Device.{device_of, failures_of};
 
     /// The device, of which no call has failed yet.
     pub fn new(device: D) -> Self
@@ -53,7 +53,7 @@ impl<D> Counted<D> {
 }
 
 impl<D: Read> Counted<D> {
-    ghost use Rattle.imgref_run.specs.Devices.{device_of, failures_of, errors};
+    ghost use Rattle.imgref_run.specs.Device.{device_of, failures_of, errors};
 
     /// Reads into `buf` by the device, and passes its answer on. An error counts as a failure.
     pub fn read(&mut self, buf: &mut [u8]) -> Result<usize>
@@ -71,7 +71,7 @@ impl<D: Read> Counted<D> {
 }
 
 impl<D: Write> Counted<D> {
-    ghost use Rattle.imgref_run.specs.Devices.{device_of, failures_of, errors, misses};
+    ghost use Rattle.imgref_run.specs.Device.{device_of, failures_of, errors, misses};
 
     /// Writes a beginning of `buf` by the device, and passes its answer on. An error counts as a
     /// failure, and so does an answer of no byte where `buf` isn't empty.

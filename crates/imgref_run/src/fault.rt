@@ -1,9 +1,38 @@
-//! Why a run ended.
+//! Why a line can't be read, and why a run ended.
 
 ghost use Rattle.std.specs.Prelude.{◌≡◌, Some};
 
-use std::alloc::AllocError;
+use std::alloc::{AllocError, AllocFailed};
 use std::fmt;
+
+/// Why a line can't be read.
+#[derive(Clone, Copy)]
+pub(crate) enum LineFault {
+    /// No memory was found for what it stands for.
+    Memory,
+    /// It isn't good.
+    Bad,
+}
+
+impl From<AllocError> for LineFault {
+    ghost use Rattle.imgref_run.specs.declared.fault.LineFault.TheVariants.{Memory};
+
+    ghost from_gives = { λ _ e. e ≡ Memory };
+
+    fn from(_e: AllocError) -> LineFault {
+        LineFault::Memory
+    }
+}
+
+impl<T: Drop> From<AllocFailed<T>> for LineFault {
+    ghost use Rattle.imgref_run.specs.declared.fault.LineFault.TheVariants.{Memory};
+
+    ghost from_gives = { λ _ e. e ≡ Memory };
+
+    fn from(_e: AllocFailed<T>) -> LineFault {
+        LineFault::Memory
+    }
+}
 
 /// Why a run ended before its whole output was written.
 #[derive(Clone, Copy, Debug, PartialEq, Eq)]
@@ -20,7 +49,7 @@ pub enum RunFault {
 }
 
 impl RunFault {
-    ghost use Rattle.imgref_run.specs.Faults.{status_of};
+    ghost use Rattle.imgref_run.specs.Fault.{status_of};
 
     /// The status that the program ends with.
     pub fn status(&self) -> u8
@@ -35,7 +64,7 @@ impl RunFault {
 }
 
 impl fmt::Display for RunFault {
-    ghost use Rattle.imgref_run.specs.Faults.{fault_text};
+    ghost use Rattle.imgref_run.specs.Fault.{fault_text};
 
     ghost output = { λ fault. Some (fault_text fault) };
 

@@ -3,20 +3,19 @@
 
 mod device;
 mod fault;
+mod fields;
+mod input;
 mod line;
 mod output;
 mod parts;
+mod program;
 mod script;
-mod session;
 #[cfg(test)]
 mod tests;
-mod transfer;
 
 pub use device::Counted;
 pub use fault::RunFault;
-pub use line::{Line, read_line};
-pub use script::{Script, read_script};
-pub use session::run;
+pub use program::run;
 use std::process::ExitCode;
 
 /// Runs the script on standard input, and writes its output to standard output. Where the run ends

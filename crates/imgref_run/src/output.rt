@@ -1,16 +1,24 @@
-//! The text of replies and images.
+//! The output of a run: the text of replies and images, written whole.
 
-ghost use Rattle.std.specs.Prelude.{◌≡◌, ◌∷◌, ◌++◌, [], map, OnOk, IfOk, string_bytes};
+ghost use Rattle.std.specs.Prelude.{◌≡◌, ◌<◌, ◌+◌, ◌∷◌, ◌++◌, [], map, All, OnOk, OnErr, IfOk, IfErr, string_bytes};
 ghost use Rattle.std.specs.List.{flat_map};
 ghost use Rattle.std.specs.Fmt.{decimal};
+ghost use Rattle.std.specs.Io.KnownBytes.{Appends};
+ghost use Rattle.image_model.specs.Layout.{Fits};
 ghost use Rattle.imgref.specs.Image.{vec_layout};
-ghost use Rattle.imgref_run.specs.Text.{line_of, sizes_fields, image_text};
-ghost use Rattle.imgref_run.specs.Output.{refusal_number, reply_text, ended_line, output_text};
+ghost use Rattle.imgref_run.specs.Device.{device_of, failures_of};
+ghost use Rattle.imgref_run.specs.Fault.{writer_failures};
+ghost use Rattle.imgref_run.specs.Fields.{IsPixel};
+ghost use Rattle.imgref_run.specs.Line.{image_text, IsImage};
+ghost use Rattle.imgref_run.specs.Output.{refusal_number, reply_text, ended_line, output_text, AppendsBeginning};
 
+use crate::device::Counted;
+use crate::fault::RunFault;
 use imgref::ImgVec;
 use imgref_replay::{Refusal, Reply};
 use std::alloc::{AllocError, Global};
-use std::fmt::Write;
+use std::fmt::Write as _;
+use std::io::Write;
 
 fn number_of(refusal: Refusal) -> u8
     ensures { result ≡ refusal_number refusal }
@@ -35,7 +43,8 @@ fn push_reply(text: &mut String, reply: Reply<u8>) -> Result<(), AllocError>
 }
 
 fn push_cells(text: &mut String, cells: &[u8]) -> Result<(), AllocError>
-    ensures { OnOk result (string_bytes text.new ≡ string_bytes text.old ++ flat_map (λ cell. 32 ∷ decimal cell) cells.now) }
+    ensures text { OnOk result (string_bytes text.new ≡ string_bytes text.old ++ flat_map (λ cell. 32 ∷ decimal cell) cells.now) }
+    ensures pixels { OnOk result (All IsPixel cells.now) }
 {
     for cell in cells {
         write!(text, " {cell}")?;
@@ -43,31 +52,30 @@ fn push_cells(text: &mut String, cells: &[u8]) -> Result<(), AllocError>
     Ok(())
 }
 
-fn push_sizes(text: &mut String, image: &ImgVec<u8>) -> Result<(), AllocError>
-    ensures { OnOk result (string_bytes text.new ≡ string_bytes text.old ++ line_of (sizes_fields (vec_layout image.now))) }
+fn push_image(text: &mut String, image: &ImgVec<u8>) -> Result<(), AllocError>
+    requires { Fits (vec_layout image.now) }
+    ensures text { OnOk result (string_bytes text.new ≡ string_bytes text.old ++ ended_line (image_text (vec_layout image.now))) }
+    ensures good { OnOk result (IsImage (vec_layout image.now)) }
 {
     let width = image.width();
     let height = image.height();
     let stride = image.stride();
-    write!(text, "image {width} {height} {stride}")
-}
-
-fn push_image(text: &mut String, image: &ImgVec<u8>) -> Result<(), AllocError>
-    ensures { OnOk result (string_bytes text.new ≡ string_bytes text.old ++ ended_line (image_text (vec_layout image.now))) }
-{
-    push_sizes(text, image)?;
+    write!(text, "image {width} {height} {stride}")?;
     push_cells(text, image.buf())?;
     text.push_str("\n")?;
     Ok(())
 }
 
-/// A line for each reply, and then one for each image.
-pub fn output(
+/// A line for each reply, and then one for each image. The images fit, and so each of their lines is
+/// a good line of a script.
+pub(crate) fn output(
     alloc: Global,
     replies: &[Reply<u8>],
     images: &[ImgVec<u8>],
 ) -> Result<String, AllocError>
-    ensures { IfOk result (λ text. string_bytes text ≡ output_text replies.now (map vec_layout images.now)) }
+    requires { All Fits (map vec_layout images.now) }
+    ensures text { IfOk result (λ text. string_bytes text ≡ output_text replies.now (map vec_layout images.now)) }
+    ensures good { OnOk result (All IsImage (map vec_layout images.now)) }
 {
     let mut text = String::new(alloc);
     for reply in replies {
@@ -77,4 +85,25 @@ pub fn output(
         push_image(&mut text, image)?;
     }
     Ok(text)
+}
+
+/// Writes the whole text, and then flushes once.
+pub(crate) fn write_all<W: Write>(writer: &mut Counted<W>, text: &[u8]) -> Result<(), RunFault>
+    requires { failures_of writer.old < u64.MAX }
+    ensures whole { OnOk result (Appends (W.contents (device_of writer.old)) (W.contents (device_of writer.new)) text.now) }
+    ensures beginning { OnErr result (AppendsBeginning (W.contents (device_of writer.old)) (W.contents (device_of writer.new)) text.now) }
+    ensures count { failures_of writer.new ≡ failures_of writer.old + writer_failures result }
+    ensures fault { IfErr result (λ e. e ≡ RunFault.Output) }
+{
+    let mut sent = 0;
+    while sent < text.len() {
+        match writer.write(&text[sent..]) {
+            Ok(0) | Err(_) => return Err(RunFault::Output),
+            Ok(count) => sent += count,
+        }
+    }
+    match writer.flush() {
+        Ok(()) => Ok(()),
+        Err(_) => Err(RunFault::Output),
+    }
 }

@@ -1,25 +1,24 @@
 //! A script: images, and then commands over them.
 
 ghost use Rattle.std.specs.Prelude.{◌≡◌, ◌∷◌, ◌++◌, [], List, ℕ, length, MatchOption, OnOk, IfOk, IfErr, IsErrOf};
-ghost use Rattle.imgref_run.specs.Script.{whole_lines, lines_of, IsScript, IsGood, AreGood};
-ghost use Rattle.imgref_run.specs.Faults.{ExplainsBad};
-ghost use Rattle.imgref_run.specs.Held.{images_of, orders_of};
+ghost use Rattle.imgref_run.specs.Fault.{ExplainsBad};
 ghost use Rattle.imgref_run.specs.Parts.{parts_left};
+ghost use Rattle.imgref_run.specs.Script.{whole_lines, lines_of, images_of, orders_of, IsScript, IsGood, AreGood};
 
-use crate::fault::RunFault;
+use crate::fault::{LineFault, RunFault};
 use crate::line::{Line, read_line};
-use crate::parts::{LineFault, Parts};
+use crate::parts::Parts;
 use imgref::ImgVec;
 use imgref_replay::Command;
 use std::alloc::Global;
 
 /// What a script holds.
 #[derive(Drop)]
-pub struct Script {
+pub(crate) struct Script {
     /// The images, each of which fits.
-    pub images: Vec<ImgVec<u8>>,
+    pub(crate) images: Vec<ImgVec<u8>>,
     /// The commands over them, from the first to the last.
-    pub commands: Vec<Command<u8>>,
+    pub(crate) commands: Vec<Command<u8>>,
 }
 
 // The next line of a script that is cut at its line feeds: an empty last piece is none.
@@ -59,7 +58,7 @@ impl Script {
 
 /// The images and the commands that the bytes are the script of. Where the bytes are none, the
 /// fault names the first line, from 1, that isn't good.
-pub fn read_script(alloc: Global, bytes: &[u8]) -> Result<Script, RunFault>
+pub(crate) fn read_script(alloc: Global, bytes: &[u8]) -> Result<Script, RunFault>
     ensures script { IfOk result (λ script. IsScript (lines_of bytes.now) (images_of script) (orders_of script)) }
     ensures good { OnOk result (AreGood (lines_of bytes.now) (length (lines_of bytes.now))) }
     ensures fault { IfErr result (ExplainsBad (lines_of bytes.now)) }

@@ -182,6 +182,10 @@ fn good_scripts_are_run(rt: HostRuntime) {
     ];
     for (script, output) in scripts {
         expect_run(&rt, rt.alloc(), script, None, output);
+        // The image lines of an output are a script, whose output they are.
+        let images = output.find("image").unwrap_or(output.len());
+        let again = output.get(images..).unwrap_or("?");
+        expect_run(&rt, rt.alloc(), again, None, again);
     }
 }
 
@@ -361,8 +365,10 @@ fn memory_is_found_or_nothing_is_written(rt: HostRuntime) {
     assert_eq!(rt; (reader.failures(), writer.failures()), (0, 0));
 }
 
+// A counted reader asks its device once a call, and passes on what that answers: an error, some
+// bytes, the end.
 #[test]
-fn devices_are_counted(rt: HostRuntime) {
+fn a_counted_reader_asks_once(rt: HostRuntime) {
     let mut place = [0; 4];
     let mut reader = Counted::new(Source::new("abc", usize::MAX, 1));
     let refused = reader.read(&mut place);
@@ -370,22 +376,45 @@ fn devices_are_counted(rt: HostRuntime) {
         refused.err().map(|e| e.kind()),
         Some(ErrorKind::Interrupted)
     );
-    assert_eq!(rt; reader.failures(), 1);
+    assert_eq!(rt; (reader.failures(), reader.device().calls), (1, 1));
     let given = reader.read(&mut place);
     assert_eq!(rt; (given.ok(), place), (Some(3), *b"abc\0"));
     assert_eq!(rt; (reader.failures(), reader.device().calls), (1, 2));
+    let end = reader.read(&mut place);
+    assert_eq!(rt; (end.ok(), place), (Some(0), *b"abc\0"));
+    assert_eq!(rt; (reader.failures(), reader.device().calls), (1, 3));
+}
 
-    let mut writer = Counted::new(Sink::new(2, Failing::Nothing(2)));
-    let answers = (
-        writer.write(b"xyz").ok(),
-        writer.write(b"z").ok(),
-        writer.write(b"").ok(),
+// So does a counted writer. An answer of no byte is a failure where there was one to take.
+#[test]
+fn a_counted_writer_asks_once(rt: HostRuntime) {
+    let mut writer = Counted::new(Sink::new(2, Failing::Error(2)));
+    assert_eq!(rt; writer.write(b"xyz").ok(), Some(2));
+    assert_eq!(rt; (writer.failures(), writer.device().calls), (0, 1));
+    let refused = writer.write(b"z");
+    assert_eq!(rt;
+        refused.err().map(|e| e.kind()),
+        Some(ErrorKind::Interrupted)
     );
-    assert_eq!(rt; answers, (Some(2), Some(0), Some(0)));
-    assert_eq!(rt; (writer.failures(), writer.device().calls), (1, 3));
+    assert_eq!(rt; (writer.failures(), writer.device().calls), (1, 2));
+
+    let mut writer = Counted::new(Sink::new(2, Failing::Nothing(1)));
+    assert_eq!(rt; writer.write(b"x").ok(), Some(0));
+    assert_eq!(rt; (writer.failures(), writer.device().calls), (1, 1));
+    assert_eq!(rt; writer.write(b"").ok(), Some(0));
+    assert_eq!(rt; (writer.failures(), writer.device().calls), (1, 2));
     assert!(rt; writer.flush().is_ok());
-    assert!(rt; writer.device().holds("xy"));
-    assert_eq!(rt; writer.failures(), 1);
+    assert_eq!(rt; (writer.failures(), writer.device().flushes), (1, 1));
+    assert!(rt; writer.device().holds(""));
+
+    let mut writer = Counted::new(Sink::new(2, Failing::Flush));
+    let refused = writer.flush();
+    assert_eq!(rt;
+        refused.err().map(|e| e.kind()),
+        Some(ErrorKind::Interrupted)
+    );
+    assert_eq!(rt; (writer.failures(), writer.device().flushes), (1, 1));
+    assert_eq!(rt; writer.device().calls, 0);
 }
 
 #[test]

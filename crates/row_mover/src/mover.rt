@@ -71,6 +71,32 @@ impl<'a, T: Copy> RowMover<'a, T> {
     {
         let RowMover { cells, shifts } = self;
         *shifts += 1;
-        cells.copy_within(start..start + len, target);
+        if start + len <= target {
+            copy_behind(cells, start, len, target);
+        } else if target + len <= start {
+            copy_before(cells, start, len, target);
+        } else {
+            cells.copy_within(start..start + len, target);
+        }
     }
+}
+
+// Copies a stretch to a place behind its end.
+fn copy_behind<T: Copy>(cells: &mut [T], start: usize, len: usize, target: usize)
+    requires apart { start + len ≤ target }
+    requires target { target + len ≤ length cells.old }
+    ensures { cells.new ≡ shifted cells.old start len target }
+{
+    let (front, back) = cells.split_at_mut(target);
+    back[..len].copy_from_slice(&front[start..start + len]);
+}
+
+// Copies a stretch to a place that ends before it.
+fn copy_before<T: Copy>(cells: &mut [T], start: usize, len: usize, target: usize)
+    requires apart { target + len ≤ start }
+    requires source { start + len ≤ length cells.old }
+    ensures { cells.new ≡ shifted cells.old start len target }
+{
+    let (front, back) = cells.split_at_mut(start);
+    front[target..target + len].copy_from_slice(&back[..len]);
 }

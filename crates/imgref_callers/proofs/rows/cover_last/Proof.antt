@@ -1,14 +1,14 @@
--- `cover_last` lends the image to an iterator, takes its last row, fills that and lets the iterator go: the image ends as its cells do. Assumes `Logic`.
+-- `cover_last` lends the image to an iterator, parts its last row, fills that and lets the others go: the image ends as its cells do. Assumes `Logic`.
 use mathlib.Core.Path.{◌≡◌, refl, sym, ap, subst}
 use Prim.Native.Nat.{ℕ, ◌^◌, ◌<◌}
-use mathlib.Core.List.{List, [], ◌∷◌, ◌++◌}
+use mathlib.Core.List.{List, [], ◌∷◌}
 use lib.ListN.{length, replicate}
 use lib.Dec.{T, lit<}
-use base.Fml.{Lft, GName, Share, feq, ftrue, fdead, fres, flft, flent, fat}
-use base.Fraction.{full_share}
+use base.Fml.{Lft, GName, Share, feq, ftrue, fdead, fres, flft}
 use base.Share
-use base.Logic.{SProp, emp, id⊢, apply∗}
-use mir.Syntax.{Args, Body, Fn, Ty, named, erased, mut, ty_ref, ty_param, ty_int, ty_struct, ty_unit, tcons, tnil, w64, a_type, dcons, dnil, skip, seq, switch, arm}
+use base.Logic.{SProp, ent, emp, id⊢, apply∗}
+use types.Logic.{sem}
+use mir.Syntax.{Args, Body, Fn, named, ty_unit, a_type, dcons, dnil, skip, seq, switch, arm}
 use mir.MapTy.{inst_fn}
 use mir.Val.{Val, WT, has_ty, vptr, vunit, of_list}
 use prog.Wp.{Wp, after_seq, at_return}
@@ -18,25 +18,24 @@ use contract.Running.{tables}
 use types.Kit.{Item, Sq, any_q, ‵, ◌⊛◌, raw, later, some, at_ret, runs, ◌$◌, ◌∵◌, !, qed, by, move, keep, drop, split, split3, join, fsplit, fjoin, feq_l, feq_i, rewrite, use0, use1, use2, use3, await, pick}
 use types.Match.{live, vrt, in_variant}
 use types.Part.{whole as all_of, sub, agg}
-use types.Run.{stop, fld, hop, from, addr, of_opd, unit_lit, and_then, no_more, first, switches_on, skips, exec, returns, enter}
-use types.ByLocal.{alloc_all, pass_all, free_all, look_at, look_in_at, get, get_in, get_tag, through, sets, lands_as, lands_last, take_at, give_at, env, holding, forget_but}
-use types.SemTy.{Body as Cell}
-use borrow.Table.OneValue.{part_in_at, part_out_at}
+use types.Run.{stop, fld, hop, from, lit, addr, of_opd, unit_lit, and_then, no_more, first, switches_on, skips, exec, returns, enter}
+use types.ByLocal.{alloc_all, pass_all, free_all, look_at, look_in_at, get, get_in, get_tag, through, sets, lands_as, lands_last, env, holding, forget_but}
 use denote.Array.{Array}
 use denote.Builtin.{unit}
 use denote.Exit.{no}
 use denote.Follow.{follows, followed}
 use denote.FollowSlice.{finally-res}
 use denote.Laws.{shows, Is}
-use denote.Lend.{LentAgain, lends_again, comes_back, lends_ref, ref_back}
-use denote.Memory.{part_at, mem}
+use denote.Lend.{LentAgain, lends_again, comes_back}
 use denote.Param.{param, copied, bounded}
 use denote.Param.Laws.{param_laws, copied_laws, copied_copy}
 use denote.RattleType.{RattleType, owns}
 use denote.Ref.{MutBor, MutRef, mut_vals, mut_Tells}
 use denote.Signature.{plain, named_lft, types_at}
-use denote.Slice.{MutSlice, slice_ty}
-use denote.Steps.{nothing, heard, peeks, only}
+use denote.Struct.Tuple.{Tuple}
+use denote.Slice.{MutSlice}
+use denote.Model.Fixed.{row_Makes}
+use denote.Steps.{nothing, heard, owned, peeks, only}
 use denote.Triple.Call.{calls_at, calls_at_last}
 use denote.Triple.Clauses.{lasts}
 use denote.Triple.Spec.{triple_of}
@@ -46,29 +45,32 @@ use Rattle.std.proofs.raw_atomic.Walks.{proved, leaves}
 use Rattle.std.proofs.Common.{⊎_elim}
 use Rattle.std.proofs.alloc.Shapes.{after}
 use Rattle.std.specs.Prelude.{Option, Some, None, All}
-use Rattle.std.specs.Iterator.{MakesProgress, item_count, YieldsLastMut}
 use Rattle.std.specs.contracts.option.Option as OP
 use Rattle.image_model.specs.Layout.{Layout, Fits}
-use Rattle.image_model.specs.Rows.{rows, row_count}
-use Rattle.image_model.specs.Windows.{whole}
-use Rattle.imgref.specs.Image.{with_buf, layout_by}
-use Rattle.imgref.specs.Pixels.{ends_as}
-use Rattle.imgref.specs.Rows.{Lines, all_lines, cells_left, lines_left, muts_left, name_of, behind_last, hands_back, MovesLast}
+use Rattle.image_model.specs.Grid.{grid_of}
+use Rattle.image_model.specs.Rows.{rows, row_count, grid_rows}
+use Rattle.imgref.specs.Image.{with_all, layout_by}
+use Rattle.lending.specs.Endings.{ends_as}
+use Rattle.lending.proofs.Endings.{ends_beside, ends_said}
+use Rattle.lending.proofs.Lifetimes.{Ends, begins}
+use Rattle.lending.proofs.Options.{none_or_some, none_told, some_told, some_slice, lent_val}
+use Rattle.lending.proofs.Pairs.{pair_told, pair_out}
+use Rattle.lending.proofs.Parts.{given_up}
+use Rattle.image_rows.specs.declared.ends.End.TheVariants.{Last}
+use Rattle.image_rows.specs.declared.writing.RowsIterMut.{RowsIterMut}
+use Rattle.image_rows.specs.contracts.ends.End as end_type
+use Rattle.image_rows.specs.contracts.writing.RowsIterMut as P
+use Rattle.image_rows.proofs.ends.End.TheLaws as end_laws
+use Rattle.image_rows.proofs.writing.RowsIterMut.TheLaws as laws
+use Rattle.image_rows.proofs.Values.{typed, cells_out}
+use Rattle.image_rows.specs.contracts.writing.RowsIterMut.split_end as N
+use Rattle.image_rows.proofs.writing.RowsIterMut.split_end.Met as stepping
+use Rattle.imgref.specs.Rows.{whole_spacing, cells_left, spacing_left, muts_left, name_of, put_back, hands_on, Yields, Moves}
 use Rattle.imgref.specs.declared.img.Img.{Img}
-use Rattle.imgref.specs.declared.rows.RowsIterMut.{RowsIterMut}
 use Rattle.imgref.specs.contracts.img.Img.{the_row}
-use Rattle.imgref.specs.contracts.rows.RowsIterMut as P
-use Rattle.imgref.proofs.rows.RowsIterMut.TheLaws as laws
-use Rattle.imgref.proofs.Ends.{ends_beside, ends_said, none_out}
-use Rattle.imgref.proofs.Lifetimes.{Ends, begins}
-use Rattle.imgref.proofs.PartsLeft.{given_up}
-use Rattle.imgref.proofs.RowsValues.{val_of, iter_told, iter_cells}
 use Rattle.imgref.specs.contracts.img.Img.rows_mut as M
 use Rattle.imgref.proofs.img.Img.rows_mut.Met as making
-use Rattle.imgref.specs.contracts.rows.RowsIterMut.next_back as N
-use Rattle.imgref.proofs.rows.RowsIterMut.next_back.Met as stepping
 use Rattle.imgref_callers.specs.Rows.{with_last_row}
-use Rattle.imgref_callers.proofs.GivenRow.{none_or_some, row_val, some_row}
 use Rattle.imgref_callers.proofs.LastRow.{none_left, last_left}
 use Rattle.imgref_callers.specs.contracts.rows.fill_row as W
 use Rattle.imgref_callers.proofs.rows.fill_row.Met as writing
@@ -129,70 +131,52 @@ cover_last_spec 𝓤 𝓛 𝓜 𝓡 wired X Y LX LY CY gh d gs ds gc dc bm bs bc
     let named_α = named_lft 3 0 tt (α, (κ₁, (κ₂, tt))) in
     let Rows : RattleType = P.the_row named_α (param 1 Y) in
     let Sort : Type 0 = RowsIterMut Y.Denot in
-    let F : List Y.Denot → Img X.Denot = λ ws. with_buf x.now (gh.with_cells x.now.buf (whole old.cells) ws) in
-    let lines : Lines = all_lines old.width old.height old.stride in
+    let F : List Y.Denot → Img X.Denot = with_all gs.cells gh.with_cells x.now in
     use1 𝓛 (later (some (λ (r : Sort). ((‵ (flft α qα) ⊛ ‵ (flft κ₁ q₁) ⊛ ‵ (flft κ₂ q₂) ⊛ ‵ ftrue) ⊛ ‵ (Rows.own_val r (v₁ ∷ []))) ⊛ some (λ (ws : Unit {0} × Unit {0}). ‵ (lasts (M.ended X Y gh d gs ds) z₁.0.0 z₁.0.3 ws)
-    ⊛ (‵ (follows Whole (Array (param 1 Y) 0) δ (name_of r) F) ⊛ raw (fact 𝓤 (cells_left r ≡ old.cells)) ⊛ raw (fact 𝓤 (lines_left r ≡ lines)) ⊛ raw (fact 𝓤 (muts_left r ≡ rows old))
+    ⊛ (‵ (follows Whole (Array (param 1 Y) 0) δ (name_of r) F) ⊛ raw (fact 𝓤 (cells_left r ≡ old.cells)) ⊛ raw (fact 𝓤 (spacing_left r ≡ whole_spacing old.width old.height old.stride)) ⊛ raw (fact 𝓤 (muts_left r ≡ rows old)) ⊛ raw (fact 𝓤 (muts_left r ≡ grid_rows (grid_of old)))
     ⊛ raw (fact 𝓤 (length (muts_left r) ≡ row_count old.width old.height)) ⊛ raw (fact 𝓤 (length (muts_left r) < 2 ^ 64)) ⊛ raw (fact 𝓤 (All (λ row. length row ≡ old.width) (muts_left r)))))))) (id⊢ 𝓤 _) $
-    await ! tt $ pick ! (λ r. split ! $ split ! $ move ! (2 ∷ []) $ pick ! (λ ws₁. split ! $ drop ! $ split ! $ move ! (1 ∷ []) $ split ! $ heard ! (cells_left r ≡ old.cells) (λ cells. split ! $ heard ! (lines_left r ≡ lines) (λ in_lines. split ! $ drop ! $ split ! $ heard ! (length (muts_left r) ≡ row_count old.width old.height) (λ counted. split ! $ drop ! $ heard ! (All (λ row. length row ≡ old.width) (muts_left r)) (λ wide.
+    await ! tt $ pick ! (λ r. split ! $ split ! $ move ! (2 ∷ []) $ pick ! (λ ws₁. split ! $ drop ! $ split ! $ move ! (1 ∷ []) $ split ! $ heard ! (cells_left r ≡ old.cells) (λ cells. split ! $ heard ! (spacing_left r ≡ whole_spacing old.width old.height old.stride) (λ spacing.
+    split ! $ drop ! $ split ! $ drop ! $ split ! $ heard ! (length (muts_left r) ≡ row_count old.width old.height) (λ counted. split ! $ drop ! $ heard ! (All (λ row. length row ≡ old.width) (muts_left r)) (λ wide.
     -- [what follows; the tokens; the iterator; what is kept; the end of α; the value]
-    let typed = ((laws.the_row_laws named_α (param 1 Y) (param_laws 1 Y LY)).lawful 𝓛).typed in
-    let word : Sort → Val = λ s. val_of named_α (param 1 Y) s in
-    let told : (s : Sort) (vs : List Val) → Is Rows s vs → vs ≡ word s ∷ [] = λ s vs is. (iter_told named_α (param 1 Y) s vs is).0 in
-    let fit : (s : Sort) (vs : List Val) → Is Rows s vs → _ = λ s vs is. (typed s (word s ∷ []) (subst (Is Rows s) (told s vs is) is)).0 in
+    let LY₁ = param_laws 1 Y LY in
+    let lowers = laws.lowers named_α (param 1 Y) LY₁ in
+    let word : Sort → Val = lowers.lowered in
+    let told : (s : Sort) (vs : List Val) → Is Rows s vs → vs ≡ word s ∷ [] = lowers.val_is in
+    let fit : (s : Sort) (vs : List Val) → Is Rows s vs → _ = λ s vs is. (typed Rows (laws.the_row_laws named_α (param 1 Y) LY₁) lowers 𝓛 s vs is).0 in
     move ! (2 ∷ []) $ peeks ! Rows (Is Rows) (shows 𝓛 Rows) r (v₁ ∷ []) (λ is₁. let t₁ = told r (v₁ ∷ []) is₁ in
     rewrite ! 0 (λ (us : List Val). ‵ (Rows.own_val r us)) t₁ refl $
     lands_as ! (ap only t₁) refl (fit r (v₁ ∷ []) is₁) $
-    sets ! (of_opd ! (get ! refl)) refl (fit r (v₁ ∷ []) is₁) $
+    let last : Val = end_laws.lowered Last in
+    let EndRow : RattleType = end_type.the_row in
+    sets ! (agg ! (and_then ! (lit ! tt) (no_more !))) refl (tt, (record { fits = lit< tt }, tt)) $
     -- [the iterator; what follows; the tokens; what is kept; the end of α; the value]
-    move ! (2 ∷ []) $ split3 ! $ move ! (2 ∷ []) $ split ! $ move ! (1 ∷ []) $ drop ! $ move ! (1 ∷ []) $
-    use1 𝓛 (‵ (flft α (Share.left qα)) ⊛ ‵ (flft α (Share.right qα))) (𝓛.lfts.lft_split α qα) $ split ! $
-    use1 𝓛 (later (some (λ (p' : ℕ × Share). ‵ (flft (p'.0 ∷ α) p'.1) ⊛ raw (Ends 𝓛 α (Share.left qα) p'.0 p'.1)))) (begins 𝓛 α (Share.left qα)) $ await ! tt $ pick ! (λ p'. split ! $
-    let β : Lft = p'.0 ∷ α in let qβ : Share = p'.1 in let inside : β ⊑ α = meet_⊑_right (p'.0 ∷ []) α in
-    -- [β; its end; α; κ₂; κ₁; the iterator; what follows; what is kept; the end of α; the value]
-    take_at ! 3 $ move ! (0 ∷ 6 ∷ []) $
-    -- [local 3; the iterator; β; its end; α; κ₂; κ₁; what follows; what is kept; the end of α; the value]
-    let spelled : Ty = ty_struct (P.struct named_α (param 1 Y)).name (tcons (slice_ty (ty_ref erased mut (ty_param 1))) (tcons (ty_int w64) (tcons (ty_int w64) (tcons (ty_int w64) (tcons (ty_int w64) tnil))))) in
-    use2 𝓛 (‵ (part_at Rows full_share r (l 3) 0)) (part_in_at 𝓛 Rows refl full_share r (l 3) 0 spelled refl (word r)) $
-    use1 𝓛 (later (some (λ (ε : GName). ‵ ((MutRef (named 0) β Rows).own_val (record { ref_ptr = (l 3, 0); ghost_name = ε; now = r }) (vptr (l 3) 0 ∷ [])) ⊛ ‵ (flent β (Cell (mem Rows) (l 3) 0 ε)))))
-    (lends_ref 𝓛 Rows (named 0) β r (l 3) 0) $ await ! tt $ pick ! (λ ε. split ! $
-    -- [the loan; what is kept of it; β; its end; α; κ₂; κ₁; what follows; what is kept; the end of α; the value]
-    sets ! (addr ! (from ! (stop !))) refl (tt, tt) $
     let G₂ = triple_of 𝓛 (N.signature Y) (N.spec Y 𝓛 𝓜.mem 𝓡.returns) in
-    let x₂ : MutBor Sort = record { ref_ptr = (l 3, 0); ghost_name = ε; now = r } in
-    let z₂ : G₂.Ghost = (((β, (α, (κ₂, tt))), (qβ, (Share.right qα, (q₂, tt))), (inside, (⊑_trans β α κ₂ inside in₂, (in₂, tt))), (x₂, tt), (mut_vals x₂, tt)), tt) in
-    nothing ! $ move ! (1 ∷ 0 ∷ []) $ fjoin ! $ nothing ! $ move ! (6 ∷ 0 ∷ []) $ join ! $ move ! (5 ∷ 0 ∷ []) $ join ! $ move ! (3 ∷ 0 ∷ []) $ join ! $ join ! $
+    let z₂ : G₂.Ghost = (((α, (κ₂, tt)), (qα, (q₂, tt)), (in₂, tt), (r, (Last, tt)), (word r ∷ [], (last ∷ [], tt))), tt) in
+    nothing ! $ owned ! EndRow (Is EndRow) (row_Makes EndRow end_laws.the_row_plain 𝓛) Last (last ∷ []) ([], (refl, (tt, (refl, tt)))) $ join ! $ move ! (1 ∷ 0 ∷ []) $ join ! $
+    move ! (2 ∷ []) $ split3 ! $ move ! (0 ∷ 2 ∷ []) $ join ! $ move ! (0 ∷ 2 ∷ []) $ join ! $
     nothing ! $ use0 𝓛 (raw (fact 𝓤 (κ₂ ⊑ Y.lives))) (fact_i 𝓤 (κ₂ ⊑ Y.lives) (emp 𝓤) inY) $ join ! $ move ! (1 ∷ 0 ∷ []) $ use2 𝓛 (raw (G₂.pre z₂)) (id⊢ 𝓤 _) $
-    -- [what the call asks; what is kept of the loan; the end of β; κ₁; what follows; what is kept; the end of α; the value]
-    calls_at ! fm G₂ (stepping.met 𝓤 𝓛 𝓜 𝓡 (compiled.calls-imgref::rows::RowsIterMut::next_back 𝓡.env wired) Y LY) z₂ (and_then ! (get ! refl) (no_more !)) (λ v₂.
-    let Slice : RattleType = MutSlice (named 1) α R in
+    -- [what the call asks; κ₁; what follows; what is kept; the end of α; the value]
+    calls_at ! fm G₂ (stepping.met 𝓤 𝓛 𝓜 𝓡 (compiled.calls-image_rows::writing::RowsIterMut::split_end 𝓡.env wired) Y LY) z₂ (and_then ! (get ! refl) (and_then ! (get ! refl) (no_more !))) (λ v₂.
+    let Slice : RattleType = MutSlice (named 0) α R in
+    let Row : RattleType = OP.the_row Slice in
+    let Two : RattleType = Tuple (Row ∷ Rows ∷ []) in
     let Given : Type 0 = Option (MutBor (List Y.Denot)) in
-    let Steps : Given → Sort → Type 0 = YieldsLastMut muts_left r in
-    let Goes : Given → Sort → Type 0 = MakesProgress (λ _. Unit {0}) (item_count muts_left) r in
-    let Moves : Given → Sort → Type 0 = MovesLast r in
-    use1 𝓛 (later (some (λ (m : Given). ((‵ (flft β qβ) ⊛ ‵ (flft α (Share.right qα)) ⊛ ‵ (flft κ₂ q₂) ⊛ ‵ ftrue) ⊛ ‵ ((OP.the_row Slice).own_val m (v₂ ∷ []))) ⊛ some (λ (ws : Sort × Unit {0}). ‵ (lasts (N.ended Y) z₂.0.0 z₂.0.3 ws)
-    ⊛ (raw (fact 𝓤 (Steps m ws.0)) ⊛ (raw (fact 𝓤 (Goes m ws.0)) ⊛ (raw (fact 𝓤 (Moves m ws.0)) ⊛ ‵ (hands_back R r m ws.0)))))))) (id⊢ 𝓤 _) $
-    await ! tt $ pick ! (λ m. split ! $ move ! (1 ∷ []) $ pick ! (λ ws₂. let t : Sort = ws₂.0 in split ! $ fsplit ! $ fsplit ! $ move ! (3 ∷ []) $
-    split ! $ heard ! (Steps m t) (λ steps. split ! $ drop ! $ split ! $ heard ! (Moves m t) (λ moved.
-    -- [what follows the row; the iterator's last value; its borrow; nothing; the tokens with the row; what is kept of the loan; the end of β; κ₁; what follows; what is kept; the end of α; the value]
-    move ! (4 ∷ []) $ split ! $ split3 ! $ move ! (2 ∷ []) $ split ! $ move ! (1 ∷ []) $ drop ! $
-    -- [κ₂; β; α; the row; what follows the row; the iterator's last value; its borrow; nothing; what is kept of the loan; the end of β; κ₁; what follows; what is kept; the end of α; the value]
-    move ! (1 ∷ 9 ∷ []) $ use2 𝓛 (later (‵ (fdead β) ⊛ ‵ (flft α (Share.left qα)))) (apply∗ 𝓤 (𝓛.A.lft β qβ) _) $ await ! tt $ split ! $
-    move ! (1 ∷ 3 ∷ []) $ use2 𝓛 (‵ (flft α qα)) (𝓛.lfts.lft_join α qα) $
-    -- [α; β is over; κ₂; the row; what follows the row; the iterator's last value; its borrow; nothing; what is kept of the loan; κ₁; what follows; what is kept; the end of α; the value]
-    move ! (1 ∷ 8 ∷ 5 ∷ []) $ use3 𝓛 (later (‵ (part_at Rows full_share t (l 3) 0))) (ref_back 𝓛 Rows β ε t (l 3) 0) $ await ! tt $
-    use1 𝓛 (some (λ (v₃ : Val). ‵ (fat full_share spelled (l 3) 0 v₃) ⊛ ‵ (Rows.own_val t (v₃ ∷ [])))) (part_out_at 𝓛 Rows refl full_share t (l 3) 0 spelled refl) $ pick ! (λ v₃. split ! $
-    give_at ! 3 $
+    use1 𝓛 (later (some (λ (out : Given × Sort). ((‵ (flft α qα) ⊛ ‵ (flft κ₂ q₂) ⊛ ‵ ftrue) ⊛ ‵ (Two.own_val out (v₂ ∷ []))) ⊛ some (λ (ws : (Unit {0} × Unit {0}) × (Unit {0} × Unit {0})). ‵ (lasts (N.ended Y) z₂.0.0 z₂.0.3 ws)
+    ⊛ (‵ (hands_on R Last r out.0 out.1) ⊛ raw (fact 𝓤 (Yields Last r out.0 out.1)) ⊛ raw (fact 𝓤 (Moves Last r out.0 out.1))))))) (id⊢ 𝓤 _) $
+    await ! tt $ pick ! (λ out. let m : Given = out.0 in let t : Sort = out.1 in split ! $ split ! $ move ! (2 ∷ []) $ pick ! (λ ws₂. split ! $ drop ! $ split ! $ move ! (1 ∷ []) $ split ! $
+    heard ! (Yields Last r m t) (λ steps. heard ! (Moves Last r m t) (λ moved.
+    -- [what follows the row; the tokens; the row and the iterator; κ₁; what follows; what is kept; the end of α; the value]
+    move ! (1 ∷ []) $ split3 ! $ move ! (2 ∷ []) $ drop ! $ move ! (3 ∷ []) $
+    -- [the row and the iterator; α; κ₂; what follows the row; κ₁; what follows; what is kept; the end of α; the value]
     let A₀ : RattleType = Array R 0 in
     let Res : GName → List Y.Denot → Item 𝓤 = λ ν ys. ‵ (fres ν (A₀.coded.code ys)) in
-    use1 𝓛 (‵ ((MutSlice named_α.mir α (param 1 Y)).own_val t.cells (row_val t.cells ∷ []))) (iter_cells named_α (param 1 Y) 𝓛 t (v₃ ∷ [])) $
-    use1 𝓛 (Res (name_of t) (cells_left t)) (given_up 𝓛 (param 1 Y) named_α.mir α t.cells (row_val t.cells ∷ [])) $
-    move ! (5 ∷ 6 ∷ []) $ drop ! $ drop ! $
-    -- [how the iterator's cells end; α; κ₂; the row; what follows the row; κ₁; what follows; what is kept; the end of α; the value]
+    let given_back : ent 𝓤 (sem 𝓛 (Rows.own_val t (word t ∷ []))) (sem 𝓛 (fres (name_of t) (A₀.coded.code (cells_left t)))) =
+    qed 𝓛 (‵ (Rows.own_val t (word t ∷ [])) ∷ []) ∵ use1 𝓛 (‵ ((MutSlice named_α.mir α (param 1 Y)).own_val t.cells (lent_val t.cells ∷ []))) (cells_out named_α (param 1 Y) LY₁ 𝓛 t (word t ∷ [])) $
+    by ! (given_up 𝓛 (param 1 Y) named_α.mir α t.cells (lent_val t.cells ∷ [])) in
     let E = env fn.locals l in
     let rest : Body = after 6 fn.body in
     let next = any_q (after_seq 𝓤 H (Wp 𝓤 H 𝓣.C 𝓣.Λ E rest (at_return 𝓤 H E Post)) (at_return 𝓤 H E Post)) in
-    let zs : List Y.Denot = with_last_row lines value old.cells in
+    let zs : List Y.Denot = with_last_row old value in
     let tail : Sq 𝓛 (Res (name_of r) zs ∷ ‵ (flft α qα) ∷ ‵ (flft κ₂ q₂) ∷ ‵ (flft κ₁ q₁) ∷ ‵ (follows Whole (Array (param 1 Y) 0) δ (name_of r) F) ∷ ‵ (LentAgain Whole κ₀ α (Share.right q₀) γ b o δ x.now)
     ∷ raw (Ends 𝓛 κ₀ (Share.left q₀) p.0 p.1) ∷ holding 𝓛 E ((1, vptr b o) ∷ (2, v) ∷ [])) (runs 𝓣.C 𝓣.Λ E rest (at_ret E Post)) =
     move ! (1 ∷ 6 ∷ []) $ use2 𝓛 (later (‵ (fdead α) ⊛ ‵ (flft κ₀ (Share.left q₀)))) (apply∗ 𝓤 (𝓛.A.lft α qα) _) $ await ! tt $ split ! $
@@ -212,32 +196,39 @@ cover_last_spec 𝓤 𝓛 𝓜 𝓡 wired X Y LX LY CY gh d gs ds gc dc bm bs bc
     by ! (leaves 𝓛 En hs c bound vunit tt (F zs, (tt, tt)) (tt, (tt, tt))) in
     ⊎_elim
     (λ (e : m ≡ None).
-    let at_end : t ≡ r = subst (λ (m' : Given). Moves m' t) e moved in
-    rewrite ! 3 (λ (m' : Given). ‵ ((OP.the_row Slice).own_val m' (v₂ ∷ []))) e refl $
-    move ! (3 ∷ []) $ use1 𝓛 (‵ (feq (List Val) (v₂ ∷ []) (live 0 (of_list []) ∷ []))) (none_out 𝓛 Slice v₂) $ feq_l ! (λ is.
-    lands_as ! (ap only is) refl (tt, (record { fits = lit< tt }, tt)) $
+    let none : Val = live 0 (of_list []) in
+    let at_end : t ≡ r = subst (λ (m' : Given). Moves Last r m' t) e moved in
+    rewrite ! 0 (λ (m' : Given). ‵ (Two.own_val (m', t) (v₂ ∷ []))) e refl $
+    peeks ! Two (Is Two) (shows 𝓛 Two) (None, t) (v₂ ∷ []) (λ is.
+    lands_as ! (ap only (pair_told Row Rows None t none (word t) (none_told Slice) (told t) (v₂ ∷ []) is)) refl (tt, ((record { fits = lit< tt }, tt), ((fit t _ is.1.1.1.0).1, tt))) $
+    sets ! (of_opd ! (get_in ! (fld ! refl (stop !)) (sub ! 0 refl (all_of !)))) refl (tt, (record { fits = lit< tt }, tt)) $
+    use1 𝓛 (‵ (Row.own_val None (none ∷ [])) ⊛ ‵ (Rows.own_val t (word t ∷ []))) (pair_out Row Rows None t none (word t) (none_told Slice) (told t) (v₂ ∷ []) 𝓛) $ split ! $ drop ! $
+    use1 𝓛 (Res (name_of t) (cells_left t)) given_back $
     first ! $ switches_on ! (get_tag ! (vrt ! refl (fld ! refl (stop !))) (all_of !)) $ exec ! 𝓣.C 𝓣.Λ E skip next $ skips ! $
     exec ! 𝓣.C 𝓣.Λ E rest (at_ret E Post) $ forget_but ! E (1 ∷ 2 ∷ []) refl $
     -- [how the iterator's cells end; α; κ₂; what follows the row; κ₁; what follows; what is kept; the end of α; the value]
     rewrite ! 0 (λ (s : Sort). Res (name_of s) (cells_left t)) at_end refl $
-    rewrite ! 0 (Res (name_of r)) (none_left old r t value cells in_lines counted (subst (λ (m' : Given). Steps m' t) e steps) at_end) refl $
+    rewrite ! 0 (Res (name_of r)) (none_left old r t value cells spacing counted (subst (λ (m' : Given). Yields Last r m' t) e steps) at_end) refl $
     move ! (3 ∷ 8 ∷ []) $ drop ! $ drop ! $ tail))
     (λ (found : (y : MutBor (List Y.Denot)) × (m ≡ Some y)). let y : MutBor (List Y.Denot) = found.0 in let e : m ≡ Some y = found.1 in
     let ν : GName = y.ghost_name in let full : List Y.Denot = replicate (length y.now) value in
-    let ends : List Y.Denot → List Y.Denot → List Y.Denot = λ row before. before ++ (row ++ behind_last r) in
-    rewrite ! 3 (λ (m' : Given). ‵ ((OP.the_row Slice).own_val m' (v₂ ∷ []))) e refl $
-    rewrite ! 4 (λ (m' : Given). ‵ (hands_back R r m' t)) e refl $
-    move ! (3 ∷ []) $ use1 𝓛 (‵ (feq (List Val) (v₂ ∷ []) (live 1 (of_list (row_val y ∷ [])) ∷ [])) ⊛ ‵ (Slice.own_val y (row_val y ∷ []))) (some_row 𝓛 (named 1) α R y v₂) $ split ! $ feq_l ! (λ is.
-    peeks ! Slice (Is Slice) (shows 𝓛 Slice) y (row_val y ∷ []) (λ is_row.
-    let f₀ : length y.now < 2 ^ 64 = is_row.0.1.0 in
-    lands_as ! (ap only is) refl (tt, (record { fits = lit< tt }, ((tt, (record { fits = f₀ }, tt)), tt))) $
-    first ! $ switches_on ! (get_tag ! (vrt ! refl (fld ! refl (stop !))) (all_of !)) $ exec ! 𝓣.C 𝓣.Λ E (first_arm (after 5 fn.body)) next $
-    sets ! (of_opd ! (get_in ! (vrt ! refl (fld ! refl (stop !))) (in_variant ! 1 0 refl refl (all_of !)))) refl (tt, (tt, (record { fits = f₀ }, tt))) $
-    sets ! (addr ! (from ! (fld ! refl (hop ! (look_in_at ! 4 (sub ! 0 refl (all_of !))) (stop !))))) refl (tt, tt) $
-    sets ! (agg ! (and_then ! (get ! refl) (and_then ! (get_in ! (fld ! refl (stop !)) (sub ! 1 refl (all_of !))) (no_more !)))) refl (tt, (tt, (record { fits = f₀ }, tt))) $
+    let some_row : Val = live 1 (of_list (lent_val y ∷ [])) in
+    rewrite ! 0 (λ (m' : Given). ‵ (Two.own_val (m', t) (v₂ ∷ []))) e refl $
+    rewrite ! 3 (λ (m' : Given). ‵ (hands_on R Last r m' t)) e refl $
+    peeks ! Two (Is Two) (shows 𝓛 Two) (Some y, t) (v₂ ∷ []) (λ is.
+    let row_ok : WT (lent_val y) = (tt, (record { fits = is.1.1.0.1.1.1.1.0.0.1.0 }, tt)) in
+    lands_as ! (ap only (pair_told Row Rows (Some y) t some_row (word t) (some_told 𝓛 (named 0) α R y) (told t) (v₂ ∷ []) is)) refl (tt, ((record { fits = lit< tt }, (row_ok, tt)), ((fit t _ is.1.1.1.0).1, tt))) $
+    sets ! (of_opd ! (get_in ! (fld ! refl (stop !)) (sub ! 0 refl (all_of !)))) refl (tt, (record { fits = lit< tt }, (row_ok, tt))) $
+    use1 𝓛 (‵ (Row.own_val (Some y) (some_row ∷ [])) ⊛ ‵ (Rows.own_val t (word t ∷ []))) (pair_out Row Rows (Some y) t some_row (word t) (some_told 𝓛 (named 0) α R y) (told t) (v₂ ∷ []) 𝓛) $ split ! $
+    use1 𝓛 (‵ (feq (List Val) (some_row ∷ []) (some_row ∷ [])) ⊛ ‵ (Slice.own_val y (lent_val y ∷ []))) (some_slice 𝓛 (named 0) α R y some_row) $ split ! $ drop ! $
+    move ! (1 ∷ []) $ use1 𝓛 (Res (name_of t) (cells_left t)) given_back $ move ! (1 ∷ []) $
     -- [the row; how the iterator's cells end; α; κ₂; what follows the row; κ₁; what follows; what is kept; the end of α; the value]
+    first ! $ switches_on ! (get_tag ! (vrt ! refl (fld ! refl (stop !))) (all_of !)) $ exec ! 𝓣.C 𝓣.Λ E (first_arm (after 5 fn.body)) next $
+    sets ! (of_opd ! (get_in ! (vrt ! refl (fld ! refl (stop !))) (in_variant ! 1 0 refl refl (all_of !)))) refl (tt, row_ok) $
+    sets ! (addr ! (from ! (fld ! refl (hop ! (look_in_at ! 4 (sub ! 0 refl (all_of !))) (stop !))))) refl (tt, tt) $
+    sets ! (agg ! (and_then ! (get ! refl) (and_then ! (get_in ! (fld ! refl (stop !)) (sub ! 1 refl (all_of !))) (no_more !)))) refl (tt, row_ok) $
     let G₃ = triple_of 𝓛 (W.signature Y) (W.spec Y gc dc 𝓛 𝓜.mem 𝓡.returns) in
-    let z₃ : G₃.Ghost = (((α, (κ₂, tt)), (qα, (q₂, tt)), (in₂, tt), (y, (value, tt)), (row_val y ∷ [], (v ∷ [], tt))), tt) in
+    let z₃ : G₃.Ghost = (((α, (κ₂, tt)), (qα, (q₂, tt)), (in₂, tt), (y, (value, tt)), (lent_val y ∷ [], (v ∷ [], tt))), tt) in
     nothing ! $ move ! (10 ∷ 0 ∷ []) $ fjoin ! $ move ! (1 ∷ 0 ∷ []) $ fjoin ! $ nothing ! $ move ! (4 ∷ 0 ∷ []) $ join ! $ move ! (3 ∷ 0 ∷ []) $ join ! $ join ! $
     nothing ! $ use0 𝓛 (raw (fact 𝓤 (κ₂ ⊑ Y.lives))) (fact_i 𝓤 (κ₂ ⊑ Y.lives) (emp 𝓤) inY) $ join ! $ move ! (1 ∷ 0 ∷ []) $ use2 𝓛 (raw (G₃.pre z₃)) (id⊢ 𝓤 _) $
     -- [what the call asks; how the iterator's cells end; what follows the row; κ₁; what follows; what is kept; the end of α]
@@ -249,10 +240,10 @@ cover_last_spec 𝓤 𝓛 𝓜 𝓡 wired X Y LX LY CY gh d gs ds gc dc bm bs bc
     move ! (1 ∷ []) $ pick ! (λ ws₃. split ! $ fsplit ! $ fsplit ! $ fsplit ! $ move ! (4 ∷ []) $ heard ! (ws₃.0 ≡ full) (λ is_full.
     -- [how the row ends; its length; its borrow; nothing; the tokens; how the iterator's cells end; what follows the row; κ₁; what follows; what is kept; the end of α]
     use1 𝓛 (Res ν ws₃.0) (finally-res 𝓛 R ν ws₃.0) $ rewrite ! 0 (Res ν) is_full refl $
-    move ! (0 ∷ 6 ∷ []) $ use2 𝓛 (‵ (ends_as A₀ A₀ (name_of r) (name_of t) (ends full))) (ends_beside 𝓛 A₀ A₀ A₀ (name_of r) ν (name_of t) ends full) $
-    move ! (0 ∷ 5 ∷ []) $ use2 𝓛 (Res (name_of r) (ends full (cells_left t))) (ends_said 𝓛 A₀ A₀ (name_of r) (name_of t) (ends full) (cells_left t)) $
-    rewrite ! 0 (Res (name_of r)) (last_left old r t value cells in_lines counted fits wide y (subst (λ (m' : Given). Steps m' t) e steps) (subst (λ (m' : Given). Moves m' t) e moved)) refl $
+    move ! (0 ∷ 6 ∷ []) $ use2 𝓛 (‵ (ends_as A₀ A₀ (name_of r) (name_of t) (put_back Last r full))) (ends_beside 𝓛 A₀ A₀ A₀ (name_of r) ν (name_of t) (put_back Last r) full) $
+    move ! (0 ∷ 5 ∷ []) $ use2 𝓛 (Res (name_of r) (put_back Last r full (cells_left t))) (ends_said 𝓛 A₀ A₀ (name_of r) (name_of t) (put_back Last r full) (cells_left t)) $
+    rewrite ! 0 (Res (name_of r)) (last_left old r t value cells spacing counted fits wide y (subst (λ (m' : Given). Yields Last r m' t) e steps) (subst (λ (m' : Given). Moves Last r m' t) e moved)) refl $
     -- [how the cells end; the row's length; its borrow; nothing; the tokens; κ₁; what follows; what is kept; the end of α]
-    move ! (1 ∷ 2 ∷ 3 ∷ []) $ drop ! $ drop ! $ drop ! $ move ! (1 ∷ []) $ split3 ! $ move ! (2 ∷ []) $ drop ! $ forget_but ! E (1 ∷ 2 ∷ []) refl $ move ! (2 ∷ 0 ∷ 1 ∷ []) $ tail))))))))
+    move ! (1 ∷ 2 ∷ 3 ∷ []) $ drop ! $ drop ! $ drop ! $ move ! (1 ∷ []) $ split3 ! $ move ! (2 ∷ []) $ drop ! $ forget_but ! E (1 ∷ 2 ∷ []) refl $ move ! (2 ∷ 0 ∷ 1 ∷ []) $ tail)))))))
     (none_or_some m)
-    )))))))))))))))))))))))
+    ))))))))))))))))))))

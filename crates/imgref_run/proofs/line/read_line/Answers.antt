@@ -1,4 +1,4 @@
-use Rattle.imgref_run.proofs.Lines.{line_found, line_bad}
+use Rattle.imgref_run.proofs.LineTexts.{line_found, line_bad}
 use Rattle.imgref_run.proofs.line.read_line.Goals as goal
 
 pub returns-clause-found : goal.returns-clause-found

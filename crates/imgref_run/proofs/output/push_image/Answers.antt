@@ -1,7 +1,25 @@
+use Rattle.std.proofs.Common.{◌≡◌, ◌++◌, rules, arith}
+use Rattle.std.specs.Prelude.{string_bytes}
+use Rattle.std.proofs.lemmas.List.Elements.{recursion_from_All}
 use Rattle.imgref.specs.Image.{vec_layout}
-use Rattle.imgref_run.proofs.Joins.{image_text_is, pushed_image}
+use Rattle.imgref_run.specs.Fields.{IsPixel}
+use Rattle.imgref_run.specs.Line.{line_of, sizes_fields}
+use Rattle.imgref_run.proofs.OutputImages.{image_text_is, pushed_image}
 use Rattle.imgref_run.proofs.output.push_image.Goals as goal
 
-pub returns : goal.returns
-returns c =
-    pushed_image _ _ _ _ _ _ _ (image_text_is (vec_layout c.args.image.now)) c.in_ok-push_sizes.ensures (rw (c.deref.ensures.value, c.buf.ensures) at c.in_ok-push_cells.ensures) c.in_ok-push_str.ensures.bytes
+pub returns-clause-text : goal.returns-clause-text
+returns-clause-text c =
+    let l = vec_layout c.args.image.now in
+    let sizes : string_bytes c.write.new.self ≡ string_bytes c.args.text.now ++ line_of (sizes_fields l) = search rules in
+    pushed_image _ _ _ _ _ _ _ (image_text_is l) sizes (rw (c.deref.ensures.value, c.buf.ensures) at c.in_ok-push_cells.ensures.text) c.in_ok-push_str.ensures.bytes
+
+pub returns-clause-good : goal.returns-clause-good
+returns-clause-good c = record {
+  width = omega arith;
+  height = omega arith;
+  stride = omega arith;
+  stride_positive = omega arith;
+  width_within = omega arith;
+  cells = recursion_from_All IsPixel _ (rw (c.deref.ensures.value, c.buf.ensures) at c.in_ok-push_cells.ensures.pixels);
+  fits = c.requires;
+}

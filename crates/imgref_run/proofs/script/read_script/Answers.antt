@@ -1,9 +1,9 @@
 use Rattle.std.proofs.Common.{◌∙◌, sym, ap, map, take, arith, Err}
 use Rattle.imgref.specs.Image.{vec_layout}
-use Rattle.imgref_run.specs.Values.{order_of}
+use Rattle.imgref_run.specs.Line.{order_of}
 use Rattle.imgref_run.specs.Script.{whole_lines, lines_of}
-use Rattle.imgref_run.proofs.Lineation.{lines_of-is, length-lines_of}
-use Rattle.imgref_run.proofs.Goodness.{empty_script, none_good, more_good, next_is, first_bad, whole_script, all_good}
+use Rattle.imgref_run.proofs.ScriptLines.{lines_of-is, length-lines_of}
+use Rattle.imgref_run.proofs.ScriptGood.{empty_script, none_good, more_good, next_is, first_bad, whole_script, all_good}
 use Rattle.imgref_run.proofs.script.read_script.Goals as goal
 
 pub loop-line-init : goal.loop-line-init

@@ -4,7 +4,7 @@ use Rattle.image_model.proofs.Rows.{row_is, rows_from_fits}
 use Rattle.imgref.specs.Image.{layout_by}
 use Rattle.imgref.proofs.img.Img.row_start.Goals as goal
 
-pub returns-else-self-eq0-clause-cells : goal.returns-else-self-eq0-clause-cells
-returns-else-self-eq0-clause-cells g c =
+pub returns-else-width-eq0-clause-cells : goal.returns-else-width-eq0-clause-cells
+returns-else-width-eq0-clause-cells g c =
     let l = layout_by g.C.AsSlice.cells c.args.self.now in
-    sym (row_is l c.args.y (rows_from_fits l c.requires.fits (omega arith) c.args.y c.requires.below))
+    rw c.stride.ensures.value (sym (row_is l c.args.y (rows_from_fits l c.requires.fits (omega arith) c.args.y c.requires.below)))

@@ -1,53 +1,55 @@
--- `into_sub_image_mut` asks which stretch the window takes, and lends that stretch on. A walk of its MIR by hand.
-use mathlib.Core.Path.{◌≡◌, refl, ap, ◌∙◌}
-use Prim.Native.Nat.{ℕ, ◌+◌, ◌^◌, ◌<◌, ◌≤◌}
-use native.Mathlib.Omega.{arith}
-use mathlib.Core.Bool.{true}
+-- `into_sub_image_mut` finds the window's stretch and shape, and lends that stretch on: a walk of its MIR by hand.
+use mathlib.Core.Path.{◌≡◌, refl, sym, ap, subst, ◌∙◌}
+use Prim.Native.Nat.{◌^◌, ◌<◌}
 use mathlib.Core.List.{List, [], ◌∷◌, ◌++◌}
 use lib.ListN.{length}
 use base.Logic.{SProp, emp, id⊢}
 use base.Fml.{Lft, GName, Share, ftrue, flft}
-use mir.Syntax.{Args, Fn, named, w32, w64, a_type}
+use mir.Syntax.{Args, Fn, named, w64, a_type}
 use mir.MapTy.{inst_fn}
 use mir.Val.{Val, vint}
 use prog.Wp.{WpFn}
 use contract.BorrowLft.{◌⊑◌}
 use contract.Monad.{fact, fact_i}
 use contract.Running.{tables}
-use types.Kit.{Item, ‵, ◌⊛◌, raw, later, some, prop, ◌$◌, ◌∵◌, !, qed, by, move, keep, drop, split, split3, join, fsplit, fjoin, rewrite, regoal, use0, use1, use2, await, pick, updating, now, done}
-use types.Part.{whole, sub}
-use types.Run.{stop, fld, of_opd, and_then, no_more, returns, enter}
-use types.ByLocal.{alloc_all, pass_all, free_all, look_at, get, get_in, sets, lands_as}
+use types.Kit.{Item, ‵, fpick, ◌⊛◌, raw, later, some, prop, ◌$◌, ◌∵◌, !, qed, by, move, keep, drop, split, split3, join, fsplit, fjoin, rewrite, regoal, use0, use1, use2, await, pick, updating, now, done}
+use types.Part.{whole, sub, agg}
+use types.Run.{stop, fld, addr, of_opd, and_then, no_more, returns, enter, from, hop}
+use types.ByLocal.{alloc_all, pass_all, free_all, look_at, look_in_at, get, get_in, sets, lands_as}
 use denote.Array.{Array}
-use denote.Builtin.{u32, usize}
+use denote.Builtin.{usize}
 use denote.Follow.{follows}
 use denote.Laws.{shows, Is}
 use denote.Param.{param, layouts}
-use denote.Plain.{uint_Makes}
 use denote.RattleType.{RattleType, owns}
 use denote.Ref.{MutBor}
+use denote.Slice.{MutSlice, slice_val}
 use denote.Signature.{plain, types_at}
-use denote.Steps.{nothing, heard, peeks, owned, only}
+use denote.Steps.{nothing, heard, peeks, only}
 use denote.Triple.Call.{calls_at}
 use denote.Triple.Clauses.{lasts}
 use denote.Triple.Spec.{triple_of}
 use denote.Triple.Table.{framed}
 use denote.Triple.Walked.{Stays, stay_dropped, walk_of, Goes-dropped}
 use Rattle.std.proofs.raw_atomic.Walks.{proved_at, leaves}
-use Rattle.image_model.specs.Layout.{layout as laid, Fits}
+use Rattle.image_model.specs.Layout.{Fits}
 use Rattle.image_model.specs.Grid.{grid_of}
-use Rattle.image_model.specs.Windows.{window_view, Window, Stretch, window, IsInside, exact_stretch, roomy_stretch, stretch_cells, with_stretch, roomy_window}
+use Rattle.image_model.specs.Windows.{Window as Pane, window, window_view, IsInside, IsWithin, Stretch as Part, roomy_stretch, roomy_window, stretch_cells, with_stretch}
+use Rattle.image_shape.specs.declared.window.Window.{Window}
+use Rattle.image_shape.specs.declared.window.Stretch.{Stretch}
+use Rattle.image_shape.specs.declared.shape.Shape.{Shape}
+use Rattle.image_shape.specs.contracts.window.Window as pane
+use Rattle.image_shape.specs.contracts.window.Stretch as stretch
+use Rattle.image_shape.specs.contracts.shape.Shape as shape
+use Rattle.image_shape.specs.Shape.{shaped}
+use Rattle.image_shape.specs.Window.{as_stretch}
 use Rattle.imgref.specs.Image.{mut_layout}
-use Rattle.imgref.specs.Window.{IsWithin, region}
 use Rattle.imgref.specs.declared.img.Img.{Img}
-use Rattle.imgref.specs.declared.window.Region.{Region}
-use Rattle.imgref.specs.contracts.window.Region as of_region
-use Rattle.imgref.proofs.Places.{window_within, window_fits, window_shows}
-use Rattle.imgref.proofs.Values.{img_val, img_row, img_told, region_told}
-use Rattle.imgref.specs.contracts.window.roomy_region as f
-use Rattle.imgref.proofs.window.roomy_region.Met as find
-use Rattle.imgref.specs.contracts.window.into_stretch as g
-use Rattle.imgref.proofs.window.into_stretch.Met as part
+use Rattle.imgref.proofs.Values.{window_val, window_made, stretch_val, stretch_made, shape_val, shape_made, img_val, img_row, img_told, Parts, parts_told}
+use Rattle.imgref.specs.contracts.window.Img+mut+slice+T.into_roomy as f
+use Rattle.imgref.proofs.window.Img+mut+slice+T.into_roomy.Met as found
+use Rattle.imgref.specs.contracts.window.Img+mut+slice+T.from_stretch as g
+use Rattle.imgref.proofs.window.Img+mut+slice+T.from_stretch.Met as made
 use Rattle.imgref.specs.contracts.window.Img+mut+slice+T.into_sub_image_mut.{ended, clauses}
 use Rattle.imgref.specs.contracts.window.Img+mut+slice+T.into_sub_image_mut.Key.{name as #self}
 use Rattle.imgref.proofs.window.Img+mut+slice+T.into_sub_image_mut.Statement.{statement}
@@ -75,95 +77,89 @@ into_sub_image_mut_spec 𝓤 𝓛 𝓜 𝓡 wired T L =
     let κT : Lft = z.0.0.1.0 in
     let qT : Share = z.0.1.1.0 in
     let img : Img (MutBor (List T.Denot)) = a.0 in
-    let left : ℕ = a.1.0 in
-    let top : ℕ = a.1.1.0 in
-    let width : ℕ = a.1.1.1.0 in
-    let height : ℕ = a.1.1.1.1.0 in
-    let xs : List T.Denot = img.buf.now in
-    let γ : GName = img.buf.ghost_name in
+    let win : Window = record { left = a.1.0; top = a.1.1.0; width = a.1.1.1.0; height = a.1.1.1.1.0 } in
+    let cells : MutBor (List T.Denot) = img.buf in
+    let xs : List T.Denot = cells.now in
+    let γ : GName = cells.ghost_name in
+    let Slice : RattleType = MutSlice (named 0) κ R in
     let Row : RattleType = img_row (named 0) κ R in
     let told = img_told (named 0) κ R img vss.0 are.0 in
-    let fl : left < 2 ^ 64 = are.1.0.1 in
-    let ft : top < 2 ^ 64 = are.1.1.0.1 in
-    let fw : width < 2 ^ 64 = are.1.1.1.0.1 in
-    let fh : height < 2 ^ 64 = are.1.1.1.1.0.1 in
-    let w : Val = img_val img.buf.ref_ptr (length xs) img.width img.height img.stride in
-    let here : Window = window left top width height in
-    let there : Stretch = roomy_stretch (length xs) img.stride here in
-    let Holds : Type 0 = Fits (mut_layout img) in
-    let Inside : Type 0 = IsInside img.width img.height here in
-    let Narrow₁ : Type 0 = width ≤ img.stride in
-    let FitsWidth : Type 0 = width < 2 ^ 32 in
-    let FitsHeight : Type 0 = height < 2 ^ 32 in
-    let Exact : Type 0 = IsWithin (length xs) (exact_stretch img.stride here) in
+    let fl : win.left < 2 ^ 64 = are.1.0.1 in
+    let ft : win.top < 2 ^ 64 = are.1.1.0.1 in
+    let fw : win.width < 2 ^ 64 = are.1.1.1.0.1 in
+    let fh : win.height < 2 ^ 64 = are.1.1.1.1.0.1 in
+    let w : Val = img_val cells.ref_ptr (length xs) img.shape in
+    let sv : Val = slice_val cells.ref_ptr (length xs) in
+    let li = mut_layout img in
+    let here : Pane = window win.left win.top win.width win.height in
+    let Holds : Type 0 = Fits li in
+    let Inside : Type 0 = IsInside li.width li.height here in
     let Tok : Item 𝓤 = ‵ (flft κ q) ⊛ ‵ (flft κT qT) ⊛ ‵ ftrue in
-    let G = triple_of 𝓛 f.signature (f.spec 𝓛 𝓜.mem 𝓡.returns) in
-    let z₁ : G.Ghost = ((tt, tt, tt, (length xs, (img.stride, (left, (top, (width, (height, tt)))))), (vint w64 (length xs) ∷ [], (vint w64 img.stride ∷ [], (vint w64 left ∷ [], (vint w64 top ∷ [], (vint w64 width ∷ [], (vint w64 height ∷ [], tt))))))), tt) in
+    let Found : RattleType = Parts (named 0) κ R in
+    let G = triple_of 𝓛 (f.signature T) (f.spec T 𝓛 𝓜.mem 𝓡.returns) in
+    let z₁ : G.Ghost = (((κ, (κT, tt)), (q, (qT, tt)), z.0.2, (img, (win, tt)), (w ∷ [], (window_val win ∷ [], tt))), tt) in
     qed 𝓛 ((Tok ⊛ ‵ (owns (types_at ps z.0.0) a vss)) ∷ (raw (fact 𝓤 (κT ⊑ T.lives)) ⊛ raw (fact 𝓤 Holds) ⊛ raw (fact 𝓤 Inside)) ∷ []) ∵
     move ! (1 ∷ []) $ split3 ! $ heard ! (κT ⊑ T.lives) (λ le. heard ! Holds (λ holds. heard ! Inside (λ inside. split ! $ move ! (1 ∷ []) $ fsplit ! $ keep ! (0 ∷ 2 ∷ []) $
     -- [the image; the tokens]
     rewrite ! 0 (λ (vs : List Val). ‵ (Row.own_val img vs)) (told.0) refl $
     regoal ! (λ (vs : List Val). prop (WpFn 𝓤 H 𝓣.C 𝓣.Λ fn vs Post)) (λ k. told.0 k ++ (are.1.0.0 k ++ (are.1.1.0.0 k ++ (are.1.1.1.0.0 k ++ (are.1.1.1.1.0.0 k ++ []))))) refl $
-    enter ! 𝓣.C 𝓣.Λ fn (w ∷ vint w64 left ∷ vint w64 top ∷ vint w64 width ∷ vint w64 height ∷ []) Post $
-    alloc_all ! (λ l. pass_all ! refl ((tt, ((tt, (record { fits = told.1.0 }, tt)), (record { fits = told.2 }, (record { fits = told.3 }, (record { fits = told.4 }, tt))))), ((tt, record { fits = fl }), ((tt, record { fits = ft }), ((tt, record { fits = fw }), ((tt, record { fits = fh }), tt))))) $
-    sets ! (of_opd ! (get_in ! (fld ! refl (fld ! refl (stop !))) (sub ! 1 refl (sub ! 0 refl (whole !))))) refl (tt, record { fits = told.1.0 }) $
-    sets ! (of_opd ! (get_in ! (fld ! refl (stop !)) (sub ! 3 refl (whole !)))) refl (tt, record { fits = told.4 }) $
-    nothing ! $ owned ! usize (Is usize) (uint_Makes 𝓛 w64) height (vint w64 height ∷ []) (refl, fh) $ join ! $ owned ! usize (Is usize) (uint_Makes 𝓛 w64) width (vint w64 width ∷ []) (refl, fw) $ join ! $
-    owned ! usize (Is usize) (uint_Makes 𝓛 w64) top (vint w64 top ∷ []) (refl, ft) $ join ! $ owned ! usize (Is usize) (uint_Makes 𝓛 w64) left (vint w64 left ∷ []) (refl, fl) $ join ! $
-    owned ! usize (Is usize) (uint_Makes 𝓛 w64) img.stride (vint w64 img.stride ∷ []) (refl, told.4) $ join ! $ owned ! usize (Is usize) (uint_Makes 𝓛 w64) (length xs) (vint w64 (length xs) ∷ []) (refl, told.1.0) $ join ! $
-    nothing ! $ join ! $
-    let across : left + width ≤ img.width = inside.0 in
-    let down : top + height ≤ img.height = inside.1 in
-    let narrow₁ : Narrow₁ = omega (arith, across, img.width_within) in
-    let fits_width : FitsWidth = omega (arith, across, told.2) in
-    let fits_height : FitsHeight = omega (arith, down, told.3) in
-    let exact : Exact = window_within (length xs) img.stride img.width img.height here holds inside in
-    use0 𝓛 (raw (fact 𝓤 Exact)) (fact_i 𝓤 Exact (emp 𝓤) exact) $ use0 𝓛 (raw (fact 𝓤 FitsHeight)) (fact_i 𝓤 FitsHeight (emp 𝓤) fits_height) $ join ! $ use0 𝓛 (raw (fact 𝓤 FitsWidth)) (fact_i 𝓤 FitsWidth (emp 𝓤) fits_width) $ join ! $ use0 𝓛 (raw (fact 𝓤 Narrow₁)) (fact_i 𝓤 Narrow₁ (emp 𝓤) narrow₁) $ join ! $
+    enter ! 𝓣.C 𝓣.Λ fn (w ∷ vint w64 win.left ∷ vint w64 win.top ∷ vint w64 win.width ∷ vint w64 win.height ∷ []) Post $
+    alloc_all ! (λ l. pass_all ! refl ((tt, ((tt, (record { fits = told.1.0 }, tt)), ((record { fits = told.2 }, (record { fits = told.3 }, (record { fits = told.4 }, tt))), tt))), ((tt, record { fits = fl }), ((tt, record { fits = ft }), ((tt, record { fits = fw }), ((tt, record { fits = fh }), tt))))) $
+    sets ! (agg ! (and_then ! (get ! refl) (and_then ! (get ! refl) (and_then ! (get ! refl) (and_then ! (get ! refl) (no_more !)))))) refl (tt, (record { fits = fl }, (record { fits = ft }, (record { fits = fw }, (record { fits = fh }, tt))))) $
+    sets ! (of_opd ! (get ! refl)) refl (tt, ((tt, (record { fits = told.1.0 }, tt)), ((record { fits = told.2 }, (record { fits = told.3 }, (record { fits = told.4 }, tt))), tt))) $
+    nothing ! $ use0 𝓛 (‵ (pane.the_row.own_val win (window_val win ∷ []))) (window_made 𝓛 win fl ft fw fh) $ join ! $ move ! (1 ∷ 0 ∷ []) $ join ! $ move ! (1 ∷ 0 ∷ []) $ join ! $
+    use0 𝓛 (raw (fact 𝓤 Inside)) (fact_i 𝓤 Inside (emp 𝓤) inside) $ use0 𝓛 (raw (fact 𝓤 Holds)) (fact_i 𝓤 Holds (emp 𝓤) holds) $ join ! $ use0 𝓛 (raw (fact 𝓤 (κT ⊑ T.lives))) (fact_i 𝓤 (κT ⊑ T.lives) (emp 𝓤) le) $ join ! $
     move ! (1 ∷ 0 ∷ []) $ use2 𝓛 (raw (G.pre z₁)) (id⊢ 𝓤 _) $
-    calls_at ! fm G (find.met 𝓤 𝓛 𝓜 𝓡 (compiled.calls-imgref::window::roomy_region 𝓡.env wired)) z₁ (and_then ! (get ! refl) (and_then ! (get ! refl) (and_then ! (get ! refl) (and_then ! (get ! refl) (and_then ! (get ! refl) (and_then ! (get ! refl) (no_more !))))))) (λ v.
-    use1 𝓛 (later (some (λ (y : Region). (‵ ftrue ⊛ ‵ (of_region.the_row.own_val y (v ∷ []))) ⊛ some (λ (ws : Unit {0} × (Unit {0} × (Unit {0} × (Unit {0} × (Unit {0} × (Unit {0} × Unit {0})))))). ‵ (lasts f.ended z₁.0.0 z₁.0.3 ws)
-    ⊛ raw (fact 𝓤 (y ≡ region there here)) ⊛ raw (fact 𝓤 (IsWithin (length xs) there)))))) (id⊢ 𝓤 _) $
-    await ! tt $ pick ! (λ y. split ! $ split ! $ move ! (2 ∷ []) $ pick ! (λ ws. split ! $ drop ! $ split ! $ heard ! (y ≡ region there here) (λ e. heard ! (IsWithin (length xs) there) (λ room.
-    move ! (1 ∷ []) $ peeks ! of_region.the_row (Is of_region.the_row) (shows 𝓛 of_region.the_row) y (v ∷ []) (λ is. drop ! $ drop ! $
-    -- [the image; the tokens]
-    let t = region_told y (v ∷ []) is in
-    let In : Type 0 = y.start + y.len ≤ length xs in
-    let Narrow : Type 0 = y.width ≤ img.width in
-    let begins : y.start ≡ there.start = ap (λ (m : Region). m.start) e in
-    let long : y.len ≡ there.len = ap (λ (m : Region). m.len) e in
-    let wide : y.width ≡ width = ap (λ (m : Region). m.width) e in
-    let high : y.height ≡ height = ap (λ (m : Region). m.height) e in
-    let fits_in : In = omega (arith, begins, long, room) in
-    let narrow : Narrow = omega (arith, wide, across) in
+    calls_at ! fm G (found.met 𝓤 𝓛 𝓜 𝓡 (compiled.calls-imgref::window::Img+mut+slice+T::into_roomy 𝓡.env wired) T L) z₁ (and_then ! (get ! refl) (and_then ! (get ! refl) (no_more !))) (λ v.
+    let Cells₁ : MutBor (List T.Denot) × Stretch × Shape → Type 0 = λ x. x.0 ≡ cells in
+    let Room₁ : MutBor (List T.Denot) × Stretch × Shape → Type 0 = λ x. IsWithin (length xs) (as_stretch x.1) in
+    let There : MutBor (List T.Denot) × Stretch × Shape → Type 0 = λ x. as_stretch x.1 ≡ roomy_stretch (length xs) li.stride here in
+    let Laid : MutBor (List T.Denot) × Stretch × Shape → Type 0 = λ x. shaped (stretch_cells xs (as_stretch x.1)) x.2 ≡ roomy_window li here in
+    let Fits₁ : Type 0 = Fits (roomy_window li here) in
+    let View₁ : Type 0 = grid_of (roomy_window li here) ≡ window_view (grid_of li) here in
+    use1 𝓛 (later (some (λ (x : MutBor (List T.Denot) × Stretch × Shape). (Tok ⊛ ‵ (Found.own_val x (v ∷ []))) ⊛ some (λ (us : (Unit {0} × Unit {0}) × (Unit {0} × Unit {0})). ‵ (lasts (f.ended T) z₁.0.0 z₁.0.3 us)
+    ⊛ raw (fact 𝓤 (Cells₁ x)) ⊛ raw (fact 𝓤 (Room₁ x)) ⊛ raw (fact 𝓤 (There x)) ⊛ raw (fact 𝓤 (Laid x)) ⊛ raw (fact 𝓤 Fits₁) ⊛ raw (fact 𝓤 View₁))))) (id⊢ 𝓤 _) $
+    await ! tt $ pick ! (λ x. split ! $ split ! $ move ! (2 ∷ []) $ pick ! (λ us. split ! $ drop ! $ split ! $ heard ! (Cells₁ x) (λ e₁. split ! $ heard ! (Room₁ x) (λ room. split ! $ heard ! (There x) (λ there. split ! $ heard ! (Laid x) (λ laid. split ! $ heard ! Fits₁ (λ fits. heard ! View₁ (λ view.
+    -- [the tokens; the parts]
+    let y : MutBor (List T.Denot) × Stretch × Shape = (cells, x.1, x.2) in
+    let known : x ≡ y = λ i. (e₁ i, x.1, x.2) in
+    move ! (1 ∷ []) $ rewrite ! 0 (λ (u : MutBor (List T.Denot) × Stretch × Shape). ‵ (Found.own_val u (v ∷ []))) known refl $
+    peeks ! Found (Is Found) (shows 𝓛 Found) y (v ∷ []) (λ is. let pt = parts_told (named 0) κ R y (v ∷ []) is in
+    lands_as ! (ap only (pt.0)) refl (tt, ((tt, (record { fits = pt.1.0 }, tt)), ((record { fits = pt.2 }, (record { fits = pt.3 }, tt)), ((record { fits = pt.4 }, (record { fits = pt.5 }, (record { fits = pt.6 }, tt))), tt)))) $
+    fpick ! (λ vs₁. fsplit ! $ drop ! $ fsplit ! $ move ! (1 ∷ []) $ drop ! $
+    peeks ! Slice (Is Slice) (shows 𝓛 Slice) cells (vs₁.0) (λ isS. rewrite ! 0 (λ (vs : List Val). ‵ (Slice.own_val cells vs)) (isS.0.0) refl $
+    -- [the slice; the tokens]
+    sets ! (of_opd ! (get_in ! (fld ! refl (stop !)) (sub ! 0 refl (whole !)))) refl (tt, (tt, (record { fits = pt.1.0 }, tt))) $
+    sets ! (of_opd ! (get_in ! (fld ! refl (stop !)) (sub ! 1 refl (whole !)))) refl (tt, (record { fits = pt.2 }, (record { fits = pt.3 }, tt))) $
+    sets ! (of_opd ! (get_in ! (fld ! refl (stop !)) (sub ! 2 refl (whole !)))) refl (tt, (record { fits = pt.4 }, (record { fits = pt.5 }, (record { fits = pt.6 }, tt)))) $
+    sets ! (addr ! (from ! (fld ! refl (hop ! (look_in_at ! 7 (sub ! 0 refl (whole !))) (stop !))))) refl (tt, tt) $
+    sets ! (agg ! (and_then ! (get ! refl) (and_then ! (get_in ! (fld ! refl (stop !)) (sub ! 1 refl (whole !))) (no_more !)))) refl (tt, (tt, (record { fits = pt.1.0 }, tt))) $
     let G₂ = triple_of 𝓛 (g.signature T) (g.spec T 𝓛 𝓜.mem 𝓡.returns) in
-    let z₂ : G₂.Ghost = (((κ, (κT, tt)), (q, (qT, tt)), z.0.2, (img, (y.start, (y.len, (y.width, (y.height, tt))))), (w ∷ [], (vint w64 y.start ∷ [], (vint w64 y.len ∷ [], (vint w32 y.width ∷ [], (vint w32 y.height ∷ [], tt)))))), tt) in
-    lands_as ! (ap only (t.0)) refl (tt, (record { fits = t.1 }, (record { fits = t.2 }, (record { fits = t.3 }, (record { fits = t.4 }, tt))))) $
-    sets ! (of_opd ! (get ! refl)) refl (tt, ((tt, (record { fits = told.1.0 }, tt)), (record { fits = told.2 }, (record { fits = told.3 }, (record { fits = told.4 }, tt))))) $
-    nothing ! $ owned ! u32 (Is u32) (uint_Makes 𝓛 w32) y.height (vint w32 y.height ∷ []) (refl, t.4) $ join ! $ owned ! u32 (Is u32) (uint_Makes 𝓛 w32) y.width (vint w32 y.width ∷ []) (refl, t.3) $ join ! $
-    owned ! usize (Is usize) (uint_Makes 𝓛 w64) y.len (vint w64 y.len ∷ []) (refl, t.2) $ join ! $ owned ! usize (Is usize) (uint_Makes 𝓛 w64) y.start (vint w64 y.start ∷ []) (refl, t.1) $ join ! $
+    let z₂ : G₂.Ghost = (((κ, (κT, tt)), (q, (qT, tt)), z.0.2, (cells, (x.1, (x.2, tt))), (sv ∷ [], (stretch_val x.1 ∷ [], (shape_val x.2 ∷ [], tt)))), tt) in
+    nothing ! $ use0 𝓛 (‵ (shape.the_row.own_val x.2 (shape_val x.2 ∷ []))) (shape_made 𝓛 x.2 pt.4 pt.5 pt.6) $ join ! $ use0 𝓛 (‵ (stretch.the_row.own_val x.1 (stretch_val x.1 ∷ []))) (stretch_made 𝓛 x.1 pt.2 pt.3) $ join ! $
     move ! (1 ∷ 0 ∷ []) $ join ! $ move ! (1 ∷ 0 ∷ []) $ join ! $
-    use0 𝓛 (raw (fact 𝓤 Narrow)) (fact_i 𝓤 Narrow (emp 𝓤) narrow) $ use0 𝓛 (raw (fact 𝓤 In)) (fact_i 𝓤 In (emp 𝓤) fits_in) $ join ! $ use0 𝓛 (raw (fact 𝓤 (κT ⊑ T.lives))) (fact_i 𝓤 (κT ⊑ T.lives) (emp 𝓤) le) $ join ! $
+    use0 𝓛 (raw (fact 𝓤 (Room₁ x))) (fact_i 𝓤 (Room₁ x) (emp 𝓤) room) $ use0 𝓛 (raw (fact 𝓤 (κT ⊑ T.lives))) (fact_i 𝓤 (κT ⊑ T.lives) (emp 𝓤) le) $ join ! $
     move ! (1 ∷ 0 ∷ []) $ use2 𝓛 (raw (G₂.pre z₂)) (id⊢ 𝓤 _) $
-    calls_at ! fm G₂ (part.met 𝓤 𝓛 𝓜 𝓡 (compiled.calls-imgref::window::into_stretch 𝓡.env wired) T L) z₂
-    (and_then ! (get ! refl) (and_then ! (get_in ! (fld ! refl (stop !)) (sub ! 0 refl (whole !))) (and_then ! (get_in ! (fld ! refl (stop !)) (sub ! 1 refl (whole !))) (and_then ! (get_in ! (fld ! refl (stop !)) (sub ! 2 refl (whole !))) (and_then ! (get_in ! (fld ! refl (stop !)) (sub ! 3 refl (whole !))) (no_more !)))))) (λ v₂.
-    use1 𝓛 (later (some (λ (r₂ : Img (MutBor (List T.Denot))). (Tok ⊛ ‵ (Row.own_val r₂ (v₂ ∷ []))) ⊛ some (λ (ws : (Unit {0} × Unit {0}) × (Unit {0} × (Unit {0} × (Unit {0} × (Unit {0} × Unit {0}))))). ‵ (lasts (g.ended T) z₂.0.0 z₂.0.3 ws) ⊛ (‵ (follows (Array R 0) (Array R 0) γ r₂.buf.ghost_name (with_stretch xs (record { start = y.start; len = y.len })))
-    ⊛ raw (fact 𝓤 (mut_layout r₂ ≡ laid (stretch_cells xs (record { start = y.start; len = y.len })) y.width y.height img.stride))))))) (id⊢ 𝓤 _) $
-    await ! tt $ pick ! (λ r₂. split ! $ split ! $ move ! (2 ∷ []) $ pick ! (λ ws₂. split ! $ drop ! $ split ! $ move ! (1 ∷ []) $ heard ! (mut_layout r₂ ≡ laid (stretch_cells xs (record { start = y.start; len = y.len })) y.width y.height img.stride) (λ e₂.
+    calls_at ! fm G₂ (made.met 𝓤 𝓛 𝓜 𝓡 (compiled.calls-imgref::window::Img+mut+slice+T::from_stretch 𝓡.env wired) T L) z₂ (and_then ! (get ! refl) (and_then ! (get ! refl) (and_then ! (get ! refl) (no_more !)))) (λ v₂.
+    let Made : Img (MutBor (List T.Denot)) → Type 0 = λ r₂. mut_layout r₂ ≡ shaped (stretch_cells xs (as_stretch x.1)) x.2 in
+    use1 𝓛 (later (some (λ (r₂ : Img (MutBor (List T.Denot))). (Tok ⊛ ‵ (Row.own_val r₂ (v₂ ∷ []))) ⊛ some (λ (us : Unit {0} × (Unit {0} × (Unit {0} × Unit {0}))). ‵ (lasts (g.ended T) z₂.0.0 z₂.0.3 us)
+    ⊛ (‵ (follows (Array R 0) (Array R 0) γ r₂.buf.ghost_name (with_stretch xs (as_stretch x.1))) ⊛ raw (fact 𝓤 (Made r₂))))))) (id⊢ 𝓤 _) $
+    await ! tt $ pick ! (λ r₂. split ! $ split ! $ move ! (2 ∷ []) $ pick ! (λ us₂. split ! $ drop ! $ split ! $ move ! (1 ∷ []) $ heard ! (Made r₂) (λ e₂.
     -- [what follows; the tokens; the window]
     move ! (2 ∷ []) $ peeks ! Row (Is Row) (shows 𝓛 Row) r₂ (v₂ ∷ []) (λ is₂. let t₂ = img_told (named 0) κ R r₂ (v₂ ∷ []) is₂ in
-    let w₂ : Val = img_val r₂.buf.ref_ptr (length r₂.buf.now) r₂.width r₂.height r₂.stride in
-    let Is₂ : Type 0 = mut_layout r₂ ≡ roomy_window (mut_layout img) here in
+    let w₂ : Val = img_val r₂.buf.ref_ptr (length r₂.buf.now) r₂.shape in
+    let Is₂ : Type 0 = mut_layout r₂ ≡ roomy_window li here in
     let Fits₂ : Type 0 = Fits (mut_layout r₂) in
-    let Shows : Type 0 = grid_of (mut_layout r₂) ≡ window_view (grid_of (mut_layout img)) here in
+    let Shows : Type 0 = grid_of (mut_layout r₂) ≡ window_view (grid_of li) here in
+    let is₃ : Is₂ = e₂ ∙ laid in
     rewrite ! 0 (λ (us : List Val). ‵ (Row.own_val r₂ us)) (t₂.0) refl $
-    lands_as ! (ap only (t₂.0)) refl (tt, ((tt, (record { fits = t₂.1.0 }, tt)), (record { fits = t₂.2 }, (record { fits = t₂.3 }, (record { fits = t₂.4 }, tt))))) $
+    lands_as ! (ap only (t₂.0)) refl (tt, ((tt, (record { fits = t₂.1.0 }, tt)), ((record { fits = t₂.2 }, (record { fits = t₂.3 }, (record { fits = t₂.4 }, tt))), tt))) $
     returns ! (look_at ! 0 refl) $ free_all ! refl $
     -- [the window; what follows; the tokens]
-    move ! (1 ∷ []) $ rewrite ! 0 (λ (m : Region). ‵ (follows (Array R 0) (Array R 0) γ r₂.buf.ghost_name (with_stretch xs (record { start = m.start; len = m.len })))) e refl $
-    let is : Is₂ = e₂ ∙ ap (λ (m : Region). laid (stretch_cells xs (record { start = m.start; len = m.len })) m.width m.height img.stride) e in
-    use0 𝓛 (raw (fact 𝓤 Shows)) (fact_i 𝓤 Shows (emp 𝓤) (window_shows (mut_layout img) img.width_within holds here inside true (mut_layout r₂) is)) $ use0 𝓛 (raw (fact 𝓤 Fits₂)) (fact_i 𝓤 Fits₂ (emp 𝓤) (window_fits (mut_layout img) img.width_within holds here inside true (mut_layout r₂) is)) $ join ! $
-    use0 𝓛 (raw (fact 𝓤 Is₂)) (fact_i 𝓤 Is₂ (emp 𝓤) is) $ join ! $ move ! (1 ∷ 0 ∷ []) $ join ! $
+    move ! (1 ∷ []) $ rewrite ! 0 (λ (m : Part). ‵ (follows (Array R 0) (Array R 0) γ r₂.buf.ghost_name (with_stretch xs m))) there refl $
+    use0 𝓛 (raw (fact 𝓤 Shows)) (fact_i 𝓤 Shows (emp 𝓤) (ap grid_of is₃ ∙ view)) $ use0 𝓛 (raw (fact 𝓤 Fits₂)) (fact_i 𝓤 Fits₂ (emp 𝓤) (subst Fits (sym is₃) fits)) $ join ! $
+    use0 𝓛 (raw (fact 𝓤 Is₂)) (fact_i 𝓤 Is₂ (emp 𝓤) is₃) $ join ! $ move ! (1 ∷ 0 ∷ []) $ join ! $
     -- [the ensures; the window; the tokens]
     nothing ! $ nothing ! $ fjoin ! $ nothing ! $ fjoin ! $ nothing ! $ fjoin ! $ nothing ! $ fjoin ! $ nothing ! $ fjoin ! $
     move ! (3 ∷ 0 ∷ 2 ∷ 1 ∷ []) $
-    by ! (leaves 𝓛 En stays c z w₂ r₂ ((tt, tt), (tt, (tt, (tt, (tt, tt))))) (tt, (tt, (tt, (tt, (tt, tt))))))))))))))))))))))
+    by ! (leaves 𝓛 En stays c z w₂ r₂ ((tt, tt), (tt, (tt, (tt, (tt, tt))))) (tt, (tt, (tt, (tt, (tt, tt))))))))))))))))))))))))))))

@@ -1,5 +1,5 @@
-use Rattle.imgref_run.specs.Values.{order_of}
-use Rattle.imgref_run.proofs.Goodness.{late_image, some_mapped, good_image, only_images, none_mapped}
+use Rattle.imgref_run.specs.Line.{order_of}
+use Rattle.imgref_run.proofs.ScriptGood.{late_image, some_mapped, good_image, only_images, none_mapped}
 use Rattle.imgref_run.proofs.script.Script.add.Goals as goal
 
 pub returns-then-not-is_empty-clause-bad : goal.returns-then-not-is_empty-clause-bad

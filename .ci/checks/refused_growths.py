@@ -1,0 +1,99 @@
+#!/usr/bin/env python3
+"""Refuses each growth of the program and of every test in turn, on what `rt ci` built.
+
+No clause can say that memory is found, and every contract allows the answer that none was. So the program is run on the
+example with its first growth refused, then with its second, until a run has none to refuse: each time but the last it must
+print `fault memory` alone and end with status 3. Each test is run so too, and must pass or hand the refusal on as its
+result: an assertion that fails shows an answer that changed in the place of the error.
+"""
+import concurrent.futures
+import os
+import pathlib
+import resource
+import subprocess
+import sys
+import tempfile
+
+sys.path.insert(0, str(pathlib.Path(__file__).resolve().parent.parent))
+from cases import ROOT, Cases, built, crates
+
+REFUSES = pathlib.Path(__file__).resolve().with_name("refused_growth.c")
+SCRIPT = (ROOT / "examples/first.script").read_bytes()
+WRITTEN = (ROOT / "crates/imgref_run/stdout").read_bytes()
+# What a test says whose result is the refusal: of a call, of a push to a vector, and of a run.
+HANDED_ON = (b"error: AllocError\n", b"error: AllocFailed { .. }\n", b"error: Memory\n")
+# No test and no program takes more growths than this.
+MOST = 10_000
+
+
+def made(room):
+    """Compiles REFUSES by the toolchain's own clang, and answers the library that it makes."""
+    kit = pathlib.Path(subprocess.run(["rt", "doc"], check=True, capture_output=True, text=True).stdout.strip()).parent / "toolchain/bin"
+    how = ["-shared", "-fPIC", "-O1", "-nostdlib", f"--ld-path={kit}/ld.lld"]
+    subprocess.run([kit / "clang", *how, "-o", f"{room}/refused_growth.so", REFUSES], check=True)
+    return f"{room}/refused_growth.so"
+
+
+def runs(library, command, given=b""):
+    """Runs a command with each growth refused in turn, and gives each run and whether one was refused in it. The last has none."""
+    for number in range(1, MOST):
+        env = {**os.environ, "LD_PRELOAD": library, "REFUSED": str(number)}
+        ran = subprocess.run(command, input=given, env=env, capture_output=True, timeout=120)
+        was_refused = b"growth refused\n" in ran.stderr
+        yield ran, was_refused
+        if not was_refused:
+            return
+    raise ValueError(f"{command}: it has no end")
+
+
+def of_program(library, program):
+    """How many growths were refused, and what is wrong."""
+    bad = []
+    for number, (ran, was_refused) in enumerate(runs(library, [program], SCRIPT), 1):
+        wanted = (b"fault memory\n", 3) if was_refused else (WRITTEN, 0)
+        if (ran.stdout, ran.returncode) != wanted:
+            bad.append(f"growth {number}: it printed {ran.stdout!r} and ended with status {ran.returncode}")
+    return number - 1, bad
+
+
+def of_test(library, program, test):
+    """The same of one test."""
+    bad = []
+    for number, (ran, was_refused) in enumerate(runs(library, [program, test]), 1):
+        if ran.returncode and not (was_refused and any(it in ran.stderr for it in HANDED_ON)):
+            bad.append(f"{test}, growth {number}: {ran.stderr.decode(errors='replace').strip()}")
+    return number - 1, bad
+
+
+def tests_of(program):
+    """The names of the tests of a built program."""
+    listed = subprocess.run([program, "--list"], check=True, capture_output=True, text=True).stdout
+    return [it.removesuffix(": test") for it in listed.splitlines() if it.endswith(": test")]
+
+
+def has_tests(crate):
+    return any("#[test]" in it.read_text() for it in (ROOT / "crates" / crate / "src").rglob("*.rt"))
+
+
+def main():
+    cases = Cases()
+    # A failed assertion aborts, and would leave a core file.
+    resource.setrlimit(resource.RLIMIT_CORE, (0, 0))
+    with tempfile.TemporaryDirectory(prefix="growths-") as room, concurrent.futures.ThreadPoolExecutor(4) as pool:
+        library = made(room)
+        programs = built("imgref_run", ("", ".by-rattle"))
+        cases.count("both builds of the program are there", len(programs) == 2, "crates/imgref_run/out lacks one, or it is older than its sources: `rt ci` makes them")
+        for program in programs:
+            growths, bad = of_program(library, program)
+            cases.count(f"{program.name}: each of {growths} growths refused is told, and nothing else is written", growths > 0 and not bad, "\n".join(bad[:3]))
+        for crate in filter(has_tests, crates()):
+            for program in built(crate, ("_tests",)) or [None]:
+                found = [*pool.map(lambda test: of_test(library, program, test), tests_of(program) if program else [])]
+                bad = [it for _, lines in found for it in lines]
+                label = f"{crate}: {len(found)} tests pass or hand on each of {sum(it for it, _ in found)} refused growths"
+                cases.count(label, found and not bad, "\n".join(bad[:3]) if program else "its tests are not built, or older than their sources: `rt ci` builds them")
+    return cases.end()
+
+
+if __name__ == "__main__":
+    sys.exit(main())

@@ -1,0 +1,35 @@
+use Rattle.std.proofs.Common.{◌+◌, ◌*◌, ◌≤◌, length, subst, sym, ap, ◌∙◌}
+use Rattle.image_shape.specs.Shape.{shaped}
+use Rattle.image_pixels.specs.Marks.{pick, marks}
+use Rattle.image_pixels.specs.Pixels.{refs_left}
+use Rattle.image_pixels.proofs.Layouts.{ArePixels, start_reaches, start_pixels}
+use Rattle.image_pixels.proofs.Runs.{refs_run}
+use Rattle.image_pixels.proofs.pixels.PixelsRefIter.new.Goals as goal
+use Rattle.image_pixels.proofs.pixels.PixelsRefIter.new.Goals.{After-over}
+
+pub over-requires-clause-reaches : goal.over-requires-clause-reaches
+over-requires-clause-reaches g c =
+    let n = c.of_shape in
+    subst (λ xs. n.result.left + n.result.rows_left * (n.result.pad + n.result.width) ≤ length xs) (sym c.new.ensures)
+    (start_reaches (shaped c.args.cells.now c.args.shape) n.result.left n.result.rows_left n.result.width n.result.pad n.ensures.narrow n.ensures.left n.ensures.rows_left n.ensures.width n.ensures.pad c.requires.fits)
+
+all : (g : _) (c : After-over g) → ArePixels (shaped c.args.cells.now c.args.shape) (refs_left c.over.result)
+all g c =
+    let n = c.of_shape in
+    start_pixels (shaped c.args.cells.now c.args.shape) n.result.left n.result.rows_left n.result.width n.result.pad n.ensures.narrow n.ensures.left n.ensures.rows_left n.ensures.width n.ensures.pad
+    (refs_left c.over.result) c.requires.fits n.ensures.width_fits n.ensures.height_fits (c.over.ensures.pixels ∙ ap (pick (marks n.result.left n.result.rows_left n.result.width n.result.pad)) c.new.ensures)
+
+pub returns-clause-pixels : goal.returns-clause-pixels
+returns-clause-pixels g c = (all g c).0
+
+pub returns-clause-grid : goal.returns-clause-grid
+returns-clause-grid g c = (all g c).1
+
+pub returns-clause-count : goal.returns-clause-count
+returns-clause-count g c = (all g c).2
+
+pub returns-clause-countable : goal.returns-clause-countable
+returns-clause-countable g c = (all g c).3
+
+pub returns-clause-runs : goal.returns-clause-runs
+returns-clause-runs g c = refs_run

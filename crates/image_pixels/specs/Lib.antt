@@ -1,0 +1,3 @@
+pub mod Loans
+pub mod Marks
+pub mod Pixels

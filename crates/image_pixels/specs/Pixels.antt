@@ -1,0 +1,66 @@
+-- What a contract sees of a pixel cursor: the pixels that it still gives, and how writes come back.
+use Rattle.std.specs.Prelude.{◌≡◌, ◌<◌, ℕ, Bool, List, [], ◌∷◌, ◌++◌, take, length, replicate, true, false, Option, Some, None}
+use Rattle.std.specs.Borrow.{Bor, MutBor, GName, Fml, RattleType, ftrue, follows_both, Array}
+use base.Fml.{fres}
+use base.Stored.{coded_list}
+use Rattle.image_pixels.specs.Marks.{pick, marks, skipped}
+use Rattle.image_pixels.specs.declared.pixels.PixelsRefIter.{PixelsRefIter}
+use Rattle.image_pixels.specs.declared.pixels.PixelsIter.{PixelsIter}
+use Rattle.image_pixels.specs.declared.pixels_mut.PixelsIterMut.{PixelsIterMut}
+
+module _ {T : Type 0} where
+  -- the pixels that a cursor still gives, for reading
+  unfoldable pub refs_left : PixelsRefIter T → List T
+  refs_left s = pick (marks s.left s.rows_left s.width s.pad) s.cells.cells
+
+  -- the next of some pixels are taken as one line, or there is none
+  abbrev pub TakesLine : List T → Option (Bor (List T)) → List T → Type 0
+  TakesLine xs None ys = (xs ≡ []) × (ys ≡ [])
+  TakesLine xs (Some line) ys = (xs ≡ line.now ++ ys) × (0 < length line.now)
+
+  -- the copies that a cursor still gives
+  unfoldable pub copies_left : PixelsIter T → List T
+  copies_left s = refs_left s.inner
+
+  -- the cells from the next one on
+  abbrev pub cells_left : PixelsIterMut T → List T
+  cells_left s = s.cells
+
+  -- which of these are pixels
+  abbrev pub marks_left : PixelsIterMut T → List Bool
+  marks_left s = marks s.left s.rows_left s.width s.pad
+
+  -- the pixels that a cursor still gives, for writing
+  unfoldable pub muts_left : PixelsIterMut T → List T
+  muts_left s = pick (marks_left s) (cells_left s)
+
+  -- the loan of these cells
+  abbrev pub name_of : PixelsIterMut T → GName
+  name_of s = s.name
+
+  -- what lent them
+  abbrev pub lender_of : PixelsIterMut T → GName
+  lender_of s = s.lender
+
+  -- how many cells a cursor passes over before the next pixel
+  abbrev pub gap : PixelsIterMut T → ℕ
+  gap s = skipped s.left s.pad
+
+  -- these cells
+  abbrev pub passed : PixelsIterMut T → List T
+  passed s = take (gap s) (cells_left s)
+
+  -- a step that gives a pixel passes over the padding before it and the pixel, and what is left is as it was
+  abbrev pub Moves : PixelsIterMut T → Option (MutBor T) → PixelsIterMut T → Type 0
+  Moves s None t = t ≡ s
+  Moves s (Some x) t = (cells_left s ≡ passed s ++ x.now ∷ cells_left t) × (length (passed s) ≡ gap s)
+      × (marks_left s ≡ replicate (gap s) false ++ true ∷ marks_left t)
+
+-- the cells of s end as those passed over, what the pixel ends as, and what the cells of t end as
+abbrev pub hands_on : (R : RattleType) → PixelsIterMut R.Denot → Option (MutBor R.Denot) → PixelsIterMut R.Denot → Fml
+hands_on R s None t = ftrue
+hands_on R s (Some x) t = follows_both (Array R 0) R (Array R 0) (name_of s) x.ghost_name (name_of t) (λ w ws. passed s ++ w ∷ ws)
+
+-- the cells of s end as they are now
+abbrev pub leaves_as : (R : RattleType) → PixelsIterMut R.Denot → Fml
+leaves_as R s = fres (name_of s) ((coded_list R.coded).code (cells_left s))

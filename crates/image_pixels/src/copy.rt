@@ -1,0 +1,41 @@
+//! The pixels of one image over those of another.
+
+ghost use Rattle.std.specs.Prelude.{◌≡◌, ◌+◌, ◌≤◌, ◌++◌, length, take, drop};
+ghost use Rattle.image_model.specs.Layout.{Fits, SameOutside};
+ghost use Rattle.image_model.specs.Grid.{grid_of};
+ghost use Rattle.image_shape.specs.Shape.{shape_width, shape_height, shaped};
+
+use image_shape::Shape;
+
+// The cells from number `start` on become those of the row.
+fn put_row<T: Copy>(cells: &mut [T], start: usize, row: &[T])
+    requires { start + length row.now ≤ length cells.old }
+    ensures { cells.new ≡ take start cells.old ++ (row.now ++ drop (start + length row.now) cells.old) }
+{
+    let end = start + row.len();
+    cells[start..end].copy_from_slice(row);
+}
+
+/// Every pixel of `shape` in `cells` becomes that of the source at its place, row by row; the
+/// padding stays. Both fit, as `Shape::fits` tells, and have one size; their strides may differ.
+pub fn copy_pixels<T: Copy>(cells: &mut [T], shape: Shape, source: &[T], source_shape: Shape)
+    requires fits { Fits (shaped cells.old shape) }
+    requires source_fits { Fits (shaped source.now source_shape) }
+    requires same_width { shape_width shape ≡ shape_width source_shape }
+    requires same_height { shape_height shape ≡ shape_height source_shape }
+    ensures grid { grid_of (shaped cells.new shape) ≡ grid_of (shaped source.now source_shape) }
+    ensures outside { SameOutside (shaped cells.old shape) (shaped cells.new shape) }
+{
+    let width = shape.width();
+    let stride = shape.stride();
+    let source_stride = source_shape.stride();
+    // An image of no column may have more rows than it has cells.
+    if width == 0 {
+        return;
+    }
+    for y in 0..shape.height() {
+        let start = y * stride;
+        let from = y * source_stride;
+        put_row(cells, start, &source[from..from + width]);
+    }
+}

@@ -1,0 +1,43 @@
+//! How a cursor over a shape begins.
+
+ghost use Rattle.std.specs.Prelude.{◌≡◌, ◌-◌, ◌<◌, ◌≤◌, ◌^◌};
+ghost use Rattle.image_shape.specs.Shape.{shape_width, shape_height, shape_stride};
+ghost use Rattle.image_pixels.specs.Marks.{first_line, lines_after};
+
+use image_shape::Shape;
+
+// The pixels that are left in a line, the lines after it, the width of each, and how many cells of
+// padding lie before it.
+#[derive(Clone, Copy)]
+pub(crate) struct Counts {
+    pub(crate) left: usize,
+    pub(crate) rows_left: usize,
+    pub(crate) width: usize,
+    pub(crate) pad: usize,
+}
+
+impl Counts {
+    // Those of a whole shape.
+    pub(crate) fn of_shape(shape: Shape) -> Counts
+        ensures left { result.left ≡ first_line (shape_width shape) (shape_height shape) }
+        ensures rows_left { result.rows_left ≡ lines_after (shape_width shape) (shape_height shape) }
+        ensures width { result.width ≡ shape_width shape }
+        ensures pad { result.pad ≡ shape_stride shape - shape_width shape }
+        ensures narrow { shape_width shape ≤ shape_stride shape }
+        ensures width_fits { shape_width shape < 2 ^ 32 }
+        ensures height_fits { shape_height shape < 2 ^ 32 }
+    {
+        let width = shape.width();
+        let height = shape.height();
+        Counts {
+            left: if height == 0 { 0 } else { width },
+            rows_left: if width == 0 {
+                0
+            } else {
+                height.saturating_sub(1)
+            },
+            width,
+            pad: shape.stride() - width,
+        }
+    }
+}

@@ -1,0 +1,36 @@
+//! One value in every pixel.
+
+ghost use Rattle.std.specs.Prelude.{◌≡◌, length, replicate};
+ghost use Rattle.image_model.specs.Layout.{Fits, SameOutside};
+ghost use Rattle.image_model.specs.Grid.{grid_of, uniform};
+ghost use Rattle.image_shape.specs.Shape.{shape_width, shape_height, shaped};
+
+use image_shape::Shape;
+
+// Every cell becomes `value`.
+fn fill_cells<T: Copy>(cells: &mut [T], value: T)
+    ensures { cells.new ≡ replicate (length cells.old) value }
+{
+    for cell in cells.iter_mut() {
+        *cell = value;
+    }
+}
+
+/// Every pixel of `shape` in `cells` becomes `value`; the padding stays. The cells must fit, as
+/// `Shape::fits` tells.
+pub fn fill_pixels<T: Copy>(cells: &mut [T], shape: Shape, value: T)
+    requires fits { Fits (shaped cells.old shape) }
+    ensures grid { grid_of (shaped cells.new shape) ≡ uniform (shape_width shape) (shape_height shape) value }
+    ensures outside { SameOutside (shaped cells.old shape) (shaped cells.new shape) }
+{
+    let width = shape.width();
+    let stride = shape.stride();
+    // An image of no column may have more rows than it has cells.
+    if width == 0 {
+        return;
+    }
+    for y in 0..shape.height() {
+        let start = y * stride;
+        fill_cells(&mut cells[start..start + width], value);
+    }
+}

@@ -1,0 +1,24 @@
+use Rattle.std.proofs.Common.{◌≡◌, ◌+◌, ◌-◌, ◌*◌, ◌<◌, [], ◌∷◌, ◌++◌, take, drop, ap, ◌∙◌, arith}
+use Rattle.std.proofs.iter.Next.{firm}
+use Rattle.image_model.specs.Layout.{layout}
+use Rattle.image_model.specs.Rows.{rows}
+use Rattle.image_rows.specs.Rows.{refs_left}
+use Rattle.image_rows.proofs.Rows.{rows_last, length-rows_left}
+use Rattle.image_rows.proofs.reading.RowsIterDoubleEndedIterator.next_back.Goals as goal
+
+pub returns-clause-steps : goal.returns-clause-steps
+unfolding refs_left
+returns-clause-steps g c =
+    let s = c.args.self.now in
+    let some : 0 < s.count = omega (arith, c.if-self-eq0.false) in
+    let start = (s.count - 1) * s.stride in
+    let long : s.width ≡ start + s.width - start = omega arith in
+    rows_last s.cells.now s.width s.stride s.count (s.some some) some
+    ∙ ap (λ n. rows (layout s.cells.now s.width (s.count - 1) s.stride) ++ take n (drop start s.cells.now) ∷ []) long
+
+pub returns-clause-goes : goal.returns-clause-goes
+unfolding refs_left
+returns-clause-goes g c =
+    let s = c.args.self.now in
+    let some : 0 < s.count = omega (arith, c.if-self-eq0.false) in
+    firm (tt, tt, omega (arith, length-rows_left s.cells.now s.width s.stride s.count s.some, length-rows_left s.cells.now s.width s.stride (s.count - 1) (λ _. s.some some))) (λ _. tt)

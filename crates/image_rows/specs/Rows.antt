@@ -1,0 +1,98 @@
+-- What a contract sees of a row iterator: the rows that it still gives, and how writes come back.
+use Rattle.std.specs.Prelude.{◌≡◌, ℕ, ◌+◌, ◌-◌, ◌*◌, List, ◌++◌, take, drop, Option, Some, None}
+use Rattle.std.specs.Borrow.{MutBor, GName, Fml, RattleType, ftrue, follows_both, Array}
+use Rattle.std.specs.Iterator.{YieldsFirstMut, YieldsLastMut}
+use Rattle.image_model.specs.Layout.{layout}
+use Rattle.image_model.specs.Rows.{rows, row_count}
+use Rattle.image_rows.specs.declared.ends.End.{End}
+use Rattle.image_rows.specs.declared.ends.End.TheVariants.{First, Last}
+use Rattle.image_rows.specs.declared.spacing.Spacing.{Spacing}
+use Rattle.image_rows.specs.declared.reading.RowsIter.{RowsIter}
+use Rattle.image_rows.specs.declared.writing.RowsIterMut.{RowsIterMut}
+
+-- ---- how rows lie in a list of cells: how many cells are skipped before the first, how many rows there are, how wide each is, and how far each begins after the one before it
+
+-- the rows of a whole image
+abbrev pub whole_spacing : ℕ → ℕ → ℕ → Spacing
+whole_spacing width height stride = record { skip = 0; count = row_count width height; width = width; stride = stride }
+
+-- without the row at that end; the padding behind a first row is skipped
+abbrev pub without : End → Spacing → Spacing
+without First s = record s { skip = s.stride - s.width; count = s.count - 1 }
+without Last s = record s { count = s.count - 1 }
+
+-- the row at that end is cut off behind a first row, or before a last one
+abbrev pub outer_cut : End → Spacing → ℕ
+outer_cut First s = s.skip + s.width
+outer_cut Last s = s.skip + (s.count - 1) * s.stride
+
+-- and in what is cut off, where the row begins or ends
+abbrev pub inner_cut : End → Spacing → ℕ
+inner_cut First s = s.skip
+inner_cut Last s = s.width
+
+module _ {T : Type 0} where
+  -- ---- the two sides of a cell
+
+  -- the cells on that side of cell n
+  abbrev pub near : End → ℕ → List T → List T
+  near First n cells = take n cells
+  near Last n cells = drop n cells
+
+  -- the cells on the other side of it
+  abbrev pub far : End → ℕ → List T → List T
+  far First n cells = drop n cells
+  far Last n cells = take n cells
+
+  -- some cells at that end of others
+  abbrev pub beside : End → List T → List T → List T
+  beside First some others = some ++ others
+  beside Last some others = others ++ some
+
+  -- what is let go with the row at that end: the cells before the first row, or behind the last
+  abbrev pub let_go : End → Spacing → List T → List T
+  let_go First s cells = take s.skip cells
+  let_go Last s cells = drop s.width (drop (s.skip + (s.count - 1) * s.stride) cells)
+
+  -- ---- what an iterator holds
+
+  -- the rows that an iterator still gives, for reading: those of the cells that it still holds
+  unfoldable pub refs_left : RowsIter T → List (List T)
+  refs_left s = rows (layout s.cells.now s.width s.count s.stride)
+
+  -- the cells that an iterator still holds, for writing
+  abbrev pub cells_left : RowsIterMut T → List T
+  cells_left s = s.cells.now
+
+  -- the loan of these cells
+  abbrev pub name_of : RowsIterMut T → GName
+  name_of s = s.cells.ghost_name
+
+  -- how the rows lie in these cells
+  abbrev pub spacing_left : RowsIterMut T → Spacing
+  spacing_left s = s.spacing
+
+  -- the rows that it still gives
+  unfoldable pub muts_left : RowsIterMut T → List (List T)
+  muts_left s = rows (layout (drop s.spacing.skip (cells_left s)) s.spacing.width s.spacing.count s.spacing.stride)
+
+  -- ---- how a row is taken off
+
+  -- the cells of s, of which the row and those that are kept may have changed
+  abbrev pub put_back : End → RowsIterMut T → List T → List T → List T
+  put_back end s row kept = beside end (beside end (let_go end (spacing_left s) (cells_left s)) row) kept
+
+  -- the row at that end is given, and the others are left
+  abbrev pub Yields : End → RowsIterMut T → Option (MutBor (List T)) → RowsIterMut T → Type 0
+  Yields First s row t = YieldsFirstMut muts_left s row t
+  Yields Last s row t = YieldsLastMut muts_left s row t
+
+  -- the cells are those let go, the row's, and those kept; where there is no row nothing changes
+  abbrev pub Moves : End → RowsIterMut T → Option (MutBor (List T)) → RowsIterMut T → Type 0
+  Moves end s None t = t ≡ s
+  Moves end s (Some row) t = (cells_left s ≡ put_back end s row.now (cells_left t)) × (spacing_left t ≡ without end (spacing_left s))
+
+-- the cells of s end as those let go, what the row ends as, and what the cells of t end as
+abbrev pub hands_on : (R : RattleType) → End → RowsIterMut R.Denot → Option (MutBor (List R.Denot)) → RowsIterMut R.Denot → Fml
+hands_on R end s None t = ftrue
+hands_on R end s (Some row) t = follows_both (Array R 0) (Array R 0) (Array R 0) (name_of s) row.ghost_name (name_of t) (put_back end s)

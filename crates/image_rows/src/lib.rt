@@ -1,0 +1,15 @@
+//! The rows of cells in a shape, for reading and for writing, from either end.
+//!
+//! [`RowsIter`] gives the rows as shared slices, [`RowsIterMut`] as slices for writing: each row once,
+//! and no padding. Both are made of cells and a [`Shape`](image_shape::Shape) that these fit.
+#![tactic(auto)]
+
+mod ends;
+mod parts;
+mod reading;
+mod spacing;
+mod writing;
+
+pub use ends::End;
+pub use reading::RowsIter;
+pub use writing::RowsIterMut;

@@ -1,0 +1,137 @@
+//! Rows for writing.
+
+ghost use Rattle.std.specs.Prelude.{◌≡◌, ◌+◌, ◌-◌, ◌*◌, ◌^◌, ◌<◌, ◌≤◌, length, All};
+ghost use Rattle.image_model.specs.Grid.{grid_of};
+ghost use Rattle.image_model.specs.Layout.{Fits};
+ghost use Rattle.image_model.specs.Rows.{rows as rows_of, row_count, grid_rows};
+ghost use Rattle.image_shape.specs.Shape.{shape_width, shape_height, shape_stride, shaped};
+
+use crate::ends::End;
+use crate::parts::part;
+use crate::spacing::Spacing;
+use image_shape::Shape;
+use std::iter::{ExactSizeIterator, FusedIterator};
+
+/// The rows of an image for writing, from either end: each a slice of `width` cells, without the
+/// padding. An image of width 0 has none. Dropped at any point, it leaves the cells of the rows
+/// that it gave as those leave them, and all others as they were.
+#[derive(Drop)]
+pub struct RowsIterMut<'a, T> {
+    cells: &'a mut [T],
+    spacing: Spacing,
+    ghost some: { 0 < spacing.count → 0 < spacing.width },
+    ghost wide: { spacing.width ≤ spacing.stride },
+    ghost fits: { spacing.skip + spacing.count * spacing.stride + spacing.width ≤ length cells.now + spacing.stride },
+}
+
+impl<'a, T> RowsIterMut<'a, T> {
+    ghost use Rattle.std.specs.Borrow.{sem};
+    ghost use Rattle.image_rows.specs.Rows.{muts_left, cells_left, name_of, spacing_left, whole_spacing, Yields, Moves, hands_on};
+
+    /// The rows of cells in a shape that they fit, for writing.
+    pub fn new(cells: &'a mut [T], shape: Shape) -> RowsIterMut<'a, T>
+        requires fits { Fits (shaped cells.old shape) }
+        ensures name { name_of result ≡ cells.entry.ghost_name }
+        ensures cells { cells_left result ≡ cells.old }
+        ensures spacing { spacing_left result ≡ whole_spacing (shape_width shape) (shape_height shape) (shape_stride shape) }
+        ensures rows { muts_left result ≡ rows_of (shaped cells.old shape) }
+        ensures grid { muts_left result ≡ grid_rows (grid_of (shaped cells.old shape)) }
+        ensures count { length (muts_left result) ≡ row_count (shape_width shape) (shape_height shape) }
+        ensures countable { length (muts_left result) < 2 ^ 64 }
+        ensures wide { All (λ row. length row ≡ shape_width shape) (muts_left result) }
+    {
+        RowsIterMut {
+            cells,
+            spacing: Spacing::whole(shape),
+        }
+    }
+
+    /// The row at that end, if there is one, and the rows that are left.
+    ///
+    /// This is the step that says what the cells end as. A `for` and the adapters go by `next` and
+    /// `next_back`, which take the same rows.
+    pub fn split_end(self, end: End) -> (Option<&'a mut [T]>, RowsIterMut<'a, T>)
+        ensures* hands_on { sem 𝓛 (hands_on T.row end self.entry result.0 result.1) }
+        ensures steps { Yields end self.entry result.0 result.1 }
+        ensures moves { Moves end self.entry result.0 result.1 }
+    {
+        if self.spacing.count == 0 {
+            return (None, self);
+        }
+        let cuts = self.spacing.cuts(end);
+        let (piece, kept) = part(self.cells, end, cuts.outer);
+        let (_, row) = part(piece, end, cuts.inner);
+        let left = RowsIterMut {
+            cells: kept,
+            spacing: cuts.rest,
+        };
+        (Some(row), left)
+    }
+
+    // The rows that are left, which leaves none.
+    fn take(&mut self) -> RowsIterMut<'a, T>
+        ensures { result ≡ self.old }
+    {
+        let none = RowsIterMut {
+            cells: &mut [],
+            spacing: Spacing {
+                skip: 0,
+                count: 0,
+                width: 0,
+                stride: 0,
+            },
+        };
+        std::mem::replace(self, none)
+    }
+}
+
+impl<'a, T> Iterator for RowsIterMut<'a, T> {
+    type Item = &'a mut [T];
+
+    ghost use Rattle.std.specs.Prelude.{◌≡◌, length, Some, IfSome};
+    ghost use Rattle.std.specs.Iterator.{YieldsFirstMut, item_count, UpTo};
+    ghost use Rattle.std.specs.Iterator.SizeHint.{IsWithinCount};
+    ghost use Rattle.image_rows.specs.Rows.{muts_left};
+
+    ghost next_gives = { YieldsFirstMut muts_left };
+
+    ghost remaining = { item_count muts_left };
+
+    fn next(&mut self) -> Option<&'a mut [T]> {
+        let (row, left) = self.take().split_end(End::First);
+        *self = left;
+        row
+    }
+
+    #[tactic(auto, unfolding(crate::specs::Rows::muts_left))]
+    fn size_hint(&self) -> (usize, Option<usize>)
+        ensures lower { IsWithinCount result.0 (item_count muts_left self.now) }
+        ensures upper { IfSome result.1 (UpTo (item_count muts_left self.now)) }
+        ensures exact { (result.0 ≡ length (muts_left self.now)) × (result.1 ≡ Some (length (muts_left self.now))) }
+    {
+        let left = self.spacing.count;
+        (left, Some(left))
+    }
+}
+
+impl<'a, T> DoubleEndedIterator for RowsIterMut<'a, T> {
+    ghost use Rattle.std.specs.Iterator.{YieldsLastMut};
+    ghost use Rattle.image_rows.specs.Rows.{muts_left};
+
+    ghost next_back_gives = { YieldsLastMut muts_left };
+
+    fn next_back(&mut self) -> Option<&'a mut [T]> {
+        let (row, left) = self.take().split_end(End::Last);
+        *self = left;
+        row
+    }
+}
+
+impl<T> ExactSizeIterator for RowsIterMut<'_, T> {
+    fn len(&self) -> usize {
+        let (left, _) = self.size_hint();
+        left
+    }
+}
+
+impl<T> FusedIterator for RowsIterMut<'_, T> {}

@@ -1,0 +1,20 @@
+-- What a contract sees of a shape: its numbers, and the layout that cells make in it.
+use Rattle.std.specs.Prelude.{ℕ, List}
+use Rattle.image_model.specs.Layout.{Layout, layout}
+use Rattle.image_shape.specs.declared.shape.Shape.{Shape}
+
+-- the number of columns
+abbrev pub shape_width : Shape → ℕ
+shape_width s = s.width
+
+-- the number of rows
+abbrev pub shape_height : Shape → ℕ
+shape_height s = s.height
+
+-- how many cells a row begins after the one before it
+abbrev pub shape_stride : Shape → ℕ
+shape_stride s = s.stride
+
+-- these cells in this shape
+abbrev pub shaped : {T : Type 0} → List T → Shape → Layout T
+shaped cells s = layout cells s.width s.height s.stride

@@ -1,0 +1,12 @@
+//! Sizes with a stride, and windows, by their numbers alone: the arithmetic of every image.
+//!
+//! A [`Shape`] is the width, the height and the stride of an image. It tells whether so many cells
+//! fit it, whether a [`Window`] lies inside it, and which [`Stretch`] of the cells a window has. No
+//! sum and no product wraps, for numbers up to the end of `usize`.
+#![tactic(auto)]
+
+mod shape;
+mod window;
+
+pub use shape::Shape;
+pub use window::{Stretch, Window};

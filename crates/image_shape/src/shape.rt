@@ -1,0 +1,125 @@
+//! A width, a height and a stride.
+
+ghost use Rattle.std.specs.Prelude.{◌≡◌, ◌^◌, ◌≤◌, ◌<◌, ◌↔◌, IsTrue};
+ghost use Rattle.image_model.specs.Layout.{Reaches};
+ghost use Rattle.image_model.specs.Windows.{IsInside, IsWithin, window_stretch};
+ghost use Rattle.image_shape.specs.Window.{as_window, as_stretch};
+
+use crate::window::{Stretch, Window};
+
+/// The width and the height of an image in pixels, and its stride: the number of cells from the
+/// start of a row to the start of the next one.
+///
+/// The stride is at least 1 and at least the width, and the width and the height are at most
+/// `u32::MAX`.
+#[derive(Clone, Copy, PartialEq, Eq)]
+pub struct Shape {
+    width: u32,
+    height: u32,
+    stride: usize,
+    ghost stride_positive: { 1 ≤ stride },
+    ghost width_within: { width ≤ stride },
+}
+
+impl Shape {
+    // These name the type itself, whose ghost fields are declared above.
+    ghost use Rattle.image_shape.specs.Shape.{shape_width, shape_height, shape_stride};
+
+    /// The shape of `width` by `height` pixels whose rows begin `stride` cells apart.
+    pub fn new(width: usize, height: usize, stride: usize) -> Shape
+        requires stride_positive { 1 ≤ stride }
+        requires width_within { width ≤ stride }
+        requires width_fits { width < 2 ^ 32 }
+        requires height_fits { height < 2 ^ 32 }
+        ensures width { shape_width result ≡ width }
+        ensures height { shape_height result ≡ height }
+        ensures stride { shape_stride result ≡ stride }
+    {
+        Shape {
+            width: width as u32,
+            height: height as u32,
+            stride,
+        }
+    }
+
+    /// The number of pixels in a row.
+    pub fn width(&self) -> usize
+        ensures value { result ≡ shape_width self.now }
+        ensures within { shape_width self.now ≤ shape_stride self.now }
+        ensures fits { shape_width self.now < 2 ^ 32 }
+    {
+        self.width as usize
+    }
+
+    /// The number of rows.
+    pub fn height(&self) -> usize
+        ensures value { result ≡ shape_height self.now }
+        ensures fits { shape_height self.now < 2 ^ 32 }
+    {
+        self.height as usize
+    }
+
+    /// The number of cells from the start of a row to the start of the next one.
+    pub fn stride(&self) -> usize
+        ensures value { result ≡ shape_stride self.now }
+        ensures positive { 1 ≤ shape_stride self.now }
+        ensures holds_width { shape_width self.now ≤ shape_stride self.now }
+        ensures fits { shape_stride self.now < 2 ^ 64 }
+    {
+        self.stride
+    }
+
+    /// Whether so many cells reach to the last pixel, or there is no pixel at all.
+    pub fn fits(&self, cells: usize) -> bool
+        ensures { IsTrue result
+            ↔ Reaches cells (shape_width self.now) (shape_height self.now) (shape_stride self.now) }
+    {
+        if self.width == 0 || self.height == 0 {
+            return true;
+        }
+        match self.stride.checked_mul(self.height as usize - 1) {
+            Some(last_row) => last_row <= cells && self.width as usize <= cells - last_row,
+            None => false,
+        }
+    }
+
+    /// Whether the window lies inside. Empty windows at the right and the lower edge do.
+    #[tactic(auto, using(image_model::proofs::Windows::is_inside_decides))]
+    pub fn has_window(&self, window: Window) -> bool
+        ensures { IsTrue result
+            ↔ IsInside (shape_width self.now) (shape_height self.now) (as_window window) }
+    {
+        window.is_inside(self.width as usize, self.height as usize)
+    }
+
+    /// The shape of a window that lies inside: its size at this stride.
+    pub fn window(&self, window: Window) -> Shape
+        requires inside { IsInside (shape_width self.now) (shape_height self.now) (as_window window) }
+        ensures width { shape_width result ≡ window.width }
+        ensures height { shape_height result ≡ window.height }
+        ensures stride { shape_stride result ≡ shape_stride self.now }
+    {
+        let _width = self.width;
+        let _height = self.height;
+        Shape {
+            width: window.width as u32,
+            height: window.height as u32,
+            stride: self.stride,
+        }
+    }
+
+    /// The stretch of a window that lies inside, of `cells` cells that fit: whole strides where
+    /// that is asked for and the cells have them, and else up to its last pixel. That of an empty
+    /// window is empty.
+    pub fn stretch(&self, roomy: bool, cells: usize, window: Window) -> Stretch
+        requires fits { Reaches cells (shape_width self.now) (shape_height self.now) (shape_stride self.now) }
+        requires inside { IsInside (shape_width self.now) (shape_height self.now) (as_window window) }
+        ensures value { as_stretch result ≡ window_stretch roomy cells (shape_stride self.now) (as_window window) }
+        ensures inside { IsWithin cells (as_stretch result) }
+        ensures holds_width { shape_width self.now ≤ shape_stride self.now }
+    {
+        let _width = self.width;
+        let _height = self.height;
+        window.stretch(roomy, cells, self.stride)
+    }
+}

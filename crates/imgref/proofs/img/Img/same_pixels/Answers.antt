@@ -1,0 +1,14 @@
+-- The test tells whether the layouts are alike.
+use Rattle.std.proofs.Common.{subst, sym, ap, ◌∙◌}
+use Rattle.std.specs.Bool.{Decides}
+use Rattle.image_model.specs.Alike.{Alike, is_alike}
+use Rattle.image_model.proofs.Alike.{is_alike_decides}
+use Rattle.imgref.specs.Image.{layout_by, ref_layout}
+use Rattle.imgref.proofs.img.Img.same_pixels.Goals as goal
+
+pub returns-clause-places : goal.returns-clause-places
+returns-clause-places g c =
+    let eq = g.C.Item.PartialEq.eq in
+    let k = layout_by g.C.AsSlice.cells c.args.self.now in
+    let l = ref_layout c.args.other in
+    subst (λ b. Decides b (Alike eq k l)) (sym (c.are_equal.ensures ∙ ap (λ m. is_alike eq m l) c.seen.ensures)) (is_alike_decides eq k l)

@@ -1,0 +1,122 @@
+-- `from_stretch` lends a stretch of the cells on, and the cells follow it: a walk of its MIR by hand.
+use mathlib.Core.Path.{◌≡◌, refl, sym, ap, subst, ◌∙◌}
+use Prim.Native.Nat.{ℕ, ◌+◌, ◌-◌, ◌*◌, ◌^◌, ◌<◌, ◌≤◌}
+use native.Mathlib.Nat.{mul-le-mul_right}
+use native.Mathlib.Omega.{arith}
+use mathlib.Core.List.{List, [], ◌∷◌, ◌++◌}
+use lib.ListN.{length, take, drop as drop_list, length-drop}
+use base.Logic.{SProp, emp}
+use base.Fml.{Lft, GName, Share, ftrue, flft}
+use mir.Syntax.{Args, Fn, named, w64, a_type}
+use mir.MapTy.{inst_fn}
+use mir.Val.{Val, vint}
+use prog.Memory.{size}
+use prog.Wp.{WpFn}
+use contract.BorrowLft.{◌⊑◌}
+use contract.Monad.{fact, fact_i}
+use contract.Running.{tables}
+use types.Kit.{Item, ‵, ◌⊛◌, raw, later, some, prop, ◌$◌, ◌∵◌, !, qed, by, move, keep, split, split3, join, fsplit, fjoin, rewrite, regoal, use0, use1, use2, await, pick, updating, now, done}
+use types.Part.{whole, sub, agg}
+use types.Run.{stop, fld, addr, bin, size_word, and_then, no_more, returns, enter}
+use types.ByLocal.{alloc_all, pass_all, free_all, look_at, get, get_in, through, is, sets}
+use denote.Param.{param, layout, layouts}
+use denote.RattleType.{RattleType, owns}
+use denote.Ref.{MutBor}
+use denote.Slice.{MutSlice, Room, slice_val}
+use denote.Signature.{types_at}
+use denote.Steps.{nothing, heard}
+use denote.Triple.Walked.{Stays, stay_dropped, walk_of}
+use borrow.Table.Elements.{at, at_mul, length-take-le}
+use Rattle.std.proofs.raw_atomic.Walks.{proved_at, leaves}
+use Rattle.lending.proofs.Stretches.{uncapped, cut_at, part_lent, lends_part}
+use Rattle.image_shape.specs.declared.window.Stretch.{Stretch}
+use Rattle.image_shape.specs.declared.shape.Shape.{Shape}
+use Rattle.imgref.specs.Image.{mut_layout}
+use Rattle.imgref.specs.declared.img.Img.{Img}
+use Rattle.imgref.proofs.Values.{stretch_val, stretch_told, shape_val, shape_told, img_val, img_row, img_made}
+use Rattle.imgref.specs.contracts.window.Img+mut+slice+T.from_stretch.{ended, clauses}
+use Rattle.imgref.specs.contracts.window.Img+mut+slice+T.from_stretch.Key.{name as #self}
+use Rattle.imgref.proofs.window.Img+mut+slice+T.from_stretch.Statement.{statement}
+use Rattle.imgref.proofs.window.Img+mut+slice+T.from_stretch.Code as compiled
+
+pub from_stretch_spec : {M : Type 1} → statement M
+from_stretch_spec 𝓤 𝓛 𝓜 𝓡 wired T L =
+    let H = 𝓛.H in
+    let En = ended T in
+    let c = clauses T 𝓛 𝓜.mem 𝓡.returns in
+    let args : Args = layouts (a_type ∷ []) (T, tt) in
+    let fn : Fn = inst_fn args compiled.function in
+    let R : RattleType = param 0 T in
+    let ps = En.signature.params in
+    let stays : Stays En.signature.params En.kept = (stay_dropped _ En.kept.0, (stay_dropped _ En.kept.1.0, (stay_dropped _ En.kept.1.1.0, tt))) in
+    let C = (tables 𝓤 H 𝓜 𝓡 𝓡.env).C in
+    let Λ = (tables 𝓤 H 𝓜 𝓡 𝓡.env).Λ in
+    proved_at 𝓛 En stays c 𝓜 𝓡 ((λ κs x f vs ok. qed 𝓛 (‵ ftrue ∷ []) ∵ updating ! $ now ! $ done !), ((λ κs x f vs ok. qed 𝓛 (‵ ftrue ∷ []) ∵ updating ! $ now ! $ done !), ((λ κs x f vs ok. qed 𝓛 (‵ ftrue ∷ []) ∵ updating ! $ now ! $ done !), tt)))
+    (#self args) fn (compiled.unfolded 𝓤 H 𝓜 𝓡 wired (T, tt)) (λ z are.
+    let Post : Val → SProp 𝓤 = (walk_of 𝓛 En stays c).post z in
+    let a = z.0.3 in
+    let vss = z.0.4 in
+    let κ : Lft = z.0.0.0 in
+    let q : Share = z.0.1.0 in
+    let κT : Lft = z.0.0.1.0 in
+    let qT : Share = z.0.1.1.0 in
+    let cells : MutBor (List T.Denot) = a.0 in
+    let stretch : Stretch = a.1.0 in
+    let shape : Shape = a.1.1.0 in
+    let xs : List T.Denot = cells.now in
+    let b : ℕ = cells.ref_ptr.0 in
+    let o : ℕ = cells.ref_ptr.1 in
+    let γ : GName = cells.ghost_name in
+    let told = are.0.0.0 in
+    let rm : Room R (length xs) = are.0.0.1 in
+    let told₁ = stretch_told stretch vss.1.0 are.1.0 in
+    let told₂ = shape_told shape vss.1.1.0 are.1.1.0 in
+    let i : ℕ = stretch.start in
+    let n : ℕ = stretch.len in
+    let In : Type 0 = i + n ≤ length xs in
+    let s : ℕ = size (layout T) in
+    let j : ℕ = i + n in
+    let m : ℕ = j - i in
+    let p : ℕ = i * s + o in
+    let front : List T.Denot = take i xs in
+    let mid : List T.Denot = take n (drop_list i xs) in
+    let back : List T.Denot = drop_list j xs in
+    let cut : xs ≡ front ++ (mid ++ back) = cut_at i n j xs refl in
+    let left : length (drop_list i xs) ≡ length xs - i = length-drop i xs in
+    qed 𝓛 (((‵ (flft κ q) ⊛ ‵ (flft κT qT) ⊛ ‵ ftrue) ⊛ ‵ (owns (types_at ps z.0.0) a vss)) ∷ (raw (fact 𝓤 (κT ⊑ T.lives)) ⊛ raw (fact 𝓤 In)) ∷ []) ∵
+    move ! (1 ∷ []) $ split ! $ heard ! (κT ⊑ T.lives) (λ le. heard ! In (λ inside. split ! $ move ! (1 ∷ []) $ fsplit ! $ keep ! (0 ∷ 2 ∷ []) $
+    -- [the slice; the tokens]
+    let fit : length xs * s < 2 ^ 63 = rm.1 in
+    let within : i * s ≤ length xs * s = mul-le-mul_right s (omega arith) in
+    let fp : i * s < 2 ^ 64 = omega arith in
+    let fj : j < 2 ^ 64 = omega (arith, rm.0) in
+    let same : m ≡ n = omega arith in
+    let lf : length front ≡ i = length-take-le i xs (omega arith) in
+    let on : at o s (length front) ≡ p = at_mul o s (length front) ∙ ap (λ (k : ℕ). k * s + o) lf in
+    let long : length mid ≡ n = length-take-le n (drop_list i xs) (omega arith) in
+    let bytes : length mid * s ≤ length xs * s = mul-le-mul_right s (omega arith) in
+    let room : Room R (length mid) = (omega arith, omega arith) in
+    let Lent : GName → Item 𝓤 = part_lent 𝓛 (named 0) κ q b o γ R xs front mid back cut p on room in
+    regoal ! (λ (vs : List Val). prop (WpFn 𝓤 H C Λ fn vs Post)) (λ k. told k ++ (told₁.0 k ++ (told₂.0 k ++ []))) refl $
+    enter ! C Λ fn (slice_val cells.ref_ptr (length xs) ∷ stretch_val stretch ∷ shape_val shape ∷ []) Post $
+    alloc_all ! (λ l. pass_all ! refl ((tt, (tt, (record { fits = rm.0 }, tt))), ((tt, (record { fits = told₁.1 }, (record { fits = told₁.2 }, tt))), ((tt, (record { fits = told₂.1 }, (record { fits = told₂.2 }, (record { fits = told₂.3 }, tt)))), tt))) $
+    sets ! (bin ! (get_in ! (fld ! refl (stop !)) (sub ! 0 refl (whole !))) (get_in ! (fld ! refl (stop !)) (sub ! 1 refl (whole !))) (record { fits = fj })) refl (tt, record { fits = fj }) $
+    sets ! (is ! (bin ! (get_in ! (fld ! refl (stop !)) (sub ! 0 refl (whole !))) (size_word !) (record { fits = subst (λ (k : ℕ). k < 2 ^ 64) (sym (uncapped i s fp)) fp })) (ap (vint w64) (uncapped i s fp))) refl (tt, record { fits = fp }) $
+    sets ! (bin ! (get_in ! (fld ! refl (stop !)) (sub ! 0 refl (whole !))) (get ! refl) tt) refl (tt, tt) $
+    sets ! (is ! (bin ! (get ! refl) (get_in ! (fld ! refl (stop !)) (sub ! 0 refl (whole !))) (omega arith)) (ap (vint w64) same)) refl (tt, record { fits = told₁.2 }) $
+    sets ! (addr ! (through ! refl (stop !))) refl (tt, tt) $
+    sets ! (agg ! (and_then ! (get ! refl) (and_then ! (get ! refl) (no_more !)))) refl (tt, (tt, (record { fits = told₁.2 }, tt))) $
+    sets ! (agg ! (and_then ! (get ! refl) (and_then ! (get ! refl) (no_more !)))) refl (tt, ((tt, (record { fits = told₁.2 }, tt)), ((record { fits = told₂.1 }, (record { fits = told₂.2 }, (record { fits = told₂.3 }, tt))), tt))) $
+    -- [the slice; the tokens]
+    move ! (1 ∷ []) $ split3 ! $ move ! (3 ∷ 0 ∷ []) $ use2 𝓛 (later (some Lent)) (lends_part 𝓛 (named 0) κ q b o γ R xs front mid back cut p on room (vss.0)) $ await ! tt $ pick ! (λ δ.
+    returns ! (look_at ! 0 refl) $ free_all ! refl $ split3 ! $
+    -- [the stretch; the token of κ; what follows; the token of κT; nothing]
+    let out : Img (MutBor (List T.Denot)) = record { buf = record { ref_ptr = (b, p); ghost_name = δ; now = mid }; shape = shape } in
+    let w : Val = img_val (b, p) n shape in
+    rewrite ! 0 (λ (k : ℕ). ‵ ((MutSlice (named 0) κ R).own_val out.buf (slice_val (b, p) k ∷ []))) long refl $
+    use1 𝓛 (‵ ((img_row (named 0) κ R).own_val out (w ∷ []))) (img_made (named 0) κ R 𝓛 out (b, p) n told₂.1 told₂.2 told₂.3) $
+    move ! (3 ∷ 4 ∷ []) $ join ! $ move ! (2 ∷ 0 ∷ []) $ join ! $
+    nothing ! $ nothing ! $ fjoin ! $ nothing ! $ fjoin ! $ nothing ! $ fjoin ! $
+    use0 𝓛 (raw (fact 𝓤 (mut_layout out ≡ mut_layout out))) (fact_i 𝓤 (mut_layout out ≡ mut_layout out) (emp 𝓤) refl) $
+    move ! (4 ∷ 0 ∷ []) $ join ! $ move ! (2 ∷ 1 ∷ 3 ∷ 0 ∷ []) $
+    by ! (leaves 𝓛 En stays c z w out (tt, (tt, (tt, tt))) (tt, (tt, (tt, tt)))))))))

@@ -1,0 +1,35 @@
+-- Copies of images: clones that equal their originals, and images whose cells are lent or owned.
+use Rattle.std.specs.Prelude.{◌≡◌, List, Vec, ⊤}
+use Rattle.std.specs.List.{All}
+use Rattle.std.specs.Borrow.{Bor}
+use Rattle.std.specs.Cow.{cow_slice_items, IsBorrowedSlice, IsOwnedSlice}
+use Rattle.std.specs.declared.borrow.CowSlice.{CowSlice}
+use Rattle.std.specs.declared.borrow.CowSlice.TheVariants as slice
+use Rattle.image_model.specs.Layout.{Layout}
+use Rattle.imgref.specs.declared.img.Img.{Img}
+use Rattle.imgref.specs.Image.{buf_of, shape_of, layout_by}
+
+-- each clone of a cell equals that cell
+abbrev pub ClonesEqual : {T : Type 0} → (T → T → Type 0) → List T → Type 0
+ClonesEqual {T} is_clone cells = All (λ x. (y : T) → is_clone x y → y ≡ x) cells
+
+-- the layout of an image whose cells are lent or owned
+abbrev pub cow_layout : {T Z : Type 0} → Img (CowSlice T Z) → Layout T
+cow_layout i = layout_by cow_slice_items i
+
+-- the buffer of owned cells is this one
+abbrev pub IsBufferOf : {T Z : Type 0} → CowSlice T Z → Vec T Z → Type 0
+IsBufferOf (slice.Borrowed r) v = ⊤
+IsBufferOf (slice.Owned w) v = v ≡ w
+
+-- an image of owned cells with the buffer and the shape of one that owns its pixels
+pub record IsOwnedAs {T Z : Type 0} (i : Img (Vec T Z)) (c : Img (CowSlice T Z)) : Type 0 where
+  pub owned : IsOwnedSlice (buf_of c)
+  pub same_buffer : IsBufferOf (buf_of c) (buf_of i)
+  pub same_shape : shape_of c ≡ shape_of i
+
+-- an image of lent cells with the cells and the shape of one of lent pixels
+pub record IsLentAs {T Z : Type 0} (i : Img (Bor (List T))) (c : Img (CowSlice T Z)) : Type 0 where
+  pub lent : IsBorrowedSlice (buf_of c)
+  pub same_cells : cow_slice_items (buf_of c) ≡ (buf_of i).now
+  pub same_shape : shape_of c ≡ shape_of i

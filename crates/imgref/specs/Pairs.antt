@@ -1,0 +1,53 @@
+-- Calls of a closure at the elements of two lists, and at the pixels of two images.
+use Rattle.std.specs.Prelude.{◌≡◌, ℕ, ◌<◌, Bool, true, false, List, length, slice_get, Some}
+use Rattle.std.specs.Borrow.{Bor}
+use Rattle.image_model.specs.Layout.{Layout, pixel}
+
+module _ {T U : Type 0} where
+  -- ---- two lists
+
+  -- a call at the elements of number k may answer r
+  pub record PairAnswers (post : Bor T → Bor U → Bool → Type 0) (xs : List T) (ys : List U) (k : ℕ) (r : Bool) : Type 0 where
+    pub first : Bor T
+    pub second : Bor U
+    pub first_is : slice_get xs k ≡ Some first.now
+    pub second_is : slice_get ys k ≡ Some second.now
+    pub answered : post first second r
+
+  -- the closure may be called at the elements of each number
+  abbrev pub TakesPairs : (Bor T → Bor U → Type 0) → List T → List U → Type 0
+  TakesPairs pre xs ys = (k : ℕ) (p : Bor T) (q : Bor U) → k < length xs → slice_get xs k ≡ Some p.now → slice_get ys k ≡ Some q.now → pre p q
+
+  -- a call at each may answer true
+  abbrev pub AllPairsAnswer : (Bor T → Bor U → Bool → Type 0) → List T → List U → Type 0
+  AllPairsAnswer post xs ys = (k : ℕ) → k < length xs → PairAnswers post xs ys k true
+
+  -- a call at one of them may answer false
+  abbrev pub SomePairDiffers : (Bor T → Bor U → Bool → Type 0) → List T → List U → Type 0
+  SomePairDiffers post xs ys = (k : ℕ) × ((k < length xs) × PairAnswers post xs ys k false)
+
+  -- ---- two images
+
+  -- a call at the pixels in column x of row y may answer r
+  pub record PlaceAnswers (post : Bor T → Bor U → Bool → Type 0) (k : Layout T) (l : Layout U) (x y : ℕ) (r : Bool) : Type 0 where
+    pub first : Bor T
+    pub second : Bor U
+    pub first_is : pixel k x y ≡ Some first.now
+    pub second_is : pixel l x y ≡ Some second.now
+    pub answered : post first second r
+
+  -- the closure may be called at the pixels of each place
+  abbrev pub TakesPlaces : (Bor T → Bor U → Type 0) → Layout T → Layout U → Type 0
+  TakesPlaces pre k l = (x y : ℕ) (p : Bor T) (q : Bor U) → x < k.width → y < k.height → pixel k x y ≡ Some p.now → pixel l x y ≡ Some q.now → pre p q
+
+  -- images have one size
+  abbrev pub HaveOneSize : Layout T → Layout U → Type 0
+  HaveOneSize k l = (k.width ≡ l.width) × (k.height ≡ l.height)
+
+  -- images have one size, and a call at each place may answer true
+  abbrev pub AllPlacesAnswer : (Bor T → Bor U → Bool → Type 0) → Layout T → Layout U → Type 0
+  AllPlacesAnswer post k l = HaveOneSize k l × ((x y : ℕ) → x < k.width → y < k.height → PlaceAnswers post k l x y true)
+
+  -- where they have one size, a call at some place may answer false
+  abbrev pub SomePlaceDiffers : (Bor T → Bor U → Bool → Type 0) → Layout T → Layout U → Type 0
+  SomePlaceDiffers post k l = HaveOneSize k l → (x : ℕ) × ((y : ℕ) × ((x < k.width) × ((y < k.height) × PlaceAnswers post k l x y false)))

@@ -1,0 +1,50 @@
+//! Copies of images, padding included.
+
+ghost use Rattle.std.specs.Prelude.{◌≡◌, IfOk};
+ghost use Rattle.imgref.specs.Image.{buf_of, layout_by, vec_layout};
+ghost use Rattle.imgref.specs.Copies.{ClonesEqual};
+
+use crate::containers::AsSlice;
+use crate::img::{Img, ImgVec};
+use std::alloc::{AllocError, Global};
+use std::vec::VecCloneMethods;
+
+// The cells in a buffer of their own, whose room is taken once.
+pub(crate) fn cloned<T: Clone>(alloc: Global, cells: &[T]) -> Result<Vec<T>, AllocError>
+    requires clones_equal { ClonesEqual T.is_clone cells.now }
+    ensures { IfOk result (λ v. v.items ≡ cells.now) }
+{
+    let mut buf: Vec<T> = Vec::with_capacity(alloc, cells.len())?;
+    buf.extend_from_slice(cells)?;
+    Ok(buf)
+}
+
+impl<C: AsSlice> Img<C> {
+    /// A copy of the whole image in a buffer of its own: the same size, the same stride and every
+    /// cell, padding included. It need not fit.
+    ///
+    /// `AllocError` is want of memory, or a cell's own `clone` that refused; what was cloned before
+    /// is dropped then.
+    pub fn to_owned(&self, alloc: Global) -> Result<ImgVec<C::Item>, AllocError>
+    where
+        C::Item: Clone,
+        requires clones_equal { ClonesEqual C.Item.is_clone (C.cells (buf_of self.now)) }
+        ensures { IfOk result (λ i. vec_layout i ≡ layout_by C.cells self.now) }
+    {
+        let buf = cloned(alloc, self.buf.as_slice())?;
+        Ok(Img {
+            buf,
+            shape: self.shape,
+        })
+    }
+}
+
+impl<T: Clone> ImgVec<T> {
+    /// A copy of the whole image, as `to_owned` gives it.
+    pub fn clone(&self, alloc: Global) -> Result<ImgVec<T>, AllocError>
+        requires clones_equal { ClonesEqual T.is_clone (buf_of self.now).items }
+        ensures { IfOk result (λ i. vec_layout i ≡ vec_layout self.now) }
+    {
+        self.to_owned(alloc)
+    }
+}

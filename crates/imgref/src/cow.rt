@@ -1,0 +1,97 @@
+//! Images whose cells are lent or owned.
+
+ghost use Rattle.std.specs.Prelude.{◌≡◌, IsOk, IfOk, IfErr};
+ghost use Rattle.std.specs.Cow.{IsBorrowedSlice, IsOwnedSlice};
+ghost use Rattle.image_model.specs.Layout.{Fits};
+ghost use Rattle.image_model.specs.Rows.{joined_rows};
+ghost use Rattle.image_model.specs.Kept.{packed};
+ghost use Rattle.imgref.specs.Image.{buf_of, vec_layout};
+ghost use Rattle.imgref.specs.Copies.{ClonesEqual, cow_layout, IsBufferOf, IsOwnedAs, IsLentAs};
+
+use crate::contiguous::joined_clones;
+use crate::copies::cloned;
+use crate::img::{Img, ImgRef, ImgVec};
+use image_shape::Shape;
+use std::alloc::Global;
+use std::borrow::CowSlice;
+
+impl<'a, T: Clone> Img<CowSlice<'a, T>> {
+    /// The image with a buffer of its own. Owned cells are handed on as they are, with size and
+    /// stride, and no memory is taken. Lent ones are cloned row by row, without padding: the stride
+    /// is then the width, or 1 at width 0, and the image must fit, as `is_valid` tells.
+    ///
+    /// The error is the image as it was, for want of memory or a pixel's own `clone` that refused.
+    pub fn into_owned(self, alloc: Global) -> Result<ImgVec<T>, Self>
+        requires fits { IsBorrowedSlice (buf_of self) → Fits (cow_layout self) }
+        requires clones_equal { IsBorrowedSlice (buf_of self) → ClonesEqual T.is_clone (joined_rows (cow_layout self)) }
+        ensures owned { IsOwnedSlice (buf_of self.entry) → IfOk result (λ i. vec_layout i ≡ cow_layout self.entry) }
+        ensures own_buffer { IfOk result (λ i. IsBufferOf (buf_of self.entry) (buf_of i)) }
+        ensures borrowed { IsBorrowedSlice (buf_of self.entry) → IfOk result (λ i. vec_layout i ≡ packed (cow_layout self.entry)) }
+        ensures succeeds { IsOwnedSlice (buf_of self.entry) → IsOk result }
+        ensures handed_back { IfErr result (λ i. i ≡ self.entry) }
+    {
+        let Img { buf, shape } = self;
+        match buf {
+            CowSlice::Owned(buf) => Ok(Img { buf, shape }),
+            CowSlice::Borrowed(pixels) => match joined_clones(alloc, Img { buf: pixels, shape }) {
+                Ok(buf) => Ok(Img {
+                    buf,
+                    shape: Shape::new(shape.width(), shape.height(), shape.width().max(1)),
+                }),
+                Err(_) => Err(Img {
+                    buf: CowSlice::Borrowed(pixels),
+                    shape,
+                }),
+            },
+        }
+    }
+
+    /// The image with a buffer of its own, at the same size and stride, with every cell, padding
+    /// included. Owned cells are handed on as they are, and no memory is taken. It need not fit.
+    ///
+    /// The error is the image as it was, for want of memory or a cell's own `clone` that refused.
+    pub fn into_vec(self, alloc: Global) -> Result<ImgVec<T>, Self>
+        requires clones_equal { IsBorrowedSlice (buf_of self) → ClonesEqual T.is_clone (cow_layout self).cells }
+        ensures layout { IfOk result (λ i. vec_layout i ≡ cow_layout self.entry) }
+        ensures own_buffer { IfOk result (λ i. IsBufferOf (buf_of self.entry) (buf_of i)) }
+        ensures succeeds { IsOwnedSlice (buf_of self.entry) → IsOk result }
+        ensures handed_back { IfErr result (λ i. i ≡ self.entry) }
+    {
+        let Img { buf, shape } = self;
+        match buf {
+            CowSlice::Owned(buf) => Ok(Img { buf, shape }),
+            CowSlice::Borrowed(cells) => match cloned(alloc, cells) {
+                Ok(buf) => Ok(Img { buf, shape }),
+                Err(_) => Err(Img {
+                    buf: CowSlice::Borrowed(cells),
+                    shape,
+                }),
+            },
+        }
+    }
+}
+
+/// Owned cells: the image's own buffer, at its size and stride.
+impl<T: Clone> From<ImgVec<T>> for Img<CowSlice<'static, T>> {
+    ghost from_gives = { IsOwnedAs };
+
+    fn from(image: ImgVec<T>) -> Img<CowSlice<'static, T>> {
+        let (buf, shape) = image.into_parts();
+        Img {
+            buf: CowSlice::Owned(buf),
+            shape,
+        }
+    }
+}
+
+/// Lent cells: those of the image, at its size and stride.
+impl<'a, T: Clone> From<ImgRef<'a, T>> for Img<CowSlice<'a, T>> {
+    ghost from_gives = { IsLentAs };
+
+    fn from(image: ImgRef<'a, T>) -> Img<CowSlice<'a, T>> {
+        Img {
+            buf: CowSlice::Borrowed(image.buf),
+            shape: image.shape,
+        }
+    }
+}

@@ -1,0 +1,84 @@
+//! Pixels by their places: what stands at one, and one value at a place, in a row or in a window.
+
+ghost use Rattle.std.specs.Prelude.{◌≡◌, ◌<◌};
+ghost use Rattle.image_model.specs.Layout.{Fits, SameOutside};
+ghost use Rattle.image_model.specs.Grid.{grid_of, patch, uniform};
+ghost use Rattle.image_model.specs.Windows.{IsInside, window};
+ghost use Rattle.imgref.specs.Image.{width_of, height_of, layout_by};
+
+use crate::containers::{AsMutSlice, AsSlice};
+use crate::img::Img;
+use image_pixels::fill_pixels;
+
+impl<C: AsSlice> Img<C> {
+    /// The pixel at column `x` of row `y`, or `None` where that is no place of the image. The image
+    /// must fit, as `is_valid` tells.
+    #[tactic(auto, unfolding(image_model::specs::Grid::grid_of))]
+    pub fn get(&self, x: usize, y: usize) -> Option<C::Item>
+    where
+        C::Item: Copy,
+        requires fits { Fits (layout_by C.cells self.now) }
+        ensures { result ≡ (grid_of (layout_by C.cells self.now)).pixel x y }
+    {
+        if x < self.width() && y < self.height() {
+            Some(self[(x, y)])
+        } else {
+            None
+        }
+    }
+}
+
+impl<C: AsMutSlice> Img<C> {
+    /// The pixel at column `x` of row `y` becomes `value`; every other cell stays. The image must
+    /// fit, as `is_valid` tells, and the place be one of it.
+    pub fn put<'a>(&'a mut self, x: usize, y: usize, value: C::Item)
+    where
+        C::Item: Copy + 'a,
+        requires fits { Fits (layout_by C.AsSlice.cells self.old) }
+        requires column { x < width_of self.old }
+        requires line { y < height_of self.old }
+        ensures grid { grid_of (layout_by C.AsSlice.cells self.new) ≡ patch (grid_of (layout_by C.AsSlice.cells self.old)) x y (uniform 1 1 value) }
+        ensures outside { SameOutside (layout_by C.AsSlice.cells self.old) (layout_by C.AsSlice.cells self.new) }
+        ensures fits { Fits (layout_by C.AsSlice.cells self.new) }
+    {
+        self[(x, y)] = value;
+    }
+
+    /// Every pixel of the window of `width` by `height` pixels with its corner at column `left` of
+    /// row `top` becomes `value`; every other cell stays. The image fits and the window is inside
+    /// it (`is_valid`, `has_window`).
+    pub fn fill_window<'a>(
+        &'a mut self,
+        left: usize,
+        top: usize,
+        width: usize,
+        height: usize,
+        value: C::Item,
+    )
+    where
+        C::Item: Copy + 'a,
+        requires fits { Fits (layout_by C.AsSlice.cells self.old) }
+        requires inside { IsInside (width_of self.old) (height_of self.old) (window left top width height) }
+        ensures grid { grid_of (layout_by C.AsSlice.cells self.new) ≡ patch (grid_of (layout_by C.AsSlice.cells self.old)) left top (uniform width height value) }
+        ensures outside { SameOutside (layout_by C.AsSlice.cells self.old) (layout_by C.AsSlice.cells self.new) }
+        ensures fits { Fits (layout_by C.AsSlice.cells self.new) }
+    {
+        let (cells, shape) = self.window_parts_mut(left, top, width, height);
+        fill_pixels(cells, shape, value);
+    }
+
+    /// Every pixel of row `y` becomes `value`; every other cell stays. The image must fit, as
+    /// `is_valid` tells, and have that row.
+    pub fn fill_row<'a>(&'a mut self, y: usize, value: C::Item)
+    where
+        C::Item: Copy + 'a,
+        requires fits { Fits (layout_by C.AsSlice.cells self.old) }
+        requires below { y < height_of self.old }
+        ensures grid { grid_of (layout_by C.AsSlice.cells self.new) ≡ patch (grid_of (layout_by C.AsSlice.cells self.old)) 0 y (uniform (width_of self.old) 1 value) }
+        ensures outside { SameOutside (layout_by C.AsSlice.cells self.old) (layout_by C.AsSlice.cells self.new) }
+        ensures fits { Fits (layout_by C.AsSlice.cells self.new) }
+    {
+        let width = self.width();
+        self.fill_window(0, y, width, 1, value);
+    }
+}

@@ -1,0 +1,62 @@
+//! Calls that just meet their condition. One row, column or cell further, or without the test, each
+//! of these is refused when this crate is checked, as the edits of `must-fail/` show. So none of
+//! these has a clause on its answer: nothing but the condition of the call can refuse them.
+
+ghost use Rattle.std.specs.Prelude.{◌≡◌, ◌≤◌, length};
+
+use imgref::{Img, ImgRef};
+
+/// The first pixel of the lower row of two.
+pub fn start_of_last_row(cells: &[u8]) -> u8
+    requires { 4 ≤ length cells.now }
+{
+    let image = Img::new(cells, 2, 2);
+    image.row(1)[0]
+}
+
+/// Clears the first pixel of the lower row of two.
+pub fn clear_start_of_last_row(cells: &mut [u8])
+    requires { 4 ≤ length cells.old }
+{
+    let mut image = Img::new(cells, 2, 2);
+    image.row_mut(1)[0] = 0;
+}
+
+/// The last cell of the buffer, by its place: one past the only pixel.
+pub fn last_cell(cells: &[u8]) -> u8
+    requires { length cells.now ≡ 2 }
+{
+    let image = Img::new_stride(cells, 1, 1, 2);
+    image[(1u32, 0u32)]
+}
+
+/// How many cells the window of the last two columns has.
+pub fn cells_of_last_columns(cells: &[u8]) -> usize
+    requires { 6 ≤ length cells.now }
+{
+    let image = Img::new(cells, 3, 2);
+    image.sub_image(1, 0, 2, 2).buf().len()
+}
+
+/// How many pixels an image has that may not fit: none then.
+pub fn pixels_if_it_fits(image: ImgRef<'_, u8>) -> usize {
+    if image.is_valid() {
+        image.pixels().count()
+    } else {
+        0
+    }
+}
+
+/// An image of no height, of the least width that needs no stride of its own.
+pub fn narrowest(cells: &[u8]) -> ImgRef<'_, u8> {
+    Img::new(cells, 1, 0)
+}
+
+/// Two other cells in the place of an image's two.
+pub fn over_other_cells<'a>(first: &[u8], second: &'a [u8]) -> ImgRef<'a, u8>
+    requires cells { length first.now ≡ 2 }
+    requires others { length second.now ≡ 2 }
+{
+    let image = Img::new(first, 2, 1);
+    image.new_buf(second)
+}

@@ -1,0 +1,12 @@
+use Rattle.std.proofs.Common.{◌≡◌, ◌+◌, ◌%◌, ◌^◌, sum}
+use Rattle.image_model.specs.Grid.{grid_of}
+use Rattle.image_model.specs.Rows.{grid_pixels}
+use Rattle.imgref.specs.Image.{ref_layout}
+use Rattle.imgref.specs.Pixels.{copies_left}
+use Rattle.imgref_examples.proofs.sums.checksum.Given as goal
+
+abbrev pub invariant-loop-pixel : goal.invariant-loop-pixel
+invariant-loop-pixel l =
+    (goal.iterator-loop-pixel).can_next l.pixel-iterator ×
+    (goal.iterator-loop-pixel).is_finite l.pixel-iterator ×
+    ((l.sum + sum (copies_left l.pixel-iterator)) % 2 ^ 64 ≡ sum (grid_pixels (grid_of (ref_layout l.fn.image))) % 2 ^ 64)

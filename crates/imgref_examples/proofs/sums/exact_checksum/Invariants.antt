@@ -1,0 +1,13 @@
+use Rattle.std.proofs.Common.{◌≡◌, ◌+◌, ◌*◌, ◌≤◌, length, sum}
+use Rattle.image_model.specs.Grid.{grid_of}
+use Rattle.image_model.specs.Rows.{grid_pixels}
+use Rattle.imgref.specs.Image.{width_of, height_of, ref_layout}
+use Rattle.imgref.specs.Pixels.{copies_left}
+use Rattle.imgref_examples.proofs.sums.exact_checksum.Given as goal
+
+abbrev pub invariant-loop-pixel : goal.invariant-loop-pixel
+invariant-loop-pixel l =
+    (goal.iterator-loop-pixel).can_next l.pixel-iterator ×
+    (goal.iterator-loop-pixel).is_finite l.pixel-iterator ×
+    (l.sum + sum (copies_left l.pixel-iterator) ≡ sum (grid_pixels (grid_of (ref_layout l.fn.image)))) ×
+    (l.sum + 255 * length (copies_left l.pixel-iterator) ≤ 255 * (width_of l.fn.image * height_of l.fn.image))

@@ -1,0 +1,67 @@
+//! Writes at places, one after the other: what the image shows afterwards is one patch on another.
+
+ghost use Rattle.std.specs.Prelude.{◌≡◌, ◌<◌, ◌≤◌, Some};
+ghost use Rattle.image_model.specs.Grid.{grid_of, patch, uniform};
+ghost use Rattle.image_model.specs.Layout.{Fits, SameOutside};
+ghost use Rattle.imgref.specs.Image.{width_of, height_of, vec_layout, mut_layout};
+
+use imgref::{ImgRefMut, ImgVec};
+
+/// One pixel of a lent image.
+pub fn dot(image: &mut ImgRefMut<'_, u8>, x: usize, y: usize)
+    requires fits { Fits (mut_layout image.old) }
+    requires column { x < width_of image.old }
+    requires line { y < height_of image.old }
+    ensures grid { grid_of (mut_layout image.new) ≡ patch (grid_of (mut_layout image.old)) x y (uniform 1 1 7) }
+    ensures outside { SameOutside (mut_layout image.old) (mut_layout image.new) }
+{
+    image.put(x, y, 7);
+}
+
+/// Two pixels and a part of the second row.
+pub fn three_places(image: &mut ImgVec<u8>, value: u8)
+    requires fits { Fits (vec_layout image.old) }
+    requires wide { 3 ≤ width_of image.old }
+    requires high { 2 ≤ height_of image.old }
+    ensures grid { grid_of (vec_layout image.new) ≡ patch (patch (patch (grid_of (vec_layout image.old)) 0 0 (uniform 1 1 1)) 1 0 (uniform 1 1 2)) 1 1 (uniform 2 1 value) }
+    ensures outside { SameOutside (vec_layout image.old) (vec_layout image.new) }
+{
+    image.put(0, 0, 1);
+    image.put(1, 0, 2);
+    image.fill_window(1, 1, 2, 1, value);
+}
+
+/// The same by index.
+pub fn three_by_index(image: &mut ImgVec<u8>, value: u8)
+    requires fits { Fits (vec_layout image.old) }
+    requires wide { 3 ≤ width_of image.old }
+    requires high { 2 ≤ height_of image.old }
+    ensures grid { grid_of (vec_layout image.new) ≡ patch (patch (patch (grid_of (vec_layout image.old)) 0 0 (uniform 1 1 1)) 1 0 (uniform 1 1 2)) 1 1 (uniform 2 1 value) }
+    ensures outside { SameOutside (vec_layout image.old) (vec_layout image.new) }
+{
+    image[(0usize, 0usize)] = 1;
+    image[(1u32, 0u32)] = 2;
+    image.fill_window(1, 1, 2, 1, value);
+}
+
+/// Each row in turn.
+pub fn stripes(image: &mut ImgVec<u8>)
+    requires { Fits (vec_layout image.old) }
+    ensures { SameOutside (vec_layout image.old) (vec_layout image.new) }
+{
+    for y in 0..image.height() {
+        image.fill_row(y, (y % 2) as u8);
+    }
+}
+
+/// What was put is what is got.
+#[tactic(auto, using(image_model::proofs::Patches::patches))]
+pub fn put_then_get(image: &mut ImgVec<u8>, x: usize, y: usize, value: u8) -> Option<u8>
+    requires fits { Fits (vec_layout image.old) }
+    requires column { x < width_of image.old }
+    requires line { y < height_of image.old }
+    ensures { result ≡ Some value }
+{
+    image.put(x, y, value);
+    image.get(x, y)
+}

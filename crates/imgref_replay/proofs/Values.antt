@@ -1,0 +1,117 @@
+-- What the walk of `into_window_at` hands on, as machine values: the cells of an image, its parts, and the answers of `region_at` and of itself.
+use mathlib.Core.Path.{◌≡◌, refl, ◌∙◌}
+use mathlib.Core.Logic.{◌⊎◌, inl, inr}
+use Prim.Native.Nat.{ℕ, ◌^◌, ◌<◌}
+use mathlib.Core.List.{List, [], ◌∷◌, ◌++◌}
+use mathlib.Core.Option.{some, none}
+use lib.ListN.{length}
+use seplogic.Ra.Ura.{Ura}
+use base.Fml.{Lft, GName, fsep, feq, fex}
+use base.Logic.{ent, emp, id⊢}
+use mir.Syntax.{Ty, named, w64, ty_ptr, ty_int, ty_struct, tcons, tnil}
+use mir.Val.{Val, vint, vstruct, vcons, vnil, of_list}
+use types.Logic.{Logic, sem}
+use types.Kit.{‵, ◌$◌, ◌∵◌, !, qed, move, fjoin, fpack, feq_i, done}
+use types.Match.{live}
+use denote.Builtin.{usize}
+use denote.Enum.Enum.{in_a_row}
+use denote.Exit.{no}
+use denote.Follow.{follows, follows_by, follows_if}
+use denote.Laws.{Is}
+use denote.Param.{param, arg}
+use denote.Param.Laws.{Laws, arg_laws, param_laws, of_field, is_one, row_shared}
+use denote.Param.Shared.{mut_slice_shared}
+use denote.Plain.{uint_Makes}
+use denote.RattleType.{RattleType, Valss, owns}
+use denote.Ref.{MutBor}
+use denote.Slice.{MutSlice, Room, slice_val}
+use denote.Steps.{nothing, owned}
+use denote.Struct.Field.{mut_slice_field}
+use denote.Struct.Laws.{mut_slice_laws}
+use denote.Struct.Tuple.{Tuple}
+use Rattle.std.specs.contracts.result.Result as result
+use Rattle.std.specs.declared.result.Result.{Result}
+use Rattle.std.specs.declared.result.Result.TheVariants.{Ok, Err}
+use Rattle.image_shape.specs.declared.window.Stretch.{Stretch}
+use Rattle.image_shape.specs.contracts.window.Stretch as stretch
+use Rattle.image_shape.specs.declared.shape.Shape.{Shape}
+use Rattle.image_shape.specs.contracts.shape.Shape as shape
+use Rattle.imgref.proofs.Values.{stretch_val, stretch_told, shape_val, shape_told}
+
+-- ---- cells that are lent for writing
+-- as a call passes it: a pointer and a count
+abbrev cells_ty : Ty
+cells_ty = ty_struct [] (tcons ty_ptr (tcons (ty_int w64) tnil))
+
+module _ (κ : Lft) (T : RattleType) where
+  abbrev pub Cells : RattleType
+  Cells = arg cells_ty no (MutSlice (named 0) κ (param 0 T))
+
+  pub cells_laws : Laws T → Laws Cells
+  cells_laws L =
+      let R : RattleType = param 0 T in
+      let LR : Laws R = param_laws 0 T L in
+      arg_laws cells_ty no (MutSlice (named 0) κ R) (of_field (mut_slice_field (record { mir = named 0; lft = κ }) R (is_one R LR)) (mut_slice_laws (record { mir = named 0; lft = κ }) R (is_one R LR)) refl (mut_slice_shared (record { mir = named 0; lft = κ }) R (is_one R LR) (row_shared R LR))) refl
+
+-- ---- the parts of an image
+abbrev pub parts_val : ℕ × ℕ → ℕ → Shape → Val
+parts_val p n s = vstruct (vcons (slice_val p n) (vcons (shape_val s) vnil))
+
+module _ (κ : Lft) (R : RattleType) where
+  abbrev pub Parts : RattleType
+  Parts = Tuple (MutSlice (named 0) κ R ∷ shape.the_row ∷ [])
+
+  pub parts_told : (x : MutBor (List R.Denot) × Shape) (vs : List Val) → Is Parts x vs → (vs ≡ parts_val x.0.ref_ptr (length x.0.now) x.1 ∷ []) × Room R (length x.0.now) × (x.1.width < 2 ^ 32) × (x.1.height < 2 ^ 32) × (x.1.stride < 2 ^ 64)
+  parts_told x vs s =
+      let told = shape_told x.1 _ s.1.1.1.0 in
+      (s.1.0 ∙ (λ i. vstruct (of_list (s.1.1.0.0.0 i ++ (told.0 i ++ []))) ∷ []), s.1.1.0.0.1, told.1, told.2, told.3)
+
+-- ---- a stretch and a shape, or a number
+abbrev pub Found : RattleType
+Found = Tuple (stretch.the_row ∷ shape.the_row ∷ [])
+
+abbrev pub found_val : Stretch × Shape → Val
+found_val x = vstruct (vcons (stretch_val x.0) (vcons (shape_val x.1) vnil))
+
+abbrev pub Answer : RattleType
+Answer = result.the_row Found usize
+
+abbrev pub IsFound : Result (Stretch × Shape) ℕ → List Val → Stretch × Shape → Type 0
+IsFound r vs x = (r ≡ Ok x) × (vs ≡ live 0 (vcons (found_val x) vnil) ∷ []) × (x.0.start < 2 ^ 64) × (x.0.len < 2 ^ 64) × (x.1.width < 2 ^ 32) × (x.1.height < 2 ^ 32) × (x.1.stride < 2 ^ 64)
+
+abbrev pub IsOutside : Result (Stretch × Shape) ℕ → List Val → ℕ → Type 0
+IsOutside r vs k = (r ≡ Err k) × (vs ≡ live 1 (vcons (vint w64 k) vnil) ∷ []) × (k < 2 ^ 64)
+
+pub answer_told : (r : Result (Stretch × Shape) ℕ) (vs : List Val) → Is Answer r vs → ((x : Stretch × Shape) × IsFound r vs x) ⊎ ((k : ℕ) × IsOutside r vs k)
+answer_told (Ok x) vs s =
+    let f = s.1.1.1.1.0 in
+    let at = stretch_told x.0 _ f.1.1.0 in
+    let sh = shape_told x.1 _ f.1.1.1.0 in
+    inl (x, (refl, s.1.0 ∙ (λ i. live 0 (of_list ((s.1.1.1.0 ∙ (λ j. (f.1.0 ∙ (λ m. vstruct (of_list (at.0 m ++ (sh.0 m ++ []))) ∷ [])) j ++ [])) i)) ∷ []), at.1, at.2, sh.1, sh.2, sh.3))
+answer_told (Err k) vs s =
+    inr (k, (refl, s.1.0 ∙ (λ i. live 1 (of_list ((s.1.1.1.0 ∙ (λ j. s.1.1.1.1.0.0 j ++ [])) i)) ∷ []), s.1.1.1.1.0.1))
+
+module _ {M : Type 1} {𝓤 : Ura M} (𝓛 : Logic 𝓤) where
+  open 𝓛 use {A}
+
+  module _ (R T : RattleType) (γ : GName) (F : T.Denot → R.Denot) (v : R.Denot) where
+    pub if_some : (γ' : GName) → ent 𝓤 (sem 𝓛 (follows R T γ γ' F)) (sem 𝓛 (follows_if R T γ (some γ') F v))
+    unfolding follows_by
+    if_some γ' = id⊢ 𝓤 _
+
+    pub if_none : ent 𝓤 (A.res γ (R.coded.code v)) (sem 𝓛 (follows_if R T γ none F v))
+    unfolding follows_by
+    if_none = id⊢ 𝓤 _
+
+  module _ (Row : RattleType) where
+    pub ok_made : (y : Row.Denot) (w : Val) → ent 𝓤 (sem 𝓛 (Row.own_val y (w ∷ []))) (sem 𝓛 ((result.the_row Row usize).own_val (Ok y) (live 0 (vcons w vnil) ∷ [])))
+    ok_made y w = qed 𝓛 (‵ (Row.own_val y (w ∷ [])) ∷ []) ∵ nothing ! $ move ! (1 ∷ 0 ∷ []) $ fjoin ! $
+        feq_i ! (List Val) (w ∷ []) (w ∷ []) refl $ fjoin ! $ fpack ! (Valss (Row ∷ [])) (in_a_row (Row ∷ []) (owns (Row ∷ []) (y, tt)) (w ∷ [])) (w ∷ [], tt) $
+        feq_i ! (List Val) (live 0 (vcons w vnil) ∷ []) (live 0 (vcons w vnil) ∷ []) refl $ fjoin ! $
+        fpack ! (List Val) (λ us. fsep (feq (List Val) (live 0 (vcons w vnil) ∷ []) (live 0 (of_list us) ∷ [])) (fex (Valss (Row ∷ [])) (in_a_row (Row ∷ []) (owns (Row ∷ []) (y, tt)) us))) (w ∷ []) $ done !
+
+    pub err_made : (k : ℕ) → k < 2 ^ 64 → ent 𝓤 (emp 𝓤) (sem 𝓛 ((result.the_row Row usize).own_val (Err k) (live 1 (vcons (vint w64 k) vnil) ∷ [])))
+    err_made k f = qed 𝓛 [] ∵ nothing ! $ owned ! usize (Is usize) (uint_Makes 𝓛 w64) k (vint w64 k ∷ []) (refl, f) $ fjoin ! $
+        feq_i ! (List Val) (vint w64 k ∷ []) (vint w64 k ∷ []) refl $ fjoin ! $ fpack ! (Valss (usize ∷ [])) (in_a_row (usize ∷ []) (owns (usize ∷ []) (k, tt)) (vint w64 k ∷ [])) (vint w64 k ∷ [], tt) $
+        feq_i ! (List Val) (live 1 (vcons (vint w64 k) vnil) ∷ []) (live 1 (vcons (vint w64 k) vnil) ∷ []) refl $ fjoin ! $
+        fpack ! (List Val) (λ us. fsep (feq (List Val) (live 1 (vcons (vint w64 k) vnil) ∷ []) (live 1 (of_list us) ∷ [])) (fex (Valss (usize ∷ [])) (in_a_row (usize ∷ []) (owns (usize ∷ []) (k, tt)) us))) (vint w64 k ∷ []) $ done !

@@ -1,0 +1,45 @@
+-- One command: its reply, what it makes of the grids, and what it leaves of the images.
+use Rattle.std.specs.Prelude.{◌≡◌, ℕ, ◌==◌, Bool, false, if◌then◌else◌, Option, Some, None, List, [], ◌∷◌, map, slice_get, All, Result, IfOk}
+use Rattle.std.specs.Option.{option_map_or}
+use Rattle.std.specs.Result.{result_err}
+use Rattle.image_model.specs.Layout.{Layout, Fits}
+use Rattle.image_model.specs.Grid.{Grid, grid_of}
+use Rattle.image_model.specs.Kept.{IsKept}
+use Rattle.imgref_replay.specs.Commands.{meaning}
+use Rattle.imgref_replay.specs.declared.commands.Command.{Command}
+use Rattle.imgref_replay.specs.declared.commands.Refusal.{Refusal}
+use Rattle.imgref_replay.specs.declared.commands.Reply.{Reply}
+use Rattle.imgref_replay.specs.declared.commands.Reply.TheVariants.{Refused}
+
+-- the refusal of the first test that holds
+abbrev pub first_fault : List (Bool × Refusal) → Option Refusal
+first_fault [] = None
+first_fault (test ∷ tests) = if test.0 then Some test.1 else first_fault tests
+
+-- the first fault of a command
+abbrev pub fault_of : {T : Type 0} → Command T → List (Grid T) → Option Refusal
+fault_of command grids = first_fault ((meaning command).faults grids)
+
+-- the reply to a command: its first fault, or its answer
+abbrev pub reply_to : {T : Type 0} → (T → T → Bool) → Command T → List (Grid T) → Reply T
+reply_to eq command grids = option_map_or (λ refusal. Refused refusal) (fault_of command grids) ((meaning command).answer eq grids)
+
+-- the grids after a command: with a fault they stay
+abbrev pub after : {T : Type 0} → Command T → List (Grid T) → List (Grid T)
+after command grids = option_map_or (λ _. grids) (fault_of command grids) ((meaning command).effect grids)
+
+-- whether a command compacts image i
+abbrev pub compacts : {T : Type 0} → ℕ → Command T → Bool
+compacts i command = option_map_or (λ image. image == i) ((meaning command).compacted) false
+
+-- each image keeps its outside where it isn't compacted, and else is packed
+abbrev pub AllKept : {T : Type 0} → (ℕ → Bool) → List (Layout T) → List (Layout T) → Type 0
+AllKept {T} compacted olds news = (i : ℕ) (old new : Layout T) → slice_get olds i ≡ Some old → slice_get news i ≡ Some new → IsKept (compacted i) old new
+
+-- a command was carried out, or refused with nothing changed
+pub record IsStep {T : Type 0} (eq : T → T → Bool) (command : Command T) (olds news : List (Layout T)) (result : Result (Reply T) Refusal) : Type 0 where
+  pub fault : result_err result ≡ fault_of command (map grid_of olds)
+  pub answer : IfOk result (λ reply. reply ≡ (meaning command).answer eq (map grid_of olds))
+  pub grids : map grid_of news ≡ after command (map grid_of olds)
+  pub kept : AllKept (λ i. compacts i command) olds news
+  pub fits : All Fits news

@@ -1,0 +1,118 @@
+//! Windows of windows: a path of them is one window of the image.
+
+ghost use Rattle.std.specs.Prelude.{◌≡◌, ◌+◌, ◌≤◌, ◌<◌, ◌^◌, IfOk};
+ghost use Rattle.std.specs.Result.{result_err};
+ghost use Rattle.std.specs.Borrow.{sem, follows, follows_if, Array};
+ghost use Rattle.image_model.specs.Layout.{Fits, Reaches};
+ghost use Rattle.image_model.specs.Grid.{grid_of};
+ghost use Rattle.image_model.specs.Windows.{IsInside, IsWithin, first_outside, stretch_within, with_stretch, path_window, path_stretch, path_layout, path_view, whole};
+ghost use Rattle.imgref.specs.Shape.{shape_width, shape_height, shape_stride};
+ghost use Rattle.imgref.specs.Window.{as_window, as_path, as_stretch};
+ghost use Rattle.imgref.specs.Image.{buf_of, width_of, height_of, stride_of, mut_layout, ref_layout};
+ghost use Rattle.imgref_replay.specs.Path.{BeginsAtCorner, LeadsTo, name_of};
+
+use imgref::{ImgRef, ImgRefMut, Shape, Stretch, Window};
+
+/// The one window that a path comes to in this size: its size at its corner. Where a window of the
+/// path isn't inside the size before it, the number of the first such window, from 0.
+pub(crate) fn path_window(width: usize, height: usize, path: &[Window]) -> Result<Window, usize>
+    ensures outside { result_err result ≡ first_outside width height (as_path path.now) }
+    ensures window { IfOk result (λ w. as_window w ≡ path_window width height (as_path path.now)) }
+    ensures inside { IfOk result (λ w. IsInside width height (as_window w)) }
+{
+    let mut found = Window {
+        left: 0,
+        top: 0,
+        width,
+        height,
+    };
+    for (index, window) in path.iter().enumerate() {
+        if !window.is_inside(found.width, found.height) {
+            return Err(index);
+        }
+        found = Window {
+            left: found.left + window.left,
+            top: found.top + window.top,
+            ..*window
+        };
+    }
+    Ok(found)
+}
+
+// A stretch of the cells of another, as one of all cells.
+fn within(outer: Stretch, inner: Stretch) -> Stretch
+    requires room { IsWithin outer.len (as_stretch inner) }
+    requires bounded { outer.start + outer.len < 2 ^ 64 }
+    ensures value { as_stretch result ≡ stretch_within (as_stretch outer) (as_stretch inner) }
+    ensures inside { result.start + result.len ≤ outer.start + outer.len }
+{
+    Stretch {
+        start: outer.start + inner.start,
+        len: inner.len,
+    }
+}
+
+/// Where a path leads in so many cells of this shape, as the cells that are left, taken window by
+/// window, and their shape; or the number of its first window outside.
+fn region_at(cells: usize, shape: Shape, path: &[Window]) -> Result<(Stretch, Shape), usize>
+    requires fits { Reaches cells (shape_width shape) (shape_height shape) (shape_stride shape) }
+    ensures outside { result_err result ≡ first_outside (shape_width shape) (shape_height shape) (as_path path.now) }
+    ensures region { IfOk result (λ r. LeadsTo cells shape (as_path path.now) r.0 r.1) }
+    ensures inside { IfOk result (λ r. IsWithin cells (as_stretch r.0)) }
+    ensures holds_width { shape_width shape ≤ shape_stride shape }
+{
+    // Tells that the width is within the stride.
+    let _stride = shape.stride();
+    let mut stretch = Stretch {
+        start: 0,
+        len: cells,
+    };
+    let mut inner = shape;
+    for (index, window) in path.iter().enumerate() {
+        if !window.is_inside(inner.width(), inner.height()) {
+            return Err(index);
+        }
+        stretch = within(stretch, inner.stretch(true, stretch.len, *window));
+        inner = inner.window(*window);
+    }
+    Ok((stretch, inner))
+}
+
+/// The nested window that a path leads to: `path_layout` of the image, which fits. The empty path
+/// is the whole image. Where a window of the path isn't inside the size before it, the number of
+/// the first such window, from 0. The image fits.
+pub fn window_at<'s, T>(img: ImgRef<'s, T>, path: &[Window]) -> Result<ImgRef<'s, T>, usize>
+    requires fits { Fits (ref_layout img) }
+    ensures outside { result_err result ≡ first_outside (width_of img.entry) (height_of img.entry) (as_path path.now) }
+    ensures layout { IfOk result (λ w. ref_layout w ≡ path_layout (ref_layout img.entry) (as_path path.now)) }
+    ensures corner { IfOk result (λ _. BeginsAtCorner (ref_layout img.entry) (as_path path.now)) }
+    ensures fits { IfOk result (λ w. Fits (ref_layout w)) }
+    ensures view { IfOk result (λ w. grid_of (ref_layout w) ≡ path_view (grid_of (ref_layout img.entry)) (as_path path.now)) }
+{
+    let (cells, shape) = img.into_parts();
+    let (stretch, inner) = region_at(cells.len(), shape, path)?;
+    let end = stretch.start + stretch.len;
+    Ok(ImgRef::from_parts(&cells[stretch.start..end], inner))
+}
+
+/// The same for writing, in place of the image: once the borrow ends, the image has what was left in
+/// the window's cells, and every other cell is as it was. Where a window is outside, the borrow ends
+/// here, with no cell changed.
+pub fn into_window_at<'s, T>(
+    img: ImgRefMut<'s, T>,
+    path: &[Window],
+) -> Result<ImgRefMut<'s, T>, usize>
+    requires fits { Fits (mut_layout img) }
+    ensures* hands_on { sem 𝓛 (follows_if (Array T.row 0) (Array T.row 0) (buf_of img.entry).ghost_name (name_of result) (with_stretch (buf_of img.entry).now (path_stretch (stride_of img.entry) (whole (buf_of img.entry).now) (as_path path.now))) (buf_of img.entry).now) }
+    ensures outside { result_err result ≡ first_outside (width_of img.entry) (height_of img.entry) (as_path path.now) }
+    ensures layout { IfOk result (λ w. mut_layout w ≡ path_layout (mut_layout img.entry) (as_path path.now)) }
+    ensures corner { IfOk result (λ _. BeginsAtCorner (mut_layout img.entry) (as_path path.now)) }
+    ensures fits { IfOk result (λ w. Fits (mut_layout w)) }
+    ensures view { IfOk result (λ w. grid_of (mut_layout w) ≡ path_view (grid_of (mut_layout img.entry)) (as_path path.now)) }
+{
+    let (cells, shape) = img.into_parts();
+    match region_at(cells.len(), shape, path) {
+        Ok((stretch, inner)) => Ok(ImgRefMut::from_stretch(cells, stretch, inner)),
+        Err(index) => Err(index),
+    }
+}

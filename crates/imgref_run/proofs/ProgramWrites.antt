@@ -1,0 +1,47 @@
+-- What a run wrote, from what its parts did.
+use Rattle.std.proofs.Common.{◌≡◌, ℕ, List, [], ◌∷◌, ◌++◌, Option, Some, None, Result, Ok, Err, refl, sym, ap, subst, ◌∙◌}
+use Rattle.std.specs.Prelude.{IfSome, OnOk, OnErr, IfErr, All}
+use Rattle.std.specs.List.{AllByRecursion}
+use Rattle.std.specs.Io.KnownBytes.{Consumes, IsAtEnd, Appends}
+use Rattle.std.proofs.lemmas.List.{append-nil}
+use Rattle.std.proofs.lemmas.List.Elements.{All-from_recursion}
+use Rattle.image_model.specs.Layout.{Layout, Fits}
+use Rattle.imgref_run.specs.declared.fault.RunFault.{RunFault}
+use Rattle.imgref_run.specs.declared.fault.RunFault.TheVariants.{Line, Memory, Input, Output}
+use Rattle.imgref_run.specs.Fault.{reader_failures}
+use Rattle.imgref_run.specs.Line.{IsImage}
+use Rattle.imgref_run.specs.Output.{AppendsBeginning}
+use Rattle.imgref_run.specs.Program.{Writes, IsOutputOf}
+
+-- a reader at its end gave all that it had
+known_whole : (input left : Option (List ℕ)) (bytes : List ℕ) (P : List ℕ → Type 0) → Consumes input left bytes → IsAtEnd left → P bytes → IfSome input P
+known_whole None left bytes P gave end h = tt
+known_whole (Some xs) None bytes P gave end h = absurd gave
+known_whole (Some xs) (Some ys) bytes P gave end h = subst P (sym (gave ∙ ap (λ (l : List ℕ). bytes ++ l) end ∙ append-nil bytes)) h
+
+pub wrote : (r : Result (Unit {0}) RunFault) (input left old new : Option (List ℕ)) (bytes text : List ℕ)
+    → Consumes input left bytes → IsAtEnd left → IsOutputOf bytes text
+    → OnOk r (Appends old new text) → OnErr r (AppendsBeginning old new text) → IfErr r (λ e. e ≡ Output) → Writes r input old new
+wrote (Ok x) input left old new bytes text gave end output ok err fault =
+    known_whole input left bytes (λ bs. (t : List ℕ) × IsOutputOf bs t × Appends old new t) gave end (text, output, ok)
+wrote (Err Output) input left old new bytes text gave end output ok err fault =
+    known_whole input left bytes (λ bs. (t : List ℕ) × IsOutputOf bs t × AppendsBeginning old new t) gave end (text, output, err)
+wrote (Err Input) input left old new bytes text gave end output ok err fault = absurd cc
+wrote (Err Memory) input left old new bytes text gave end output ok err fault = absurd cc
+wrote (Err (Line n)) input left old new bytes text gave end output ok err fault = absurd cc
+
+-- a run that came to its writing has read without a fault
+pub reader_kept : (r : Result (Unit {0}) RunFault) → IfErr r (λ e. e ≡ Output) → reader_failures r ≡ 0
+reader_kept (Ok x) fault = refl
+reader_kept (Err Output) fault = refl
+reader_kept (Err Input) fault = absurd cc
+reader_kept (Err Memory) fault = refl
+reader_kept (Err (Line n)) fault = refl
+
+layouts_fit : (images : List (Layout ℕ)) → AllByRecursion IsImage images → AllByRecursion Fits images
+layouts_fit [] all = tt
+layouts_fit (i ∷ images) all = (all.0.fits, layouts_fit images all.1)
+
+-- the images of a script fit, so its commands may be run on them
+pub All-fit : (images : List (Layout ℕ)) → AllByRecursion IsImage images → All Fits images
+All-fit images all = All-from_recursion Fits images (layouts_fit images all)

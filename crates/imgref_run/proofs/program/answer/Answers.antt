@@ -1,0 +1,31 @@
+use Rattle.std.proofs.Common.{◌≡◌, map, arith}
+use Rattle.std.proofs.lemmas.Grind.{common_steps}
+use Rattle.imgref.specs.Image.{vec_layout}
+use Rattle.imgref_run.specs.Script.{images_of}
+use Rattle.imgref_run.proofs.ProgramWrites.{All-fit}
+use Rattle.imgref_run.proofs.ScriptGood.{own_script}
+use Rattle.imgref_run.proofs.program.answer.Goals as goal
+
+pub replay-requires : goal.replay-requires
+replay-requires c = rw c.deref_mut.ensures.value (All-fit (images_of c.in_ok-script.script) c.in_ok-script.ensures.script.images_in_range)
+
+pub output-requires : goal.output-requires
+output-requires c =
+    let same : c.deref-3.result.now ≡ c.replay.new.images = grind (arith, common_steps) in
+    rw same c.in_ok-replies.ensures.run.all_fit
+
+pub returns-clause-answer : goal.returns-clause-answer
+returns-clause-answer c =
+    let old = c.in_ok-script.script in
+    let same : c.deref-3.result.now ≡ c.replay.new.images = grind (arith, common_steps) in
+    record {
+      images = images_of old;
+      commands = old.commands.items;
+      script = c.in_ok-script.ensures.script;
+      good = c.in_ok-script.ensures.good;
+      layouts = map vec_layout c.replay.new.images;
+      replies = c.in_ok-replies.replies.items;
+      run = rw (c.deref_mut.ensures.value, c.deref.ensures.value) at c.in_ok-replies.ensures.run;
+      output = rw (c.deref-2.ensures.value, same) at c.in_ok-output.ensures.text;
+      again = own_script (map vec_layout c.replay.new.images) (rw same at c.in_ok-output.ensures.good);
+    }

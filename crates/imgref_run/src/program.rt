@@ -1,0 +1,54 @@
+//! The program on any reader and writer: a script in, its output out.
+
+ghost use Rattle.std.specs.Prelude.{◌≡◌, ◌<◌, ◌+◌, IfOk, IfErr, string_bytes};
+ghost use Rattle.imgref_run.specs.Device.{device_of, failures_of};
+ghost use Rattle.imgref_run.specs.Fault.{reader_failures, writer_failures, ExplainsBad};
+ghost use Rattle.imgref_run.specs.Line.{EachTextHasOneValue};
+ghost use Rattle.imgref_run.specs.Program.{IsOutputOf, Writes, ReadsAll};
+ghost use Rattle.imgref_run.specs.Script.{lines_of};
+
+use crate::device::Counted;
+use crate::fault::RunFault;
+use crate::input::read_all;
+use crate::output::{output, write_all};
+use crate::script::read_script;
+use imgref_replay::replay;
+use std::alloc::Global;
+use std::io::{Read, Write};
+
+// The output of a script.
+fn answer(alloc: Global, input: &[u8]) -> Result<String, RunFault>
+    ensures answer { IfOk result (λ text. IsOutputOf input.now (string_bytes text)) }
+    ensures fault { IfErr result (ExplainsBad (lines_of input.now)) }
+{
+    let mut script = read_script(alloc, input)?;
+    let replies = replay(alloc, &mut script.images, &script.commands)?;
+    Ok(output(alloc, &replies, &script.images)?)
+}
+
+/// Reads a whole script, runs its commands on its images, and writes the replies and then the
+/// images. Nothing is written before the whole output is in memory.
+pub fn run<R: Read, W: Write>(
+    alloc: Global,
+    reader: &mut Counted<R>,
+    writer: &mut Counted<W>,
+) -> Result<(), RunFault>
+    requires reader_counts { failures_of reader.old < u64.MAX }
+    requires writer_counts { failures_of writer.old < u64.MAX }
+
+    // On Ok the output of the input; on Output a beginning of it; else nothing.
+    ensures written { Writes result (R.remaining (device_of reader.old))
+        (W.contents (device_of writer.old)) (W.contents (device_of writer.new)) }
+    ensures read { ReadsAll result (R.remaining (device_of reader.new)) }
+
+    // Each count grew exactly where the answer is that device's fault.
+    ensures reader_count { failures_of reader.new ≡ failures_of reader.old + reader_failures result }
+    ensures writer_count { failures_of writer.new ≡ failures_of writer.old + writer_failures result }
+
+    // So the output of a script is the output of the only values that its lines are the text of.
+    ensures one_value { EachTextHasOneValue }
+{
+    let input = read_all(alloc, reader)?;
+    let text = answer(alloc, &input)?;
+    write_all(writer, text.as_bytes())
+}

@@ -1,0 +1,34 @@
+//! Cells that several tests begin with, and calls through one bound.
+
+use imgref::{Img, ImgVec};
+use std::alloc::{AllocError, Global};
+use std::iter::{ExactSizeIterator, FusedIterator};
+
+// Three by two with one cell of padding after each row, and one behind them.
+pub const PADDED: [u8; 9] = [1, 2, 3, 4, 5, 6, 7, 8, 9];
+
+// Three by three with one cell of padding between two rows.
+pub const SQUARE: [u8; 11] = [1, 2, 3, 0, 4, 5, 6, 0, 7, 8, 9];
+
+pub fn padded(alloc: Global) -> Result<ImgVec<u8>, AllocError> {
+    Ok(Img::new_stride(PADDED.to_vec(alloc)?, 3, 2, 4))
+}
+
+pub fn cells_of(alloc: Global, count: usize, value: u8) -> Result<Vec<u8>, AllocError> {
+    let mut cells = Vec::new(alloc);
+    cells.resize(count, value)?;
+    Ok(cells)
+}
+
+// Each of these calls one bound alone, as a caller that knows no type does.
+pub fn len_of<I: ExactSizeIterator>(items: &I) -> usize {
+    items.len()
+}
+
+pub fn is_over<I: FusedIterator>(items: &mut I) -> bool
+where
+    I::Item: Drop,
+    requires { I.can_next items.old }
+{
+    items.next().is_none()
+}

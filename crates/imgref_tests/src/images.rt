@@ -1,0 +1,137 @@
+//! What an image is made of and tells of itself.
+
+use imgref::{Img, ImgRef, ImgVec};
+use std::test::Fail;
+
+// A container of no cells that nothing reads and nothing may drop.
+struct Sealed {}
+
+fn unseal(sealed: Sealed) {
+    let Sealed {} = sealed;
+}
+
+fn copied<I: Copy>(image: &I) -> I {
+    *image
+}
+
+#[test]
+fn accessors_give_the_parts(rt: HostRuntime) -> Result<(), Fail> {
+    let cells = [1u8, 2, 3, 4, 5, 6, 7, 8];
+    let image: ImgRef<'_, u8> = Img::new_stride(cells.as_slice(), 2, 2, 3);
+    assert_eq!(rt; image.width(), 2);
+    assert_eq!(rt; image.height(), 2);
+    assert_eq!(rt; image.stride(), 3);
+    assert_eq!(rt; *image.buf(), cells.as_slice());
+    let shape = image.shape();
+    assert_eq!(rt; (shape.width(), shape.height(), shape.stride()), (2, 2, 3));
+    let (buf, same) = image.into_parts();
+    assert!(rt; same == shape);
+    assert_eq!(rt; buf, cells.as_slice());
+    let packed = Img::new(cells.as_slice(), 4, 2);
+    assert_eq!(rt; packed.width(), 4);
+    assert_eq!(rt; packed.height(), 2);
+    assert_eq!(rt; packed.stride(), 4);
+    assert_eq!(rt; packed.into_buf(), cells.as_slice());
+    Ok(())
+}
+
+#[test]
+fn any_container_goes_in(_rt: HostRuntime) {
+    let image = Img::new(Sealed {}, 1, 1);
+    unseal(image.into_buf());
+}
+
+#[test]
+fn a_container_is_left_in_place(rt: HostRuntime) -> Result<(), Fail> {
+    let mut image: ImgVec<u8> = Img::new_stride([1u8, 2, 3].to_vec(rt.alloc())?, 2, 2, 3);
+    assert!(rt; !image.is_valid());
+    image.buf_mut().push(4)?;
+    image.buf_mut().push(5)?;
+    assert!(rt; image.is_valid());
+    assert_eq!(rt; image.row(1), [4u8, 5].as_slice());
+    assert_eq!(rt; image.width(), 2);
+    assert_eq!(rt; image.height(), 2);
+    assert_eq!(rt; image.stride(), 3);
+    assert_eq!(rt; image.into_buf().as_slice(), [1u8, 2, 3, 4, 5].as_slice());
+    Ok(())
+}
+
+#[test]
+fn an_image_of_lent_pixels_is_copied(rt: HostRuntime) -> Result<(), Fail> {
+    let cells = [1u8, 2, 3, 4, 5, 6, 7, 8];
+    let image = Img::new_stride(cells.as_slice(), 2, 2, 3);
+    let copy = copied(&image);
+    let clone = image.clone()?;
+    for same in [image, copy, clone] {
+        assert_eq!(rt; (same.width(), same.height(), same.stride()), (2, 2, 3));
+        assert_eq!(rt; same.into_buf(), cells.as_slice());
+    }
+    Ok(())
+}
+
+#[test]
+fn fits_where_the_cells_reach_the_last_pixel(rt: HostRuntime) -> Result<(), Fail> {
+    let cells = [0u8; 5];
+    // The number of cells, the width, the height, the stride, and whether they make a fitting image.
+    let shapes = [
+        (1, 1, 1, usize::MAX, true),
+        (1, 2, 2, usize::MAX, false),
+        (1, 1, 3, usize::MAX / 2 + 1, false),
+        (5, 2, 2, 3, true),
+        (4, 2, 2, 3, false),
+        (2, 3, 1, 3, false),
+        (0, 0, 3, 1, true),
+        (0, 0, 4294967295, usize::MAX, true),
+        (0, 3, 0, 3, true),
+        (0, 1, 1, 1, false),
+    ];
+    for (count, width, height, stride, fits) in shapes {
+        if stride < 1
+            || width > stride
+            || width > 4294967295
+            || height > 4294967295
+            || count > cells.len()
+        {
+            continue;
+        }
+        let mut copy = cells;
+        assert_eq!(rt;
+            Img::new_stride(&cells[..count], width, height, stride).is_valid(),
+            fits
+        );
+        assert_eq!(rt;
+            Img::new_stride(&mut copy[..count], width, height, stride).is_valid(),
+            fits
+        );
+        let owned: ImgVec<u8> = Img::new_stride(
+            cells[..count].to_vec(rt.alloc())?,
+            width,
+            height,
+            stride,
+        );
+        assert_eq!(rt; owned.is_valid(), fits);
+    }
+    Ok(())
+}
+
+#[test]
+fn sixty_windows_lie_inside(rt: HostRuntime) -> Result<(), Fail> {
+    let cells = [1u8, 2, 3, 4, 5, 6, 7, 8, 9];
+    let image = Img::new_stride(cells.as_slice(), 3, 2, 4);
+    let mut inside = 0u32;
+    for left in 0..4 {
+        for top in 0..4 {
+            for width in 0..4 {
+                for height in 0..4 {
+                    if image.has_window(left, top, width, height) {
+                        inside = inside.saturating_add(1);
+                    }
+                }
+            }
+        }
+    }
+    assert_eq!(rt; inside, 60);
+    assert!(rt; !image.has_window(18446744073709551615, 0, 1, 1));
+    assert!(rt; !image.has_window(0, 1, 1, 18446744073709551615));
+    Ok(())
+}

@@ -1,0 +1,264 @@
+//! The port answers what the Rust crate does: `answers` has the crate's lines, and this test writes
+//! the port's, in the same order.
+
+ghost use Rattle.image_model.specs.Layout.{Fits};
+ghost use Rattle.imgref.specs.Image.{ref_layout, vec_layout};
+
+use crate::answers::ANSWERS;
+use crate::fixtures::PADDED;
+use imgref::{Img, ImgRef, ImgVec};
+use std::alloc::{AllocError, Global};
+use std::fmt::Write;
+use std::process::Abort;
+use std::test::Fail;
+
+fn write_cells(text: &mut String, cells: &[u8]) -> Result<(), AllocError> {
+    for cell in cells {
+        write!(text, " {cell}")?;
+    }
+    Ok(())
+}
+
+fn write_row(text: &mut String, row: &[u8]) -> Result<(), AllocError> {
+    write_cells(text, row)?;
+    write!(text, " /")
+}
+
+// A buffer by its first cell and its length.
+fn write_buffer(text: &mut String, cells: &[u8], end: &str) -> Result<(), AllocError> {
+    if let Some(first) = cells.first() {
+        write!(text, " {first} {}{end}", cells.len())?;
+    }
+    Ok(())
+}
+
+fn write_rows(text: &mut String, image: ImgRef<'_, u8>) -> Result<(), AllocError>
+    requires { Fits (ref_layout image) }
+{
+    write!(text, "rows")?;
+    for row in image.rows() {
+        write_row(text, row)?;
+    }
+    write!(text, "\nrows from the back")?;
+    for row in image.rows().rev() {
+        write_row(text, row)?;
+    }
+    write!(text, "\nrows from both ends")?;
+    let mut rows = image.rows();
+    for turn in 0..rows.len() {
+        let row = if turn % 2 == 0 {
+            rows.next()
+        } else {
+            rows.next_back()
+        };
+        if let Some(row) = row {
+            write_row(text, row)?;
+        }
+    }
+    if image.width() > 0 {
+        write!(text, "\nrows by number")?;
+        for y in 0..image.height() {
+            write_row(text, image.row(y))?;
+        }
+    }
+    Ok(())
+}
+
+// The rows are filled by turns from both ends, with a value of its own each.
+fn fill_rows(image: &mut ImgVec<u8>)
+    requires { Fits (vec_layout image.old) }
+{
+    let mut rows = image.rows_mut();
+    let mut value = 100u8;
+    for turn in 0..rows.len() {
+        let row = if turn % 2 == 0 {
+            rows.next()
+        } else {
+            rows.next_back()
+        };
+        if let Some(row) = row {
+            row.fill(value);
+        }
+        value = value.wrapping_add(1);
+    }
+}
+
+fn write_pixels(text: &mut String, image: ImgRef<'_, u8>) -> Result<(), AllocError>
+    requires { Fits (ref_layout image) }
+{
+    write!(text, "\npixels")?;
+    for pixel in image.pixels() {
+        write!(text, " {pixel}")?;
+    }
+    write!(text, "\npixels by reference")?;
+    for pixel in image.pixels_ref() {
+        write!(text, " {pixel}")?;
+    }
+    write!(text, "\npixels left")?;
+    let mut pixels = image.pixels();
+    for _ in 0..pixels.len() {
+        write!(text, " {}", pixels.len())?;
+        pixels.next();
+    }
+    write!(text, " {}", pixels.len())
+}
+
+fn count_up(image: &mut ImgVec<u8>)
+    requires { Fits (vec_layout image.old) }
+{
+    let mut value = 50u8;
+    for pixel in image.pixels_mut() {
+        *pixel = value;
+        value = value.wrapping_add(1);
+    }
+}
+
+// The cells that a column below the stride and a row name, as far as they are there.
+fn write_places(text: &mut String, image: ImgRef<'_, u8>) -> Result<(), AllocError> {
+    let cells = image.buf().len();
+    let stride = image.stride();
+    for cell in 0..cells {
+        let (x, y) = (cell % stride, cell / stride);
+        if x < stride && y <= cells / stride && y * stride + x < cells {
+            write!(text, " {}", image[(x, y)])?;
+        }
+    }
+    Ok(())
+}
+
+// The buffers of a window by `sub_image`, by `sub_image_mut` of an owner and of a lent image, and by
+// `into_sub_image_mut`; and its pixels.
+fn write_window(
+    rt: &impl Abort,
+    alloc: Global,
+    text: &mut String,
+    image: ImgRef<'_, u8>,
+    at: (usize, usize, usize, usize),
+) -> Result<(), AllocError> {
+    let (left, top, width, height) = at;
+    write!(text, " {left} {top} {width} {height}:")?;
+    assert!(rt; image.is_valid() && image.has_window(left, top, width, height));
+    let shared = image.sub_image(left, top, width, height);
+    write_buffer(text, shared.buf(), ",")?;
+    let mut owner: ImgVec<u8> = Img::new_stride(
+        image.buf().to_vec(alloc)?,
+        image.width(),
+        image.height(),
+        image.stride(),
+    );
+    assert!(rt; owner.is_valid() && owner.has_window(left, top, width, height));
+    write_buffer(
+        text,
+        owner.sub_image_mut(left, top, width, height).buf(),
+        ",",
+    )?;
+    let mut lent = owner.as_mut();
+    assert!(rt; lent.is_valid() && lent.has_window(left, top, width, height));
+    write_buffer(
+        text,
+        lent.sub_image_mut(left, top, width, height).buf(),
+        ",",
+    )?;
+    let lent = owner.as_mut();
+    assert!(rt; lent.is_valid() && lent.has_window(left, top, width, height));
+    write_buffer(
+        text,
+        lent.into_sub_image_mut(left, top, width, height).buf(),
+        ":",
+    )?;
+    assert!(rt; shared.is_valid());
+    for pixel in shared.pixels() {
+        write!(text, " {pixel}")?;
+    }
+    Ok(())
+}
+
+fn write_windows(
+    rt: &impl Abort,
+    alloc: Global,
+    text: &mut String,
+    name: &str,
+    image: ImgRef<'_, u8>,
+) -> Result<(), AllocError> {
+    for left in 0..image.width() {
+        for top in 0..image.height() {
+            for width in 1..=image.width() - left {
+                for height in 1..=image.height() - top {
+                    write!(text, "\n{name}")?;
+                    write_window(rt, alloc, text, image, (left, top, width, height))?;
+                }
+            }
+        }
+    }
+    Ok(())
+}
+
+fn write_image(
+    rt: &impl Abort,
+    alloc: Global,
+    text: &mut String,
+    image: ImgRef<'_, u8>,
+) -> Result<(), AllocError> {
+    let (width, height, stride) = (image.width(), image.height(), image.stride());
+    let cells = image.buf().len();
+    write!(text, "image {cells} {width} {height} {stride}\n")?;
+    assert!(rt; image.is_valid());
+    write_rows(text, image)?;
+    let mut owner: ImgVec<u8> = Img::new_stride(image.buf().to_vec(alloc)?, width, height, stride);
+    assert!(rt; owner.is_valid());
+    fill_rows(&mut owner);
+    write!(text, "\nrows written from both ends")?;
+    write_cells(text, owner.buf())?;
+    write_pixels(text, image)?;
+    assert!(rt; owner.is_valid());
+    count_up(&mut owner);
+    write!(text, "\npixels written")?;
+    write_cells(text, owner.buf())?;
+    write!(text, "\nplaces")?;
+    write_places(text, image)?;
+    write_windows(rt, alloc, text, "window", image)?;
+    writeln!(text)
+}
+
+fn write_answers(rt: &impl Abort, alloc: Global, text: &mut String) -> Result<(), AllocError> {
+    let images = [
+        Img::new_stride(&PADDED[..0], 0, 0, 1),
+        Img::new_stride(&PADDED[..2], 0, 2, 1),
+        Img::new_stride(&PADDED[..3], 3, 0, 3),
+        Img::new_stride(&PADDED[..1], 1, 1, 1),
+        Img::new_stride(&PADDED[..1], 1, 1, 18446744073709551614),
+        Img::new_stride(&PADDED[..4], 2, 2, 2),
+        Img::new_stride(&PADDED[..5], 2, 2, 3),
+        Img::new_stride(&PADDED[..8], 2, 2, 3),
+        Img::new_stride(&PADDED[..7], 3, 2, 4),
+        Img::new_stride(&PADDED[..8], 3, 2, 4),
+        Img::new_stride(&PADDED[..9], 3, 2, 4),
+    ];
+    for image in images {
+        write_image(rt, alloc, text, image)?;
+    }
+    let outer = Img::new_stride(PADDED.as_slice(), 3, 2, 4);
+    assert!(rt; outer.is_valid() && outer.has_window(1, 0, 2, 2));
+    write!(text, "in the window 1 0 2 2 of 9 3 2 4")?;
+    write_windows(rt, alloc, text, "window", outer.sub_image(1, 0, 2, 2))?;
+    let mut held = PADDED;
+    let mut written = Img::new_stride(held.as_mut_slice(), 3, 2, 4);
+    written[(1usize, 1usize)] = 0;
+    written[(3u32, 0u32)] = 100;
+    assert!(rt; written.is_valid());
+    written.row_mut(1)[0] = 50;
+    write!(text, "\nwritten at places")?;
+    write_cells(text, &held)?;
+    writeln!(text)
+}
+
+#[test]
+fn the_port_answers_as_the_crate_does(rt: HostRuntime) -> Result<(), Fail> {
+    let mut text = String::new(rt.alloc());
+    write_answers(&rt, rt.alloc(), &mut text)?;
+    for (line, wanted) in text.lines().zip(ANSWERS.lines()) {
+        assert_eq!(rt; line, wanted);
+    }
+    assert_eq!(rt; text.len(), ANSWERS.len());
+    Ok(())
+}

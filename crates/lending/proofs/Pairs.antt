@@ -1,0 +1,37 @@
+-- A pair of what two machine values hold: made, and taken apart. Assumes `Logic`.
+use mathlib.Core.Path.{◌≡◌, refl, ◌∙◌}
+use mathlib.Core.List.{List, [], ◌∷◌, ◌++◌}
+use seplogic.Ra.Ura.{Ura}
+use base.Logic.{ent, sep}
+use mir.Val.{Val, vstruct, vcons, vnil, of_list}
+use types.Logic.{Logic, sem}
+use types.Kit.{‵, ◌$◌, ◌∵◌, !, qed, move, keep, drop, fjoin, fpack, fsplit, fpick, feq_i, rewrite, done}
+use denote.Laws.{Is, shows}
+use denote.RattleType.{RattleType, Valss}
+use denote.Steps.{nothing, peeks}
+use denote.Struct.Declared.{shape}
+use denote.Struct.Struct.{within}
+use denote.Struct.Tuple.{Tuple, tuple_type}
+
+abbrev pub pair_val : Val → Val → Val
+pair_val v w = vstruct (vcons v (vcons w vnil))
+
+module _ (A B : RattleType) (x : A.Denot) (y : B.Denot) (v w : Val) where
+  abbrev Pair : RattleType
+  Pair = Tuple (A ∷ B ∷ [])
+
+  pub pair_made : {M : Type 1} {𝓤 : Ura M} (𝓛 : Logic 𝓤) → ent 𝓤 (sep 𝓤 (sem 𝓛 (A.own_val x (v ∷ []))) (sem 𝓛 (B.own_val y (w ∷ [])))) (sem 𝓛 (Pair.own_val (x, y) (pair_val v w ∷ [])))
+  pair_made 𝓛 = qed 𝓛 (‵ (A.own_val x (v ∷ [])) ∷ ‵ (B.own_val y (w ∷ [])) ∷ []) ∵
+      nothing ! $ move ! (2 ∷ 0 ∷ []) $ fjoin ! $ move ! (1 ∷ 0 ∷ []) $ fjoin ! $
+      feq_i ! (List Val) (pair_val v w ∷ []) (pair_val v w ∷ []) refl $ fjoin ! $
+      fpack ! (Valss (A ∷ B ∷ [])) (within (shape (tuple_type (A ∷ B ∷ []))) (x, (y, tt)) (pair_val v w ∷ [])) (v ∷ [], (w ∷ [], tt)) $ done !
+
+  -- where the two have one machine value each
+  module _ (first : (us : List Val) → Is A x us → us ≡ v ∷ []) (second : (us : List Val) → Is B y us → us ≡ w ∷ []) (vs : List Val) where
+    pub pair_told : Is Pair (x, y) vs → vs ≡ pair_val v w ∷ []
+    pair_told is = is.1.0 ∙ (λ i. vstruct (of_list (first is.0.0 is.1.1.0 i ++ (second is.0.1.0 is.1.1.1.0 i ++ []))) ∷ [])
+
+    pub pair_out : {M : Type 1} {𝓤 : Ura M} (𝓛 : Logic 𝓤) → ent 𝓤 (sem 𝓛 (Pair.own_val (x, y) vs)) (sep 𝓤 (sem 𝓛 (A.own_val x (v ∷ []))) (sem 𝓛 (B.own_val y (w ∷ []))))
+    pair_out 𝓛 = qed 𝓛 (‵ (Pair.own_val (x, y) vs) ∷ []) ∵ fpick ! (λ us. fsplit ! $ drop ! $ fsplit ! $
+        peeks ! A (Is A) (shows 𝓛 A) x us.0 (λ is. rewrite ! 0 (λ (ws : List Val). ‵ (A.own_val x ws)) (first us.0 is) refl $ move ! (1 ∷ []) $ fsplit ! $
+        peeks ! B (Is B) (shows 𝓛 B) y us.1.0 (λ is'. rewrite ! 0 (λ (ws : List Val). ‵ (B.own_val y ws)) (second us.1.0 is') refl $ keep ! (2 ∷ 0 ∷ []) $ done !)))

@@ -1,0 +1,7 @@
+-- What one name ends as by what another ends as.
+use Rattle.std.specs.Borrow.{GName, Fml, RattleType}
+use base.Fml.{fres, fall, fwand}
+
+-- whoever learns the last value of the second name learns the first one's
+abbrev pub ends_as : (R S : RattleType) → GName → GName → (S.Denot → R.Denot) → Fml
+ends_as R S γ δ F = fall S.Denot (λ w. fwand (fres δ (S.coded.code w)) (fres γ (R.coded.code (F w))))
