@@ -113,18 +113,44 @@ impl Write for Sink {
     }
 }
 
+// Runs the program, and answers its fault and both devices. Want of memory is handed on, for the
+// test to end with: nothing is written then.
+fn run_or_memory<'a>(
+    rt: &impl Abort,
+    alloc: Global,
+    source: Source<'a>,
+    sink: Sink,
+) -> Result<(Option<RunFault>, Counted<Source<'a>>, Counted<Sink>), RunFault> {
+    let mut reader = Counted::new(source);
+    let mut writer = Counted::new(sink);
+    let fault = run(alloc, &mut reader, &mut writer).err();
+    if fault == Some(RunFault::Memory) {
+        assert_eq!(rt; (writer.device().calls, writer.device().flushes), (0, 0));
+        assert_eq!(rt; (reader.failures(), writer.failures()), (0, 0));
+        return Err(RunFault::Memory);
+    }
+    Ok((fault, reader, writer))
+}
+
 // Runs a script whole, and compares the fault and what was written.
-fn expect_run(rt: &impl Abort, alloc: Global, script: &str, fault: Option<RunFault>, output: &str) {
-    let mut reader = Counted::new(Source::new(script, usize::MAX, 0));
-    let mut writer = Counted::new(Sink::new(usize::MAX, Failing::Never));
-    let answer = run(alloc, &mut reader, &mut writer);
-    assert_eq!(rt; answer.err(), fault, "after {script}");
+fn expect_run(
+    rt: &impl Abort,
+    alloc: Global,
+    script: &str,
+    fault: Option<RunFault>,
+    output: &str,
+) -> Result<(), RunFault> {
+    let source = Source::new(script, usize::MAX, 0);
+    let sink = Sink::new(usize::MAX, Failing::Never);
+    let (found, reader, writer) = run_or_memory(rt, alloc, source, sink)?;
+    assert_eq!(rt; found, fault, "after {script}");
     assert!(rt; writer.device().holds(output), "after {script}");
     assert_eq!(rt; (reader.failures(), writer.failures()), (0, 0));
+    Ok(())
 }
 
 #[test]
-fn good_scripts_are_run(rt: HostRuntime) {
+fn good_scripts_are_run(rt: HostRuntime) -> Result<(), Fail> {
     let scripts = [
         (STORED, STORED_OUTPUT),
         ("", ""),
@@ -181,16 +207,17 @@ fn good_scripts_are_run(rt: HostRuntime) {
         ),
     ];
     for (script, output) in scripts {
-        expect_run(&rt, rt.alloc(), script, None, output);
+        expect_run(&rt, rt.alloc(), script, None, output)?;
         // The image lines of an output are a script, whose output they are.
         let images = output.find("image").unwrap_or(output.len());
         let again = output.get(images..).unwrap_or("?");
-        expect_run(&rt, rt.alloc(), again, None, again);
+        expect_run(&rt, rt.alloc(), again, None, again)?;
     }
+    Ok(())
 }
 
 #[test]
-fn bad_lines_are_named(rt: HostRuntime) {
+fn bad_lines_are_named(rt: HostRuntime) -> Result<(), Fail> {
     let scripts = [
         ("\n", 1),
         ("\nimage 1 1 1 5", 1),
@@ -206,8 +233,9 @@ fn bad_lines_are_named(rt: HostRuntime) {
         ("image 1 1 1 5\nget 0 - 0 0\nimage 1 1 1 6\nget", 3),
     ];
     for (script, line) in scripts {
-        expect_run(&rt, rt.alloc(), script, Some(RunFault::Line(line)), "");
+        expect_run(&rt, rt.alloc(), script, Some(RunFault::Line(line)), "")?;
     }
+    Ok(())
 }
 
 #[test]
@@ -251,14 +279,14 @@ fn bad_second_lines_are_named(rt: HostRuntime) -> Result<(), Fail> {
     ];
     for line in lines {
         let script = format!(in rt.alloc(); "image 1 1 1 5\n{line}")?;
-        expect_run(&rt, rt.alloc(), &script, Some(RunFault::Line(2)), "");
+        expect_run(&rt, rt.alloc(), &script, Some(RunFault::Line(2)), "")?;
     }
     Ok(())
 }
 
 // Each beginning of the stored script ends inside its last line, and so is bad there, but for these.
 #[test]
-fn each_beginning_of_the_stored_script(rt: HostRuntime) {
+fn each_beginning_of_the_stored_script(rt: HostRuntime) -> Result<(), Fail> {
     let good = [
         (0, ""),
         (25, "image 3 2 4 1 2 3 4 5 6 7\n"),
@@ -284,49 +312,60 @@ fn each_beginning_of_the_stored_script(rt: HostRuntime) {
                 output = good_output;
             }
         }
-        expect_run(&rt, rt.alloc(), beginning, fault, output);
+        expect_run(&rt, rt.alloc(), beginning, fault, output)?;
     }
+    Ok(())
 }
 
 #[test]
-fn a_byte_a_call_gives_the_same(rt: HostRuntime) {
-    let mut reader = Counted::new(Source::new(STORED, 1, 0));
-    let mut writer = Counted::new(Sink::new(1, Failing::Never));
-    assert_eq!(rt; run(rt.alloc(), &mut reader, &mut writer).err(), None);
+fn a_byte_a_call_gives_the_same(rt: HostRuntime) -> Result<(), Fail> {
+    let source = Source::new(STORED, 1, 0);
+    let sink = Sink::new(1, Failing::Never);
+    let (fault, reader, writer) = run_or_memory(&rt, rt.alloc(), source, sink)?;
+    assert_eq!(rt; fault, None);
     assert!(rt; writer.device().holds(STORED_OUTPUT));
     assert_eq!(rt;
         (reader.device().calls, writer.device().calls),
         (STORED.len() + 1, STORED_OUTPUT.len())
     );
     assert_eq!(rt; writer.device().flushes, 1);
+    Ok(())
 }
 
 #[test]
-fn an_empty_output_is_only_flushed(rt: HostRuntime) {
-    let mut reader = Counted::new(Source::new("", 1, 0));
-    let mut writer = Counted::new(Sink::new(1, Failing::Never));
-    assert_eq!(rt; run(rt.alloc(), &mut reader, &mut writer).err(), None);
+fn an_empty_output_is_only_flushed(rt: HostRuntime) -> Result<(), Fail> {
+    let source = Source::new("", 1, 0);
+    let sink = Sink::new(1, Failing::Never);
+    let (fault, reader, writer) = run_or_memory(&rt, rt.alloc(), source, sink)?;
+    assert_eq!(rt; fault, None);
     assert_eq!(rt; (writer.device().calls, writer.device().flushes), (0, 1));
+    Ok(())
 }
 
 #[test]
-fn a_reader_that_fails(rt: HostRuntime) {
+fn a_reader_that_fails(rt: HostRuntime) -> Result<(), Fail> {
     for call in 1..=STORED.len() + 1 {
-        let mut reader = Counted::new(Source::new(STORED, 1, call));
-        let mut writer = Counted::new(Sink::new(1, Failing::Never));
-        let answer = run(rt.alloc(), &mut reader, &mut writer);
-        assert_eq!(rt; answer.err(), Some(RunFault::Input), "at call {call}");
+        let source = Source::new(STORED, 1, call);
+        let sink = Sink::new(1, Failing::Never);
+        let (fault, reader, writer) = run_or_memory(&rt, rt.alloc(), source, sink)?;
+        assert_eq!(rt; fault, Some(RunFault::Input), "at call {call}");
         assert_eq!(rt; (reader.failures(), writer.failures()), (1, 0));
         assert_eq!(rt; (writer.device().calls, writer.device().flushes), (0, 0));
     }
+    Ok(())
 }
 
 // A writer of one byte a call that fails so leaves the first bytes of the output.
-fn expect_beginning(rt: &impl Abort, alloc: Global, failing: Failing, taken: usize) {
-    let mut reader = Counted::new(Source::new(STORED, usize::MAX, 0));
-    let mut writer = Counted::new(Sink::new(1, failing));
-    let answer = run(alloc, &mut reader, &mut writer);
-    assert_eq!(rt; answer.err(), Some(RunFault::Output), "after {taken} bytes");
+fn expect_beginning(
+    rt: &impl Abort,
+    alloc: Global,
+    failing: Failing,
+    taken: usize,
+) -> Result<(), RunFault> {
+    let source = Source::new(STORED, usize::MAX, 0);
+    let sink = Sink::new(1, failing);
+    let (fault, reader, writer) = run_or_memory(rt, alloc, source, sink)?;
+    assert_eq!(rt; fault, Some(RunFault::Output), "after {taken} bytes");
     assert_eq!(rt; (reader.failures(), writer.failures()), (0, 1));
     assert!(rt;
         writer
@@ -334,19 +373,22 @@ fn expect_beginning(rt: &impl Abort, alloc: Global, failing: Failing, taken: usi
             .holds(STORED_OUTPUT.get(..taken).unwrap_or("?")),
         "after {taken} bytes"
     );
+    Ok(())
 }
 
 #[test]
-fn a_writer_that_fails(rt: HostRuntime) {
+fn a_writer_that_fails(rt: HostRuntime) -> Result<(), Fail> {
     for taken in 0..STORED_OUTPUT.len() {
-        expect_beginning(&rt, rt.alloc(), Failing::Error(taken + 1), taken);
-        expect_beginning(&rt, rt.alloc(), Failing::Nothing(taken + 1), taken);
+        expect_beginning(&rt, rt.alloc(), Failing::Error(taken + 1), taken)?;
+        expect_beginning(&rt, rt.alloc(), Failing::Nothing(taken + 1), taken)?;
     }
+    Ok(())
 }
 
 #[test]
-fn a_flush_that_fails(rt: HostRuntime) {
-    expect_beginning(&rt, rt.alloc(), Failing::Flush, STORED_OUTPUT.len());
+fn a_flush_that_fails(rt: HostRuntime) -> Result<(), Fail> {
+    expect_beginning(&rt, rt.alloc(), Failing::Flush, STORED_OUTPUT.len())?;
+    Ok(())
 }
 
 // With ample memory the output comes. Where a growth is refused, the answer is `Memory` and nothing
