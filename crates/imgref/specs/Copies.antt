@@ -1,6 +1,5 @@
--- Copies of images: clones that equal their originals, and images whose cells are lent or owned.
+-- Images whose cells are lent or owned.
 use Rattle.std.specs.Prelude.{◌≡◌, List, Vec, ⊤}
-use Rattle.std.specs.List.{All}
 use Rattle.std.specs.Borrow.{Bor}
 use Rattle.std.specs.Cow.{cow_slice_items, IsBorrowedSlice, IsOwnedSlice}
 use Rattle.std.specs.declared.borrow.CowSlice.{CowSlice}
@@ -8,10 +7,6 @@ use Rattle.std.specs.declared.borrow.CowSlice.TheVariants as slice
 use Rattle.image_model.specs.Layout.{Layout}
 use Rattle.imgref.specs.declared.img.Img.{Img}
 use Rattle.imgref.specs.Image.{buf_of, shape_of, layout_by}
-
--- each clone of a cell equals that cell
-abbrev pub ClonesEqual : {T : Type 0} → (T → T → Type 0) → List T → Type 0
-ClonesEqual {T} is_clone cells = All (λ x. (y : T) → is_clone x y → y ≡ x) cells
 
 -- the layout of an image whose cells are lent or owned
 abbrev pub cow_layout : {T Z : Type 0} → Img (CowSlice T Z) → Layout T

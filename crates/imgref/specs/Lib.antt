@@ -1,5 +1,7 @@
 pub use Rattle.image_shape.specs.Shape
 pub use Rattle.image_shape.specs.Window
+pub use Rattle.image_cells.specs.Clones
+pub use Rattle.image_cells.specs.Pairs
 pub use Rattle.image_rows.specs.Rows
 pub use Rattle.image_pixels.specs.Marks
 pub use Rattle.image_pixels.specs.Pixels
@@ -9,4 +11,3 @@ pub mod Copies
 pub mod Eqhash
 pub mod Image
 pub mod Index
-pub mod Pairs

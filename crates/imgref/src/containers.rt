@@ -1,25 +1,12 @@
-//! What images are made of: containers of cells, read and written as slices.
+//! Containers whose cells can be written, as images take them.
 
-ghost use Rattle.std.specs.Prelude.{◌≡◌, refl, Bool, true, false, ℕ, ◌+◌, ◌-◌, ◌≤◌, ◌<◌, List, length, slice_range, slice_set, slice_get, Some};
+ghost use Rattle.std.specs.Prelude.{◌≡◌, refl, Bool, true, false, ℕ, ◌+◌, ◌≤◌, ◌<◌, List, length, slice_set, slice_get, Some};
 ghost use Rattle.std.specs.Borrow.{sem, Lends, Array};
-ghost use Rattle.std.specs.Cow.{cow_slice_items};
 ghost use Rattle.std.specs.Vec.{with_items_from, with_item};
 ghost use Rattle.imgref.specs.Containers.{others_of_vec};
 ghost use Rattle.image_model.specs.Windows.{Stretch, stretch_cells, with_stretch};
 
-use std::borrow::CowSlice;
-
-/// A container whose cells can be read as a slice.
-pub trait AsSlice {
-    type Item;
-
-    /// The cells, in their order.
-    ghost cells: { Self → List Self.Item };
-
-    /// The cells as a slice.
-    fn as_slice(&self) -> &[Self::Item]
-        ensures { result.now ≡ cells self.now };
-}
+use image_cells::AsSlice;
 
 /// A container whose cells can be written: a stretch of them, as an image lends its windows, or one,
 /// as it does by index.
@@ -58,16 +45,6 @@ pub trait AsMutSlice: AsSlice {
     ghost other_cells_stay: { (c : Self) (at : ℕ) (value : Self.Item) → at < length (Self.cells c) → Self.cells (with_cell c at value) ≡ slice_set (Self.cells c) at value };
 }
 
-impl<T> AsSlice for Vec<T> {
-    type Item = T;
-
-    ghost cells = { λ v. v.items };
-
-    fn as_slice(&self) -> &[T] {
-        self.as_slice()
-    }
-}
-
 impl<T> AsMutSlice for Vec<T> {
     ghost roomy_windows = { false };
 
@@ -92,26 +69,6 @@ impl<T> AsMutSlice for Vec<T> {
     ghost other_cells_stay = { λ c at value within. refl };
 }
 
-impl<'a, T> AsSlice for &'a [T] {
-    type Item = T;
-
-    ghost cells = { λ s. s.now };
-
-    fn as_slice(&self) -> &[T] {
-        &self[..]
-    }
-}
-
-impl<'a, T> AsSlice for &'a mut [T] {
-    type Item = T;
-
-    ghost cells = { λ s. s.now };
-
-    fn as_slice(&self) -> &[T] {
-        &**self
-    }
-}
-
 impl<'a, T> AsMutSlice for &'a mut [T] {
     ghost roomy_windows = { true };
 
@@ -134,14 +91,4 @@ impl<'a, T> AsMutSlice for &'a mut [T] {
     ghost others_stay = { λ c s ws within same. refl };
 
     ghost other_cells_stay = { λ c at value within. refl };
-}
-
-impl<'a, T: Clone> AsSlice for CowSlice<'a, T> {
-    type Item = T;
-
-    ghost cells = { cow_slice_items };
-
-    fn as_slice(&self) -> &[T] {
-        self.as_ref()
-    }
 }

@@ -1,23 +1,12 @@
 //! Copies of images, padding included.
 
 ghost use Rattle.std.specs.Prelude.{◌≡◌, IfOk};
+ghost use Rattle.image_cells.specs.Clones.{ClonesEqual};
 ghost use Rattle.imgref.specs.Image.{buf_of, layout_by, vec_layout};
-ghost use Rattle.imgref.specs.Copies.{ClonesEqual};
 
-use crate::containers::AsSlice;
 use crate::img::{Img, ImgVec};
+use image_cells::{AsSlice, cloned};
 use std::alloc::{AllocError, Global};
-use std::vec::VecCloneMethods;
-
-// The cells in a buffer of their own, whose room is taken once.
-pub(crate) fn cloned<T: Clone>(alloc: Global, cells: &[T]) -> Result<Vec<T>, AllocError>
-    requires clones_equal { ClonesEqual T.is_clone cells.now }
-    ensures { IfOk result (λ v. v.items ≡ cells.now) }
-{
-    let mut buf: Vec<T> = Vec::with_capacity(alloc, cells.len())?;
-    buf.extend_from_slice(cells)?;
-    Ok(buf)
-}
 
 impl<C: AsSlice> Img<C> {
     /// A copy of the whole image in a buffer of its own: the same size, the same stride and every

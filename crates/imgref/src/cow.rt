@@ -5,12 +5,12 @@ ghost use Rattle.std.specs.Cow.{IsBorrowedSlice, IsOwnedSlice};
 ghost use Rattle.image_model.specs.Layout.{Fits};
 ghost use Rattle.image_model.specs.Rows.{joined_rows};
 ghost use Rattle.image_model.specs.Kept.{packed};
+ghost use Rattle.image_cells.specs.Clones.{ClonesEqual};
 ghost use Rattle.imgref.specs.Image.{buf_of, vec_layout};
-ghost use Rattle.imgref.specs.Copies.{ClonesEqual, cow_layout, IsBufferOf, IsOwnedAs, IsLentAs};
+ghost use Rattle.imgref.specs.Copies.{cow_layout, IsBufferOf, IsOwnedAs, IsLentAs};
 
-use crate::contiguous::joined_clones;
-use crate::copies::cloned;
 use crate::img::{Img, ImgRef, ImgVec};
+use image_cells::{cloned, joined_clones};
 use image_shape::Shape;
 use std::alloc::Global;
 use std::borrow::CowSlice;
@@ -33,7 +33,7 @@ impl<'a, T: Clone> Img<CowSlice<'a, T>> {
         let Img { buf, shape } = self;
         match buf {
             CowSlice::Owned(buf) => Ok(Img { buf, shape }),
-            CowSlice::Borrowed(pixels) => match joined_clones(alloc, Img { buf: pixels, shape }) {
+            CowSlice::Borrowed(pixels) => match joined_clones(alloc, pixels, shape) {
                 Ok(buf) => Ok(Img {
                     buf,
                     shape: Shape::new(shape.width(), shape.height(), shape.width().max(1)),

@@ -5,7 +5,7 @@ ghost use Rattle.std.specs.Borrow.{sem, Lends};
 ghost use Rattle.image_model.specs.Layout.{Fits};
 ghost use Rattle.image_model.specs.Windows.{IsInside, window};
 
-use crate::containers::AsSlice;
+use image_cells::AsSlice;
 use image_shape::{Shape, Window};
 use std::alloc::AllocError;
 
@@ -174,22 +174,12 @@ impl<Container> Img<Container> {
 }
 
 impl<Container: AsSlice> Img<Container> {
-    ghost use Rattle.imgref.specs.Image.{layout_by, ref_layout};
+    ghost use Rattle.imgref.specs.Image.{layout_by};
 
     /// Whether the image fits: its cells reach to its last pixel, or it has no pixel at all.
     pub fn is_valid(&self) -> bool
         ensures { IsTrue result ↔ Fits (layout_by Container.cells self.now) }
     {
         self.shape.fits(self.buf.as_slice().len())
-    }
-
-    // The whole image for reading, with its whole buffer.
-    pub(crate) fn seen(&self) -> ImgRef<'_, Container::Item>
-        ensures { ref_layout result ≡ layout_by Container.cells self.now }
-    {
-        Img {
-            buf: self.buf.as_slice(),
-            shape: self.shape,
-        }
     }
 }

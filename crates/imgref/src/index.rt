@@ -1,15 +1,16 @@
 //! Cells and rows of an image by number.
 
-ghost use Rattle.std.specs.Prelude.{◌≡◌, ◌+◌, ◌≤◌, ◌<◌, length, take, drop, Some};
+ghost use Rattle.std.specs.Prelude.{◌≡◌, ◌<◌, length, Some};
 ghost use Rattle.std.specs.Borrow.{sem, Lends, Array};
 ghost use Rattle.image_model.specs.Layout.{Fits, pixel};
 ghost use Rattle.image_model.specs.Rows.{row as row_of};
 ghost use Rattle.imgref.specs.contracts.img.Img.{the_row};
-ghost use Rattle.imgref.specs.Image.{buf_of, width_of, height_of, layout_by};
-ghost use Rattle.imgref.specs.Index.{HasCell, row_start, with_cell_at, with_row, PatchesGrid, KeepsOutside, KeepsFit, RowPatchesGrid, RowKeepsOutside, RowKeepsFit};
+ghost use Rattle.imgref.specs.Image.{width_of, height_of, layout_by};
+ghost use Rattle.imgref.specs.Index.{HasCell, with_cell_at, with_row, PatchesGrid, KeepsOutside, KeepsFit, RowPatchesGrid, RowKeepsOutside, RowKeepsFit};
 
-use crate::containers::{AsMutSlice, AsSlice};
+use crate::containers::AsMutSlice;
 use crate::img::Img;
+use image_cells::{AsSlice, row, row_start};
 use std::ops::{Index, IndexMut};
 
 /// The cell at column `x` of row `y`, by `img[(x, y)]`: cell `y * stride + x`. The column is below
@@ -73,22 +74,6 @@ impl<C: AsMutSlice> IndexMut<(u32, u32)> for Img<C> {
 }
 
 impl<C: AsSlice> Img<C> {
-    // The cell that row `y` begins at. At width 0 that is 0: the product might not fit.
-    fn row_start(&self, y: usize) -> usize
-        requires below { y < height_of self.now }
-        requires fits { Fits (layout_by C.cells self.now) }
-        ensures value { result ≡ row_start (layout_by C.cells self.now) y }
-        ensures room { result + width_of self.now ≤ length (C.cells (buf_of self.now)) }
-        ensures cells { take (width_of self.now) (drop result (C.cells (buf_of self.now))) ≡ row_of (layout_by C.cells self.now) y }
-    {
-        let _len = self.buf.as_slice().len();
-        if self.shape.width() == 0 {
-            0
-        } else {
-            y * self.shape.stride()
-        }
-    }
-
     /// The pixels of row `y`: the `width` cells from `y * stride` on, none at width 0. The image
     /// fits, and `y` is below the height.
     pub fn row(&self, y: usize) -> &[C::Item]
@@ -97,10 +82,7 @@ impl<C: AsSlice> Img<C> {
         ensures value { result.now ≡ row_of (layout_by C.cells self.now) y }
         ensures len { length result.now ≡ width_of self.now }
     {
-        let start = self.row_start(y);
-        let cells = self.buf.as_slice();
-        let _len = cells.len();
-        &cells[start..start + self.shape.width()]
+        row(self.buf.as_slice(), self.shape, y)
     }
 }
 
@@ -118,8 +100,7 @@ impl<C: AsMutSlice> Img<C> {
         ensures outside { RowKeepsOutside C.AsSlice.cells C.with_cells self.old y }
         ensures fits { RowKeepsFit C.AsSlice.cells C.with_cells self.old y }
     {
-        let start = self.row_start(y);
-        let _len = self.buf.as_slice().len();
+        let start = row_start(self.buf.as_slice(), self.shape, y);
         let width = self.shape.width();
         self.buf.stretch_mut(start, width)
     }

@@ -28,7 +28,8 @@ mod places;
 mod rows;
 mod window;
 
-pub use containers::{AsMutSlice, AsSlice};
+pub use containers::AsMutSlice;
+pub use image_cells::AsSlice;
 pub use image_pixels::{PixelsIter, PixelsIterMut, PixelsRefIter, fill_pixels};
 pub use image_rows::{End, RowsIter, RowsIterMut};
 pub use image_shape::{Shape, Stretch, Window};

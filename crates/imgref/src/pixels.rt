@@ -10,8 +10,9 @@ ghost use Rattle.image_model.specs.Rows.{pixels as pixels_of, grid_pixels};
 ghost use Rattle.image_pixels.specs.Pixels.{refs_left, copies_left};
 ghost use Rattle.imgref.specs.Image.{buf_of, width_of, height_of, layout_by, with_all, ref_layout};
 
-use crate::containers::{AsMutSlice, AsSlice};
+use crate::containers::AsMutSlice;
 use crate::img::Img;
+use image_cells::AsSlice;
 use image_pixels::{PixelsIter, PixelsIterMut, PixelsRefIter, fill_pixels};
 use image_shape::Shape;
 

@@ -6,8 +6,9 @@ ghost use Rattle.image_model.specs.Grid.{grid_of, patch, uniform};
 ghost use Rattle.image_model.specs.Windows.{IsInside, window};
 ghost use Rattle.imgref.specs.Image.{width_of, height_of, layout_by};
 
-use crate::containers::{AsMutSlice, AsSlice};
+use crate::containers::AsMutSlice;
 use crate::img::Img;
+use image_cells::AsSlice;
 use image_pixels::fill_pixels;
 
 impl<C: AsSlice> Img<C> {

@@ -9,8 +9,9 @@ ghost use Rattle.image_rows.specs.Rows.{refs_left, muts_left, cells_left, spacin
 ghost use Rattle.imgref.specs.contracts.img.Img.{the_row};
 ghost use Rattle.imgref.specs.Image.{buf_of, width_of, height_of, stride_of, layout_by, with_all, ref_layout};
 
-use crate::containers::{AsMutSlice, AsSlice};
+use crate::containers::AsMutSlice;
 use crate::img::Img;
+use image_cells::AsSlice;
 use image_rows::{RowsIter, RowsIterMut};
 
 impl<'s, T> Img<&'s [T]> {

@@ -5,29 +5,15 @@ ghost use Rattle.std.specs.Borrow.{sem, follows, Array};
 ghost use Rattle.image_model.specs.Layout.{Fits};
 ghost use Rattle.image_model.specs.Grid.{grid_of};
 ghost use Rattle.image_model.specs.Windows.{window, window_view, IsInside, IsWithin, roomy_stretch, roomy_window, window_layout, stretch_cells, with_stretch};
-ghost use Rattle.image_shape.specs.Shape.{shape_width, shape_height, shaped};
+ghost use Rattle.image_shape.specs.Shape.{shaped};
 ghost use Rattle.image_shape.specs.Window.{as_window, as_stretch};
 ghost use Rattle.imgref.specs.contracts.img.Img.{the_row};
 ghost use Rattle.imgref.specs.Image.{buf_of, width_of, height_of, stride_of, layout_by, with_all, with_window, ref_layout, mut_layout};
 
-use crate::containers::{AsMutSlice, AsSlice};
+use crate::containers::AsMutSlice;
 use crate::img::{Img, ImgRef, ImgRefMut};
+use image_cells::{AsSlice, roomy_part};
 use image_shape::{Shape, Stretch, Window};
-
-// The roomy window of an image of shared cells.
-fn shared_window<'s, T>(cells: &'s [T], shape: Shape, window: Window) -> ImgRef<'s, T>
-    requires fits { Fits (shaped cells.now shape) }
-    requires inside { IsInside (shape_width shape) (shape_height shape) (as_window window) }
-    ensures layout { ref_layout result ≡ roomy_window (shaped cells.now shape) (as_window window) }
-    ensures fits { Fits (ref_layout result) }
-    ensures view { grid_of (ref_layout result) ≡ window_view (grid_of (shaped cells.now shape)) (as_window window) }
-{
-    let part = shape.stretch(true, cells.len(), window);
-    Img {
-        buf: &cells[part.start..part.start + part.len],
-        shape: shape.window(window),
-    }
-}
 
 impl<'s, T> Img<&'s [T]> {
     /// The window of `width` by `height` pixels with its corner at column `left` of row `top`, over
@@ -50,7 +36,8 @@ impl<'s, T> Img<&'s [T]> {
             width,
             height,
         };
-        shared_window(self.buf, self.shape, window)
+        let (buf, shape) = roomy_part(self.buf, self.shape, window);
+        Img { buf, shape }
     }
 }
 
@@ -139,14 +126,18 @@ impl<C: AsMutSlice> Img<C> {
             width,
             height,
         };
-        shared_window(self.buf.as_slice(), self.shape, window)
+        let (buf, shape) = roomy_part(self.buf.as_slice(), self.shape, window);
+        Img { buf, shape }
     }
 
     /// The whole image for reading, with its whole buffer. It need not fit.
     pub fn as_ref(&self) -> ImgRef<'_, C::Item>
         ensures { ref_layout result ≡ layout_by C.AsSlice.cells self.now }
     {
-        self.seen()
+        Img {
+            buf: self.buf.as_slice(),
+            shape: self.shape,
+        }
     }
 
     /// The whole image for writing, with its whole buffer. It need not fit. Once the borrow ends,

@@ -2,7 +2,8 @@
 use Rattle.std.proofs.Common.{subst}
 use Rattle.std.specs.Cow.{IsBorrowedSlice}
 use Rattle.image_model.specs.Rows.{joined_rows}
-use Rattle.imgref.specs.Copies.{ClonesEqual, cow_layout}
+use Rattle.image_cells.specs.Clones.{ClonesEqual}
+use Rattle.imgref.specs.Copies.{cow_layout}
 use Rattle.imgref.proofs.cow.Img+CowSlice+T.into_owned.Goals as goal
 
 pub joined_clones-requires-clause-clones_equal : goal.joined_clones-requires-clause-clones_equal

@@ -16,7 +16,7 @@ returns g c =
       record {
         writes_back = tt;
         value = search rules;
-        len = ap length c.stretch_mut.ensures.value ∙ length-stretch_cells (cells i.buf) (record { start = c.row_start-start.result; len = c.width-width.result }) (omega (arith, c.row_start-start.ensures.room, c.width-width.ensures.value)) ∙ c.width-width.ensures.value;
+        len = ap length c.stretch_mut.ensures.value ∙ length-stretch_cells (cells i.buf) (record { start = c.row_start-start.result; len = c.width-width.result }) (omega (arith, c.row_start-start.ensures.room, c.width-width.ensures.value, ap length c.as_slice.ensures)) ∙ c.width-width.ensures.value;
         grid = row_patches cells with_cells stay i c.args.y c.requires.fits c.requires.below c.width-width.ensures.within;
         outside = row_keeps cells with_cells stay i c.args.y c.requires.fits c.requires.below;
         fits = row_fits cells with_cells stay i c.args.y c.requires.fits c.requires.below;

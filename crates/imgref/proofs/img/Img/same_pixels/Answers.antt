@@ -3,6 +3,7 @@ use Rattle.std.proofs.Common.{subst, sym, ap, ◌∙◌}
 use Rattle.std.specs.Bool.{Decides}
 use Rattle.image_model.specs.Alike.{Alike, is_alike}
 use Rattle.image_model.proofs.Alike.{is_alike_decides}
+use Rattle.image_shape.specs.Shape.{shaped}
 use Rattle.imgref.specs.Image.{layout_by, ref_layout}
 use Rattle.imgref.proofs.img.Img.same_pixels.Goals as goal
 
@@ -11,4 +12,4 @@ returns-clause-places g c =
     let eq = g.C.Item.PartialEq.eq in
     let k = layout_by g.C.AsSlice.cells c.args.self.now in
     let l = ref_layout c.args.other in
-    subst (λ b. Decides b (Alike eq k l)) (sym (c.are_equal.ensures ∙ ap (λ m. is_alike eq m l) c.seen.ensures)) (is_alike_decides eq k l)
+    subst (λ b. Decides b (Alike eq k l)) (sym (c.are_equal.ensures ∙ ap (λ cells. is_alike eq (shaped cells c.args.self.now.shape) l) c.as_slice.ensures)) (is_alike_decides eq k l)

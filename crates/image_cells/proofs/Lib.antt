@@ -1,0 +1,3 @@
+pub mod FirstRows
+pub mod Elements
+pub mod EqualClones

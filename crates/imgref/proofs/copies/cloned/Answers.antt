@@ -1,7 +1,0 @@
--- Clones appended to an empty buffer.
-use Rattle.imgref.proofs.Clones.{appended_to_none}
-use Rattle.imgref.proofs.copies.cloned.Goals as goal
-
-pub returns : goal.returns
-returns g c =
-    appended_to_none g.T.Clone.is_clone c.in_ok-buf.buf.items c.extend_from_slice.new.self.items c.args.cells.now c.in_ok-buf.ensures.items c.requires.clones_equal c.in_ok-extend_from_slice.ensures.items
