@@ -1,17 +1,17 @@
 -- The last row of a list of cells: which cells it has, and what an image shows once it is filled.
 use Rattle.std.proofs.Common.{◌≡◌, ℕ, zero, suc, ◌+◌, ◌-◌, ◌*◌, ◌<◌, ◌≤◌, List, [], ◌∷◌, ◌++◌, All, subst, length, take, drop, replicate, None, Some, MutBor, refl, sym, ap, ◌∙◌, arith, length-append, length-drop}
-use Rattle.std.proofs.lemmas.List.{drop-drop}
+use Rattle.std.proofs.lemmas.List.{drop-drop, length-replicate}
 use Rattle.std.proofs.lemmas.List.Elements.{All-contains, Contains-push}
 use Rattle.std.proofs.Math.Nat.{mul_comm}
 use Rattle.std.proofs.Math.Seq.{take-append_seam}
 use Rattle.image_model.specs.Grid.{grid_of, patch, uniform}
 use Rattle.image_model.specs.Layout.{Layout, Fits, SameOutside}
 use Rattle.image_model.specs.Rows.{row_count}
-use Rattle.image_model.specs.Windows.{Window, window, Stretch, with_stretch}
+use Rattle.image_model.specs.Windows.{Stretch, with_stretch}
 use Rattle.image_model.proofs.Grids.{same_grids}
+use Rattle.image_model.proofs.OneRow.{row_has, row_grid, row_outside, one_row_of_one}
 use Rattle.image_model.proofs.Places.{outside_refl}
 use Rattle.image_model.proofs.Rows.{row_count-wide, some_column}
-use Rattle.image_model.proofs.Windows.{HasWindow}
 use Rattle.imgref.specs.Index.{row_start}
 use Rattle.imgref.specs.Rows.{whole_spacing, let_go, muts_left, cells_left, spacing_left, put_back, Yields, Moves}
 use Rattle.image_rows.specs.declared.ends.End.TheVariants.{Last}
@@ -20,7 +20,6 @@ use Rattle.imgref.specs.declared.img.Img.{Img}
 use Rattle.imgref.specs.Image.{buf_of, width_of, stride_of, with_all, layout_by}
 use Rattle.imgref_callers.specs.Rows.{with_last_row, with_last_of}
 use Rattle.imgref_callers.proofs.Replaced.{new_layout, new_container}
-use Rattle.imgref_callers.proofs.OneRow.{has_row, one_row_grid_of, one_row_outside}
 
 -- ---- what a step from the back says, of an iterator over all rows
 
@@ -68,12 +67,6 @@ module _ {T : Type 0} (l : Layout T) (narrow : l.width ≤ l.stride) (fits : Fit
   with_rows n = record l { cells = with_last_of n l value }
 
   module _ (n : ℕ) (counted : suc n ≡ row_count l.width l.height) where
-    abbrev last : Window
-    last = window 0 (l.height - 1) l.width 1
-
-    abbrev its_cells : Stretch
-    its_cells = record { start = n * l.stride; len = l.width }
-
     wide : 0 < l.width
     wide = some_column l.width l.height 0 (omega (arith, counted))
 
@@ -83,17 +76,24 @@ module _ {T : Type 0} (l : Layout T) (narrow : l.width ≤ l.stride) (fits : Fit
     start_is : n * l.stride ≡ l.stride * (l.height - 1)
     start_is = let e : n ≡ l.height - 1 = omega (arith, high) in ap (λ k. k * l.stride) e ∙ mul_comm (l.height - 1) l.stride
 
-    has : HasWindow (length l.cells) l.stride last its_cells
-    has =
-        let row = has_row l fits (l.height - 1) (omega (arith, high)) in
-        let same : row_start l (l.height - 1) ≡ its_cells.start = omega (arith, row.begins wide (omega arith), start_is) in
-        subst (λ k. HasWindow (length l.cells) l.stride last (record { start = k; len = l.width })) same row
+    below : l.height - 1 < l.height
+    below = omega (arith, high)
+
+    same : row_start l (l.height - 1) ≡ n * l.stride
+    same = omega (arith, (row_has l (l.height - 1) fits below).begins wide (omega arith), start_is)
+
+    -- filled from cell k on
+    abbrev from : ℕ → Layout T
+    from k = record l { cells = with_stretch l.cells (record { start = k; len = l.width }) (replicate l.width value) }
 
     filled_grid : grid_of (with_rows (suc n)) ≡ patch (grid_of l) 0 (l.height - 1) (uniform l.width 1 value)
-    filled_grid = one_row_grid_of l value narrow (l.height - 1) (omega (arith, high)) (n * l.stride) has
+    filled_grid =
+        ap (λ k. grid_of (from k)) (sym same)
+        ∙ row_grid l (l.height - 1) fits below narrow (replicate l.width value) (length-replicate l.width value)
+        ∙ ap (patch (grid_of l) 0 (l.height - 1)) (one_row_of_one l.width value)
 
     filled_outside : SameOutside l (with_rows (suc n))
-    filled_outside = one_row_outside l value narrow (l.height - 1) (omega (arith, high)) (n * l.stride) has
+    filled_outside = subst (λ k. SameOutside l (from k)) same (row_outside l (l.height - 1) fits below (replicate l.width value) (length-replicate l.width value))
 
   -- without a row there is no place
   no_place : 0 ≡ row_count l.width l.height → (x y : ℕ) → x < l.width → y < l.height → ⊥
