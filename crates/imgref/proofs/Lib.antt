@@ -1,3 +1,4 @@
+pub mod Numbers
 pub mod Shapes
 pub mod Values
 pub mod Writes

@@ -1,4 +1,4 @@
--- Machine values by what they hold: a window, a stretch, a shape, an image of a slice for writing, and its parts.
+-- Machine values by what they hold: a window, a stretch, a shape, an image of a slice for writing, and its parts; and a lent slice as a container.
 use mathlib.Core.Path.{◌≡◌, refl, ◌∙◌}
 use Prim.Native.Nat.{ℕ, ◌^◌, ◌<◌}
 use mathlib.Core.List.{List, [], ◌∷◌, ◌++◌}
@@ -6,18 +6,24 @@ use lib.ListN.{length}
 use seplogic.Ra.Ura.{Ura}
 use base.Fml.{Lft}
 use base.Logic.{ent, emp}
-use mir.Syntax.{Lifetime, w32, w64}
+use mir.Syntax.{Lifetime, Ty, named, w32, w64, ty_ptr, ty_int, ty_struct, tcons, tnil}
 use mir.Val.{Val, vint, vstruct, vcons, vnil, of_list}
 use types.Logic.{Logic, sem}
 use types.Kit.{‵, ◌$◌, ◌∵◌, !, qed, move, fjoin, fpack, feq_i, use0, done}
 use denote.Builtin.{u32, usize}
+use denote.Exit.{no}
 use denote.Laws.{Is}
+use denote.Param.{param, arg}
+use denote.Param.Laws.{Laws, arg_laws, param_laws, of_field, is_one, row_shared}
+use denote.Param.Shared.{mut_slice_shared}
 use denote.Plain.{uint_Makes}
 use denote.RattleType.{RattleType, Valss}
 use denote.Ref.{MutBor}
 use denote.Slice.{MutSlice, Room, slice_val}
 use denote.Steps.{nothing, owned}
 use denote.Struct.Declared.{shape as fields}
+use denote.Struct.Field.{mut_slice_field}
+use denote.Struct.Laws.{mut_slice_laws}
 use denote.Struct.Struct.{within}
 use denote.Struct.Tuple.{Tuple}
 use Rattle.image_shape.specs.declared.window.Window.{Window}
@@ -27,6 +33,7 @@ use Rattle.image_shape.specs.contracts.window.Stretch as stretch
 use Rattle.image_shape.specs.declared.shape.Shape.{Shape}
 use Rattle.image_shape.specs.contracts.shape.Shape as shape
 use Rattle.imgref.specs.declared.img.Img.{Img}
+use Rattle.imgref.specs.Image.{shape_of}
 use Rattle.imgref.specs.contracts.img.Img.{the_row, the_type}
 
 -- ---- a window
@@ -83,7 +90,7 @@ module _ {M : Type 1} {𝓤 : Ura M} (𝓛 : Logic 𝓤) where
 
 -- ---- an image
 abbrev pub img_val : ℕ × ℕ → ℕ → Shape → Val
-img_val p n s = vstruct (vcons (slice_val p n) (vcons (shape_val s) vnil))
+img_val p n s = vstruct (vcons (slice_val p n) (vcons (vint w32 s.width) (vcons (vint w32 s.height) (vcons (vint w64 s.stride) vnil))))
 
 module _ (ℓ : Lifetime) (κ : Lft) (R : RattleType) where
   abbrev pub img_row : RattleType
@@ -92,21 +99,14 @@ module _ (ℓ : Lifetime) (κ : Lft) (R : RattleType) where
   abbrev pub Cells : Type 0
   Cells = MutBor (List R.Denot)
 
-  pub img_told : (x : Img Cells) (vs : List Val) → Is img_row x vs → (vs ≡ img_val x.buf.ref_ptr (length x.buf.now) x.shape ∷ []) × Room R (length x.buf.now) × (x.shape.width < 2 ^ 32) × (x.shape.height < 2 ^ 32) × (x.shape.stride < 2 ^ 64)
-  img_told x vs is =
-      let s = shape_told x.shape _ is.1.1.1.0 in
-      (is.1.0 ∙ (λ i. vstruct (of_list (is.1.1.0.0.0 i ++ (s.0 i ++ []))) ∷ []), is.1.1.0.0.1, s.1, s.2, s.3)
-
-  module _ {M : Type 1} {𝓤 : Ura M} (𝓛 : Logic 𝓤) where
-    -- the image of a slice in a shape
-    pub img_made : (x : Img Cells) (p : ℕ × ℕ) (n : ℕ) → x.shape.width < 2 ^ 32 → x.shape.height < 2 ^ 32 → x.shape.stride < 2 ^ 64
-        → ent 𝓤 (sem 𝓛 ((MutSlice ℓ κ R).own_val x.buf (slice_val p n ∷ []))) (sem 𝓛 (img_row.own_val x (img_val p n x.shape ∷ [])))
-    img_made x p n fw fh fs = qed 𝓛 (‵ ((MutSlice ℓ κ R).own_val x.buf (slice_val p n ∷ [])) ∷ []) ∵
-        nothing ! $ use0 𝓛 (‵ (shape.the_row.own_val x.shape (shape_val x.shape ∷ []))) (shape_made 𝓛 x.shape fw fh fs) $ fjoin ! $
-        move ! (1 ∷ 0 ∷ []) $ fjoin ! $
-        feq_i ! (List Val) (img_val p n x.shape ∷ []) (img_val p n x.shape ∷ []) refl $ fjoin ! $
-        fpack ! (Valss (MutSlice ℓ κ R ∷ shape.the_row ∷ [])) (within (fields (the_type (MutSlice ℓ κ R))) (x.buf, ((x.shape.width, (x.shape.height, (x.shape.stride, tt))), tt)) (img_val p n x.shape ∷ []))
-        (slice_val p n ∷ [], (shape_val x.shape ∷ [], tt)) $ done !
+  pub img_told : (x : Img Cells) (vs : List Val) → Is img_row x vs → (vs ≡ img_val x.buf.ref_ptr (length x.buf.now) (shape_of x) ∷ []) × Room R (length x.buf.now) × (x.width < 2 ^ 32) × (x.height < 2 ^ 32) × (x.stride < 2 ^ 64)
+  img_told x vs is = (
+    is.1.0 ∙ (λ i. vstruct (of_list (is.1.1.0.0.0 i ++ (is.1.1.1.0.0 i ++ (is.1.1.1.1.0.0 i ++ (is.1.1.1.1.1.0.0 i ++ []))))) ∷ []),
+    is.1.1.0.0.1,
+    is.1.1.1.0.1,
+    is.1.1.1.1.0.1,
+    is.1.1.1.1.1.0.1,
+  )
 
 -- ---- the parts of an image and of a window of it
 abbrev pub parts_val : ℕ × ℕ → ℕ → Stretch → Shape → Val
@@ -122,3 +122,18 @@ module _ (ℓ : Lifetime) (κ : Lft) (R : RattleType) where
       let at = stretch_told x.1 _ is.1.1.1.0 in
       let s = shape_told x.2 _ is.1.1.1.1.0 in
       (is.1.0 ∙ (λ i. vstruct (of_list (is.1.1.0.0.0 i ++ (at.0 i ++ (s.0 i ++ [])))) ∷ []), is.1.1.0.0.1, at.1, at.2, s.1, s.2, s.3)
+
+-- ---- cells that are lent for writing, as the container of an image
+-- as a call passes it: a pointer and a count
+abbrev cells_ty : Ty
+cells_ty = ty_struct [] (tcons ty_ptr (tcons (ty_int w64) tnil))
+
+module _ (κ : Lft) (T : RattleType) where
+  abbrev pub LentCells : RattleType
+  LentCells = arg cells_ty no (MutSlice (named 0) κ (param 0 T))
+
+  pub lent_cells_laws : Laws T → Laws LentCells
+  lent_cells_laws L =
+      let R : RattleType = param 0 T in
+      let LR : Laws R = param_laws 0 T L in
+      arg_laws cells_ty no (MutSlice (named 0) κ R) (of_field (mut_slice_field (record { mir = named 0; lft = κ }) R (is_one R LR)) (mut_slice_laws (record { mir = named 0; lft = κ }) R (is_one R LR)) refl (mut_slice_shared (record { mir = named 0; lft = κ }) R (is_one R LR) (row_shared R LR))) refl

@@ -1,10 +1,9 @@
 -- What a contract sees of an image: its container, its shape and the layout that they make; and the image with other cells.
 use Rattle.std.specs.Prelude.{ℕ, Bool, List, Vec, length}
 use Rattle.std.specs.Borrow.{Bor, MutBor}
-use Rattle.image_model.specs.Layout.{Layout}
+use Rattle.image_model.specs.Layout.{Layout, layout}
 use Rattle.image_model.specs.Windows.{Window, Stretch, window_stretch, whole}
 use Rattle.image_shape.specs.declared.shape.Shape.{Shape}
-use Rattle.image_shape.specs.Shape.{shape_width, shape_height, shape_stride, shaped}
 use Rattle.imgref.specs.declared.img.Img.{Img}
 
 module _ {C : Type 0} where
@@ -14,19 +13,19 @@ module _ {C : Type 0} where
 
   -- the size and the stride
   abbrev pub shape_of : Img C → Shape
-  shape_of i = i.shape
+  shape_of i = record { width = i.width; height = i.height; stride = i.stride; stride_positive = i.stride_positive; width_within = i.width_within }
 
   -- the number of columns
   abbrev pub width_of : Img C → ℕ
-  width_of i = shape_width i.shape
+  width_of i = i.width
 
   -- the number of rows
   abbrev pub height_of : Img C → ℕ
-  height_of i = shape_height i.shape
+  height_of i = i.height
 
   -- how many cells a row begins after the one before it
   abbrev pub stride_of : Img C → ℕ
-  stride_of i = shape_stride i.shape
+  stride_of i = i.stride
 
   -- the image with another container
   abbrev pub with_buf : Img C → C → Img C
@@ -36,7 +35,7 @@ module _ {C : Type 0} where
   module _ {T : Type 0} (cells : C → List T) where
     -- the layout of an image whose container has these cells
     abbrev pub layout_by : Img C → Layout T
-    layout_by i = shaped (cells i.buf) i.shape
+    layout_by i = layout (cells i.buf) i.width i.height i.stride
 
     -- the cells that a window takes, with whole strides or up to its last pixel
     abbrev pub stretch_by : Bool → Img C → Window → Stretch

@@ -20,7 +20,7 @@ impl<C: AsSlice> Img<C> {
         ensures length { length (N.cells (buf_of result)) ≡ length (C.cells (buf_of self)) }
         ensures shape { shape_of result ≡ shape_of self }
     {
-        let Img { buf, shape } = self;
+        let (buf, shape) = self.into_parts();
         Img::from_parts(callback(buf), shape)
     }
 
@@ -36,9 +36,9 @@ impl<C: AsSlice> Img<C> {
         ensures length { IfOk result (λ i. length (N.cells (buf_of i)) ≡ length (C.cells (buf_of self))) }
         ensures shape { IfOk result (λ i. shape_of i ≡ shape_of self) }
     {
-        let Img { buf, shape } = self;
+        let (buf, shape) = self.into_parts();
         match callback(buf) {
-            Ok(buf) => Ok(Img { buf, shape }),
+            Ok(buf) => Ok(Img::from_parts(buf, shape)),
             Err(e) => Err(e),
         }
     }
@@ -50,10 +50,7 @@ impl<C: AsSlice> Img<C> {
         ensures buf { buf_of result ≡ new_buf }
         ensures shape { shape_of result ≡ shape_of self.now }
     {
-        Img {
-            buf: new_buf,
-            shape: self.shape,
-        }
+        Img::from_parts(new_buf, self.shape())
     }
 }
 

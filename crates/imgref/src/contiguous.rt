@@ -34,9 +34,10 @@ impl<T: Copy> ImgVec<T> {
         ensures width { result.1 ≡ width_of self.old }
         ensures height { result.2 ≡ height_of self.old }
     {
-        self.shape = pack(&mut self.buf, self.shape);
-        let width = self.shape.width();
-        let height = self.shape.height();
+        let shape = self.shape();
+        self.stride = pack(&mut self.buf, shape).stride();
+        let width = self.width();
+        let height = self.height();
         (self.buf.as_slice(), width, height)
     }
 
@@ -72,7 +73,7 @@ impl<'a, T: Clone> ImgRef<'a, T> {
         ensures borrowed { IfOk result (λ r. IsBorrowedSlice r.0 ↔ (width_of self.now ≡ stride_of self.now)) }
         ensures succeeds { width_of self.now ≡ stride_of self.now → IsOk result }
     {
-        let pixels = contiguous(alloc, self.buf, self.shape)?;
+        let pixels = contiguous(alloc, self.buf, self.shape())?;
         Ok((pixels, self.width(), self.height()))
     }
 }

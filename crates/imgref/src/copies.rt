@@ -21,10 +21,7 @@ impl<C: AsSlice> Img<C> {
         ensures { IfOk result (λ i. vec_layout i ≡ layout_by C.cells self.now) }
     {
         let buf = cloned(alloc, self.buf.as_slice())?;
-        Ok(Img {
-            buf,
-            shape: self.shape,
-        })
+        Ok(Img::from_parts(buf, self.shape()))
     }
 }
 

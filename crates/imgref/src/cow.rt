@@ -30,18 +30,15 @@ impl<'a, T: Clone> Img<CowSlice<'a, T>> {
         ensures succeeds { IsOwnedSlice (buf_of self.entry) → IsOk result }
         ensures handed_back { IfErr result (λ i. i ≡ self.entry) }
     {
-        let Img { buf, shape } = self;
+        let (buf, shape) = self.into_parts();
         match buf {
-            CowSlice::Owned(buf) => Ok(Img { buf, shape }),
+            CowSlice::Owned(buf) => Ok(Img::from_parts(buf, shape)),
             CowSlice::Borrowed(pixels) => match joined_clones(alloc, pixels, shape) {
-                Ok(buf) => Ok(Img {
+                Ok(buf) => Ok(Img::from_parts(
                     buf,
-                    shape: Shape::new(shape.width(), shape.height(), shape.width().max(1)),
-                }),
-                Err(_) => Err(Img {
-                    buf: CowSlice::Borrowed(pixels),
-                    shape,
-                }),
+                    Shape::new(shape.width(), shape.height(), shape.width().max(1)),
+                )),
+                Err(_) => Err(Img::from_parts(CowSlice::Borrowed(pixels), shape)),
             },
         }
     }
@@ -57,15 +54,12 @@ impl<'a, T: Clone> Img<CowSlice<'a, T>> {
         ensures succeeds { IsOwnedSlice (buf_of self.entry) → IsOk result }
         ensures handed_back { IfErr result (λ i. i ≡ self.entry) }
     {
-        let Img { buf, shape } = self;
+        let (buf, shape) = self.into_parts();
         match buf {
-            CowSlice::Owned(buf) => Ok(Img { buf, shape }),
+            CowSlice::Owned(buf) => Ok(Img::from_parts(buf, shape)),
             CowSlice::Borrowed(cells) => match cloned(alloc, cells) {
-                Ok(buf) => Ok(Img { buf, shape }),
-                Err(_) => Err(Img {
-                    buf: CowSlice::Borrowed(cells),
-                    shape,
-                }),
+                Ok(buf) => Ok(Img::from_parts(buf, shape)),
+                Err(_) => Err(Img::from_parts(CowSlice::Borrowed(cells), shape)),
             },
         }
     }
@@ -76,10 +70,11 @@ impl<T: Clone> From<ImgVec<T>> for Img<CowSlice<'static, T>> {
     ghost from_gives = { IsOwnedAs };
 
     fn from(image: ImgVec<T>) -> Img<CowSlice<'static, T>> {
-        let (buf, shape) = image.into_parts();
         Img {
-            buf: CowSlice::Owned(buf),
-            shape,
+            buf: CowSlice::Owned(image.buf),
+            width: image.width,
+            height: image.height,
+            stride: image.stride,
         }
     }
 }
@@ -89,9 +84,6 @@ impl<'a, T: Clone> From<ImgRef<'a, T>> for Img<CowSlice<'a, T>> {
     ghost from_gives = { IsLentAs };
 
     fn from(image: ImgRef<'a, T>) -> Img<CowSlice<'a, T>> {
-        Img {
-            buf: CowSlice::Borrowed(image.buf),
-            shape: image.shape,
-        }
+        Img::from_parts(CowSlice::Borrowed(image.buf), image.shape())
     }
 }

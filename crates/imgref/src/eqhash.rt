@@ -19,7 +19,8 @@ impl<C: AsSlice> Img<C> {
         ensures value { result ≡ is_alike C.Item.eq (layout_by C.cells self.now) (ref_layout other.entry) }
         ensures places { IsTrue result ↔ Alike C.Item.eq (layout_by C.cells self.now) (ref_layout other.entry) }
     {
-        are_equal(self.buf.as_slice(), self.shape, other.buf, other.shape)
+        let shape = self.shape();
+        are_equal(self.buf.as_slice(), shape, other.buf, other.shape())
     }
 }
 
@@ -36,9 +37,9 @@ where
     fn eq(&self, other: &Self) -> bool {
         are_equal(
             self.buf.as_slice(),
-            self.shape,
+            self.shape(),
             other.buf.as_slice(),
-            other.shape,
+            other.shape(),
         )
     }
 }
@@ -61,6 +62,6 @@ where
     ghost respects_eq = { λ x y. (equal_fed C.cells (record { fed = C.Item.respects_eq })).fed x y };
 
     fn hash<H: Hasher>(&self, state: &mut H) {
-        feed(self.buf.as_slice(), self.shape, state);
+        feed(self.buf.as_slice(), self.shape(), state);
     }
 }

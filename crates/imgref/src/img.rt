@@ -19,7 +19,11 @@ use std::alloc::AllocError;
 #[derive(Drop)]
 pub struct Img<Container> {
     pub(crate) buf: Container,
-    pub(crate) shape: Shape,
+    pub(crate) width: u32,
+    pub(crate) height: u32,
+    pub(crate) stride: usize,
+    ghost stride_positive: { 1 ≤ stride },
+    ghost width_within: { width ≤ stride },
 }
 
 /// An image that owns its pixels.
@@ -45,6 +49,7 @@ impl<Container: Copy> Clone for Img<Container> {
 
 impl<Container> Img<Container> {
     // These name the type itself.
+    ghost use Rattle.image_shape.specs.Shape.{shape_width, shape_height, shape_stride};
     ghost use Rattle.imgref.specs.contracts.img.Img.{the_row};
     ghost use Rattle.imgref.specs.Image.{buf_of, shape_of, width_of, height_of, stride_of, with_buf};
 
@@ -60,8 +65,12 @@ impl<Container> Img<Container> {
         ensures height { height_of result ≡ height }
         ensures stride { stride_of result ≡ stride }
     {
-        let shape = Shape::new(width, height, stride);
-        Img { buf, shape }
+        Img {
+            buf,
+            width: width as u32,
+            height: height as u32,
+            stride,
+        }
     }
 
     /// The image of `width` by `height` pixels in `buf` without padding between its rows: its
@@ -83,8 +92,11 @@ impl<Container> Img<Container> {
     pub fn from_parts(buf: Container, shape: Shape) -> Self
         ensures buf { buf_of result ≡ buf }
         ensures shape { shape_of result ≡ shape }
+        ensures width { width_of result ≡ shape_width shape }
+        ensures height { height_of result ≡ shape_height shape }
+        ensures stride { stride_of result ≡ shape_stride shape }
     {
-        Img { buf, shape }
+        Self::new_stride(buf, shape.width(), shape.height(), shape.stride())
     }
 
     /// The container and the shape, taken out of the image.
@@ -96,15 +108,15 @@ impl<Container> Img<Container> {
         ensures buf { result.0 ≡ buf_of self }
         ensures shape { result.1 ≡ shape_of self }
     {
-        let Img { buf, shape } = self;
-        (buf, shape)
+        let shape = self.shape();
+        (self.buf, shape)
     }
 
     /// The size and the stride.
     pub fn shape(&self) -> Shape
         ensures { result ≡ shape_of self.now }
     {
-        self.shape
+        Shape::new(self.width as usize, self.height as usize, self.stride)
     }
 
     /// The number of pixels in a row.
@@ -113,7 +125,7 @@ impl<Container> Img<Container> {
         ensures within { width_of self.now ≤ stride_of self.now }
         ensures fits { width_of self.now < 2 ^ 32 }
     {
-        self.shape.width()
+        self.width as usize
     }
 
     /// The number of rows.
@@ -121,7 +133,7 @@ impl<Container> Img<Container> {
         ensures value { result ≡ height_of self.now }
         ensures fits { height_of self.now < 2 ^ 32 }
     {
-        self.shape.height()
+        self.height as usize
     }
 
     /// The number of cells from the start of a row to the start of the next one.
@@ -131,7 +143,7 @@ impl<Container> Img<Container> {
         ensures holds_width { width_of self.now ≤ stride_of self.now }
         ensures fits { stride_of self.now < 2 ^ 64 }
     {
-        self.shape.stride()
+        self.stride
     }
 
     /// The whole container, padding included.
@@ -164,7 +176,7 @@ impl<Container> Img<Container> {
         ensures { IsTrue result
             ↔ IsInside (width_of self.now) (height_of self.now) (window left top width height) }
     {
-        self.shape.has_window(Window {
+        self.shape().has_window(Window {
             left,
             top,
             width,
@@ -180,6 +192,6 @@ impl<Container: AsSlice> Img<Container> {
     pub fn is_valid(&self) -> bool
         ensures { IsTrue result ↔ Fits (layout_by Container.cells self.now) }
     {
-        self.shape.fits(self.buf.as_slice().len())
+        self.shape().fits(self.buf.as_slice().len())
     }
 }

@@ -25,7 +25,7 @@ impl<C: AsSlice> Index<(usize, usize)> for Img<C> {
     fn index(&self, index: (usize, usize)) -> &C::Item {
         let cells = self.buf.as_slice();
         let _len = cells.len();
-        &cells[index.1 * self.shape.stride() + index.0]
+        &cells[index.1 * self.stride() + index.0]
     }
 }
 
@@ -41,7 +41,7 @@ impl<C: AsMutSlice> IndexMut<(usize, usize)> for Img<C> {
         ensures fits { KeepsFit C.AsSlice.cells C.with_cell self.old index.0 index.1 }
     {
         let _len = self.buf.as_slice().len();
-        let at = index.1 * self.shape.stride() + index.0;
+        let at = index.1 * self.stride() + index.0;
         self.buf.cell_mut(at)
     }
 }
@@ -82,7 +82,7 @@ impl<C: AsSlice> Img<C> {
         ensures value { result.now ≡ row_of (layout_by C.cells self.now) y }
         ensures len { length result.now ≡ width_of self.now }
     {
-        row(self.buf.as_slice(), self.shape, y)
+        row(self.buf.as_slice(), self.shape(), y)
     }
 }
 
@@ -100,8 +100,8 @@ impl<C: AsMutSlice> Img<C> {
         ensures outside { RowKeepsOutside C.AsSlice.cells C.with_cells self.old y }
         ensures fits { RowKeepsFit C.AsSlice.cells C.with_cells self.old y }
     {
-        let start = row_start(self.buf.as_slice(), self.shape, y);
-        let width = self.shape.width();
+        let start = row_start(self.buf.as_slice(), self.shape(), y);
+        let width = self.width();
         self.buf.stretch_mut(start, width)
     }
 }

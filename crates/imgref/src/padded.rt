@@ -42,7 +42,7 @@ impl<Pixel, C: AsSlice<Item = Pixel>> ImgExt<Pixel> for Img<C> {
     ghost layout_of = { layout_by C.cells };
 
     fn width_padded(&self) -> usize {
-        self.shape.stride()
+        self.stride()
     }
 
     fn height_padded(&self) -> usize {
@@ -54,10 +54,7 @@ impl<Pixel, C: AsSlice<Item = Pixel>> ImgExt<Pixel> for Img<C> {
     }
 
     fn as_ref(&self) -> ImgRef<'_, Pixel> {
-        Img {
-            buf: self.buf.as_slice(),
-            shape: self.shape,
-        }
+        Img::from_parts(self.buf.as_slice(), self.shape())
     }
 }
 

@@ -18,6 +18,7 @@ impl<'s, T> Img<&'s [T]> {
         requires callable { TakesPlaces (F.pre f) (ref_layout self.now) (ref_layout other) }
         ensures { MatchBool result (AllPlacesAnswer (F.post f) (ref_layout self.now) (ref_layout other.entry)) (SomePlaceDiffers (F.post f) (ref_layout self.now) (ref_layout other.entry)) }
     {
-        agree_at_places(self.buf, self.shape, other.buf, other.shape, &f)
+        let shape = self.shape();
+        agree_at_places(self.buf, shape, other.buf, other.shape(), &f)
     }
 }

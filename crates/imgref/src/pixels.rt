@@ -27,7 +27,7 @@ impl<'s, T> Img<&'s [T]> {
         ensures countable { length (refs_left result) < 2 ^ 64 }
         ensures runs { YieldsRefsInOrder (YieldsFirstRef (refs_left {T = T})) refs_left }
     {
-        PixelsRefIter::new(self.buf, self.shape)
+        PixelsRefIter::new(self.buf, self.shape())
     }
 }
 
@@ -42,7 +42,7 @@ impl<'s, T: Copy> Img<&'s [T]> {
         ensures countable { length (copies_left result) < 2 ^ 64 }
         ensures runs { YieldsInOrder (YieldsFirst (copies_left {T = T})) copies_left }
     {
-        PixelsIter::new(self.buf, self.shape)
+        PixelsIter::new(self.buf, self.shape())
     }
 }
 
@@ -60,7 +60,7 @@ where
         ensures countable { length (copies_left result) < 2 ^ 64 }
         ensures runs { YieldsInOrder (YieldsFirst (copies_left {T = C.Item})) copies_left }
     {
-        PixelsIter::new(self.buf.as_slice(), self.shape)
+        PixelsIter::new(self.buf.as_slice(), self.shape())
     }
 }
 
@@ -75,7 +75,7 @@ impl<C: AsMutSlice> Img<C> {
         ensures fits { Fits (layout_by C.AsSlice.cells self.new) }
         ensures container { self.new ≡ with_all C.AsSlice.cells C.with_cells self.old (C.AsSlice.cells (buf_of self.new)) }
     {
-        let shape = self.shape;
+        let shape = self.shape();
         let len = self.buf.as_slice().len();
         fill_pixels(self.buf.stretch_mut(0, len), shape, value);
     }
@@ -88,12 +88,12 @@ impl<C: AsMutSlice> Img<C> {
     ghost use Rattle.imgref.specs.Image.{shape_of, stride_of, with_cells_of};
 
     // All cells, and the shape.
-    fn all_parts_mut(&mut self) -> (&mut [C::Item], Shape)
+    pub(crate) fn all_parts_mut(&mut self) -> (&mut [C::Item], Shape)
         ensures* hands_on { sem 𝓛 (follows (the_row C.row) (Array C.Item.row 0) self.entry.ghost_name result.0.ghost_name (with_all C.AsSlice.cells C.with_cells self.old)) }
         ensures cells { result.0.now ≡ C.AsSlice.cells (buf_of self.old) }
         ensures shape { result.1 ≡ shape_of self.old }
     {
-        let shape = self.shape;
+        let shape = self.shape();
         let len = self.buf.as_slice().len();
         (self.buf.stretch_mut(0, len), shape)
     }

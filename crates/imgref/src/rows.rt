@@ -25,7 +25,7 @@ impl<'s, T> Img<&'s [T]> {
         ensures countable { length (refs_left result) < 2 ^ 64 }
         ensures wide { All (λ row. length row ≡ width_of self.now) (refs_left result) }
     {
-        RowsIter::new(self.buf, self.shape)
+        RowsIter::new(self.buf, self.shape())
     }
 }
 
@@ -40,7 +40,7 @@ impl<C: AsMutSlice> Img<C> {
         ensures countable { length (refs_left result) < 2 ^ 64 }
         ensures wide { All (λ row. length row ≡ width_of self.now) (refs_left result) }
     {
-        RowsIter::new(self.buf.as_slice(), self.shape)
+        RowsIter::new(self.buf.as_slice(), self.shape())
     }
 
     /// The rows for writing, from top to bottom, or from bottom to top: `height` slices of `width`
@@ -58,7 +58,7 @@ impl<C: AsMutSlice> Img<C> {
         ensures countable { length (muts_left result) < 2 ^ 64 }
         ensures wide { All (λ row. length row ≡ width_of self.old) (muts_left result) }
     {
-        let shape = self.shape;
+        let shape = self.shape();
         let len = self.buf.as_slice().len();
         RowsIterMut::new(self.buf.stretch_mut(0, len), shape)
     }

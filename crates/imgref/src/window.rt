@@ -6,13 +6,13 @@ ghost use Rattle.image_model.specs.Layout.{Fits};
 ghost use Rattle.image_model.specs.Grid.{grid_of};
 ghost use Rattle.image_model.specs.Windows.{window, window_view, IsInside, IsWithin, roomy_stretch, roomy_window, window_layout, stretch_cells, with_stretch};
 ghost use Rattle.image_shape.specs.Shape.{shaped};
-ghost use Rattle.image_shape.specs.Window.{as_stretch};
+ghost use Rattle.image_shape.specs.Window.{as_window, as_stretch};
 ghost use Rattle.imgref.specs.contracts.img.Img.{the_row};
 ghost use Rattle.imgref.specs.Image.{buf_of, width_of, height_of, stride_of, layout_by, with_all, with_window, ref_layout, mut_layout};
 
 use crate::containers::AsMutSlice;
 use crate::img::{Img, ImgRef, ImgRefMut};
-use image_cells::{AsSlice, roomy_part, roomy_stretch_mut};
+use image_cells::{AsSlice, roomy_part};
 use image_shape::{Shape, Stretch, Window};
 
 impl<'s, T> Img<&'s [T]> {
@@ -36,8 +36,8 @@ impl<'s, T> Img<&'s [T]> {
             width,
             height,
         };
-        let (buf, shape) = roomy_part(self.buf, self.shape, window);
-        Img { buf, shape }
+        let (buf, shape) = roomy_part(self.buf, self.shape(), window);
+        Img::from_parts(buf, shape)
     }
 }
 
@@ -50,10 +50,23 @@ impl<'s, T> Img<&'s mut [T]> {
         ensures layout { mut_layout result ≡ shaped (stretch_cells cells.old (as_stretch stretch)) shape }
     {
         let end = stretch.start + stretch.len;
-        Img {
-            buf: &mut cells[stretch.start..end],
-            shape,
-        }
+        Img::from_parts(&mut cells[stretch.start..end], shape)
+    }
+
+    // The cells, and the stretch and the shape of a roomy window.
+    fn into_roomy(self, window: Window) -> (&'s mut [T], Stretch, Shape)
+        requires fits { Fits (mut_layout self) }
+        requires inside { IsInside (width_of self) (height_of self) (as_window window) }
+        ensures cells { result.0 ≡ buf_of self.entry }
+        ensures room { IsWithin (length (buf_of self.entry).now) (as_stretch result.1) }
+        ensures stretch { as_stretch result.1 ≡ roomy_stretch (length (buf_of self.entry).now) (stride_of self.entry) (as_window window) }
+        ensures layout { shaped (stretch_cells (buf_of self.entry).now (as_stretch result.1)) result.2 ≡ roomy_window (mut_layout self.entry) (as_window window) }
+        ensures fits { Fits (roomy_window (mut_layout self.entry) (as_window window)) }
+        ensures view { grid_of (roomy_window (mut_layout self.entry) (as_window window)) ≡ window_view (grid_of (mut_layout self.entry)) (as_window window) }
+    {
+        let (cells, shape) = self.into_parts();
+        let stretch = shape.stretch(true, cells.len(), window);
+        (cells, stretch, shape.window(window))
     }
 
     /// The image cut down to the window of `width` by `height` pixels with its corner at column
@@ -82,8 +95,7 @@ impl<'s, T> Img<&'s mut [T]> {
             width,
             height,
         };
-        let Img { buf, shape } = self;
-        let (cells, stretch, shape) = roomy_stretch_mut(buf, shape, window);
+        let (cells, stretch, shape) = self.into_roomy(window);
         Img::from_stretch(cells, stretch, shape)
     }
 }
@@ -111,18 +123,15 @@ impl<C: AsMutSlice> Img<C> {
             width,
             height,
         };
-        let (buf, shape) = roomy_part(self.buf.as_slice(), self.shape, window);
-        Img { buf, shape }
+        let (buf, shape) = roomy_part(self.buf.as_slice(), self.shape(), window);
+        Img::from_parts(buf, shape)
     }
 
     /// The whole image for reading, with its whole buffer. It need not fit.
     pub fn as_ref(&self) -> ImgRef<'_, C::Item>
         ensures { ref_layout result ≡ layout_by C.AsSlice.cells self.now }
     {
-        Img {
-            buf: self.buf.as_slice(),
-            shape: self.shape,
-        }
+        Img::from_parts(self.buf.as_slice(), self.shape())
     }
 
     /// The whole image for writing, with its whole buffer. It need not fit. Once the borrow ends,
@@ -131,10 +140,8 @@ impl<C: AsMutSlice> Img<C> {
         ensures* hands_on { sem 𝓛 (follows (the_row C.row) (Array C.Item.row 0) self.entry.ghost_name (buf_of result).ghost_name (with_all C.AsSlice.cells C.with_cells self.old)) }
         ensures layout { mut_layout result ≡ layout_by C.AsSlice.cells self.old }
     {
-        let shape = self.shape;
-        let len = self.buf.as_slice().len();
-        let buf = self.buf.stretch_mut(0, len);
-        Img { buf, shape }
+        let (cells, shape) = self.all_parts_mut();
+        Img::from_parts(cells, shape)
     }
 
     /// The window of `width` by `height` pixels with its corner at column `left` of row `top`, for
@@ -161,7 +168,7 @@ impl<C: AsMutSlice> Img<C> {
         ensures view { grid_of (mut_layout result) ≡ window_view (grid_of (layout_by C.AsSlice.cells self.old)) (window left top width height) }
     {
         let (buf, shape) = self.window_parts_mut(left, top, width, height);
-        Img { buf, shape }
+        Img::from_parts(buf, shape)
     }
 
     /// The window of `sub_image_mut` as its cells and its shape, from which `from_parts` makes it.
@@ -191,8 +198,9 @@ impl<C: AsMutSlice> Img<C> {
             height,
         };
         let len = self.buf.as_slice().len();
-        let part = self.shape.stretch(C::has_roomy_windows(), len, window);
-        let shape = self.shape.window(window);
+        let whole = self.shape();
+        let part = whole.stretch(C::has_roomy_windows(), len, window);
+        let shape = whole.window(window);
         let cells = self.buf.stretch_mut(part.start, part.len);
         (cells, shape)
     }

@@ -1,4 +1,4 @@
--- What the walk of `into_window_at` hands on, as machine values: the cells of an image, its parts, and the answers of `region_at` and of itself.
+-- What the walk of `into_window_at` hands on, as machine values: the parts of an image, and the answers of `region_at` and of itself.
 use mathlib.Core.Path.{◌≡◌, refl, ◌∙◌}
 use mathlib.Core.Logic.{◌⊎◌, inl, inr}
 use Prim.Native.Nat.{ℕ, ◌^◌, ◌<◌}
@@ -8,26 +8,20 @@ use lib.ListN.{length}
 use seplogic.Ra.Ura.{Ura}
 use base.Fml.{Lft, GName, fsep, feq, fex}
 use base.Logic.{ent, emp, id⊢}
-use mir.Syntax.{Ty, named, w64, ty_ptr, ty_int, ty_struct, tcons, tnil}
+use mir.Syntax.{named, w64}
 use mir.Val.{Val, vint, vstruct, vcons, vnil, of_list}
 use types.Logic.{Logic, sem}
 use types.Kit.{‵, ◌$◌, ◌∵◌, !, qed, move, fjoin, fpack, feq_i, done}
 use types.Match.{live}
 use denote.Builtin.{usize}
 use denote.Enum.Enum.{in_a_row}
-use denote.Exit.{no}
 use denote.Follow.{follows, follows_by, follows_if}
 use denote.Laws.{Is}
-use denote.Param.{param, arg}
-use denote.Param.Laws.{Laws, arg_laws, param_laws, of_field, is_one, row_shared}
-use denote.Param.Shared.{mut_slice_shared}
 use denote.Plain.{uint_Makes}
 use denote.RattleType.{RattleType, Valss, owns}
 use denote.Ref.{MutBor}
 use denote.Slice.{MutSlice, Room, slice_val}
 use denote.Steps.{nothing, owned}
-use denote.Struct.Field.{mut_slice_field}
-use denote.Struct.Laws.{mut_slice_laws}
 use denote.Struct.Tuple.{Tuple}
 use Rattle.std.specs.contracts.result.Result as result
 use Rattle.std.specs.declared.result.Result.{Result}
@@ -37,21 +31,6 @@ use Rattle.image_shape.specs.contracts.window.Stretch as stretch
 use Rattle.image_shape.specs.declared.shape.Shape.{Shape}
 use Rattle.image_shape.specs.contracts.shape.Shape as shape
 use Rattle.imgref.proofs.Values.{stretch_val, stretch_told, shape_val, shape_told}
-
--- ---- cells that are lent for writing
--- as a call passes it: a pointer and a count
-abbrev cells_ty : Ty
-cells_ty = ty_struct [] (tcons ty_ptr (tcons (ty_int w64) tnil))
-
-module _ (κ : Lft) (T : RattleType) where
-  abbrev pub Cells : RattleType
-  Cells = arg cells_ty no (MutSlice (named 0) κ (param 0 T))
-
-  pub cells_laws : Laws T → Laws Cells
-  cells_laws L =
-      let R : RattleType = param 0 T in
-      let LR : Laws R = param_laws 0 T L in
-      arg_laws cells_ty no (MutSlice (named 0) κ R) (of_field (mut_slice_field (record { mir = named 0; lft = κ }) R (is_one R LR)) (mut_slice_laws (record { mir = named 0; lft = κ }) R (is_one R LR)) refl (mut_slice_shared (record { mir = named 0; lft = κ }) R (is_one R LR) (row_shared R LR))) refl
 
 -- ---- the parts of an image
 abbrev pub parts_val : ℕ × ℕ → ℕ → Shape → Val

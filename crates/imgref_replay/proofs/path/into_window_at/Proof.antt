@@ -52,7 +52,7 @@ use Rattle.image_model.specs.Layout.{Layout, Fits, layout}
 use Rattle.image_model.specs.Windows as model
 use Rattle.image_model.specs.Windows.{Stretch, first_outside, path_stretch, path_layout, path_view, stretch_cells, whole, with_stretch}
 use Rattle.image_model.proofs.Paths.{path_has, path_fits, path_grid}
-use Rattle.imgref.specs.Image.{mut_layout}
+use Rattle.imgref.specs.Image.{mut_layout, shape_of}
 use Rattle.imgref.specs.declared.img.Img.{Img}
 use Rattle.imgref.specs.contracts.img.Img.into_parts as parts
 use Rattle.imgref.proofs.img.Img.into_parts.Met as apart
@@ -69,8 +69,8 @@ use Rattle.imgref_replay.specs.contracts.path.region_at as f
 use Rattle.imgref_replay.proofs.path.region_at.Met as find
 use Rattle.imgref.specs.contracts.window.Img+mut+slice+T.from_stretch as g
 use Rattle.imgref.proofs.window.Img+mut+slice+T.from_stretch.Met as part
-use Rattle.imgref.proofs.Values.{stretch_val, stretch_made, shape_val, shape_made, img_val, img_row, img_told}
-use Rattle.imgref_replay.proofs.Values.{Cells, cells_laws, Parts, parts_told, Answer, answer_told, if_some, if_none, ok_made, err_made}
+use Rattle.imgref.proofs.Values.{stretch_val, stretch_made, shape_val, shape_made, img_val, img_row, img_told, LentCells, lent_cells_laws}
+use Rattle.imgref_replay.proofs.Values.{Parts, parts_told, Answer, answer_told, if_some, if_none, ok_made, err_made}
 use Rattle.imgref_replay.specs.contracts.path.into_window_at.{ended, clauses}
 use Rattle.imgref_replay.specs.contracts.path.into_window_at.Key.{name as #self}
 use Rattle.imgref_replay.proofs.path.into_window_at.Statement.{statement}
@@ -105,15 +105,15 @@ into_window_at_spec 𝓤 𝓛 𝓜 𝓡 wired T L =
     let xs : List T.Denot = cells.now in
     let γ : GName = cells.ghost_name in
     let li : Layout T.Denot = mut_layout img in
-    let st : Stretch = path_stretch img.shape.stride (whole xs) ws in
-    let out : Option ℕ = first_outside img.shape.width img.shape.height ws in
+    let st : Stretch = path_stretch img.stride (whole xs) ws in
+    let out : Option ℕ = first_outside img.width img.height ws in
     let Slice : RattleType = MutSlice (named 0) κ R in
     let Row : RattleType = img_row (named 0) κ R in
     let Path : RattleType = ShrSlice (named 1) κp window.the_row in
-    let X : RattleType = Cells κ T in
+    let X : RattleType = LentCells κ T in
     let told = img_told (named 0) κ R img vss.0 are.0 in
     let ptold : vss.1.0 ≡ slice_val path.ref_ptr (length path.now) ∷ [] = shr_slice_Tells (named 1) κp window.the_row path vss.1.0 are.1.0 in
-    let w : Val = img_val cells.ref_ptr (length xs) img.shape in
+    let w : Val = img_val cells.ref_ptr (length xs) (shape_of img) in
     let sv : Val = slice_val cells.ref_ptr (length xs) in
     let pw : Val = slice_val path.ref_ptr (length path.now) in
     let FitsIn : Type 0 = Fits li in
@@ -133,18 +133,18 @@ into_window_at_spec 𝓤 𝓛 𝓜 𝓡 wired T L =
     regoal ! (λ (vs : List Val). prop (WpFn 𝓤 H 𝓣.C 𝓣.Λ fn vs Post)) (λ k. told.0 k ++ (ptold k ++ [])) refl $
     enter ! 𝓣.C 𝓣.Λ fn (w ∷ pw ∷ []) Post $
     alloc_all ! (λ l. let Ev : Env 𝓤 H = env fn.locals l in
-    pass_all ! refl ((tt, ((tt, (record { fits = told.1.0 }, tt)), ((record { fits = told.2 }, (record { fits = told.3 }, (record { fits = told.4 }, tt))), tt))), ((tt, (tt, (record { fits = are.1.0.0.1.0 }, tt))), tt)) $
-    sets ! (of_opd ! (get ! refl)) refl (tt, ((tt, (record { fits = told.1.0 }, tt)), ((record { fits = told.2 }, (record { fits = told.3 }, (record { fits = told.4 }, tt))), tt))) $
+    pass_all ! refl ((tt, ((tt, (record { fits = told.1.0 }, tt)), (record { fits = told.2 }, (record { fits = told.3 }, (record { fits = told.4 }, tt))))), ((tt, (tt, (record { fits = are.1.0.0.1.0 }, tt))), tt)) $
+    sets ! (of_opd ! (get ! refl)) refl (tt, ((tt, (record { fits = told.1.0 }, tt)), (record { fits = told.2 }, (record { fits = told.3 }, (record { fits = told.4 }, tt))))) $
     move ! (2 ∷ []) $ split3 ! $ nothing ! $ move ! (4 ∷ 0 ∷ []) $ join ! $ nothing ! $ move ! (2 ∷ 0 ∷ []) $ join ! $ join ! $
     -- [the token of κ and the image; the path's token; the token of κT; the path]
     let lives : κ ⊑ X.lives = alive (⊑_trans κ κT T.lives z.0.2.0 le) in
     nothing ! $ use0 𝓛 (raw (fact 𝓤 (κ ⊑ X.lives))) (fact_i 𝓤 (κ ⊑ X.lives) (emp 𝓤) lives) $ join ! $ move ! (1 ∷ 0 ∷ []) $ use2 𝓛 (raw (G₁.pre z₁)) (id⊢ 𝓤 _) $
-    calls_at ! fm G₁ (apart.met 𝓤 𝓛 𝓜 𝓡 (compiled.calls-imgref::img::Img::into_parts 𝓡.env wired) X (cells_laws κ T L)) z₁ (and_then ! (get ! refl) (no_more !)) (λ v.
+    calls_at ! fm G₁ (apart.met 𝓤 𝓛 𝓜 𝓡 (compiled.calls-imgref::img::Img::into_parts 𝓡.env wired) X (lent_cells_laws κ T L)) z₁ (and_then ! (get ! refl) (no_more !)) (λ v.
     use1 𝓛 (later (some (λ (x : MutBor (List T.Denot) × Shape). ((‵ (flft κ qs.0) ⊛ ‵ ftrue) ⊛ ‵ ((Parts κ R).own_val x (v ∷ []))) ⊛ some (λ (us : (Unit {0} × Unit {0}) × Unit {0}). ‵ (lasts (parts.ended X) z₁.0.0 z₁.0.3 us)
-    ⊛ raw (fact 𝓤 (x.0 ≡ cells)) ⊛ raw (fact 𝓤 (x.1 ≡ img.shape)))))) (id⊢ 𝓤 _) $
-    await ! tt $ pick ! (λ x. split ! $ split ! $ move ! (2 ∷ []) $ pick ! (λ us. split ! $ drop ! $ split ! $ heard ! (x.0 ≡ cells) (λ e₁. heard ! (x.1 ≡ img.shape) (λ e₂.
+    ⊛ raw (fact 𝓤 (x.0 ≡ cells)) ⊛ raw (fact 𝓤 (x.1 ≡ (shape_of img))))))) (id⊢ 𝓤 _) $
+    await ! tt $ pick ! (λ x. split ! $ split ! $ move ! (2 ∷ []) $ pick ! (λ us. split ! $ drop ! $ split ! $ heard ! (x.0 ≡ cells) (λ e₁. heard ! (x.1 ≡ (shape_of img)) (λ e₂.
     -- [the token of κ; the parts; the path's token; the token of κT; the path]
-    let y₁ : MutBor (List T.Denot) × Shape = (cells, img.shape) in
+    let y₁ : MutBor (List T.Denot) × Shape = (cells, (shape_of img)) in
     let known : x ≡ y₁ = λ i. (e₁ i, e₂ i) in
     move ! (1 ∷ []) $ rewrite ! 0 (λ (u : MutBor (List T.Denot) × Shape). ‵ ((Parts κ R).own_val u (v ∷ []))) known refl $
     peeks ! (Parts κ R) (Is (Parts κ R)) (shows 𝓛 (Parts κ R)) y₁ (v ∷ []) (λ is. let pt = parts_told κ R y₁ (v ∷ []) is in
@@ -156,19 +156,19 @@ into_window_at_spec 𝓤 𝓛 𝓜 𝓡 wired T L =
     sets ! (of_opd ! (get_in ! (fld ! refl (stop !)) (sub ! 1 refl (all_of !)))) refl (tt, (record { fits = pt.2 }, (record { fits = pt.3 }, (record { fits = pt.4 }, tt)))) $
     sets ! (of_opd ! (get_in ! (fld ! refl (stop !)) (sub ! 1 refl (all_of !)))) refl (tt, record { fits = pt.1.0 }) $
     let G₂ = triple_of 𝓛 f.signature (f.spec 𝓛 𝓜.mem 𝓡.returns) in
-    let z₂ : G₂.Ghost = (((κp, tt), (qs.1.0, tt), tt, (length xs, (img.shape, (path, tt))), (vint w64 (length xs) ∷ [], (shape_val img.shape ∷ [], (pw ∷ [], tt)))), tt) in
-    nothing ! $ move ! (5 ∷ 0 ∷ []) $ join ! $ use0 𝓛 (‵ (shape.the_row.own_val img.shape (shape_val img.shape ∷ []))) (shape_made 𝓛 img.shape pt.2 pt.3 pt.4) $ join ! $
+    let z₂ : G₂.Ghost = (((κp, tt), (qs.1.0, tt), tt, (length xs, ((shape_of img), (path, tt))), (vint w64 (length xs) ∷ [], (shape_val (shape_of img) ∷ [], (pw ∷ [], tt)))), tt) in
+    nothing ! $ move ! (5 ∷ 0 ∷ []) $ join ! $ use0 𝓛 (‵ (shape.the_row.own_val (shape_of img) (shape_val (shape_of img) ∷ []))) (shape_made 𝓛 (shape_of img) pt.2 pt.3 pt.4) $ join ! $
     owned ! usize (Is usize) (uint_Makes 𝓛 w64) (length xs) (vint w64 (length xs) ∷ []) (refl, pt.1.0) $ join ! $
     nothing ! $ move ! (4 ∷ 0 ∷ []) $ join ! $ join ! $
     use0 𝓛 (raw (fact 𝓤 FitsIn)) (fact_i 𝓤 FitsIn (emp 𝓤) fits) $
     move ! (1 ∷ 0 ∷ []) $ use2 𝓛 (raw (G₂.pre z₂)) (id⊢ 𝓤 _) $
     calls_at ! fm G₂ (find.met 𝓤 𝓛 𝓜 𝓡 (compiled.calls-imgref_replay::path::region_at 𝓡.env wired)) z₂ (and_then ! (get ! refl) (and_then ! (get ! refl) (and_then ! (get ! refl) (no_more !)))) (λ v₂.
-    let At₀ : Run × Shape → Type 0 = λ x. LeadsTo (length xs) img.shape ws x.0 x.1 in
+    let At₀ : Run × Shape → Type 0 = λ x. LeadsTo (length xs) (shape_of img) ws x.0 x.1 in
     let Room₀ : Run × Shape → Type 0 = λ x. model.IsWithin (length xs) (as_stretch x.0) in
     let Out : Result (Run × Shape) ℕ → Type 0 = λ r. result_err r ≡ out in
     let At : Result (Run × Shape) ℕ → Type 0 = λ r. IfOk r At₀ in
     let Inside : Result (Run × Shape) ℕ → Type 0 = λ r. IfOk r Room₀ in
-    let Wide : Type 0 = img.shape.width ≤ img.shape.stride in
+    let Wide : Type 0 = img.width ≤ img.stride in
     use1 𝓛 (later (some (λ (r : Result (Run × Shape) ℕ). ((‵ (flft κp qs.1.0) ⊛ ‵ ftrue) ⊛ ‵ (Answer.own_val r (v₂ ∷ []))) ⊛ some (λ (us₂ : Unit {0} × (Unit {0} × (Unit {0} × Unit {0}))). ‵ (lasts f.ended z₂.0.0 z₂.0.3 us₂)
     ⊛ raw (fact 𝓤 (Out r)) ⊛ raw (fact 𝓤 (At r)) ⊛ raw (fact 𝓤 (Inside r)) ⊛ raw (fact 𝓤 Wide))))) (id⊢ 𝓤 _) $
     await ! tt $ pick ! (λ r. split ! $ split ! $ move ! (2 ∷ []) $ pick ! (λ us₂. split ! $ drop ! $ split ! $ heard ! (Out r) (λ outside. split ! $ heard ! (At r) (λ at_r. split ! $ heard ! (Inside r) (λ inside. heard ! Wide (λ wide.
@@ -206,12 +206,12 @@ into_window_at_spec 𝓤 𝓛 𝓜 𝓡 wired T L =
                 let fitting : Fitting (Ok r₃) = subst (λ (u : Layout T.Denot). Fits u) (sym laid) (path_fits li ws wide fits (sym all_inside)) in
                 let viewed : Viewed (Ok r₃) = ap (λ (u : Layout T.Denot). grid_of u) laid ∙ path_grid li ws wide fits (sym all_inside) in
                 move ! (2 ∷ []) $ peeks ! Row (Is Row) (shows 𝓛 Row) r₃ (v₃ ∷ []) (λ is₃. let t = img_told (named 0) κ R r₃ (v₃ ∷ []) is₃ in
-                let w₃ : Val = img_val r₃.buf.ref_ptr (length r₃.buf.now) r₃.shape in
+                let w₃ : Val = img_val r₃.buf.ref_ptr (length r₃.buf.now) (shape_of r₃) in
                 rewrite ! 0 (λ (us : List Val). ‵ (Row.own_val r₃ us)) (t.0) refl $
-                lands_as ! (ap only (t.0)) refl (tt, ((tt, (record { fits = t.1.0 }, tt)), ((record { fits = t.2 }, (record { fits = t.3 }, (record { fits = t.4 }, tt))), tt))) $
-                sets_last ! (agg ! (and_then ! (lit ! tt) (and_then ! (get ! refl) (no_more !)))) refl (tt, (record { fits = lit< tt }, (((tt, (record { fits = t.1.0 }, tt)), ((record { fits = t.2 }, (record { fits = t.3 }, (record { fits = t.4 }, tt))), tt)), tt))) $
+                lands_as ! (ap only (t.0)) refl (tt, ((tt, (record { fits = t.1.0 }, tt)), (record { fits = t.2 }, (record { fits = t.3 }, (record { fits = t.4 }, tt))))) $
+                sets_last ! (agg ! (and_then ! (lit ! tt) (and_then ! (get ! refl) (no_more !)))) refl (tt, (record { fits = lit< tt }, (((tt, (record { fits = t.1.0 }, tt)), (record { fits = t.2 }, (record { fits = t.3 }, (record { fits = t.4 }, tt)))), tt))) $
                 exec ! 𝓣.C 𝓣.Λ Ev (after 7 fn.body) (at_ret Ev Post) $
-                sets ! (of_opd ! (get ! refl)) refl (tt, (record { fits = lit< tt }, (((tt, (record { fits = t.1.0 }, tt)), ((record { fits = t.2 }, (record { fits = t.3 }, (record { fits = t.4 }, tt))), tt)), tt))) $
+                sets ! (of_opd ! (get ! refl)) refl (tt, (record { fits = lit< tt }, (((tt, (record { fits = t.1.0 }, tt)), (record { fits = t.2 }, (record { fits = t.3 }, (record { fits = t.4 }, tt)))), tt))) $
                 returns ! (look_at ! 0 refl) $ free_all ! refl $
                 use1 𝓛 (‵ ((result.the_row Row usize).own_val (Ok r₃) (live 0 (vcons w₃ vnil) ∷ []))) (ok_made 𝓛 Row r₃ w₃) $ move ! (1 ∷ []) $
                 rewrite ! 0 (λ (u : Stretch). ‵ (follows (Array R 0) (Array R 0) γ r₃.buf.ghost_name (with_stretch xs u))) leads.cells refl $

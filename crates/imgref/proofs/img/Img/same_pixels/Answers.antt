@@ -1,5 +1,5 @@
 -- The test tells whether the layouts are alike.
-use Rattle.std.proofs.Common.{subst, sym, ap, ◌∙◌}
+use Rattle.std.proofs.Common.{subst, sym, ◌∙◌}
 use Rattle.std.specs.Bool.{Decides}
 use Rattle.image_model.specs.Alike.{Alike, is_alike}
 use Rattle.image_model.proofs.Alike.{is_alike_decides}
@@ -12,4 +12,4 @@ returns-clause-places g c =
     let eq = g.C.Item.PartialEq.eq in
     let k = layout_by g.C.AsSlice.cells c.args.self.now in
     let l = ref_layout c.args.other in
-    subst (λ b. Decides b (Alike eq k l)) (sym (c.are_equal.ensures ∙ ap (λ cells. is_alike eq (shaped cells c.args.self.now.shape) l) c.as_slice.ensures)) (is_alike_decides eq k l)
+    subst (λ b. Decides b (Alike eq k l)) (sym (c.are_equal.ensures ∙ (λ i. is_alike eq (shaped (c.as_slice.ensures i) (c.shape-shape.ensures i)) (shaped c.args.other.buf.now (c.shape.ensures i))))) (is_alike_decides eq k l)

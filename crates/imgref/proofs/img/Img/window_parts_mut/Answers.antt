@@ -1,11 +1,12 @@
 -- The window fits and shows the view.
-use Rattle.std.proofs.Common.{◌≡◌, length, refl, ◌∙◌}
+use Rattle.std.proofs.Common.{◌≡◌, ◌≤◌, length, refl, ap, subst, ◌∙◌}
 use Rattle.image_model.specs.Layout.{Layout}
 use Rattle.image_model.specs.Windows.{Window, window, window_stretch, window_layout}
 use Rattle.image_model.proofs.Windows.{fits_as, shows_as}
-use Rattle.image_shape.specs.Shape.{shaped}
+use Rattle.image_shape.specs.Shape.{shape_width, shape_stride, shaped}
 use Rattle.image_shape.specs.Window.{as_stretch}
 use Rattle.imgref.specs.Image.{layout_by}
+use Rattle.imgref.proofs.Numbers.{same_image}
 use Rattle.imgref.proofs.Shapes.{window_is}
 use Rattle.imgref.proofs.img.Img.window_parts_mut.Goals as goal
 
@@ -15,17 +16,19 @@ returns g c =
     let roomy = g.C.AsMutSlice.roomy_windows in
     let w : Window = window c.args.left c.args.top c.args.width c.args.height in
     let l : Layout g.row.C-Item.Denot = layout_by g.C.AsSlice.cells i in
+    let is_shape = c.shape-whole.ensures in
+    let narrow = subst (λ s. shape_width s ≤ shape_stride s) is_shape c.stretch-part.ensures.holds_width in
     let at : as_stretch c.stretch-part.result ≡ window_stretch roomy (length l.cells) l.stride w =
-    c.stretch-part.ensures.value ∙ (λ k. window_stretch (c.has_roomy_windows.ensures k) (length (c.as_slice-len.ensures k)) l.stride w) in
+    c.stretch-part.ensures.value ∙ (λ k. window_stretch (c.has_roomy_windows.ensures k) (length (c.as_slice-len.ensures k)) (shape_stride (is_shape k)) w) in
     let m : Layout g.row.C-Item.Denot = shaped c.stretch_mut-cells.result.now c.window-shape.result in
     let is : m ≡ window_layout roomy l w = window_is l w roomy c.window-shape.result (as_stretch c.stretch-part.result) c.stretch_mut-cells.result.now at c.stretch_mut-cells.ensures.value
-    c.window-shape.ensures.width c.window-shape.ensures.height c.window-shape.ensures.stride in (
-      (refl, λ ws. rw at refl),
+    c.window-shape.ensures.width c.window-shape.ensures.height (c.window-shape.ensures.stride ∙ ap shape_stride is_shape) in (
+      (refl, λ ws. rw at (same_image _ _ _ _ _ _ _ _)),
       record {
         hands_on = tt;
         layout = is;
-        fits = fits_as l c.stretch-part.ensures.holds_width c.requires.fits w c.requires.inside roomy m is;
-        view = shows_as l c.stretch-part.ensures.holds_width c.requires.fits w c.requires.inside roomy m is;
-        holds_width = c.stretch-part.ensures.holds_width;
+        fits = fits_as l narrow c.requires.fits w c.requires.inside roomy m is;
+        view = shows_as l narrow c.requires.fits w c.requires.inside roomy m is;
+        holds_width = narrow;
       },
     )

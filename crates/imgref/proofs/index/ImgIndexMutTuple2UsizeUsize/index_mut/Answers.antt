@@ -1,5 +1,6 @@
 -- The cell that is lent is the one of the place, and what is left there patches the grid.
 use Rattle.std.proofs.Common.{refl}
+use Rattle.imgref.proofs.Numbers.{same_image}
 use Rattle.imgref.proofs.Writes.{cell_grid, cell_outside, cell_fits}
 use Rattle.imgref.proofs.index.ImgIndexMutTuple2UsizeUsize.index_mut.Goals as goal
 
@@ -10,7 +11,7 @@ returns g c =
     let cells = g.C.AsSlice.cells in
     let with_cell = g.C.AsMutSlice.with_cell in
     let stay = g.met.C.AsMutSlice.other_cells_stay in (
-      (refl, λ w. rw c.stride.ensures.value refl),
+      (refl, λ w. rw c.stride.ensures.value (same_image _ _ _ _ _ _ _ _)),
       record {
         writes_back = tt;
         value = rw (← c.stride.ensures.value) c.cell_mut.ensures.value;

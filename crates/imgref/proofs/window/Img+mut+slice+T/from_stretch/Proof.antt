@@ -5,35 +5,48 @@ use native.Mathlib.Nat.{mul-le-mul_right}
 use native.Mathlib.Omega.{arith}
 use mathlib.Core.List.{List, [], ◌∷◌, ◌++◌}
 use lib.ListN.{length, take, drop as drop_list, length-drop}
-use base.Logic.{SProp, emp}
+use base.Logic.{SProp, emp, id⊢}
 use base.Fml.{Lft, GName, Share, ftrue, flft}
 use mir.Syntax.{Args, Fn, named, w64, a_type}
 use mir.MapTy.{inst_fn}
 use mir.Val.{Val, vint}
 use prog.Memory.{size}
 use prog.Wp.{WpFn}
-use contract.BorrowLft.{◌⊑◌}
+use contract.BorrowLft.{◌⊑◌, ⊑_refl, ⊑_trans, ⊑_meet}
 use contract.Monad.{fact, fact_i}
 use contract.Running.{tables}
-use types.Kit.{Item, ‵, ◌⊛◌, raw, later, some, prop, ◌$◌, ◌∵◌, !, qed, by, move, keep, split, split3, join, fsplit, fjoin, rewrite, regoal, use0, use1, use2, await, pick, updating, now, done}
+use types.Kit.{Item, ‵, ◌⊛◌, raw, later, some, prop, ◌$◌, ◌∵◌, !, qed, by, move, keep, drop, split, split3, join, fsplit, fjoin, rewrite, regoal, use0, use1, use2, await, pick, updating, now, done}
 use types.Part.{whole, sub, agg}
 use types.Run.{stop, fld, addr, bin, size_word, and_then, no_more, returns, enter}
-use types.ByLocal.{alloc_all, pass_all, free_all, look_at, get, get_in, through, is, sets}
+use types.ByLocal.{alloc_all, pass_all, free_all, look_at, get, get_in, through, is, sets, lands_as}
+use denote.Array.{Array}
+use denote.Follow.{follows}
+use denote.Laws.{shows, Is}
 use denote.Param.{param, layout, layouts}
 use denote.RattleType.{RattleType, owns}
 use denote.Ref.{MutBor}
 use denote.Slice.{MutSlice, Room, slice_val}
 use denote.Signature.{types_at}
-use denote.Steps.{nothing, heard}
+use denote.Steps.{nothing, heard, peeks, only}
+use denote.Triple.Call.{calls_at}
+use denote.Triple.Clauses.{lasts}
+use denote.Triple.Spec.{triple_of}
+use denote.Triple.Table.{framed}
 use denote.Triple.Walked.{Stays, stay_dropped, walk_of}
 use borrow.Table.Elements.{at, at_mul, length-take-le}
 use Rattle.std.proofs.raw_atomic.Walks.{proved_at, leaves}
 use Rattle.lending.proofs.Stretches.{uncapped, cut_at, part_lent, lends_part}
 use Rattle.image_shape.specs.declared.window.Stretch.{Stretch}
 use Rattle.image_shape.specs.declared.shape.Shape.{Shape}
-use Rattle.imgref.specs.Image.{mut_layout}
+use Rattle.image_model.specs.Windows.{stretch_cells, with_stretch}
+use Rattle.image_shape.specs.contracts.shape.Shape as of_shape
+use Rattle.image_shape.specs.Shape.{shaped}
+use Rattle.image_shape.specs.Window.{as_stretch}
+use Rattle.imgref.specs.Image.{mut_layout, shape_of}
 use Rattle.imgref.specs.declared.img.Img.{Img}
-use Rattle.imgref.proofs.Values.{stretch_val, stretch_told, shape_val, shape_told, img_val, img_row, img_made}
+use Rattle.imgref.proofs.Values.{stretch_val, stretch_told, shape_val, shape_told, shape_made, img_val, img_row, img_told, LentCells, lent_cells_laws}
+use Rattle.imgref.specs.contracts.img.Img.from_parts as f
+use Rattle.imgref.proofs.img.Img.from_parts.Met as made
 use Rattle.imgref.specs.contracts.window.Img+mut+slice+T.from_stretch.{ended, clauses}
 use Rattle.imgref.specs.contracts.window.Img+mut+slice+T.from_stretch.Key.{name as #self}
 use Rattle.imgref.proofs.window.Img+mut+slice+T.from_stretch.Statement.{statement}
@@ -49,8 +62,8 @@ from_stretch_spec 𝓤 𝓛 𝓜 𝓡 wired T L =
     let R : RattleType = param 0 T in
     let ps = En.signature.params in
     let stays : Stays En.signature.params En.kept = (stay_dropped _ En.kept.0, (stay_dropped _ En.kept.1.0, (stay_dropped _ En.kept.1.1.0, tt))) in
-    let C = (tables 𝓤 H 𝓜 𝓡 𝓡.env).C in
-    let Λ = (tables 𝓤 H 𝓜 𝓡 𝓡.env).Λ in
+    let 𝓣 = tables 𝓤 H 𝓜 𝓡 𝓡.env in
+    let fm = framed 𝓤 H 𝓜 𝓣 in
     proved_at 𝓛 En stays c 𝓜 𝓡 ((λ κs x f vs ok. qed 𝓛 (‵ ftrue ∷ []) ∵ updating ! $ now ! $ done !), ((λ κs x f vs ok. qed 𝓛 (‵ ftrue ∷ []) ∵ updating ! $ now ! $ done !), ((λ κs x f vs ok. qed 𝓛 (‵ ftrue ∷ []) ∵ updating ! $ now ! $ done !), tt)))
     (#self args) fn (compiled.unfolded 𝓤 H 𝓜 𝓡 wired (T, tt)) (λ z are.
     let Post : Val → SProp 𝓤 = (walk_of 𝓛 En stays c).post z in
@@ -97,8 +110,8 @@ from_stretch_spec 𝓤 𝓛 𝓜 𝓡 wired T L =
     let bytes : length mid * s ≤ length xs * s = mul-le-mul_right s (omega arith) in
     let room : Room R (length mid) = (omega arith, omega arith) in
     let Lent : GName → Item 𝓤 = part_lent 𝓛 (named 0) κ q b o γ R xs front mid back cut p on room in
-    regoal ! (λ (vs : List Val). prop (WpFn 𝓤 H C Λ fn vs Post)) (λ k. told k ++ (told₁.0 k ++ (told₂.0 k ++ []))) refl $
-    enter ! C Λ fn (slice_val cells.ref_ptr (length xs) ∷ stretch_val stretch ∷ shape_val shape ∷ []) Post $
+    regoal ! (λ (vs : List Val). prop (WpFn 𝓤 H 𝓣.C 𝓣.Λ fn vs Post)) (λ k. told k ++ (told₁.0 k ++ (told₂.0 k ++ []))) refl $
+    enter ! 𝓣.C 𝓣.Λ fn (slice_val cells.ref_ptr (length xs) ∷ stretch_val stretch ∷ shape_val shape ∷ []) Post $
     alloc_all ! (λ l. pass_all ! refl ((tt, (tt, (record { fits = rm.0 }, tt))), ((tt, (record { fits = told₁.1 }, (record { fits = told₁.2 }, tt))), ((tt, (record { fits = told₂.1 }, (record { fits = told₂.2 }, (record { fits = told₂.3 }, tt)))), tt))) $
     sets ! (bin ! (get_in ! (fld ! refl (stop !)) (sub ! 0 refl (whole !))) (get_in ! (fld ! refl (stop !)) (sub ! 1 refl (whole !))) (record { fits = fj })) refl (tt, record { fits = fj }) $
     sets ! (is ! (bin ! (get_in ! (fld ! refl (stop !)) (sub ! 0 refl (whole !))) (size_word !) (record { fits = subst (λ (k : ℕ). k < 2 ^ 64) (sym (uncapped i s fp)) fp })) (ap (vint w64) (uncapped i s fp))) refl (tt, record { fits = fp }) $
@@ -106,17 +119,38 @@ from_stretch_spec 𝓤 𝓛 𝓜 𝓡 wired T L =
     sets ! (is ! (bin ! (get ! refl) (get_in ! (fld ! refl (stop !)) (sub ! 0 refl (whole !))) (omega arith)) (ap (vint w64) same)) refl (tt, record { fits = told₁.2 }) $
     sets ! (addr ! (through ! refl (stop !))) refl (tt, tt) $
     sets ! (agg ! (and_then ! (get ! refl) (and_then ! (get ! refl) (no_more !)))) refl (tt, (tt, (record { fits = told₁.2 }, tt))) $
-    sets ! (agg ! (and_then ! (get ! refl) (and_then ! (get ! refl) (no_more !)))) refl (tt, ((tt, (record { fits = told₁.2 }, tt)), ((record { fits = told₂.1 }, (record { fits = told₂.2 }, (record { fits = told₂.3 }, tt))), tt))) $
     -- [the slice; the tokens]
-    move ! (1 ∷ []) $ split3 ! $ move ! (3 ∷ 0 ∷ []) $ use2 𝓛 (later (some Lent)) (lends_part 𝓛 (named 0) κ q b o γ R xs front mid back cut p on room (vss.0)) $ await ! tt $ pick ! (λ δ.
-    returns ! (look_at ! 0 refl) $ free_all ! refl $ split3 ! $
+    move ! (1 ∷ []) $ split3 ! $ move ! (3 ∷ 0 ∷ []) $ use2 𝓛 (later (some Lent)) (lends_part 𝓛 (named 0) κ q b o γ R xs front mid back cut p on room (vss.0)) $ await ! tt $ pick ! (λ δ. split3 ! $
     -- [the stretch; the token of κ; what follows; the token of κT; nothing]
-    let out : Img (MutBor (List T.Denot)) = record { buf = record { ref_ptr = (b, p); ghost_name = δ; now = mid }; shape = shape } in
-    let w : Val = img_val (b, p) n shape in
-    rewrite ! 0 (λ (k : ℕ). ‵ ((MutSlice (named 0) κ R).own_val out.buf (slice_val (b, p) k ∷ []))) long refl $
-    use1 𝓛 (‵ ((img_row (named 0) κ R).own_val out (w ∷ []))) (img_made (named 0) κ R 𝓛 out (b, p) n told₂.1 told₂.2 told₂.3) $
+    let taken : MutBor (List T.Denot) = record { ref_ptr = (b, p); ghost_name = δ; now = mid } in
+    rewrite ! 0 (λ (k : ℕ). ‵ ((MutSlice (named 0) κ R).own_val taken (slice_val (b, p) k ∷ []))) long refl $
+    let X : RattleType = LentCells κ T in
+    let lives : κ ⊑ X.lives = ⊑_meet κ κ T.lives (⊑_refl κ) (⊑_trans κ κT T.lives z.0.2.0 le) in
+    let G = triple_of 𝓛 (f.signature X) (f.spec X 𝓛 𝓜.mem 𝓡.returns) in
+    let z₁ : G.Ghost = (((κ, tt), (q, tt), tt, (taken, (shape, tt)), (slice_val (b, p) n ∷ [], (shape_val shape ∷ [], tt))), tt) in
+    nothing ! $ use0 𝓛 (‵ (of_shape.the_row.own_val shape (shape_val shape ∷ []))) (shape_made 𝓛 shape told₂.1 told₂.2 told₂.3) $ join ! $ move ! (1 ∷ 0 ∷ []) $ join ! $
+    nothing ! $ move ! (2 ∷ 0 ∷ []) $ join ! $ join ! $
+    -- [the token of κ and the arguments; what follows; the token of κT; nothing]
+    nothing ! $ use0 𝓛 (raw (fact 𝓤 (κ ⊑ X.lives))) (fact_i 𝓤 (κ ⊑ X.lives) (emp 𝓤) lives) $ join ! $ move ! (1 ∷ 0 ∷ []) $ use2 𝓛 (raw (G.pre z₁)) (id⊢ 𝓤 _) $
+    calls_at ! fm G (made.met 𝓤 𝓛 𝓜 𝓡 (compiled.calls-imgref::img::Img::from_parts 𝓡.env wired) X (lent_cells_laws κ T L)) z₁ (and_then ! (get ! refl) (and_then ! (get ! refl) (no_more !))) (λ v.
+    let Row : RattleType = img_row (named 0) κ R in
+    let Out : Type 0 = Img (MutBor (List T.Denot)) in
+    use1 𝓛 (later (some (λ (r : Out). ((‵ (flft κ q) ⊛ ‵ ftrue) ⊛ ‵ (Row.own_val r (v ∷ []))) ⊛ some (λ (us : Unit {0} × (Unit {0} × Unit {0})). ‵ (lasts (f.ended X) z₁.0.0 z₁.0.3 us)
+    ⊛ (raw (fact 𝓤 (r.buf ≡ taken)) ⊛ raw (fact 𝓤 (shape_of r ≡ shape)) ⊛ raw (fact 𝓤 (r.width ≡ shape.width)) ⊛ raw (fact 𝓤 (r.height ≡ shape.height)) ⊛ raw (fact 𝓤 (r.stride ≡ shape.stride))))))) (id⊢ 𝓤 _) $
+    await ! tt $ pick ! (λ r. split ! $ split ! $ move ! (2 ∷ []) $ pick ! (λ us. split ! $ drop ! $ split ! $ heard ! (r.buf ≡ taken) (λ same. split ! $ heard ! (shape_of r ≡ shape) (λ alike. drop ! $
+    -- [the token of κ; the image; what follows; the token of κT; nothing]
+    split ! $ move ! (1 ∷ []) $ drop ! $ move ! (1 ∷ []) $
+    peeks ! Row (Is Row) (shows 𝓛 Row) r (v ∷ []) (λ is. let told₃ = img_told (named 0) κ R r (v ∷ []) is in
+    let w : Val = img_val r.buf.ref_ptr (length r.buf.now) (shape_of r) in
+    let Laid : Type 0 = mut_layout r ≡ shaped (stretch_cells xs (as_stretch stretch)) shape in
+    rewrite ! 0 (λ (us : List Val). ‵ (Row.own_val r us)) (told₃.0) refl $
+    lands_as ! (ap only (told₃.0)) refl (tt, ((tt, (record { fits = told₃.1.0 }, tt)), (record { fits = told₃.2 }, (record { fits = told₃.3 }, (record { fits = told₃.4 }, tt))))) $
+    returns ! (look_at ! 0 refl) $ free_all ! refl $
+    -- [the image; the token of κ; what follows; the token of κT; nothing]
+    rewrite ! 2 (λ (name : GName). ‵ (follows (Array R 0) (Array R 0) γ name (with_stretch xs (as_stretch stretch)))) (ap (λ (m : MutBor (List T.Denot)). m.ghost_name) (sym same)) refl $
     move ! (3 ∷ 4 ∷ []) $ join ! $ move ! (2 ∷ 0 ∷ []) $ join ! $
+    -- [the tokens; the image; what follows]
     nothing ! $ nothing ! $ fjoin ! $ nothing ! $ fjoin ! $ nothing ! $ fjoin ! $
-    use0 𝓛 (raw (fact 𝓤 (mut_layout out ≡ mut_layout out))) (fact_i 𝓤 (mut_layout out ≡ mut_layout out) (emp 𝓤) refl) $
+    use0 𝓛 (raw (fact 𝓤 Laid)) (fact_i 𝓤 Laid (emp 𝓤) (λ k. shaped ((same k).now) (alike k))) $
     move ! (4 ∷ 0 ∷ []) $ join ! $ move ! (2 ∷ 1 ∷ 3 ∷ 0 ∷ []) $
-    by ! (leaves 𝓛 En stays c z w out (tt, (tt, (tt, tt))) (tt, (tt, (tt, tt)))))))))
+    by ! (leaves 𝓛 En stays c z w r (tt, (tt, (tt, tt))) (tt, (tt, (tt, tt)))))))))))))))

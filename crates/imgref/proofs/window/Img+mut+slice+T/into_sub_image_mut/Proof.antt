@@ -43,11 +43,11 @@ use Rattle.image_shape.specs.contracts.window.Stretch as stretch
 use Rattle.image_shape.specs.contracts.shape.Shape as shape
 use Rattle.image_shape.specs.Shape.{shaped}
 use Rattle.image_shape.specs.Window.{as_stretch}
-use Rattle.imgref.specs.Image.{mut_layout}
+use Rattle.imgref.specs.Image.{mut_layout, shape_of}
 use Rattle.imgref.specs.declared.img.Img.{Img}
 use Rattle.imgref.proofs.Values.{window_val, window_made, stretch_val, stretch_made, shape_val, shape_made, img_val, img_row, img_told, Parts, parts_told}
-use Rattle.image_cells.specs.contracts.roomy_stretch_mut as f
-use Rattle.image_cells.proofs.roomy_stretch_mut.Met as found
+use Rattle.imgref.specs.contracts.window.Img+mut+slice+T.into_roomy as f
+use Rattle.imgref.proofs.window.Img+mut+slice+T.into_roomy.Met as found
 use Rattle.imgref.specs.contracts.window.Img+mut+slice+T.from_stretch as g
 use Rattle.imgref.proofs.window.Img+mut+slice+T.from_stretch.Met as made
 use Rattle.imgref.specs.contracts.window.Img+mut+slice+T.into_sub_image_mut.{ended, clauses}
@@ -88,7 +88,7 @@ into_sub_image_mut_spec 𝓤 𝓛 𝓜 𝓡 wired T L =
     let ft : win.top < 2 ^ 64 = are.1.1.0.1 in
     let fw : win.width < 2 ^ 64 = are.1.1.1.0.1 in
     let fh : win.height < 2 ^ 64 = are.1.1.1.1.0.1 in
-    let w : Val = img_val cells.ref_ptr (length xs) img.shape in
+    let w : Val = img_val cells.ref_ptr (length xs) (shape_of img) in
     let sv : Val = slice_val cells.ref_ptr (length xs) in
     let li = mut_layout img in
     let here : Pane = window win.left win.top win.width win.height in
@@ -97,33 +97,27 @@ into_sub_image_mut_spec 𝓤 𝓛 𝓜 𝓡 wired T L =
     let Tok : Item 𝓤 = ‵ (flft κ q) ⊛ ‵ (flft κT qT) ⊛ ‵ ftrue in
     let Found : RattleType = Parts (named 0) κ R in
     let G = triple_of 𝓛 (f.signature T) (f.spec T 𝓛 𝓜.mem 𝓡.returns) in
-    let z₁ : G.Ghost = (((κ, (κT, tt)), (q, (qT, tt)), z.0.2, (cells, (img.shape, (win, tt))), (sv ∷ [], (shape_val img.shape ∷ [], (window_val win ∷ [], tt)))), tt) in
+    let z₁ : G.Ghost = (((κ, (κT, tt)), (q, (qT, tt)), z.0.2, (img, (win, tt)), (w ∷ [], (window_val win ∷ [], tt))), tt) in
     qed 𝓛 ((Tok ⊛ ‵ (owns (types_at ps z.0.0) a vss)) ∷ (raw (fact 𝓤 (κT ⊑ T.lives)) ⊛ raw (fact 𝓤 Holds) ⊛ raw (fact 𝓤 Inside)) ∷ []) ∵
     move ! (1 ∷ []) $ split3 ! $ heard ! (κT ⊑ T.lives) (λ le. heard ! Holds (λ holds. heard ! Inside (λ inside. split ! $ move ! (1 ∷ []) $ fsplit ! $ keep ! (0 ∷ 2 ∷ []) $
     -- [the image; the tokens]
     rewrite ! 0 (λ (vs : List Val). ‵ (Row.own_val img vs)) (told.0) refl $
     regoal ! (λ (vs : List Val). prop (WpFn 𝓤 H 𝓣.C 𝓣.Λ fn vs Post)) (λ k. told.0 k ++ (are.1.0.0 k ++ (are.1.1.0.0 k ++ (are.1.1.1.0.0 k ++ (are.1.1.1.1.0.0 k ++ []))))) refl $
     enter ! 𝓣.C 𝓣.Λ fn (w ∷ vint w64 win.left ∷ vint w64 win.top ∷ vint w64 win.width ∷ vint w64 win.height ∷ []) Post $
-    alloc_all ! (λ l. pass_all ! refl ((tt, ((tt, (record { fits = told.1.0 }, tt)), ((record { fits = told.2 }, (record { fits = told.3 }, (record { fits = told.4 }, tt))), tt))), ((tt, record { fits = fl }), ((tt, record { fits = ft }), ((tt, record { fits = fw }), ((tt, record { fits = fh }), tt))))) $
+    alloc_all ! (λ l. pass_all ! refl ((tt, ((tt, (record { fits = told.1.0 }, tt)), (record { fits = told.2 }, (record { fits = told.3 }, (record { fits = told.4 }, tt))))), ((tt, record { fits = fl }), ((tt, record { fits = ft }), ((tt, record { fits = fw }), ((tt, record { fits = fh }), tt))))) $
     sets ! (agg ! (and_then ! (get ! refl) (and_then ! (get ! refl) (and_then ! (get ! refl) (and_then ! (get ! refl) (no_more !)))))) refl (tt, (record { fits = fl }, (record { fits = ft }, (record { fits = fw }, (record { fits = fh }, tt))))) $
-    sets ! (of_opd ! (get_in ! (fld ! refl (stop !)) (sub ! 0 refl (whole !)))) refl (tt, (tt, (record { fits = told.1.0 }, tt))) $
-    sets ! (of_opd ! (get_in ! (fld ! refl (stop !)) (sub ! 1 refl (whole !)))) refl (tt, (record { fits = told.2 }, (record { fits = told.3 }, (record { fits = told.4 }, tt)))) $
-    sets ! (addr ! (from ! (fld ! refl (hop ! (look_in_at ! 7 (sub ! 0 refl (whole !))) (stop !))))) refl (tt, tt) $
-    sets ! (agg ! (and_then ! (get ! refl) (and_then ! (get_in ! (fld ! refl (stop !)) (sub ! 1 refl (whole !))) (no_more !)))) refl (tt, (tt, (record { fits = told.1.0 }, tt))) $
-    fpick ! (λ vs₀. fsplit ! $ drop ! $ fsplit ! $ move ! (1 ∷ []) $ drop ! $
-    peeks ! Slice (Is Slice) (shows 𝓛 Slice) cells (vs₀.0) (λ is₀. rewrite ! 0 (λ (vs : List Val). ‵ (Slice.own_val cells vs)) (is₀.0.0) refl $
-    -- [the slice; the tokens]
-    nothing ! $ use0 𝓛 (‵ (pane.the_row.own_val win (window_val win ∷ []))) (window_made 𝓛 win fl ft fw fh) $ join ! $ use0 𝓛 (‵ (shape.the_row.own_val img.shape (shape_val img.shape ∷ []))) (shape_made 𝓛 img.shape told.2 told.3 told.4) $ join ! $ move ! (1 ∷ 0 ∷ []) $ join ! $ move ! (1 ∷ 0 ∷ []) $ join ! $
+    sets ! (of_opd ! (get ! refl)) refl (tt, ((tt, (record { fits = told.1.0 }, tt)), (record { fits = told.2 }, (record { fits = told.3 }, (record { fits = told.4 }, tt))))) $
+    nothing ! $ use0 𝓛 (‵ (pane.the_row.own_val win (window_val win ∷ []))) (window_made 𝓛 win fl ft fw fh) $ join ! $ move ! (1 ∷ 0 ∷ []) $ join ! $ move ! (1 ∷ 0 ∷ []) $ join ! $
     use0 𝓛 (raw (fact 𝓤 Inside)) (fact_i 𝓤 Inside (emp 𝓤) inside) $ use0 𝓛 (raw (fact 𝓤 Holds)) (fact_i 𝓤 Holds (emp 𝓤) holds) $ join ! $ use0 𝓛 (raw (fact 𝓤 (κT ⊑ T.lives))) (fact_i 𝓤 (κT ⊑ T.lives) (emp 𝓤) le) $ join ! $
     move ! (1 ∷ 0 ∷ []) $ use2 𝓛 (raw (G.pre z₁)) (id⊢ 𝓤 _) $
-    calls_at ! fm G (found.met 𝓤 𝓛 𝓜 𝓡 (compiled.calls-image_cells::roomy_stretch_mut 𝓡.env wired) T L) z₁ (and_then ! (get ! refl) (and_then ! (get ! refl) (and_then ! (get ! refl) (no_more !)))) (λ v.
+    calls_at ! fm G (found.met 𝓤 𝓛 𝓜 𝓡 (compiled.calls-imgref::window::Img+mut+slice+T::into_roomy 𝓡.env wired) T L) z₁ (and_then ! (get ! refl) (and_then ! (get ! refl) (no_more !))) (λ v.
     let Cells₁ : MutBor (List T.Denot) × Stretch × Shape → Type 0 = λ x. x.0 ≡ cells in
     let Room₁ : MutBor (List T.Denot) × Stretch × Shape → Type 0 = λ x. IsWithin (length xs) (as_stretch x.1) in
     let There : MutBor (List T.Denot) × Stretch × Shape → Type 0 = λ x. as_stretch x.1 ≡ roomy_stretch (length xs) li.stride here in
     let Laid : MutBor (List T.Denot) × Stretch × Shape → Type 0 = λ x. shaped (stretch_cells xs (as_stretch x.1)) x.2 ≡ roomy_window li here in
     let Fits₁ : Type 0 = Fits (roomy_window li here) in
     let View₁ : Type 0 = grid_of (roomy_window li here) ≡ window_view (grid_of li) here in
-    use1 𝓛 (later (some (λ (x : MutBor (List T.Denot) × Stretch × Shape). (Tok ⊛ ‵ (Found.own_val x (v ∷ []))) ⊛ some (λ (us : Unit {0} × (Unit {0} × (Unit {0} × Unit {0}))). ‵ (lasts (f.ended T) z₁.0.0 z₁.0.3 us)
+    use1 𝓛 (later (some (λ (x : MutBor (List T.Denot) × Stretch × Shape). (Tok ⊛ ‵ (Found.own_val x (v ∷ []))) ⊛ some (λ (us : (Unit {0} × Unit {0}) × (Unit {0} × Unit {0})). ‵ (lasts (f.ended T) z₁.0.0 z₁.0.3 us)
     ⊛ raw (fact 𝓤 (Cells₁ x)) ⊛ raw (fact 𝓤 (Room₁ x)) ⊛ raw (fact 𝓤 (There x)) ⊛ raw (fact 𝓤 (Laid x)) ⊛ raw (fact 𝓤 Fits₁) ⊛ raw (fact 𝓤 View₁))))) (id⊢ 𝓤 _) $
     await ! tt $ pick ! (λ x. split ! $ split ! $ move ! (2 ∷ []) $ pick ! (λ us. split ! $ drop ! $ split ! $ heard ! (Cells₁ x) (λ e₁. split ! $ heard ! (Room₁ x) (λ room. split ! $ heard ! (There x) (λ there. split ! $ heard ! (Laid x) (λ laid. split ! $ heard ! Fits₁ (λ fits. heard ! View₁ (λ view.
     -- [the tokens; the parts]
@@ -138,7 +132,7 @@ into_sub_image_mut_spec 𝓤 𝓛 𝓜 𝓡 wired T L =
     sets ! (of_opd ! (get_in ! (fld ! refl (stop !)) (sub ! 0 refl (whole !)))) refl (tt, (tt, (record { fits = pt.1.0 }, tt))) $
     sets ! (of_opd ! (get_in ! (fld ! refl (stop !)) (sub ! 1 refl (whole !)))) refl (tt, (record { fits = pt.2 }, (record { fits = pt.3 }, tt))) $
     sets ! (of_opd ! (get_in ! (fld ! refl (stop !)) (sub ! 2 refl (whole !)))) refl (tt, (record { fits = pt.4 }, (record { fits = pt.5 }, (record { fits = pt.6 }, tt)))) $
-    sets ! (addr ! (from ! (fld ! refl (hop ! (look_in_at ! 9 (sub ! 0 refl (whole !))) (stop !))))) refl (tt, tt) $
+    sets ! (addr ! (from ! (fld ! refl (hop ! (look_in_at ! 7 (sub ! 0 refl (whole !))) (stop !))))) refl (tt, tt) $
     sets ! (agg ! (and_then ! (get ! refl) (and_then ! (get_in ! (fld ! refl (stop !)) (sub ! 1 refl (whole !))) (no_more !)))) refl (tt, (tt, (record { fits = pt.1.0 }, tt))) $
     let G₂ = triple_of 𝓛 (g.signature T) (g.spec T 𝓛 𝓜.mem 𝓡.returns) in
     let z₂ : G₂.Ghost = (((κ, (κT, tt)), (q, (qT, tt)), z.0.2, (cells, (x.1, (x.2, tt))), (sv ∷ [], (stretch_val x.1 ∷ [], (shape_val x.2 ∷ [], tt)))), tt) in
@@ -153,13 +147,13 @@ into_sub_image_mut_spec 𝓤 𝓛 𝓜 𝓡 wired T L =
     await ! tt $ pick ! (λ r₂. split ! $ split ! $ move ! (2 ∷ []) $ pick ! (λ us₂. split ! $ drop ! $ split ! $ move ! (1 ∷ []) $ heard ! (Made r₂) (λ e₂.
     -- [what follows; the tokens; the window]
     move ! (2 ∷ []) $ peeks ! Row (Is Row) (shows 𝓛 Row) r₂ (v₂ ∷ []) (λ is₂. let t₂ = img_told (named 0) κ R r₂ (v₂ ∷ []) is₂ in
-    let w₂ : Val = img_val r₂.buf.ref_ptr (length r₂.buf.now) r₂.shape in
+    let w₂ : Val = img_val r₂.buf.ref_ptr (length r₂.buf.now) (shape_of r₂) in
     let Is₂ : Type 0 = mut_layout r₂ ≡ roomy_window li here in
     let Fits₂ : Type 0 = Fits (mut_layout r₂) in
     let Shows : Type 0 = grid_of (mut_layout r₂) ≡ window_view (grid_of li) here in
     let is₃ : Is₂ = e₂ ∙ laid in
     rewrite ! 0 (λ (us : List Val). ‵ (Row.own_val r₂ us)) (t₂.0) refl $
-    lands_as ! (ap only (t₂.0)) refl (tt, ((tt, (record { fits = t₂.1.0 }, tt)), ((record { fits = t₂.2 }, (record { fits = t₂.3 }, (record { fits = t₂.4 }, tt))), tt))) $
+    lands_as ! (ap only (t₂.0)) refl (tt, ((tt, (record { fits = t₂.1.0 }, tt)), (record { fits = t₂.2 }, (record { fits = t₂.3 }, (record { fits = t₂.4 }, tt))))) $
     returns ! (look_at ! 0 refl) $ free_all ! refl $
     -- [the window; what follows; the tokens]
     move ! (1 ∷ []) $ rewrite ! 0 (λ (m : Part). ‵ (follows (Array R 0) (Array R 0) γ r₂.buf.ghost_name (with_stretch xs m))) there refl $
@@ -168,4 +162,4 @@ into_sub_image_mut_spec 𝓤 𝓛 𝓜 𝓡 wired T L =
     -- [the ensures; the window; the tokens]
     nothing ! $ nothing ! $ fjoin ! $ nothing ! $ fjoin ! $ nothing ! $ fjoin ! $ nothing ! $ fjoin ! $ nothing ! $ fjoin ! $
     move ! (3 ∷ 0 ∷ 2 ∷ 1 ∷ []) $
-    by ! (leaves 𝓛 En stays c z w₂ r₂ ((tt, tt), (tt, (tt, (tt, (tt, tt))))) (tt, (tt, (tt, (tt, (tt, tt))))))))))))))))))))))))))))))
+    by ! (leaves 𝓛 En stays c z w₂ r₂ ((tt, tt), (tt, (tt, (tt, (tt, tt))))) (tt, (tt, (tt, (tt, (tt, tt))))))))))))))))))))))))))))
