@@ -2,3 +2,4 @@ pub mod Numbers
 pub mod Shapes
 pub mod Values
 pub mod Writes
+pub mod Moves

@@ -13,6 +13,7 @@
 //! pixel, row, window.
 #![tactic(auto)]
 
+mod blit;
 mod buffers;
 mod containers;
 mod contiguous;

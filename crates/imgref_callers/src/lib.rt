@@ -2,10 +2,12 @@
 //! their number or through an iterator that ends early, and calls that just meet a condition.
 #![tactic(auto)]
 
+mod blits;
 mod conditions;
 mod rows;
 mod windows;
 
+pub use blits::{copy_across, copy_but_one, copy_over_cells, scroll_up};
 pub use conditions::{
     cells_of_last_columns, clear_start_of_last_row, last_cell, narrowest, pixels_if_it_fits,
     start_of_last_row,

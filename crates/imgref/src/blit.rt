@@ -1,0 +1,132 @@
+//! Pixels copied over others: from another image, and from one window of an image to another.
+
+ghost use Rattle.std.specs.Prelude.{◌≡◌, length};
+ghost use Rattle.image_model.specs.Layout.{Fits, SameOutside};
+ghost use Rattle.image_model.specs.Grid.{grid_of, view, patch};
+ghost use Rattle.image_model.specs.Windows.{IsInside, window, window_view};
+ghost use Rattle.image_shape.specs.Shape.{shape_width, shape_height, shaped};
+ghost use Rattle.image_shape.specs.Window.{as_window};
+ghost use Rattle.imgref.specs.Image.{buf_of, width_of, height_of, layout_by, with_all, ref_layout};
+
+use crate::containers::{AsMutSlice, AsSlice};
+use crate::img::{Img, ImgRef};
+use image_pixels::copy_pixels;
+use image_shape::{Shape, Window};
+use row_mover::RowMover;
+
+// The cells with the pixels of one window moved to another of its size. They are handed back whole,
+// so that what is done to them is known where they were lent.
+fn with_moved_window<T: Copy>(
+    cells: &mut [T],
+    shape: Shape,
+    source: Window,
+    target: Window,
+) -> &mut [T]
+    requires fits { Fits (shaped cells.old shape) }
+    requires source_inside { IsInside (shape_width shape) (shape_height shape) (as_window source) }
+    requires target_inside { IsInside (shape_width shape) (shape_height shape) (as_window target) }
+    requires same_width { source.width ≡ target.width }
+    requires same_height { source.height ≡ target.height }
+    ensures same { result.ghost_name ≡ cells.entry.ghost_name }
+    ensures grid { grid_of (shaped result.now shape) ≡ patch (grid_of (shaped cells.old shape)) target.left target.top (window_view (grid_of (shaped cells.old shape)) (as_window source)) }
+    ensures outside { SameOutside (shaped cells.old shape) (shaped result.now shape) }
+{
+    let from = shape.stretch(false, cells.len(), source).start;
+    let to = shape.stretch(false, cells.len(), target).start;
+    let _height = shape.height();
+    let mut mover = RowMover::new(cells);
+    mover.move_rows(shape.stride(), from, to, target.width, target.height);
+    mover.into_cells()
+}
+
+// Moves the pixels of one window to another of its size, in place.
+fn move_pixels<T: Copy>(cells: &mut [T], shape: Shape, source: Window, target: Window)
+    requires fits { Fits (shaped cells.old shape) }
+    requires source_inside { IsInside (shape_width shape) (shape_height shape) (as_window source) }
+    requires target_inside { IsInside (shape_width shape) (shape_height shape) (as_window target) }
+    requires same_width { source.width ≡ target.width }
+    requires same_height { source.height ≡ target.height }
+    ensures grid { grid_of (shaped cells.new shape) ≡ patch (grid_of (shaped cells.old shape)) target.left target.top (window_view (grid_of (shaped cells.old shape)) (as_window source)) }
+    ensures outside { SameOutside (shaped cells.old shape) (shaped cells.new shape) }
+{
+    with_moved_window(cells, shape, source, target);
+}
+
+impl<C: AsMutSlice> Img<C> {
+    /// Every pixel becomes that of `source` at its place; the padding stays. Both images must fit,
+    /// as `is_valid` tells, and have one size; their strides may differ.
+    pub fn copy_from<'a>(&'a mut self, source: ImgRef<'_, C::Item>)
+    where
+        C::Item: Copy + 'a,
+        requires fits { Fits (layout_by C.AsSlice.cells self.old) }
+        requires source_fits { Fits (ref_layout source) }
+        requires same_width { width_of source ≡ width_of self.old }
+        requires same_height { height_of source ≡ height_of self.old }
+        ensures grid { grid_of (layout_by C.AsSlice.cells self.new) ≡ grid_of (ref_layout source.entry) }
+        ensures outside { SameOutside (layout_by C.AsSlice.cells self.old) (layout_by C.AsSlice.cells self.new) }
+        ensures fits { Fits (layout_by C.AsSlice.cells self.new) }
+        ensures container { self.new ≡ with_all C.AsSlice.cells C.with_cells self.old (C.AsSlice.cells (buf_of self.new)) }
+    {
+        let shape = self.shape;
+        let len = self.buf.as_slice().len();
+        let cells = self.buf.stretch_mut(0, len);
+        copy_pixels(cells, shape, source.buf, source.shape);
+    }
+
+    /// The window with its corner at column `left` of row `top` and the size of `source` gets the
+    /// pixels of `source`; every other cell stays. Both images must fit, as `is_valid` tells, and
+    /// the window be inside (`has_window`).
+    pub fn copy_window<'a>(&'a mut self, left: usize, top: usize, source: ImgRef<'_, C::Item>)
+    where
+        C::Item: Copy + 'a,
+        requires fits { Fits (layout_by C.AsSlice.cells self.old) }
+        requires source_fits { Fits (ref_layout source) }
+        requires inside { IsInside (width_of self.old) (height_of self.old) (window left top (width_of source) (height_of source)) }
+        ensures grid { grid_of (layout_by C.AsSlice.cells self.new) ≡ patch (grid_of (layout_by C.AsSlice.cells self.old)) left top (grid_of (ref_layout source.entry)) }
+        ensures outside { SameOutside (layout_by C.AsSlice.cells self.old) (layout_by C.AsSlice.cells self.new) }
+        ensures fits { Fits (layout_by C.AsSlice.cells self.new) }
+    {
+        let (cells, shape) = self.window_parts_mut(left, top, source.width(), source.height());
+        copy_pixels(cells, shape, source.buf, source.shape);
+    }
+
+    /// The window of `width` by `height` pixels with its corner at column `to_left` of row `to_top`
+    /// gets the pixels that the one at column `from_left` of row `from_top` had, overlapping or
+    /// not; every other cell stays. The image must fit and both windows be inside it (`is_valid`,
+    /// `has_window`). No memory is taken: the rows are moved within the buffer.
+    pub fn move_window<'a>(
+        &'a mut self,
+        from_left: usize,
+        from_top: usize,
+        to_left: usize,
+        to_top: usize,
+        width: usize,
+        height: usize,
+    )
+    where
+        C::Item: Copy + 'a,
+        requires fits { Fits (layout_by C.AsSlice.cells self.old) }
+        requires source_inside { IsInside (width_of self.old) (height_of self.old) (window from_left from_top width height) }
+        requires target_inside { IsInside (width_of self.old) (height_of self.old) (window to_left to_top width height) }
+        ensures grid { grid_of (layout_by C.AsSlice.cells self.new) ≡ patch (grid_of (layout_by C.AsSlice.cells self.old)) to_left to_top (view (grid_of (layout_by C.AsSlice.cells self.old)) from_left from_top width height) }
+        ensures outside { SameOutside (layout_by C.AsSlice.cells self.old) (layout_by C.AsSlice.cells self.new) }
+        ensures fits { Fits (layout_by C.AsSlice.cells self.new) }
+        ensures container { self.new ≡ with_all C.AsSlice.cells C.with_cells self.old (C.AsSlice.cells (buf_of self.new)) }
+    {
+        let source = Window {
+            left: from_left,
+            top: from_top,
+            width,
+            height,
+        };
+        let target = Window {
+            left: to_left,
+            top: to_top,
+            width,
+            height,
+        };
+        let shape = self.shape;
+        let len = self.buf.as_slice().len();
+        move_pixels(self.buf.stretch_mut(0, len), shape, source, target);
+    }
+}
