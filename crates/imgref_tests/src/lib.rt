@@ -5,6 +5,8 @@
 #[cfg(test)]
 mod answers;
 #[cfg(test)]
+mod blits;
+#[cfg(test)]
 mod containers;
 #[cfg(test)]
 mod contiguous;
