@@ -4,6 +4,8 @@
 //! them. Each row is moved by one call of [`RowMover`](row_mover::RowMover), and no memory is taken.
 #![tactic(auto)]
 
+mod moving;
 mod packing;
 
+pub use moving::move_pixels;
 pub use packing::pack;

@@ -2,4 +2,3 @@ pub mod Numbers
 pub mod Shapes
 pub mod Values
 pub mod Writes
-pub mod Moves

@@ -1,56 +1,17 @@
 //! Pixels copied over others: from another image, and from one window of an image to another.
 
-ghost use Rattle.std.specs.Prelude.{◌≡◌, length};
+ghost use Rattle.std.specs.Prelude.{◌≡◌};
 ghost use Rattle.image_model.specs.Layout.{Fits, SameOutside};
 ghost use Rattle.image_model.specs.Grid.{grid_of, view, patch};
-ghost use Rattle.image_model.specs.Windows.{IsInside, window, window_view};
-ghost use Rattle.image_shape.specs.Shape.{shape_width, shape_height, shaped};
-ghost use Rattle.image_shape.specs.Window.{as_window};
+ghost use Rattle.image_model.specs.Windows.{IsInside, window};
 ghost use Rattle.imgref.specs.Image.{buf_of, width_of, height_of, layout_by, with_all, ref_layout};
 
-use crate::containers::{AsMutSlice, AsSlice};
+use crate::containers::AsMutSlice;
 use crate::img::{Img, ImgRef};
+use image_cells::AsSlice;
+use image_moves::move_pixels;
 use image_pixels::copy_pixels;
-use image_shape::{Shape, Window};
-use row_mover::RowMover;
-
-// The cells with the pixels of one window moved to another of its size. They are handed back whole,
-// so that what is done to them is known where they were lent.
-fn with_moved_window<T: Copy>(
-    cells: &mut [T],
-    shape: Shape,
-    source: Window,
-    target: Window,
-) -> &mut [T]
-    requires fits { Fits (shaped cells.old shape) }
-    requires source_inside { IsInside (shape_width shape) (shape_height shape) (as_window source) }
-    requires target_inside { IsInside (shape_width shape) (shape_height shape) (as_window target) }
-    requires same_width { source.width ≡ target.width }
-    requires same_height { source.height ≡ target.height }
-    ensures same { result.ghost_name ≡ cells.entry.ghost_name }
-    ensures grid { grid_of (shaped result.now shape) ≡ patch (grid_of (shaped cells.old shape)) target.left target.top (window_view (grid_of (shaped cells.old shape)) (as_window source)) }
-    ensures outside { SameOutside (shaped cells.old shape) (shaped result.now shape) }
-{
-    let from = shape.stretch(false, cells.len(), source).start;
-    let to = shape.stretch(false, cells.len(), target).start;
-    let _height = shape.height();
-    let mut mover = RowMover::new(cells);
-    mover.move_rows(shape.stride(), from, to, target.width, target.height);
-    mover.into_cells()
-}
-
-// Moves the pixels of one window to another of its size, in place.
-fn move_pixels<T: Copy>(cells: &mut [T], shape: Shape, source: Window, target: Window)
-    requires fits { Fits (shaped cells.old shape) }
-    requires source_inside { IsInside (shape_width shape) (shape_height shape) (as_window source) }
-    requires target_inside { IsInside (shape_width shape) (shape_height shape) (as_window target) }
-    requires same_width { source.width ≡ target.width }
-    requires same_height { source.height ≡ target.height }
-    ensures grid { grid_of (shaped cells.new shape) ≡ patch (grid_of (shaped cells.old shape)) target.left target.top (window_view (grid_of (shaped cells.old shape)) (as_window source)) }
-    ensures outside { SameOutside (shaped cells.old shape) (shaped cells.new shape) }
-{
-    with_moved_window(cells, shape, source, target);
-}
+use image_shape::Window;
 
 impl<C: AsMutSlice> Img<C> {
     /// Every pixel becomes that of `source` at its place; the padding stays. Both images must fit,
@@ -67,10 +28,10 @@ impl<C: AsMutSlice> Img<C> {
         ensures fits { Fits (layout_by C.AsSlice.cells self.new) }
         ensures container { self.new ≡ with_all C.AsSlice.cells C.with_cells self.old (C.AsSlice.cells (buf_of self.new)) }
     {
-        let shape = self.shape;
+        let shape = self.shape();
         let len = self.buf.as_slice().len();
         let cells = self.buf.stretch_mut(0, len);
-        copy_pixels(cells, shape, source.buf, source.shape);
+        copy_pixels(cells, shape, source.buf, source.shape());
     }
 
     /// The window with its corner at column `left` of row `top` and the size of `source` gets the
@@ -87,7 +48,7 @@ impl<C: AsMutSlice> Img<C> {
         ensures fits { Fits (layout_by C.AsSlice.cells self.new) }
     {
         let (cells, shape) = self.window_parts_mut(left, top, source.width(), source.height());
-        copy_pixels(cells, shape, source.buf, source.shape);
+        copy_pixels(cells, shape, source.buf, source.shape());
     }
 
     /// The window of `width` by `height` pixels with its corner at column `to_left` of row `to_top`
@@ -125,7 +86,7 @@ impl<C: AsMutSlice> Img<C> {
             width,
             height,
         };
-        let shape = self.shape;
+        let shape = self.shape();
         let len = self.buf.as_slice().len();
         move_pixels(self.buf.stretch_mut(0, len), shape, source, target);
     }

@@ -1,5 +1,6 @@
-//! Users of `imgref` from another crate: writes through nested windows, rows that are filled by
-//! their number or through an iterator that ends early, and calls that just meet a condition.
+//! Users of `imgref` from another crate: writes through nested windows, copies and moves of windows,
+//! rows that are filled by their number or through an iterator that ends early, and calls that just
+//! meet a condition.
 #![tactic(auto)]
 
 mod blits;

@@ -23,7 +23,7 @@ returns-clause-grid g c =
     let inside : IsInside l.width l.height w = rw (c.width.ensures.value, c.height.ensures.value) c.requires.inside in
     let has = stretch_has roomy (length l.cells) l.stride l.width l.height w r.ensures.holds_width c.requires.fits inside in
     window_grid cells g.C.AsMutSlice.with_cells g.met.C.AsMutSlice.others_stay i w (window_stretch roomy (length l.cells) l.stride w) n has same inside r.ensures.holds_width
-    ∙ ap (patch (grid_of l) a.left a.top) c.copy_pixels.ensures.grid
+    ∙ ap (patch (grid_of l) a.left a.top) (c.copy_pixels.ensures.grid ∙ ap (λ s. grid_of (shaped a.source.buf.now s)) c.shape.ensures)
 
 pub returns-clause-outside : goal.returns-clause-outside
 returns-clause-outside g c =

@@ -4,8 +4,8 @@ use Rattle.image_model.specs.Layout.{Layout}
 use Rattle.image_model.specs.Shifts.{MovesRows}
 use Rattle.image_shape.specs.Shape.{shaped}
 use Rattle.image_shape.specs.Window.{as_window, as_stretch}
-use Rattle.imgref.proofs.Moves.{patched, kept}
-use Rattle.imgref.proofs.blit.with_moved_window.Goals as goal
+use Rattle.image_moves.proofs.Moves.{patched, kept}
+use Rattle.image_moves.proofs.moving.with_moved_window.Goals as goal
 
 pub returns-clause-grid : goal.returns-clause-grid
 returns-clause-grid g c =

@@ -1,0 +1,50 @@
+//! The pixels of a window, moved to another window of the same cells.
+
+ghost use Rattle.std.specs.Prelude.{◌≡◌};
+ghost use Rattle.image_model.specs.Layout.{Fits, SameOutside};
+ghost use Rattle.image_model.specs.Grid.{grid_of, patch};
+ghost use Rattle.image_model.specs.Windows.{IsInside, window_view};
+ghost use Rattle.image_shape.specs.Shape.{shape_width, shape_height, shaped};
+ghost use Rattle.image_shape.specs.Window.{as_window};
+
+use image_shape::{Shape, Window};
+use row_mover::RowMover;
+
+// The cells with the pixels of one window moved to another of its size. They are handed back whole,
+// so that what is done to them is known where they were lent.
+fn with_moved_window<T: Copy>(
+    cells: &mut [T],
+    shape: Shape,
+    source: Window,
+    target: Window,
+) -> &mut [T]
+    requires fits { Fits (shaped cells.old shape) }
+    requires source_inside { IsInside (shape_width shape) (shape_height shape) (as_window source) }
+    requires target_inside { IsInside (shape_width shape) (shape_height shape) (as_window target) }
+    requires same_width { source.width ≡ target.width }
+    requires same_height { source.height ≡ target.height }
+    ensures same { result.ghost_name ≡ cells.entry.ghost_name }
+    ensures grid { grid_of (shaped result.now shape) ≡ patch (grid_of (shaped cells.old shape)) target.left target.top (window_view (grid_of (shaped cells.old shape)) (as_window source)) }
+    ensures outside { SameOutside (shaped cells.old shape) (shaped result.now shape) }
+{
+    let from = shape.stretch(false, cells.len(), source).start;
+    let to = shape.stretch(false, cells.len(), target).start;
+    let _height = shape.height();
+    let mut mover = RowMover::new(cells);
+    mover.move_rows(shape.stride(), from, to, target.width, target.height);
+    mover.into_cells()
+}
+
+/// Moves the pixels of one window to another of its size, overlapping or not; every other cell
+/// stays. The cells fit the shape, and both windows are inside it.
+pub fn move_pixels<T: Copy>(cells: &mut [T], shape: Shape, source: Window, target: Window)
+    requires fits { Fits (shaped cells.old shape) }
+    requires source_inside { IsInside (shape_width shape) (shape_height shape) (as_window source) }
+    requires target_inside { IsInside (shape_width shape) (shape_height shape) (as_window target) }
+    requires same_width { source.width ≡ target.width }
+    requires same_height { source.height ≡ target.height }
+    ensures grid { grid_of (shaped cells.new shape) ≡ patch (grid_of (shaped cells.old shape)) target.left target.top (window_view (grid_of (shaped cells.old shape)) (as_window source)) }
+    ensures outside { SameOutside (shaped cells.old shape) (shaped cells.new shape) }
+{
+    with_moved_window(cells, shape, source, target);
+}
