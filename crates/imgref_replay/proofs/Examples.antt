@@ -1,5 +1,5 @@
 -- Worked commands, computed: what the definitions say of one small image.
-use Rattle.std.proofs.Common.{◌≡◌, ◌==◌, ◌<◌, ◌^◌, ℕ, List, [], ◌∷◌, length, map, refl, arith}
+use Rattle.std.proofs.Common.{◌≡◌, ◌==◌, ◌<◌, ◌^◌, ℕ, List, [], ◌∷◌, true, false, length, map, refl, arith}
 use denote.RawPtr.{Ptr}
 use Rattle.std.specs.declared.alloc.Global.{Global}
 use Rattle.image_model.specs.Layout.{layout}
@@ -8,8 +8,8 @@ use Rattle.image_model.specs.Rows.{grid_joined_rows}
 use Rattle.imgref_replay.specs.Run.{replies_to, after_all}
 use Rattle.image_shape.specs.declared.window.Window.{Window}
 use Rattle.imgref_replay.specs.declared.commands.Place.{Place}
-use Rattle.imgref_replay.specs.declared.commands.Command.TheVariants.{Get, Put, Fill, Count}
-use Rattle.imgref_replay.specs.declared.commands.Reply.TheVariants.{Pixel, Counted, Done, Refused}
+use Rattle.imgref_replay.specs.declared.commands.Command.TheVariants.{Get, Put, Fill, Count, Same, Compact}
+use Rattle.imgref_replay.specs.declared.commands.Reply.TheVariants.{Pixel, Counted, Truth, Done, Refused}
 use Rattle.imgref_replay.specs.declared.commands.Refusal.TheVariants.{NoImage, WindowOutside, PlaceOutside}
 
 -- 3 by 2 at stride 4, with cells past the last pixel: 1 2 3 above 5 6 7
@@ -93,3 +93,24 @@ module _ (ptr : Ptr) (alloc : Global) where
   refused_changes_nothing : after_all (Put whole 3 0 9 ∷ []) (padded ∷ []) ≡ padded ∷ []
   unfolding grid_of
   refused_changes_nothing = refl
+
+  -- of windows: the pixels decide, and where the sizes differ there is no pixel to compare
+  same_windows : replies_to ◌==◌ (Same nested nested ∷ Same nested (place 0 (window 2 0 1 2 ∷ []) (omega arith)) ∷ Same nested (place 0 (window 1 0 1 2 ∷ []) (omega arith)) ∷ Same whole nested ∷ []) (padded ∷ [])
+      ≡ Truth true ∷ Truth true ∷ Truth false ∷ Truth false ∷ []
+  unfolding grid_of view
+  same_windows = refl
+
+  same_empty : replies_to ◌==◌ (Same (place 0 (window 3 0 0 2 ∷ []) (omega arith)) (place 0 (window 0 0 0 2 ∷ []) (omega arith)) ∷ Same (place 0 (window 3 0 0 2 ∷ []) (omega arith)) (place 0 (window 0 2 3 0 ∷ []) (omega arith)) ∷ [])
+      (padded ∷ []) ≡ Truth true ∷ Truth false ∷ []
+  unfolding grid_of view
+  same_empty = refl
+
+  -- both image numbers are tested before the first path
+  both_images_first : replies_to ◌==◌ (Same (place 0 (window 9 9 9 9 ∷ []) (omega arith)) (place 1 [] (omega arith)) ∷ Same (place 0 (window 9 9 9 9 ∷ []) (omega arith)) whole ∷ []) (padded ∷ [])
+      ≡ Refused NoImage ∷ Refused WindowOutside ∷ []
+  unfolding grid_of
+  both_images_first = refl
+
+  compact_done : replies_to ◌==◌ (Compact 0 ∷ Get whole 2 1 ∷ Compact 1 ∷ []) (padded ∷ []) ≡ Done ∷ Pixel 7 ∷ Refused NoImage ∷ []
+  unfolding grid_of view
+  compact_done = refl

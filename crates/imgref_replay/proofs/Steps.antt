@@ -2,25 +2,26 @@
 use Rattle.std.proofs.Common.{◌≡◌, ℕ, ◌<◌, Bool, true, false, not, List, [], ◌∷◌, ◌++◌, length, map, set, get_or, Some, None, Vec, refl, sym, ap, ◌∙◌, subst}
 use Rattle.std.specs.Prelude.{All, Ok}
 use Rattle.std.specs.Option.{option_map_or}
-use Rattle.std.proofs.lemmas.Bool.{cond-false}
+use Rattle.std.proofs.lemmas.Bool.{cond-false, lt-leb, eq-eqb, ne_eqb}
 use Rattle.std.proofs.lemmas.Option.{same_Some}
 use Rattle.image_model.specs.Layout.{Layout, Fits, SameOutside}
 use Rattle.image_model.specs.Grid.{Grid, grid_of, is_place}
 use Rattle.image_model.specs.Windows as model
-use Rattle.image_model.specs.Kept.{IsKept}
+use Rattle.image_model.specs.Kept.{IsKept, IsPacked, packed}
 use Rattle.image_model.proofs.Grids.{is_place_decides}
 use Rattle.image_model.proofs.Places.{outside_refl}
 use Rattle.imgref.specs.Image.{vec_layout}
 use Rattle.imgref.specs.declared.img.Img.{Img}
-use Rattle.imgref_replay.specs.Commands.{grids_of, grid_at, window_named, misses_window, window_faults, place_faults, meaning}
+use Rattle.imgref_replay.specs.Commands.{grids_of, grid_at, window_named, lacks_image, misses_window, window_faults, place_faults, meaning}
 use Rattle.imgref_replay.specs.Step.{first_fault, fault_of, compacts, AllKept, IsStep}
 use Rattle.imgref_replay.specs.declared.commands.Command.{Command}
+use Rattle.imgref_replay.specs.declared.commands.Command.TheVariants.{Compact}
 use Rattle.imgref_replay.specs.declared.commands.Place.{Place}
 use Rattle.imgref_replay.specs.declared.commands.Refusal.{Refusal}
 use Rattle.imgref_replay.specs.declared.commands.Reply.{Reply}
 use Rattle.imgref_replay.specs.declared.commands.Reply.TheVariants.{Done}
-use Rattle.imgref_replay.specs.declared.commands.Refusal.TheVariants.{PlaceOutside}
-use Rattle.imgref_replay.proofs.Images.{grid_at-images, grids_set, fits_set, outsides_set}
+use Rattle.imgref_replay.specs.declared.commands.Refusal.TheVariants.{NoImage, PlaceOutside}
+use Rattle.imgref_replay.proofs.Images.{length-grids, grid_at-images, grids_set, fits_set, kept_set, same_grids}
 
 -- where the first tests don't hold, the others decide
 pub faults_after : (firsts others : List (Bool × Refusal)) → first_fault firsts ≡ None → first_fault (firsts ++ others) ≡ first_fault others
@@ -70,6 +71,21 @@ wrote eq command images spot image new window change there is comes_to changed o
       ∙ ap (set (grids_of images) spot.image) (changed ∙ ap (λ w. change w (grid_of (vec_layout image))) comes_to ∙ ap (change (window_named spot (grids_of images))) (sym (grid_at-images images spot.image image there is)))
       ∙ sym effect
       ∙ ap (λ o. option_map_or (λ _. grids_of images) o ((meaning command).effect (grids_of images))) accepted;
-  kept = kept_outside (λ i. compacts i command) _ _ (not_compacted command none) (outsides_set images spot.image image new there (subst (λ i. SameOutside (vec_layout i) (vec_layout new)) is outside));
+  kept = kept_outside (λ i. compacts i command) _ _ (not_compacted command none) (kept_set (λ _. false) images spot.image image new there is (λ _ _. refl) outside);
   fits = fits_set images spot.image new fits all_fit;
 }
+
+-- a command that compacts image i, and leaves all else as it is
+pub packed_image : {T Z : Type 0} (eq : T → T → Bool) (i : ℕ) (images : List (Img (Vec T Z))) (image new : Img (Vec T Z)) → i < length images → image ≡ get_or images i image
+    → vec_layout new ≡ packed (vec_layout image) → IsPacked (packed (vec_layout image)) → Fits (packed (vec_layout image)) → grid_of (packed (vec_layout image)) ≡ grid_of (vec_layout image)
+    → All Fits (map vec_layout images) → IsStep eq (Compact i) (map vec_layout images) (map vec_layout (set images i new)) (Ok Done)
+packed_image {T} eq i images image new there is layout packs fits grid all_fit =
+    let accepted : None ≡ fault_of {T = T} (Compact i) (grids_of images) = sym (cond-false (lacks_image i (grids_of images)) (Some NoImage) None (lt-leb (length (grids_of images)) i (rw (length-grids images) there))) in
+    record {
+      fault = accepted;
+      answer = refl;
+      grids = same_grids images i image new there is (ap grid_of layout ∙ grid) ∙ ap (λ o. option_map_or (λ _. grids_of images) o (grids_of images)) accepted;
+      kept = kept_set (λ j. compacts {T = T} j (Compact i)) images i image new there is (λ j differ. ne_eqb i j (λ e. differ (sym e)))
+          (subst (λ b. IsKept b (vec_layout image) (vec_layout new)) (sym (eq-eqb i i refl)) (subst IsPacked (sym layout) packs));
+      fits = fits_set images i new (subst Fits (sym layout) fits) all_fit;
+    }

@@ -1,5 +1,5 @@
 -- What each command means on grids: it speaks of places alone, and of no cell, stride or padding.
-use Rattle.std.specs.Prelude.{ℕ, ◌+◌, Bool, not, nat_le, Option, None, List, [], ◌∷◌, ◌++◌, length, map, Vec, slice_set, slice_index_or, is_some, count_by}
+use Rattle.std.specs.Prelude.{ℕ, ◌+◌, Bool, not, nat_le, Option, Some, None, List, [], ◌∷◌, ◌++◌, length, map, Vec, slice_set, slice_index_or, is_some, count_by}
 use Rattle.std.specs.Option.{option_map_or}
 use Rattle.image_model.specs.Grid.{Grid, grid, grid_of, is_place, patch, uniform}
 use Rattle.image_model.specs.Rows.{grid_pixels}
@@ -7,13 +7,14 @@ use Rattle.image_model.specs.Windows.{Window, window_view, first_outside, path_w
 use Rattle.imgref.specs.Image.{vec_layout}
 use Rattle.imgref.specs.declared.img.Img.{Img}
 use Rattle.imgref.specs.Window.{as_path}
+use Rattle.imgref_replay.specs.Agreement.{do_agree}
 use Rattle.imgref_replay.specs.declared.commands.Place.{Place}
 use Rattle.imgref_replay.specs.declared.commands.Command.{Command}
-use Rattle.imgref_replay.specs.declared.commands.Command.TheVariants.{Get, Put, Fill, Count}
+use Rattle.imgref_replay.specs.declared.commands.Command.TheVariants.{Get, Put, Fill, Count, Same, Compact}
 use Rattle.imgref_replay.specs.declared.commands.Refusal.{Refusal}
 use Rattle.imgref_replay.specs.declared.commands.Refusal.TheVariants.{NoImage, WindowOutside, PlaceOutside}
 use Rattle.imgref_replay.specs.declared.commands.Reply.{Reply}
-use Rattle.imgref_replay.specs.declared.commands.Reply.TheVariants.{Pixel, Counted, Done}
+use Rattle.imgref_replay.specs.declared.commands.Reply.TheVariants.{Pixel, Counted, Truth, Done}
 
 -- ---- what a place names
 
@@ -47,6 +48,10 @@ leaves_image spot grids = let g = grid_at grids spot.image in is_some (first_out
 abbrev pub misses_window : {T : Type 0} → Place → ℕ → ℕ → List (Grid T) → Bool
 misses_window spot x y grids = let w = window_named spot grids in not (is_place w.width w.height x y)
 
+-- of an image
+abbrev pub image_faults : {T : Type 0} → ℕ → List (Grid T) → List (Bool × Refusal)
+image_faults image grids = (lacks_image image grids, NoImage) ∷ []
+
 -- of a window: its image is tested first, and then its path
 abbrev pub window_faults : {T : Type 0} → Place → List (Grid T) → List (Bool × Refusal)
 window_faults spot grids = (lacks_image spot.image grids, NoImage) ∷ (leaves_image spot grids, WindowOutside) ∷ []
@@ -54,6 +59,11 @@ window_faults spot grids = (lacks_image spot.image grids, NoImage) ∷ (leaves_i
 -- of a place of a window: those of the window, and then the place
 abbrev pub place_faults : {T : Type 0} → Place → ℕ → ℕ → List (Grid T) → List (Bool × Refusal)
 place_faults spot x y grids = window_faults spot grids ++ (misses_window spot x y grids, PlaceOutside) ∷ []
+
+-- of two windows: both images are tested before the first path
+abbrev pub pair_faults : {T : Type 0} → Place → Place → List (Grid T) → List (Bool × Refusal)
+pair_faults first second grids =
+    (lacks_image first.image grids, NoImage) ∷ (lacks_image second.image grids, NoImage) ∷ (leaves_image first grids, WindowOutside) ∷ (leaves_image second grids, WindowOutside) ∷ []
 
 -- ---- meanings
 
@@ -72,6 +82,10 @@ asks faults answer = record { faults = faults; answer = answer; effect = λ grid
 abbrev pub writes : {T : Type 0} → (List (Grid T) → List (Bool × Refusal)) → (List (Grid T) → List (Grid T)) → Meaning T
 writes faults effect = record { faults = faults; answer = λ _ _. Done; effect = effect; compacted = None }
 
+-- a command that compacts an image: it is done, and no grid changes
+abbrev pub packs : {T : Type 0} → ℕ → Meaning T
+packs image = record { faults = image_faults image; answer = λ _ _. Done; effect = λ grids. grids; compacted = Some image }
+
 -- the pixel in column x of row y
 abbrev pub pixel_reply : {T : Type 0} → Grid T → ℕ → ℕ → Reply T
 pixel_reply g x y = option_map_or (λ pixel. Pixel pixel) (g.pixel x y) Done
@@ -79,6 +93,10 @@ pixel_reply g x y = option_map_or (λ pixel. Pixel pixel) (g.pixel x y) Done
 -- how many pixels pass a test
 abbrev pub count_reply : {T : Type 0} → (T → Bool) → Grid T → Reply T
 count_reply test g = Counted (count_by test (grid_pixels g))
+
+-- whether two grids agree
+abbrev pub agreement_reply : {T : Type 0} → (T → T → Bool) → Grid T → Grid T → Reply T
+agreement_reply eq g h = Truth (do_agree eq g h)
 
 -- the grids with the one of a place patched at a corner
 abbrev pub patched_at : {T : Type 0} → Place → ℕ → ℕ → Grid T → List (Grid T) → List (Grid T)
@@ -90,3 +108,5 @@ meaning (Get spot x y) = asks (place_faults spot x y) (λ eq grids. pixel_reply 
 meaning (Put spot x y value) = writes (place_faults spot x y) (λ grids. let w = window_named spot grids in patched_at spot (w.left + x) (w.top + y) (uniform 1 1 value) grids)
 meaning (Fill spot value) = writes (window_faults spot) (λ grids. let w = window_named spot grids in patched_at spot w.left w.top (uniform w.width w.height value) grids)
 meaning (Count spot value) = asks (window_faults spot) (λ eq grids. count_reply (λ pixel. eq pixel value) (view_named spot grids))
+meaning (Same first second) = asks (pair_faults first second) (λ eq grids. agreement_reply eq (view_named first grids) (view_named second grids))
+meaning (Compact image) = packs image

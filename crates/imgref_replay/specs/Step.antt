@@ -28,7 +28,7 @@ reply_to eq command grids = option_map_or (λ refusal. Refused refusal) (fault_o
 abbrev pub after : {T : Type 0} → Command T → List (Grid T) → List (Grid T)
 after command grids = option_map_or (λ _. grids) (fault_of command grids) ((meaning command).effect grids)
 
--- whether a command compacts image i
+-- whether a command compacts image i, where there is one: a command that is refused names no image
 abbrev pub compacts : {T : Type 0} → ℕ → Command T → Bool
 compacts i command = option_map_or (λ image. image == i) ((meaning command).compacted) false
 

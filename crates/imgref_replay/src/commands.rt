@@ -37,6 +37,15 @@ pub enum Command<T> {
         spot: Place,
         value: T,
     },
+    /// Whether two windows have one size, and equal pixels at every place.
+    Same {
+        first: Place,
+        second: Place,
+    },
+    /// An image loses all cells that are no pixel: its buffer becomes its rows one after the other.
+    Compact {
+        image: usize,
+    },
 }
 
 /// What a command answers.

@@ -2,6 +2,12 @@
 #![tactic(auto)]
 
 mod commands;
+#[cfg(test)]
+mod compact_tests;
+#[cfg(test)]
+mod fixtures;
+#[cfg(test)]
+mod pairs_tests;
 mod path;
 #[cfg(test)]
 mod path_tests;

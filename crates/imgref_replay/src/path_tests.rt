@@ -1,27 +1,14 @@
 ghost use Rattle.std.specs.Prelude.{◌≡◌, ◌≤◌, ◌<◌, ◌^◌, length, vec_len};
 ghost use Rattle.image_model.specs.Layout.{Reaches};
 
+use crate::fixtures::{A, GREATEST, window};
 use crate::{Window, into_window_at, window_at};
 use imgref::{Img, ImgVec};
 use std::alloc::{AllocError, Global};
 use std::test::Fail;
 
-const GREATEST: usize = usize::MAX;
-
-// Three columns and two rows at stride 4: the fourth cell is padding, and so are the last two.
-const A: [u8; 9] = [1, 2, 3, 4, 5, 6, 7, 8, 9];
-
 // A buffer, a width, a height and a stride.
 type Parts<'a, T> = (&'a [T], usize, usize, usize);
-
-fn window(left: usize, top: usize, width: usize, height: usize) -> Window {
-    Window {
-        left,
-        top,
-        width,
-        height,
-    }
-}
 
 fn parts_at<'a, T>(parts: Parts<'a, T>, path: &[Window]) -> Result<Parts<'a, T>, usize>
     requires stride_positive { 1 ≤ parts.3 }

@@ -13,7 +13,8 @@ use std::alloc::{AllocError, Global};
 /// Carries out the commands from the first to the last, and writes the reply to each over what
 /// `replies` held there. Replies and new pixels are what the commands mean on grids (`replies_to`
 /// and `after_all`): a command with a fault is refused by its first one and changes nothing. Each
-/// image keeps its size, stride, length and padding, and fits again (`IsRun`).
+/// image fits again. It keeps its stride, length and padding until it is compacted, and is exactly
+/// its rows, one after the other, from then on (`IsRun`).
 pub fn replay_into<T: Copy + Eq>(
     images: &mut [ImgVec<T>],
     commands: &[Command<T>],

@@ -8,7 +8,7 @@ ghost use Rattle.image_model.specs.Rows.{pixels};
 ghost use Rattle.image_model.specs.Windows.{IsInside};
 ghost use Rattle.imgref.specs.Image.{vec_layout, ref_layout};
 ghost use Rattle.imgref.specs.Window.{as_window};
-ghost use Rattle.imgref_replay.specs.Commands.{grids_of, grid_at, window_named, view_named, window_faults};
+ghost use Rattle.imgref_replay.specs.Commands.{grids_of, grid_at, window_named, view_named, window_faults, pair_faults};
 ghost use Rattle.imgref_replay.specs.Step.{first_fault, IsStep};
 ghost use Rattle.imgref_replay.specs.Run.{IsRun};
 
@@ -33,6 +33,39 @@ fn locate<T>(images: &[ImgVec<T>], spot: &Place) -> Result<Window, Refusal>
     }
 }
 
+/// The windows of their images that two places name; or the first fault of those names: both image
+/// numbers are tested before the first path.
+fn locate_both<T>(
+    images: &[ImgVec<T>],
+    first: &Place,
+    second: &Place,
+) -> Result<(Window, Window), Refusal>
+    ensures fault { result_err result ≡ first_fault (pair_faults first.now second.now (grids_of images.now)) }
+    ensures first_image { OnOk result (first.now.image < length images.now) }
+    ensures second_image { OnOk result (second.now.image < length images.now) }
+    ensures first_window { IfOk result (λ w. as_window w.0 ≡ window_named first.now (grids_of images.now)) }
+    ensures second_window { IfOk result (λ w. as_window w.1 ≡ window_named second.now (grids_of images.now)) }
+    ensures first_inside { IfOk result (λ w. let g = grid_at (grids_of images.now) first.now.image in IsInside g.width g.height (as_window w.0)) }
+    ensures second_inside { IfOk result (λ w. let g = grid_at (grids_of images.now) second.now.image in IsInside g.width g.height (as_window w.1)) }
+{
+    if first.image >= images.len() || second.image >= images.len() {
+        return Err(Refusal::NoImage);
+    }
+    Ok((locate(images, first)?, locate(images, second)?))
+}
+
+/// What is seen through a window of the image that a place names.
+fn show<'i, T>(images: &'i [ImgVec<T>], spot: &Place, window: Window) -> ImgRef<'i, T>
+    requires fit { All Fits (map vec_layout images.now) }
+    requires image { spot.now.image < length images.now }
+    requires named { as_window window ≡ window_named spot.now (grids_of images.now) }
+    requires inside { let g = grid_at (grids_of images.now) spot.now.image in IsInside g.width g.height (as_window window) }
+    ensures view { grid_of (ref_layout result) ≡ view_named spot.now (grids_of images.now) }
+    ensures fits { Fits (ref_layout result) }
+{
+    images[spot.image].sub_image(window.left, window.top, window.width, window.height)
+}
+
 /// What is seen through the window that a place names.
 fn view<'i, T>(images: &'i [ImgVec<T>], spot: &Place) -> Result<ImgRef<'i, T>, Refusal>
     requires { All Fits (map vec_layout images.now) }
@@ -41,8 +74,7 @@ fn view<'i, T>(images: &'i [ImgVec<T>], spot: &Place) -> Result<ImgRef<'i, T>, R
     ensures fits { IfOk result (λ seen. Fits (ref_layout seen)) }
 {
     let window = locate(images, spot)?;
-    let image = &images[spot.image];
-    Ok(image.sub_image(window.left, window.top, window.width, window.height))
+    Ok(show(images, spot, window))
 }
 
 /// The pixel at a place of a window.
@@ -116,6 +148,33 @@ fn count_equal<T: Copy + Eq>(image: ImgRef<'_, T>, value: T) -> usize
     })
 }
 
+/// Whether two windows have one size, and equal pixels at every place.
+fn same<T: Copy + Eq>(
+    images: &[ImgVec<T>],
+    first: &Place,
+    second: &Place,
+) -> Result<Reply<T>, Refusal>
+    requires { All Fits (map vec_layout images.now) }
+    ensures { IsStep T.eq (Command.Same first.now second.now) (map vec_layout images.now) (map vec_layout images.now) result }
+{
+    let windows = locate_both(images, first, second)?;
+    let one = show(images, first, windows.0);
+    let two = show(images, second, windows.1);
+    Ok(Reply::Truth(one.same_pixels(two)))
+}
+
+/// Leaves the rows of an image alone in its buffer, at the least stride.
+fn compact<T: Copy + Eq>(images: &mut [ImgVec<T>], image: usize) -> Result<Reply<T>, Refusal>
+    requires { All Fits (map vec_layout images.old) }
+    ensures { IsStep T.eq (Command.Compact image) (map vec_layout images.old) (map vec_layout images.new) result }
+{
+    if image >= images.len() {
+        return Err(Refusal::NoImage);
+    }
+    images[image].as_contiguous_buf();
+    Ok(Reply::Done)
+}
+
 /// Carries out one command, or tells its first fault and changes nothing.
 fn accept<T: Copy + Eq>(images: &mut [ImgVec<T>], command: &Command<T>) -> Result<Reply<T>, Refusal>
     requires { All Fits (map vec_layout images.old) }
@@ -126,6 +185,8 @@ fn accept<T: Copy + Eq>(images: &mut [ImgVec<T>], command: &Command<T>) -> Resul
         Command::Put { spot, x, y, value } => put(images, spot, *x, *y, *value),
         Command::Fill { spot, value } => fill(images, spot, *value),
         Command::Count { spot, value } => count(images, spot, *value),
+        Command::Same { first, second } => same(images, first, second),
+        Command::Compact { image } => compact(images, *image),
     }
 }
 

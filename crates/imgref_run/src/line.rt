@@ -69,6 +69,15 @@ fn command_at(alloc: Global, word: &[u8], fields: &mut Parts<'_>) -> Result<Comm
             spot: next_place(alloc, fields)?,
             value: next(fields).ok_or(LineFault::Bad)?,
         })
+    } else if word == b"same".as_slice() {
+        Ok(Command::Same {
+            first: next_place(alloc, fields)?,
+            second: next_place(alloc, fields)?,
+        })
+    } else if word == b"compact".as_slice() {
+        Ok(Command::Compact {
+            image: next(fields).ok_or(LineFault::Bad)?,
+        })
     } else {
         Err(LineFault::Bad)
     }

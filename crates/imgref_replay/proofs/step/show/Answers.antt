@@ -5,7 +5,7 @@ use Rattle.image_model.specs.Windows.{window_view, IsInside}
 use Rattle.imgref_replay.specs.Commands.{grid_at, grids_of}
 use Rattle.imgref.specs.Window.{as_window}
 use Rattle.imgref_replay.proofs.Images.{fits_at, grid_at-images}
-use Rattle.imgref_replay.proofs.step.view.Goals as goal
+use Rattle.imgref_replay.proofs.step.show.Goals as goal
 
 pub sub_image-requires : goal.sub_image-requires
 unfolding grid_of
@@ -13,17 +13,17 @@ sub_image-requires g c =
     let images = c.args.images.now in
     let i = c.args.spot.now.image in
     let image = c.index-images-spot.result in
-    let named = grid_at-images images i image c.in_ok-window.ensures.image c.index-images-spot.is in
+    let named = grid_at-images images i image c.requires.image c.index-images-spot.is in
     record {
-      fits = fits_at images i image c.in_ok-window.ensures.image c.index-images-spot.is c.requires;
-      inside = subst (λ h. IsInside h.width h.height (as_window c.in_ok-window.window)) named c.in_ok-window.ensures.inside;
+      fits = fits_at images i image c.requires.image c.index-images-spot.is c.requires.fit;
+      inside = subst (λ h. IsInside h.width h.height (as_window c.args.window)) named c.requires.inside;
     }
 
 pub returns-clause-view : goal.returns-clause-view
 returns-clause-view g c =
     let images = c.args.images.now in
     let i = c.args.spot.now.image in
-    let named = grid_at-images images i c.index-images-spot.result c.in_ok-window.ensures.image c.index-images-spot.is in
+    let named = grid_at-images images i c.index-images-spot.result c.requires.image c.index-images-spot.is in
     c.sub_image.ensures.view
-    ∙ ap (λ h. window_view h (as_window c.in_ok-window.window)) (sym named)
-    ∙ ap (window_view (grid_at (grids_of images) i)) c.in_ok-window.ensures.window
+    ∙ ap (λ h. window_view h (as_window c.args.window)) (sym named)
+    ∙ ap (window_view (grid_at (grids_of images) i)) c.requires.named
