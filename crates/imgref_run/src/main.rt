@@ -2,8 +2,12 @@
 #![tactic(auto)]
 
 mod device;
+#[cfg(test)]
+mod device_tests;
 mod fault;
 mod fields;
+#[cfg(test)]
+mod fixtures;
 mod input;
 mod line;
 mod output;
@@ -11,7 +15,7 @@ mod parts;
 mod program;
 mod script;
 #[cfg(test)]
-mod tests;
+mod script_tests;
 
 pub use device::Counted;
 pub use fault::RunFault;

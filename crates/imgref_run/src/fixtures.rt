@@ -1,0 +1,151 @@
+//! Devices for tests, which take no memory, and runs of scripts over them.
+
+use crate::{Counted, RunFault, run};
+use std::alloc::Global;
+use std::io;
+use std::io::{ErrorKind, Read, Write};
+use std::process::Abort;
+
+pub(crate) const STORED: &str =
+    "image 3 2 4 1 2 3 4 5 6 7 8 9\nget 0 1,0,2,2/1,0,1,2 0 1\nput 0 1,1,2,1 0 0 9\nget 0 - 1 1\n";
+
+pub(crate) const STORED_OUTPUT: &str = "pixel 7\ndone\npixel 9\nimage 3 2 4 1 2 3 4 5 9 7 8 9\n";
+
+// Gives at most `most` bytes of its text a call, and fails at the call of number `bad_call`, from 1.
+#[derive(Drop)]
+pub(crate) struct Source<'a> {
+    text: &'a [u8],
+    most: usize,
+    bad_call: usize,
+    pub(crate) calls: usize,
+}
+
+impl<'a> Source<'a> {
+    pub(crate) fn new(text: &'a str, most: usize, bad_call: usize) -> Self {
+        Source {
+            text: text.as_bytes(),
+            most,
+            bad_call,
+            calls: 0,
+        }
+    }
+}
+
+impl<'a> Read for Source<'a> {
+    fn read(&mut self, buf: &mut [u8]) -> io::Result<usize> {
+        self.calls = self.calls.saturating_add(1);
+        if self.calls == self.bad_call {
+            return Err(io::Error::from(ErrorKind::Interrupted));
+        }
+        let count = self.text.len().min(self.most).min(buf.len());
+        let text = self.text;
+        buf[..count].copy_from_slice(&text[..count]);
+        self.text = &text[count..];
+        Ok(count)
+    }
+}
+
+// What a writer answers where it fails.
+#[derive(Clone, Copy, PartialEq, Eq)]
+pub(crate) enum Failing {
+    Never,
+    // An error at the write of this number, from 1.
+    Error(usize),
+    // No byte is taken at the write of this number.
+    Nothing(usize),
+    Flush,
+}
+
+// Takes at most `most` bytes a call, takes no memory, and fails as it is told to.
+#[derive(Drop)]
+pub(crate) struct Sink {
+    held: [u8; 256],
+    len: usize,
+    most: usize,
+    failing: Failing,
+    pub(crate) calls: usize,
+    pub(crate) flushes: usize,
+}
+
+impl Sink {
+    pub(crate) fn new(most: usize, failing: Failing) -> Self {
+        Sink {
+            held: [0; 256],
+            len: 0,
+            most,
+            failing,
+            calls: 0,
+            flushes: 0,
+        }
+    }
+
+    pub(crate) fn holds(&self, text: &str) -> bool {
+        match self.held.get(..self.len) {
+            Some(held) => held == text.as_bytes(),
+            None => false,
+        }
+    }
+}
+
+impl Write for Sink {
+    fn write(&mut self, buf: &[u8]) -> io::Result<usize> {
+        self.calls = self.calls.saturating_add(1);
+        if self.failing == Failing::Error(self.calls) {
+            return Err(io::Error::from(ErrorKind::Interrupted));
+        }
+        if self.failing == Failing::Nothing(self.calls) {
+            return Ok(0);
+        }
+        let Some(room) = self.held.get_mut(self.len..) else {
+            return Ok(0);
+        };
+        let count = buf.len().min(self.most).min(room.len());
+        room[..count].copy_from_slice(&buf[..count]);
+        self.len = self.len.saturating_add(count);
+        Ok(count)
+    }
+
+    fn flush(&mut self) -> io::Result<()> {
+        self.flushes = self.flushes.saturating_add(1);
+        if self.failing == Failing::Flush {
+            return Err(io::Error::from(ErrorKind::Interrupted));
+        }
+        Ok(())
+    }
+}
+
+// Runs the program, and answers its fault and both devices. Want of memory is handed on, for the
+// test to end with: nothing is written then.
+pub(crate) fn run_or_memory<'a>(
+    rt: &impl Abort,
+    alloc: Global,
+    source: Source<'a>,
+    sink: Sink,
+) -> Result<(Option<RunFault>, Counted<Source<'a>>, Counted<Sink>), RunFault> {
+    let mut reader = Counted::new(source);
+    let mut writer = Counted::new(sink);
+    let fault = run(alloc, &mut reader, &mut writer).err();
+    if fault == Some(RunFault::Memory) {
+        assert_eq!(rt; (writer.device().calls, writer.device().flushes), (0, 0));
+        assert_eq!(rt; (reader.failures(), writer.failures()), (0, 0));
+        return Err(RunFault::Memory);
+    }
+    Ok((fault, reader, writer))
+}
+
+// Runs a script whole, and compares the fault and what was written.
+pub(crate) fn expect_run(
+    rt: &impl Abort,
+    alloc: Global,
+    script: &str,
+    fault: Option<RunFault>,
+    output: &str,
+) -> Result<(), RunFault> {
+    let source = Source::new(script, usize::MAX, 0);
+    let sink = Sink::new(usize::MAX, Failing::Never);
+    let (found, reader, writer) = run_or_memory(rt, alloc, source, sink)?;
+    assert_eq!(rt; found, fault, "after {script}");
+    assert!(rt; writer.device().holds(output), "after {script}");
+    assert_eq!(rt; (reader.failures(), writer.failures()), (0, 0));
+    Ok(())
+}
