@@ -19,4 +19,4 @@ mod tests;
 pub use commands::{Command, Place, Refusal, Reply};
 pub use imgref::Window;
 pub use path::{into_window_at, window_at};
-pub use run::{replay, replay_into};
+pub use run::{replay, replay_into, two_layouts};

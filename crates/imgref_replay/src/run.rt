@@ -3,7 +3,9 @@
 ghost use Rattle.std.specs.Prelude.{◌≡◌, All, IfOk, OnErr, length, map};
 ghost use Rattle.image_model.specs.Layout.{Fits};
 ghost use Rattle.imgref.specs.Image.{vec_layout};
+ghost use Rattle.imgref_replay.specs.Commands.{grids_of};
 ghost use Rattle.imgref_replay.specs.Run.{IsRun};
+ghost use Rattle.imgref_replay.specs.Layouts.{GridsAgree, RepliesAgree};
 
 use crate::commands::{Command, Reply};
 use crate::step::step;
@@ -45,4 +47,28 @@ pub fn replay<T: Copy + Eq>(
     replies.resize_with(commands.len(), || Reply::Done)?;
     replay_into(images, commands, &mut replies);
     Ok(replies)
+}
+
+/// Carries out the same commands as `replay_into` does over two lists of images of the same sizes
+/// and pixels, whatever the strides and paddings of each. The replies are the same afterwards and
+/// the images have the same pixels, as the pixel's `==` tells.
+pub fn two_layouts<T: Copy + Eq>(
+    a: &mut [ImgVec<T>],
+    b: &mut [ImgVec<T>],
+    commands: &[Command<T>],
+    replies_a: &mut [Reply<T>],
+    replies_b: &mut [Reply<T>],
+)
+    requires all_fit_a { All Fits (map vec_layout a.old) }
+    requires all_fit_b { All Fits (map vec_layout b.old) }
+    requires agree { GridsAgree T.eq (grids_of a.old) (grids_of b.old) }
+    requires as_many_a { length replies_a.old ≡ length commands.now }
+    requires as_many_b { length replies_b.old ≡ length commands.now }
+    ensures run_a { IsRun T.eq commands.now (map vec_layout a.old) (map vec_layout a.new) replies_a.new }
+    ensures run_b { IsRun T.eq commands.now (map vec_layout b.old) (map vec_layout b.new) replies_b.new }
+    ensures replies_agree { RepliesAgree T.eq replies_a.new replies_b.new }
+    ensures grids_agree { GridsAgree T.eq (grids_of a.new) (grids_of b.new) }
+{
+    replay_into(a, commands, replies_a);
+    replay_into(b, commands, replies_b);
 }

@@ -1,0 +1,19 @@
+-- Two lists of images with the same grids, and the replies that they give.
+use Rattle.std.specs.Prelude.{◌≡◌, Bool, IsTrue, List}
+use Rattle.std.specs.List.{AllZip}
+use Rattle.image_model.specs.Grid.{Grid, Agree}
+use Rattle.imgref_replay.specs.declared.commands.Reply.{Reply}
+use Rattle.imgref_replay.specs.declared.commands.Reply.TheVariants.{Pixel}
+
+-- as many grids in both, which agree one by one
+abbrev pub GridsAgree : {T : Type 0} → (T → T → Bool) → List (Grid T) → List (Grid T) → Type 0
+GridsAgree eq gs hs = AllZip (Agree eq) gs hs
+
+-- the same reply: a pixel by the pixel's own equality
+abbrev pub AlikeReply : {T : Type 0} → (T → T → Bool) → Reply T → Reply T → Type 0
+AlikeReply eq (Pixel a) (Pixel b) = IsTrue (eq a b)
+AlikeReply eq r q = r ≡ q
+
+-- as many replies in both, the same one by one
+abbrev pub RepliesAgree : {T : Type 0} → (T → T → Bool) → List (Reply T) → List (Reply T) → Type 0
+RepliesAgree eq rs qs = AllZip (AlikeReply eq) rs qs
