@@ -1,37 +1,50 @@
 -- What an image shows once a cell or the cells of a window were written, whatever its container.
-use Rattle.std.proofs.Common.{◌≡◌, ℕ, ◌+◌, ◌*◌, ◌<◌, ◌≤◌, List, length, slice_set, sym, ap, ◌∙◌, subst}
-use Rattle.image_model.specs.Grid.{grid_of, patch, uniform, one_row}
+use Rattle.std.proofs.Common.{◌≡◌, ℕ, ◌+◌, ◌*◌, ◌<◌, ◌≤◌, Bool, List, length, slice_set, sym, ap, ◌∙◌, subst}
+use Rattle.image_model.specs.Grid.{grid_of, patch, uniform}
 use Rattle.image_model.specs.Layout.{Layout, Fits, SameOutside}
-use Rattle.image_model.specs.Windows.{Window, Stretch, IsInside, with_stretch}
+use Rattle.image_model.specs.Windows.{Window, Stretch, IsInside, with_stretch, window_layout}
 use Rattle.image_model.proofs.Grids.{written_grid}
 use Rattle.image_model.proofs.OneRow.{row_has, row_grid, row_outside}
 use Rattle.image_model.proofs.Places.{outside_fits, written, written_outside, written_fits}
 use Rattle.image_model.proofs.Stretches.{length-stretch_cells}
-use Rattle.image_model.proofs.Windows.{HasWindow, stretch_window, handed_on, handed_on_grid, handed_on_outside}
+use Rattle.image_model.proofs.Windows.{HasWindow, stretch_window, stretch_has, layout_is, handed_on, handed_on_grid, handed_on_outside}
 use Rattle.imgref.specs.declared.img.Img.{Img}
-use Rattle.imgref.specs.Image.{buf_of, width_of, height_of, stride_of, with_buf, layout_by}
+use Rattle.imgref.specs.Image.{buf_of, width_of, height_of, stride_of, with_buf, layout_by, stretch_by, with_window}
 use Rattle.imgref.specs.Index.{row_start, with_row, RowPatchesGrid, RowKeepsOutside, RowKeepsFit}
 
 -- ---- the cells of a window
 module _ {C T : Type 0} (cells : C → List T) (with_cells : C → Stretch → List T → C)
     (others_stay : (c : C) (s : Stretch) (ws : List T) → s.start + s.len ≤ length (cells c) → length ws ≡ s.len → cells (with_cells c s ws) ≡ with_stretch (cells c) s ws)
-    (i : Img C) (w : Window) (s : Stretch) (n : Layout T) where
+    (roomy : Bool) (i : Img C) (w : Window) (narrow : width_of i ≤ stride_of i) (fits : Fits (layout_by cells i)) (inside : IsInside (width_of i) (height_of i) w) where
   abbrev l : Layout T
   l = layout_by cells i
 
-  -- the image with the window's cells as n has them
-  abbrev after : Img C
-  after = with_buf i (with_cells (buf_of i) s n.cells)
+  abbrev s : Stretch
+  s = stretch_by cells roomy i w
 
-  module _ (has : HasWindow (length (cells (buf_of i))) (stride_of i) w s) (same : SameOutside (stretch_window (layout_by cells i) w s) n) (inside : IsInside (width_of i) (height_of i) w) where
-    handed : layout_by cells after ≡ handed_on l s n.cells
+  has : HasWindow (length l.cells) l.stride w s
+  has = stretch_has roomy (length l.cells) l.stride l.width l.height w narrow fits inside
+
+  -- the window m that was lent becomes n
+  module _ (m n : Layout T) (is : m ≡ window_layout roomy (layout_by cells i) w) (stays : SameOutside m n) where
+    lent : m ≡ stretch_window l w s
+    lent = is ∙ sym (layout_is roomy l w)
+
+    same : SameOutside (stretch_window l w s) n
+    same = subst (λ (v : Layout T). SameOutside v n) lent stays
+
+    handed : layout_by cells (with_window cells with_cells roomy i w n.cells) ≡ handed_on l s n.cells
     handed = ap (λ (items : List T). record l { cells = items }) (others_stay (buf_of i) s n.cells has.within (same.length_stays ∙ length-stretch_cells l.cells s has.within))
 
-    pub window_grid : width_of i ≤ stride_of i → grid_of (layout_by cells (with_buf i (with_cells (buf_of i) s n.cells))) ≡ patch (grid_of (layout_by cells i)) w.left w.top (grid_of n)
-    window_grid wide = ap grid_of handed ∙ handed_on_grid l w s has n same wide inside
+    pub window_grid : grid_of (layout_by cells (with_window cells with_cells roomy i w n.cells)) ≡ patch (grid_of (layout_by cells i)) w.left w.top (grid_of n)
+    window_grid = ap grid_of handed ∙ handed_on_grid l w s has n same narrow inside
 
-    pub window_outside : SameOutside (layout_by cells i) (layout_by cells (with_buf i (with_cells (buf_of i) s n.cells)))
+    pub window_outside : SameOutside (layout_by cells i) (layout_by cells (with_window cells with_cells roomy i w n.cells))
     window_outside = subst (SameOutside l) (sym handed) (handed_on_outside l w s has n same inside)
+
+    -- it has the window's size
+    pub window_size : (value : T) → uniform m.width m.height value ≡ uniform w.width w.height value
+    window_size value = ap (λ (v : Layout T). uniform v.width v.height value) lent
 
 -- ---- a row
 module _ {C T : Type 0} (cells : C → List T) (with_cells : C → Stretch → List T → C)

@@ -1,10 +1,10 @@
 -- `&mut self[start..end]` at a `&mut &mut [T]`: a stretch of the inner slice is lent, and the outer reference follows it. A walk of its MIR by hand.
-use mathlib.Core.Path.{◌≡◌, refl, sym, ap, subst, ◌∙◌}
-use Prim.Native.Nat.{ℕ, zero, suc, ◌+◌, ◌*◌, ◌^◌, ◌<◌, ◌≤◌}
-use native.Mathlib.Nat.{mul-le-mul_right, zero-mul, suc-mul}
+use mathlib.Core.Path.{◌≡◌, refl, sym, ap, subst}
+use Prim.Native.Nat.{ℕ, ◌+◌, ◌*◌, ◌^◌, ◌<◌, ◌≤◌}
+use native.Mathlib.Nat.{mul-le-mul_right}
 use native.Mathlib.Omega.{arith}
-use mathlib.Core.List.{List, [], ◌∷◌, ◌++◌}
-use lib.ListN.{length, get_or, set, length-map, take, drop as drop_list, take-append-drop}
+use mathlib.Core.List.{List, [], ◌∷◌}
+use lib.ListN.{length, get_or, set, length-map}
 use borrow.Rule.Slice.Handed.{takes_at, get_or_heres}
 use borrow.Rule.Slice.AtParam.{inhabits}
 use types.Follow.{after}
@@ -17,8 +17,7 @@ use base.Fml.{Lft, GName, Share, ftrue, flft, fobs, fbor, fat}
 use mir.Syntax.{Args, Fn, Ty, Lifetime, named, erased, mut, ty_ref, ty_param, w64, a_type}
 use mir.MapTy.{inst_fn}
 use mir.Val.{Val, vint, vptr}
-use prog.Memory.{Memory, size, capped}
-use prog.Capped.{capped_is}
+use prog.Memory.{Memory, size}
 use prog.Routine.{Routine}
 use prog.Wp.{Calls, Loops, WpFn, Tables}
 use types.Logic.{Logic, sem}
@@ -56,19 +55,11 @@ use denote.Triple.Walked.{says, Stays, stay_dropped, walk_of, ends_at, walked, G
 use borrow.Table.Elements.{at, at_mul}
 use borrow.Table.OneValue.{part_out_at, part_in_at}
 use Rattle.std.proofs.lemmas.Option.{slice_get-get_or}
+use Rattle.lending.proofs.Stretches.{uncapped}
 use Rattle.imgref.specs.contracts.containers.RefMutSliceAsMutSlice.cell_mut as F
 use Rattle.imgref.specs.contracts.containers.RefMutSliceAsMutSlice.cell_mut.Key.{name as #self}
 use Rattle.imgref.proofs.containers.RefMutSliceAsMutSlice.cell_mut.Statement as stated
 use Rattle.imgref.proofs.containers.RefMutSliceAsMutSlice.cell_mut.Code as code
-
--- where the product fits a word, the count is zero or the size fits too
-uncapped : (i k : ℕ) → i * k < 2 ^ 64 → i * capped k ≡ i * k
-uncapped zero k h = zero-mul (capped k) ∙ sym (zero-mul k)
-uncapped (suc i) k h = let step = suc-mul i k in ap (λ (j : ℕ). suc i * j) (capped_is k (omega arith))
-
--- a list is its first i elements, the next n, and the rest
-cut_at : {A : Type 0} (i n : ℕ) (xs : List A) → xs ≡ take i xs ++ (take n (drop_list i xs) ++ drop_list n (drop_list i xs))
-cut_at {A} i n xs = sym (take-append-drop i xs) ∙ ap (λ (l : List A). take i xs ++ l) (sym (take-append-drop n (drop_list i xs)))
 
 -- ---- the loan of the element at i
 module _ {M : Type 1} {𝓤 : Ura M} (𝓛 : Logic 𝓤) (ℓ : Lifetime) (κ : Lft) (q : Share) (b o : ℕ) (γ : GName) (R : RattleType) (xs : List R.Denot) (i : ℕ) (lt : i < length xs) (p : ℕ) (on : at o (mem R).size i ≡ p) where

@@ -1,42 +1,31 @@
 -- The window is filled, and handed on to the image.
-use Rattle.std.proofs.Common.{◌≡◌, length, sym, subst, ap, ◌∙◌}
-use Rattle.image_model.specs.Grid.{grid_of, patch, uniform}
-use Rattle.image_model.specs.Layout.{Layout, SameOutside}
-use Rattle.image_model.specs.Windows.{Window, window, window_stretch}
-use Rattle.image_model.proofs.Windows.{stretch_has, layout_is}
+use Rattle.std.proofs.Common.{ap, ◌∙◌}
+use Rattle.image_model.specs.Grid.{grid_of, patch}
+use Rattle.image_model.specs.Windows.{window}
 use Rattle.image_shape.specs.Shape.{shaped}
 use Rattle.imgref.specs.Image.{layout_by}
-use Rattle.imgref.proofs.Writes.{window_grid, window_outside}
+use Rattle.imgref.proofs.Writes.{window_grid, window_outside, window_size}
 use Rattle.imgref.proofs.img.Img.fill_window.Goals as goal
 
 pub returns-clause-grid : goal.returns-clause-grid
 returns-clause-grid g c =
     let a = c.args in
-    let i = a.self.now in
-    let cells = g.C.AsSlice.cells in
-    let roomy = g.C.AsMutSlice.roomy_windows in
-    let l : Layout g.row.C-Item.Denot = layout_by cells i in
-    let w : Window = window a.left a.top a.width a.height in
     let r = c.window_parts_mut-cells in
-    let is = r.ensures.layout ∙ sym (layout_is roomy l w) in
-    let n : Layout g.row.C-Item.Denot = shaped c.fill_pixels.new.cells r.result.1 in
-    let same = subst (λ v. SameOutside v n) is c.fill_pixels.ensures.outside in
-    let filled : grid_of n ≡ uniform w.width w.height a.value = c.fill_pixels.ensures.grid ∙ ap (λ (v : Layout g.row.C-Item.Denot). uniform v.width v.height a.value) is in
-    let has = stretch_has roomy (length l.cells) l.stride l.width l.height w r.ensures.holds_width c.requires.fits c.requires.inside in
-    window_grid cells g.C.AsMutSlice.with_cells g.met.C.AsMutSlice.others_stay i w (window_stretch roomy (length l.cells) l.stride w) n has same c.requires.inside r.ensures.holds_width
-    ∙ ap (patch (grid_of l) a.left a.top) filled
+    let cells = g.C.AsSlice.cells in
+    let with_cells = g.C.AsMutSlice.with_cells in
+    let stay = g.met.C.AsMutSlice.others_stay in
+    let roomy = g.C.AsMutSlice.roomy_windows in
+    let w = window a.left a.top a.width a.height in
+    let m = shaped r.result.0.now r.result.1 in
+    let n = shaped c.fill_pixels.new.cells r.result.1 in
+    let outside = c.fill_pixels.ensures.outside in
+    window_grid cells with_cells stay roomy a.self.now w r.ensures.holds_width c.requires.fits c.requires.inside m n r.ensures.layout outside
+    ∙ ap (patch (grid_of (layout_by cells a.self.now)) a.left a.top)
+    (c.fill_pixels.ensures.grid ∙ window_size cells with_cells stay roomy a.self.now w r.ensures.holds_width c.requires.fits c.requires.inside m n r.ensures.layout outside a.value)
 
 pub returns-clause-outside : goal.returns-clause-outside
 returns-clause-outside g c =
     let a = c.args in
-    let i = a.self.now in
-    let cells = g.C.AsSlice.cells in
-    let roomy = g.C.AsMutSlice.roomy_windows in
-    let l : Layout g.row.C-Item.Denot = layout_by cells i in
-    let w : Window = window a.left a.top a.width a.height in
     let r = c.window_parts_mut-cells in
-    let is = r.ensures.layout ∙ sym (layout_is roomy l w) in
-    let n : Layout g.row.C-Item.Denot = shaped c.fill_pixels.new.cells r.result.1 in
-    let same = subst (λ v. SameOutside v n) is c.fill_pixels.ensures.outside in
-    let has = stretch_has roomy (length l.cells) l.stride l.width l.height w r.ensures.holds_width c.requires.fits c.requires.inside in
-    window_outside cells g.C.AsMutSlice.with_cells g.met.C.AsMutSlice.others_stay i w (window_stretch roomy (length l.cells) l.stride w) n has same c.requires.inside
+    window_outside g.C.AsSlice.cells g.C.AsMutSlice.with_cells g.met.C.AsMutSlice.others_stay g.C.AsMutSlice.roomy_windows a.self.now (window a.left a.top a.width a.height) r.ensures.holds_width c.requires.fits c.requires.inside
+    (shaped r.result.0.now r.result.1) (shaped c.fill_pixels.new.cells r.result.1) r.ensures.layout c.fill_pixels.ensures.outside
