@@ -9,8 +9,8 @@ use Rattle.imgref.specs.declared.Shape.{Shape}
 use Rattle.imgref_callers.proofs.Writes.{put_grid, put_outside}
 use Rattle.imgref_callers.proofs.windows.put_inside.Goals as goal
 
-pub returns-clause-grid : goal.returns-clause-grid
-returns-clause-grid g c =
+pub returns : goal.returns
+returns g c =
     let a = c.args in
     let r = c.requires in
     let made = c.from_parts-image.ensures in
@@ -19,16 +19,7 @@ returns-clause-grid g c =
     let whole : mut_layout c.from_parts-image.result ≡ l = λ k. shaped (made.buf k).now (made.shape k) in
     let narrow = subst (λ (s : Shape). shape_width s ≤ shape_stride s) made.shape inner.ensures.holds_width in
     let is = inner.ensures.layout ∙ ap (λ (v : Layout g.row.T.Denot). roomy_window v (as_window a.window)) whole in
-    put_grid true l (as_window a.window) narrow r.fits r.inside _ (shaped c.put.new.cells inner.result.1) is c.put.ensures.outside _ (search rules) a.x a.y a.value r.column r.line c.put.ensures.grid
-
-pub returns-clause-outside : goal.returns-clause-outside
-returns-clause-outside g c =
-    let a = c.args in
-    let r = c.requires in
-    let made = c.from_parts-image.ensures in
-    let inner = c.window_parts_mut-inner in
-    let l : Layout g.row.T.Denot = shaped a.cells.now a.shape in
-    let whole : mut_layout c.from_parts-image.result ≡ l = λ k. shaped (made.buf k).now (made.shape k) in
-    let narrow = subst (λ (s : Shape). shape_width s ≤ shape_stride s) made.shape inner.ensures.holds_width in
-    let is = inner.ensures.layout ∙ ap (λ (v : Layout g.row.T.Denot). roomy_window v (as_window a.window)) whole in
-    put_outside true l (as_window a.window) narrow r.fits r.inside _ (shaped c.put.new.cells inner.result.1) is c.put.ensures.outside _ (search rules)
+    record {
+      grid = put_grid true l (as_window a.window) narrow r.fits r.inside _ (shaped c.put.new.cells inner.result.1) is c.put.ensures.outside _ (search rules) a.x a.y a.value r.column r.line c.put.ensures.grid;
+      outside = put_outside true l (as_window a.window) narrow r.fits r.inside _ (shaped c.put.new.cells inner.result.1) is c.put.ensures.outside _ (search rules);
+    }
