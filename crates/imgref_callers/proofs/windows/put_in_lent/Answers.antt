@@ -7,21 +7,17 @@ use Rattle.imgref.specs.Window.{as_window}
 use Rattle.imgref_callers.proofs.Writes.{put_grid, put_outside}
 use Rattle.imgref_callers.proofs.windows.put_in_lent.Goals as goal
 
-pub returns-clause-grid : goal.returns-clause-grid
-returns-clause-grid g c =
+pub returns : goal.returns
+returns g c =
     let a = c.args in
     let r = c.requires in
     let outer = c.window_parts_mut-lent in
     let put = c.put_inside in
     let l : Layout g.row.T.Denot = mut_layout a.image.now in
-    put_grid true l (as_window a.first) outer.ensures.holds_width r.fits r.first_inside _ (shaped put.new.cells outer.result.1) outer.ensures.layout put.ensures.outside _ refl (a.second.left + a.x) (a.second.top + a.y) a.value
-    (omega (arith, r.second_inside)) (omega (arith, r.second_inside)) put.ensures.grid
-
-pub returns-clause-outside : goal.returns-clause-outside
-returns-clause-outside g c =
-    let a = c.args in
-    let r = c.requires in
-    let outer = c.window_parts_mut-lent in
-    let put = c.put_inside in
-    let l : Layout g.row.T.Denot = mut_layout a.image.now in
-    put_outside true l (as_window a.first) outer.ensures.holds_width r.fits r.first_inside _ (shaped put.new.cells outer.result.1) outer.ensures.layout put.ensures.outside _ refl
+    record {
+      grid =
+          put_grid true l (as_window a.first) outer.ensures.holds_width r.fits r.first_inside _ (shaped put.new.cells outer.result.1) outer.ensures.layout put.ensures.outside _ refl (a.second.left + a.x) (a.second.top + a.y) a.value
+          (omega (arith, r.second_inside)) (omega (arith, r.second_inside)) put.ensures.grid;
+      outside = put_outside true l (as_window a.first) outer.ensures.holds_width r.fits r.first_inside _ (shaped put.new.cells outer.result.1) outer.ensures.layout put.ensures.outside _ refl;
+      same_reference = refl;
+    }
