@@ -57,9 +57,7 @@ impl<'a, T: Copy> RowMover<'a, T> {
 
     /// Copies the `len` cells from cell `start` on to cell `target` and on, as one shift: the
     /// stretches may overlap, and every other cell stays (`shifted`).
-    // Out of line: inlined into a loop over rows, the compiler moves the bytes of a row one by one,
-    // and shifts of bytes take eight times as long.
-    #[inline(never)]
+    #[inline]
     pub fn shift(&mut self, start: usize, len: usize, target: usize)
         requires source { start + len ≤ length self.old.cells }
         requires target { target + len ≤ length self.old.cells }
@@ -76,7 +74,7 @@ impl<'a, T: Copy> RowMover<'a, T> {
         } else if target + len <= start {
             copy_before(cells, start, len, target);
         } else {
-            cells.copy_within(start..start + len, target);
+            copy_over(cells, start, len, target);
         }
     }
 }
@@ -99,4 +97,16 @@ fn copy_before<T: Copy>(cells: &mut [T], start: usize, len: usize, target: usize
 {
     let (front, back) = cells.split_at_mut(start);
     front[target..target + len].copy_from_slice(&back[..len]);
+}
+
+// Copies a stretch to a place that it overlaps.
+// Out of line: inlined into a loop over rows, the compiler moves the bytes of a row one by one, and
+// shifts of bytes take eight times as long.
+#[inline(never)]
+fn copy_over<T: Copy>(cells: &mut [T], start: usize, len: usize, target: usize)
+    requires source { start + len ≤ length cells.old }
+    requires target { target + len ≤ length cells.old }
+    ensures { cells.new ≡ shifted cells.old start len target }
+{
+    cells.copy_within(start..start + len, target);
 }
