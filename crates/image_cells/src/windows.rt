@@ -1,13 +1,13 @@
 //! Windows of cells in a shape.
 
-ghost use Rattle.std.specs.Prelude.{◌≡◌};
+ghost use Rattle.std.specs.Prelude.{◌≡◌, length};
 ghost use Rattle.image_model.specs.Layout.{Fits};
 ghost use Rattle.image_model.specs.Grid.{grid_of};
-ghost use Rattle.image_model.specs.Windows.{window_view, IsInside, roomy_window};
-ghost use Rattle.image_shape.specs.Shape.{shape_width, shape_height, shaped};
-ghost use Rattle.image_shape.specs.Window.{as_window};
+ghost use Rattle.image_model.specs.Windows.{window_view, IsInside, IsWithin, roomy_stretch, roomy_window, stretch_cells};
+ghost use Rattle.image_shape.specs.Shape.{shape_width, shape_height, shape_stride, shaped};
+ghost use Rattle.image_shape.specs.Window.{as_window, as_stretch};
 
-use image_shape::{Shape, Window};
+use image_shape::{Shape, Stretch, Window};
 
 /// The cells and the shape of a window: whole strides where the cells have them. They fit the
 /// shape, and the window is inside it.
@@ -23,4 +23,24 @@ pub fn roomy_part<T>(cells: &[T], shape: Shape, window: Window) -> (&[T], Shape)
         &cells[part.start..part.start + part.len],
         shape.window(window),
     )
+}
+
+/// The cells as they were lent, and the stretch and the shape of a window of them: whole strides
+/// where the cells have them. They fit the shape, and the window is inside it.
+pub fn roomy_stretch_mut<T>(
+    cells: &mut [T],
+    shape: Shape,
+    window: Window,
+) -> (&mut [T], Stretch, Shape)
+    requires fits { Fits (shaped cells.old shape) }
+    requires inside { IsInside (shape_width shape) (shape_height shape) (as_window window) }
+    ensures cells { result.0 ≡ cells.entry }
+    ensures room { IsWithin (length cells.old) (as_stretch result.1) }
+    ensures stretch { as_stretch result.1 ≡ roomy_stretch (length cells.old) (shape_stride shape) (as_window window) }
+    ensures layout { shaped (stretch_cells cells.old (as_stretch result.1)) result.2 ≡ roomy_window (shaped cells.old shape) (as_window window) }
+    ensures fits { Fits (roomy_window (shaped cells.old shape) (as_window window)) }
+    ensures view { grid_of (roomy_window (shaped cells.old shape) (as_window window)) ≡ window_view (grid_of (shaped cells.old shape)) (as_window window) }
+{
+    let stretch = shape.stretch(true, cells.len(), window);
+    (cells, stretch, shape.window(window))
 }

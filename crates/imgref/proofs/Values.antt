@@ -9,7 +9,7 @@ use base.Logic.{ent, emp}
 use mir.Syntax.{Lifetime, Ty, named, w32, w64, ty_ptr, ty_int, ty_struct, tcons, tnil}
 use mir.Val.{Val, vint, vstruct, vcons, vnil, of_list}
 use types.Logic.{Logic, sem}
-use types.Kit.{‵, ◌$◌, ◌∵◌, !, qed, move, fjoin, fpack, feq_i, use0, done}
+use types.Kit.{◌$◌, ◌∵◌, !, qed, fjoin, fpack, feq_i, done}
 use denote.Builtin.{u32, usize}
 use denote.Exit.{no}
 use denote.Laws.{Is}
@@ -34,7 +34,7 @@ use Rattle.image_shape.specs.declared.shape.Shape.{Shape}
 use Rattle.image_shape.specs.contracts.shape.Shape as shape
 use Rattle.imgref.specs.declared.img.Img.{Img}
 use Rattle.imgref.specs.Image.{shape_of}
-use Rattle.imgref.specs.contracts.img.Img.{the_row, the_type}
+use Rattle.imgref.specs.contracts.img.Img.{the_row}
 
 -- ---- a window
 abbrev pub window_val : Window → Val
@@ -108,7 +108,20 @@ module _ (ℓ : Lifetime) (κ : Lft) (R : RattleType) where
     is.1.1.1.1.1.0.1,
   )
 
--- ---- the parts of an image and of a window of it
+-- ---- the parts of an image: its cells and its shape
+abbrev pub img_parts_val : ℕ × ℕ → ℕ → Shape → Val
+img_parts_val p n s = vstruct (vcons (slice_val p n) (vcons (shape_val s) vnil))
+
+module _ (κ : Lft) (R : RattleType) where
+  abbrev pub ImgParts : RattleType
+  ImgParts = Tuple (MutSlice (named 0) κ R ∷ shape.the_row ∷ [])
+
+  pub img_parts_told : (x : MutBor (List R.Denot) × Shape) (vs : List Val) → Is ImgParts x vs → (vs ≡ img_parts_val x.0.ref_ptr (length x.0.now) x.1 ∷ []) × Room R (length x.0.now) × (x.1.width < 2 ^ 32) × (x.1.height < 2 ^ 32) × (x.1.stride < 2 ^ 64)
+  img_parts_told x vs s =
+      let told = shape_told x.1 _ s.1.1.1.0 in
+      (s.1.0 ∙ (λ i. vstruct (of_list (s.1.1.0.0.0 i ++ (told.0 i ++ []))) ∷ []), s.1.1.0.0.1, told.1, told.2, told.3)
+
+-- ---- the parts of a window of it
 abbrev pub parts_val : ℕ × ℕ → ℕ → Stretch → Shape → Val
 parts_val p n at s = vstruct (vcons (slice_val p n) (vcons (stretch_val at) (vcons (shape_val s) vnil)))
 

@@ -6,13 +6,13 @@ ghost use Rattle.image_model.specs.Layout.{Fits};
 ghost use Rattle.image_model.specs.Grid.{grid_of};
 ghost use Rattle.image_model.specs.Windows.{window, window_view, IsInside, IsWithin, roomy_stretch, roomy_window, window_layout, stretch_cells, with_stretch};
 ghost use Rattle.image_shape.specs.Shape.{shaped};
-ghost use Rattle.image_shape.specs.Window.{as_window, as_stretch};
+ghost use Rattle.image_shape.specs.Window.{as_stretch};
 ghost use Rattle.imgref.specs.contracts.img.Img.{the_row};
 ghost use Rattle.imgref.specs.Image.{buf_of, width_of, height_of, stride_of, layout_by, with_all, with_window, ref_layout, mut_layout};
 
 use crate::containers::AsMutSlice;
 use crate::img::{Img, ImgRef, ImgRefMut};
-use image_cells::{AsSlice, roomy_part};
+use image_cells::{AsSlice, roomy_part, roomy_stretch_mut};
 use image_shape::{Shape, Stretch, Window};
 
 impl<'s, T> Img<&'s [T]> {
@@ -53,22 +53,6 @@ impl<'s, T> Img<&'s mut [T]> {
         Img::from_parts(&mut cells[stretch.start..end], shape)
     }
 
-    // The cells, and the stretch and the shape of a roomy window.
-    fn into_roomy(self, window: Window) -> (&'s mut [T], Stretch, Shape)
-        requires fits { Fits (mut_layout self) }
-        requires inside { IsInside (width_of self) (height_of self) (as_window window) }
-        ensures cells { result.0 ≡ buf_of self.entry }
-        ensures room { IsWithin (length (buf_of self.entry).now) (as_stretch result.1) }
-        ensures stretch { as_stretch result.1 ≡ roomy_stretch (length (buf_of self.entry).now) (stride_of self.entry) (as_window window) }
-        ensures layout { shaped (stretch_cells (buf_of self.entry).now (as_stretch result.1)) result.2 ≡ roomy_window (mut_layout self.entry) (as_window window) }
-        ensures fits { Fits (roomy_window (mut_layout self.entry) (as_window window)) }
-        ensures view { grid_of (roomy_window (mut_layout self.entry) (as_window window)) ≡ window_view (grid_of (mut_layout self.entry)) (as_window window) }
-    {
-        let (cells, shape) = self.into_parts();
-        let stretch = shape.stretch(true, cells.len(), window);
-        (cells, stretch, shape.window(window))
-    }
-
     /// The image cut down to the window of `width` by `height` pixels with its corner at column
     /// `left` of row `top`, for as long as its pixels are lent. The image fits and the window is
     /// inside it (`is_valid`, `has_window`).
@@ -95,7 +79,8 @@ impl<'s, T> Img<&'s mut [T]> {
             width,
             height,
         };
-        let (cells, stretch, shape) = self.into_roomy(window);
+        let (buf, shape) = self.into_parts();
+        let (cells, stretch, shape) = roomy_stretch_mut(buf, shape, window);
         Img::from_stretch(cells, stretch, shape)
     }
 }

@@ -32,19 +32,6 @@ use Rattle.image_shape.specs.declared.shape.Shape.{Shape}
 use Rattle.image_shape.specs.contracts.shape.Shape as shape
 use Rattle.imgref.proofs.Values.{stretch_val, stretch_told, shape_val, shape_told}
 
--- ---- the parts of an image
-abbrev pub parts_val : ℕ × ℕ → ℕ → Shape → Val
-parts_val p n s = vstruct (vcons (slice_val p n) (vcons (shape_val s) vnil))
-
-module _ (κ : Lft) (R : RattleType) where
-  abbrev pub Parts : RattleType
-  Parts = Tuple (MutSlice (named 0) κ R ∷ shape.the_row ∷ [])
-
-  pub parts_told : (x : MutBor (List R.Denot) × Shape) (vs : List Val) → Is Parts x vs → (vs ≡ parts_val x.0.ref_ptr (length x.0.now) x.1 ∷ []) × Room R (length x.0.now) × (x.1.width < 2 ^ 32) × (x.1.height < 2 ^ 32) × (x.1.stride < 2 ^ 64)
-  parts_told x vs s =
-      let told = shape_told x.1 _ s.1.1.1.0 in
-      (s.1.0 ∙ (λ i. vstruct (of_list (s.1.1.0.0.0 i ++ (told.0 i ++ []))) ∷ []), s.1.1.0.0.1, told.1, told.2, told.3)
-
 -- ---- a stretch and a shape, or a number
 abbrev pub Found : RattleType
 Found = Tuple (stretch.the_row ∷ shape.the_row ∷ [])

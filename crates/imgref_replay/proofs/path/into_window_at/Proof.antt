@@ -69,8 +69,8 @@ use Rattle.imgref_replay.specs.contracts.path.region_at as f
 use Rattle.imgref_replay.proofs.path.region_at.Met as find
 use Rattle.imgref.specs.contracts.window.Img+mut+slice+T.from_stretch as g
 use Rattle.imgref.proofs.window.Img+mut+slice+T.from_stretch.Met as part
-use Rattle.imgref.proofs.Values.{stretch_val, stretch_made, shape_val, shape_made, img_val, img_row, img_told, LentCells, lent_cells_laws}
-use Rattle.imgref_replay.proofs.Values.{Parts, parts_told, Answer, answer_told, if_some, if_none, ok_made, err_made}
+use Rattle.imgref.proofs.Values.{stretch_val, stretch_made, shape_val, shape_made, img_val, img_row, img_told, LentCells, lent_cells_laws, ImgParts, img_parts_told}
+use Rattle.imgref_replay.proofs.Values.{Answer, answer_told, if_some, if_none, ok_made, err_made}
 use Rattle.imgref_replay.specs.contracts.path.into_window_at.{ended, clauses}
 use Rattle.imgref_replay.specs.contracts.path.into_window_at.Key.{name as #self}
 use Rattle.imgref_replay.proofs.path.into_window_at.Statement.{statement}
@@ -140,14 +140,14 @@ into_window_at_spec 𝓤 𝓛 𝓜 𝓡 wired T L =
     let lives : κ ⊑ X.lives = alive (⊑_trans κ κT T.lives z.0.2.0 le) in
     nothing ! $ use0 𝓛 (raw (fact 𝓤 (κ ⊑ X.lives))) (fact_i 𝓤 (κ ⊑ X.lives) (emp 𝓤) lives) $ join ! $ move ! (1 ∷ 0 ∷ []) $ use2 𝓛 (raw (G₁.pre z₁)) (id⊢ 𝓤 _) $
     calls_at ! fm G₁ (apart.met 𝓤 𝓛 𝓜 𝓡 (compiled.calls-imgref::img::Img::into_parts 𝓡.env wired) X (lent_cells_laws κ T L)) z₁ (and_then ! (get ! refl) (no_more !)) (λ v.
-    use1 𝓛 (later (some (λ (x : MutBor (List T.Denot) × Shape). ((‵ (flft κ qs.0) ⊛ ‵ ftrue) ⊛ ‵ ((Parts κ R).own_val x (v ∷ []))) ⊛ some (λ (us : (Unit {0} × Unit {0}) × Unit {0}). ‵ (lasts (parts.ended X) z₁.0.0 z₁.0.3 us)
+    use1 𝓛 (later (some (λ (x : MutBor (List T.Denot) × Shape). ((‵ (flft κ qs.0) ⊛ ‵ ftrue) ⊛ ‵ ((ImgParts κ R).own_val x (v ∷ []))) ⊛ some (λ (us : (Unit {0} × Unit {0}) × Unit {0}). ‵ (lasts (parts.ended X) z₁.0.0 z₁.0.3 us)
     ⊛ raw (fact 𝓤 (x.0 ≡ cells)) ⊛ raw (fact 𝓤 (x.1 ≡ (shape_of img))))))) (id⊢ 𝓤 _) $
     await ! tt $ pick ! (λ x. split ! $ split ! $ move ! (2 ∷ []) $ pick ! (λ us. split ! $ drop ! $ split ! $ heard ! (x.0 ≡ cells) (λ e₁. heard ! (x.1 ≡ (shape_of img)) (λ e₂.
     -- [the token of κ; the parts; the path's token; the token of κT; the path]
     let y₁ : MutBor (List T.Denot) × Shape = (cells, (shape_of img)) in
     let known : x ≡ y₁ = λ i. (e₁ i, e₂ i) in
-    move ! (1 ∷ []) $ rewrite ! 0 (λ (u : MutBor (List T.Denot) × Shape). ‵ ((Parts κ R).own_val u (v ∷ []))) known refl $
-    peeks ! (Parts κ R) (Is (Parts κ R)) (shows 𝓛 (Parts κ R)) y₁ (v ∷ []) (λ is. let pt = parts_told κ R y₁ (v ∷ []) is in
+    move ! (1 ∷ []) $ rewrite ! 0 (λ (u : MutBor (List T.Denot) × Shape). ‵ ((ImgParts κ R).own_val u (v ∷ []))) known refl $
+    peeks ! (ImgParts κ R) (Is (ImgParts κ R)) (shows 𝓛 (ImgParts κ R)) y₁ (v ∷ []) (λ is. let pt = img_parts_told κ R y₁ (v ∷ []) is in
     lands_as ! (ap only (pt.0)) refl (tt, ((tt, (record { fits = pt.1.0 }, tt)), ((record { fits = pt.2 }, (record { fits = pt.3 }, (record { fits = pt.4 }, tt))), tt))) $
     fpick ! (λ vs₁. fsplit ! $ drop ! $ fsplit ! $ move ! (1 ∷ []) $ drop ! $
     peeks ! Slice (Is Slice) (shows 𝓛 Slice) cells (vs₁.0) (λ isS. rewrite ! 0 (λ (vs : List Val). ‵ (Slice.own_val cells vs)) (isS.0.0) refl $

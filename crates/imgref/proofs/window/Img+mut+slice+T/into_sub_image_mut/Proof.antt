@@ -9,7 +9,7 @@ use mir.Syntax.{Args, Fn, named, w64, a_type}
 use mir.MapTy.{inst_fn}
 use mir.Val.{Val, vint}
 use prog.Wp.{WpFn}
-use contract.BorrowLft.{◌⊑◌}
+use contract.BorrowLft.{◌⊑◌, ⊑_refl, ⊑_trans, ⊑_meet}
 use contract.Monad.{fact, fact_i}
 use contract.Running.{tables}
 use types.Kit.{Item, ‵, fpick, ◌⊛◌, raw, later, some, prop, ◌$◌, ◌∵◌, !, qed, by, move, keep, drop, split, split3, join, fsplit, fjoin, rewrite, regoal, use0, use1, use2, await, pick, updating, now, done}
@@ -45,9 +45,11 @@ use Rattle.image_shape.specs.Shape.{shaped}
 use Rattle.image_shape.specs.Window.{as_stretch}
 use Rattle.imgref.specs.Image.{mut_layout, shape_of}
 use Rattle.imgref.specs.declared.img.Img.{Img}
-use Rattle.imgref.proofs.Values.{window_val, window_made, stretch_val, stretch_made, shape_val, shape_made, img_val, img_row, img_told, Parts, parts_told}
-use Rattle.imgref.specs.contracts.window.Img+mut+slice+T.into_roomy as f
-use Rattle.imgref.proofs.window.Img+mut+slice+T.into_roomy.Met as found
+use Rattle.imgref.proofs.Values.{window_val, window_made, stretch_val, stretch_made, shape_val, shape_made, img_val, img_row, img_told, ImgParts, img_parts_told, Parts, parts_told, LentCells, lent_cells_laws}
+use Rattle.image_cells.specs.contracts.roomy_stretch_mut as f
+use Rattle.image_cells.proofs.roomy_stretch_mut.Met as found
+use Rattle.imgref.specs.contracts.img.Img.into_parts as parts
+use Rattle.imgref.proofs.img.Img.into_parts.Met as apart
 use Rattle.imgref.specs.contracts.window.Img+mut+slice+T.from_stretch as g
 use Rattle.imgref.proofs.window.Img+mut+slice+T.from_stretch.Met as made
 use Rattle.imgref.specs.contracts.window.Img+mut+slice+T.into_sub_image_mut.{ended, clauses}
@@ -97,7 +99,10 @@ into_sub_image_mut_spec 𝓤 𝓛 𝓜 𝓡 wired T L =
     let Tok : Item 𝓤 = ‵ (flft κ q) ⊛ ‵ (flft κT qT) ⊛ ‵ ftrue in
     let Found : RattleType = Parts (named 0) κ R in
     let G = triple_of 𝓛 (f.signature T) (f.spec T 𝓛 𝓜.mem 𝓡.returns) in
-    let z₁ : G.Ghost = (((κ, (κT, tt)), (q, (qT, tt)), z.0.2, (img, (win, tt)), (w ∷ [], (window_val win ∷ [], tt))), tt) in
+    let z₁ : G.Ghost = (((κ, (κT, tt)), (q, (qT, tt)), z.0.2, (cells, (shape_of img, (win, tt))), (sv ∷ [], (shape_val (shape_of img) ∷ [], (window_val win ∷ [], tt)))), tt) in
+    let X : RattleType = LentCells κ T in
+    let G₁ = triple_of 𝓛 (parts.signature X) (parts.spec X 𝓛 𝓜.mem 𝓡.returns) in
+    let zₚ : G₁.Ghost = (((κ, tt), (q, tt), tt, (img, tt), (w ∷ [], tt)), tt) in
     qed 𝓛 ((Tok ⊛ ‵ (owns (types_at ps z.0.0) a vss)) ∷ (raw (fact 𝓤 (κT ⊑ T.lives)) ⊛ raw (fact 𝓤 Holds) ⊛ raw (fact 𝓤 Inside)) ∷ []) ∵
     move ! (1 ∷ []) $ split3 ! $ heard ! (κT ⊑ T.lives) (λ le. heard ! Holds (λ holds. heard ! Inside (λ inside. split ! $ move ! (1 ∷ []) $ fsplit ! $ keep ! (0 ∷ 2 ∷ []) $
     -- [the image; the tokens]
@@ -107,17 +112,40 @@ into_sub_image_mut_spec 𝓤 𝓛 𝓜 𝓡 wired T L =
     alloc_all ! (λ l. pass_all ! refl ((tt, ((tt, (record { fits = told.1.0 }, tt)), (record { fits = told.2 }, (record { fits = told.3 }, (record { fits = told.4 }, tt))))), ((tt, record { fits = fl }), ((tt, record { fits = ft }), ((tt, record { fits = fw }), ((tt, record { fits = fh }), tt))))) $
     sets ! (agg ! (and_then ! (get ! refl) (and_then ! (get ! refl) (and_then ! (get ! refl) (and_then ! (get ! refl) (no_more !)))))) refl (tt, (record { fits = fl }, (record { fits = ft }, (record { fits = fw }, (record { fits = fh }, tt))))) $
     sets ! (of_opd ! (get ! refl)) refl (tt, ((tt, (record { fits = told.1.0 }, tt)), (record { fits = told.2 }, (record { fits = told.3 }, (record { fits = told.4 }, tt))))) $
-    nothing ! $ use0 𝓛 (‵ (pane.the_row.own_val win (window_val win ∷ []))) (window_made 𝓛 win fl ft fw fh) $ join ! $ move ! (1 ∷ 0 ∷ []) $ join ! $ move ! (1 ∷ 0 ∷ []) $ join ! $
+    move ! (1 ∷ []) $ split3 ! $ nothing ! $ move ! (4 ∷ 0 ∷ []) $ join ! $ nothing ! $ move ! (2 ∷ 0 ∷ []) $ join ! $ join ! $
+    -- [the token of κ and the image; the token of κT; nothing]
+    let lives : κ ⊑ X.lives = ⊑_meet κ κ T.lives (⊑_refl κ) (⊑_trans κ κT T.lives z.0.2.0 le) in
+    nothing ! $ use0 𝓛 (raw (fact 𝓤 (κ ⊑ X.lives))) (fact_i 𝓤 (κ ⊑ X.lives) (emp 𝓤) lives) $ join ! $ move ! (1 ∷ 0 ∷ []) $ use2 𝓛 (raw (G₁.pre zₚ)) (id⊢ 𝓤 _) $
+    calls_at ! fm G₁ (apart.met 𝓤 𝓛 𝓜 𝓡 (compiled.calls-imgref::img::Img::into_parts 𝓡.env wired) X (lent_cells_laws κ T L)) zₚ (and_then ! (get ! refl) (no_more !)) (λ v₀.
+    use1 𝓛 (later (some (λ (x : MutBor (List T.Denot) × Shape). ((‵ (flft κ q) ⊛ ‵ ftrue) ⊛ ‵ ((ImgParts κ R).own_val x (v₀ ∷ []))) ⊛ some (λ (us : (Unit {0} × Unit {0}) × Unit {0}). ‵ (lasts (parts.ended X) zₚ.0.0 zₚ.0.3 us)
+    ⊛ raw (fact 𝓤 (x.0 ≡ cells)) ⊛ raw (fact 𝓤 (x.1 ≡ shape_of img)))))) (id⊢ 𝓤 _) $
+    await ! tt $ pick ! (λ x₀. split ! $ split ! $ move ! (2 ∷ []) $ pick ! (λ us₀. split ! $ drop ! $ split ! $ heard ! (x₀.0 ≡ cells) (λ c₀. heard ! (x₀.1 ≡ shape_of img) (λ s₀.
+    -- [the token of κ; the parts; the token of κT; nothing]
+    let y₀ : MutBor (List T.Denot) × Shape = (cells, shape_of img) in
+    let known₀ : x₀ ≡ y₀ = λ i. (c₀ i, s₀ i) in
+    move ! (1 ∷ []) $ rewrite ! 0 (λ (u : MutBor (List T.Denot) × Shape). ‵ ((ImgParts κ R).own_val u (v₀ ∷ []))) known₀ refl $
+    peeks ! (ImgParts κ R) (Is (ImgParts κ R)) (shows 𝓛 (ImgParts κ R)) y₀ (v₀ ∷ []) (λ isₚ. let t₀ = img_parts_told κ R y₀ (v₀ ∷ []) isₚ in
+    lands_as ! (ap only (t₀.0)) refl (tt, ((tt, (record { fits = t₀.1.0 }, tt)), ((record { fits = t₀.2 }, (record { fits = t₀.3 }, (record { fits = t₀.4 }, tt))), tt))) $
+    fpick ! (λ vs₀. fsplit ! $ drop ! $ fsplit ! $ move ! (1 ∷ []) $ drop ! $
+    peeks ! Slice (Is Slice) (shows 𝓛 Slice) cells (vs₀.0) (λ is₀. rewrite ! 0 (λ (vs : List Val). ‵ (Slice.own_val cells vs)) (is₀.0.0) refl $
+    move ! (1 ∷ []) $ split ! $ move ! (3 ∷ 4 ∷ []) $ join ! $ move ! (1 ∷ 0 ∷ []) $ join ! $ move ! (1 ∷ []) $ drop ! $ move ! (1 ∷ []) $
+    -- [the slice; the tokens]
+    sets ! (of_opd ! (get_in ! (fld ! refl (stop !)) (sub ! 0 refl (whole !)))) refl (tt, (tt, (record { fits = t₀.1.0 }, tt))) $
+    sets ! (of_opd ! (get_in ! (fld ! refl (stop !)) (sub ! 1 refl (whole !)))) refl (tt, (record { fits = t₀.2 }, (record { fits = t₀.3 }, (record { fits = t₀.4 }, tt)))) $
+    sets ! (addr ! (from ! (fld ! refl (hop ! (look_in_at ! 7 (sub ! 0 refl (whole !))) (stop !))))) refl (tt, tt) $
+    sets ! (agg ! (and_then ! (get ! refl) (and_then ! (get_in ! (fld ! refl (stop !)) (sub ! 1 refl (whole !))) (no_more !)))) refl (tt, (tt, (record { fits = t₀.1.0 }, tt))) $
+    nothing ! $ use0 𝓛 (‵ (pane.the_row.own_val win (window_val win ∷ []))) (window_made 𝓛 win fl ft fw fh) $ join ! $ use0 𝓛 (‵ (shape.the_row.own_val (shape_of img) (shape_val (shape_of img) ∷ []))) (shape_made 𝓛 (shape_of img) t₀.2 t₀.3 t₀.4) $ join ! $
+    move ! (1 ∷ 0 ∷ []) $ join ! $ move ! (1 ∷ 0 ∷ []) $ join ! $
     use0 𝓛 (raw (fact 𝓤 Inside)) (fact_i 𝓤 Inside (emp 𝓤) inside) $ use0 𝓛 (raw (fact 𝓤 Holds)) (fact_i 𝓤 Holds (emp 𝓤) holds) $ join ! $ use0 𝓛 (raw (fact 𝓤 (κT ⊑ T.lives))) (fact_i 𝓤 (κT ⊑ T.lives) (emp 𝓤) le) $ join ! $
     move ! (1 ∷ 0 ∷ []) $ use2 𝓛 (raw (G.pre z₁)) (id⊢ 𝓤 _) $
-    calls_at ! fm G (found.met 𝓤 𝓛 𝓜 𝓡 (compiled.calls-imgref::window::Img+mut+slice+T::into_roomy 𝓡.env wired) T L) z₁ (and_then ! (get ! refl) (and_then ! (get ! refl) (no_more !))) (λ v.
+    calls_at ! fm G (found.met 𝓤 𝓛 𝓜 𝓡 (compiled.calls-image_cells::roomy_stretch_mut 𝓡.env wired) T L) z₁ (and_then ! (get ! refl) (and_then ! (get ! refl) (and_then ! (get ! refl) (no_more !)))) (λ v.
     let Cells₁ : MutBor (List T.Denot) × Stretch × Shape → Type 0 = λ x. x.0 ≡ cells in
     let Room₁ : MutBor (List T.Denot) × Stretch × Shape → Type 0 = λ x. IsWithin (length xs) (as_stretch x.1) in
     let There : MutBor (List T.Denot) × Stretch × Shape → Type 0 = λ x. as_stretch x.1 ≡ roomy_stretch (length xs) li.stride here in
     let Laid : MutBor (List T.Denot) × Stretch × Shape → Type 0 = λ x. shaped (stretch_cells xs (as_stretch x.1)) x.2 ≡ roomy_window li here in
     let Fits₁ : Type 0 = Fits (roomy_window li here) in
     let View₁ : Type 0 = grid_of (roomy_window li here) ≡ window_view (grid_of li) here in
-    use1 𝓛 (later (some (λ (x : MutBor (List T.Denot) × Stretch × Shape). (Tok ⊛ ‵ (Found.own_val x (v ∷ []))) ⊛ some (λ (us : (Unit {0} × Unit {0}) × (Unit {0} × Unit {0})). ‵ (lasts (f.ended T) z₁.0.0 z₁.0.3 us)
+    use1 𝓛 (later (some (λ (x : MutBor (List T.Denot) × Stretch × Shape). (Tok ⊛ ‵ (Found.own_val x (v ∷ []))) ⊛ some (λ (us : Unit {0} × (Unit {0} × (Unit {0} × Unit {0}))). ‵ (lasts (f.ended T) z₁.0.0 z₁.0.3 us)
     ⊛ raw (fact 𝓤 (Cells₁ x)) ⊛ raw (fact 𝓤 (Room₁ x)) ⊛ raw (fact 𝓤 (There x)) ⊛ raw (fact 𝓤 (Laid x)) ⊛ raw (fact 𝓤 Fits₁) ⊛ raw (fact 𝓤 View₁))))) (id⊢ 𝓤 _) $
     await ! tt $ pick ! (λ x. split ! $ split ! $ move ! (2 ∷ []) $ pick ! (λ us. split ! $ drop ! $ split ! $ heard ! (Cells₁ x) (λ e₁. split ! $ heard ! (Room₁ x) (λ room. split ! $ heard ! (There x) (λ there. split ! $ heard ! (Laid x) (λ laid. split ! $ heard ! Fits₁ (λ fits. heard ! View₁ (λ view.
     -- [the tokens; the parts]
@@ -132,7 +160,7 @@ into_sub_image_mut_spec 𝓤 𝓛 𝓜 𝓡 wired T L =
     sets ! (of_opd ! (get_in ! (fld ! refl (stop !)) (sub ! 0 refl (whole !)))) refl (tt, (tt, (record { fits = pt.1.0 }, tt))) $
     sets ! (of_opd ! (get_in ! (fld ! refl (stop !)) (sub ! 1 refl (whole !)))) refl (tt, (record { fits = pt.2 }, (record { fits = pt.3 }, tt))) $
     sets ! (of_opd ! (get_in ! (fld ! refl (stop !)) (sub ! 2 refl (whole !)))) refl (tt, (record { fits = pt.4 }, (record { fits = pt.5 }, (record { fits = pt.6 }, tt)))) $
-    sets ! (addr ! (from ! (fld ! refl (hop ! (look_in_at ! 7 (sub ! 0 refl (whole !))) (stop !))))) refl (tt, tt) $
+    sets ! (addr ! (from ! (fld ! refl (hop ! (look_in_at ! 9 (sub ! 0 refl (whole !))) (stop !))))) refl (tt, tt) $
     sets ! (agg ! (and_then ! (get ! refl) (and_then ! (get_in ! (fld ! refl (stop !)) (sub ! 1 refl (whole !))) (no_more !)))) refl (tt, (tt, (record { fits = pt.1.0 }, tt))) $
     let G₂ = triple_of 𝓛 (g.signature T) (g.spec T 𝓛 𝓜.mem 𝓡.returns) in
     let z₂ : G₂.Ghost = (((κ, (κT, tt)), (q, (qT, tt)), z.0.2, (cells, (x.1, (x.2, tt))), (sv ∷ [], (stretch_val x.1 ∷ [], (shape_val x.2 ∷ [], tt)))), tt) in
@@ -162,4 +190,4 @@ into_sub_image_mut_spec 𝓤 𝓛 𝓜 𝓡 wired T L =
     -- [the ensures; the window; the tokens]
     nothing ! $ nothing ! $ fjoin ! $ nothing ! $ fjoin ! $ nothing ! $ fjoin ! $ nothing ! $ fjoin ! $ nothing ! $ fjoin ! $
     move ! (3 ∷ 0 ∷ 2 ∷ 1 ∷ []) $
-    by ! (leaves 𝓛 En stays c z w₂ r₂ ((tt, tt), (tt, (tt, (tt, (tt, tt))))) (tt, (tt, (tt, (tt, (tt, tt))))))))))))))))))))))))))))
+    by ! (leaves 𝓛 En stays c z w₂ r₂ ((tt, tt), (tt, (tt, (tt, (tt, tt))))) (tt, (tt, (tt, (tt, (tt, tt))))))))))))))))))))))))))))))))))))
