@@ -1,8 +1,7 @@
 -- What is done to lists of grids that agree leaves lists that agree, with the same replies.
-use Rattle.std.proofs.Common.{◌≡◌, ℕ, zero, suc, ◌+◌, Bool, true, false, cond, not, leb, List, [], ◌∷◌, ◌++◌, length, set, Some, None, Option, refl, ap, ◌∙◌, subst}
-use Rattle.std.specs.Prelude.{IsTrue, is_some, fold}
+use Rattle.std.proofs.Common.{◌≡◌, ℕ, zero, suc, ◌+◌, Bool, cond, not, leb, List, [], ◌∷◌, ◌++◌, length, set, Some, None, Option, refl, ap, ◌∙◌, subst}
+use Rattle.std.specs.Prelude.{is_some, fold}
 use Rattle.std.specs.Option.{option_map_or}
-use Rattle.std.specs.List.{AllZip}
 use Rattle.std.specs.Cmp.{IsEquivalence, partial_equiv_from_equiv}
 use Rattle.std.proofs.lemmas.Bool.Decides.{same_from_decides}
 use Rattle.image_model.specs.Grid.{Grid, view, is_place, uniform, Agree, AlikePixels}
@@ -12,7 +11,7 @@ use Rattle.image_model.specs.Windows.{window_view, first_outside, path_window}
 use Rattle.image_model.proofs.Agreement.{PixelsAlike, agree_grid, agree_sym, agree_trans, agree_view, agree_patch, agree_pixels, agree_uniform}
 use Rattle.imgref.specs.Window.{as_path}
 use Rattle.imgref_replay.specs.Agreement.{do_agree}
-use Rattle.imgref_replay.specs.Commands.{grid_at, window_named, view_named, lacks_image, leaves_image, misses_window, image_faults, window_faults, place_faults, pair_faults, patched_at, meaning}
+use Rattle.imgref_replay.specs.Commands.{grid_at, window_named, view_named, lacks_image, leaves_image, image_faults, window_faults, place_faults, pair_faults, patched_at, meaning}
 use Rattle.imgref_replay.specs.Step.{first_fault, fault_of, reply_to, after}
 use Rattle.imgref_replay.specs.Run.{replies_to, after_all}
 use Rattle.imgref_replay.specs.Layouts.{GridsAgree, AlikeReply, RepliesAgree}

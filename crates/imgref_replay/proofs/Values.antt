@@ -4,11 +4,10 @@ use mathlib.Core.Logic.{◌⊎◌, inl, inr}
 use Prim.Native.Nat.{ℕ, ◌^◌, ◌<◌}
 use mathlib.Core.List.{List, [], ◌∷◌, ◌++◌}
 use mathlib.Core.Option.{some, none}
-use lib.ListN.{length}
 use seplogic.Ra.Ura.{Ura}
-use base.Fml.{Lft, GName, fsep, feq, fex}
+use base.Fml.{GName, fsep, feq, fex}
 use base.Logic.{ent, emp, id⊢}
-use mir.Syntax.{named, w64}
+use mir.Syntax.{w64}
 use mir.Val.{Val, vint, vstruct, vcons, vnil, of_list}
 use types.Logic.{Logic, sem}
 use types.Kit.{‵, ◌$◌, ◌∵◌, !, qed, move, fjoin, fpack, feq_i, done}
@@ -19,8 +18,6 @@ use denote.Follow.{follows, follows_by, follows_if}
 use denote.Laws.{Is}
 use denote.Plain.{uint_Makes}
 use denote.RattleType.{RattleType, Valss, owns}
-use denote.Ref.{MutBor}
-use denote.Slice.{MutSlice, Room, slice_val}
 use denote.Steps.{nothing, owned}
 use denote.Struct.Tuple.{Tuple}
 use Rattle.std.specs.contracts.result.Result as result
