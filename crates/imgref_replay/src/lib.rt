@@ -7,6 +7,8 @@ mod compact_tests;
 #[cfg(test)]
 mod fixtures;
 #[cfg(test)]
+mod layouts_tests;
+#[cfg(test)]
 mod pairs_tests;
 mod path;
 #[cfg(test)]
