@@ -8,9 +8,9 @@ use Rattle.image_model.specs.Rows.{grid_joined_rows}
 use Rattle.imgref_replay.specs.Run.{replies_to, after_all}
 use Rattle.image_shape.specs.declared.window.Window.{Window}
 use Rattle.imgref_replay.specs.declared.commands.Place.{Place}
-use Rattle.imgref_replay.specs.declared.commands.Command.TheVariants.{Get, Put, Fill, Count, Same, Compact}
+use Rattle.imgref_replay.specs.declared.commands.Command.TheVariants.{Get, Put, Fill, Count, Same, Blit, Compact}
 use Rattle.imgref_replay.specs.declared.commands.Reply.TheVariants.{Pixel, Counted, Truth, Done, Refused}
-use Rattle.imgref_replay.specs.declared.commands.Refusal.TheVariants.{NoImage, WindowOutside, PlaceOutside}
+use Rattle.imgref_replay.specs.declared.commands.Refusal.TheVariants.{NoImage, WindowOutside, PlaceOutside, SizesDiffer}
 
 -- 3 by 2 at stride 4, with cells past the last pixel: 1 2 3 above 5 6 7
 abbrev padded : Grid ℕ
@@ -110,6 +110,17 @@ module _ (ptr : Ptr) (alloc : Global) where
       ≡ Refused NoImage ∷ Refused WindowOutside ∷ []
   unfolding grid_of
   both_images_first = refl
+
+  -- the source is what it was before the copy, also where the two windows overlap
+  blit_overlapping : map grid_joined_rows (after_all (Blit (place 0 (window 0 0 2 2 ∷ []) (omega arith)) (place 0 (window 1 0 2 2 ∷ []) (omega arith)) ∷ []) (padded ∷ [])) ≡ (1 ∷ 1 ∷ 2 ∷ 5 ∷ 5 ∷ 6 ∷ []) ∷ []
+  unfolding grid_of view patch
+  blit_overlapping = refl
+
+  -- sizes are compared after both paths
+  blit_refused : replies_to ◌==◌ (Blit nested whole ∷ Blit whole (place 0 (window 9 9 9 9 ∷ []) (omega arith)) ∷ Blit (place 0 (window 9 9 9 9 ∷ []) (omega arith)) (place 1 [] (omega arith)) ∷ []) (padded ∷ [])
+      ≡ Refused SizesDiffer ∷ Refused WindowOutside ∷ Refused NoImage ∷ []
+  unfolding grid_of
+  blit_refused = refl
 
   compact_done : replies_to ◌==◌ (Compact 0 ∷ Get whole 2 1 ∷ Compact 1 ∷ []) (padded ∷ []) ≡ Done ∷ Pixel 7 ∷ Refused NoImage ∷ []
   unfolding grid_of view

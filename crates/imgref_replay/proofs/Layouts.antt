@@ -1,6 +1,6 @@
 -- What is done to lists of grids that agree leaves lists that agree, with the same replies.
-use Rattle.std.proofs.Common.{◌≡◌, ℕ, zero, suc, ◌+◌, Bool, cond, not, leb, List, [], ◌∷◌, ◌++◌, length, set, Some, None, Option, refl, ap, ◌∙◌, subst}
-use Rattle.std.specs.Prelude.{is_some, fold}
+use Rattle.std.proofs.Common.{◌≡◌, ℕ, zero, suc, ◌+◌, ◌==◌, Bool, cond, not, leb, List, [], ◌∷◌, ◌++◌, length, set, Some, None, Option, refl, ap, ◌∙◌, subst}
+use Rattle.std.specs.Prelude.{◌&&◌, is_some, fold}
 use Rattle.std.specs.Option.{option_map_or}
 use Rattle.std.specs.Cmp.{IsEquivalence, partial_equiv_from_equiv}
 use Rattle.std.proofs.lemmas.Bool.Decides.{same_from_decides}
@@ -11,15 +11,15 @@ use Rattle.image_model.specs.Windows.{window_view, first_outside, path_window}
 use Rattle.image_model.proofs.Agreement.{PixelsAlike, agree_grid, agree_sym, agree_trans, agree_view, agree_patch, agree_pixels, agree_uniform}
 use Rattle.imgref.specs.Window.{as_path}
 use Rattle.imgref_replay.specs.Agreement.{do_agree}
-use Rattle.imgref_replay.specs.Commands.{grid_at, window_named, view_named, lacks_image, leaves_image, image_faults, window_faults, place_faults, pair_faults, patched_at, meaning}
+use Rattle.imgref_replay.specs.Commands.{grid_at, window_named, view_named, lacks_image, leaves_image, image_faults, window_faults, place_faults, pair_faults, copy_faults, patched_at, meaning}
 use Rattle.imgref_replay.specs.Step.{first_fault, fault_of, reply_to, after}
 use Rattle.imgref_replay.specs.Run.{replies_to, after_all}
 use Rattle.imgref_replay.specs.Layouts.{GridsAgree, AlikeReply, RepliesAgree}
 use Rattle.imgref_replay.specs.declared.commands.Place.{Place}
 use Rattle.imgref_replay.specs.declared.commands.Command.{Command}
-use Rattle.imgref_replay.specs.declared.commands.Command.TheVariants.{Get, Put, Fill, Count, Same, Compact}
+use Rattle.imgref_replay.specs.declared.commands.Command.TheVariants.{Get, Put, Fill, Count, Same, Blit, Compact}
 use Rattle.imgref_replay.specs.declared.commands.Refusal.{Refusal}
-use Rattle.imgref_replay.specs.declared.commands.Refusal.TheVariants.{NoImage, WindowOutside, PlaceOutside}
+use Rattle.imgref_replay.specs.declared.commands.Refusal.TheVariants.{NoImage, WindowOutside, PlaceOutside, SizesDiffer}
 use Rattle.imgref_replay.specs.declared.commands.Reply.{Reply}
 use Rattle.imgref_replay.specs.declared.commands.Reply.TheVariants.{Pixel, Counted, Truth, Done, Refused}
 use Rattle.imgref_replay.proofs.Agreement.{agree_decides}
@@ -85,12 +85,20 @@ module _ {T : Type 0} (eq : T → T → Bool) where
         let four = same_leaves second in
         λ k. (one k, NoImage) ∷ (two k, NoImage) ∷ (three k, WindowOutside) ∷ (four k, WindowOutside) ∷ []
 
+    same_copy_faults : (source target : Place) → copy_faults source target gs ≡ copy_faults source target hs
+    same_copy_faults source target =
+        let one = same_pair_faults source target in
+        let two = same_window source in
+        let three = same_window target in
+        λ k. one k ++ (not (((two k).width == (three k).width) && ((two k).height == (three k).height)), SizesDiffer) ∷ []
+
     same_faults : (command : Command T) → (meaning command).faults gs ≡ (meaning command).faults hs
     same_faults (Get spot x y) = same_place_faults spot x y
     same_faults (Put spot x y value) = same_place_faults spot x y
     same_faults (Fill spot value) = same_window_faults spot
     same_faults (Count spot value) = same_window_faults spot
     same_faults (Same first second) = same_pair_faults first second
+    same_faults (Blit source target) = same_copy_faults source target
     same_faults (Compact image) = same_image_faults image
 
     -- ---- what is seen in both
@@ -153,6 +161,7 @@ module _ {T : Type 0} (eq : T → T → Bool) where
       alike_answers (Fill spot value) = refl
       alike_answers (Count spot value) = ap (λ n. Counted n) (counted value 0 (grid_pixels (view_named spot gs)) (grid_pixels (view_named spot hs)) (agree_pixels eq _ _ (agree_seen gs hs a spot)))
       alike_answers (Same first second) = ap (λ b. Truth b) (same_pair first second)
+      alike_answers (Blit source target) = refl
       alike_answers (Compact image) = refl
 
       agree_effect : (command : Command T) → GridsAgree eq ((meaning command).effect gs) ((meaning command).effect hs)
@@ -165,6 +174,9 @@ module _ {T : Type 0} (eq : T → T → Bool) where
           (let w = window_named spot gs in agree_patched gs hs a spot w.left w.top (uniform w.width w.height value) (uniform w.width w.height value) (agree_uniform eq w.width w.height value value (laws.refl value)))
       agree_effect (Count spot value) = a
       agree_effect (Same first second) = a
+      agree_effect (Blit source target) =
+          subst (λ w. GridsAgree eq ((meaning (Blit source target)).effect gs) (patched_at target w.left w.top (view_named source hs) hs)) (same_window gs hs a target)
+          (let w = window_named target gs in agree_patched gs hs a target w.left w.top (view_named source gs) (view_named source hs) (agree_seen gs hs a source))
       agree_effect (Compact image) = a
 
       alike_or : (o : Option Refusal) (r q : Reply T) → AlikeReply eq r q → AlikeReply eq (option_map_or (λ refusal. Refused refusal) o r) (option_map_or (λ refusal. Refused refusal) o q)

@@ -1,5 +1,5 @@
 -- What each command means on grids: it speaks of places alone, and of no cell, stride or padding.
-use Rattle.std.specs.Prelude.{ℕ, ◌+◌, Bool, not, nat_le, Option, Some, None, List, [], ◌∷◌, ◌++◌, length, map, Vec, slice_set, slice_index_or, is_some, count_by}
+use Rattle.std.specs.Prelude.{ℕ, ◌+◌, Bool, not, ◌&&◌, ◌==◌, nat_le, Option, Some, None, List, [], ◌∷◌, ◌++◌, length, map, Vec, slice_set, slice_index_or, is_some, count_by}
 use Rattle.std.specs.Option.{option_map_or}
 use Rattle.image_model.specs.Grid.{Grid, grid, grid_of, is_place, patch, uniform}
 use Rattle.image_model.specs.Rows.{grid_pixels}
@@ -10,9 +10,9 @@ use Rattle.imgref.specs.Window.{as_path}
 use Rattle.imgref_replay.specs.Agreement.{do_agree}
 use Rattle.imgref_replay.specs.declared.commands.Place.{Place}
 use Rattle.imgref_replay.specs.declared.commands.Command.{Command}
-use Rattle.imgref_replay.specs.declared.commands.Command.TheVariants.{Get, Put, Fill, Count, Same, Compact}
+use Rattle.imgref_replay.specs.declared.commands.Command.TheVariants.{Get, Put, Fill, Count, Same, Blit, Compact}
 use Rattle.imgref_replay.specs.declared.commands.Refusal.{Refusal}
-use Rattle.imgref_replay.specs.declared.commands.Refusal.TheVariants.{NoImage, WindowOutside, PlaceOutside}
+use Rattle.imgref_replay.specs.declared.commands.Refusal.TheVariants.{NoImage, WindowOutside, PlaceOutside, SizesDiffer}
 use Rattle.imgref_replay.specs.declared.commands.Reply.{Reply}
 use Rattle.imgref_replay.specs.declared.commands.Reply.TheVariants.{Pixel, Counted, Truth, Done}
 
@@ -48,6 +48,10 @@ leaves_image spot grids = let g = grid_at grids spot.image in is_some (first_out
 abbrev pub misses_window : {T : Type 0} → Place → ℕ → ℕ → List (Grid T) → Bool
 misses_window spot x y grids = let w = window_named spot grids in not (is_place w.width w.height x y)
 
+-- two windows differ in width or height
+abbrev pub differ_in_size : {T : Type 0} → Place → Place → List (Grid T) → Bool
+differ_in_size source target grids = let v = window_named source grids in let w = window_named target grids in not ((v.width == w.width) && (v.height == w.height))
+
 -- of an image
 abbrev pub image_faults : {T : Type 0} → ℕ → List (Grid T) → List (Bool × Refusal)
 image_faults image grids = (lacks_image image grids, NoImage) ∷ []
@@ -64,6 +68,10 @@ place_faults spot x y grids = window_faults spot grids ++ (misses_window spot x 
 abbrev pub pair_faults : {T : Type 0} → Place → Place → List (Grid T) → List (Bool × Refusal)
 pair_faults first second grids =
     (lacks_image first.image grids, NoImage) ∷ (lacks_image second.image grids, NoImage) ∷ (leaves_image first grids, WindowOutside) ∷ (leaves_image second grids, WindowOutside) ∷ []
+
+-- of two windows that are to have one size: those of the windows, and then their sizes
+abbrev pub copy_faults : {T : Type 0} → Place → Place → List (Grid T) → List (Bool × Refusal)
+copy_faults source target grids = pair_faults source target grids ++ (differ_in_size source target grids, SizesDiffer) ∷ []
 
 -- ---- meanings
 
@@ -109,4 +117,5 @@ meaning (Put spot x y value) = writes (place_faults spot x y) (λ grids. let w =
 meaning (Fill spot value) = writes (window_faults spot) (λ grids. let w = window_named spot grids in patched_at spot w.left w.top (uniform w.width w.height value) grids)
 meaning (Count spot value) = asks (window_faults spot) (λ eq grids. count_reply (λ pixel. eq pixel value) (view_named spot grids))
 meaning (Same first second) = asks (pair_faults first second) (λ eq grids. agreement_reply eq (view_named first grids) (view_named second grids))
+meaning (Blit source target) = writes (copy_faults source target) (λ grids. let w = window_named target grids in patched_at target w.left w.top (view_named source grids) grids)
 meaning (Compact image) = packs image

@@ -1,11 +1,11 @@
 -- One command: its reply, what it makes of the grids, and what it leaves of the images.
-use Rattle.std.specs.Prelude.{◌≡◌, ℕ, ◌==◌, Bool, false, if◌then◌else◌, Option, Some, None, List, [], ◌∷◌, map, slice_get, All, Result, IfOk}
+use Rattle.std.specs.Prelude.{◌≡◌, ℕ, ◌==◌, Bool, false, if◌then◌else◌, Option, Some, None, List, [], ◌∷◌, map, slice_get, slice_set, All, Result, IfOk}
 use Rattle.std.specs.Option.{option_map_or}
 use Rattle.std.specs.Result.{result_err}
 use Rattle.image_model.specs.Layout.{Layout, Fits}
-use Rattle.image_model.specs.Grid.{Grid, grid_of}
+use Rattle.image_model.specs.Grid.{Grid, grid_of, patch}
 use Rattle.image_model.specs.Kept.{IsKept}
-use Rattle.imgref_replay.specs.Commands.{meaning}
+use Rattle.imgref_replay.specs.Commands.{grid_at, meaning}
 use Rattle.imgref_replay.specs.declared.commands.Command.{Command}
 use Rattle.imgref_replay.specs.declared.commands.Refusal.{Refusal}
 use Rattle.imgref_replay.specs.declared.commands.Reply.{Reply}
@@ -35,6 +35,12 @@ compacts i command = option_map_or (λ image. image == i) ((meaning command).com
 -- each image keeps its outside where it isn't compacted, and else is packed
 abbrev pub AllKept : {T : Type 0} → (ℕ → Bool) → List (Layout T) → List (Layout T) → Type 0
 AllKept {T} compacted olds news = (i : ℕ) (old new : Layout T) → slice_get olds i ≡ Some old → slice_get news i ≡ Some new → IsKept (compacted i) old new
+
+-- a copy of a grid stands at a corner of image i, each image keeps its outside, and all fit
+pub record ShowsCopy {T : Type 0} (i left top : ℕ) (copy : Grid T) (olds news : List (Layout T)) : Type 0 where
+  pub grids : map grid_of news ≡ slice_set (map grid_of olds) i (patch (grid_at (map grid_of olds) i) left top copy)
+  pub kept : AllKept (λ _. false) olds news
+  pub fits : All Fits news
 
 -- a command was carried out, or refused with nothing changed
 pub record IsStep {T : Type 0} (eq : T → T → Bool) (command : Command T) (olds news : List (Layout T)) (result : Result (Reply T) Refusal) : Type 0 where

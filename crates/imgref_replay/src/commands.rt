@@ -42,6 +42,11 @@ pub enum Command<T> {
         first: Place,
         second: Place,
     },
+    /// The pixels of a window are written over those of another of its size, as they were before.
+    Blit {
+        source: Place,
+        target: Place,
+    },
     /// An image loses all cells that are no pixel: its buffer becomes its rows one after the other.
     Compact {
         image: usize,
@@ -72,4 +77,6 @@ pub enum Refusal {
     WindowOutside,
     /// The place isn't one of the window.
     PlaceOutside,
+    /// The two windows differ in width or height.
+    SizesDiffer,
 }

@@ -129,3 +129,14 @@ pub(crate) fn same<T>(
         second: place(alloc, second.0, second.1)?,
     })
 }
+
+pub(crate) fn blit<T>(
+    alloc: Global,
+    source: (usize, &[Window]),
+    target: (usize, &[Window]),
+) -> Result<Command<T>, AllocError> {
+    Ok(Command::Blit {
+        source: place(alloc, source.0, source.1)?,
+        target: place(alloc, target.0, target.1)?,
+    })
+}

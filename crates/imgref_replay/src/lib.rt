@@ -1,6 +1,8 @@
 //! Commands over images: nested windows, and lists of commands with their replies.
 #![tactic(auto)]
 
+#[cfg(test)]
+mod blit_tests;
 mod commands;
 #[cfg(test)]
 mod compact_tests;

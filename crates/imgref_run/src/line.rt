@@ -74,6 +74,11 @@ fn command_at(alloc: Global, word: &[u8], fields: &mut Parts<'_>) -> Result<Comm
             first: next_place(alloc, fields)?,
             second: next_place(alloc, fields)?,
         })
+    } else if word == b"blit".as_slice() {
+        Ok(Command::Blit {
+            source: next_place(alloc, fields)?,
+            target: next_place(alloc, fields)?,
+        })
     } else if word == b"compact".as_slice() {
         Ok(Command::Compact {
             image: next(fields).ok_or(LineFault::Bad)?,

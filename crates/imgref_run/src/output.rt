@@ -27,6 +27,7 @@ fn number_of(refusal: Refusal) -> u8
         Refusal::NoImage => 1,
         Refusal::WindowOutside => 2,
         Refusal::PlaceOutside => 3,
+        Refusal::SizesDiffer => 4,
     }
 }
 

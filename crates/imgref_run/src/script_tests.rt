@@ -106,6 +106,37 @@ fn windows_are_compared(rt: HostRuntime) -> Result<(), Fail> {
 }
 
 #[test]
+fn windows_are_copied(rt: HostRuntime) -> Result<(), Fail> {
+    let scripts = [
+        (
+            "image 3 3 4 1 2 3 0 4 5 6 0 7 8 9\nblit 0 0,0,2,2 0 1,1,2,2",
+            "done\nimage 3 3 4 1 2 3 0 4 1 2 0 7 4 5\n",
+        ),
+        (
+            "image 3 3 4 1 2 3 0 4 5 6 0 7 8 9\nblit 0 1,1,2,2 0 0,0,2,2",
+            "done\nimage 3 3 4 5 6 3 0 8 9 6 0 7 8 9\n",
+        ),
+        (
+            "image 2 2 3 1 2 9 3 4\nimage 2 2 2 5 6 7 8\nblit 1 - 0 -\nblit 0 1,0,1,2 1 0,0,1,2",
+            "done\ndone\nimage 2 2 3 5 6 9 7 8\nimage 2 2 2 6 6 8 8\n",
+        ),
+        (
+            "image 2 2 3 1 2 3 4 5\nblit 1 9,9,9,9 0 -",
+            "refused 1\nimage 2 2 3 1 2 3 4 5\n",
+        ),
+        (
+            "image 3 2 4 1 2 3 4 5 6 7 8 9\nget 1 - 0 0\nget 0 2,0,2,1 0 0\nget 0 - 3 0\nblit 0 0,0,1,1 0 0,0,2,1\nfill 0 3,0,0,2 9\nget 0 3,0,0,2 0 0",
+            "refused 1\nrefused 2\nrefused 3\nrefused 4\ndone\nrefused 3\nimage 3 2 4 1 2 3 4 5 6 7 8 9\n",
+        ),
+        (
+            "image 1 1 1 5\nblit 0 9,9,9,9 0 8,8,8,8\nblit 0 - 0 1,1,1,1\nblit 0 0,0,0,1 0 1,1,0,0",
+            "refused 2\nrefused 2\nrefused 4\nimage 1 1 1 5\n",
+        ),
+    ];
+    Ok(expect_outputs(&rt, rt.alloc(), &scripts)?)
+}
+
+#[test]
 fn images_are_compacted(rt: HostRuntime) -> Result<(), Fail> {
     let scripts = [
         (
@@ -196,6 +227,9 @@ fn bad_second_lines_are_named(rt: HostRuntime) -> Result<(), Fail> {
         "same 0 - 1 0,0,1",
         "same 0 - 1 - 1",
         "Same 0 - 1 -",
+        "blit 0 - 1",
+        "blit 0 - 1 - 0 0",
+        "blit 0 -/- 1 -",
         "compact",
         "compact -",
         "compact 00",

@@ -1,0 +1,75 @@
+-- A window of an image of a list, copied over another window of the list.
+use Rattle.std.proofs.Common.{◌≡◌, ℕ, ◌-◌, ◌<◌, ◌==◌, Bool, false, not, List, [], ◌∷◌, ◌++◌, length, map, set, get_or, Some, None, Vec, refl, sym, ap, ◌∙◌, arith}
+use Rattle.std.specs.Prelude.{All, Ok}
+use Rattle.std.specs.Option.{option_map_or}
+use Rattle.std.proofs.lemmas.Bool.{cond-false, and_from, eq-eqb}
+use Rattle.std.proofs.lemmas.List.{set-append_left, set-append_right, get_or_append_left, get_or-append_right}
+use Rattle.image_model.specs.Layout.{Layout, Fits, SameOutside}
+use Rattle.image_model.specs.Grid.{Grid, grid_of, patch}
+use Rattle.imgref.specs.Image.{vec_layout}
+use Rattle.imgref.specs.declared.img.Img.{Img}
+use Rattle.image_model.specs.Windows as model
+use Rattle.image_model.specs.Windows.{window_view}
+use Rattle.imgref_replay.specs.Commands.{grids_of, grid_at, window_named, view_named, differ_in_size, pair_faults, copy_faults, patched_at, meaning}
+use Rattle.imgref_replay.specs.Step.{first_fault, IsStep, ShowsCopy}
+use Rattle.imgref_replay.specs.declared.commands.Place.{Place}
+use Rattle.imgref_replay.specs.declared.commands.Command.TheVariants.{Blit}
+use Rattle.imgref_replay.specs.declared.commands.Refusal.TheVariants.{SizesDiffer}
+use Rattle.imgref_replay.specs.declared.commands.Reply.TheVariants.{Done}
+use Rattle.imgref_replay.proofs.Images.{grid_at-images, grids_set, fits_set, kept_set}
+use Rattle.imgref_replay.proofs.Steps.{faults_after}
+
+-- an image of the list that shows the copy, in its old image's place
+pub copied : {T Z : Type 0} (images : List (Img (Vec T Z))) (i left top : ℕ) (copy : Grid T) (image new : Img (Vec T Z)) → i < length images → image ≡ get_or images i image
+    → grid_of (vec_layout new) ≡ patch (grid_of (vec_layout image)) left top copy → SameOutside (vec_layout image) (vec_layout new) → Fits (vec_layout new) → All Fits (map vec_layout images)
+    → ShowsCopy i left top copy (map vec_layout images) (map vec_layout (set images i new))
+copied images i left top copy image new there is shows outside fits all_fit = record {
+  grids = grids_set images i new ∙ ap (set (grids_of images) i) (shows ∙ ap (λ g. patch g left top copy) (sym (grid_at-images images i image there is)));
+  kept = kept_set (λ _. false) images i image new there is (λ _ _. refl) outside;
+  fits = fits_set images i new fits all_fit;
+}
+
+-- windows of one size that two places name, with no other fault
+pub no_copy_fault : {T : Type 0} (source target : Place) (grids : List (Grid T)) (from to : model.Window) → None ≡ first_fault (pair_faults source target grids) → from ≡ window_named source grids → to ≡ window_named target grids
+    → from.width ≡ to.width → from.height ≡ to.height → None ≡ first_fault (copy_faults source target grids)
+no_copy_fault source target grids from to none from_is to_is wide high =
+    let v = window_named source grids in
+    let w = window_named target grids in
+    let width : v.width ≡ w.width = ap (λ u. u.width) (sym from_is) ∙ wide ∙ ap (λ u. u.width) to_is in
+    let height : v.height ≡ w.height = ap (λ u. u.height) (sym from_is) ∙ high ∙ ap (λ u. u.height) to_is in
+    let same : first_fault ((differ_in_size source target grids, SizesDiffer) ∷ []) ≡ None = cond-false (differ_in_size source target grids) (Some SizesDiffer) None (ap not (and_from (v.width == w.width) (v.height == w.height) (eq-eqb v.width w.width width) (eq-eqb v.height w.height height))) in
+    sym (faults_after (pair_faults source target grids) ((differ_in_size source target grids, SizesDiffer) ∷ []) (sym none) ∙ same)
+
+-- the command whose copy the list shows
+pub blitted : {T Z : Type 0} (eq : T → T → Bool) (images : List (Img (Vec T Z))) (news : List (Layout T)) (source target : Place) (from to : model.Window) → None ≡ first_fault (copy_faults source target (grids_of images))
+    → from ≡ window_named source (grids_of images) → to ≡ window_named target (grids_of images)
+    → ShowsCopy target.image to.left to.top (window_view (grid_at (grids_of images) source.image) from) (map vec_layout images) news → IsStep eq (Blit source target) (map vec_layout images) news (Ok Done)
+blitted {T} eq images news source target from to accepted from_is to_is shows =
+    let grids = grids_of images in
+    let i = target.image in
+    record {
+      fault = accepted;
+      answer = refl;
+      grids =
+          shows.grids
+          ∙ ap (λ v. set grids i (patch (grid_at grids i) to.left to.top (window_view (grid_at grids source.image) v))) from_is
+          ∙ ap (λ w. patched_at target w.left w.top (view_named source grids) grids) to_is
+          ∙ ap (λ o. option_map_or (λ _. grids) o ((meaning (Blit source target)).effect grids)) accepted;
+      kept = shows.kept;
+      fits = shows.fits;
+    }
+
+-- ---- a list in two parts
+
+module _ {X : Type 0} (all front back : List X) (n : ℕ) (parts : all ≡ front ++ back) (cut : length front ≡ n) where
+  pub in_front : (i : ℕ) (d : X) → i < n → get_or front i d ≡ get_or all i d
+  in_front i d below = sym (ap (λ xs. get_or xs i d) parts ∙ get_or_append_left front back d i (omega (arith, cut)))
+
+  pub in_back : (d : X) → get_or back 0 d ≡ get_or all n d
+  in_back d = sym (ap (λ xs. get_or xs n d) parts ∙ get_or-append_right front back n n d cut (omega arith) ∙ ap (λ k. get_or back k d) (let none : n - n ≡ 0 = omega arith in none))
+
+  pub set_front : (i : ℕ) (x : X) → i < n → set front i x ++ back ≡ set all i x
+  set_front i x below = sym (ap (λ xs. set xs i x) parts ∙ set-append_left front back i x (omega (arith, cut)))
+
+  pub set_back : (x : X) → front ++ set back 0 x ≡ set all n x
+  set_back x = sym (ap (λ xs. set xs n x) parts ∙ set-append_right front back n n x cut (omega arith) ∙ ap (λ k. front ++ set back k x) (let none : n - n ≡ 0 = omega arith in none))
