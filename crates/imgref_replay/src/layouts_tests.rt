@@ -3,7 +3,7 @@ ghost use Rattle.image_model.specs.Layout.{Fits};
 ghost use Rattle.image_model.specs.Grid.{Agree, grid_of};
 ghost use Rattle.imgref.specs.Image.{vec_layout};
 
-use crate::fixtures::{A, count, fill, get, image, put, same, window};
+use crate::fixtures::{A, blit, count, fill, get, image, put, same, window};
 use crate::{Command, Refusal, Reply, two_layouts};
 use imgref::ImgVec;
 use std::alloc::{AllocError, Global};
@@ -76,6 +76,9 @@ fn three_images(rt: &impl Abort, alloc: Global) -> Result<bool, AllocError> {
         Command::Compact { image: 0 },
         count(alloc, 0, &[], 6u8)?,
         same(alloc, (0, &left), (1, &[]))?,
+        blit(alloc, (1, &[]), (0, &left))?,
+        same(alloc, (0, &left), (1, &[]))?,
+        blit(alloc, (0, &left), (0, &[window(1, 0, 2, 2)]))?,
         get(alloc, 1, &[], 1, 1)?,
         count(alloc, 2, &[], 0u8)?,
         get(alloc, 2, &[], 0, 0)?,
@@ -94,8 +97,8 @@ fn three_images(rt: &impl Abort, alloc: Global) -> Result<bool, AllocError> {
     };
     let mut a = [first.0, second.0, third.0];
     let mut b = [first.1, second.1, third.1];
-    let mut replies_a = [Reply::Done; 9];
-    let mut replies_b = [Reply::Truth(true); 9];
+    let mut replies_a = [Reply::Done; 12];
+    let mut replies_b = [Reply::Truth(true); 12];
     two_layouts(&mut a, &mut b, &commands, &mut replies_a, &mut replies_b);
     let wanted = [
         Reply::Truth(true),
@@ -104,13 +107,16 @@ fn three_images(rt: &impl Abort, alloc: Global) -> Result<bool, AllocError> {
         Reply::Done,
         Reply::Counted(2),
         Reply::Truth(false),
+        Reply::Done,
+        Reply::Truth(true),
+        Reply::Done,
         Reply::Pixel(6u8),
         Reply::Counted(0),
         Reply::Refused(Refusal::PlaceOutside),
     ];
     assert!(rt; replies_a.as_slice() == wanted.as_slice());
     assert!(rt; replies_b.as_slice() == wanted.as_slice());
-    assert_eq!(rt; a[0].buf().as_slice(), [1u8, 2, 3, 6, 6, 7].as_slice());
+    assert_eq!(rt; a[0].buf().as_slice(), [1u8, 1, 6, 5, 5, 6].as_slice());
     assert_eq!(rt; b[0].buf().as_slice(), a[0].buf().as_slice());
     assert_eq!(rt; a[1].buf().as_slice(), [1u8, 6, 5, 6].as_slice());
     assert_eq!(rt; b[1].buf().as_slice(), [1u8, 6, 9, 9, 5, 6].as_slice());
