@@ -1,0 +1,105 @@
+#!/usr/bin/env python3
+"""Shows that each layer rests on the one below: without a clause of the lower call, the upper call is no longer accepted.
+
+A body of `as_contiguous_buf` that moves pixel by pixel, or one of `move_window` that goes by no mover, could meet every
+contract. So each case takes a clause out of the contract of a lower function, in a copy of the repository, and asks
+`rt check` about the crate of the upper one: the lower crate must still be proved, and the upper function must not be. A body
+that goes round the lower one needs none of its clauses, is still accepted, and fails the case.
+"""
+import pathlib
+import re
+import subprocess
+import sys
+
+sys.path.insert(0, str(pathlib.Path(__file__).resolve().parent.parent))
+from cases import Cases, changeable_copy
+
+ROUND = "layer_goes_round"
+
+# The lower crate, file and function, and the clauses taken out; the upper crate and function; and what of the lower crate
+# goes with the clauses, since it rests on them too.
+CASES = [
+    ("row_mover", "moves", "compact_rows", ["cells"], "image_moves", "packing::with_joined_rows", []),
+    ("image_moves", "packing", "with_joined_rows", ["cells"], "image_moves", "packing::join_rows", []),
+    ("image_moves", "packing", "join_rows", ["cells"], "image_moves", "packing::pack", []),
+    ("image_moves", "packing", "pack", ["layout"], "imgref", "contiguous::ImgVec+T::as_contiguous_buf", []),
+    ("imgref", "contiguous", "as_contiguous_buf", ["after", "grid"], "imgref_replay", "step::compact", ["into_contiguous_buf"]),
+    ("row_mover", "moves", "move_rows", ["cells"], "image_moves", "moving::with_moved_window", []),
+    ("image_moves", "moving", "with_moved_window", ["grid"], "image_moves", "moving::move_pixels", []),
+    ("image_moves", "moving", "move_pixels", ["grid"], "imgref", "img::Img::move_window", []),
+    ("imgref", "blit", "move_window", ["grid"], "imgref_replay", "step::move_within", []),
+    ("imgref", "blit", "copy_window", ["grid"], "imgref_replay", "step::copy_over", []),
+]
+
+
+def clause(name):
+    return re.compile(rf"^ *ensures\*? {name} \{{.*\}}\n", re.M)
+
+
+def span(text, name):
+    """Where that function's text begins and ends, with its doc comment."""
+    found = re.search(rf"(?:^ *///?[^\n]*\n)*^( *)(?:pub )?fn {name}\b.*?^\1\}}\n", text, re.M | re.S)
+    if not found:
+        raise ValueError(f"error: there is no function {name}")
+    return found.span()
+
+
+def without(text, name, clauses, more):
+    """The file without those clauses of that function, and without those functions."""
+    start, end = span(text, name)
+    function = text[start:end]
+    for it in clauses:
+        function, count = clause(it).subn("", function)
+        if count != 1:
+            raise ValueError(f"error: {name} has {count} clauses {it}")
+    text = text[:start] + function + text[end:]
+    for it in more:
+        start, end = span(text, it)
+        text = text[:start] + text[end:]
+    return text
+
+
+def drop_answers(crate, name, clauses):
+    """Takes out the written answers that prove those clauses."""
+    for path in crate.glob(f"proofs/**/{name}/Answers.antt"):
+        blocks = path.read_text().split("\n\n")
+        kept = [it for it in blocks if not any(f"-clause-{clause} " in it for clause in clauses)]
+        path.write_text("\n\n".join(kept).rstrip("\n") + "\n")
+
+
+def said_of(copy, lower, file, name, clauses, upper, more):
+    """What rt check says of the upper crate with the clauses of the lower function taken out."""
+    crate = copy / "crates" / lower
+    path = crate / f"src/{file}.rt"
+    kept = {it: it.read_text() for it in [path, *crate.glob(f"proofs/**/{name}/Answers.antt")]}
+    try:
+        path.write_text(without(kept[path], name, clauses, more))
+        drop_answers(crate, name, clauses)
+        return subprocess.run(["rt", "check"], cwd=copy / "crates" / upper, stdin=subprocess.DEVNULL, stdout=subprocess.PIPE, stderr=subprocess.STDOUT, text=True).stdout
+    finally:
+        for it, text in kept.items():
+            it.write_text(text)
+
+
+def unproved(said, crate):
+    """The functions of a crate that have no proof, but those that only call one of these."""
+    found = re.findall(rf"^fn {crate}::(\S+): (no proof|not proved)(.*)$", said, re.M)
+    return [name for name, _, why in found if "it calls" not in why]
+
+
+def main():
+    cases = Cases()
+    with changeable_copy() as copy:
+        for lower, file, name, clauses, upper, user, more in CASES:
+            try:
+                said = said_of(copy, lower, file, name, clauses, upper, more)
+            except ValueError as why:
+                said = str(why)
+            is_well = unproved(said, upper) == [user] and (lower == upper or not unproved(said, lower))
+            label = f"{ROUND}: {upper}::{user} without {', '.join(clauses)} of {lower}::{name} is refused"
+            cases.count(label, is_well, "\n".join(it[:300] for it in said.split("\n") if "error" in it or "no proof" in it or "not proved" in it))
+    return cases.end()
+
+
+if __name__ == "__main__":
+    sys.exit(main())
