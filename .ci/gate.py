@@ -17,7 +17,7 @@ import time
 
 ROOT = pathlib.Path(__file__).resolve().parent.parent
 # The checks that run what the proofs built, so come after them.
-OF_BUILT = ("program_ends.py", "refused_growths.py")
+OF_BUILT = ("program_ends.py", "refused_growths.py", "scripts.py")
 # What the quick gate does in the place of `rt ci`.
 ALL_TESTS = ["rt", "all", "test"]
 COUNT = re.compile(r"(\d+) passed, (\d+) failed")

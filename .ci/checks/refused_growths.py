@@ -1,7 +1,7 @@
 #!/usr/bin/env python3
 """Refuses each growth of the program and of every test in turn, on what `rt ci` built.
 
-No clause can say that memory is found, and every contract allows the answer that none was. So the program is run on the
+No clause can say that memory is found, and every contract allows the answer that none was. So the program is run on each
 example with its first growth refused, then with its second, until a run has none to refuse: each time but the last it must
 print `fault memory` alone and end with status 3. Each test is run so too, and must pass or hand the refusal on as its
 result: an assertion that fails shows an answer that changed in the place of the error.
@@ -15,11 +15,11 @@ import sys
 import tempfile
 
 sys.path.insert(0, str(pathlib.Path(__file__).resolve().parent.parent))
+import model
 from cases import ROOT, Cases, built, crates
 
 REFUSES = pathlib.Path(__file__).resolve().with_name("refused_growth.c")
-SCRIPT = (ROOT / "examples/first.script").read_bytes()
-WRITTEN = (ROOT / "crates/imgref_run/stdout").read_bytes()
+SCRIPTS = sorted((ROOT / "examples").glob("*.script"))
 # What a test says whose result is the refusal: of a call, of a push to a vector, and of a run.
 HANDED_ON = (b"error: AllocError\n", b"error: AllocFailed { .. }\n", b"error: Memory\n")
 # No test and no program takes more growths than this.
@@ -46,11 +46,11 @@ def runs(library, command, given=b""):
     raise ValueError(f"{command}: it has no end")
 
 
-def of_program(library, program):
-    """How many growths were refused, and what is wrong."""
+def of_program(library, program, script):
+    """How many growths were refused on a script, and what is wrong."""
     bad = []
-    for number, (ran, was_refused) in enumerate(runs(library, [program], SCRIPT), 1):
-        wanted = (b"fault memory\n", 3) if was_refused else (WRITTEN, 0)
+    for number, (ran, was_refused) in enumerate(runs(library, [program], script), 1):
+        wanted = (b"fault memory\n", 3) if was_refused else model.answer(script)
         if (ran.stdout, ran.returncode) != wanted:
             bad.append(f"growth {number}: it printed {ran.stdout!r} and ended with status {ran.returncode}")
     return number - 1, bad
@@ -84,8 +84,9 @@ def main():
         programs = built("imgref_run", ("", ".by-rattle"))
         cases.count("both builds of the program are there", len(programs) == 2, "crates/imgref_run/out lacks one, or it is older than its sources: `rt ci` makes them")
         for program in programs:
-            growths, bad = of_program(library, program)
-            cases.count(f"{program.name}: each of {growths} growths refused is told, and nothing else is written", growths > 0 and not bad, "\n".join(bad[:3]))
+            for script in SCRIPTS:
+                growths, bad = of_program(library, program, script.read_bytes())
+                cases.count(f"{program.name}, {script.name}: each of {growths} growths refused is told, and nothing else is written", growths > 0 and not bad, "\n".join(bad[:3]))
         for crate in filter(has_tests, crates()):
             for program in built(crate, ("_tests",)) or [None]:
                 found = [*pool.map(lambda test: of_test(library, program, test), tests_of(program) if program else [])]
