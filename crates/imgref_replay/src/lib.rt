@@ -6,6 +6,7 @@ mod blit_tests;
 mod commands;
 #[cfg(test)]
 mod compact_tests;
+mod copy;
 #[cfg(test)]
 mod fixtures;
 #[cfg(test)]

@@ -1,18 +1,19 @@
 //! One command, carried out over images or refused by its first fault.
 
-ghost use Rattle.std.specs.Prelude.{◌≡◌, ◌≢◌, ◌<◌, ◌+◌, ◌^◌, ◌∷◌, [], All, IfOk, OnOk, length, map, count_by};
+ghost use Rattle.std.specs.Prelude.{◌≡◌, ◌<◌, ◌+◌, ◌^◌, ◌∷◌, [], All, IfOk, OnOk, length, map, count_by};
 ghost use Rattle.std.specs.Result.{result_err};
-ghost use Rattle.image_model.specs.Layout.{Fits, SameOutside};
-ghost use Rattle.image_model.specs.Grid.{grid_of, patch};
+ghost use Rattle.image_model.specs.Layout.{Fits};
+ghost use Rattle.image_model.specs.Grid.{grid_of};
 ghost use Rattle.image_model.specs.Rows.{pixels};
-ghost use Rattle.image_model.specs.Windows.{IsInside, window_view};
-ghost use Rattle.imgref.specs.Image.{vec_layout, ref_layout, width_of, height_of};
+ghost use Rattle.image_model.specs.Windows.{IsInside};
+ghost use Rattle.imgref.specs.Image.{vec_layout, ref_layout};
 ghost use Rattle.imgref.specs.Window.{as_window};
 ghost use Rattle.imgref_replay.specs.Commands.{grids_of, grid_at, window_named, view_named, window_faults, pair_faults};
-ghost use Rattle.imgref_replay.specs.Step.{first_fault, IsStep, ShowsCopy};
+ghost use Rattle.imgref_replay.specs.Step.{first_fault, IsStep};
 ghost use Rattle.imgref_replay.specs.Run.{IsRun};
 
 use crate::commands::{Command, Place, Refusal, Reply};
+use crate::copy::copy_window;
 use crate::path::path_window;
 use imgref::{ImgRef, ImgVec, Window};
 
@@ -163,87 +164,6 @@ fn same<T: Copy + Eq>(
     Ok(Reply::Truth(one.same_pixels(two)))
 }
 
-/// Copies a window of one image over a window of its size in another image.
-fn copy_over<T: Copy>(image: &mut ImgVec<T>, to: Window, source: &ImgVec<T>, from: Window)
-    requires fits { Fits (vec_layout image.old) }
-    requires inside { IsInside (width_of image.old) (height_of image.old) (as_window to) }
-    requires source_fits { Fits (vec_layout source.now) }
-    requires source_inside { IsInside (width_of source.now) (height_of source.now) (as_window from) }
-    requires same_width { from.width ≡ to.width }
-    requires same_height { from.height ≡ to.height }
-    ensures grid { grid_of (vec_layout image.new) ≡ patch (grid_of (vec_layout image.old)) to.left to.top (window_view (grid_of (vec_layout source.now)) (as_window from)) }
-    ensures outside { SameOutside (vec_layout image.old) (vec_layout image.new) }
-    ensures fits { Fits (vec_layout image.new) }
-{
-    let seen = source.sub_image(from.left, from.top, from.width, from.height);
-    image.copy_window(to.left, to.top, seen);
-}
-
-/// Copies a window of one image of a list over a window of its size in another image of it.
-fn copy_between<T: Copy>(
-    images: &mut [ImgVec<T>],
-    target: usize,
-    to: Window,
-    source: usize,
-    from: Window,
-)
-    requires fit { All Fits (map vec_layout images.old) }
-    requires target { target < length images.old }
-    requires source { source < length images.old }
-    requires differ { source ≢ target }
-    requires target_inside { let g = grid_at (grids_of images.old) target in IsInside g.width g.height (as_window to) }
-    requires source_inside { let g = grid_at (grids_of images.old) source in IsInside g.width g.height (as_window from) }
-    requires same_width { from.width ≡ to.width }
-    requires same_height { from.height ≡ to.height }
-    ensures { ShowsCopy target to.left to.top (window_view (grid_at (grids_of images.old) source) (as_window from)) (map vec_layout images.old) (map vec_layout images.new) }
-{
-    if source < target {
-        let (front, back) = images.split_at_mut(target);
-        copy_over(&mut back[0], to, &front[source], from);
-    } else {
-        let (front, back) = images.split_at_mut(source);
-        copy_over(&mut front[target], to, &back[0], from);
-    }
-}
-
-/// Copies a window of an image over another of its size in the same image, overlapping or not.
-fn move_within<T: Copy>(images: &mut [ImgVec<T>], image: usize, to: Window, from: Window)
-    requires fit { All Fits (map vec_layout images.old) }
-    requires image { image < length images.old }
-    requires target_inside { let g = grid_at (grids_of images.old) image in IsInside g.width g.height (as_window to) }
-    requires source_inside { let g = grid_at (grids_of images.old) image in IsInside g.width g.height (as_window from) }
-    requires same_width { from.width ≡ to.width }
-    requires same_height { from.height ≡ to.height }
-    ensures { ShowsCopy image to.left to.top (window_view (grid_at (grids_of images.old) image) (as_window from)) (map vec_layout images.old) (map vec_layout images.new) }
-{
-    images[image].move_window(
-        from.left,
-        from.top,
-        to.left,
-        to.top,
-        from.width,
-        from.height,
-    );
-}
-
-/// Copies a window of an image of a list over a window of its size in the same or another image.
-fn copy<T: Copy>(images: &mut [ImgVec<T>], target: usize, to: Window, source: usize, from: Window)
-    requires fit { All Fits (map vec_layout images.old) }
-    requires target { target < length images.old }
-    requires source { source < length images.old }
-    requires target_inside { let g = grid_at (grids_of images.old) target in IsInside g.width g.height (as_window to) }
-    requires source_inside { let g = grid_at (grids_of images.old) source in IsInside g.width g.height (as_window from) }
-    requires same_width { from.width ≡ to.width }
-    requires same_height { from.height ≡ to.height }
-    ensures { ShowsCopy target to.left to.top (window_view (grid_at (grids_of images.old) source) (as_window from)) (map vec_layout images.old) (map vec_layout images.new) }
-{
-    if source == target {
-        move_within(images, target, to, from);
-    } else {
-        copy_between(images, target, to, source, from);
-    }
-}
-
 /// Writes the pixels of one window, as they were, over those of another of its size.
 fn blit<T: Copy + Eq>(
     images: &mut [ImgVec<T>],
@@ -257,7 +177,7 @@ fn blit<T: Copy + Eq>(
     if from.width != to.width || from.height != to.height {
         return Err(Refusal::SizesDiffer);
     }
-    copy(images, target.image, to, source.image, from);
+    copy_window(images, target.image, to, source.image, from);
     Ok(Reply::Done)
 }
 

@@ -8,7 +8,7 @@ use Rattle.imgref_replay.specs.Commands.{grid_at, grids_of}
 use Rattle.imgref_replay.specs.Step.{ShowsCopy}
 use Rattle.imgref_replay.proofs.Images.{fits_at, inside_at, grid_at-images}
 use Rattle.imgref_replay.proofs.Copies.{copied, in_front, in_back, set_front, set_back}
-use Rattle.imgref_replay.proofs.step.copy_between.Goals as goal
+use Rattle.imgref_replay.proofs.copy.copy_between.Goals as goal
 
 -- ---- the image that is read stands in front
 

@@ -6,7 +6,7 @@ use Rattle.imgref.specs.Window.{as_window}
 use Rattle.imgref_replay.specs.Commands.{grid_at, grids_of}
 use Rattle.imgref_replay.proofs.Images.{fits_at, inside_at, grid_at-images}
 use Rattle.imgref_replay.proofs.Copies.{copied}
-use Rattle.imgref_replay.proofs.step.move_within.Goals as goal
+use Rattle.imgref_replay.proofs.copy.move_within.Goals as goal
 
 pub move_window-requires-clause-fits : goal.move_window-requires-clause-fits
 move_window-requires-clause-fits g c = fits_at c.args.images.now c.args.image _ c.requires.image (ap (get_or c.args.images.now c.args.image) c.index-images-image.is) c.requires.fit
