@@ -27,8 +27,8 @@ CASES = [
     ("row_mover", "moves", "move_rows", ["cells"], "image_moves", "moving::with_moved_window", []),
     ("image_moves", "moving", "with_moved_window", ["grid"], "image_moves", "moving::move_pixels", []),
     ("image_moves", "moving", "move_pixels", ["grid"], "imgref", "img::Img::move_window", []),
-    ("imgref", "blit", "move_window", ["grid"], "imgref_replay", "step::move_within", []),
-    ("imgref", "blit", "copy_window", ["grid"], "imgref_replay", "step::copy_over", []),
+    ("imgref", "blit", "move_window", ["grid"], "imgref_replay", "copy::move_within", []),
+    ("imgref", "blit", "copy_window", ["grid"], "imgref_replay", "copy::copy_over", []),
 ]
 
 
