@@ -28,7 +28,7 @@ CASES = [
     ("image_moves", "moving", "with_moved_window", ["grid"], "image_moves", "moving::move_pixels", []),
     ("image_moves", "moving", "move_pixels", ["grid"], "imgref", "img::Img::move_window", []),
     ("imgref", "blit", "move_window", ["grid"], "imgref_replay", "copy::move_within", []),
-    ("imgref", "blit", "copy_window", ["grid"], "imgref_replay", "copy::copy_over", []),
+    ("imgref", "blit", "copy_from", ["grid"], "imgref_replay", "copy::copy_cells", []),
 ]
 
 
