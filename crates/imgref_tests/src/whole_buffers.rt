@@ -3,7 +3,7 @@
 ghost use Rattle.std.specs.Prelude.{◌≡◌, length, IfOk};
 
 use crate::fixtures::{PADDED, cells_of, padded};
-use imgref::{Img, ImgRef, ImgVec};
+use imgref::{Img, ImgRef, ImgRefMut, ImgVec};
 use std::test::Fail;
 
 // Each cell plus 1, in the same buffer.
@@ -78,6 +78,10 @@ fn an_image_that_does_not_fit_gives_each_cell(rt: HostRuntime) -> Result<(), Fai
     let short = Img::new_stride(PADDED.as_slice(), 3, 3, usize::MAX);
     assert!(rt; !short.is_valid());
     let found: Vec<u8> = short.iter().copied().collect(rt.alloc())?;
+    assert_eq!(rt; found.as_slice(), PADDED.as_slice());
+    let mut cells = PADDED;
+    let lent: ImgRefMut<'_, u8> = Img::new_stride(cells.as_mut_slice(), 3, 3, usize::MAX);
+    let found: Vec<u8> = lent.iter().copied().collect(rt.alloc())?;
     assert_eq!(rt; found.as_slice(), PADDED.as_slice());
     let found: Vec<u8> = padded(rt.alloc())?.into_iter().collect(rt.alloc())?;
     assert_eq!(rt; found.as_slice(), PADDED.as_slice());
