@@ -1,0 +1,28 @@
+-- As many are left as stand from the next one on in its line, and in the lines below.
+use Rattle.std.proofs.Common.{◌≡◌, ◌+◌, ◌-◌, ◌*◌, ◌^◌, ◌<◌, ◌≤◌, true, inl, inr, length, ap, sym, subst, ◌∙◌, arith}
+use Rattle.std.proofs.lemmas.Bool.{cases_lt}
+use Rattle.std.proofs.lemmas.Bool.Decides.{nat_tests}
+use Rattle.image_tiles.specs.Tiling.{has_tile, windows_left}
+use Rattle.image_tiles.proofs.Tilings.{counted, sum_is, sum_past}
+use Rattle.image_tiles.proofs.tiling.Tiling.count_left.Goals as goal
+
+pub returns-in-Some-clause-some : goal.returns-in-Some-clause-some
+returns-in-Some-clause-some c =
+    let t = c.args.self.now in
+    let here : has_tile t ≡ true = grind (arith, nat_tests, c.if-not-has_more.false, c.has_more.ensures.value) in
+    let is = counted t here in
+    sum_is c.checked_add.result c.in-Some.others (t.columns - t.column) (length (windows_left t)) c.checked_add.ensures (omega (arith, is, c.in-Some.ensures.1))
+
+pub returns-in-Some-clause-none : goal.returns-in-Some-clause-none
+returns-in-Some-clause-none c =
+    let t = c.args.self.now in
+    let here : has_tile t ≡ true = grind (arith, nat_tests, c.if-not-has_more.false, c.has_more.ensures.value) in
+    let is = counted t here in
+    sum_past c.checked_add.result c.in-Some.others (t.columns - t.column) (length (windows_left t)) c.checked_add.ensures (omega (arith, is, c.in-Some.ensures.1))
+
+pub returns-in-None-clause-none : goal.returns-in-None-clause-none
+returns-in-None-clause-none c none =
+    let t = c.args.self.now in
+    let here : has_tile t ≡ true = grind (arith, nat_tests, c.if-not-has_more.false, c.has_more.ensures.value) in
+    let is = counted t here in
+    elim (cases_lt ((t.lines - t.line - 1) * t.columns) (2 ^ 64)) [ inl below ↦ absurd (c.in-None.ensures below) | inr past ↦ omega (arith, past, is) ]

@@ -1,0 +1,10 @@
+-- The next window begins within the size.
+use Rattle.std.proofs.Common.{arith}
+use Rattle.image_tiles.proofs.Tilings.{begins}
+use Rattle.image_tiles.proofs.tiling.Tiling.window_now.Goals as goal
+
+pub returns-clause-some_width : goal.returns-clause-some_width
+returns-clause-some_width c =
+    let t = c.args.self.now in
+    let at = begins t.width t.height t.tile_width t.tile_height t.wide t.high t.columns t.lines t.columns_are t.lines_are t.column t.line c.requires.more in
+    omega (arith, c.min.ensures, at.0, t.wide)

@@ -1,0 +1,22 @@
+-- What a tiling leaves.
+use Rattle.std.specs.Prelude.{◌+◌, ◌*◌, Bool, nat_lt, if◌then◌else◌, List, [], drop}
+use Rattle.image_model.specs.Grid.{is_place}
+use Rattle.image_model.specs.Windows.{Window}
+use Rattle.image_model.specs.Tiles.{tiles, tile}
+use Rattle.image_tiles.specs.declared.tiling.Tiling.{Tiling}
+
+-- whether a tile is left
+abbrev pub has_tile : Tiling → Bool
+has_tile t = is_place t.columns t.lines t.column t.line
+
+-- the windows of a tiling that are left: those from its column of its line on
+unfoldable pub windows_left : Tiling → List Window
+windows_left t = if has_tile t then drop (t.line * t.columns + t.column) (tiles t.width t.height t.tile_width t.tile_height) else []
+
+-- the next window of a tiling
+abbrev pub tile_now : Tiling → Window
+tile_now t = tile t.width t.height t.tile_width t.tile_height t.column t.line
+
+-- a tiling after one more window: the column behind, or the first one of the line below
+abbrev pub stepped : Tiling → Tiling
+stepped t = if nat_lt (t.column + 1) t.columns then record t { column = t.column + 1 } else record t { column = 0; line = t.line + 1 }

@@ -1,0 +1,168 @@
+//! The tiles of a size, by their numbers alone.
+
+ghost use Rattle.std.specs.Prelude.{◌≡◌, ◌≤◌, ◌<◌, ◌^◌, ◌∷◌, [], All, IsTrue, not, length, IfSome, None};
+ghost use Rattle.image_model.specs.Tiles.{tiles, tile_count, EachPlaceInOne};
+ghost use Rattle.image_model.specs.Windows.{IsInside};
+ghost use Rattle.imgref.specs.Window.{as_window};
+
+use imgref::Window;
+use std::iter::FusedIterator;
+
+// How many tiles begin below a length.
+pub(crate) fn tiles_along(len: usize, tile: usize) -> usize
+    requires { 0 < tile }
+    ensures value { result ≡ tile_count tile len }
+    ensures few { result ≤ len }
+{
+    if len == 0 { 0 } else { (len - 1) / tile + 1 }
+}
+
+/// The windows that cover a size: their corners are the multiples of the tile size, and they are cut
+/// at the right and the lower edge. Row by row, from left to right.
+#[derive(Drop)]
+pub struct Tiling {
+    width: usize,
+    height: usize,
+    tile_width: usize,
+    tile_height: usize,
+    // How many tiles stand in a line, and how many lines there are.
+    columns: usize,
+    lines: usize,
+    // Where the next tile stands: counted in tiles, so that no sum of corners can wrap.
+    column: usize,
+    line: usize,
+    ghost wide: { 0 < tile_width },
+    ghost high: { 0 < tile_height },
+    ghost columns_are: { columns ≡ tile_count tile_width width },
+    ghost lines_are: { lines ≡ tile_count tile_height height },
+}
+
+impl Tiling {
+    ghost use Rattle.image_tiles.specs.Tiling.{windows_left, stepped, tile_now, has_tile};
+
+    /// The tiles of `tile_width` by `tile_height` pixels of a size. Both tile sizes are positive; all
+    /// four numbers may go up to the end of `usize`. A size with no place has no tile.
+    #[tactic(auto, unfolding(crate::specs::Tiling::windows_left))]
+    pub fn new(width: usize, height: usize, tile_width: usize, tile_height: usize) -> Tiling
+        requires wide { 0 < tile_width }
+        requires high { 0 < tile_height }
+        ensures windows { windows_left result ≡ tiles width height tile_width tile_height }
+        ensures inside { All (IsInside width height) (windows_left result) }
+        ensures each_once { EachPlaceInOne width height (windows_left result) }
+    {
+        Tiling {
+            width,
+            height,
+            tile_width,
+            tile_height,
+            columns: tiles_along(width, tile_width),
+            lines: tiles_along(height, tile_height),
+            column: 0,
+            line: 0,
+        }
+    }
+
+    // Whether a tile is left.
+    #[tactic(auto, unfolding(crate::specs::Tiling::windows_left))]
+    pub(crate) fn has_more(&self) -> bool
+        ensures value { result ≡ has_tile self.now }
+        ensures none { IsTrue (not result) → windows_left self.now ≡ [] }
+    {
+        self.column < self.columns && self.line < self.lines
+    }
+
+    // The next window.
+    fn window_now(&self) -> Window
+        requires more { IsTrue (has_tile self.now) }
+        ensures value { as_window result ≡ tile_now self.now }
+        ensures some_width { 0 < result.width }
+        ensures some_height { 0 < result.height }
+    {
+        let left = self.column * self.tile_width;
+        let top = self.line * self.tile_height;
+        Window {
+            left,
+            top,
+            width: self.tile_width.min(self.width - left),
+            height: self.tile_height.min(self.height - top),
+        }
+    }
+
+    // Goes on to the window behind.
+    fn advance(&mut self)
+        requires more { IsTrue (has_tile self.old) }
+        ensures { self.new ≡ stepped self.old }
+    {
+        if self.column + 1 < self.columns {
+            self.column += 1;
+        } else {
+            self.column = 0;
+            self.line += 1;
+        }
+    }
+
+    // The next window, which is taken.
+    pub(crate) fn next_window(&mut self) -> Window
+        requires more { IsTrue (has_tile self.old) }
+        ensures value { as_window result ≡ tile_now self.old }
+        ensures steps { self.new ≡ stepped self.old }
+        ensures gives { windows_left self.old ≡ as_window result ∷ windows_left self.new }
+        ensures inside { IsInside self.old.width self.old.height (as_window result) }
+        ensures some_width { 0 < result.width }
+        ensures some_height { 0 < result.height }
+    {
+        let window = self.window_now();
+        self.advance();
+        window
+    }
+
+    // How many tiles are left, where the number fits.
+    #[tactic(auto, unfolding(crate::specs::Tiling::windows_left))]
+    fn count_left(&self) -> Option<usize>
+        ensures some { IfSome result (λ n. n ≡ length (windows_left self.now)) }
+        ensures none { result ≡ None → 2 ^ 64 ≤ length (windows_left self.now) }
+    {
+        if !self.has_more() {
+            return Some(0);
+        }
+        let below = self.lines - self.line - 1;
+        match below.checked_mul(self.columns) {
+            Some(others) => others.checked_add(self.columns - self.column),
+            None => None,
+        }
+    }
+}
+
+impl Iterator for Tiling {
+    type Item = Window;
+
+    ghost use Rattle.std.specs.Prelude.{◌≡◌, ◌<◌, ◌^◌, length, Some, IfSome};
+    ghost use Rattle.std.specs.Iterator.{YieldsFirstBy, item_count, UpTo};
+    ghost use Rattle.std.specs.Iterator.SizeHint.{IsWithinCount};
+    ghost use Rattle.image_tiles.specs.Tiling.{windows_left};
+
+    ghost next_gives = { YieldsFirstBy as_window windows_left };
+
+    ghost remaining = { item_count windows_left };
+
+    fn next(&mut self) -> Option<Window> {
+        if self.has_more() {
+            Some(self.next_window())
+        } else {
+            None
+        }
+    }
+
+    fn size_hint(&self) -> (usize, Option<usize>)
+        ensures lower { IsWithinCount result.0 (item_count windows_left self.now) }
+        ensures upper { IfSome result.1 (UpTo (item_count windows_left self.now)) }
+        ensures exact { length (windows_left self.now) < 2 ^ 64 → (result.0 ≡ length (windows_left self.now)) × (result.1 ≡ Some (length (windows_left self.now))) }
+    {
+        match self.count_left() {
+            Some(left) => (left, Some(left)),
+            None => (usize::MAX, None),
+        }
+    }
+}
+
+impl FusedIterator for Tiling {}
