@@ -1,1 +1,4 @@
 pub mod Tilings
+pub mod BandsLeft
+pub mod BandsCut
+pub mod Values

@@ -1,1 +1,2 @@
 pub mod Tiling
+pub mod Bands

@@ -5,8 +5,10 @@
 //! calls of `imgref` alone.
 #![tactic(auto)]
 
+mod bands;
 #[cfg(test)]
 mod tests;
 mod tiling;
 
+pub use bands::BandsMut;
 pub use tiling::Tiling;

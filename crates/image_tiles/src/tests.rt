@@ -1,9 +1,26 @@
 //! What tiles and bands are, by examples.
 
-use crate::Tiling;
+use crate::{BandsMut, Tiling};
+use imgref::{Img, ImgRefMut};
+use std::iter::ExactSizeIterator;
 
 // The end of `usize`.
 const GREATEST: usize = usize::MAX;
+
+// Three by three with one cell of padding between two rows.
+const SQUARE: [u8; 11] = [1, 2, 3, 0, 4, 5, 6, 0, 7, 8, 9];
+
+// Writes a pixel where the image has the place, and answers whether it has.
+fn write<T>(image: &mut ImgRefMut<'_, T>, x: usize, y: usize, value: T) -> bool
+where
+    T: Drop,
+{
+    if !image.is_valid() || x >= image.width() || y >= image.height() {
+        return false;
+    }
+    image[(x, y)] = value;
+    true
+}
 
 // Left, top, width and height of the next window.
 fn next_of(tiles: &mut Tiling) -> Option<[usize; 4]> {
@@ -70,4 +87,25 @@ fn sizes_may_go_up_to_the_end(rt: HostRuntime) {
     let mut whole = Tiling::new(GREATEST, 1, GREATEST, GREATEST);
     assert_eq!(rt; next_of(&mut whole), Some([0, 0, GREATEST, 1]));
     assert_eq!(rt; next_of(&mut whole), None);
+}
+
+#[test]
+fn bands_have_the_full_width_and_end_at_their_last_pixel(rt: HostRuntime) {
+    let mut cells = SQUARE;
+    let image: ImgRefMut<'_, u8> = Img::new_stride(cells.as_mut_slice(), 3, 3, 4);
+    assert!(rt; image.is_valid());
+    let mut bands = BandsMut::new(image, 2);
+    assert_eq!(rt; bands.size_hint(), (2, Some(2)));
+    let upper = [1u8, 2, 3, 0, 4, 5, 6];
+    let Some(band) = bands.next() else { panic!(rt) };
+    assert_eq!(rt; (band.width(), band.height(), band.stride()), (3, 2, 4));
+    assert_eq!(rt; band.as_ref().into_buf(), upper.as_slice());
+    assert_eq!(rt; bands.len(), 1);
+    let lower = [7u8, 8, 9];
+    let Some(last) = bands.next() else { panic!(rt) };
+    assert_eq!(rt; (last.width(), last.height(), last.stride()), (3, 1, 4));
+    assert_eq!(rt; last.as_ref().into_buf(), lower.as_slice());
+    assert!(rt; bands.next().is_none());
+    assert!(rt; bands.next().is_none());
+    assert_eq!(rt; bands.len(), 0);
 }

@@ -1,0 +1,293 @@
+-- `split_first` cuts the cells that are kept off the others, and the band off those before it, and the cells follow the band and what is kept: a walk of its MIR by hand.
+use mathlib.Core.Path.{◌≡◌, refl, sym, ap, ◌∙◌}
+use Prim.Native.Nat.{ℕ, ◌+◌, ◌-◌, ◌*◌, ◌^◌, ◌<◌, ◌≤◌}
+use native.Mathlib.Omega.{arith}
+use mathlib.Core.List.{List, [], ◌∷◌, ◌++◌}
+use lib.Dec.{eqb→eq, lit<}
+use lib.ListN.{length, take, drop as drop_list}
+use base.Logic.{SProp, ent, sep, emp, id⊢}
+use base.Fml.{Lft, GName, Share, ftrue, flft, fres}
+use base.Stored.{coded_list}
+use mir.Syntax.{Args, Fn, named, w64, a_type}
+use mir.MapTy.{inst_fn}
+use mir.Val.{Val, WT, vint, of_list}
+use prog.Wp.{WpFn}
+use contract.BorrowLft.{◌⊑◌, ⊑_refl, ⊑_trans, ⊑_meet}
+use contract.Monad.{fact, fact_i}
+use contract.Running.{tables}
+use types.Kit.{Item, ‵, ◌⊛◌, raw, later, some, prop, at_ret, ◌$◌, ◌∵◌, !, qed, by, move, keep, drop, split, split3, join, fsplit, fjoin, rewrite, regoal, use0, use1, use2, use3, await, pick, updating, now, done}
+use types.Logic.{sem}
+use types.Match.{live}
+use types.Part.{whole, sub, agg}
+use types.Run.{stop, fld, hop, from, lit, addr, bin, of_opd, and_then, no_more, first, branches, skips, exec, returns, returns_within, enter}
+use types.ByLocal.{alloc_all, pass_all, free_all, look_at, look_in_at, get, get_in, sets, lands_as, env}
+use denote.Array.{Array}
+use denote.Builtin.{usize}
+use denote.Follow.{follows_both}
+use denote.Laws.{shows, Is}
+use denote.Model.Fixed.{row_Makes}
+use denote.Param.{param, layouts}
+use denote.Param.Laws.{param_laws}
+use denote.Plain.{uint_Makes}
+use denote.RattleType.{RattleType, owns}
+use denote.Ref.{MutBor}
+use denote.Signature.{plain, named_lft, types_at}
+use denote.Slice.{MutSlice}
+use denote.Steps.{nothing, heard, peeks, owned, only}
+use denote.Struct.Tuple.{Tuple}
+use denote.Triple.Call.{calls_at}
+use denote.Triple.Clauses.{lasts}
+use denote.Triple.Spec.{triple_of}
+use denote.Triple.Table.{framed}
+use denote.Triple.Walked.{Stays, stay_dropped, walk_of, Goes-dropped}
+use Rattle.std.proofs.alloc.Shapes.{after}
+use Rattle.std.proofs.option.Made.{Some-of, none_of}
+use Rattle.std.proofs.raw_atomic.Walks.{proved_at, leaves}
+use Rattle.std.specs.Prelude.{None, Some}
+use Rattle.std.specs.contracts.option.Option as opt
+use Rattle.lending.proofs.Options.{lent_val}
+use Rattle.lending.proofs.Pairs.{pair_val, pair_made, pair_told, pair_out}
+use Rattle.lending.proofs.Parts.{given_up, cut_within}
+use Rattle.std.specs.Iterator.{YieldsFirstBy}
+use Rattle.image_shape.specs.declared.shape.Shape.{Shape}
+use Rattle.image_shape.specs.contracts.shape.Shape as shape_type
+use Rattle.image_shape.proofs.shape.Shape.TheLaws as shape_laws
+use Rattle.imgref.specs.declared.img.Img.{Img}
+use Rattle.imgref.specs.Image.{mut_layout, shape_of}
+use Rattle.imgref.proofs.Values.{img_val, img_row, img_told, LentCells, lent_cells_laws}
+use Rattle.imgref.specs.contracts.img.Img.from_parts as h
+use Rattle.imgref.proofs.img.Img.from_parts.Met as making
+use Rattle.image_tiles.specs.Bands.{bands_left, band_rows, behind, put_back, Moves}
+use Rattle.image_tiles.specs.declared.bands.Lines.{Lines}
+use Rattle.image_tiles.specs.declared.bands.Cut.{Cut}
+use Rattle.image_tiles.specs.declared.bands.BandsMut.{BandsMut}
+use Rattle.image_tiles.specs.contracts.bands.Lines as lines_type
+use Rattle.image_tiles.specs.contracts.bands.Cut as cut_type
+use Rattle.image_tiles.specs.contracts.bands.BandsMut.{the_row}
+use Rattle.image_tiles.proofs.bands.Lines.TheLaws as lines_laws
+use Rattle.image_tiles.proofs.bands.Cut.TheLaws as cut_laws
+use Rattle.image_tiles.proofs.bands.BandsMut.TheLaws as iter_laws
+use Rattle.image_tiles.proofs.BandsCut.{Lies, cut_end, end_within, skip_within, gone_is, rest_lies, whole_is, given, none_at}
+use Rattle.image_tiles.proofs.Tilings.{one_at_least}
+use Rattle.image_tiles.proofs.Values.{is_low, typed, cells_out, cells_in}
+use Rattle.image_tiles.specs.contracts.bands.part as f
+use Rattle.image_tiles.proofs.bands.part.Met as parting
+use Rattle.image_tiles.specs.contracts.bands.Lines.cut as g
+use Rattle.image_tiles.proofs.bands.Lines.cut.Met as counting
+use Rattle.image_tiles.specs.contracts.bands.BandsMut.split_first.{ended, clauses}
+use Rattle.image_tiles.specs.contracts.bands.BandsMut.split_first.Key.{name as #self}
+use Rattle.image_tiles.proofs.bands.BandsMut.split_first.Statement.{statement}
+use Rattle.image_tiles.proofs.bands.BandsMut.split_first.Code as compiled
+
+pub split_first_spec : {M : Type 1} → statement M
+split_first_spec 𝓤 𝓛 𝓜 𝓡 wired T L =
+    let H = 𝓛.H in
+    let En = ended T in
+    let c = clauses T 𝓛 𝓜.mem 𝓡.returns in
+    let args : Args = layouts (a_type ∷ []) (T, tt) in
+    let fn : Fn = inst_fn args compiled.function in
+    let R : RattleType = param 0 T in
+    let ps = En.signature.params in
+    let stays : Stays En.signature.params En.kept = (stay_dropped _ En.kept.0, tt) in
+    let 𝓣 = tables 𝓤 H 𝓜 𝓡 𝓡.env in
+    let fm = framed 𝓤 H 𝓜 𝓣 in
+    proved_at 𝓛 En stays c 𝓜 𝓡 ((λ κs x f vs ok. qed 𝓛 (‵ ftrue ∷ []) ∵ updating ! $ nothing ! $ fjoin ! $ now ! $ done !), tt)
+    (#self args) fn (compiled.unfolded 𝓤 H 𝓜 𝓡 wired (T, tt)) (λ z are.
+    let Post : Val → SProp 𝓤 = (walk_of 𝓛 En stays c).post z in
+    let a = z.0.3 in
+    let vss = z.0.4 in
+    let κ : Lft = z.0.0.0 in
+    let q : Share = z.0.1.0 in
+    let κT : Lft = z.0.0.1.0 in
+    let qT : Share = z.0.1.1.0 in
+    let α = named_lft 2 0 tt z.0.0 in
+    let LR = param_laws 0 T L in
+    let s : BandsMut T.Denot = a.0 in
+    let p : Lines = s.lines in
+    let xs : List T.Denot = s.cells.now in
+    let It : RattleType = the_row α R in
+    let Slice : RattleType = MutSlice (named 0) κ R in
+    let Image : RattleType = img_row (named 0) κ R in
+    let Row : RattleType = opt.the_row Image in
+    let Li : RattleType = lines_type.the_row in
+    let Sh : RattleType = shape_type.the_row in
+    let low : BandsMut T.Denot → Val = (iter_laws.lowers α R LR).lowered in
+    let ok = (typed It (iter_laws.the_row_laws α R LR) (iter_laws.lowers α R LR) 𝓛 s vss.0 are.0).0 in
+    let Tok : Item 𝓤 = ‵ (flft κ q) ⊛ ‵ (flft κT qT) ⊛ ‵ ftrue in
+    let Out : Type 0 = Img (MutBor (List T.Denot)) in
+    qed 𝓛 ((Tok ⊛ ‵ (owns (types_at ps z.0.0) a vss)) ∷ (raw (fact 𝓤 (κT ⊑ T.lives)) ⊛ raw (emp 𝓤)) ∷ []) ∵
+    move ! (1 ∷ []) $ split ! $ heard ! (κT ⊑ T.lives) (λ le. drop ! $ split ! $ move ! (1 ∷ []) $ fsplit ! $ keep ! (0 ∷ 2 ∷ []) $
+    -- [the iterator; the tokens]
+    rewrite ! 0 (λ (vs : List Val). ‵ (It.own_val s vs)) ((iter_laws.lowers α R LR).val_is s vss.0 are.0) refl $
+    regoal ! (λ (vs : List Val). prop (WpFn 𝓤 H 𝓣.C 𝓣.Λ fn vs Post)) (λ k. (iter_laws.lowers α R LR).val_is s vss.0 are.0 k ++ []) refl $
+    enter ! 𝓣.C 𝓣.Λ fn (low s ∷ []) Post $
+    alloc_all ! (λ l. pass_all ! refl (ok, tt) $
+    sets ! (of_opd ! (get_in ! (fld ! refl (fld ! refl (stop !))) (sub ! 1 refl (sub ! 1 refl (whole !))))) refl (tt, ok.1.1.0.1.0) $
+    sets ! (bin ! (get ! refl) (lit ! tt) tt) refl (tt, tt) $
+    first ! $ branches ! (get ! refl)
+    (λ t. let none : p.rows ≡ 0 = eqb→eq p.rows 0 t in
+    let no_band : Val = live 0 (of_list []) in
+    let Steps₀ : Type 0 = YieldsFirstBy mut_layout bands_left s None s in
+    let Moves₀ : Type 0 = Moves s None s in
+    sets ! (agg ! (and_then ! (lit ! tt) (no_more !))) refl (tt, (record { fits = lit< tt }, tt)) $
+    sets ! (of_opd ! (get ! refl)) refl ok $
+    sets ! (agg ! (and_then ! (get ! refl) (and_then ! (get ! refl) (no_more !)))) refl (tt, ((record { fits = lit< tt }, tt), (ok.1, tt))) $
+    returns_within ! Post refl (look_at ! 0 refl) $ free_all ! refl $
+    use0 𝓛 (‵ (Row.own_val None (no_band ∷ []))) (none_of 𝓛 Image) $ join ! $
+    use1 𝓛 (‵ ((Tuple (Row ∷ It ∷ [])).own_val (None, s) (pair_val no_band (low s) ∷ []))) (pair_made Row It None s no_band (low s) 𝓛) $
+    -- [the result; the tokens]
+    use0 𝓛 (raw (fact 𝓤 Moves₀)) (fact_i 𝓤 Moves₀ (emp 𝓤) refl) $
+    use0 𝓛 (raw (fact 𝓤 Steps₀)) (fact_i 𝓤 Steps₀ (emp 𝓤) (none_at s none)) $ join ! $ nothing ! $ join ! $
+    nothing ! $ nothing ! $ fjoin ! $ move ! (3 ∷ 0 ∷ 2 ∷ 1 ∷ []) $
+    by ! (leaves 𝓛 En stays c z (pair_val no_band (low s)) (None, s) ((tt, tt), tt) (tt, tt)))
+    (λ t. let one : 0 < p.rows = one_at_least p.rows t in
+    skips ! $ exec ! 𝓣.C 𝓣.Λ (env fn.locals l) (after 3 fn.body) (at_ret (env fn.locals l) Post) $
+    sets ! (of_opd ! (get_in ! (fld ! refl (stop !)) (sub ! 1 refl (whole !)))) refl (tt, ok.1.1.0) $
+    -- [the iterator; the tokens]
+    let lies : Lies p (length xs) = (s.some, s.stride_positive, s.holds_width, s.width_fits, s.rows_fit, s.high, s.fits) in
+    let Some₀ : Type 0 = 0 < p.rows in
+    let Positive : Type 0 = 1 ≤ p.stride in
+    let Holds : Type 0 = p.width ≤ p.stride in
+    let Wide : Type 0 = p.width < 2 ^ 32 in
+    let Tall : Type 0 = p.rows < 2 ^ 32 in
+    let High : Type 0 = 0 < p.band_height in
+    let Reach : Type 0 = p.skip + (p.stride * (p.rows - 1) + p.width) < 2 ^ 64 in
+    let fit : length xs < 2 ^ 64 = ok.1.0.1.0.fits in
+    let is_li = is_low Li lines_laws.the_row_laws lines_laws.lowers 𝓛 p _ are.0.1.1.1.0 in
+    let GC = triple_of 𝓛 g.signature (g.spec 𝓛 𝓜.mem 𝓡.returns) in
+    let zc : GC.Ghost = ((tt, tt, tt, (p, tt), (lines_laws.lowered p ∷ [], tt)), tt) in
+    nothing ! $ owned ! Li (Is Li) (row_Makes Li lines_laws.the_row_plain 𝓛) p (lines_laws.lowered p ∷ []) is_li $ join ! $ nothing ! $ join ! $
+    use0 𝓛 (raw (fact 𝓤 Reach)) (fact_i 𝓤 Reach (emp 𝓤) (omega (arith, s.fits one, fit))) $
+    use0 𝓛 (raw (fact 𝓤 High)) (fact_i 𝓤 High (emp 𝓤) s.high) $ join ! $
+    use0 𝓛 (raw (fact 𝓤 Tall)) (fact_i 𝓤 Tall (emp 𝓤) s.rows_fit) $ join ! $
+    use0 𝓛 (raw (fact 𝓤 Wide)) (fact_i 𝓤 Wide (emp 𝓤) s.width_fits) $ join ! $
+    use0 𝓛 (raw (fact 𝓤 Holds)) (fact_i 𝓤 Holds (emp 𝓤) s.holds_width) $ join ! $
+    use0 𝓛 (raw (fact 𝓤 Positive)) (fact_i 𝓤 Positive (emp 𝓤) s.stride_positive) $ join ! $
+    use0 𝓛 (raw (fact 𝓤 Some₀)) (fact_i 𝓤 Some₀ (emp 𝓤) one) $ join ! $ move ! (1 ∷ 0 ∷ []) $ use2 𝓛 (raw (GC.pre zc)) (id⊢ 𝓤 _) $
+    calls_at ! fm GC (counting.met 𝓤 𝓛 𝓜 𝓡 (compiled.calls-image_tiles::bands::Lines::cut 𝓡.env wired)) zc (and_then ! (get ! refl) (no_more !)) (λ vc.
+    let CutRow : RattleType = cut_type.the_row in
+    let Skip : Cut → Type 0 = λ n. n.skip ≡ p.skip in
+    let End : Cut → Type 0 = λ n. n.end ≡ cut_end p in
+    let Width : Cut → Type 0 = λ n. n.shape.width ≡ p.width in
+    let Height : Cut → Type 0 = λ n. n.shape.height ≡ band_rows p in
+    let Stride : Cut → Type 0 = λ n. n.shape.stride ≡ p.stride in
+    let Rest : Cut → Type 0 = λ n. n.rest ≡ behind p in
+    use1 𝓛 (later (some (λ (n : Cut). (‵ ftrue ⊛ ‵ (CutRow.own_val n (vc ∷ []))) ⊛ some (λ (ws : Unit {0} × Unit {0}). ‵ (lasts g.ended zc.0.0 zc.0.3 ws)
+    ⊛ (raw (fact 𝓤 (Skip n)) ⊛ raw (fact 𝓤 (End n)) ⊛ raw (fact 𝓤 (Width n)) ⊛ raw (fact 𝓤 (Height n)) ⊛ raw (fact 𝓤 (Stride n)) ⊛ raw (fact 𝓤 (Rest n))))))) (id⊢ 𝓤 _) $
+    await ! tt $ pick ! (λ n. split ! $ split ! $ drop ! $ move ! (1 ∷ []) $ pick ! (λ wsc. split ! $ drop ! $
+    split ! $ heard ! (Skip n) (λ is_skip. split ! $ heard ! (End n) (λ is_end. split ! $ heard ! (Width n) (λ is_wide. split ! $ heard ! (Height n) (λ is_tall. split ! $ heard ! (Stride n) (λ is_apart. heard ! (Rest n) (λ is_rest.
+    -- [the numbers; the iterator; the tokens]
+    peeks ! CutRow (Is CutRow) (shows 𝓛 CutRow) n (vc ∷ []) (λ isc. drop ! $
+    let okc = (typed CutRow cut_laws.the_row_laws cut_laws.lowers 𝓛 n (vc ∷ []) isc).0 in
+    lands_as ! (ap only (cut_laws.lowers.val_is n (vc ∷ []) isc)) refl okc $
+    use1 𝓛 (‵ (Slice.own_val s.cells (lent_val s.cells ∷ []))) (cells_out α R LR 𝓛 s (low s ∷ [])) $
+    sets ! (addr ! (from ! (fld ! refl (fld ! refl (hop ! (look_in_at ! 1 (sub ! 0 refl (sub ! 0 refl (whole !)))) (stop !)))))) refl (tt, tt) $
+    sets ! (agg ! (and_then ! (get ! refl) (and_then ! (get_in ! (fld ! refl (fld ! refl (stop !))) (sub ! 1 refl (sub ! 0 refl (whole !)))) (no_more !)))) refl (tt, ok.1.0) $
+    -- [the cells; the tokens]
+    let Pair : Type 0 = MutBor (List T.Denot) × MutBor (List T.Denot) in
+    let Two : RattleType = Tuple (Slice ∷ Slice ∷ []) in
+    let told : (x : MutBor (List T.Denot)) (us : List Val) → Is Slice x us → us ≡ lent_val x ∷ [] = λ x us is. is.0.0 in
+    let G = triple_of 𝓛 (f.signature T) (f.spec T 𝓛 𝓜.mem 𝓡.returns) in
+    -- a call of `part` on these cells, and what it leaves
+    let at_cut : MutBor (List T.Denot) → ℕ → G.Ghost = λ x k. (((κ, (κT, tt)), (q, (qT, tt)), z.0.2, (x, (k, tt)), (lent_val x ∷ [], (vint w64 k ∷ [], tt))), tt) in
+    let Parts : MutBor (List T.Denot) → Pair → Item 𝓤 = λ x r. ‵ (follows_both (Array R 0) (Array R 0) (Array R 0) x.ghost_name r.0.ghost_name r.1.ghost_name ◌++◌) in
+    let Parted : MutBor (List T.Denot) → ℕ → Val → Item 𝓤 = λ x k v. later (some (λ (r : Pair). (Tok ⊛ ‵ (Two.own_val r (v ∷ [])))
+    ⊛ some (λ (ws : Unit {0} × (Unit {0} × Unit {0})). ‵ (lasts (f.ended T) (at_cut x k).0.0 (at_cut x k).0.3 ws) ⊛ (Parts x r ⊛ raw (fact 𝓤 (r.0.now ≡ take k x.now)) ⊛ raw (fact 𝓤 (r.1.now ≡ drop_list k x.now)))))) in
+    let asks : (x : MutBor (List T.Denot)) (k : ℕ) → k < 2 ^ 64 → k ≤ length x.now → ent 𝓤 (sep 𝓤 (sem 𝓛 (Slice.own_val x (lent_val x ∷ []))) (sep 𝓤 (𝓛.A.lft κ q) (sep 𝓤 (𝓛.A.lft κT qT) (sem 𝓛 ftrue)))) (G.pre (at_cut x k)) = λ x k fits within.
+    qed 𝓛 (‵ (Slice.own_val x (lent_val x ∷ [])) ∷ Tok ∷ []) ∵ nothing ! $ owned ! usize (Is usize) (uint_Makes 𝓛 w64) k (vint w64 k ∷ []) (refl, fits) $ join ! $
+    move ! (1 ∷ 0 ∷ []) $ join ! $ move ! (1 ∷ 0 ∷ []) $ join ! $
+    use0 𝓛 (raw (fact 𝓤 (k ≤ length x.now))) (fact_i 𝓤 (k ≤ length x.now) (emp 𝓤) within) $ use0 𝓛 (raw (fact 𝓤 (κT ⊑ T.lives))) (fact_i 𝓤 (κT ⊑ T.lives) (emp 𝓤) le) $ join ! $
+    move ! (1 ∷ 0 ∷ []) $ by ! (id⊢ 𝓤 _) in
+    use2 𝓛 (raw (G.pre (at_cut s.cells n.end))) (asks s.cells n.end okc.1.1.0.fits (omega (arith, is_end, end_within p xs lies one))) $
+    calls_at ! fm G (parting.met 𝓤 𝓛 𝓜 𝓡 (compiled.calls-image_tiles::bands::part 𝓡.env wired) T L) (at_cut s.cells n.end) (and_then ! (get ! refl) (and_then ! (get_in ! (fld ! refl (stop !)) (sub ! 1 refl (whole !))) (no_more !))) (λ v.
+    use1 𝓛 (Parted s.cells n.end v) (id⊢ 𝓤 _) $
+    await ! tt $ pick ! (λ r. split ! $ split ! $ move ! (2 ∷ []) $ pick ! (λ ws. split ! $ drop ! $ split ! $ move ! (1 ∷ []) $ split ! $ heard ! (r.0.now ≡ take n.end xs) (λ is_piece. heard ! (r.1.now ≡ drop_list n.end xs) (λ is_kept.
+    -- [what follows; the tokens; the two parts]
+    move ! (2 ∷ []) $ peeks ! Two (Is Two) (shows 𝓛 Two) r (v ∷ []) (λ is. let is_both = pair_told Slice Slice r.0 r.1 (lent_val r.0) (lent_val r.1) (told r.0) (told r.1) (v ∷ []) is in
+    let piece_ok : WT (lent_val r.0) = (tt, (record { fits = is.1.1.0.0.1.0 }, tt)) in
+    let kept_ok : WT (lent_val r.1) = (tt, (record { fits = is.1.1.1.0.0.1.0 }, tt)) in
+    lands_as ! (ap only is_both) refl (tt, (piece_ok, (kept_ok, tt))) $
+    use1 𝓛 (‵ (Slice.own_val r.0 (lent_val r.0 ∷ [])) ⊛ ‵ (Slice.own_val r.1 (lent_val r.1 ∷ []))) (pair_out Slice Slice r.0 r.1 (lent_val r.0) (lent_val r.1) (told r.0) (told r.1) (v ∷ []) 𝓛) $ split ! $
+    -- [the piece; what is kept; what follows; the tokens]
+    sets ! (of_opd ! (get_in ! (fld ! refl (stop !)) (sub ! 0 refl (whole !)))) refl (tt, piece_ok) $
+    sets ! (of_opd ! (get_in ! (fld ! refl (stop !)) (sub ! 1 refl (whole !)))) refl (tt, kept_ok) $
+    sets ! (addr ! (from ! (fld ! refl (hop ! (look_in_at ! 3 (sub ! 0 refl (whole !))) (stop !))))) refl (tt, tt) $
+    sets ! (agg ! (and_then ! (get ! refl) (and_then ! (get_in ! (fld ! refl (stop !)) (sub ! 1 refl (whole !))) (no_more !)))) refl (tt, piece_ok) $
+    move ! (0 ∷ 3 ∷ []) $
+    -- [the piece; the tokens; what is kept; what follows]
+    use2 𝓛 (raw (G.pre (at_cut r.0 n.skip))) (asks r.0 n.skip okc.1.0.fits (rw (is_piece, is_end, is_skip) (skip_within p xs lies one))) $
+    calls_at ! fm G (parting.met 𝓤 𝓛 𝓜 𝓡 (compiled.calls-image_tiles::bands::part 𝓡.env wired) T L) (at_cut r.0 n.skip) (and_then ! (get ! refl) (and_then ! (get_in ! (fld ! refl (stop !)) (sub ! 0 refl (whole !))) (no_more !))) (λ v₂.
+    use1 𝓛 (Parted r.0 n.skip v₂) (id⊢ 𝓤 _) $
+    await ! tt $ pick ! (λ r₂. split ! $ split ! $ move ! (2 ∷ []) $ pick ! (λ ws₂. split ! $ drop ! $ split ! $ move ! (1 ∷ []) $ split ! $ heard ! (r₂.0.now ≡ take n.skip r.0.now) (λ is_gone. heard ! (r₂.1.now ≡ drop_list n.skip r.0.now) (λ is_band.
+    move ! (2 ∷ []) $ peeks ! Two (Is Two) (shows 𝓛 Two) r₂ (v₂ ∷ []) (λ is₂. let is_both₂ = pair_told Slice Slice r₂.0 r₂.1 (lent_val r₂.0) (lent_val r₂.1) (told r₂.0) (told r₂.1) (v₂ ∷ []) is₂ in
+    let cells_ok : WT (lent_val r₂.1) = (tt, (record { fits = is₂.1.1.1.0.0.1.0 }, tt)) in
+    lands_as ! (ap only is_both₂) refl (tt, ((tt, (record { fits = is₂.1.1.0.0.1.0 }, tt)), (cells_ok, tt))) $
+    use1 𝓛 (‵ (Slice.own_val r₂.0 (lent_val r₂.0 ∷ [])) ⊛ ‵ (Slice.own_val r₂.1 (lent_val r₂.1 ∷ []))) (pair_out Slice Slice r₂.0 r₂.1 (lent_val r₂.0) (lent_val r₂.1) (told r₂.0) (told r₂.1) (v₂ ∷ []) 𝓛) $ split ! $
+    use1 𝓛 (‵ (fres r₂.0.ghost_name ((coded_list R.coded).code r₂.0.now))) (given_up 𝓛 R (named 0) κ r₂.0 (lent_val r₂.0 ∷ [])) $
+    -- [what is let go; the band's cells; what follows the piece; the tokens; what is kept; what follows]
+    move ! (5 ∷ 0 ∷ 2 ∷ []) $
+    use3 𝓛 (‵ (follows_both (Array R 0) (Array R 0) (Array R 0) s.cells.ghost_name r₂.1.ghost_name r.1.ghost_name (λ w us. (r₂.0.now ++ w) ++ us))) (cut_within 𝓛 R s.cells.ghost_name r.0.ghost_name r.1.ghost_name r₂.0.ghost_name r₂.1.ghost_name ◌++◌ ◌++◌ r₂.0.now) $
+    -- [what follows; the band's cells; the tokens; what is kept]
+    let let_go_is : r₂.0.now ≡ take p.skip xs = rw (is_gone, is_piece, is_end, is_skip) (gone_is p xs lies one) in
+    rewrite ! 0 (λ (us : List T.Denot). ‵ (follows_both (Array R 0) (Array R 0) (Array R 0) s.cells.ghost_name r₂.1.ghost_name r.1.ghost_name (λ w ws. (us ++ w) ++ ws))) let_go_is refl $
+    let okr = okc.1.1.1.1.0 in
+    sets ! (of_opd ! (get_in ! (fld ! refl (stop !)) (sub ! 1 refl (whole !)))) refl (tt, cells_ok) $
+    sets ! (addr ! (from ! (fld ! refl (hop ! (look_in_at ! 5 (sub ! 0 refl (whole !))) (stop !))))) refl (tt, tt) $
+    sets ! (agg ! (and_then ! (get ! refl) (and_then ! (get_in ! (fld ! refl (stop !)) (sub ! 1 refl (whole !))) (no_more !)))) refl (tt, cells_ok) $
+    sets ! (of_opd ! (get_in ! (fld ! refl (stop !)) (sub ! 2 refl (whole !)))) refl (tt, okc.1.1.1.0) $
+    -- the image of the band's cells
+    let X : RattleType = LentCells κ T in
+    let lives : κ ⊑ X.lives = ⊑_meet κ κ T.lives (⊑_refl κ) (⊑_trans κ κT T.lives z.0.2.0 le) in
+    let GM = triple_of 𝓛 (h.signature X) (h.spec X 𝓛 𝓜.mem 𝓡.returns) in
+    let zm : GM.Ghost = (((κ, tt), (q, tt), tt, (r₂.1, (n.shape, tt)), (lent_val r₂.1 ∷ [], (shape_laws.lowered n.shape ∷ [], tt))), tt) in
+    let is_shape = is_low Sh shape_laws.the_row_laws shape_laws.lowers 𝓛 n.shape _ isc.1.1.1.1.0 in
+    move ! (2 ∷ []) $ split3 ! $
+    -- [the token of κ; the token of κT; nothing; what follows; the band's cells; what is kept]
+    nothing ! $ owned ! Sh (Is Sh) (row_Makes Sh shape_laws.the_row_plain 𝓛) n.shape (shape_laws.lowered n.shape ∷ []) is_shape $ join ! $ move ! (5 ∷ 0 ∷ []) $ join ! $
+    nothing ! $ move ! (2 ∷ 0 ∷ []) $ join ! $ join ! $
+    -- [the token of κ and the arguments; the token of κT; nothing; what follows; what is kept]
+    nothing ! $ use0 𝓛 (raw (fact 𝓤 (κ ⊑ X.lives))) (fact_i 𝓤 (κ ⊑ X.lives) (emp 𝓤) lives) $ join ! $ move ! (1 ∷ 0 ∷ []) $ use2 𝓛 (raw (GM.pre zm)) (id⊢ 𝓤 _) $
+    calls_at ! fm GM (making.met 𝓤 𝓛 𝓜 𝓡 (compiled.calls-imgref::img::Img::from_parts 𝓡.env wired) X (lent_cells_laws κ T L)) zm (and_then ! (get ! refl) (and_then ! (get ! refl) (no_more !))) (λ vm.
+    use1 𝓛 (later (some (λ (b : Out). ((‵ (flft κ q) ⊛ ‵ ftrue) ⊛ ‵ (Image.own_val b (vm ∷ []))) ⊛ some (λ (us : Unit {0} × (Unit {0} × Unit {0})). ‵ (lasts (h.ended X) zm.0.0 zm.0.3 us)
+    ⊛ (raw (fact 𝓤 (b.buf ≡ r₂.1)) ⊛ raw (fact 𝓤 (shape_of b ≡ n.shape)) ⊛ raw (fact 𝓤 (b.width ≡ n.shape.width)) ⊛ raw (fact 𝓤 (b.height ≡ n.shape.height)) ⊛ raw (fact 𝓤 (b.stride ≡ n.shape.stride))))))) (id⊢ 𝓤 _) $
+    await ! tt $ pick ! (λ b. split ! $ split ! $ move ! (2 ∷ []) $ pick ! (λ us. split ! $ drop ! $ split ! $ heard ! (b.buf ≡ r₂.1) (λ same. split ! $ drop ! $
+    split ! $ heard ! (b.width ≡ n.shape.width) (λ as_wide. split ! $ heard ! (b.height ≡ n.shape.height) (λ as_tall. heard ! (b.stride ≡ n.shape.stride) (λ as_apart.
+    -- [the token of κ with nothing; the image; the token of κT; nothing; what follows; what is kept]
+    move ! (1 ∷ []) $ peeks ! Image (Is Image) (shows 𝓛 Image) b (vm ∷ []) (λ isb. let tb = img_told (named 0) κ R b (vm ∷ []) isb in
+    let band_word : Val = img_val b.buf.ref_ptr (length b.buf.now) (shape_of b) in
+    let band_ok : WT band_word = ((tt, (record { fits = tb.1.0 }, tt)), (record { fits = tb.2 }, (record { fits = tb.3 }, (record { fits = tb.4 }, tt)))) in
+    rewrite ! 0 (λ (vs : List Val). ‵ (Image.own_val b vs)) (tb.0) refl $
+    lands_as ! (ap only (tb.0)) refl (tt, band_ok) $
+    -- [the image; the token of κ with nothing; the token of κT; nothing; what follows; what is kept]
+    sets ! (addr ! (from ! (fld ! refl (hop ! (look_in_at ! 4 (sub ! 0 refl (whole !))) (stop !))))) refl (tt, tt) $
+    sets ! (agg ! (and_then ! (get ! refl) (and_then ! (get_in ! (fld ! refl (stop !)) (sub ! 1 refl (whole !))) (no_more !)))) refl (tt, kept_ok) $
+    sets ! (of_opd ! (get_in ! (fld ! refl (stop !)) (sub ! 3 refl (whole !)))) refl (tt, okr) $
+    sets ! (agg ! (and_then ! (get ! refl) (and_then ! (get ! refl) (no_more !)))) refl (tt, (kept_ok, (okr, tt))) $
+    sets ! (of_opd ! (get ! refl)) refl (tt, band_ok) $
+    sets ! (agg ! (and_then ! (lit ! tt) (and_then ! (get ! refl) (no_more !)))) refl (tt, (record { fits = lit< tt }, (band_ok, tt))) $
+    sets ! (of_opd ! (get ! refl)) refl (tt, (kept_ok, (okr, tt))) $
+    sets ! (agg ! (and_then ! (get ! refl) (and_then ! (get ! refl) (no_more !)))) refl (tt, ((record { fits = lit< tt }, (band_ok, tt)), ((kept_ok, (okr, tt)), tt))) $
+    returns ! (look_at ! 0 refl) $ free_all ! refl $
+    let rest : Lies n.rest (length r.1.now) = rw (is_rest, is_kept, is_end) (rest_lies p xs lies one) in
+    let left : BandsMut T.Denot = record { cells = r.1; lines = n.rest; some = rest.0; stride_positive = rest.1; holds_width = rest.2; width_fits = rest.3; rows_fit = rest.4; high = rest.5; fits = rest.6 } in
+    let some_band : Val = live 1 (of_list (band_word ∷ [])) in
+    let word : Val = pair_val some_band (low left) in
+    let band_is : b.buf.now ≡ drop_list p.skip (take (cut_end p) xs) = ap (λ (u : MutBor (List T.Denot)). u.now) same ∙ rw (is_band, is_piece, is_end, is_skip) refl in
+    let kept_is : r.1.now ≡ drop_list (cut_end p) xs = rw (is_kept, is_end) refl in
+    let Steps : Type 0 = YieldsFirstBy mut_layout bands_left s (Some b) left in
+    let steps : Steps = given s left b one band_is (as_wide ∙ is_wide) (as_tall ∙ is_tall) (as_apart ∙ is_apart) kept_is is_rest in
+    let Moved : Type 0 = Moves s (Some b) left in
+    let moved : Moved = (whole_is p xs lies one (take (cut_end p) xs) (take p.skip xs) b.buf.now r.1.now refl kept_is (sym (gone_is p xs lies one)) band_is, is_rest) in
+    -- [the image; the token of κ with nothing; the token of κT; nothing; what follows; what is kept]
+    move ! (4 ∷ []) $ rewrite ! 0 (λ (m : GName). ‵ (follows_both (Array R 0) (Array R 0) (Array R 0) s.cells.ghost_name m r.1.ghost_name (put_back s))) (ap (λ (u : MutBor (List T.Denot)). u.ghost_name) (sym same)) refl $
+    move ! (1 ∷ []) $ use1 𝓛 (‵ (Row.own_val (Some b) (some_band ∷ []))) (Some-of 𝓛 Image b band_word) $
+    -- [the answer; what follows; the token of κ with nothing; the token of κT; nothing; what is kept]
+    move ! (5 ∷ []) $ use1 𝓛 (‵ (It.own_val left (low left ∷ []))) (cells_in α R LR 𝓛 left (is_low Li lines_laws.the_row_laws lines_laws.lowers 𝓛 n.rest _ isc.1.1.1.1.1.0)) $
+    move ! (1 ∷ 0 ∷ []) $ use2 𝓛 (‵ ((Tuple (Row ∷ It ∷ [])).own_val (Some b, left) (word ∷ []))) (pair_made Row It (Some b) left some_band (low left) 𝓛) $
+    -- [the result; what follows; the token of κ with nothing; the token of κT; nothing]
+    use0 𝓛 (raw (fact 𝓤 Moved)) (fact_i 𝓤 Moved (emp 𝓤) moved) $ use0 𝓛 (raw (fact 𝓤 Steps)) (fact_i 𝓤 Steps (emp 𝓤) steps) $ join ! $ move ! (2 ∷ 0 ∷ []) $ join ! $
+    -- [the ensures; the result; the token of κ with nothing; the token of κT; nothing]
+    move ! (2 ∷ []) $ split ! $ move ! (4 ∷ 1 ∷ []) $ join ! $ move ! (1 ∷ 0 ∷ []) $ join ! $ move ! (3 ∷ []) $ drop ! $
+    -- [the tokens; the ensures; the result]
+    nothing ! $ nothing ! $ fjoin ! $
+    move ! (1 ∷ 0 ∷ 3 ∷ 2 ∷ []) $ by ! (leaves 𝓛 En stays c z word (Some b, left) ((tt, tt), tt) (tt, tt))))))))))))))))))))))))))))))))))))

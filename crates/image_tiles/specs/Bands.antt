@@ -1,0 +1,68 @@
+-- The bands of an image: full width, so many rows each, the last perhaps fewer; and what an iterator over them leaves.
+use Rattle.std.specs.Prelude.{◌≡◌, ℕ, ◌+◌, ◌-◌, ◌*◌, ◌==◌, if◌then◌else◌, List, ◌++◌, map, min, take, drop, Option, Some, None}
+use Rattle.std.specs.List.{range_with_len}
+use Rattle.std.specs.Borrow.{MutBor, GName, Fml, RattleType, ftrue, follows_both, Array}
+use Rattle.image_model.specs.Layout.{Layout, layout}
+use Rattle.image_model.specs.Tiles.{tile_count}
+use Rattle.image_model.specs.Windows.{Window, window, exact_window}
+use Rattle.imgref.specs.declared.img.Img.{Img}
+use Rattle.imgref.specs.Image.{buf_of}
+use Rattle.image_tiles.specs.declared.bands.BandsMut.{BandsMut}
+use Rattle.image_tiles.specs.declared.bands.Lines.{Lines}
+
+-- how many bands a size has: with no column there is none
+abbrev pub band_count : ℕ → ℕ → ℕ → ℕ
+band_count width height band_height = if width == 0 then 0 else tile_count band_height height
+
+-- band j: all columns of its rows
+abbrev pub band_window : ℕ → ℕ → ℕ → ℕ → Window
+band_window width height band_height j = window 0 (j * band_height) width (min band_height (height - j * band_height))
+
+-- the bands from top to bottom, each up to its last pixel
+abbrev pub bands : {T : Type 0} → Layout T → ℕ → List (Layout T)
+bands l band_height = map (λ j. exact_window l (band_window l.width l.height band_height j)) (range_with_len 0 (band_count l.width l.height band_height))
+
+-- ---- how bands lie in a list of cells
+
+-- how many rows the first band has
+abbrev pub band_rows : Lines → ℕ
+band_rows s = min s.band_height s.rows
+
+-- and how many cells
+abbrev pub band_len : Lines → ℕ
+band_len s = s.stride * (band_rows s - 1) + s.width
+
+-- without the first band: the padding behind it is skipped
+abbrev pub behind : Lines → Lines
+behind s = record s { skip = s.stride - s.width; rows = s.rows - band_rows s }
+
+module _ {T : Type 0} where
+  -- the cells that an iterator still holds
+  abbrev pub cells_left : BandsMut T → List T
+  cells_left s = s.cells.now
+
+  -- the loan of these cells
+  abbrev pub name_of : BandsMut T → GName
+  name_of s = s.cells.ghost_name
+
+  -- how the bands lie in these cells
+  abbrev pub lines_left : BandsMut T → Lines
+  lines_left s = s.lines
+
+  -- the bands that an iterator still gives
+  unfoldable pub bands_left : BandsMut T → List (Layout T)
+  bands_left s = bands (layout (drop s.lines.skip (cells_left s)) s.lines.width s.lines.rows s.lines.stride) s.lines.band_height
+
+  -- the cells of s, of which the first band and those behind it may have changed
+  abbrev pub put_back : BandsMut T → List T → List T → List T
+  put_back s band kept = (take s.lines.skip (cells_left s) ++ band) ++ kept
+
+  -- the cells are those before the band, the band's, and those kept; where there is no band nothing changes
+  abbrev pub Moves : BandsMut T → Option (Img (MutBor (List T))) → BandsMut T → Type 0
+  Moves s None t = t ≡ s
+  Moves s (Some band) t = (cells_left s ≡ put_back s (buf_of band).now (cells_left t)) × (lines_left t ≡ behind (lines_left s))
+
+-- the cells of s end as those before the band, what the band ends as, and what the cells of t end as
+abbrev pub hands_on : (R : RattleType) → BandsMut R.Denot → Option (Img (MutBor (List R.Denot))) → BandsMut R.Denot → Fml
+hands_on R s None t = ftrue
+hands_on R s (Some band) t = follows_both (Array R 0) (Array R 0) (Array R 0) (name_of s) (buf_of band).ghost_name (name_of t) (put_back s)

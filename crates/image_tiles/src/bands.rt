@@ -1,0 +1,217 @@
+//! Bands of an image for writing: full width, side by side.
+
+ghost use Rattle.std.specs.Prelude.{◌≡◌, ◌+◌, ◌-◌, ◌*◌, ◌^◌, ◌≤◌, ◌<◌, ◌++◌, length, take, drop, Some, All};
+ghost use Rattle.std.specs.Borrow.{sem, follows_both, Array};
+ghost use Rattle.image_model.specs.Layout.{Fits};
+ghost use Rattle.image_model.specs.Rows.{row_count};
+ghost use Rattle.imgref.specs.Shape.{shape_width, shape_height, shape_stride};
+ghost use Rattle.imgref.specs.Image.{buf_of, mut_layout};
+
+use crate::tiling::tiles_along;
+use imgref::{ImgRefMut, Shape};
+use std::iter::{ExactSizeIterator, FusedIterator};
+
+// The first `mid` cells, and the others.
+fn part<T>(cells: &mut [T], mid: usize) -> (&mut [T], &mut [T])
+    requires { mid ≤ length cells.old }
+    ensures* parts { sem 𝓛 (follows_both (Array T.row 0) (Array T.row 0) (Array T.row 0) cells.entry.ghost_name result.0.ghost_name result.1.ghost_name ◌++◌) }
+    ensures front { result.0.now ≡ take mid cells.old }
+    ensures back { result.1.now ≡ drop mid cells.old }
+{
+    cells.split_at_mut(mid)
+}
+
+// How bands lie in a list of cells.
+#[derive(Clone, Copy)]
+struct Lines {
+    // How many cells lie before the next band.
+    skip: usize,
+    // How many rows are left.
+    rows: usize,
+    width: usize,
+    stride: usize,
+    band_height: usize,
+}
+
+// Where the first band is cut off, its shape, and how the others lie in the cells behind it.
+#[derive(Clone, Copy)]
+struct Cut {
+    skip: usize,
+    end: usize,
+    shape: Shape,
+    rest: Lines,
+}
+
+impl Lines {
+    ghost use Rattle.image_tiles.specs.Bands.{band_rows, band_len, behind};
+
+    // The rows of a shape, as bands of so many rows: without a column there is none.
+    fn whole(shape: Shape, band_height: usize) -> Lines
+        ensures skip { result.skip ≡ 0 }
+        ensures rows { result.rows ≡ row_count (shape_width shape) (shape_height shape) }
+        ensures width { result.width ≡ shape_width shape }
+        ensures stride { result.stride ≡ shape_stride shape }
+        ensures band_height { result.band_height ≡ band_height }
+        ensures stride_positive { 1 ≤ shape_stride shape }
+        ensures holds_width { shape_width shape ≤ shape_stride shape }
+        ensures width_fits { shape_width shape < 2 ^ 32 }
+        ensures rows_fit { result.rows < 2 ^ 32 }
+    {
+        let width = shape.width();
+        Lines {
+            skip: 0,
+            rows: if width == 0 { 0 } else { shape.height() },
+            width,
+            stride: shape.stride(),
+            band_height,
+        }
+    }
+
+    // Where the first band is cut off.
+    fn cut(self) -> Cut
+        requires some { 0 < self.rows }
+        requires stride_positive { 1 ≤ self.stride }
+        requires holds_width { self.width ≤ self.stride }
+        requires width_fits { self.width < 2 ^ 32 }
+        requires rows_fit { self.rows < 2 ^ 32 }
+        requires high { 0 < self.band_height }
+        requires reach { self.skip + (self.stride * (self.rows - 1) + self.width) < 2 ^ 64 }
+        ensures skip { result.skip ≡ self.skip }
+        ensures end { result.end ≡ self.skip + band_len self }
+        ensures width { shape_width result.shape ≡ self.width }
+        ensures height { shape_height result.shape ≡ band_rows self }
+        ensures stride { shape_stride result.shape ≡ self.stride }
+        ensures rest { result.rest ≡ behind self }
+    {
+        let rows = self.band_height.min(self.rows);
+        Cut {
+            skip: self.skip,
+            end: self.skip + (self.stride * (rows - 1) + self.width),
+            shape: Shape::new(self.width, rows, self.stride),
+            rest: Lines {
+                skip: self.stride - self.width,
+                rows: self.rows - rows,
+                ..self
+            },
+        }
+    }
+}
+
+/// The bands of an image for writing, from top to bottom: full width, `band_height` rows each, the
+/// last perhaps fewer. The buffer of a band of `k` rows has `stride * (k - 1) + width` cells. Several
+/// may live side by side. Dropped at any point, the cells of the bands that were given are as those
+/// left them, and all others, the padding too, as they were.
+#[derive(Drop)]
+pub struct BandsMut<'a, T> {
+    cells: &'a mut [T],
+    lines: Lines,
+    ghost some: { 0 < lines.rows → 0 < lines.width },
+    ghost stride_positive: { 1 ≤ lines.stride },
+    ghost holds_width: { lines.width ≤ lines.stride },
+    ghost width_fits: { lines.width < 2 ^ 32 },
+    ghost rows_fit: { lines.rows < 2 ^ 32 },
+    ghost high: { 0 < lines.band_height },
+    ghost fits: { 0 < lines.rows → lines.skip + (lines.stride * (lines.rows - 1) + lines.width) ≤ length cells.now },
+}
+
+impl<'a, T> BandsMut<'a, T> {
+    ghost use Rattle.std.specs.Borrow.{sem};
+    ghost use Rattle.std.specs.Iterator.{YieldsFirstBy};
+    ghost use Rattle.image_tiles.specs.Bands.{bands, bands_left, name_of, cells_left, hands_on, Moves};
+
+    /// The bands of an image that fits (`is_valid`), of a positive number of rows each. An image with
+    /// no pixel has none.
+    #[tactic(auto, unfolding(crate::specs::Bands::bands_left))]
+    pub fn new(img: ImgRefMut<'a, T>, band_height: usize) -> BandsMut<'a, T>
+        requires fits { Fits (mut_layout img) }
+        requires high { 0 < band_height }
+        ensures name { name_of result ≡ (buf_of img.entry).ghost_name }
+        ensures cells { cells_left result ≡ (buf_of img.entry).now }
+        ensures bands { bands_left result ≡ bands (mut_layout img.entry) band_height }
+        ensures fit { All Fits (bands_left result) }
+    {
+        let (cells, shape) = img.into_parts();
+        BandsMut {
+            cells,
+            lines: Lines::whole(shape, band_height),
+        }
+    }
+
+    /// The first band, if there is one, and the bands that are left.
+    ///
+    /// This is the step that says what the cells end as. A `for` and the adapters go by `next`, which
+    /// takes the same bands.
+    pub fn split_first(self) -> (Option<ImgRefMut<'a, T>>, BandsMut<'a, T>)
+        ensures* hands_on { sem 𝓛 (hands_on T.row self.entry result.0 result.1) }
+        ensures steps { YieldsFirstBy mut_layout bands_left self.entry result.0 result.1 }
+        ensures moves { Moves self.entry result.0 result.1 }
+    {
+        if self.lines.rows == 0 {
+            return (None, self);
+        }
+        let cut = self.lines.cut();
+        let (piece, kept) = part(self.cells, cut.end);
+        let (_, cells) = part(piece, cut.skip);
+        let band = ImgRefMut::from_parts(cells, cut.shape);
+        let left = BandsMut {
+            cells: kept,
+            lines: cut.rest,
+        };
+        (Some(band), left)
+    }
+
+    // The bands that are left, which leaves none.
+    fn take(&mut self) -> BandsMut<'a, T>
+        ensures { result ≡ self.old }
+    {
+        let none = BandsMut {
+            cells: &mut [],
+            lines: Lines {
+                skip: 0,
+                rows: 0,
+                width: 0,
+                stride: 1,
+                band_height: 1,
+            },
+        };
+        std::mem::replace(self, none)
+    }
+}
+
+impl<'a, T> Iterator for BandsMut<'a, T> {
+    type Item = ImgRefMut<'a, T>;
+
+    ghost use Rattle.std.specs.Prelude.{◌≡◌, length, Some, IfSome};
+    ghost use Rattle.std.specs.Iterator.{YieldsFirstBy, item_count, UpTo};
+    ghost use Rattle.std.specs.Iterator.SizeHint.{IsWithinCount};
+    ghost use Rattle.image_tiles.specs.Bands.{bands_left};
+
+    ghost next_gives = { YieldsFirstBy mut_layout bands_left };
+
+    ghost remaining = { item_count bands_left };
+
+    fn next(&mut self) -> Option<ImgRefMut<'a, T>> {
+        let (band, left) = self.take().split_first();
+        *self = left;
+        band
+    }
+
+    #[tactic(auto, unfolding(crate::specs::Bands::bands_left))]
+    fn size_hint(&self) -> (usize, Option<usize>)
+        ensures lower { IsWithinCount result.0 (item_count bands_left self.now) }
+        ensures upper { IfSome result.1 (UpTo (item_count bands_left self.now)) }
+        ensures exact { (result.0 ≡ length (bands_left self.now)) × (result.1 ≡ Some (length (bands_left self.now))) }
+    {
+        let left = tiles_along(self.lines.rows, self.lines.band_height);
+        (left, Some(left))
+    }
+}
+
+impl<T> ExactSizeIterator for BandsMut<'_, T> {
+    fn len(&self) -> usize {
+        let (left, _) = self.size_hint();
+        left
+    }
+}
+
+impl<T> FusedIterator for BandsMut<'_, T> {}
