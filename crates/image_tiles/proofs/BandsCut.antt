@@ -34,8 +34,7 @@ module _ {T : Type 0} (p : Lines) (xs : List T) (lies : Lies p (length xs)) (one
   -- the others lie in the cells that are kept
   pub rest_lies : Lies (behind p) (length (drop (cut_end p) xs))
   rest_lies =
-      let long = length-drop (cut_end p) xs in
-      (
+      let long = length-drop (cut_end p) xs in (
         λ _. lies.0 one,
         lies.1,
         lies.2,

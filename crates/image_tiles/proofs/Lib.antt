@@ -2,3 +2,5 @@ pub mod Tilings
 pub mod BandsLeft
 pub mod BandsCut
 pub mod Values
+pub mod Left
+pub mod Lent

@@ -1,6 +1,7 @@
 -- A tiling by the column and the line of its next window.
 use Rattle.std.proofs.Common.{◌≡◌, ℕ, zero, suc, ◌+◌, ◌-◌, ◌*◌, ◌/◌, ◌%◌, ◌<◌, ◌≤◌, true, false, inl, inr, List, [], ◌∷◌, drop, length, length-drop, Option, Some, None, refl, sym, ap, ◌∙◌, subst, arith}
 use Rattle.std.specs.Prelude.{Bool, nat_lt, if◌then◌else◌, ◌^◌, IfSome}
+use mathlib.Core.Path.{ap₂}
 use lib.Dec.{T, T_not, eqb, eqb_refl}
 use mathlib.Core.Bool.{not}
 use Rattle.std.specs.List.{slice_get}
@@ -9,14 +10,14 @@ use Rattle.std.proofs.lemmas.Bool.{cases_lt, cond-true, cond-false, lt-ltb, ltb-
 use Rattle.std.proofs.lemmas.Nat.{div-add-mod', mod_below, div-mul-add}
 use Rattle.std.proofs.lemmas.List.{drop_more, drop_all}
 use Rattle.std.proofs.lemmas.Option.{slice_get_within, get_or_from_slice_get, none-some}
-use Rattle.std.proofs.Math.Nat.{suc-mul, add-mul}
+use Rattle.std.proofs.Math.Nat.{suc-mul, add-mul, mul-le-mul}
 use Rattle.image_model.specs.Grid.{is_place}
 use Rattle.image_model.specs.Windows.{Window, IsInside}
 use Rattle.image_model.specs.Tiles.{tile_count, tile, tiles}
 use Rattle.image_model.proofs.Grids.{is_place_decides}
 use Rattle.image_model.proofs.Tiles.{tile_begins, tile_at, length-tiles}
 use Rattle.image_tiles.specs.declared.tiling.Tiling.{Tiling}
-use Rattle.image_tiles.specs.Tiling.{windows_left, has_tile, tile_now, stepped}
+use Rattle.image_tiles.specs.Tiling.{windows_left, has_tile, tile_now, goes_right, stepped}
 
 -- as many tiles as end before the last place, and one
 pub along : (len tile : ℕ) → 0 < len → 0 < tile → (len - 1) / tile + 1 ≡ tile_count tile len
@@ -133,11 +134,16 @@ pub goes_on : (t : Tiling) → has_tile t ≡ true → windows_left t ≡ tile_n
 unfolding windows_left
 goes_on t here =
     elim (cases_lt (t.column + 1) t.columns) [
-      | inl more ↦ right t.width t.height t.tile_width t.tile_height t.wide t.high t.columns t.lines t.columns_are t.lines_are t.column t.line here more
-          ∙ ap (λ (u : Tiling). tile_now t ∷ windows_left u) (sym (cond-true (nat_lt (t.column + 1) t.columns) _ _ (lt-ltb (t.column + 1) t.columns more)))
-      | inr last ↦ down t.width t.height t.tile_width t.tile_height t.wide t.high t.columns t.lines t.columns_are t.lines_are t.column t.line here last
-          ∙ ap (λ (u : Tiling). tile_now t ∷ windows_left u) (sym (cond-false (nat_lt (t.column + 1) t.columns) _ _ (false_from_ne_true (nat_lt (t.column + 1) t.columns) (λ h. absurd (omega (arith, last, ltb-true (t.column + 1) t.columns h))))))
+      | inl more ↦ let to : goes_right t ≡ true = lt-ltb (t.column + 1) t.columns more in
+          right t.width t.height t.tile_width t.tile_height t.wide t.high t.columns t.lines t.columns_are t.lines_are t.column t.line here more
+          ∙ ap (λ ws. tile_now t ∷ ws) (sym (ap₂ (λ i j. left t i j) (cond-true (goes_right t) (t.column + 1) 0 to) (cond-true (goes_right t) t.line (t.line + 1) to)))
+      | inr last ↦ let to : goes_right t ≡ false = false_from_ne_true (goes_right t) (λ h. absurd (omega (arith, last, ltb-true (t.column + 1) t.columns h))) in
+          down t.width t.height t.tile_width t.tile_height t.wide t.high t.columns t.lines t.columns_are t.lines_are t.column t.line here last
+          ∙ ap (λ ws. tile_now t ∷ ws) (sym (ap₂ (λ i j. left t i j) (cond-false (goes_right t) (t.column + 1) 0 to) (cond-false (goes_right t) t.line (t.line + 1) to)))
     ]
+  where
+    left : Tiling → ℕ → ℕ → List Window
+    left t i j = if is_place t.columns t.lines i j then drop (j * t.columns + i) (tiles t.width t.height t.tile_width t.tile_height) else []
 
 -- where none is left, the list is empty
 pub at_end : (t : Tiling) → has_tile t ≡ false → windows_left t ≡ []
@@ -164,3 +170,33 @@ sum_is (Some k) n m len so is = so.1 ∙ sym is
 pub sum_past : (o : Option ℕ) (n m len : ℕ) → SomeIff o (n + m < 2 ^ 64) (n + m) → len ≡ n + m → o ≡ None → 2 ^ 64 ≤ len
 sum_past None n m len so is none = elim (cases_lt (n + m) (2 ^ 64)) [ inl below ↦ absurd (so below) | inr past ↦ omega (arith, past, is) ]
 sum_past (Some k) n m len so is none = absurd (none-some k (sym none))
+
+-- no more are left than there are
+pub few_left : (t : Tiling) → length (windows_left t) ≤ t.lines * t.columns
+unfolding windows_left
+few_left t =
+    let all = tiles t.width t.height t.tile_width t.tile_height in
+    let k : ℕ = t.line * t.columns + t.column in
+    let long : length all ≡ t.lines * t.columns = length-all t.width t.height t.tile_width t.tile_height t.wide t.high t.columns t.lines t.columns_are t.lines_are in
+    either (has_tile t) (drop k all) (t.lines * t.columns) (omega (arith, length-drop k all, long))
+  where
+    either : (b : Bool) (ws : List Window) (n : ℕ) → length ws ≤ n → length (if b then ws else []) ≤ n
+    either true ws n few = few
+    either false ws n few = omega arith
+
+-- those of a size below 2 ^ 32 can be counted
+pub countable : (t : Tiling) → t.width < 2 ^ 32 → t.height < 2 ^ 32 → length (windows_left t) < 2 ^ 64
+countable t narrow low =
+    let lines : t.lines ≤ 4294967295 = omega (arith, low, t.few_lines) in
+    let columns : t.columns ≤ 4294967295 = omega (arith, narrow, t.few_columns) in
+    let product : t.lines * t.columns ≤ 4294967295 * 4294967295 = mul-le-mul lines columns in
+    omega (arith, few_left t, product)
+
+-- where some are left, the next one is
+pub some_left : (t : Tiling) → 0 < length (windows_left t) → has_tile t ≡ true
+unfolding windows_left
+some_left t some = either (has_tile t) (drop (t.line * t.columns + t.column) (tiles t.width t.height t.tile_width t.tile_height)) some
+  where
+    either : (b : Bool) (ws : List Window) → 0 < length (if b then ws else []) → b ≡ true
+    either true ws some = refl
+    either false ws some = absurd (omega (arith, some))

@@ -1,2 +1,3 @@
 pub mod Tiling
 pub mod Bands
+pub mod Lending

@@ -1,9 +1,16 @@
 -- What a tiling leaves.
-use Rattle.std.specs.Prelude.{◌+◌, ◌*◌, Bool, nat_lt, if◌then◌else◌, List, [], drop}
+use Rattle.std.specs.Prelude.{ℕ, ◌+◌, ◌*◌, Bool, nat_lt, if◌then◌else◌, List, [], drop}
 use Rattle.image_model.specs.Grid.{is_place}
 use Rattle.image_model.specs.Windows.{Window}
 use Rattle.image_model.specs.Tiles.{tiles, tile}
 use Rattle.image_tiles.specs.declared.tiling.Tiling.{Tiling}
+
+-- the size that a tiling covers
+abbrev pub tiling_width : Tiling → ℕ
+tiling_width t = t.width
+
+abbrev pub tiling_height : Tiling → ℕ
+tiling_height t = t.height
 
 -- whether a tile is left
 abbrev pub has_tile : Tiling → Bool
@@ -17,6 +24,10 @@ windows_left t = if has_tile t then drop (t.line * t.columns + t.column) (tiles 
 abbrev pub tile_now : Tiling → Window
 tile_now t = tile t.width t.height t.tile_width t.tile_height t.column t.line
 
--- a tiling after one more window: the column behind, or the first one of the line below
+-- whether another tile stands behind the next one in its line
+abbrev pub goes_right : Tiling → Bool
+goes_right t = nat_lt (t.column + 1) t.columns
+
+-- a tiling after one more window: at the column behind, or at the first one of the line below
 abbrev pub stepped : Tiling → Tiling
-stepped t = if nat_lt (t.column + 1) t.columns then record t { column = t.column + 1 } else record t { column = 0; line = t.line + 1 }
+stepped t = record t { column = if goes_right t then t.column + 1 else 0; line = if goes_right t then t.line else t.line + 1 }

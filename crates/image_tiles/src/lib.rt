@@ -8,7 +8,9 @@
 mod bands;
 #[cfg(test)]
 mod tests;
+mod tiles;
 mod tiling;
 
 pub use bands::BandsMut;
+pub use tiles::{TileCursor, TilesMut};
 pub use tiling::Tiling;

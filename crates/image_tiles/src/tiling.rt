@@ -35,10 +35,12 @@ pub struct Tiling {
     ghost high: { 0 < tile_height },
     ghost columns_are: { columns ≡ tile_count tile_width width },
     ghost lines_are: { lines ≡ tile_count tile_height height },
+    ghost few_columns: { columns ≤ width },
+    ghost few_lines: { lines ≤ height },
 }
 
 impl Tiling {
-    ghost use Rattle.image_tiles.specs.Tiling.{windows_left, stepped, tile_now, has_tile};
+    ghost use Rattle.image_tiles.specs.Tiling.{windows_left, stepped, tile_now, has_tile, tiling_width, tiling_height};
 
     /// The tiles of `tile_width` by `tile_height` pixels of a size. Both tile sizes are positive; all
     /// four numbers may go up to the end of `usize`. A size with no place has no tile.
@@ -49,6 +51,8 @@ impl Tiling {
         ensures windows { windows_left result ≡ tiles width height tile_width tile_height }
         ensures inside { All (IsInside width height) (windows_left result) }
         ensures each_once { EachPlaceInOne width height (windows_left result) }
+        ensures width { tiling_width result ≡ width }
+        ensures height { tiling_height result ≡ height }
     {
         Tiling {
             width,
@@ -59,6 +63,19 @@ impl Tiling {
             lines: tiles_along(height, tile_height),
             column: 0,
             line: 0,
+        }
+    }
+
+    // How many tiles of an image are left: its sizes are below 2 ^ 32, so the number fits.
+    pub(crate) fn number_left(&self) -> usize
+        requires narrow { tiling_width self.now < 2 ^ 32 }
+        requires low { tiling_height self.now < 2 ^ 32 }
+        ensures value { result ≡ length (windows_left self.now) }
+        ensures some { 0 < result → IsTrue (has_tile self.now) }
+    {
+        match self.count_left() {
+            Some(left) => left,
+            None => usize::MAX,
         }
     }
 
@@ -107,7 +124,7 @@ impl Tiling {
         ensures value { as_window result ≡ tile_now self.old }
         ensures steps { self.new ≡ stepped self.old }
         ensures gives { windows_left self.old ≡ as_window result ∷ windows_left self.new }
-        ensures inside { IsInside self.old.width self.old.height (as_window result) }
+        ensures inside { IsInside (tiling_width self.old) (tiling_height self.old) (as_window result) }
         ensures some_width { 0 < result.width }
         ensures some_height { 0 < result.height }
     {
@@ -118,7 +135,7 @@ impl Tiling {
 
     // How many tiles are left, where the number fits.
     #[tactic(auto, unfolding(crate::specs::Tiling::windows_left))]
-    fn count_left(&self) -> Option<usize>
+    pub(crate) fn count_left(&self) -> Option<usize>
         ensures some { IfSome result (λ n. n ≡ length (windows_left self.now)) }
         ensures none { result ≡ None → 2 ^ 64 ≤ length (windows_left self.now) }
     {
