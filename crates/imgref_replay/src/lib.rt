@@ -1,4 +1,5 @@
-//! Commands over images: nested windows, and lists of commands with their replies.
+//! Commands over images: nested windows, and lists of commands with their replies. The tiles and the
+//! bands of `image_tiles` are offered beside them.
 #![tactic(auto)]
 
 #[cfg(test)]
@@ -22,6 +23,7 @@ mod step;
 mod tests;
 
 pub use commands::{Command, Place, Refusal, Reply};
+pub use image_tiles::{BandsMut, TileCursor, TilesMut, Tiling};
 pub use imgref::Window;
 pub use path::{into_window_at, window_at};
 pub use run::{replay, replay_into, two_layouts};
