@@ -18,7 +18,7 @@ use Rattle.image_model.proofs.Tiles.{tile_begins}
 use Rattle.image_tiles.specs.declared.bands.BandsMut.{BandsMut}
 use Rattle.image_tiles.specs.Bands.{band_count, band_window, bands, bands_left}
 
-map_along : {X : Type 0} (f g : ℕ → X) (a b n : ℕ) → ((k : ℕ) → k < n → f (a + k) ≡ g (b + k)) → map f (range_with_len a n) ≡ map g (range_with_len b n)
+pub map_along : {X : Type 0} (f g : ℕ → X) (a b n : ℕ) → ((k : ℕ) → k < n → f (a + k) ≡ g (b + k)) → map f (range_with_len a n) ≡ map g (range_with_len b n)
 map_along f g a b zero each = refl
 map_along f g a b (suc n) each =
     let first : f a ≡ g b = let e : a ≡ a + 0 = omega arith in let e' : b + 0 ≡ b = omega arith in ap f e ∙ each 0 (omega arith) ∙ ap g e' in
@@ -41,7 +41,7 @@ count_none : (tile : ℕ) → 0 < tile → tile_count tile 0 ≡ 0
 count_none tile some = let e : 0 + (tile - 1) ≡ 0 * tile + (tile - 1) = omega arith in ap (λ k. k / tile) e ∙ div-mul-add 0 tile (tile - 1) (omega arith)
 
 -- one tile, where no more places are there than it has
-count_one : (tile n : ℕ) → 0 < tile → 0 < n → n ≤ tile → tile_count tile n ≡ 1
+pub count_one : (tile n : ℕ) → 0 < tile → 0 < n → n ≤ tile → tile_count tile n ≡ 1
 count_one tile n some high low = let e : n + (tile - 1) ≡ 1 * tile + (n - 1) = omega arith in ap (λ k. k / tile) e ∙ div-mul-add 1 tile (n - 1) (omega arith)
 
 -- a window with a place has its exact cells

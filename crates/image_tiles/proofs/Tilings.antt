@@ -1,6 +1,6 @@
 -- A tiling by the column and the line of its next window.
 use Rattle.std.proofs.Common.{◌≡◌, ℕ, zero, suc, ◌+◌, ◌-◌, ◌*◌, ◌/◌, ◌%◌, ◌<◌, ◌≤◌, true, false, inl, inr, List, [], ◌∷◌, drop, length, length-drop, Option, Some, None, refl, sym, ap, ◌∙◌, subst, arith}
-use Rattle.std.specs.Prelude.{Bool, nat_lt, if◌then◌else◌, ◌^◌, IfSome}
+use Rattle.std.specs.Prelude.{Bool, if◌then◌else◌, ◌^◌, IfSome}
 use mathlib.Core.Path.{ap₂}
 use lib.Dec.{T, T_not, eqb, eqb_refl}
 use mathlib.Core.Bool.{not}

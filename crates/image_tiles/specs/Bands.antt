@@ -18,7 +18,11 @@ band_count width height band_height = if width == 0 then 0 else tile_count band_
 abbrev pub band_window : ℕ → ℕ → ℕ → ℕ → Window
 band_window width height band_height j = window 0 (j * band_height) width (min band_height (height - j * band_height))
 
--- the bands from top to bottom, each up to its last pixel
+-- the windows of the bands, from top to bottom
+abbrev pub band_windows : ℕ → ℕ → ℕ → List Window
+band_windows width height band_height = map (band_window width height band_height) (range_with_len 0 (band_count width height band_height))
+
+-- the bands of a layout, each up to its last pixel
 abbrev pub bands : {T : Type 0} → Layout T → ℕ → List (Layout T)
 bands l band_height = map (λ j. exact_window l (band_window l.width l.height band_height j)) (range_with_len 0 (band_count l.width l.height band_height))
 

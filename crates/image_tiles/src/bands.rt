@@ -1,11 +1,14 @@
 //! Bands of an image for writing: full width, side by side.
 
-ghost use Rattle.std.specs.Prelude.{◌≡◌, ◌+◌, ◌-◌, ◌*◌, ◌^◌, ◌≤◌, ◌<◌, ◌++◌, length, take, drop, Some, All};
+ghost use Rattle.std.specs.Prelude.{◌≡◌, ◌+◌, ◌-◌, ◌*◌, ◌^◌, ◌≤◌, ◌<◌, ◌++◌, length, take, drop, map, Some, All};
 ghost use Rattle.std.specs.Borrow.{sem, follows_both, Array};
 ghost use Rattle.image_model.specs.Layout.{Fits};
+ghost use Rattle.image_model.specs.Grid.{grid_of};
 ghost use Rattle.image_model.specs.Rows.{row_count};
+ghost use Rattle.image_model.specs.Tiles.{EachPlaceInOne};
+ghost use Rattle.image_model.specs.Windows.{IsInside, window_view};
 ghost use Rattle.imgref.specs.Shape.{shape_width, shape_height, shape_stride};
-ghost use Rattle.imgref.specs.Image.{buf_of, mut_layout};
+ghost use Rattle.imgref.specs.Image.{buf_of, width_of, height_of, mut_layout};
 
 use crate::tiling::tiles_along;
 use imgref::{ImgRefMut, Shape};
@@ -117,7 +120,7 @@ pub struct BandsMut<'a, T> {
 impl<'a, T> BandsMut<'a, T> {
     ghost use Rattle.std.specs.Borrow.{sem};
     ghost use Rattle.std.specs.Iterator.{YieldsFirstBy};
-    ghost use Rattle.image_tiles.specs.Bands.{bands, bands_left, name_of, cells_left, hands_on, Moves};
+    ghost use Rattle.image_tiles.specs.Bands.{bands, band_windows, bands_left, name_of, cells_left, hands_on, Moves};
 
     /// The bands of an image that fits (`is_valid`), of a positive number of rows each. An image with
     /// no pixel has none.
@@ -129,6 +132,9 @@ impl<'a, T> BandsMut<'a, T> {
         ensures cells { cells_left result ≡ (buf_of img.entry).now }
         ensures bands { bands_left result ≡ bands (mut_layout img.entry) band_height }
         ensures fit { All Fits (bands_left result) }
+        ensures views { map grid_of (bands_left result) ≡ map (window_view (grid_of (mut_layout img.entry))) (band_windows (width_of img.entry) (height_of img.entry) band_height) }
+        ensures inside { All (IsInside (width_of img.entry) (height_of img.entry)) (band_windows (width_of img.entry) (height_of img.entry) band_height) }
+        ensures each_once { EachPlaceInOne (width_of img.entry) (height_of img.entry) (band_windows (width_of img.entry) (height_of img.entry) band_height) }
     {
         let (cells, shape) = img.into_parts();
         BandsMut {

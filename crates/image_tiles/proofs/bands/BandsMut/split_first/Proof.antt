@@ -31,7 +31,7 @@ use denote.Param.Laws.{param_laws}
 use denote.Plain.{uint_Makes}
 use denote.RattleType.{RattleType, owns}
 use denote.Ref.{MutBor}
-use denote.Signature.{plain, named_lft, types_at}
+use denote.Signature.{named_lft, types_at}
 use denote.Slice.{MutSlice}
 use denote.Steps.{nothing, heard, peeks, owned, only}
 use denote.Struct.Tuple.{Tuple}
@@ -39,7 +39,7 @@ use denote.Triple.Call.{calls_at}
 use denote.Triple.Clauses.{lasts}
 use denote.Triple.Spec.{triple_of}
 use denote.Triple.Table.{framed}
-use denote.Triple.Walked.{Stays, stay_dropped, walk_of, Goes-dropped}
+use denote.Triple.Walked.{Stays, stay_dropped, walk_of}
 use Rattle.std.proofs.alloc.Shapes.{after}
 use Rattle.std.proofs.option.Made.{Some-of, none_of}
 use Rattle.std.proofs.raw_atomic.Walks.{proved_at, leaves}
@@ -49,7 +49,6 @@ use Rattle.lending.proofs.Options.{lent_val}
 use Rattle.lending.proofs.Pairs.{pair_val, pair_made, pair_told, pair_out}
 use Rattle.lending.proofs.Parts.{given_up, cut_within}
 use Rattle.std.specs.Iterator.{YieldsFirstBy}
-use Rattle.image_shape.specs.declared.shape.Shape.{Shape}
 use Rattle.image_shape.specs.contracts.shape.Shape as shape_type
 use Rattle.image_shape.proofs.shape.Shape.TheLaws as shape_laws
 use Rattle.imgref.specs.declared.img.Img.{Img}

@@ -1,6 +1,5 @@
 -- As many bands are left as tiles along the rows.
-use Rattle.std.proofs.Common.{◌≡◌, ◌∙◌, ℕ, sym, ap, Some, drop, length, arith}
-use Rattle.image_tiles.specs.Bands.{bands_left}
+use Rattle.std.proofs.Common.{◌∙◌, sym, ap, Some, arith}
 use Rattle.image_tiles.proofs.BandsLeft.{counted_left}
 use Rattle.image_tiles.proofs.bands.BandsMutIterator.size_hint.Goals as goal
 

@@ -1,5 +1,5 @@
 -- At the first tile all are left: they cover the size.
-use Rattle.std.proofs.Common.{◌≡◌, sym, subst, List}
+use Rattle.std.proofs.Common.{sym, subst, List}
 use Rattle.std.specs.List.{All}
 use Rattle.image_model.specs.Tiles.{EachPlaceInOne}
 use Rattle.image_model.specs.Windows.{Window, IsInside}

@@ -1,5 +1,5 @@
 -- The windows that are left go on behind the next one.
-use Rattle.std.proofs.Common.{◌≡◌, ◌∷◌, sym, ap, ◌∙◌}
+use Rattle.std.proofs.Common.{◌∷◌, sym, ap, ◌∙◌}
 use mathlib.Core.Path.{ap₂}
 use Rattle.image_tiles.specs.declared.tiling.Tiling.{Tiling}
 use Rattle.image_tiles.specs.Tiling.{windows_left}

@@ -1,6 +1,5 @@
 -- The tiles of an image are few enough to be counted.
-use Rattle.std.proofs.Common.{◌<◌, ◌^◌, length, refl, subst, arith}
-use Rattle.image_tiles.specs.Tiling.{windows_left}
+use Rattle.std.proofs.Common.{refl, arith}
 use Rattle.image_tiles.proofs.Tilings.{countable, some_left}
 use Rattle.image_tiles.proofs.tiling.Tiling.number_left.Goals as goal
 
