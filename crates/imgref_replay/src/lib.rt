@@ -13,6 +13,8 @@ mod fixtures;
 #[cfg(test)]
 mod layouts_tests;
 #[cfg(test)]
+mod nested_tests;
+#[cfg(test)]
 mod pairs_tests;
 mod path;
 #[cfg(test)]

@@ -1,0 +1,87 @@
+//! The image of nine cells, and what its windows have.
+
+use imgref::{Img, ImgVec, Window};
+use std::alloc::{AllocError, Global};
+
+// Three by two with one cell of padding after each row, and one behind them.
+pub const PADDED: [u8; 9] = [1, 2, 3, 4, 5, 6, 7, 8, 9];
+
+pub fn padded(alloc: Global) -> Result<ImgVec<u8>, AllocError> {
+    Ok(Img::new_stride(PADDED.to_vec(alloc)?, 3, 2, 4))
+}
+
+// The pixel of a place of that image.
+pub fn pixel_at(x: usize, y: usize) -> Option<u8> {
+    match (x, y) {
+        (0, 0) => Some(1),
+        (1, 0) => Some(2),
+        (2, 0) => Some(3),
+        (0, 1) => Some(5),
+        (1, 1) => Some(6),
+        (2, 1) => Some(7),
+        _ => None,
+    }
+}
+
+// Each of the 256 windows with numbers from 0 to 3.
+pub fn numbered(number: usize) -> Window {
+    Window {
+        left: number % 4,
+        top: number / 4 % 4,
+        width: number / 16 % 4,
+        height: number / 64 % 4,
+    }
+}
+
+// Which cells a window has.
+#[derive(Clone, Copy)]
+pub struct Cells {
+    pub first: usize,
+    // Those to its last pixel, and those of its whole strides where they are there.
+    pub exact: usize,
+    pub roomy: usize,
+}
+
+// The windows with a pixel: left, top, width and height, the first cell, and both numbers of cells.
+const STRETCHES: [(usize, usize, usize, usize, usize, usize, usize); 18] = [
+    (0, 0, 1, 1, 0, 1, 4),
+    (1, 0, 1, 1, 1, 1, 4),
+    (2, 0, 1, 1, 2, 1, 4),
+    (0, 0, 2, 1, 0, 2, 4),
+    (1, 0, 2, 1, 1, 2, 4),
+    (0, 0, 3, 1, 0, 3, 4),
+    (0, 1, 1, 1, 4, 1, 4),
+    (1, 1, 1, 1, 5, 1, 4),
+    (2, 1, 1, 1, 6, 1, 1),
+    (0, 1, 2, 1, 4, 2, 4),
+    (1, 1, 2, 1, 5, 2, 4),
+    (0, 1, 3, 1, 4, 3, 4),
+    (0, 0, 1, 2, 0, 5, 8),
+    (1, 0, 1, 2, 1, 5, 8),
+    (2, 0, 1, 2, 2, 5, 5),
+    (0, 0, 2, 2, 0, 6, 8),
+    (1, 0, 2, 2, 1, 6, 8),
+    (0, 0, 3, 2, 0, 7, 8),
+];
+
+// The cells of a window inside that image: none, where it has no pixel.
+pub fn cells_of(window: Window) -> Cells {
+    for (left, top, width, height, first, exact, roomy) in STRETCHES {
+        let is_this = window.left == left
+            && window.top == top
+            && window.width == width
+            && window.height == height;
+        if is_this {
+            return Cells {
+                first,
+                exact,
+                roomy,
+            };
+        }
+    }
+    Cells {
+        first: 0,
+        exact: 0,
+        roomy: 0,
+    }
+}

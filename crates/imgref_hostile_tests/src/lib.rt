@@ -1,0 +1,16 @@
+//! The tests of hostile use of `imgref`, by subject: every small window, numbers at the type's end,
+//! iterators dropped early, pixels of no size, buffers that are too short.
+#![tactic(auto)]
+
+#[cfg(test)]
+mod early_drops;
+#[cfg(test)]
+mod fixtures;
+#[cfg(test)]
+mod greatest_numbers;
+#[cfg(test)]
+mod short_buffers;
+#[cfg(test)]
+mod units;
+#[cfg(test)]
+mod windows;

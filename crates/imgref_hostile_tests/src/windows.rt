@@ -1,0 +1,265 @@
+//! Each window of the image of nine cells, by every call of each kind.
+
+use crate::fixtures::{PADDED, cells_of, numbered, padded, pixel_at};
+use imgref::{AsMutSlice, Img, ImgRef, ImgRefMut, Window};
+use std::alloc::{AllocError, Global};
+use std::process::Abort;
+use std::test::Fail;
+
+// A window has its size, its pixels by their places, and these cells.
+fn check_view(rt: &impl Abort, found: ImgRef<'_, u8>, window: Window, count: usize) {
+    let Window {
+        left,
+        top,
+        width,
+        height,
+    } = window;
+    assert_eq!(rt; (found.width(), found.height()), (width, height));
+    assert_eq!(rt; found.stride(), 4);
+    assert!(rt; found.is_valid());
+    for y in 0..4usize {
+        for x in 0..4usize {
+            let pixel = if x < width && y < height {
+                pixel_at(left.saturating_add(x), top.saturating_add(y))
+            } else {
+                None
+            };
+            assert_eq!(rt;
+                found.get(x, y),
+                pixel,
+                "({x}, {y}) of {left},{top},{width},{height}"
+            );
+        }
+    }
+    let first = cells_of(window).first;
+    assert_eq!(rt; found.buf().len(), count, "{left},{top},{width},{height}");
+    for (at, cell) in found.iter().enumerate() {
+        let expected = PADDED.get(first.saturating_add(at));
+        assert_eq!(rt;
+            Some(cell),
+            expected,
+            "cell {at} of {left},{top},{width},{height}"
+        );
+    }
+}
+
+// So many cells from this one on are 0, and no other has changed.
+fn check_cleared(rt: &impl Abort, cells: &[u8], first: usize, count: usize) {
+    assert_eq!(rt; cells.len(), 9);
+    for (at, cell) in cells.iter().enumerate() {
+        let is_written = at >= first && at.saturating_sub(first) < count;
+        let expected = if is_written { Some(&0) } else { PADDED.get(at) };
+        assert_eq!(rt; Some(cell), expected, "cell {at} of {count} from {first}");
+    }
+}
+
+// The pixels of a window are 0, and no other cell has changed.
+fn check_filled(rt: &impl Abort, cells: &[u8], window: Window) {
+    assert_eq!(rt; cells.len(), 9);
+    for (at, cell) in cells.iter().enumerate() {
+        let x = at % 4;
+        let y = at / 4;
+        let is_column = x >= window.left && x.saturating_sub(window.left) < window.width;
+        let is_line = y >= window.top && y.saturating_sub(window.top) < window.height;
+        let expected = if is_column && is_line {
+            Some(&0)
+        } else {
+            PADDED.get(at)
+        };
+        assert_eq!(rt;
+            Some(cell),
+            expected,
+            "cell {at} of {}, {}",
+            window.left,
+            window.top
+        );
+    }
+}
+
+// Whether a window is inside, and what is read through it.
+fn is_in_view(rt: &impl Abort, image: ImgRef<'_, u8>, window: Window) -> bool {
+    let Window {
+        left,
+        top,
+        width,
+        height,
+    } = window;
+    assert!(rt; image.is_valid());
+    if !image.has_window(left, top, width, height) {
+        return false;
+    }
+    let found = image.sub_image(left, top, width, height);
+    check_view(rt, found, window, cells_of(window).roomy);
+    true
+}
+
+// The same of an image that can be written, whatever it holds its cells in.
+fn is_in_image<C: AsMutSlice<Item = u8>>(rt: &impl Abort, image: &Img<C>, window: Window) -> bool {
+    let Window {
+        left,
+        top,
+        width,
+        height,
+    } = window;
+    assert!(rt; image.is_valid());
+    if !image.has_window(left, top, width, height) {
+        return false;
+    }
+    let found = image.sub_image(left, top, width, height);
+    check_view(rt, found, window, cells_of(window).roomy);
+    true
+}
+
+#[test]
+fn sixty_windows_for_reading(rt: HostRuntime) -> Result<(), Fail> {
+    let mut cells = PADDED;
+    let owner = padded(rt.alloc())?;
+    let view = ImgRef::new_stride(PADDED.as_slice(), 3, 2, 4);
+    let lent = ImgRefMut::new_stride(cells.as_mut_slice(), 3, 2, 4);
+    let mut inside = 0u32;
+    for number in 0..256usize {
+        let window = numbered(number);
+        let is_inside = window.left.saturating_add(window.width) <= 3
+            && window.top.saturating_add(window.height) <= 2;
+        assert_eq!(rt; is_in_view(&rt, view, window), is_inside, "window {number}");
+        assert_eq!(rt;
+            is_in_image(&rt, &owner, window),
+            is_inside,
+            "window {number}"
+        );
+        assert_eq!(rt;
+            is_in_image(&rt, &lent, window),
+            is_inside,
+            "window {number}"
+        );
+        if is_inside {
+            inside = inside.saturating_add(1);
+        }
+    }
+    assert_eq!(rt; inside, 60);
+    Ok(())
+}
+
+// A window of an owner for writing: what it shows, and what all its cells and all its pixels that
+// are written through it leave.
+fn check_owner(rt: &impl Abort, alloc: Global, window: Window) -> Result<(), AllocError> {
+    let Window {
+        left,
+        top,
+        width,
+        height,
+    } = window;
+    let cells = cells_of(window);
+    let mut image = padded(alloc)?;
+    assert!(rt; image.is_valid());
+    assert!(rt; image.has_window(left, top, width, height));
+    let found = image.sub_image_mut(left, top, width, height);
+    check_view(rt, found.as_ref(), window, cells.exact);
+    assert!(rt; image.is_valid());
+    assert!(rt; image.has_window(left, top, width, height));
+    image.sub_image_mut(left, top, width, height).fill(0);
+    check_filled(rt, image.buf().as_slice(), window);
+    let mut image = padded(alloc)?;
+    assert!(rt; image.is_valid());
+    assert!(rt; image.has_window(left, top, width, height));
+    let (parts, shape) = image.window_parts_mut(left, top, width, height);
+    assert_eq!(rt;
+        (shape.width(), shape.height(), shape.stride()),
+        (width, height, 4)
+    );
+    parts.fill(0);
+    check_cleared(rt, image.buf().as_slice(), cells.first, cells.exact);
+    Ok(())
+}
+
+#[test]
+fn sixty_windows_of_an_owner_for_writing(rt: HostRuntime) -> Result<(), Fail> {
+    let view = ImgRef::new_stride(PADDED.as_slice(), 3, 2, 4);
+    let mut inside = 0u32;
+    for number in 0..256usize {
+        let window = numbered(number);
+        if view.has_window(window.left, window.top, window.width, window.height) {
+            check_owner(&rt, rt.alloc(), window)?;
+            inside = inside.saturating_add(1);
+        }
+    }
+    assert_eq!(rt; inside, 60);
+    Ok(())
+}
+
+// The same of an image whose cells are lent.
+fn check_lent(rt: &impl Abort, window: Window) {
+    let Window {
+        left,
+        top,
+        width,
+        height,
+    } = window;
+    let cells = cells_of(window);
+    let mut buf = PADDED;
+    let mut image = ImgRefMut::new_stride(buf.as_mut_slice(), 3, 2, 4);
+    assert!(rt; image.is_valid());
+    assert!(rt; image.has_window(left, top, width, height));
+    let found = image.sub_image_mut(left, top, width, height);
+    check_view(rt, found.as_ref(), window, cells.roomy);
+    assert!(rt; image.is_valid());
+    assert!(rt; image.has_window(left, top, width, height));
+    image.sub_image_mut(left, top, width, height).fill(0);
+    check_filled(rt, buf.as_slice(), window);
+    let mut buf = PADDED;
+    let mut image = ImgRefMut::new_stride(buf.as_mut_slice(), 3, 2, 4);
+    assert!(rt; image.is_valid());
+    assert!(rt; image.has_window(left, top, width, height));
+    let (parts, shape) = image.window_parts_mut(left, top, width, height);
+    assert_eq!(rt;
+        (shape.width(), shape.height(), shape.stride()),
+        (width, height, 4)
+    );
+    parts.fill(0);
+    check_cleared(rt, buf.as_slice(), cells.first, cells.roomy);
+}
+
+// An image that is cut down to its window.
+fn check_cut(rt: &impl Abort, window: Window) {
+    let Window {
+        left,
+        top,
+        width,
+        height,
+    } = window;
+    let cells = cells_of(window);
+    let mut buf = PADDED;
+    let image = ImgRefMut::new_stride(buf.as_mut_slice(), 3, 2, 4);
+    assert!(rt; image.is_valid());
+    assert!(rt; image.has_window(left, top, width, height));
+    let mut cut = image.into_sub_image_mut(left, top, width, height);
+    check_view(rt, cut.as_ref(), window, cells.roomy);
+    assert!(rt; cut.is_valid());
+    cut.fill(0);
+    check_filled(rt, buf.as_slice(), window);
+    let mut buf = PADDED;
+    let image = ImgRefMut::new_stride(buf.as_mut_slice(), 3, 2, 4);
+    assert!(rt; image.is_valid());
+    assert!(rt; image.has_window(left, top, width, height));
+    image
+        .into_sub_image_mut(left, top, width, height)
+        .into_buf()
+        .fill(0);
+    check_cleared(rt, buf.as_slice(), cells.first, cells.roomy);
+}
+
+#[test]
+fn sixty_windows_of_lent_cells_for_writing(rt: HostRuntime) -> Result<(), Fail> {
+    let view = ImgRef::new_stride(PADDED.as_slice(), 3, 2, 4);
+    let mut inside = 0u32;
+    for number in 0..256usize {
+        let window = numbered(number);
+        if view.has_window(window.left, window.top, window.width, window.height) {
+            check_lent(&rt, window);
+            check_cut(&rt, window);
+            inside = inside.saturating_add(1);
+        }
+    }
+    assert_eq!(rt; inside, 60);
+    Ok(())
+}
