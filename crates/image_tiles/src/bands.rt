@@ -202,7 +202,7 @@ impl<'a, T> Iterator for BandsMut<'a, T> {
         band
     }
 
-    #[tactic(auto, unfolding(crate::specs::Bands::bands_left))]
+    #[tactic(auto, using(crate::proofs::BandsLeft::counted_left))]
     fn size_hint(&self) -> (usize, Option<usize>)
         ensures lower { IsWithinCount result.0 (item_count bands_left self.now) }
         ensures upper { IfSome result.1 (UpTo (item_count bands_left self.now)) }
