@@ -125,6 +125,15 @@ def blit(images, *spots):
     return b"done"
 
 
+def mosaic(images, index, windows, wide, high):
+    [(image, window)] = windows_of(images, (index, windows))
+    if not wide or not high:
+        raise Refused(5)
+    old = image.pixels(window)
+    image.write(window, {(x, y): old[x - x % wide, y - y % high] for x, y in old})
+    return b"done"
+
+
 def compact(images, index):
     image_of(images, index).compact()
     return b"done"
@@ -142,6 +151,7 @@ WORDS = {
     b"count": (count, [number, path, pixel]),
     b"same": (same, [number, path, number, path]),
     b"blit": (blit, [number, path, number, path]),
+    b"mosaic": (mosaic, [number, path, number, number]),
     b"compact": (compact, [number]),
 }
 

@@ -8,9 +8,9 @@ use Rattle.image_model.specs.Rows.{grid_joined_rows}
 use Rattle.imgref_replay.specs.Run.{replies_to, after_all}
 use Rattle.image_shape.specs.declared.window.Window.{Window}
 use Rattle.imgref_replay.specs.declared.commands.Place.{Place}
-use Rattle.imgref_replay.specs.declared.commands.Command.TheVariants.{Get, Put, Fill, Count, Same, Blit, Compact}
+use Rattle.imgref_replay.specs.declared.commands.Command.TheVariants.{Get, Put, Fill, Count, Same, Blit, Mosaic, Compact}
 use Rattle.imgref_replay.specs.declared.commands.Reply.TheVariants.{Pixel, Counted, Truth, Done, Refused}
-use Rattle.imgref_replay.specs.declared.commands.Refusal.TheVariants.{NoImage, WindowOutside, PlaceOutside, SizesDiffer}
+use Rattle.imgref_replay.specs.declared.commands.Refusal.TheVariants.{NoImage, WindowOutside, PlaceOutside, SizesDiffer, NoTile}
 
 -- 3 by 2 at stride 4, with cells past the last pixel: 1 2 3 above 5 6 7
 abbrev padded : Grid ℕ
@@ -121,6 +121,21 @@ module _ (ptr : Ptr) (alloc : Global) where
       ≡ Refused SizesDiffer ∷ Refused WindowOutside ∷ Refused NoImage ∷ []
   unfolding grid_of
   blit_refused = refl
+
+  -- each place has the old pixel at its tile's corner, and the last tile of a line is cut
+  mosaic_cut : map grid_joined_rows (after_all (Mosaic whole 2 2 ∷ []) (padded ∷ [])) ≡ (1 ∷ 1 ∷ 3 ∷ 1 ∷ 1 ∷ 3 ∷ []) ∷ []
+  unfolding grid_of view patch
+  mosaic_cut = refl
+
+  mosaic_in_window : map grid_joined_rows (after_all (Mosaic (place 0 (window 1 0 2 2 ∷ []) (omega arith)) 5 1 ∷ []) (padded ∷ [])) ≡ (1 ∷ 2 ∷ 2 ∷ 5 ∷ 6 ∷ 6 ∷ []) ∷ []
+  unfolding grid_of view patch
+  mosaic_in_window = refl
+
+  -- a tile is tested after the path, and in an empty window too
+  mosaic_refused : replies_to ◌==◌ (Mosaic (place 1 [] (omega arith)) 0 0 ∷ Mosaic (place 0 (window 9 9 9 9 ∷ []) (omega arith)) 0 0 ∷ Mosaic (place 0 (window 3 0 0 2 ∷ []) (omega arith)) 3 0 ∷ Mosaic (place 0 (window 3 0 0 2 ∷ []) (omega arith)) 3 3 ∷ []) (padded ∷ [])
+      ≡ Refused NoImage ∷ Refused WindowOutside ∷ Refused NoTile ∷ Done ∷ []
+  unfolding grid_of
+  mosaic_refused = refl
 
   compact_done : replies_to ◌==◌ (Compact 0 ∷ Get whole 2 1 ∷ Compact 1 ∷ []) (padded ∷ []) ≡ Done ∷ Pixel 7 ∷ Refused NoImage ∷ []
   unfolding grid_of view

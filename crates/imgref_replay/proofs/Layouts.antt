@@ -10,16 +10,18 @@ use Rattle.image_model.specs.Windows as model
 use Rattle.image_model.specs.Windows.{window_view, first_outside, path_window}
 use Rattle.image_model.proofs.Agreement.{PixelsAlike, agree_grid, agree_sym, agree_trans, agree_view, agree_patch, agree_pixels, agree_uniform}
 use Rattle.imgref.specs.Window.{as_path}
+use Rattle.image_model.specs.Tiles.{tile_start}
 use Rattle.imgref_replay.specs.Agreement.{do_agree}
-use Rattle.imgref_replay.specs.Commands.{grid_at, window_named, view_named, lacks_image, leaves_image, image_faults, window_faults, place_faults, pair_faults, copy_faults, patched_at, meaning}
+use Rattle.imgref_replay.specs.Mosaic.{mosaic}
+use Rattle.imgref_replay.specs.Commands.{grid_at, window_named, view_named, lacks_image, leaves_image, image_faults, window_faults, place_faults, pair_faults, copy_faults, lacks_tile, tile_faults, patched_at, meaning}
 use Rattle.imgref_replay.specs.Step.{first_fault, fault_of, reply_to, after}
 use Rattle.imgref_replay.specs.Run.{replies_to, after_all}
 use Rattle.imgref_replay.specs.Layouts.{GridsAgree, AlikeReply, RepliesAgree}
 use Rattle.imgref_replay.specs.declared.commands.Place.{Place}
 use Rattle.imgref_replay.specs.declared.commands.Command.{Command}
-use Rattle.imgref_replay.specs.declared.commands.Command.TheVariants.{Get, Put, Fill, Count, Same, Blit, Compact}
+use Rattle.imgref_replay.specs.declared.commands.Command.TheVariants.{Get, Put, Fill, Count, Same, Blit, Mosaic, Compact}
 use Rattle.imgref_replay.specs.declared.commands.Refusal.{Refusal}
-use Rattle.imgref_replay.specs.declared.commands.Refusal.TheVariants.{NoImage, WindowOutside, PlaceOutside, SizesDiffer}
+use Rattle.imgref_replay.specs.declared.commands.Refusal.TheVariants.{NoImage, WindowOutside, PlaceOutside, SizesDiffer, NoTile}
 use Rattle.imgref_replay.specs.declared.commands.Reply.{Reply}
 use Rattle.imgref_replay.specs.declared.commands.Reply.TheVariants.{Pixel, Counted, Truth, Done, Refused}
 use Rattle.imgref_replay.proofs.Agreement.{agree_decides}
@@ -92,6 +94,9 @@ module _ {T : Type 0} (eq : T → T → Bool) where
         let three = same_window target in
         λ k. one k ++ (not (((two k).width == (three k).width) && ((two k).height == (three k).height)), SizesDiffer) ∷ []
 
+    same_tile_faults : (spot : Place) (tile_width tile_height : ℕ) → tile_faults spot tile_width tile_height gs ≡ tile_faults spot tile_width tile_height hs
+    same_tile_faults spot tile_width tile_height = let one = same_window_faults spot in λ k. one k ++ (lacks_tile tile_width tile_height, NoTile) ∷ []
+
     same_faults : (command : Command T) → (meaning command).faults gs ≡ (meaning command).faults hs
     same_faults (Get spot x y) = same_place_faults spot x y
     same_faults (Put spot x y value) = same_place_faults spot x y
@@ -99,6 +104,7 @@ module _ {T : Type 0} (eq : T → T → Bool) where
     same_faults (Count spot value) = same_window_faults spot
     same_faults (Same first second) = same_pair_faults first second
     same_faults (Blit source target) = same_copy_faults source target
+    same_faults (Mosaic spot tile_width tile_height) = same_tile_faults spot tile_width tile_height
     same_faults (Compact image) = same_image_faults image
 
     -- ---- what is seen in both
@@ -111,6 +117,10 @@ module _ {T : Type 0} (eq : T → T → Bool) where
     agree_patched : (spot : Place) (left top : ℕ) (p q : Grid T) → Agree eq p q → GridsAgree eq (patched_at spot left top p gs) (patched_at spot left top q hs)
     agree_patched spot left top p q b =
         agree_set gs hs spot.image _ _ a (agree_patch eq (grid_at gs spot.image) (grid_at hs spot.image) p q left top (agree_at gs hs spot.image a) b)
+
+  agree_mosaic : (tile_width tile_height : ℕ) (g h : Grid T) → Agree eq g h → Agree eq (mosaic tile_width tile_height g) (mosaic tile_width tile_height h)
+  agree_mosaic tile_width tile_height g h a =
+      agree_grid eq g.width h.width g.height h.height _ _ a.same_width a.same_height (λ x y _ _. a.alike (tile_start tile_width x) (tile_start tile_height y))
 
   alike_pixel : (o p : Option T) → AlikePixels eq o p → AlikeReply eq (option_map_or (λ pixel. Pixel pixel) o Done) (option_map_or (λ pixel. Pixel pixel) p Done)
   alike_pixel None None h = refl
@@ -162,6 +172,7 @@ module _ {T : Type 0} (eq : T → T → Bool) where
       alike_answers (Count spot value) = ap (λ n. Counted n) (counted value 0 (grid_pixels (view_named spot gs)) (grid_pixels (view_named spot hs)) (agree_pixels eq _ _ (agree_seen gs hs a spot)))
       alike_answers (Same first second) = ap (λ b. Truth b) (same_pair first second)
       alike_answers (Blit source target) = refl
+      alike_answers (Mosaic spot tile_width tile_height) = refl
       alike_answers (Compact image) = refl
 
       agree_effect : (command : Command T) → GridsAgree eq ((meaning command).effect gs) ((meaning command).effect hs)
@@ -177,6 +188,10 @@ module _ {T : Type 0} (eq : T → T → Bool) where
       agree_effect (Blit source target) =
           subst (λ w. GridsAgree eq ((meaning (Blit source target)).effect gs) (patched_at target w.left w.top (view_named source hs) hs)) (same_window gs hs a target)
           (let w = window_named target gs in agree_patched gs hs a target w.left w.top (view_named source gs) (view_named source hs) (agree_seen gs hs a source))
+      agree_effect (Mosaic spot tile_width tile_height) =
+          let tiled : Grid T → Grid T = mosaic tile_width tile_height in
+          subst (λ w. GridsAgree eq ((meaning (Mosaic spot tile_width tile_height)).effect gs) (patched_at spot w.left w.top (tiled (view_named spot hs)) hs)) (same_window gs hs a spot)
+          (let w = window_named spot gs in agree_patched gs hs a spot w.left w.top (tiled (view_named spot gs)) (tiled (view_named spot hs)) (agree_mosaic tile_width tile_height (view_named spot gs) (view_named spot hs) (agree_seen gs hs a spot)))
       agree_effect (Compact image) = a
 
       alike_or : (o : Option Refusal) (r q : Reply T) → AlikeReply eq r q → AlikeReply eq (option_map_or (λ refusal. Refused refusal) o r) (option_map_or (λ refusal. Refused refusal) o q)

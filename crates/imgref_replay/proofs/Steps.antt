@@ -1,6 +1,6 @@
 -- Commands without a fault: what one that asks and one that writes leave.
-use Rattle.std.proofs.Common.{◌≡◌, ℕ, ◌<◌, Bool, true, false, not, List, [], ◌∷◌, ◌++◌, length, map, set, get_or, Some, None, Vec, refl, sym, ap, ◌∙◌, subst}
-use Rattle.std.specs.Prelude.{All, Ok}
+use Rattle.std.proofs.Common.{◌≡◌, ◌≢◌, ℕ, ◌<◌, Bool, true, false, not, List, [], ◌∷◌, ◌++◌, length, map, set, get_or, Some, None, Vec, refl, sym, ap, ◌∙◌, subst}
+use Rattle.std.specs.Prelude.{◌||◌, All, Ok}
 use Rattle.std.specs.Option.{option_map_or}
 use Rattle.std.proofs.lemmas.Bool.{cond-false, lt-leb, eq-eqb, ne_eqb}
 use Rattle.std.proofs.lemmas.Option.{same_Some}
@@ -12,7 +12,7 @@ use Rattle.image_model.proofs.Grids.{is_place_decides}
 use Rattle.image_model.proofs.Places.{outside_refl}
 use Rattle.imgref.specs.Image.{vec_layout}
 use Rattle.imgref.specs.declared.img.Img.{Img}
-use Rattle.imgref_replay.specs.Commands.{grids_of, grid_at, window_named, lacks_image, misses_window, window_faults, place_faults, meaning}
+use Rattle.imgref_replay.specs.Commands.{grids_of, grid_at, window_named, lacks_image, misses_window, lacks_tile, window_faults, place_faults, tile_faults, meaning}
 use Rattle.imgref_replay.specs.Step.{first_fault, fault_of, compacts, AllKept, IsStep}
 use Rattle.imgref_replay.specs.declared.commands.Command.{Command}
 use Rattle.imgref_replay.specs.declared.commands.Command.TheVariants.{Compact}
@@ -20,7 +20,7 @@ use Rattle.imgref_replay.specs.declared.commands.Place.{Place}
 use Rattle.imgref_replay.specs.declared.commands.Refusal.{Refusal}
 use Rattle.imgref_replay.specs.declared.commands.Reply.{Reply}
 use Rattle.imgref_replay.specs.declared.commands.Reply.TheVariants.{Done}
-use Rattle.imgref_replay.specs.declared.commands.Refusal.TheVariants.{NoImage, PlaceOutside}
+use Rattle.imgref_replay.specs.declared.commands.Refusal.TheVariants.{NoImage, PlaceOutside, NoTile}
 use Rattle.imgref_replay.proofs.Images.{length-grids, grid_at-images, grids_set, fits_set, kept_set, same_grids}
 
 -- where the first tests don't hold, the others decide
@@ -36,6 +36,14 @@ no_place_fault spot x y grids e within =
     let w = window_named spot grids in
     let place : first_fault ((misses_window spot x y grids, PlaceOutside) ∷ []) ≡ None = cond-false (not (is_place w.width w.height x y)) (Some PlaceOutside) None (ap not ((is_place_decides w.width w.height x y).1 within)) in
     sym (faults_after (window_faults spot grids) ((misses_window spot x y grids, PlaceOutside) ∷ []) (sym e) ∙ place)
+
+-- a window with tiles that has no fault
+pub no_tile_fault : {T : Type 0} (spot : Place) (tile_width tile_height : ℕ) (grids : List (Grid T)) → None ≡ first_fault (window_faults spot grids) → tile_width ≢ 0 → tile_height ≢ 0
+    → None ≡ first_fault (tile_faults spot tile_width tile_height grids)
+no_tile_fault spot tile_width tile_height grids e wide high =
+    let both : lacks_tile tile_width tile_height ≡ false = λ k. (ne_eqb tile_width 0 wide k) || (ne_eqb tile_height 0 high k) in
+    let tile : first_fault ((lacks_tile tile_width tile_height, NoTile) ∷ []) ≡ None = cond-false (lacks_tile tile_width tile_height) (Some NoTile) None both in
+    sym (faults_after (window_faults spot grids) ((lacks_tile tile_width tile_height, NoTile) ∷ []) (sym e) ∙ tile)
 
 -- images stay as they are kept, where nothing is compacted
 kept_outside : {T : Type 0} (compacted : ℕ → Bool) (olds news : List (Layout T)) → ((i : ℕ) → compacted i ≡ false) → AllKept (λ _. false) olds news → AllKept compacted olds news

@@ -1,5 +1,5 @@
 -- What each command means on grids: it speaks of places alone, and of no cell, stride or padding.
-use Rattle.std.specs.Prelude.{ℕ, ◌+◌, Bool, not, ◌&&◌, ◌==◌, nat_le, Option, Some, None, List, [], ◌∷◌, ◌++◌, length, map, Vec, slice_set, slice_index_or, is_some, count_by}
+use Rattle.std.specs.Prelude.{ℕ, ◌+◌, Bool, not, ◌&&◌, ◌||◌, ◌==◌, nat_le, Option, Some, None, List, [], ◌∷◌, ◌++◌, length, map, Vec, slice_set, slice_index_or, is_some, count_by}
 use Rattle.std.specs.Option.{option_map_or}
 use Rattle.image_model.specs.Grid.{Grid, grid, grid_of, is_place, patch, uniform}
 use Rattle.image_model.specs.Rows.{grid_pixels}
@@ -8,11 +8,12 @@ use Rattle.imgref.specs.Image.{vec_layout}
 use Rattle.imgref.specs.declared.img.Img.{Img}
 use Rattle.imgref.specs.Window.{as_path}
 use Rattle.imgref_replay.specs.Agreement.{do_agree}
+use Rattle.imgref_replay.specs.Mosaic.{mosaic}
 use Rattle.imgref_replay.specs.declared.commands.Place.{Place}
 use Rattle.imgref_replay.specs.declared.commands.Command.{Command}
-use Rattle.imgref_replay.specs.declared.commands.Command.TheVariants.{Get, Put, Fill, Count, Same, Blit, Compact}
+use Rattle.imgref_replay.specs.declared.commands.Command.TheVariants.{Get, Put, Fill, Count, Same, Blit, Mosaic, Compact}
 use Rattle.imgref_replay.specs.declared.commands.Refusal.{Refusal}
-use Rattle.imgref_replay.specs.declared.commands.Refusal.TheVariants.{NoImage, WindowOutside, PlaceOutside, SizesDiffer}
+use Rattle.imgref_replay.specs.declared.commands.Refusal.TheVariants.{NoImage, WindowOutside, PlaceOutside, SizesDiffer, NoTile}
 use Rattle.imgref_replay.specs.declared.commands.Reply.{Reply}
 use Rattle.imgref_replay.specs.declared.commands.Reply.TheVariants.{Pixel, Counted, Truth, Done}
 
@@ -52,6 +53,10 @@ misses_window spot x y grids = let w = window_named spot grids in not (is_place 
 abbrev pub differ_in_size : {T : Type 0} → Place → Place → List (Grid T) → Bool
 differ_in_size source target grids = let v = window_named source grids in let w = window_named target grids in not ((v.width == w.width) && (v.height == w.height))
 
+-- a tile of this size has no place
+abbrev pub lacks_tile : ℕ → ℕ → Bool
+lacks_tile tile_width tile_height = (tile_width == 0) || (tile_height == 0)
+
 -- of an image
 abbrev pub image_faults : {T : Type 0} → ℕ → List (Grid T) → List (Bool × Refusal)
 image_faults image grids = (lacks_image image grids, NoImage) ∷ []
@@ -72,6 +77,10 @@ pair_faults first second grids =
 -- of two windows that are to have one size: those of the windows, and then their sizes
 abbrev pub copy_faults : {T : Type 0} → Place → Place → List (Grid T) → List (Bool × Refusal)
 copy_faults source target grids = pair_faults source target grids ++ (differ_in_size source target grids, SizesDiffer) ∷ []
+
+-- of a window that is to have tiles: those of the window, and then the tile
+abbrev pub tile_faults : {T : Type 0} → Place → ℕ → ℕ → List (Grid T) → List (Bool × Refusal)
+tile_faults spot tile_width tile_height grids = window_faults spot grids ++ (lacks_tile tile_width tile_height, NoTile) ∷ []
 
 -- ---- meanings
 
@@ -118,4 +127,5 @@ meaning (Fill spot value) = writes (window_faults spot) (λ grids. let w = windo
 meaning (Count spot value) = asks (window_faults spot) (λ eq grids. count_reply (λ pixel. eq pixel value) (view_named spot grids))
 meaning (Same first second) = asks (pair_faults first second) (λ eq grids. agreement_reply eq (view_named first grids) (view_named second grids))
 meaning (Blit source target) = writes (copy_faults source target) (λ grids. let w = window_named target grids in patched_at target w.left w.top (view_named source grids) grids)
+meaning (Mosaic spot tile_width tile_height) = writes (tile_faults spot tile_width tile_height) (λ grids. let w = window_named spot grids in patched_at spot w.left w.top (mosaic tile_width tile_height (view_named spot grids)) grids)
 meaning (Compact image) = packs image

@@ -47,6 +47,13 @@ pub enum Command<T> {
         source: Place,
         target: Place,
     },
+    /// Every place of a window gets the pixel, as it was before, at the corner of its tile: tiles of
+    /// `tile_width` by `tile_height`, cut at the window's right and lower edge.
+    Mosaic {
+        spot: Place,
+        tile_width: usize,
+        tile_height: usize,
+    },
     /// An image loses all cells that are no pixel: its buffer becomes its rows one after the other.
     Compact {
         image: usize,
@@ -79,4 +86,6 @@ pub enum Refusal {
     PlaceOutside,
     /// The two windows differ in width or height.
     SizesDiffer,
+    /// A tile width or height is 0.
+    NoTile,
 }

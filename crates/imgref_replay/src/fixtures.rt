@@ -140,3 +140,16 @@ pub(crate) fn blit<T>(
         target: place(alloc, target.0, target.1)?,
     })
 }
+
+pub(crate) fn mosaic<T>(
+    alloc: Global,
+    image: usize,
+    path: &[Window],
+    tile: (usize, usize),
+) -> Result<Command<T>, AllocError> {
+    Ok(Command::Mosaic {
+        spot: place(alloc, image, path)?,
+        tile_width: tile.0,
+        tile_height: tile.1,
+    })
+}

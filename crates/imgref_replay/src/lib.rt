@@ -12,6 +12,9 @@ mod copy;
 mod fixtures;
 #[cfg(test)]
 mod layouts_tests;
+mod mosaic;
+#[cfg(test)]
+mod mosaic_tests;
 #[cfg(test)]
 mod nested_tests;
 #[cfg(test)]

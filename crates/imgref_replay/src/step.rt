@@ -14,6 +14,7 @@ ghost use Rattle.imgref_replay.specs.Run.{IsRun};
 
 use crate::commands::{Command, Place, Refusal, Reply};
 use crate::copy::copy_window;
+use crate::mosaic::mosaic_window;
 use crate::path::path_window;
 use imgref::{ImgRef, ImgVec, Window};
 
@@ -181,6 +182,24 @@ fn blit<T: Copy + Eq>(
     Ok(Reply::Done)
 }
 
+/// Writes at every place of a window the pixel, as it was, at the corner of its tile.
+fn mosaic<T: Copy + Eq>(
+    images: &mut [ImgVec<T>],
+    spot: &Place,
+    tile_width: usize,
+    tile_height: usize,
+) -> Result<Reply<T>, Refusal>
+    requires { All Fits (map vec_layout images.old) }
+    ensures { IsStep T.eq (Command.Mosaic spot.now tile_width tile_height) (map vec_layout images.old) (map vec_layout images.new) result }
+{
+    let window = locate(images, spot)?;
+    if tile_width == 0 || tile_height == 0 {
+        return Err(Refusal::NoTile);
+    }
+    mosaic_window(&mut images[spot.image], window, tile_width, tile_height);
+    Ok(Reply::Done)
+}
+
 /// Leaves the rows of an image alone in its buffer, at the least stride.
 fn compact<T: Copy + Eq>(images: &mut [ImgVec<T>], image: usize) -> Result<Reply<T>, Refusal>
     requires { All Fits (map vec_layout images.old) }
@@ -205,6 +224,11 @@ fn accept<T: Copy + Eq>(images: &mut [ImgVec<T>], command: &Command<T>) -> Resul
         Command::Count { spot, value } => count(images, spot, *value),
         Command::Same { first, second } => same(images, first, second),
         Command::Blit { source, target } => blit(images, source, target),
+        Command::Mosaic {
+            spot,
+            tile_width,
+            tile_height,
+        } => mosaic(images, spot, *tile_width, *tile_height),
         Command::Compact { image } => compact(images, *image),
     }
 }

@@ -8,7 +8,7 @@ use Rattle.imgref.specs.Image.{vec_layout}
 use Rattle.image_shape.specs.declared.window.Window.{Window}
 use Rattle.imgref_replay.specs.declared.commands.Place.{Place}
 use Rattle.imgref_replay.specs.declared.commands.Command.{Command}
-use Rattle.imgref_replay.specs.declared.commands.Command.TheVariants.{Get, Put, Fill, Count, Same, Blit, Compact}
+use Rattle.imgref_replay.specs.declared.commands.Command.TheVariants.{Get, Put, Fill, Count, Same, Blit, Mosaic, Compact}
 use Rattle.imgref_run.specs.Fields.{path_text, IsWord, IsPixel, IsPath}
 use Rattle.imgref_run.specs.declared.line.Line.{Line}
 use Rattle.imgref_run.specs.declared.line.Line.TheVariants.{Image, Command as Ordered}
@@ -63,6 +63,7 @@ forms =
     ∷ form (codes "count") (a_place ∷ a_pixel ∷ [])
     ∷ form (codes "same") (a_place ∷ a_place ∷ [])
     ∷ form (codes "blit") (a_place ∷ a_place ∷ [])
+    ∷ form (codes "mosaic") (a_place ∷ a_number ∷ a_number ∷ [])
     ∷ form (codes "compact") (a_number ∷ [])
     ∷ []
 
@@ -90,6 +91,7 @@ order_of (Fill spot value) = order (codes "fill") (place_of spot ∷ pixel value
 order_of (Count spot value) = order (codes "count") (place_of spot ∷ pixel value ∷ [])
 order_of (Same first second) = order (codes "same") (place_of first ∷ place_of second ∷ [])
 order_of (Blit source target) = order (codes "blit") (place_of source ∷ place_of target ∷ [])
+order_of (Mosaic spot tile_width tile_height) = order (codes "mosaic") (place_of spot ∷ number tile_width ∷ number tile_height ∷ [])
 order_of (Compact image) = order (codes "compact") (number image ∷ [])
 
 -- a command that a script may hold: whether its image, windows and place are there is for the run to say

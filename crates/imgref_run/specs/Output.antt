@@ -7,7 +7,7 @@ use Rattle.image_model.specs.Layout.{Layout}
 use Rattle.imgref_replay.specs.declared.commands.Reply.{Reply}
 use Rattle.imgref_replay.specs.declared.commands.Reply.TheVariants.{Pixel, Counted, Truth, Done, Refused}
 use Rattle.imgref_replay.specs.declared.commands.Refusal.{Refusal}
-use Rattle.imgref_replay.specs.declared.commands.Refusal.TheVariants.{NoImage, WindowOutside, PlaceOutside, SizesDiffer}
+use Rattle.imgref_replay.specs.declared.commands.Refusal.TheVariants.{NoImage, WindowOutside, PlaceOutside, SizesDiffer, NoTile}
 use Rattle.imgref_run.specs.Line.{image_text}
 
 -- the number that a refusal is printed as
@@ -16,6 +16,7 @@ refusal_number NoImage = 1
 refusal_number WindowOutside = 2
 refusal_number PlaceOutside = 3
 refusal_number SizesDiffer = 4
+refusal_number NoTile = 5
 
 -- the line of a reply
 abbrev pub reply_text : Reply ℕ → List ℕ

@@ -79,6 +79,12 @@ fn command_at(alloc: Global, word: &[u8], fields: &mut Parts<'_>) -> Result<Comm
             source: next_place(alloc, fields)?,
             target: next_place(alloc, fields)?,
         })
+    } else if word == b"mosaic".as_slice() {
+        Ok(Command::Mosaic {
+            spot: next_place(alloc, fields)?,
+            tile_width: next(fields).ok_or(LineFault::Bad)?,
+            tile_height: next(fields).ok_or(LineFault::Bad)?,
+        })
     } else if word == b"compact".as_slice() {
         Ok(Command::Compact {
             image: next(fields).ok_or(LineFault::Bad)?,

@@ -28,6 +28,7 @@ fn number_of(refusal: Refusal) -> u8
         Refusal::WindowOutside => 2,
         Refusal::PlaceOutside => 3,
         Refusal::SizesDiffer => 4,
+        Refusal::NoTile => 5,
     }
 }
 

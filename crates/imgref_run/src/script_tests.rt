@@ -137,6 +137,29 @@ fn windows_are_copied(rt: HostRuntime) -> Result<(), Fail> {
 }
 
 #[test]
+fn tiles_show_their_corners(rt: HostRuntime) -> Result<(), Fail> {
+    let scripts = [
+        (
+            "image 3 3 3 1 2 3 4 5 6 7 8 9\nmosaic 0 - 2 2\nmosaic 0 - 0 2\nmosaic 0 1,1,2,2 5 5",
+            "done\nrefused 5\ndone\nimage 3 3 3 1 1 3 1 1 1 7 1 1\n",
+        ),
+        (
+            "image 1 1 1 5\nmosaic 1 - 0 0\nmosaic 0 2,0,1,1 0 0\nmosaic 0 0,0,0,0 0 3\nmosaic 0 0,0,0,0 3 3",
+            "refused 1\nrefused 2\nrefused 5\ndone\nimage 1 1 1 5\n",
+        ),
+        (
+            "image 3 2 4 1 2 3 4 5 6 7 8 9\nmosaic 0 - 3 2",
+            "done\nimage 3 2 4 1 1 1 4 1 1 1 8 9\n",
+        ),
+        (
+            "image 3 2 4 1 2 3 4 5 6 7 8 9\nmosaic 0 1,0,2,2/0,1,2,1 18446744073709551615 1",
+            "done\nimage 3 2 4 1 2 3 4 5 6 6 8 9\n",
+        ),
+    ];
+    Ok(expect_outputs(&rt, rt.alloc(), &scripts)?)
+}
+
+#[test]
 fn images_are_compacted(rt: HostRuntime) -> Result<(), Fail> {
     let scripts = [
         (
@@ -230,6 +253,10 @@ fn bad_second_lines_are_named(rt: HostRuntime) -> Result<(), Fail> {
         "blit 0 - 1",
         "blit 0 - 1 - 0 0",
         "blit 0 -/- 1 -",
+        "mosaic 0 - 2",
+        "mosaic 0 - 2 2 2",
+        "mosaic 0 - 2 -",
+        "mosaic 0 - 02 2",
         "compact",
         "compact -",
         "compact 00",
