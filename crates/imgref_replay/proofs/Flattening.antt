@@ -1,18 +1,15 @@
 -- Tiles that are flattened one after the other.
-use Rattle.std.proofs.Common.{◌≡◌, ◌+◌, ◌≤◌, ◌<◌, ℕ, List, [], ◌∷◌, length, refl, sym, ap, subst, ◌∙◌, arith, None, Some}
+use Rattle.std.proofs.Common.{◌≡◌, ◌+◌, ◌≤◌, ◌<◌, ℕ, List, [], ◌∷◌, length, refl, sym, ap, ◌∙◌, arith, None, Some}
 use Rattle.std.specs.Borrow.{MutBor}
-use Rattle.std.specs.Prelude.{IsTrue}
 use Rattle.std.proofs.lemmas.Bool.{cond-true}
 use Rattle.image_model.specs.Layout.{Layout, Fits, SameOutside, is_fitting, pixel}
 use Rattle.image_model.specs.Grid.{Grid, grid, grid_of, view, patch, uniform, is_place}
 use Rattle.image_model.specs.Windows.{Window, IsInside, window_view, roomy_window, roomy_stretch}
 use Rattle.image_model.proofs.Grids.{same_grids, pixel_at, is_place_decides}
 use Rattle.image_model.proofs.Places.{outside_refl, outside_trans, outside_fits, is_fitting_decides}
-use Rattle.image_model.proofs.Tiles.{tile_begins}
 use Rattle.image_model.proofs.Windows.{handed_on, handed_on_grid, handed_on_outside, roomy_has, window_grid}
 use Rattle.imgref.specs.Image.{buf_of, mut_layout}
-use Rattle.image_tiles.specs.Tiling.{windows_left, has_tile, tile_now}
-use Rattle.image_tiles.specs.declared.tiling.Tiling.{Tiling}
+use Rattle.image_tiles.specs.Tiling.{windows_left}
 use Rattle.image_tiles.specs.Lending.{image_of, tiling_of, tiles_left}
 use Rattle.image_tiles.specs.declared.tiles.TileCursor.{TileCursor}
 use Rattle.imgref_replay.specs.Mosaic.{flat, flattened, all_flattened}
@@ -82,16 +79,3 @@ one_more old now next w part name left is outside = record {
   rest = ap (λ g. all_flattened g (windows_left (tiling_of next))) is ∙ sym (ap (all_flattened (grid_of (mut_layout (image_of now)))) left) ∙ part.rest;
   outside = outside_trans (mut_layout (image_of old)) (mut_layout (image_of now)) (mut_layout (image_of next)) part.outside outside;
 }
-
--- a tile that is left has a place
-pub has_columns : (t : Tiling) → IsTrue (has_tile t) → 0 < (tile_now t).width
-has_columns t more =
-    let here = (is_place_decides t.columns t.lines t.column t.line).0 more in
-    let begins = tile_begins t.tile_width t.width t.column t.wide (subst (λ n. t.column < n) t.columns_are here.0) in
-    omega (arith, begins, t.wide)
-
-pub has_lines : (t : Tiling) → IsTrue (has_tile t) → 0 < (tile_now t).height
-has_lines t more =
-    let here = (is_place_decides t.columns t.lines t.column t.line).0 more in
-    let begins = tile_begins t.tile_height t.height t.line t.high (subst (λ n. t.line < n) t.lines_are here.1) in
-    omega (arith, begins, t.high)

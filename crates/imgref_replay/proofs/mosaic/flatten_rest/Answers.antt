@@ -1,5 +1,5 @@
 -- A tile that was flattened flattens the image there.
-use Rattle.std.proofs.Common.{◌≡◌, ◌<◌, List, refl, ap, subst, sym, ◌∙◌}
+use Rattle.std.proofs.Common.{◌≡◌, List, refl, ap, subst, ◌∙◌}
 use Rattle.std.specs.Borrow.{MutBor}
 use Rattle.image_model.specs.Layout.{Layout, SameOutside}
 use Rattle.image_model.specs.Grid.{grid_of}
@@ -10,16 +10,8 @@ use Rattle.image_tiles.specs.Lending.{image_of, tiling_of}
 use Rattle.image_tiles.specs.Tiling.{tile_now}
 use Rattle.imgref_replay.specs.Mosaic.{flat}
 use Rattle.image_tiles.specs.declared.tiles.TileCursor.{TileCursor}
-use Rattle.imgref_replay.proofs.Flattening.{one_grid, one_outside, one_more, has_columns, has_lines}
+use Rattle.imgref_replay.proofs.Flattening.{one_grid, one_outside, one_more}
 use Rattle.imgref_replay.proofs.mosaic.flatten_rest.Goals as goal
-
-pub flatten-requires-clause-wide : goal.flatten-requires-clause-wide
-flatten-requires-clause-wide g c =
-    subst (λ n. 0 < n) (sym (ap (λ (v : Layout g.row.T.Denot). v.width) c.next_parts-cells.ensures.layout)) (has_columns (tiling_of c.loop-tiles.tiles) (c.left.ensures.some c.loop-tiles-test.true))
-
-pub flatten-requires-clause-high : goal.flatten-requires-clause-high
-flatten-requires-clause-high g c =
-    subst (λ n. 0 < n) (sym (ap (λ (v : Layout g.row.T.Denot). v.height) c.next_parts-cells.ensures.layout)) (has_lines (tiling_of c.loop-tiles.tiles) (c.left.ensures.some c.loop-tiles-test.true))
 
 pub loop-tiles-preserved : goal.loop-tiles-preserved
 loop-tiles-preserved g c =
@@ -31,7 +23,7 @@ loop-tiles-preserved g c =
     let n : Layout g.row.T.Denot = shaped c.flatten.new.cells r.1 in
     let same : SameOutside (roomy_window l w) n = subst (λ (v : Layout g.row.T.Denot). SameOutside v n) e.layout c.flatten.ensures.outside in
     let flat_one : grid_of n ≡ flat (grid_of (roomy_window l w)) = c.flatten.ensures.grid ∙ ap (λ (v : Layout g.row.T.Denot). flat (grid_of v)) e.layout in
-    let narrow = (image_of now).width_within in
+    let narrow = e.holds_width in
     one_more c.args.tiles.now now _ w c.loop-tiles.invariant refl e.steps
     (one_grid l w narrow c.loop-tiles.invariant.fits e.inside n same flat_one)
     (one_outside l w narrow c.loop-tiles.invariant.fits e.inside n same)

@@ -1,5 +1,5 @@
 -- The window's mosaic is handed on to the image.
-use Rattle.std.proofs.Common.{◌≡◌, ap, refl, ◌∙◌}
+use Rattle.std.proofs.Common.{ap, refl, ◌∙◌}
 use Rattle.image_model.specs.Layout.{Layout}
 use Rattle.image_model.specs.Grid.{grid_of, patch}
 use Rattle.imgref.specs.Image.{buf_of, vec_layout}
