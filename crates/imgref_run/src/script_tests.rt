@@ -262,7 +262,7 @@ fn bad_second_lines_are_named(rt: HostRuntime) -> Result<(), Fail> {
         "compact 00",
         "compact 18446744073709551616",
         "turn 0",
-        "mosaic 0 - 2 2",
+        "Mosaic 0 - 2 2",
     ];
     for line in lines {
         let script = format!(in rt.alloc(); "image 1 1 1 5\n{line}")?;
