@@ -1,0 +1,65 @@
+#!/usr/bin/env python3
+"""Shows that the tests refuse a call that always answers want of memory.
+
+Every contract of a call that takes memory allows the answer that none was found, so no wrong body of `must-fail/` can show
+such a call. Each case here puts that answer at the head of one call, in a copy of the repository, and runs the tests of a
+crate that uses it: some of them must fail, since a test hands want of memory on as its result.
+"""
+import pathlib
+import re
+import subprocess
+import sys
+
+sys.path.insert(0, str(pathlib.Path(__file__).resolve().parent.parent))
+from cases import Cases, changeable_copy
+
+# No machine has so many bytes.
+NO_ROOM = "let _room: Vec<u8> = Vec::with_capacity(alloc, usize::MAX)?;"
+HANDED_BACK = "if true { return Err(self); }"
+
+# The crate, the file and the function, what stands at its head, and the crate whose tests are run.
+CASES = [
+    ("imgref", "contiguous", "to_contiguous_buf", NO_ROOM, "imgref_tests"),
+    ("imgref", "copies", "to_owned", NO_ROOM, "imgref_tests"),
+    ("imgref", "copies", "clone", NO_ROOM, "imgref_tests"),
+    ("imgref", "cow", "into_owned", HANDED_BACK, "imgref_tests"),
+    ("imgref", "cow", "into_vec", HANDED_BACK, "imgref_tests"),
+    ("imgref_replay", "run", "replay", NO_ROOM, "imgref_replay"),
+    ("imgref_run", "program", "run", "if true { return Err(RunFault::Memory); }", "imgref_run"),
+]
+
+
+def with_head(text, name, head):
+    """The file with that statement at the head of that function."""
+    changed, count = re.subn(rf"^( *)(pub fn {name}\b.*?\n\1\{{\n)", rf"\1\2{head}\n", text, count=1, flags=re.M | re.S)
+    if count != 1:
+        raise ValueError(f"error: there is no function {name}")
+    return changed
+
+
+def tests_of(crate):
+    """How many tests of a crate pass and fail, or nothing where they are not run."""
+    said = subprocess.run(["rt", "try", "--test"], cwd=crate, stdin=subprocess.DEVNULL, stdout=subprocess.PIPE, stderr=subprocess.STDOUT, text=True).stdout
+    found = re.search(r"^test result: .* (\d+) passed; (\d+) failed", said, re.M)
+    return tuple(map(int, found.groups())) if found else None
+
+
+def main():
+    cases = Cases()
+    with changeable_copy() as copy:
+        for crate, file, name, head, tests in CASES:
+            path = copy / "crates" / crate / f"src/{file}.rt"
+            whole = path.read_text()
+            try:
+                path.write_text(with_head(whole, name, head))
+                found = tests_of(copy / "crates" / tests)
+            except ValueError as why:
+                found = str(why)
+            path.write_text(whole)
+            is_well = isinstance(found, tuple) and found[1] > 0
+            cases.count(f"{crate}::{name} that always answers want of memory is refused by the tests of {tests}", is_well, f"passed and failed: {found}")
+    return cases.end()
+
+
+if __name__ == "__main__":
+    sys.exit(main())
