@@ -39,7 +39,7 @@ def with_head(text, name, head):
 
 def tests_of(crate):
     """How many tests of a crate pass and fail, or nothing where they are not run."""
-    said = subprocess.run(["rt", "try", "--test"], cwd=crate, stdin=subprocess.DEVNULL, stdout=subprocess.PIPE, stderr=subprocess.STDOUT, text=True).stdout
+    said = subprocess.run(["rt", "try", "--test", "--seconds", "600"], cwd=crate, stdin=subprocess.DEVNULL, stdout=subprocess.PIPE, stderr=subprocess.STDOUT, text=True).stdout
     found = re.search(r"^test result: .* (\d+) passed; (\d+) failed", said, re.M)
     return tuple(map(int, found.groups())) if found else None
 
