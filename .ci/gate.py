@@ -1,68 +1,201 @@
 #!/usr/bin/env python3
-"""The whole gate: `rt ci`, and each check that it can't do, every script of .ci/checks.
+"""The whole gate: `rt ci`, the planted bugs, and each check that these can't do, every script of .ci/checks.
 
     gate.py            all of it, from nothing
-    gate.py --quick    proofs and tests alone, over the work that earlier checks kept: no wrong body is tried
+    gate.py --quick    proofs and tests alone, over the work that earlier checks kept: no planted bug is tried
 
-The scripts run beside `rt ci`, and after it those that run what it built. Each part ends with 'N passed, M failed' and the
-time that it took. The last line here adds them up.
+`rt ci` works on a copy of the repository without the planted bugs, so that it proves everything from nothing. Beside it the
+planted bugs are tried, many in one check (planted_bugs.py), and the scripts run; after it those that run what it built.
+Each part ends with 'N passed, M failed'. What it said in full stands in the folder out/, and is shown where it fails. At the
+end stands a table of the parts, and then a line that adds them up.
 """
 import concurrent.futures
+import contextlib
+import dataclasses
+import os
 import pathlib
 import re
+import shutil
+import signal
 import subprocess
 import sys
+import tempfile
 import threading
 import time
 
-ROOT = pathlib.Path(__file__).resolve().parent.parent
-# The checks that run what the proofs built, so come after them.
-OF_BUILT = ("program_ends.py", "refused_growths.py", "scripts.py")
-# What the quick gate does in the place of `rt ci`.
-ALL_TESTS = ["rt", "all", "test"]
+from cases import ROOT
+
+# The checks that run what the proofs built, so come after them; and those that go over what the planted bugs proved first.
+OF_BUILT = ("program_ends.py", "refused_growths.py", "scripts.py", "cases.py", "frames.py")
+OF_KEPT = ("layers.py", "row_mover_privacy.py", "c_library.py")
+# What it takes from nothing on four processors, in minutes: some of it was measured beside other work.
+MINUTES, QUICK_MINUTES = 45, 15
 COUNT = re.compile(r"(\d+) passed, (\d+) failed")
-PRINTING = threading.Lock()
+# What is shown of a long part while it goes on.
+TOLD = re.compile(r"rt: \w+(?:: its tests are)? (?:NOT PROVED|proved)|rt: \w+: its tests (?:passed|FAILED)|rt: \w+ ran|== \w+$|rt: FAILED|.*NOT REFUSED|.*FAILED")
+LOGS = ROOT / "out"
+SAID = threading.Lock()
 
 
-def after(began):
-    seconds = round(time.monotonic() - began)
-    return f"{seconds // 60} min {seconds % 60} s"
+def say(text):
+    with SAID:
+        print(text, flush=True)
 
 
-def run(command, at_once=False):
-    """Runs one part, and answers how many of its cases passed and failed. Its lines are printed as they come, or all when it ends."""
-    name, began, lines = " ".join(command).removeprefix(f"{sys.executable} "), time.monotonic(), []
-    with subprocess.Popen(command, cwd=ROOT, stdin=subprocess.DEVNULL, stdout=subprocess.PIPE, stderr=subprocess.STDOUT, text=True, errors="replace") as part:
-        for line in part.stdout:
-            lines.append(line)
-            if at_once:
-                with PRINTING:
-                    print(line, end="", flush=True)
-    with PRINTING:
-        print(f"{'' if at_once else ''.join(lines)}== {name}: {after(began)}", flush=True)
-    is_well = part.returncode == 0
-    counted = COUNT.fullmatch(next((it.strip() for it in reversed(lines) if it.strip()), ""))
-    if command == ALL_TESTS:
-        # (it counts nothing, so it is one case)
-        return int(is_well), int(not is_well)
-    passed, failed = map(int, counted.groups()) if counted else (0, 1)
-    return passed, failed or int(not is_well)
+def minutes(seconds):
+    return f"{int(seconds) // 60} min {int(seconds) % 60:2} s"
+
+
+@dataclasses.dataclass
+class Part:
+    """A part of the gate: its name, the command, where it runs, and what came of it."""
+
+    name: str
+    command: list
+    at: pathlib.Path = ROOT
+    counts: bool = True
+    # (what runs beside `rt ci` takes what it leaves)
+    nice: int = 15
+    seconds: float = 0
+    memory: int = 0
+    passed: int = 0
+    failed: int = 0
+    process: subprocess.Popen = None
+
+    def run(self):
+        """Runs the part, writes what it says into a file, and shows how far it is."""
+        began, lines = time.monotonic(), []
+        log = LOGS / f"{self.name.replace(' ', '_')}.log"
+        how = {"stdin": subprocess.DEVNULL, "stdout": subprocess.PIPE, "stderr": subprocess.STDOUT, "text": True, "errors": "replace"}
+        # (a session of its own, by which its memory is counted and all of it is ended)
+        self.process = subprocess.Popen(["nice", "-n", str(self.nice), *self.command], cwd=self.at, start_new_session=True, **how)
+        # (Linux shares the processors among sessions first, and looks at `nice` only within one)
+        with contextlib.suppress(OSError):
+            pathlib.Path(f"/proc/{self.process.pid}/autogroup").write_text(str(self.nice))
+        with self.process, open(log, "w", encoding="utf-8") as kept:
+            for line in self.process.stdout:
+                lines.append(line.rstrip("\n"))
+                kept.write(line)
+                if TOLD.match(line):
+                    say(f"{minutes(time.monotonic() - began)}  {self.name}: {line.strip()[:150]}")
+        self.seconds = time.monotonic() - began
+        self.count(lines, self.process.returncode == 0)
+        if self.failed:
+            say("\n".join(["", *lines[-400:], ""]))
+        say(f"{minutes(self.seconds)}  {self.name}: {self.passed} passed, {self.failed} failed{f' (all of it: {log.relative_to(ROOT)})' if self.failed else ''}")
+        return self
+
+    def count(self, lines, is_well):
+        """Takes the cases from the last line. A part that counts nothing is one case."""
+        said = COUNT.fullmatch(next((it.strip() for it in reversed(lines) if it.strip()), ""))
+        passed, failed = map(int, said.groups()) if said else (0, 1)
+        if not self.counts:
+            passed, failed = int(is_well), int(not is_well)
+        self.passed, self.failed = passed, failed or int(not is_well)
+
+
+def sessions():
+    """The memory of each session of processes, in bytes."""
+    found = {}
+    for it in pathlib.Path("/proc").glob("[0-9]*/stat"):
+        with contextlib.suppress(OSError):
+            fields = it.read_text().rpartition(")")[2].split()
+            found[int(fields[3])] = found.get(int(fields[3]), 0) + int(fields[21]) * os.sysconf("SC_PAGE_SIZE")
+    return found
+
+
+class Memory:
+    """Looks once a second at how much memory the parts take."""
+
+    def __init__(self, parts):
+        self.parts, self.most, self.ended = parts, 0, threading.Event()
+        self.thread = threading.Thread(target=self.look, daemon=True)
+
+    def look(self):
+        while not self.ended.wait(1):
+            taken, found = 0, sessions()
+            for it in self.parts:
+                mine = found.get(it.process.pid, 0) if it.process else 0
+                it.memory, taken = max(it.memory, mine), taken + mine
+            self.most = max(self.most, taken)
+
+    def __enter__(self):
+        self.thread.start()
+        return self
+
+    def __exit__(self, *_):
+        self.ended.set()
+        self.thread.join()
+
+
+def script(path, top=ROOT):
+    return Part(path.name, [sys.executable, str(top / path.relative_to(ROOT))], top)
+
+
+@contextlib.contextmanager
+def copied():
+    """A copy of the repository without the planted bugs, without its history and without kept work."""
+
+    def left_out(folder, names):
+        inside = pathlib.Path(folder).relative_to(ROOT).parts
+        return [".git", "out"] if not inside else ["out", "must-fail"] if inside[0] == "crates" and len(inside) == 2 else []
+
+    with tempfile.TemporaryDirectory(prefix="gate-", ignore_cleanup_errors=True) as room:
+        os.chmod(room, 0o711)
+        top = pathlib.Path(shutil.copytree(ROOT, f"{room}/copy", ignore=left_out))
+        (top / ".git").mkdir()
+        yield top
+
+
+def whole(parts, top):
+    """Runs everything, and answers once all has ended."""
+    checks = sorted((ROOT / ".ci/checks").glob("*.py"))
+    of_ci = Part("rt ci", ["rt", "ci"], top, nice=0)
+    bugs = Part("planted bugs", [sys.executable, str(ROOT / ".ci/planted_bugs.py")])
+    kept = [bugs, *[script(it) for it in checks if it.name in OF_KEPT]]
+    beside = [script(it) for it in checks if it.name not in (*OF_BUILT, *OF_KEPT)]
+    # (these run in the copy, where `rt ci` left the programs)
+    built = [of_ci, *[script(it, top) for it in checks if it.name in OF_BUILT]]
+    parts += [*built, *kept, *beside]
+    with concurrent.futures.ThreadPoolExecutor() as pool:
+        for it in [pool.submit(lambda line: [it.run() for it in line], line) for line in (built, kept, beside)]:
+            it.result()
+
+
+def table(parts, most, began):
+    """What each part took."""
+    width = max(len(it.name) for it in parts)
+    lines = [f"{it.name:{width}}  {minutes(it.seconds):>12}  {it.memory / 1e9:4.1f} GB  {it.passed:4} passed, {it.failed} failed" for it in parts]
+    return "\n".join(["", *lines, f"{'in all':{width}}  {minutes(time.monotonic() - began):>12}  {most / 1e9:4.1f} GB"])
+
+
+def end(parts):
+    for it in parts:
+        if it.process and it.process.poll() is None:
+            with contextlib.suppress(OSError):
+                os.killpg(it.process.pid, signal.SIGKILL)
 
 
 def main(words):
     if words not in ([], ["--quick"]):
         sys.exit(__doc__)
-    is_quick, began = bool(words), time.monotonic()
-    checks = sorted((ROOT / ".ci/checks").glob("*.py"))
-    script = lambda it: [sys.executable, str(it.relative_to(ROOT))]
-    with concurrent.futures.ThreadPoolExecutor() as pool:
-        beside = [pool.submit(run, script(it)) for it in checks if it.name not in OF_BUILT and not is_quick]
-        counts = [run(ALL_TESTS if is_quick else ["rt", "ci"], at_once=True)]
-        counts += [run(script(it)) for it in checks if it.name in OF_BUILT and not is_quick]
-        counts += [it.result() for it in beside]
-    passed, failed = (sum(it[i] for it in counts) for i in (0, 1))
-    print(f"== all parts: {after(began)}")
-    print(f"{passed} passed, {failed} failed")
+    began, parts = time.monotonic(), []
+    LOGS.mkdir(exist_ok=True)
+    say(f"About {QUICK_MINUTES if words else MINUTES} minutes on four processors (here: {len(os.sched_getaffinity(0))}){', less over kept work' if words else ''}.")
+    with Memory(parts) as memory, copied() as top:
+        try:
+            if words:
+                parts.append(Part("rt all test", ["rt", "all", "test"], counts=False, nice=0))
+                parts[0].run()
+            else:
+                whole(parts, top)
+        except KeyboardInterrupt:
+            sys.exit("interrupted")
+        finally:
+            end(parts)
+    passed, failed = sum(it.passed for it in parts), sum(it.failed for it in parts)
+    say(table(parts, memory.most, began))
+    say(f"{passed} passed, {failed} failed")
     return failed > 0
 
 

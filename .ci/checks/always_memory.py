@@ -1,9 +1,10 @@
 #!/usr/bin/env python3
-"""Shows that the tests refuse a call that always answers want of memory.
+"""Shows that the tests refuse a call that is always out of memory.
 
-Every contract of a call that takes memory allows the answer that none was found, so no wrong body of `must-fail/` can show
-such a call. Each case here puts that answer at the head of one call, in a copy of the repository, and runs the tests of a
-crate that uses it: some of them must fail, since a test hands want of memory on as its result.
+Every contract of a call that takes memory allows the answer that none was found, so no planted bug of `must-fail/` can show
+such a call. The tests of a crate are first run as they are, in a copy of the repository, and must pass. Then each case puts
+that answer at the head of one call, and runs the tests of a crate that uses it: some must fail now, since a test returns
+out of memory as its result.
 """
 import pathlib
 import re
@@ -24,7 +25,7 @@ CASES = [
     ("imgref", "copies", "clone", NO_ROOM, "imgref_tests"),
     ("imgref", "cow", "into_owned", HANDED_BACK, "imgref_tests"),
     ("imgref", "cow", "into_vec", HANDED_BACK, "imgref_tests"),
-    ("imgref_replay", "run", "replay", NO_ROOM, "imgref_replay"),
+    ("imgref_replay", "run", "replay", NO_ROOM, "imgref_replay_tests"),
     ("imgref_run", "program", "run", "if true { return Err(RunFault::Memory); }", "imgref_run"),
 ]
 
@@ -47,6 +48,9 @@ def tests_of(crate):
 def main():
     cases = Cases()
     with changeable_copy() as copy:
+        unchanged = {it: tests_of(copy / "crates" / it) for it in dict.fromkeys(case[-1] for case in CASES)}
+        for tests, found in unchanged.items():
+            cases.count(f"the tests of {tests} pass as they are", found and found[0] > 0 and found[1] == 0, f"passed and failed: {found}")
         for crate, file, name, head, tests in CASES:
             path = copy / "crates" / crate / f"src/{file}.rt"
             whole = path.read_text()
@@ -56,8 +60,9 @@ def main():
             except ValueError as why:
                 found = str(why)
             path.write_text(whole)
-            is_well = isinstance(found, tuple) and found[1] > 0
-            cases.count(f"{crate}::{name} that always answers want of memory is refused by the tests of {tests}", is_well, f"passed and failed: {found}")
+            was = unchanged[tests]
+            is_well = was and isinstance(found, tuple) and found[1] > was[1] and sum(found) == sum(was)
+            cases.count(f"{crate}::{name} that is always out of memory is refused by the tests of {tests}", is_well, f"passed and failed: {found}, and unchanged: {was}")
     return cases.end()
 
 

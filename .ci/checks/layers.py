@@ -1,20 +1,27 @@
 #!/usr/bin/env python3
 """Shows that each layer rests on the one below: without a clause of the lower call, the upper call is no longer accepted.
 
-A body of `as_contiguous_buf` that moves pixel by pixel, or one of `move_window` that goes by no mover, could meet every
-contract. So each case takes a clause out of the contract of a lower function, in a copy of the repository, and asks
-`rt check` about the crate of the upper one: the lower crate must still be proved, and the upper function must not be. A body
-that goes round the lower one needs none of its clauses, is still accepted, and fails the case.
+A body of `as_contiguous_buf` that moves pixel by pixel, or one of `move_window` that uses no mover, could meet every
+contract. So each case takes a clause out of the contract of a lower function, in a room (tools/workspace.py), and asks
+`rt check` about the crate of the upper one: the lower crate must still be proved, and the upper function must not be. Nor
+may the crate's entry be, which stands on it: `replay_into` is what users call. A body that bypasses the layer needs none of
+its clauses, is still accepted, and fails the case.
 """
+import concurrent.futures
 import pathlib
 import re
 import subprocess
 import sys
 
 sys.path.insert(0, str(pathlib.Path(__file__).resolve().parent.parent))
-from cases import Cases, changeable_copy
+from cases import Cases
+from proving import Progress, processors, prove, weights_of
+from workspace import room, with_those_below
 
 ROUND = "layer_goes_round"
+
+# What a crate's users call, which stands on the functions of its cases.
+ENTRIES = {"imgref_replay": "run::replay_into"}
 
 # The lower crate, file and function, and the clauses taken out; the upper crate and function; and what of the lower crate
 # goes with the clauses, since it rests on them too.
@@ -28,7 +35,7 @@ CASES = [
     ("image_moves", "moving", "with_moved_window", ["grid"], "image_moves", "moving::move_pixels", []),
     ("image_moves", "moving", "move_pixels", ["grid"], "imgref", "img::Img::move_window", []),
     ("imgref", "blit", "move_window", ["grid"], "imgref_replay", "copy::move_within", []),
-    ("imgref", "blit", "copy_from", ["grid"], "imgref_replay", "copy::copy_cells", []),
+    ("imgref", "blit", "copy_window", ["grid"], "imgref_replay", "copy::copy_over", []),
 ]
 
 
@@ -67,36 +74,40 @@ def drop_answers(crate, name, clauses):
         path.write_text("\n\n".join(kept).rstrip("\n") + "\n")
 
 
-def said_of(copy, lower, file, name, clauses, upper, more):
+def said_of(lower, file, name, clauses, upper, more):
     """What rt check says of the upper crate with the clauses of the lower function taken out."""
-    crate = copy / "crates" / lower
-    path = crate / f"src/{file}.rt"
-    kept = {it: it.read_text() for it in [path, *crate.glob(f"proofs/**/{name}/Answers.antt")]}
-    try:
-        path.write_text(without(kept[path], name, clauses, more))
+    with room(upper, changes_below=True) as made:
+        crate = made.parent / lower
+        path = crate / f"src/{file}.rt"
+        path.write_text(without(path.read_text(), name, clauses, more))
         drop_answers(crate, name, clauses)
-        return subprocess.run(["rt", "check"], cwd=copy / "crates" / upper, stdin=subprocess.DEVNULL, stdout=subprocess.PIPE, stderr=subprocess.STDOUT, text=True).stdout
-    finally:
-        for it, text in kept.items():
-            it.write_text(text)
+        return subprocess.run(["rt", "check"], cwd=made, stdin=subprocess.DEVNULL, stdout=subprocess.PIPE, stderr=subprocess.STDOUT, text=True).stdout
 
 
-def unproved(said, crate):
-    """The functions of a crate that have no proof, but those that only call one of these."""
+def unproved(said, crate, with_callers=False):
+    """The functions of a crate that have no proof, with or without those that only call one of these."""
     found = re.findall(rf"^fn {crate}::(\S+): (no proof|not proved)(.*)$", said, re.M)
-    return [name for name, _, why in found if "it calls" not in why]
+    return [name for name, _, why in found if with_callers or "it calls" not in why]
+
+
+def tried(case):
+    """A case, and what the check said of it."""
+    lower, file, name, clauses, upper, _, more = case
+    try:
+        return case, said_of(lower, file, name, clauses, upper, more)
+    except ValueError as why:
+        return case, str(why)
 
 
 def main():
     cases = Cases()
-    with changeable_copy() as copy:
-        for lower, file, name, clauses, upper, user, more in CASES:
-            try:
-                said = said_of(copy, lower, file, name, clauses, upper, more)
-            except ValueError as why:
-                said = str(why)
-            is_well = unproved(said, upper) == [user] and (lower == upper or not unproved(said, lower))
-            label = f"{ROUND}: {upper}::{user} without {', '.join(clauses)} of {lower}::{name} is refused"
+    needed = {it: None for case in CASES for it in with_those_below(case[4])}
+    prove([*needed], Progress(*weights_of(needed)))
+    with concurrent.futures.ThreadPoolExecutor(processors()) as pool:
+        for (lower, _, name, clauses, upper, user, _), said in pool.map(tried, CASES):
+            entry = ENTRIES.get(upper, user)
+            is_well = unproved(said, upper) == [user] and entry in unproved(said, upper, True) and (lower == upper or not unproved(said, lower))
+            label = f"{ROUND}: {upper}::{user} without {', '.join(clauses)} of {lower}::{name} is refused" + (f", and {entry}" if entry != user else "")
             cases.count(label, is_well, "\n".join(it[:300] for it in said.split("\n") if "error" in it or "no proof" in it or "not proved" in it))
     return cases.end()
 

@@ -3,7 +3,7 @@
 
 No clause can say that memory is found, and every contract allows the answer that none was. So the program is run on each
 example with its first growth refused, then with its second, until a run has none to refuse: each time but the last it must
-print `fault memory` alone and end with status 3. Each test is run so too, and must pass or hand the refusal on as its
+print `fault memory` alone and end with status 3. Each test is run so too, and must pass or return the refusal as its
 result: an assertion that fails shows an answer that changed in the place of the error.
 """
 import concurrent.futures
@@ -22,6 +22,8 @@ REFUSES = pathlib.Path(__file__).resolve().with_name("refused_growth.c")
 SCRIPTS = sorted((ROOT / "examples").glob("*.script"))
 # What a test says whose result is the refusal: of a call, of a push to a vector, and of a run.
 HANDED_ON = (b"error: AllocError\n", b"error: AllocFailed { .. }\n", b"error: Memory\n")
+# A crate of tests, a test, the same without its one call that takes memory, and how many growths that call takes.
+CALLS = [("imgref_replay_tests", "commands::refused_memory_changes_nothing", "commands::what_replay_is_given", 1)]
 # No test and no program takes more growths than this.
 MOST = 10_000
 
@@ -71,8 +73,8 @@ def tests_of(program):
     return [it.removesuffix(": test") for it in listed.splitlines() if it.endswith(": test")]
 
 
-def has_tests(crate):
-    return any("#[test]" in it.read_text() for it in (ROOT / "crates" / crate / "src").rglob("*.rt"))
+def says(crate, word):
+    return any(word in it.read_text() for it in (ROOT / "crates" / crate / "src").rglob("*.rt"))
 
 
 def main():
@@ -87,12 +89,16 @@ def main():
             for script in SCRIPTS:
                 growths, bad = of_program(library, program, script.read_bytes())
                 cases.count(f"{program.name}, {script.name}: each of {growths} growths refused is told, and nothing else is written", growths > 0 and not bad, "\n".join(bad[:3]))
-        for crate in filter(has_tests, crates()):
+        for crate in (it for it in crates() if says(it, "#[test]")):
             for program in built(crate, ("_tests",)) or [None]:
                 found = [*pool.map(lambda test: of_test(library, program, test), tests_of(program) if program else [])]
                 bad = [it for _, lines in found for it in lines]
-                label = f"{crate}: {len(found)} tests pass or hand on each of {sum(it for it, _ in found)} refused growths"
-                cases.count(label, found and not bad, "\n".join(bad[:3]) if program else "its tests are not built, or older than their sources: `rt ci` builds them")
+                growths = sum(it for it, _ in found)
+                label = f"{crate}: {len(found)} tests pass or return each of {growths} refused growths"
+                cases.count(label, found and not bad and (growths > 0 or not says(crate, "alloc()")), "\n".join(bad[:3]) if program else "its tests are not built, or older than their sources: `rt ci` builds them")
+        for crate, test, without, wanted in CALLS:
+            counts = [of_test(library, program, it)[0] for program in built(crate, ("_tests",)) for it in (test, without)]
+            cases.count(f"{crate}: {test} takes growths beside those of {without}: {wanted}", len(counts) == 2 and counts[0] - counts[1] == wanted, f"they take {counts}")
     return cases.end()
 
 

@@ -2,8 +2,8 @@
 """Shows that module `moves` of row_mover changes cells by counted shifts alone.
 
 A body that moves the rows by hand and adds to the count could meet every contract. What refuses it is that the list and
-the count are private to module `mover`, and no wrong body of `must-fail/` can show that, since such a body does not reach
-the prover. So each case here changes a copy of the repository and asks `rt check` about row_mover.
+the count are private to module `mover`, and no planted bug of `must-fail/` can show that, since such a body does not reach
+the prover. So each case here changes row_mover in a room (tools/workspace.py) and asks `rt check` about it.
 """
 import pathlib
 import re
@@ -11,7 +11,9 @@ import subprocess
 import sys
 
 sys.path.insert(0, str(pathlib.Path(__file__).resolve().parent.parent))
-from cases import Cases, changeable_copy
+from cases import Cases
+from proving import Progress, prove, weights_of
+from workspace import room, with_those_below
 
 MOVER, MOVES = "src/mover.rt", "src/moves.rt"
 BY_HAND = "shift_counted_but_written_by_hand"
@@ -62,29 +64,29 @@ CASES = [
 ]
 
 
-def said_of(crate, file, name, change):
+def said_of(file, name, change):
     """What rt check says of the crate with that function of that file changed."""
-    path = crate / file
-    whole = path.read_text(encoding="utf-8")
-    start, end = function(whole, name)
-    changed = change(whole[start:end])
-    if changed == whole[start:end]:
-        raise ValueError(f"error: {name} is not changed")
-    path.write_text(whole[:start] + changed + whole[end:], encoding="utf-8")
-    said = subprocess.run(["rt", "check"], cwd=crate, stdin=subprocess.DEVNULL, stdout=subprocess.PIPE, stderr=subprocess.STDOUT, text=True).stdout
-    path.write_text(whole, encoding="utf-8")
-    return said
+    with room("row_mover") as crate:
+        path = crate / file
+        whole = path.read_text(encoding="utf-8")
+        start, end = function(whole, name)
+        changed = change(whole[start:end])
+        if changed == whole[start:end]:
+            raise ValueError(f"error: {name} is not changed")
+        path.write_text(whole[:start] + changed + whole[end:], encoding="utf-8")
+        return subprocess.run(["rt", "check"], cwd=crate, stdin=subprocess.DEVNULL, stdout=subprocess.PIPE, stderr=subprocess.STDOUT, text=True).stdout
 
 
 def main():
     cases = Cases()
-    with changeable_copy() as copy:
-        for label, file, name, change, is_right in CASES:
-            try:
-                said = said_of(copy / "crates/row_mover", file, name, change)
-            except ValueError as why:
-                said = str(why)
-            cases.count(label, is_right(said), "\n".join(it[:300] for it in said.split("\n") if "error" in it or "no proof" in it))
+    needed = with_those_below("row_mover")
+    prove(needed, Progress(*weights_of(needed)))
+    for label, file, name, change, is_right in CASES:
+        try:
+            said = said_of(file, name, change)
+        except ValueError as why:
+            said = str(why)
+        cases.count(label, is_right(said), "\n".join(it[:300] for it in said.split("\n") if "error" in it or "no proof" in it))
     return cases.end()
 
 

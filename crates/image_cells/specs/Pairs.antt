@@ -22,9 +22,9 @@ module _ {T U : Type 0} where
   abbrev pub AllPairsAnswer : (Bor T → Bor U → Bool → Type 0) → List T → List U → Type 0
   AllPairsAnswer post xs ys = (k : ℕ) → k < length xs → PairAnswers post xs ys k true
 
-  -- a call at one of them may answer false
+  -- a call at one of them may answer false, and one at each before it true
   abbrev pub SomePairDiffers : (Bor T → Bor U → Bool → Type 0) → List T → List U → Type 0
-  SomePairDiffers post xs ys = (k : ℕ) × ((k < length xs) × PairAnswers post xs ys k false)
+  SomePairDiffers post xs ys = (k : ℕ) × ((k < length xs) × (((j : ℕ) → j < k → PairAnswers post xs ys j true) × PairAnswers post xs ys k false))
 
   -- ---- two images
 
@@ -48,6 +48,16 @@ module _ {T U : Type 0} where
   abbrev pub AllPlacesAnswer : (Bor T → Bor U → Bool → Type 0) → Layout T → Layout U → Type 0
   AllPlacesAnswer post k l = HaveOneSize k l × ((x y : ℕ) → x < k.width → y < k.height → PlaceAnswers post k l x y true)
 
-  -- where they have one size, a call at some place may answer false
+  -- a call at some place may answer false, and one at each place before it true: row by row, and from left to right
+  pub record FirstDiffers (post : Bor T → Bor U → Bool → Type 0) (k : Layout T) (l : Layout U) : Type 0 where
+    pub x : ℕ
+    pub y : ℕ
+    pub column : x < k.width
+    pub line : y < k.height
+    pub rows_above : (u v : ℕ) → u < k.width → v < y → PlaceAnswers post k l u v true
+    pub left_of_it : (u : ℕ) → u < x → PlaceAnswers post k l u y true
+    pub differs : PlaceAnswers post k l x y false
+
+  -- where images have one size, there is such a place
   abbrev pub SomePlaceDiffers : (Bor T → Bor U → Bool → Type 0) → Layout T → Layout U → Type 0
-  SomePlaceDiffers post k l = HaveOneSize k l → (x : ℕ) × ((y : ℕ) × ((x < k.width) × ((y < k.height) × PlaceAnswers post k l x y false)))
+  SomePlaceDiffers post k l = HaveOneSize k l → FirstDiffers post k l

@@ -13,4 +13,7 @@ pub mod Agreement
 pub mod Shifts
 pub mod Alike
 pub mod Tiles
+pub mod Mapped
+pub mod Swaps
+pub mod Flips
 pub mod Examples

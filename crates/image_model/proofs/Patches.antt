@@ -1,10 +1,10 @@
 -- What a patch shows: at its place, past the grid's edge, and where the edge cuts it.
-use Rattle.std.proofs.Common.{◌≡◌, ℕ, ◌-◌, ◌<◌, ◌≤◌, ◌⊎◌, true, false, Option, Some, min, sym, ◌∙◌, arith}
+use Rattle.std.proofs.Common.{◌≡◌, ℕ, ◌+◌, ◌-◌, ◌<◌, ◌≤◌, ◌⊎◌, true, false, Option, Some, min, sym, ◌∙◌, arith}
 use Rattle.std.specs.Prelude.{if◌then◌else◌}
 use Rattle.std.proofs.lemmas.Bool.{cond-true, cond-false, true≢false, false_from_ne_true}
-use Rattle.image_model.specs.Grid.{Grid, grid_of, covers, patch, uniform}
+use Rattle.image_model.specs.Grid.{Grid, grid_of, covers, view, patch, uniform}
 use Rattle.image_model.specs.Layout.{Layout, pixel}
-use Rattle.image_model.proofs.Grids.{covers_decides, at_place, is_patch}
+use Rattle.image_model.proofs.Grids.{covers_decides, at_place, is_patch, patch_of_view}
 
 module _ {T : Type 0} (l : Layout T) (x y width height : ℕ) (value : T) where
   -- the part of the rectangle that lies in the image
@@ -55,6 +55,12 @@ put_pixel l x y value column line =
     at_place l.width l.height (λ u v. if covers x y 1 1 u v then (uniform 1 1 value).pixel (u - x) (v - y) else (grid_of l).pixel u v) x y column line
     ∙ cond-true (covers x y 1 1 x y) _ _ ((covers_decides x y 1 1 x y).1 (omega arith, omega arith, omega arith, omega arith))
     ∙ at_place 1 1 (λ _ _. Some value) (x - x) (y - y) (omega arith) (omega arith)
+
+-- a rectangle in a view, put where the view was seen, is one at the summed corner
+pub fill_in_view : {T : Type 0} (g : Grid T) (left top width height x y columns lines : ℕ) (value : T) → x + columns ≤ width → y + lines ≤ height
+    → patch g left top (patch (view g left top width height) x y (uniform columns lines value)) ≡ patch g (left + x) (top + y) (uniform columns lines value)
+unfolding uniform
+fill_in_view g left top width height x y columns lines value across down = patch_of_view g left top width height x y (uniform columns lines value) across down
 
 -- these laws, for a caller's `using`
 pub ruleset patches = (clipped, past_edge, put_pixel)

@@ -6,3 +6,6 @@ pub mod Shifts
 pub mod Alike
 pub mod Kept
 pub mod Tiles
+pub mod Mapped
+pub mod Swaps
+pub mod Flips

@@ -1,6 +1,7 @@
 //! The rows of an image, one after the other at the front of its cells.
 
 ghost use Rattle.std.specs.Prelude.{◌≡◌, ◌*◌, ◌++◌, length, drop};
+ghost use Rattle.std.specs.Vec.{vec_capacity};
 ghost use Rattle.image_model.specs.Layout.{Fits};
 ghost use Rattle.image_model.specs.Grid.{grid_of};
 ghost use Rattle.image_model.specs.Rows.{joined_rows};
@@ -23,8 +24,9 @@ fn with_joined_rows<T: Copy>(cells: &mut [T], shape: Shape) -> &mut [T]
     mover.into_cells()
 }
 
-// Joins the rows of an image at the front of its cells, in place.
-fn join_rows<T: Copy>(cells: &mut [T], shape: Shape)
+/// Joins the rows of an image at the front of its cells, in place; the cells behind them stay. The
+/// cells fit.
+pub fn join_rows<T: Copy>(cells: &mut [T], shape: Shape)
     requires fits { Fits (shaped cells.old shape) }
     ensures cells { cells.new ≡ joined_rows (shaped cells.old shape) ++ drop (shape_width shape * shape_height shape) cells.old }
 {
@@ -32,13 +34,14 @@ fn join_rows<T: Copy>(cells: &mut [T], shape: Shape)
 }
 
 /// Leaves the joined rows alone in the buffer, and gives their shape: the same size at the least
-/// stride. The cells fit.
+/// stride. The cells fit. The buffer keeps its capacity: no memory is taken or given back.
 pub fn pack<T: Copy>(buf: &mut Vec<T>, shape: Shape) -> Shape
     requires fits { Fits (shaped buf.old.items shape) }
     ensures layout { shaped buf.new.items result ≡ packed (shaped buf.old.items shape) }
     ensures packed { IsPacked (packed (shaped buf.old.items shape)) }
     ensures fits { Fits (packed (shaped buf.old.items shape)) }
     ensures grid { grid_of (packed (shaped buf.old.items shape)) ≡ grid_of (shaped buf.old.items shape) }
+    ensures capacity { vec_capacity buf.new ≡ vec_capacity buf.old }
 {
     let width = shape.width();
     let height = shape.height();

@@ -1,4 +1,4 @@
--- A cursor goes on under a name of a whole that has its cells: whatever the whole ends as, the cells end as those that it has then. Assumes `Logic`.
+-- A cursor goes on under a name of a whole that has its cells: whatever the whole's final value is, the final cells are those that it has. Assumes `Logic`.
 use mathlib.Core.Path.{◌≡◌, refl, sym}
 use Prim.Native.Nat.{ℕ, ◌*◌}
 use mathlib.Core.List.{List, [], ◌∷◌}
@@ -62,7 +62,7 @@ module _ {M : Type 1} {𝓤 : Ura M} (𝓛 : Logic 𝓤) (W R : RattleType) (cel
         -- [the token; what is of no use; obs; the borrow; what follows]
         now ! $ show ! Between (δ, δ') $ keep ! (2 ∷ 3 ∷ 0 ∷ 4 ∷ []) $ done !))
 
--- the cursor with another loan of the same cells, and what lent it
+-- the cursor with another borrow of the same cells, and what lent it
 abbrev pub relent : {T : Type 0} → PixelsIterMut T → GName → GName → PixelsIterMut T
 relent r lender name = record { current = r.current; left = r.left; rows_left = r.rows_left; width = r.width; pad = r.pad; marker = r.marker; name = name; lender = lender; cells = r.cells; reaches = r.reaches; wide = r.wide; small = r.small }
 

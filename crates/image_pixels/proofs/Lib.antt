@@ -7,3 +7,4 @@ pub mod Runs
 pub mod Folds
 pub mod Rows
 pub mod Lenders
+pub mod Mapping

@@ -1,3 +1,4 @@
 pub mod Loans
 pub mod Marks
 pub mod Pixels
+pub mod Mapping

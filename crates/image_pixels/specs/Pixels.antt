@@ -34,7 +34,7 @@ module _ {T : Type 0} where
   unfoldable pub muts_left : PixelsIterMut T → List T
   muts_left s = pick (marks_left s) (cells_left s)
 
-  -- the loan of these cells
+  -- the borrow of these cells
   abbrev pub name_of : PixelsIterMut T → GName
   name_of s = s.name
 
@@ -56,11 +56,11 @@ module _ {T : Type 0} where
   Moves s (Some x) t = (cells_left s ≡ passed s ++ x.now ∷ cells_left t) × (length (passed s) ≡ gap s)
       × (marks_left s ≡ replicate (gap s) false ++ true ∷ marks_left t)
 
--- the cells of s end as those passed over, what the pixel ends as, and what the cells of t end as
+-- the final cells of s: those passed over, the pixel's final value, and the final cells of t
 abbrev pub hands_on : (R : RattleType) → PixelsIterMut R.Denot → Option (MutBor R.Denot) → PixelsIterMut R.Denot → Fml
 hands_on R s None t = ftrue
 hands_on R s (Some x) t = follows_both (Array R 0) R (Array R 0) (name_of s) x.ghost_name (name_of t) (λ w ws. passed s ++ w ∷ ws)
 
--- the cells of s end as they are now
+-- the final cells of s are those that it has now
 abbrev pub leaves_as : (R : RattleType) → PixelsIterMut R.Denot → Fml
 leaves_as R s = fres (name_of s) ((coded_list R.coded).code (cells_left s))

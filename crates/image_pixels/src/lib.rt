@@ -11,10 +11,12 @@ mod cells;
 mod copy;
 mod counts;
 mod fill;
+mod map;
 mod pixels;
 mod pixels_mut;
 
 pub use copy::copy_pixels;
 pub use fill::fill_pixels;
+pub use map::map_pixels;
 pub use pixels::{PixelsIter, PixelsRefIter};
 pub use pixels_mut::PixelsIterMut;

@@ -24,7 +24,7 @@ pub struct PixelsIterMut<'a, T> {
     width: usize,
     pad: usize,
     marker: PhantomData<&'a mut [T]>,
-    // The loan of the cells from the pointer on, what lent them, and these cells.
+    // The borrow of the cells from the pointer on, what lent them, and these cells.
     ghost name: { GName },
     ghost lender: { GName },
     ghost cells: { List T },
@@ -73,7 +73,7 @@ impl<'a, T> PixelsIterMut<'a, T> {
     /// The pixels of `shape` in `cells` for writing: `width` times `height` of them, row by row
     /// and from left to right, without the padding. The cells must fit, as `Shape::fits` tells.
     ///
-    /// The cursor holds the loan of the cells: they end as it and its items leave them.
+    /// The cursor holds the borrow of the cells: the final cells are those that it and its items leave.
     pub fn new(cells: &'a mut [T], shape: Shape) -> PixelsIterMut<'a, T>
         requires fits { Fits (shaped cells.old shape) }
         ensures name { name_of result ≡ cells.entry.ghost_name }
@@ -94,9 +94,9 @@ impl<'a, T> PixelsIterMut<'a, T> {
         )
     }
 
-    /// The next pixel, as the iterator gives it, with the clause that says what the cells end as.
+    /// The next pixel, as the iterator gives it, with the clause of the final cells.
     ///
-    /// A `for` and the adapters go by the trait's own `next`.
+    /// A `for` and the adapters take the trait's own `next`.
     pub fn next(&mut self) -> Option<&'a mut T>
         ensures steps { YieldsFirstMut muts_left self.old result self.new }
         ensures goes { MakesProgress (λ _. Unit {0}) (item_count muts_left) self.old result self.new }

@@ -64,7 +64,7 @@ module _ {T : Type 0} where
   abbrev pub cells_left : RowsIterMut T → List T
   cells_left s = s.cells.now
 
-  -- the loan of these cells
+  -- the borrow of these cells
   abbrev pub name_of : RowsIterMut T → GName
   name_of s = s.cells.ghost_name
 
@@ -92,7 +92,7 @@ module _ {T : Type 0} where
   Moves end s None t = t ≡ s
   Moves end s (Some row) t = (cells_left s ≡ put_back end s row.now (cells_left t)) × (spacing_left t ≡ without end (spacing_left s))
 
--- the cells of s end as those let go, what the row ends as, and what the cells of t end as
+-- the final cells of s: those let go, the row's final cells, and the final cells of t
 abbrev pub hands_on : (R : RattleType) → End → RowsIterMut R.Denot → Option (MutBor (List R.Denot)) → RowsIterMut R.Denot → Fml
 hands_on R end s None t = ftrue
 hands_on R end s (Some row) t = follows_both (Array R 0) (Array R 0) (Array R 0) (name_of s) row.ghost_name (name_of t) (put_back end s)

@@ -26,6 +26,7 @@ pub struct RowsIterMut<'a, T> {
 
 impl<'a, T> RowsIterMut<'a, T> {
     ghost use Rattle.std.specs.Borrow.{sem};
+    ghost use Rattle.std.specs.Iterator.{YieldsFirstMut, YieldsLastMut};
     ghost use Rattle.image_rows.specs.Rows.{muts_left, cells_left, name_of, spacing_left, whole_spacing, Yields, Moves, hands_on};
 
     /// The rows of cells in a shape that they fit, for writing.
@@ -48,8 +49,8 @@ impl<'a, T> RowsIterMut<'a, T> {
 
     /// The row at that end, if there is one, and the rows that are left.
     ///
-    /// This is the step that says what the cells end as. A `for` and the adapters go by `next` and
-    /// `next_back`, which take the same rows.
+    /// This is the step with the clause of the final cells. A `for` and the adapters take `next` and
+    /// `next_back`, which give the same rows.
     pub fn split_end(self, end: End) -> (Option<&'a mut [T]>, RowsIterMut<'a, T>)
         ensures* hands_on { sem 𝓛 (hands_on T.row end self.entry result.0 result.1) }
         ensures steps { Yields end self.entry result.0 result.1 }
@@ -66,6 +67,39 @@ impl<'a, T> RowsIterMut<'a, T> {
             spacing: cuts.rest,
         };
         (Some(row), left)
+    }
+
+    /// The next row, as the iterator gives it, with the clause of the final cells.
+    ///
+    /// A `for` and the adapters take the trait's own `next`.
+    pub fn next(&mut self) -> Option<&'a mut [T]>
+        ensures* hands_on { sem 𝓛 (hands_on T.row End.First self.old result self.new) }
+        ensures steps { YieldsFirstMut muts_left self.old result self.new }
+        ensures moves { Moves End.First self.old result self.new }
+    {
+        self.step(End::First)
+    }
+
+    /// The last row, as the iterator gives it, with the clause of the final cells.
+    ///
+    /// The adapters take the trait's own `next_back`.
+    pub fn next_back(&mut self) -> Option<&'a mut [T]>
+        ensures* hands_on { sem 𝓛 (hands_on T.row End.Last self.old result self.new) }
+        ensures steps { YieldsLastMut muts_left self.old result self.new }
+        ensures moves { Moves End.Last self.old result self.new }
+    {
+        self.step(End::Last)
+    }
+
+    // The row at that end, which leaves the others.
+    fn step(&mut self, end: End) -> Option<&'a mut [T]>
+        ensures* hands_on { sem 𝓛 (hands_on T.row end self.old result self.new) }
+        ensures steps { Yields end self.old result self.new }
+        ensures moves { Moves end self.old result self.new }
+    {
+        let (row, left) = self.take().split_end(end);
+        *self = left;
+        row
     }
 
     // The rows that are left, which leaves none.
@@ -98,9 +132,7 @@ impl<'a, T> Iterator for RowsIterMut<'a, T> {
     ghost remaining = { item_count muts_left };
 
     fn next(&mut self) -> Option<&'a mut [T]> {
-        let (row, left) = self.take().split_end(End::First);
-        *self = left;
-        row
+        RowsIterMut::next(self)
     }
 
     #[tactic(auto, unfolding(crate::specs::Rows::muts_left))]
@@ -121,9 +153,7 @@ impl<'a, T> DoubleEndedIterator for RowsIterMut<'a, T> {
     ghost next_back_gives = { YieldsLastMut muts_left };
 
     fn next_back(&mut self) -> Option<&'a mut [T]> {
-        let (row, left) = self.take().split_end(End::Last);
-        *self = left;
-        row
+        RowsIterMut::next_back(self)
     }
 }
 

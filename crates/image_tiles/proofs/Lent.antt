@@ -1,4 +1,4 @@
--- What the walk of `next_tile` hands on, as machine values: a reference with a number, and what follows its answer. Assumes `Logic`.
+-- What the proof by hand of `next_tile` passes on, as machine values: a reference with a number, and what follows its answer. Assumes `Logic`.
 use mathlib.Core.Path.{◌≡◌, refl, ◌∙◌}
 use Prim.Native.Nat.{ℕ, ◌^◌, ◌<◌}
 use mathlib.Core.List.{List, [], ◌∷◌, ◌++◌}

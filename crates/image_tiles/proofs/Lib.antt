@@ -5,3 +5,4 @@ pub mod BandsCover
 pub mod Values
 pub mod Left
 pub mod Lent
+mod Cursors

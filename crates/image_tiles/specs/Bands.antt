@@ -45,7 +45,7 @@ module _ {T : Type 0} where
   abbrev pub cells_left : BandsMut T → List T
   cells_left s = s.cells.now
 
-  -- the loan of these cells
+  -- the borrow of these cells
   abbrev pub name_of : BandsMut T → GName
   name_of s = s.cells.ghost_name
 
@@ -66,7 +66,7 @@ module _ {T : Type 0} where
   Moves s None t = t ≡ s
   Moves s (Some band) t = (cells_left s ≡ put_back s (buf_of band).now (cells_left t)) × (lines_left t ≡ behind (lines_left s))
 
--- the cells of s end as those before the band, what the band ends as, and what the cells of t end as
+-- the final cells of s: those before the band, the band's final cells, and the final cells of t
 abbrev pub hands_on : (R : RattleType) → BandsMut R.Denot → Option (Img (MutBor (List R.Denot))) → BandsMut R.Denot → Fml
 hands_on R s None t = ftrue
 hands_on R s (Some band) t = follows_both (Array R 0) (Array R 0) (Array R 0) (name_of s) (buf_of band).ghost_name (name_of t) (put_back s)

@@ -1,12 +1,13 @@
 -- What lending a tile leaves.
-use Rattle.std.specs.Prelude.{List, ◌≡◌, [], ◌∷◌, Bool, if◌then◌else◌, Option, Some, None}
+use Rattle.std.specs.Prelude.{List, ◌≡◌, ◌<◌, [], ◌∷◌, Bool, if◌then◌else◌, Option, Some, None}
 use Rattle.std.specs.Borrow.{MutBor, GName}
 use mathlib.Core.Option as maybe
-use Rattle.image_model.specs.Layout.{Layout, Fits, is_fitting}
+use Rattle.image_model.specs.Layout.{Fits, is_fitting}
 use Rattle.image_model.specs.Grid.{grid_of}
 use Rattle.image_model.specs.Windows.{Window, Stretch, IsInside, window_view, window_layout}
 use Rattle.imgref.specs.declared.img.Img.{Img}
-use Rattle.imgref.specs.Image.{buf_of, layout_by, mut_layout, with_window}
+use Rattle.imgref.specs.Image.{buf_of, width_of, height_of, layout_by, mut_layout, with_window}
+use Rattle.imgref.specs.Written.{WindowPatchesGrid, WindowKeepsOutside, WindowKeepsFit, WindowKeepsContainer}
 use Rattle.image_tiles.specs.declared.tiles.TileCursor.{TileCursor}
 use Rattle.image_tiles.specs.declared.tiling.Tiling.{Tiling}
 use Rattle.image_tiles.specs.Tiling.{windows_left, tile_now, stepped}
@@ -34,16 +35,23 @@ abbrev pub name_of : {T : Type 0} → Option (Img (MutBor (List T))) → maybe.O
 name_of (Some i) = maybe.some (buf_of i).ghost_name
 name_of None = maybe.none
 
--- a tile is the window of the first that is left: it fits and shows the view
-pub record IsFirst {T : Type 0} (roomy : Bool) (l : Layout T) (before after : List Window) (tile : Img (MutBor (List T))) : Type 0 where
-  pub window : Window
-  pub first : before ≡ window ∷ after
-  pub inside : IsInside l.width l.height window
-  pub cells : mut_layout tile ≡ window_layout roomy l window
-  pub fits : Fits (mut_layout tile)
-  pub shows : grid_of (mut_layout tile) ≡ window_view (grid_of l) window
+-- how an image's container is read and written, a cursor, the windows that it still gives
+module _ {C T : Type 0} (cells : C → List T) (with_cells : C → Stretch → List T → C) (roomy : Bool) (s : TileCursor C) (before : List Window) where
+  -- a tile is the window of the first that is left: it has a place, it fits, it shows the view, and what is left in it is left in the image
+  pub record IsNext (tile : Img (MutBor (List T))) : Type 0 where
+    pub first : before ≡ tile_now s.tiling ∷ windows_left (stepped s.tiling)
+    pub inside : IsInside (width_of s.img) (height_of s.img) (tile_now s.tiling)
+    pub some_width : 0 < (tile_now s.tiling).width
+    pub some_height : 0 < (tile_now s.tiling).height
+    pub cells_are : mut_layout tile ≡ window_layout roomy (layout_by cells s.img) (tile_now s.tiling)
+    pub fits : Fits (mut_layout tile)
+    pub shows : grid_of (mut_layout tile) ≡ window_view (grid_of (layout_by cells s.img)) (tile_now s.tiling)
+    pub grid : WindowPatchesGrid cells with_cells roomy s.img (tile_now s.tiling) (mut_layout tile)
+    pub outside : WindowKeepsOutside cells with_cells roomy s.img (tile_now s.tiling) (mut_layout tile)
+    pub still_fits : WindowKeepsFit cells with_cells roomy s.img (tile_now s.tiling) (mut_layout tile)
+    pub container : WindowKeepsContainer cells with_cells roomy s.img (tile_now s.tiling) (mut_layout tile)
 
--- the next tile of those that are left, or none where none is
-abbrev pub NextTile : {T : Type 0} → Bool → Layout T → List Window → List Window → Option (Img (MutBor (List T))) → Type 0
-NextTile roomy l before after None = before ≡ []
-NextTile roomy l before after (Some tile) = IsFirst roomy l before after tile
+  -- the next tile of those that are left, or none where none is
+  abbrev pub NextTile : Option (Img (MutBor (List T))) → Type 0
+  NextTile None = before ≡ []
+  NextTile (Some tile) = IsNext tile

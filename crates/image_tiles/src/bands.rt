@@ -102,8 +102,8 @@ impl Lines {
 
 /// The bands of an image for writing, from top to bottom: full width, `band_height` rows each, the
 /// last perhaps fewer. The buffer of a band of `k` rows has `stride * (k - 1) + width` cells. Several
-/// may live side by side. Dropped at any point, the cells of the bands that were given are as those
-/// left them, and all others, the padding too, as they were.
+/// may live side by side. When it is dropped, also early, the cells of the bands that were given are
+/// as those left them, and all others, the padding too, as they were.
 #[derive(Drop)]
 pub struct BandsMut<'a, T> {
     cells: &'a mut [T],
@@ -122,8 +122,11 @@ impl<'a, T> BandsMut<'a, T> {
     ghost use Rattle.std.specs.Iterator.{YieldsFirstBy};
     ghost use Rattle.image_tiles.specs.Bands.{bands, band_windows, bands_left, name_of, cells_left, hands_on, Moves};
 
-    /// The bands of an image that fits (`is_valid`), of a positive number of rows each. An image with
-    /// no pixel has none.
+    /// The bands of an image, of `band_height` rows each. An image with no pixel has none.
+    ///
+    /// # Requires
+    ///
+    /// The image fits (`is_valid`), and `band_height` is positive.
     #[tactic(auto, unfolding(crate::specs::Bands::bands_left))]
     pub fn new(img: ImgRefMut<'a, T>, band_height: usize) -> BandsMut<'a, T>
         requires fits { Fits (mut_layout img) }
@@ -145,8 +148,8 @@ impl<'a, T> BandsMut<'a, T> {
 
     /// The first band, if there is one, and the bands that are left.
     ///
-    /// This is the step that says what the cells end as. A `for` and the adapters go by `next`, which
-    /// takes the same bands.
+    /// This is the step with the clause of the final cells. A `for` and the adapters take `next`,
+    /// which gives the same bands.
     pub fn split_first(self) -> (Option<ImgRefMut<'a, T>>, BandsMut<'a, T>)
         ensures* hands_on { sem 𝓛 (hands_on T.row self.entry result.0 result.1) }
         ensures steps { YieldsFirstBy mut_layout bands_left self.entry result.0 result.1 }
@@ -164,6 +167,19 @@ impl<'a, T> BandsMut<'a, T> {
             lines: cut.rest,
         };
         (Some(band), left)
+    }
+
+    /// The next band, as the iterator gives it, with the clause of the final cells.
+    ///
+    /// A `for` and the adapters take the trait's own `next`.
+    pub fn next(&mut self) -> Option<ImgRefMut<'a, T>>
+        ensures* hands_on { sem 𝓛 (hands_on T.row self.old result self.new) }
+        ensures steps { YieldsFirstBy mut_layout bands_left self.old result self.new }
+        ensures moves { Moves self.old result self.new }
+    {
+        let (band, left) = self.take().split_first();
+        *self = left;
+        band
     }
 
     // The bands that are left, which leaves none.
@@ -197,9 +213,7 @@ impl<'a, T> Iterator for BandsMut<'a, T> {
     ghost remaining = { item_count bands_left };
 
     fn next(&mut self) -> Option<ImgRefMut<'a, T>> {
-        let (band, left) = self.take().split_first();
-        *self = left;
-        band
+        BandsMut::next(self)
     }
 
     #[tactic(auto, using(crate::proofs::BandsLeft::counted_left))]

@@ -6,11 +6,9 @@
 #![tactic(auto)]
 
 mod bands;
-#[cfg(test)]
-mod tests;
 mod tiles;
 mod tiling;
 
 pub use bands::BandsMut;
 pub use tiles::{TileCursor, TilesMut};
-pub use tiling::Tiling;
+pub use tiling::{Tiling, tiles_along};

@@ -7,6 +7,7 @@ ghost use Rattle.image_model.specs.Grid.{grid_of};
 ghost use Rattle.image_model.specs.Tiles.{tiles};
 ghost use Rattle.image_model.specs.Windows.{IsInside, window_view, window_layout};
 ghost use Rattle.image_shape.specs.Shape.{shaped, shape_width, shape_height};
+ghost use Rattle.imgref.specs.Written.{WindowPatchesGrid, WindowKeepsOutside, WindowKeepsFit, WindowKeepsContainer};
 ghost use Rattle.imgref.specs.Image.{buf_of, width_of, height_of, stride_of, layout_by, mut_layout};
 ghost use Rattle.image_tiles.specs.Tiling.{tile_now, windows_left, has_tile, stepped, tiling_width, tiling_height};
 
@@ -27,10 +28,14 @@ pub type TilesMut<'a, T> = TileCursor<&'a mut [T]>;
 
 impl<C: AsMutSlice> TileCursor<C> {
     ghost use Rattle.image_tiles.specs.contracts.tiles.TileCursor.{the_row};
-    ghost use Rattle.image_tiles.specs.Lending.{image_of, tiling_of, after_tile, name_of, NextTile, tiles_left};
+    ghost use Rattle.image_tiles.specs.Lending.{image_of, tiling_of, after_tile, name_of, IsNext, NextTile, tiles_left};
 
-    /// The tiles of `tile_width` by `tile_height` pixels of an image that fits (`is_valid`): the
-    /// windows of [`Tiling`], in its order. Both tile sizes are positive.
+    /// The tiles of `tile_width` by `tile_height` pixels of an image: the windows of [`Tiling`], in
+    /// its order.
+    ///
+    /// # Requires
+    ///
+    /// The image fits (`is_valid`), and both tile sizes are positive.
     pub fn new(img: Img<C>, tile_width: usize, tile_height: usize) -> Self
         requires fits { Fits (layout_by C.AsSlice.cells img) }
         requires wide { 0 < tile_width }
@@ -50,7 +55,7 @@ impl<C: AsMutSlice> TileCursor<C> {
         img
     }
 
-    /// How many tiles are left.
+    /// How many tiles are left: 0 once the image no longer fits.
     pub fn left(&self) -> usize
         ensures value { result ≡ length (tiles_left C.AsSlice.cells self.now) }
         ensures some { 0 < result → IsTrue (has_tile (tiling_of self.now)) }
@@ -68,6 +73,10 @@ impl<C: AsMutSlice> TileCursor<C> {
     ///
     /// For a caller that is itself proved and says what its writes leave, as `window_parts_mut`: test
     /// first by `left`, then pass the cells to a function of its own.
+    ///
+    /// # Requires
+    ///
+    /// The image fits and a tile is left: `left()` isn't 0.
     pub fn next_parts(&mut self) -> (&mut [C::Item], Shape)
         requires fits { Fits (layout_by C.AsSlice.cells (image_of self.old)) }
         requires more { IsTrue (has_tile (tiling_of self.old)) }
@@ -80,6 +89,10 @@ impl<C: AsMutSlice> TileCursor<C> {
         ensures some_width { 0 < shape_width result.1 }
         ensures some_height { 0 < shape_height result.1 }
         ensures holds_width { width_of (image_of self.old) ≤ stride_of (image_of self.old) }
+        ensures grid { WindowPatchesGrid C.AsSlice.cells C.with_cells C.roomy_windows (image_of self.old) (tile_now (tiling_of self.old)) (shaped result.0.now result.1) }
+        ensures outside { WindowKeepsOutside C.AsSlice.cells C.with_cells C.roomy_windows (image_of self.old) (tile_now (tiling_of self.old)) (shaped result.0.now result.1) }
+        ensures still_fits { WindowKeepsFit C.AsSlice.cells C.with_cells C.roomy_windows (image_of self.old) (tile_now (tiling_of self.old)) (shaped result.0.now result.1) }
+        ensures container { WindowKeepsContainer C.AsSlice.cells C.with_cells C.roomy_windows (image_of self.old) (tile_now (tiling_of self.old)) (shaped result.0.now result.1) }
     {
         let window = self.tiling.next_window();
         self.img
@@ -91,11 +104,7 @@ impl<C: AsMutSlice> TileCursor<C> {
         requires fits { Fits (layout_by C.AsSlice.cells (image_of self.old)) }
         requires more { IsTrue (has_tile (tiling_of self.old)) }
         ensures* hands_on { sem 𝓛 (follows (the_row C.row) (Array C.Item.row 0) self.entry.ghost_name (buf_of result).ghost_name (after_tile C.AsSlice.cells C.with_cells C.roomy_windows self.old)) }
-        ensures steps { windows_left (tiling_of self.old) ≡ tile_now (tiling_of self.old) ∷ windows_left (stepped (tiling_of self.old)) }
-        ensures inside { IsInside (width_of (image_of self.old)) (height_of (image_of self.old)) (tile_now (tiling_of self.old)) }
-        ensures layout { mut_layout result ≡ window_layout C.roomy_windows (layout_by C.AsSlice.cells (image_of self.old)) (tile_now (tiling_of self.old)) }
-        ensures fits { Fits (mut_layout result) }
-        ensures view { grid_of (mut_layout result) ≡ window_view (grid_of (layout_by C.AsSlice.cells (image_of self.old))) (tile_now (tiling_of self.old)) }
+        ensures next { IsNext C.AsSlice.cells C.with_cells C.roomy_windows self.old (windows_left (tiling_of self.old)) result }
     {
         let window = self.tiling.next_window();
         self.img
@@ -122,7 +131,7 @@ impl<C: AsMutSlice> TileCursor<C> {
     /// cells, has no tile left.
     pub fn next_tile(&mut self) -> Option<Img<&mut [C::Item]>>
         ensures* hands_on { sem 𝓛 (follows_if (the_row C.row) (Array C.Item.row 0) self.entry.ghost_name (name_of result) (after_tile C.AsSlice.cells C.with_cells C.roomy_windows self.old) self.old) }
-        ensures gives { NextTile C.roomy_windows (layout_by C.AsSlice.cells (image_of self.old)) (tiles_left C.AsSlice.cells self.old) (windows_left (stepped (tiling_of self.old))) result }
+        ensures gives { NextTile C.AsSlice.cells C.with_cells C.roomy_windows self.old (tiles_left C.AsSlice.cells self.old) result }
     {
         let (this, left) = self.counted();
         if left == 0 {

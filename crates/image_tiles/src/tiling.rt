@@ -8,8 +8,12 @@ ghost use Rattle.imgref.specs.Window.{as_window};
 use imgref::Window;
 use std::iter::FusedIterator;
 
-// How many tiles begin below a length.
-pub(crate) fn tiles_along(len: usize, tile: usize) -> usize
+/// How many tiles begin below a length, in pixels.
+///
+/// # Requires
+///
+/// By comparing numbers: the tile's length is positive.
+pub fn tiles_along(len: usize, tile: usize) -> usize
     requires { 0 < tile }
     ensures value { result ≡ tile_count tile len }
     ensures few { result ≤ len }
@@ -17,8 +21,8 @@ pub(crate) fn tiles_along(len: usize, tile: usize) -> usize
     if len == 0 { 0 } else { (len - 1) / tile + 1 }
 }
 
-/// The windows that cover a size: their corners are the multiples of the tile size, and they are cut
-/// at the right and the lower edge. Row by row, from left to right.
+/// The windows that cover a size, in pixels: their corners are the multiples of the tile size, and
+/// they are cut at the right and the lower edge. Row by row, from left to right.
 #[derive(Drop)]
 pub struct Tiling {
     width: usize,
@@ -42,8 +46,12 @@ pub struct Tiling {
 impl Tiling {
     ghost use Rattle.image_tiles.specs.Tiling.{windows_left, stepped, tile_now, has_tile, tiling_width, tiling_height};
 
-    /// The tiles of `tile_width` by `tile_height` pixels of a size. Both tile sizes are positive; all
-    /// four numbers may go up to the end of `usize`. A size with no place has no tile.
+    /// The tiles of `tile_width` by `tile_height` pixels of a size. All four numbers may go up to the
+    /// end of `usize`. A size with no place has no tile.
+    ///
+    /// # Requires
+    ///
+    /// By comparing numbers: both tile sizes are positive.
     #[tactic(auto, unfolding(crate::specs::Tiling::windows_left))]
     pub fn new(width: usize, height: usize, tile_width: usize, tile_height: usize) -> Tiling
         requires wide { 0 < tile_width }
@@ -153,7 +161,7 @@ impl Tiling {
 impl Iterator for Tiling {
     type Item = Window;
 
-    ghost use Rattle.std.specs.Prelude.{◌≡◌, ◌<◌, ◌^◌, length, Some, IfSome};
+    ghost use Rattle.std.specs.Prelude.{◌≡◌, ◌-◌, ◌≤◌, ◌<◌, ◌^◌, length, Some, None, IfSome};
     ghost use Rattle.std.specs.Iterator.{YieldsFirstBy, item_count, UpTo};
     ghost use Rattle.std.specs.Iterator.SizeHint.{IsWithinCount};
     ghost use Rattle.image_tiles.specs.Tiling.{windows_left};
@@ -174,6 +182,7 @@ impl Iterator for Tiling {
         ensures lower { IsWithinCount result.0 (item_count windows_left self.now) }
         ensures upper { IfSome result.1 (UpTo (item_count windows_left self.now)) }
         ensures exact { length (windows_left self.now) < 2 ^ 64 → (result.0 ≡ length (windows_left self.now)) × (result.1 ≡ Some (length (windows_left self.now))) }
+        ensures past { 2 ^ 64 ≤ length (windows_left self.now) → (result.0 ≡ 2 ^ 64 - 1) × (result.1 ≡ None) }
     {
         match self.count_left() {
             Some(left) => (left, Some(left)),

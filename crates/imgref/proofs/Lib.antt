@@ -1,3 +1,4 @@
+pub mod AsMany
 pub mod Numbers
 pub mod Shapes
 pub mod Values

@@ -2,20 +2,21 @@
 use Rattle.std.proofs.Common.{◌≡◌, ℕ, ◌+◌, ◌*◌, ◌<◌, ◌≤◌, Bool, List, length, slice_set, sym, ap, ◌∙◌, subst}
 use Rattle.image_model.specs.Grid.{grid_of, patch, uniform}
 use Rattle.image_model.specs.Layout.{Layout, Fits, SameOutside}
-use Rattle.image_model.specs.Windows.{Window, Stretch, IsInside, with_stretch, window_layout}
+use Rattle.image_model.specs.Windows.{Window, Stretch, IsInside, whole, with_stretch, window_layout}
 use Rattle.image_model.proofs.Grids.{written_grid}
 use Rattle.image_model.proofs.OneRow.{row_has, row_grid, row_outside}
 use Rattle.image_model.proofs.Places.{outside_fits, written, written_outside, written_fits}
 use Rattle.image_model.proofs.Stretches.{length-stretch_cells}
 use Rattle.image_model.proofs.Windows.{HasWindow, stretch_window, stretch_has, layout_is, handed_on, handed_on_grid, handed_on_outside}
 use Rattle.imgref.specs.declared.img.Img.{Img}
-use Rattle.imgref.specs.Image.{buf_of, width_of, height_of, stride_of, with_buf, layout_by, stretch_by, with_window}
+use Rattle.imgref.specs.Image.{buf_of, width_of, height_of, stride_of, with_buf, layout_by, stretch_by, with_all, with_window, window_buf}
+use Rattle.imgref.specs.Written.{WindowPatchesGrid, WindowKeepsOutside, WindowKeepsFit, WindowKeepsContainer}
 use Rattle.imgref.specs.Index.{row_start, with_row, RowPatchesGrid, RowKeepsOutside, RowKeepsFit}
 
 -- ---- the cells of a window
 module _ {C T : Type 0} (cells : C → List T) (with_cells : C → Stretch → List T → C)
     (others_stay : (c : C) (s : Stretch) (ws : List T) → s.start + s.len ≤ length (cells c) → length ws ≡ s.len → cells (with_cells c s ws) ≡ with_stretch (cells c) s ws)
-    (roomy : Bool) (i : Img C) (w : Window) (narrow : width_of i ≤ stride_of i) (fits : Fits (layout_by cells i)) (inside : IsInside (width_of i) (height_of i) w) where
+    (roomy : Bool) (i : Img C) (w : Window) (narrow : width_of i ≤ stride_of i) (fits : Fits (layout_by cells i)) (inside : IsInside (width_of i) (height_of i) w) (m : Layout T) (is : m ≡ window_layout roomy (layout_by cells i) w) where
   abbrev l : Layout T
   l = layout_by cells i
 
@@ -25,26 +26,30 @@ module _ {C T : Type 0} (cells : C → List T) (with_cells : C → Stretch → L
   has : HasWindow (length l.cells) l.stride w s
   has = stretch_has roomy (length l.cells) l.stride l.width l.height w narrow fits inside
 
-  -- the window m that was lent becomes n
-  module _ (m n : Layout T) (is : m ≡ window_layout roomy (layout_by cells i) w) (stays : SameOutside m n) where
-    lent : m ≡ stretch_window l w s
-    lent = is ∙ sym (layout_is roomy l w)
+  module _ (left : List T) (stays : SameOutside m (record m { cells = left })) where
+    same : SameOutside (stretch_window l w s) (record m { cells = left })
+    same = subst (λ (v : Layout T). SameOutside v (record m { cells = left })) (is ∙ sym (layout_is roomy l w)) stays
 
-    same : SameOutside (stretch_window l w s) n
-    same = subst (λ (v : Layout T). SameOutside v n) lent stays
+    long : length left ≡ s.len
+    long = same.length_stays ∙ length-stretch_cells l.cells s has.within
 
-    handed : layout_by cells (with_window cells with_cells roomy i w n.cells) ≡ handed_on l s n.cells
-    handed = ap (λ (items : List T). record l { cells = items }) (others_stay (buf_of i) s n.cells has.within (same.length_stays ∙ length-stretch_cells l.cells s has.within))
+    handed : layout_by cells (with_window cells with_cells roomy i w left) ≡ handed_on l s left
+    unfolding window_buf
+    handed = ap (λ (items : List T). record l { cells = items }) (others_stay (buf_of i) s left has.within long)
 
-    pub window_grid : grid_of (layout_by cells (with_window cells with_cells roomy i w n.cells)) ≡ patch (grid_of (layout_by cells i)) w.left w.top (grid_of n)
-    window_grid = ap grid_of handed ∙ handed_on_grid l w s has n same narrow inside
+  pub window_patches : WindowPatchesGrid cells with_cells roomy i w m
+  window_patches left stays = ap grid_of (handed left stays) ∙ handed_on_grid l w s has (record m { cells = left }) (same left stays) narrow inside
 
-    pub window_outside : SameOutside (layout_by cells i) (layout_by cells (with_window cells with_cells roomy i w n.cells))
-    window_outside = subst (SameOutside l) (sym handed) (handed_on_outside l w s has n same inside)
+  pub window_keeps : WindowKeepsOutside cells with_cells roomy i w m
+  window_keeps left stays = subst (SameOutside l) (sym (handed left stays)) (handed_on_outside l w s has (record m { cells = left }) (same left stays) inside)
 
-    -- it has the window's size
-    pub window_size : (value : T) → uniform m.width m.height value ≡ uniform w.width w.height value
-    window_size value = ap (λ (v : Layout T). uniform v.width v.height value) lent
+  pub window_fits : WindowKeepsFit cells with_cells roomy i w m
+  window_fits left stays = outside_fits l _ (window_keeps left stays) fits
+
+  module _ (stretch_is_cells : (c : C) (s : Stretch) (ws : List T) → s.start + s.len ≤ length (cells c) → length ws ≡ s.len → with_cells c s ws ≡ with_cells c (whole (cells c)) (with_stretch (cells c) s ws)) where
+    pub window_contains : WindowKeepsContainer cells with_cells roomy i w m
+    unfolding window_buf
+    window_contains left stays = stretch_is_cells (buf_of i) s left has.within (long left stays) ∙ ap (with_cells (buf_of i) (whole (cells (buf_of i)))) (sym (others_stay (buf_of i) s left has.within (long left stays)))
 
 -- ---- a row
 module _ {C T : Type 0} (cells : C → List T) (with_cells : C → Stretch → List T → C)
@@ -82,6 +87,10 @@ module _ {C T : Type 0} (cells : C → List T) (with_cell : C → ℕ → T → 
 
   pub cell_outside : x < width_of i → y < height_of i → SameOutside (layout_by cells i) (layout_by cells (with_buf i (with_cell (buf_of i) (y * stride_of i + x) value)))
   cell_outside column line = subst (SameOutside (layout_by cells i)) (sym is_written) (written_outside (layout_by cells i) x y value column line)
+
+  pub cell_contains : (with_cells : C → Stretch → List T → C) → (with_cell (buf_of i) (y * stride_of i + x) value ≡ with_cells (buf_of i) (whole (cells (buf_of i))) (slice_set (cells (buf_of i)) (y * stride_of i + x) value))
+      → with_buf i (with_cell (buf_of i) (y * stride_of i + x) value) ≡ with_all cells with_cells i (cells (with_cell (buf_of i) (y * stride_of i + x) value))
+  cell_contains with_cells is = ap (λ (c : C). with_buf i c) (is ∙ ap (with_cells (buf_of i) (whole (cells (buf_of i)))) (sym (other_cells_stay (buf_of i) (y * stride_of i + x) value within)))
 
   pub cell_fits : Fits (layout_by cells i) → Fits (layout_by cells (with_buf i (with_cell (buf_of i) (y * stride_of i + x) value)))
   cell_fits fits = subst Fits (sym is_written) (written_fits (layout_by cells i) x y value fits)

@@ -1,10 +1,14 @@
 -- What a contract sees of an image: its container, its shape and the layout that they make; and the image with other cells.
-use Rattle.std.specs.Prelude.{ℕ, Bool, List, Vec, length}
+use Rattle.std.specs.Prelude.{◌≡◌, ℕ, Bool, List, ◌++◌, Vec, length, take, drop}
 use Rattle.std.specs.Borrow.{Bor, MutBor}
-use Rattle.image_model.specs.Layout.{Layout, layout}
+use Rattle.image_model.specs.Layout.{Layout, Fits, layout}
 use Rattle.image_model.specs.Windows.{Window, Stretch, window_stretch, whole}
 use Rattle.image_shape.specs.declared.shape.Shape.{Shape}
 use Rattle.imgref.specs.declared.img.Img.{Img}
+
+-- as many cells as some: those of others, and where these are too few the first ones' own
+abbrev pub as_many : {T : Type 0} → List T → List T → List T
+as_many cells others = take (length cells) others ++ drop (length others) cells
 
 module _ {C : Type 0} where
   -- the container
@@ -47,13 +51,25 @@ module _ {C : Type 0} where
       abbrev pub with_all : Img C → List T → Img C
       with_all i others = with_buf i (with_cells (buf_of i) (whole (cells (buf_of i))) others)
 
-      -- the image with the cells that another one has
+      -- the image with the cells that another one has, as many as before
       abbrev pub with_cells_of : Img C → Img C → Img C
-      with_cells_of i other = with_all i (cells other.buf)
+      with_cells_of i other = with_all i (as_many (cells (buf_of i)) (cells (buf_of other)))
 
-      -- the image with other cells in the place of those that a window takes
+      -- whatever cells an image is left with, there are as many as before
+      abbrev pub KeepsCount : Img C → Type 0
+      KeepsCount i = (left : Img C) → length (cells (buf_of (with_cells_of i left))) ≡ length (cells (buf_of i))
+
+      -- and it fits where it did
+      abbrev pub AnyCellsFit : Img C → Type 0
+      AnyCellsFit i = (left : Img C) → Fits (layout_by (with_cells_of i left))
+
+      -- the container with other cells in the place of those that a window takes
+      unfoldable pub window_buf : Bool → Img C → Window → List T → C
+      window_buf roomy i w others = with_cells (buf_of i) (stretch_by roomy i w) others
+
+      -- the image with that container
       abbrev pub with_window : Bool → Img C → Window → List T → Img C
-      with_window roomy i w others = with_buf i (with_cells (buf_of i) (stretch_by roomy i w) others)
+      with_window roomy i w others = with_buf i (window_buf roomy i w others)
 
 -- the layout of an image that owns its pixels
 abbrev pub vec_layout : {T Z : Type 0} → Img (Vec T Z) → Layout T

@@ -11,3 +11,4 @@ pub mod Copies
 pub mod Eqhash
 pub mod Image
 pub mod Index
+pub mod Written

@@ -1,21 +1,27 @@
-//! Pixels copied over others: from another image, and from one window of an image to another.
+//! Pixels copied over others: from another image, from one window of an image to another, and
+//! between two rows.
 
-ghost use Rattle.std.specs.Prelude.{◌≡◌};
+ghost use Rattle.std.specs.Prelude.{◌≡◌, ◌<◌};
 ghost use Rattle.image_model.specs.Layout.{Fits, SameOutside};
 ghost use Rattle.image_model.specs.Grid.{grid_of, view, patch};
+ghost use Rattle.image_model.specs.Swaps.{rows_swapped};
 ghost use Rattle.image_model.specs.Windows.{IsInside, window};
 ghost use Rattle.imgref.specs.Image.{buf_of, width_of, height_of, layout_by, with_all, ref_layout};
 
 use crate::containers::AsMutSlice;
 use crate::img::{Img, ImgRef};
 use image_cells::AsSlice;
-use image_moves::move_pixels;
+use image_moves::{move_pixels, swap_rows};
 use image_pixels::copy_pixels;
 use image_shape::Window;
 
 impl<C: AsMutSlice> Img<C> {
-    /// Every pixel becomes that of `source` at its place; the padding stays. Both images must fit,
-    /// as `is_valid` tells, and have one size; their strides may differ.
+    /// Every pixel becomes that of `source` at its place; the padding stays. The two strides may
+    /// differ. (In the Rust crate this is the caller's loop over rows.)
+    ///
+    /// # Requires
+    ///
+    /// Both images fit (`is_valid`) and have one size (`width`, `height`).
     pub fn copy_from<'a>(&'a mut self, source: ImgRef<'_, C::Item>)
     where
         C::Item: Copy + 'a,
@@ -35,8 +41,11 @@ impl<C: AsMutSlice> Img<C> {
     }
 
     /// The window with its corner at column `left` of row `top` and the size of `source` gets the
-    /// pixels of `source`; every other cell stays. Both images must fit, as `is_valid` tells, and
-    /// the window be inside (`has_window`).
+    /// pixels of `source`; every other cell stays.
+    ///
+    /// # Requires
+    ///
+    /// Both images fit (`is_valid`), and the window is inside this one (`has_window`).
     pub fn copy_window<'a>(&'a mut self, left: usize, top: usize, source: ImgRef<'_, C::Item>)
     where
         C::Item: Copy + 'a,
@@ -46,15 +55,19 @@ impl<C: AsMutSlice> Img<C> {
         ensures grid { grid_of (layout_by C.AsSlice.cells self.new) ≡ patch (grid_of (layout_by C.AsSlice.cells self.old)) left top (grid_of (ref_layout source.entry)) }
         ensures outside { SameOutside (layout_by C.AsSlice.cells self.old) (layout_by C.AsSlice.cells self.new) }
         ensures fits { Fits (layout_by C.AsSlice.cells self.new) }
+        ensures container { self.new ≡ with_all C.AsSlice.cells C.with_cells self.old (C.AsSlice.cells (buf_of self.new)) }
     {
         let (cells, shape) = self.window_parts_mut(left, top, source.width(), source.height());
         copy_pixels(cells, shape, source.buf, source.shape());
     }
 
     /// The window of `width` by `height` pixels with its corner at column `to_left` of row `to_top`
-    /// gets the pixels that the one at column `from_left` of row `from_top` had, overlapping or
-    /// not; every other cell stays. The image must fit and both windows be inside it (`is_valid`,
-    /// `has_window`). No memory is taken: the rows are moved within the buffer.
+    /// gets the old pixels of the one at column `from_left` of row `from_top`, overlapping or not;
+    /// every other cell stays. No memory is taken: the rows are moved within the buffer.
+    ///
+    /// # Requires
+    ///
+    /// The image fits (`is_valid`), and both windows are inside it (`has_window`).
     pub fn move_window<'a>(
         &'a mut self,
         from_left: usize,
@@ -89,5 +102,25 @@ impl<C: AsMutSlice> Img<C> {
         let shape = self.shape();
         let len = self.buf.as_slice().len();
         move_pixels(self.buf.stretch_mut(0, len), shape, source, target);
+    }
+
+    /// Rows `y` and `z` change places, and the padding stays. No memory is taken: pixels are swapped
+    /// within the buffer. (In the Rust crate this is the caller's `split_at_mut`.)
+    ///
+    /// # Requires
+    ///
+    /// The image fits, as `is_valid` tells, and has both rows.
+    pub fn swap_rows(&mut self, y: usize, z: usize)
+        requires fits { Fits (layout_by C.AsSlice.cells self.old) }
+        requires first { y < height_of self.old }
+        requires second { z < height_of self.old }
+        ensures grid { grid_of (layout_by C.AsSlice.cells self.new) ≡ rows_swapped y z (grid_of (layout_by C.AsSlice.cells self.old)) }
+        ensures outside { SameOutside (layout_by C.AsSlice.cells self.old) (layout_by C.AsSlice.cells self.new) }
+        ensures fits { Fits (layout_by C.AsSlice.cells self.new) }
+        ensures container { self.new ≡ with_all C.AsSlice.cells C.with_cells self.old (C.AsSlice.cells (buf_of self.new)) }
+    {
+        let shape = self.shape();
+        let len = self.buf.as_slice().len();
+        swap_rows(self.buf.stretch_mut(0, len), shape, y, z);
     }
 }

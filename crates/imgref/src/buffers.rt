@@ -12,7 +12,11 @@ use std::slice::Iter;
 
 impl<C: AsSlice> Img<C> {
     /// The image of the container that `callback` makes of this one's, at the same size and stride.
-    /// It has as many cells, padding included.
+    ///
+    /// # Requires
+    ///
+    /// Facts of the callback, which no call tests: it may be called on the container, and its answer
+    /// has as many cells, padding included.
     pub fn map_buf<N: AsSlice, F: FnOnce(C) -> N>(self, callback: F) -> Img<N>
         requires callable { F.pre callback (buf_of self) }
         requires same_length { (new : N) → F.post callback (buf_of self) new → length (N.cells new) ≡ length (C.cells (buf_of self)) }
@@ -24,8 +28,16 @@ impl<C: AsSlice> Img<C> {
         Img::from_parts(callback(buf), shape)
     }
 
-    /// The same with a callback that may fail: its error is then the answer. Where it answers `Ok`,
-    /// its container has as many cells, padding included.
+    /// The same with a callback that may fail. (The Rust crate has `map_buf` alone.)
+    ///
+    /// # Requires
+    ///
+    /// Facts of the callback, which no call tests: it may be called on the container, and where it
+    /// answers `Ok`, its container has as many cells, padding included.
+    ///
+    /// # Errors
+    ///
+    /// The callback's error.
     pub fn try_map_buf<N: AsSlice, E, F: FnOnce(C) -> Result<N, E>>(
         self,
         callback: F,
@@ -43,8 +55,11 @@ impl<C: AsSlice> Img<C> {
         }
     }
 
-    /// The image of another container of as many cells, padding included, at this image's size and
-    /// stride.
+    /// The image of another container, at this image's size and stride.
+    ///
+    /// # Requires
+    ///
+    /// By comparing the lengths: as many cells, padding included.
     pub fn new_buf<N: AsSlice>(&self, new_buf: N) -> Img<N>
         requires same_length { length (N.cells new_buf) ≡ length (C.cells (buf_of self.now)) }
         ensures buf { buf_of result ≡ new_buf }

@@ -3,13 +3,13 @@
 ghost use Rattle.std.specs.Prelude.{◌≡◌, refl, Bool, true, false, ℕ, ◌+◌, ◌≤◌, ◌<◌, List, length, slice_set, slice_get, Some};
 ghost use Rattle.std.specs.Borrow.{sem, Lends, Array};
 ghost use Rattle.std.specs.Vec.{with_items_from, with_item};
-ghost use Rattle.imgref.specs.Containers.{others_of_vec};
-ghost use Rattle.image_model.specs.Windows.{Stretch, stretch_cells, with_stretch};
+ghost use Rattle.imgref.specs.Containers.{others_of_vec, stretch_of_vec, cell_of_vec, stretch_of_slice, cell_of_slice};
+ghost use Rattle.image_model.specs.Windows.{Stretch, whole, stretch_cells, with_stretch};
 
 use image_cells::AsSlice;
 
 /// A container whose cells can be written: a stretch of them, as an image lends its windows, or one,
-/// as it does by index.
+/// as it does by index. It stands for the Rust crate's bound `AsMut`.
 pub trait AsMutSlice: AsSlice {
     ghost roomy_windows: { Bool };
 
@@ -26,6 +26,10 @@ pub trait AsMutSlice: AsSlice {
 
     /// The `len` cells from number `start` on, for writing. Once the borrow ends, the container has
     /// what was left there in their place.
+    ///
+    /// # Requires
+    ///
+    /// By comparing numbers: `start + len` is at most the number of cells.
     fn stretch_mut(&mut self, start: usize, len: usize) -> &mut [Self::Item]
         requires in_bounds { start + len ≤ length (Self.cells self.old) }
         ensures* writes_back { sem 𝓛 (Lends Self.row (Array Self.Item.row 0) self.entry result (with_cells self.old (record { start = start; len = len }))) }
@@ -33,6 +37,10 @@ pub trait AsMutSlice: AsSlice {
 
     /// The cell at an index, for writing. Once the borrow ends, the container has what was left
     /// there.
+    ///
+    /// # Requires
+    ///
+    /// By comparing numbers: the index is below the number of cells.
     fn cell_mut(&mut self, at: usize) -> &mut Self::Item
         requires in_bounds { at < length (Self.cells self.old) }
         ensures* writes_back { sem 𝓛 (Lends Self.row Self.Item.row self.entry result (with_cell self.old at)) }
@@ -43,6 +51,12 @@ pub trait AsMutSlice: AsSlice {
 
     /// Another cell at an index leaves every other cell.
     ghost other_cells_stay: { (c : Self) (at : ℕ) (value : Self.Item) → at < length (Self.cells c) → Self.cells (with_cell c at value) ≡ slice_set (Self.cells c) at value };
+
+    /// A stretch that is written changes the container's cells alone.
+    ghost stretch_is_cells: { (c : Self) (s : Stretch) (ws : List Self.Item) → s.start + s.len ≤ length (Self.cells c) → length ws ≡ s.len → with_cells c s ws ≡ with_cells c (whole (Self.cells c)) (with_stretch (Self.cells c) s ws) };
+
+    /// So does a cell.
+    ghost cell_is_cells: { (c : Self) (at : ℕ) (value : Self.Item) → at < length (Self.cells c) → with_cell c at value ≡ with_cells c (whole (Self.cells c)) (slice_set (Self.cells c) at value) };
 }
 
 impl<T> AsMutSlice for Vec<T> {
@@ -67,6 +81,10 @@ impl<T> AsMutSlice for Vec<T> {
     ghost others_stay = { others_of_vec };
 
     ghost other_cells_stay = { λ c at value within. refl };
+
+    ghost stretch_is_cells = { stretch_of_vec };
+
+    ghost cell_is_cells = { cell_of_vec };
 }
 
 impl<'a, T> AsMutSlice for &'a mut [T] {
@@ -91,4 +109,8 @@ impl<'a, T> AsMutSlice for &'a mut [T] {
     ghost others_stay = { λ c s ws within same. refl };
 
     ghost other_cells_stay = { λ c at value within. refl };
+
+    ghost stretch_is_cells = { stretch_of_slice };
+
+    ghost cell_is_cells = { cell_of_slice };
 }

@@ -1,15 +1,16 @@
 //! Buffers without padding: the rows of an image one after the other.
 
-ghost use Rattle.std.specs.Prelude.{◌≡◌, ◌↔◌, IsOk, IfOk};
+ghost use Rattle.std.specs.Prelude.{◌≡◌, ◌*◌, ◌↔◌, IsOk, IfOk};
 ghost use Rattle.std.specs.Borrow.{sem};
+ghost use Rattle.std.specs.Vec.{vec_capacity};
 ghost use Rattle.std.specs.Cow.{cow_slice_items, IsBorrowedSlice};
 ghost use Rattle.image_model.specs.Layout.{Fits};
 ghost use Rattle.image_model.specs.Grid.{grid_of};
 ghost use Rattle.image_model.specs.Rows.{joined_rows};
 ghost use Rattle.image_model.specs.Kept.{IsPacked, packed};
 ghost use Rattle.image_cells.specs.Clones.{ClonesEqual};
-ghost use Rattle.imgref.specs.Image.{width_of, height_of, stride_of, vec_layout, ref_layout};
-ghost use Rattle.imgref.specs.Contiguous.{Rests, vec_image};
+ghost use Rattle.imgref.specs.Image.{buf_of, width_of, height_of, stride_of, vec_layout, ref_layout};
+ghost use Rattle.imgref.specs.Contiguous.{Rests, IsPackedFrom, vec_image};
 
 use crate::img::{ImgRef, ImgVec};
 use image_cells::contiguous;
@@ -18,15 +19,19 @@ use std::alloc::{AllocError, Global};
 use std::borrow::CowSlice;
 
 impl<T: Copy> ImgVec<T> {
-    /// The rows one after the other, and the width and the height. The image must fit, as
-    /// `is_valid` tells.
+    /// The joined rows, and the width and the height in pixels.
     ///
     /// The image keeps its size and its pixels and loses all else: its buffer becomes exactly the
-    /// joined rows, and its stride the width, or 1 at width 0. No memory is taken: the rows are
-    /// moved within the buffer, and an image that is packed already costs nothing.
+    /// joined rows, and its stride the width, or 1 at width 0. No memory is taken or given back:
+    /// the rows are moved within the buffer, and an image that is packed already costs nothing.
+    /// (The Rust crate leaves the stride.)
+    ///
+    /// # Requires
+    ///
+    /// The image fits: `is_valid`.
     pub fn as_contiguous_buf(&mut self) -> (&[T], usize, usize)
         requires fits { Fits (vec_layout self.old) }
-        ensures* after { sem 𝓛 (Rests (vec_image T.row) self.entry (λ new. vec_layout new ≡ packed (vec_layout self.old))) }
+        ensures* after { sem 𝓛 (Rests (vec_image T.row) self.entry (IsPackedFrom self.old)) }
         ensures packed { IsPacked (packed (vec_layout self.old)) }
         ensures fits { Fits (packed (vec_layout self.old)) }
         ensures grid { grid_of (packed (vec_layout self.old)) ≡ grid_of (vec_layout self.old) }
@@ -41,11 +46,16 @@ impl<T: Copy> ImgVec<T> {
         (self.buf.as_slice(), width, height)
     }
 
-    /// The rows one after the other in the image's own buffer, and the width and the height. The
-    /// image must fit, as `is_valid` tells. No memory is taken.
+    /// The joined rows in the image's own buffer, and the width and the height in pixels. No memory
+    /// is taken.
+    ///
+    /// # Requires
+    ///
+    /// The image fits: `is_valid`.
     pub fn into_contiguous_buf(mut self) -> (Vec<T>, usize, usize)
         requires fits { Fits (vec_layout self) }
         ensures joined { result.0.items ≡ joined_rows (vec_layout self) }
+        ensures capacity { vec_capacity result.0 ≡ vec_capacity (buf_of self) }
         ensures width { result.1 ≡ width_of self }
         ensures height { result.2 ≡ height_of self }
     {
@@ -55,12 +65,20 @@ impl<T: Copy> ImgVec<T> {
 }
 
 impl<'a, T: Clone> ImgRef<'a, T> {
-    /// The rows one after the other, and the width and the height. The image must fit, as
-    /// `is_valid` tells.
+    /// The joined rows, and the width and the height in pixels.
     ///
     /// Where the width equals the stride the rows are lent, as the first `width * height` cells,
-    /// and no memory is taken. Else they are cloned row by row; `AllocError` is then want of
-    /// memory, or a pixel's own `clone` that refused.
+    /// and no memory is taken. Else they are cloned row by row.
+    ///
+    /// # Requires
+    ///
+    /// The image fits (`is_valid`). The clones of its pixels equal them: a fact of the pixel type,
+    /// which no call tests.
+    ///
+    /// # Errors
+    ///
+    /// Out of memory, or a pixel's own `clone` that refused; never where the rows are lent or there
+    /// is no pixel.
     pub fn to_contiguous_buf(
         &self,
         alloc: Global,
@@ -72,6 +90,7 @@ impl<'a, T: Clone> ImgRef<'a, T> {
         ensures height { IfOk result (λ r. r.2 ≡ height_of self.now) }
         ensures borrowed { IfOk result (λ r. IsBorrowedSlice r.0 ↔ (width_of self.now ≡ stride_of self.now)) }
         ensures succeeds { width_of self.now ≡ stride_of self.now → IsOk result }
+        ensures no_pixel { width_of self.now * height_of self.now ≡ 0 → IsOk result }
     {
         let pixels = contiguous(alloc, self.buf, self.shape())?;
         Ok((pixels, self.width(), self.height()))

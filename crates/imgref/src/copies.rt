@@ -1,6 +1,6 @@
 //! Copies of images, padding included.
 
-ghost use Rattle.std.specs.Prelude.{◌≡◌, IfOk};
+ghost use Rattle.std.specs.Prelude.{◌≡◌, length, IsOk, IfOk};
 ghost use Rattle.image_cells.specs.Clones.{ClonesEqual};
 ghost use Rattle.imgref.specs.Image.{buf_of, layout_by, vec_layout};
 
@@ -12,13 +12,20 @@ impl<C: AsSlice> Img<C> {
     /// A copy of the whole image in a buffer of its own: the same size, the same stride and every
     /// cell, padding included. It need not fit.
     ///
-    /// `AllocError` is want of memory, or a cell's own `clone` that refused; what was cloned before
-    /// is dropped then.
+    /// # Requires
+    ///
+    /// The clones of the cells equal them: a fact of the pixel type, which no call tests.
+    ///
+    /// # Errors
+    ///
+    /// Out of memory, or a cell's own `clone` that refused; what was cloned before is dropped then.
+    /// Never where there is no cell.
     pub fn to_owned(&self, alloc: Global) -> Result<ImgVec<C::Item>, AllocError>
     where
         C::Item: Clone,
         requires clones_equal { ClonesEqual C.Item.is_clone (C.cells (buf_of self.now)) }
-        ensures { IfOk result (λ i. vec_layout i ≡ layout_by C.cells self.now) }
+        ensures layout { IfOk result (λ i. vec_layout i ≡ layout_by C.cells self.now) }
+        ensures succeeds { length (C.cells (buf_of self.now)) ≡ 0 → IsOk result }
     {
         let buf = cloned(alloc, self.buf.as_slice())?;
         Ok(Img::from_parts(buf, self.shape()))
@@ -27,9 +34,18 @@ impl<C: AsSlice> Img<C> {
 
 impl<T: Clone> ImgVec<T> {
     /// A copy of the whole image, as `to_owned` gives it.
+    ///
+    /// # Requires
+    ///
+    /// As `to_owned`.
+    ///
+    /// # Errors
+    ///
+    /// As `to_owned`.
     pub fn clone(&self, alloc: Global) -> Result<ImgVec<T>, AllocError>
         requires clones_equal { ClonesEqual T.is_clone (buf_of self.now).items }
-        ensures { IfOk result (λ i. vec_layout i ≡ vec_layout self.now) }
+        ensures layout { IfOk result (λ i. vec_layout i ≡ vec_layout self.now) }
+        ensures succeeds { length (buf_of self.now).items ≡ 0 → IsOk result }
     {
         self.to_owned(alloc)
     }

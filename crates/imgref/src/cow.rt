@@ -1,12 +1,12 @@
 //! Images whose cells are lent or owned.
 
-ghost use Rattle.std.specs.Prelude.{◌≡◌, IsOk, IfOk, IfErr};
+ghost use Rattle.std.specs.Prelude.{◌≡◌, ◌*◌, length, IsOk, IfOk, IfErr};
 ghost use Rattle.std.specs.Cow.{IsBorrowedSlice, IsOwnedSlice};
 ghost use Rattle.image_model.specs.Layout.{Fits};
 ghost use Rattle.image_model.specs.Rows.{joined_rows};
 ghost use Rattle.image_model.specs.Kept.{packed};
 ghost use Rattle.image_cells.specs.Clones.{ClonesEqual};
-ghost use Rattle.imgref.specs.Image.{buf_of, vec_layout};
+ghost use Rattle.imgref.specs.Image.{buf_of, width_of, height_of, vec_layout};
 ghost use Rattle.imgref.specs.Copies.{cow_layout, IsBufferOf, IsOwnedAs, IsLentAs};
 
 use crate::img::{Img, ImgRef, ImgVec};
@@ -16,11 +16,19 @@ use std::alloc::Global;
 use std::borrow::CowSlice;
 
 impl<'a, T: Clone> Img<CowSlice<'a, T>> {
-    /// The image with a buffer of its own. Owned cells are handed on as they are, with size and
+    /// The image with a buffer of its own. Owned cells stay in their buffer, at the same size and
     /// stride, and no memory is taken. Lent ones are cloned row by row, without padding: the stride
-    /// is then the width, or 1 at width 0, and the image must fit, as `is_valid` tells.
+    /// is then the width, or 1 at width 0.
     ///
-    /// The error is the image as it was, for want of memory or a pixel's own `clone` that refused.
+    /// # Requires
+    ///
+    /// Of lent cells alone: the image fits (`is_valid`), and the clones of its pixels equal them,
+    /// which no call tests.
+    ///
+    /// # Errors
+    ///
+    /// The image as it was: out of memory, or a pixel's own `clone` that refused. Never of owned
+    /// cells, nor where there is no pixel.
     pub fn into_owned(self, alloc: Global) -> Result<ImgVec<T>, Self>
         requires fits { IsBorrowedSlice (buf_of self) → Fits (cow_layout self) }
         requires clones_equal { IsBorrowedSlice (buf_of self) → ClonesEqual T.is_clone (joined_rows (cow_layout self)) }
@@ -28,6 +36,7 @@ impl<'a, T: Clone> Img<CowSlice<'a, T>> {
         ensures own_buffer { IfOk result (λ i. IsBufferOf (buf_of self.entry) (buf_of i)) }
         ensures borrowed { IsBorrowedSlice (buf_of self.entry) → IfOk result (λ i. vec_layout i ≡ packed (cow_layout self.entry)) }
         ensures succeeds { IsOwnedSlice (buf_of self.entry) → IsOk result }
+        ensures no_pixel { width_of self.entry * height_of self.entry ≡ 0 → IsOk result }
         ensures handed_back { IfErr result (λ i. i ≡ self.entry) }
     {
         let (buf, shape) = self.into_parts();
@@ -44,14 +53,23 @@ impl<'a, T: Clone> Img<CowSlice<'a, T>> {
     }
 
     /// The image with a buffer of its own, at the same size and stride, with every cell, padding
-    /// included. Owned cells are handed on as they are, and no memory is taken. It need not fit.
+    /// included. Owned cells stay in their buffer, and no memory is taken. It need not fit. It stands
+    /// for the Rust crate's `From` of such an image for an `ImgVec`.
     ///
-    /// The error is the image as it was, for want of memory or a cell's own `clone` that refused.
+    /// # Requires
+    ///
+    /// Of lent cells alone: the clones of the cells equal them, which no call tests.
+    ///
+    /// # Errors
+    ///
+    /// The image as it was: out of memory, or a cell's own `clone` that refused. Never of owned
+    /// cells, nor where there is no cell.
     pub fn into_vec(self, alloc: Global) -> Result<ImgVec<T>, Self>
         requires clones_equal { IsBorrowedSlice (buf_of self) → ClonesEqual T.is_clone (cow_layout self).cells }
         ensures layout { IfOk result (λ i. vec_layout i ≡ cow_layout self.entry) }
         ensures own_buffer { IfOk result (λ i. IsBufferOf (buf_of self.entry) (buf_of i)) }
         ensures succeeds { IsOwnedSlice (buf_of self.entry) → IsOk result }
+        ensures no_cell { length (cow_layout self.entry).cells ≡ 0 → IsOk result }
         ensures handed_back { IfErr result (λ i. i ≡ self.entry) }
     {
         let (buf, shape) = self.into_parts();

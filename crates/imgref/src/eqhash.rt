@@ -12,7 +12,7 @@ use std::hash::{Hash, Hasher};
 impl<C: AsSlice> Img<C> {
     /// Whether this image and another, of any kind, are equal as `==` says it of images of one
     /// kind: they have one size, and either both fit and have equal pixels at every place, or
-    /// neither fits. Nothing is asked of them.
+    /// neither fits. Nothing is asked of them. It stands for the Rust crate's `==` between kinds.
     pub fn same_pixels(&self, other: ImgRef<'_, C::Item>) -> bool
     where
         C::Item: PartialEq,

@@ -10,8 +10,8 @@ use image_shape::{Shape, Window};
 use std::alloc::AllocError;
 
 /// A container of cells seen as an image: its width and height in pixels, and the stride, the
-/// number of cells from the start of a row to the start of the next one. The cells between a row's
-/// last pixel and the next row are padding.
+/// number of cells from the start of a row to the start of the next one. The cells that are no
+/// pixel's are padding.
 ///
 /// Every image has a stride of at least 1 and of at least its width, and a width and a height of
 /// at most `u32::MAX`. Of the number of cells nothing is known: `is_valid` tells whether they are
@@ -55,6 +55,11 @@ impl<Container> Img<Container> {
 
     /// The image of `width` by `height` pixels in `buf`, whose rows begin `stride` cells apart. The
     /// number of cells isn't asked: where they are too few, `is_valid` is false.
+    ///
+    /// # Requires
+    ///
+    /// By comparing the numbers: a stride of at least 1 and of at least the width, a width and a
+    /// height of at most `u32::MAX`. (The Rust crate panics else.)
     pub fn new_stride(buf: Container, width: usize, height: usize, stride: usize) -> Self
         requires stride_positive { 1 ≤ stride }
         requires width_within { width ≤ stride }
@@ -74,7 +79,11 @@ impl<Container> Img<Container> {
     }
 
     /// The image of `width` by `height` pixels in `buf` without padding between its rows: its
-    /// stride is its width, which so is positive.
+    /// stride is its width.
+    ///
+    /// # Requires
+    ///
+    /// By comparing the numbers: a width of at least 1, a width and a height of at most `u32::MAX`.
     pub fn new(buf: Container, width: usize, height: usize) -> Self
         requires width_positive { 1 ≤ width }
         requires width_fits { width < 2 ^ 32 }
@@ -88,7 +97,7 @@ impl<Container> Img<Container> {
     }
 
     /// The image of these cells in this shape. Nothing is asked: where the cells are too few,
-    /// `is_valid` is false.
+    /// `is_valid` is false. (The Rust crate has no such call.)
     pub fn from_parts(buf: Container, shape: Shape) -> Self
         ensures buf { buf_of result ≡ buf }
         ensures shape { shape_of result ≡ shape }
@@ -101,9 +110,9 @@ impl<Container> Img<Container> {
 
     /// The container and the shape, taken out of the image.
     ///
-    /// In code that is itself proved, take a lent slice out in a function that returns it: its
-    /// caller then knows it for the slice that the image was made of, and what is written there
-    /// for a write to the lender. Of a slice that ends where it was taken out, nothing is known.
+    /// In code that is itself proved, take a borrowed slice out in a function that returns it. Its
+    /// caller then knows that it is the slice that the image was made of, so that writes reach the
+    /// buffer. Of a slice whose borrow ends where it was taken out, nothing is known.
     pub fn into_parts(self) -> (Container, Shape)
         ensures buf { result.0 ≡ buf_of self }
         ensures shape { result.1 ≡ shape_of self }
@@ -112,7 +121,7 @@ impl<Container> Img<Container> {
         (self.buf, shape)
     }
 
-    /// The size and the stride.
+    /// The width and the height in pixels, and the stride in cells.
     pub fn shape(&self) -> Shape
         ensures { result ≡ shape_of self.now }
     {
@@ -154,7 +163,7 @@ impl<Container> Img<Container> {
     }
 
     /// The whole container, for writing. Once the borrow ends, the image has the container that
-    /// was left there, at the same size and stride; whether it still fits is the caller's matter.
+    /// was left there, at the same size and stride. It may no longer fit: `is_valid` tells.
     pub fn buf_mut(&mut self) -> &mut Container
         ensures value { result.now ≡ buf_of self.old }
         ensures* writes_back { sem 𝓛 (Lends (the_row Container.row) Container.row self.entry result (with_buf self.old)) }
@@ -171,7 +180,8 @@ impl<Container> Img<Container> {
     }
 
     /// Whether the window of `width` by `height` pixels with its corner at column `left` of row
-    /// `top` lies inside the image. Empty windows at the right and the lower edge do.
+    /// `top` lies inside the image. Empty windows at the right and the lower edge do. (The Rust
+    /// crate's calls test it themselves, and panic.)
     pub fn has_window(&self, left: usize, top: usize, width: usize, height: usize) -> bool
         ensures { IsTrue result
             ↔ IsInside (width_of self.now) (height_of self.now) (window left top width height) }
@@ -188,7 +198,8 @@ impl<Container> Img<Container> {
 impl<Container: AsSlice> Img<Container> {
     ghost use Rattle.imgref.specs.Image.{layout_by};
 
-    /// Whether the image fits: its cells reach to its last pixel, or it has no pixel at all.
+    /// Whether the image fits: its cells reach its last pixel, or it has no pixel at all. (The Rust
+    /// crate's calls test it themselves, and panic.)
     pub fn is_valid(&self) -> bool
         ensures { IsTrue result ↔ Fits (layout_by Container.cells self.now) }
     {

@@ -13,8 +13,12 @@ use crate::img::Img;
 use image_cells::{AsSlice, row, row_start};
 use std::ops::{Index, IndexMut};
 
-/// The cell at column `x` of row `y`, by `img[(x, y)]`: cell `y * stride + x`. The column is below
-/// the stride and the cell within the buffer; it may be padding, or lie below the last row.
+/// The cell at column `x` of row `y`, by `img[(x, y)]`: cell `y * stride + x`. It may be padding, or
+/// lie below the last row.
+///
+/// # Requires
+///
+/// By comparing numbers: the column is below the stride, and the cell within the buffer.
 impl<C: AsSlice> Index<(usize, usize)> for Img<C> {
     type Output = C::Item;
 
@@ -31,6 +35,10 @@ impl<C: AsSlice> Index<(usize, usize)> for Img<C> {
 
 /// The cell at column `x` of row `y`, for writing. Once the borrow ends, that cell has what was
 /// left there, and no other cell has changed.
+///
+/// # Requires
+///
+/// By comparing numbers: the column is below the stride, and the cell within the buffer.
 impl<C: AsMutSlice> IndexMut<(usize, usize)> for Img<C> {
     fn index_mut(&mut self, index: (usize, usize)) -> &mut C::Item
         requires { HasCell (layout_by C.AsSlice.cells self.old) index.0 index.1 }
@@ -60,6 +68,10 @@ impl<C: AsSlice> Index<(u32, u32)> for Img<C> {
 }
 
 /// The same by `u32`, for writing.
+///
+/// # Requires
+///
+/// By comparing numbers: the column is below the stride, and the cell within the buffer.
 impl<C: AsMutSlice> IndexMut<(u32, u32)> for Img<C> {
     fn index_mut(&mut self, index: (u32, u32)) -> &mut C::Item
         requires { HasCell (layout_by C.AsSlice.cells self.old) index.0 index.1 }
@@ -74,8 +86,12 @@ impl<C: AsMutSlice> IndexMut<(u32, u32)> for Img<C> {
 }
 
 impl<C: AsSlice> Img<C> {
-    /// The pixels of row `y`: the `width` cells from `y * stride` on, none at width 0. The image
-    /// fits, and `y` is below the height.
+    /// The pixels of row `y`: the `width` cells from `y * stride` on, none at width 0. It stands for
+    /// the Rust crate's index by a row.
+    ///
+    /// # Requires
+    ///
+    /// The image fits (`is_valid`), and `y` is below `height()`.
     pub fn row(&self, y: usize) -> &[C::Item]
         requires below { y < height_of self.now }
         requires fits { Fits (layout_by C.cells self.now) }
@@ -87,8 +103,12 @@ impl<C: AsSlice> Img<C> {
 }
 
 impl<C: AsMutSlice> Img<C> {
-    /// The pixels of row `y`, for writing, under the conditions of `row`. Once the borrow ends,
-    /// those cells have what was left there, and no other cell has changed.
+    /// The pixels of row `y`, for writing. Once the borrow ends, those cells have what was left
+    /// there, and no other cell has changed.
+    ///
+    /// # Requires
+    ///
+    /// The image fits (`is_valid`), and `y` is below `height()`.
     #[tactic(auto, unfolding(crate::specs::Index::with_row))]
     pub fn row_mut(&mut self, y: usize) -> &mut [C::Item]
         requires below { y < height_of self.old }

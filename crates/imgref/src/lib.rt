@@ -9,8 +9,9 @@
 //! rows or take windows require it. A width and a height are at most `u32::MAX`; strides, places
 //! and windows range over all of `usize`, and no sum or product wraps.
 //!
-//! What each call promises is said by the words of the crate `image_model`: layout, fits, cell,
-//! pixel, row, window.
+//! The calls have the names of the Rust crate `imgref` 1.12.3; docs/DIFFERENCES.md lists what
+//! differs. What each call promises is said by the words of the crate `image_model`: layout, fits,
+//! cell, pixel, row, window.
 #![tactic(auto)]
 
 mod blit;

@@ -11,7 +11,11 @@ use image_cells::agree_at_places;
 impl<'s, T> Img<&'s [T]> {
     /// Whether this image and another have one size and `f` is true of their pixels at every
     /// place. It is asked row by row and from left to right, up to the first place where it isn't
-    /// true. Both images must fit, as `is_valid` tells.
+    /// true. It stands for the Rust crate's `==` between two pixel types.
+    ///
+    /// # Requires
+    ///
+    /// Both images fit (`is_valid`), and `f` may be called on their pixels.
     pub fn same_pixels_by<U, F: Fn(&T, &U) -> bool>(&self, other: ImgRef<'_, U>, f: F) -> bool
         requires fits { Fits (ref_layout self.now) }
         requires other_fits { Fits (ref_layout other) }

@@ -6,6 +6,7 @@ ghost use Rattle.std.specs.Iterator.{YieldsFirst, YieldsFirstRef};
 ghost use Rattle.std.specs.Iterator.Runs.{YieldsInOrder, YieldsRefsInOrder};
 ghost use Rattle.image_model.specs.Layout.{Fits, SameOutside};
 ghost use Rattle.image_model.specs.Grid.{grid_of, uniform};
+ghost use Rattle.image_model.specs.Mapped.{HasAnswers, IsMapped};
 ghost use Rattle.image_model.specs.Rows.{pixels as pixels_of, grid_pixels};
 ghost use Rattle.image_pixels.specs.Pixels.{refs_left, copies_left};
 ghost use Rattle.imgref.specs.Image.{buf_of, width_of, height_of, layout_by, with_all, ref_layout};
@@ -13,12 +14,16 @@ ghost use Rattle.imgref.specs.Image.{buf_of, width_of, height_of, layout_by, wit
 use crate::containers::AsMutSlice;
 use crate::img::Img;
 use image_cells::AsSlice;
-use image_pixels::{PixelsIter, PixelsIterMut, PixelsRefIter, fill_pixels};
+use image_pixels::{PixelsIter, PixelsIterMut, PixelsRefIter, fill_pixels, map_pixels};
 use image_shape::Shape;
 
 impl<'s, T> Img<&'s [T]> {
-    /// The pixels for reading, row by row and from left to right: `width` times `height` of them,
-    /// without the padding. The image must fit, as `is_valid` tells.
+    /// References to the pixels, row by row and from left to right: `width` times `height` of them,
+    /// without the padding.
+    ///
+    /// # Requires
+    ///
+    /// The image fits: `is_valid`.
     pub fn pixels_ref(&self) -> PixelsRefIter<'s, T>
         requires fits { Fits (ref_layout self.now) }
         ensures pixels { refs_left result ≡ pixels_of (ref_layout self.now) }
@@ -33,7 +38,11 @@ impl<'s, T> Img<&'s [T]> {
 
 impl<'s, T: Copy> Img<&'s [T]> {
     /// Copies of the pixels, row by row and from left to right: `width` times `height` of them,
-    /// without the padding. The image must fit, as `is_valid` tells.
+    /// without the padding.
+    ///
+    /// # Requires
+    ///
+    /// The image fits: `is_valid`.
     pub fn pixels(&self) -> PixelsIter<'s, T>
         requires fits { Fits (ref_layout self.now) }
         ensures pixels { copies_left result ≡ pixels_of (ref_layout self.now) }
@@ -51,7 +60,11 @@ where
     C::Item: Copy,
 {
     /// Copies of the pixels, row by row and from left to right: `width` times `height` of them,
-    /// without the padding. The image must fit, as `is_valid` tells.
+    /// without the padding.
+    ///
+    /// # Requires
+    ///
+    /// The image fits: `is_valid`.
     pub fn pixels(&self) -> PixelsIter<'_, C::Item>
         requires fits { Fits (layout_by C.AsSlice.cells self.now) }
         ensures pixels { copies_left result ≡ pixels_of (layout_by C.AsSlice.cells self.now) }
@@ -65,7 +78,11 @@ where
 }
 
 impl<C: AsMutSlice> Img<C> {
-    /// Every pixel becomes `value`; the padding stays. The image must fit, as `is_valid` tells.
+    /// Every pixel becomes `value`; the padding stays. (The Rust crate has no such call.)
+    ///
+    /// # Requires
+    ///
+    /// The image fits: `is_valid`.
     pub fn fill<'a>(&'a mut self, value: C::Item)
     where
         C::Item: Copy + 'a,
@@ -79,13 +96,35 @@ impl<C: AsMutSlice> Img<C> {
         let len = self.buf.as_slice().len();
         fill_pixels(self.buf.stretch_mut(0, len), shape, value);
     }
+
+    /// Every pixel becomes what `f` makes of it, row by row and from left to right; the padding
+    /// stays. (In the Rust crate this is the caller's loop over `pixels_mut`.)
+    ///
+    /// # Requires
+    ///
+    /// The image fits, as `is_valid` tells, and `f` can be called with any pixel.
+    pub fn map_pixels<'a, F: Fn(C::Item) -> C::Item>(&'a mut self, f: F)
+    where
+        C::Item: Copy + 'a,
+        requires fits { Fits (layout_by C.AsSlice.cells self.old) }
+        requires callable { F.IsAlwaysCallable f }
+        ensures answers { HasAnswers (F.post f) (layout_by C.AsSlice.cells self.old) (layout_by C.AsSlice.cells self.new) }
+        ensures grid { IsMapped (F.post f) (layout_by C.AsSlice.cells self.old) (layout_by C.AsSlice.cells self.new) }
+        ensures outside { SameOutside (layout_by C.AsSlice.cells self.old) (layout_by C.AsSlice.cells self.new) }
+        ensures fits { Fits (layout_by C.AsSlice.cells self.new) }
+        ensures container { self.new ≡ with_all C.AsSlice.cells C.with_cells self.old (C.AsSlice.cells (buf_of self.new)) }
+    {
+        let shape = self.shape();
+        let len = self.buf.as_slice().len();
+        map_pixels(self.buf.stretch_mut(0, len), shape, &f);
+    }
 }
 
 impl<C: AsMutSlice> Img<C> {
     ghost use Rattle.image_pixels.specs.Marks.{marks_of};
-    ghost use Rattle.image_pixels.specs.Pixels.{muts_left, cells_left, marks_left, lender_of};
+    ghost use Rattle.image_pixels.specs.Pixels.{muts_left, cells_left, marks_left, name_of, lender_of};
     ghost use Rattle.imgref.specs.contracts.img.Img.{the_row};
-    ghost use Rattle.imgref.specs.Image.{shape_of, stride_of, with_cells_of};
+    ghost use Rattle.imgref.specs.Image.{shape_of, stride_of, with_cells_of, KeepsCount, AnyCellsFit};
 
     // All cells, and the shape.
     pub(crate) fn all_parts_mut(&mut self) -> (&mut [C::Item], Shape)
@@ -99,14 +138,40 @@ impl<C: AsMutSlice> Img<C> {
     }
 
     /// The pixels for writing, row by row and from left to right: `width` times `height` of them,
-    /// without the padding. The image must fit, as `is_valid` tells.
+    /// without the padding.
     ///
-    /// Once the borrow ends, the items hold what was last written, and all else is as before. A
-    /// generated proof of a caller learns that the image ends as it was but for its cells: so with
-    /// its size and its stride, and as many cells.
+    /// Once the borrow ends, the pixels are what was last written, and all else is as before:
+    /// `exact_pixels_mut` gives the same cursor and says so. A generated proof of a caller learns
+    /// here that the image keeps its size, its stride and its number of cells, and so fits.
+    ///
+    /// # Requires
+    ///
+    /// The image fits: `is_valid`.
     pub fn pixels_mut(&mut self) -> PixelsIterMut<'_, C::Item>
         requires fits { Fits (layout_by C.AsSlice.cells self.old) }
         ensures* lends { sem 𝓛 (follows (the_row C.row) (the_row C.row) self.entry.ghost_name (lender_of result) (with_cells_of C.AsSlice.cells C.with_cells self.old)) }
+        ensures count_stays { KeepsCount C.AsSlice.cells C.with_cells self.old }
+        ensures fits { AnyCellsFit C.AsSlice.cells C.with_cells self.old }
+        ensures cells { cells_left result ≡ C.AsSlice.cells (buf_of self.old) }
+        ensures marks { marks_left result ≡ marks_of (width_of self.old) (height_of self.old) (stride_of self.old) }
+        ensures pixels { muts_left result ≡ pixels_of (layout_by C.AsSlice.cells self.old) }
+        ensures grid { muts_left result ≡ grid_pixels (grid_of (layout_by C.AsSlice.cells self.old)) }
+        ensures count { length (muts_left result) ≡ width_of self.old * height_of self.old }
+        ensures countable { length (muts_left result) < 2 ^ 64 }
+    {
+        self.exact_pixels_mut()
+    }
+
+    /// The cursor of `pixels_mut`, with the clause of the final cells: those that the cursor and its
+    /// items left. A caller that is proved by hand cites it, with `hands_on` of the cursor's `next`
+    /// and `leaves_as` of its drop. (The Rust crate has no such call.)
+    ///
+    /// # Requires
+    ///
+    /// The image fits: `is_valid`.
+    pub fn exact_pixels_mut(&mut self) -> PixelsIterMut<'_, C::Item>
+        requires fits { Fits (layout_by C.AsSlice.cells self.old) }
+        ensures* writes_back { sem 𝓛 (follows (the_row C.row) (Array C.Item.row 0) self.entry.ghost_name (name_of result) (with_all C.AsSlice.cells C.with_cells self.old)) }
         ensures cells { cells_left result ≡ C.AsSlice.cells (buf_of self.old) }
         ensures marks { marks_left result ≡ marks_of (width_of self.old) (height_of self.old) (stride_of self.old) }
         ensures pixels { muts_left result ≡ pixels_of (layout_by C.AsSlice.cells self.old) }

@@ -4,7 +4,7 @@ ghost use Rattle.std.specs.Prelude.{◌≡◌, ◌<◌};
 ghost use Rattle.image_model.specs.Layout.{Fits, SameOutside};
 ghost use Rattle.image_model.specs.Grid.{grid_of, patch, uniform};
 ghost use Rattle.image_model.specs.Windows.{IsInside, window};
-ghost use Rattle.imgref.specs.Image.{width_of, height_of, layout_by};
+ghost use Rattle.imgref.specs.Image.{buf_of, width_of, height_of, layout_by, with_all};
 
 use crate::containers::AsMutSlice;
 use crate::img::Img;
@@ -12,8 +12,11 @@ use image_cells::AsSlice;
 use image_pixels::fill_pixels;
 
 impl<C: AsSlice> Img<C> {
-    /// The pixel at column `x` of row `y`, or `None` where that is no place of the image. The image
-    /// must fit, as `is_valid` tells.
+    /// The pixel at column `x` of row `y`, or `None` where that is no place of the image.
+    ///
+    /// # Requires
+    ///
+    /// The image fits: `is_valid`.
     #[tactic(auto, unfolding(image_model::specs::Grid::grid_of))]
     pub fn get(&self, x: usize, y: usize) -> Option<C::Item>
     where
@@ -30,8 +33,11 @@ impl<C: AsSlice> Img<C> {
 }
 
 impl<C: AsMutSlice> Img<C> {
-    /// The pixel at column `x` of row `y` becomes `value`; every other cell stays. The image must
-    /// fit, as `is_valid` tells, and the place be one of it.
+    /// The pixel at column `x` of row `y` becomes `value`; every other cell stays.
+    ///
+    /// # Requires
+    ///
+    /// The image fits (`is_valid`), `x` is below `width()` and `y` below `height()`.
     pub fn put<'a>(&'a mut self, x: usize, y: usize, value: C::Item)
     where
         C::Item: Copy + 'a,
@@ -41,13 +47,17 @@ impl<C: AsMutSlice> Img<C> {
         ensures grid { grid_of (layout_by C.AsSlice.cells self.new) ≡ patch (grid_of (layout_by C.AsSlice.cells self.old)) x y (uniform 1 1 value) }
         ensures outside { SameOutside (layout_by C.AsSlice.cells self.old) (layout_by C.AsSlice.cells self.new) }
         ensures fits { Fits (layout_by C.AsSlice.cells self.new) }
+        ensures container { self.new ≡ with_all C.AsSlice.cells C.with_cells self.old (C.AsSlice.cells (buf_of self.new)) }
     {
         self[(x, y)] = value;
     }
 
     /// Every pixel of the window of `width` by `height` pixels with its corner at column `left` of
-    /// row `top` becomes `value`; every other cell stays. The image fits and the window is inside
-    /// it (`is_valid`, `has_window`).
+    /// row `top` becomes `value`; every other cell stays.
+    ///
+    /// # Requires
+    ///
+    /// The image fits (`is_valid`), and the window is inside it (`has_window`).
     pub fn fill_window<'a>(
         &'a mut self,
         left: usize,
@@ -63,13 +73,17 @@ impl<C: AsMutSlice> Img<C> {
         ensures grid { grid_of (layout_by C.AsSlice.cells self.new) ≡ patch (grid_of (layout_by C.AsSlice.cells self.old)) left top (uniform width height value) }
         ensures outside { SameOutside (layout_by C.AsSlice.cells self.old) (layout_by C.AsSlice.cells self.new) }
         ensures fits { Fits (layout_by C.AsSlice.cells self.new) }
+        ensures container { self.new ≡ with_all C.AsSlice.cells C.with_cells self.old (C.AsSlice.cells (buf_of self.new)) }
     {
         let (cells, shape) = self.window_parts_mut(left, top, width, height);
         fill_pixels(cells, shape, value);
     }
 
-    /// Every pixel of row `y` becomes `value`; every other cell stays. The image must fit, as
-    /// `is_valid` tells, and have that row.
+    /// Every pixel of row `y` becomes `value`; every other cell stays.
+    ///
+    /// # Requires
+    ///
+    /// The image fits (`is_valid`), and `y` is below `height()`.
     pub fn fill_row<'a>(&'a mut self, y: usize, value: C::Item)
     where
         C::Item: Copy + 'a,
@@ -78,6 +92,7 @@ impl<C: AsMutSlice> Img<C> {
         ensures grid { grid_of (layout_by C.AsSlice.cells self.new) ≡ patch (grid_of (layout_by C.AsSlice.cells self.old)) 0 y (uniform (width_of self.old) 1 value) }
         ensures outside { SameOutside (layout_by C.AsSlice.cells self.old) (layout_by C.AsSlice.cells self.new) }
         ensures fits { Fits (layout_by C.AsSlice.cells self.new) }
+        ensures container { self.new ≡ with_all C.AsSlice.cells C.with_cells self.old (C.AsSlice.cells (buf_of self.new)) }
     {
         let width = self.width();
         self.fill_window(0, y, width, 1, value);

@@ -15,8 +15,12 @@ use image_cells::AsSlice;
 use image_rows::{RowsIter, RowsIterMut};
 
 impl<'s, T> Img<&'s [T]> {
-    /// The rows from top to bottom, or from bottom to top: `height` slices of `width` cells, and
-    /// none at width 0. The image must fit, as `is_valid` tells.
+    /// The rows from top to bottom, or from bottom to top: `height` slices of `width` pixels, and
+    /// none at width 0.
+    ///
+    /// # Requires
+    ///
+    /// The image fits: `is_valid`.
     pub fn rows(&self) -> RowsIter<'s, T>
         requires fits { Fits (ref_layout self.now) }
         ensures rows { refs_left result ≡ rows_of (ref_layout self.now) }
@@ -30,8 +34,12 @@ impl<'s, T> Img<&'s [T]> {
 }
 
 impl<C: AsMutSlice> Img<C> {
-    /// The rows from top to bottom, or from bottom to top: `height` slices of `width` cells, and
-    /// none at width 0. The image must fit, as `is_valid` tells.
+    /// The rows from top to bottom, or from bottom to top: `height` slices of `width` pixels, and
+    /// none at width 0.
+    ///
+    /// # Requires
+    ///
+    /// The image fits: `is_valid`.
     pub fn rows(&self) -> RowsIter<'_, C::Item>
         requires fits { Fits (layout_by C.AsSlice.cells self.now) }
         ensures rows { refs_left result ≡ rows_of (layout_by C.AsSlice.cells self.now) }
@@ -44,9 +52,13 @@ impl<C: AsMutSlice> Img<C> {
     }
 
     /// The rows for writing, from top to bottom, or from bottom to top: `height` slices of `width`
-    /// cells, and none at width 0. The image must fit, as `is_valid` tells.
+    /// pixels, and none at width 0.
     ///
     /// Once the borrow ends, the image has the cells that the iterator and its rows left.
+    ///
+    /// # Requires
+    ///
+    /// The image fits: `is_valid`.
     pub fn rows_mut(&mut self) -> RowsIterMut<'_, C::Item>
         requires fits { Fits (layout_by C.AsSlice.cells self.old) }
         ensures* writes_back { sem 𝓛 (follows (the_row C.row) (Array C.Item.row 0) self.entry.ghost_name (name_of result) (with_all C.AsSlice.cells C.with_cells self.old)) }

@@ -5,9 +5,10 @@ ghost use Rattle.std.specs.Borrow.{sem, follows, Array};
 ghost use Rattle.image_model.specs.Layout.{Fits};
 ghost use Rattle.image_model.specs.Grid.{grid_of};
 ghost use Rattle.image_model.specs.Windows.{window, window_view, IsInside, IsWithin, roomy_stretch, roomy_window, window_layout, stretch_cells, with_stretch};
-ghost use Rattle.image_shape.specs.Shape.{shaped};
+ghost use Rattle.image_shape.specs.Shape.{shape_width, shape_height, shaped};
 ghost use Rattle.image_shape.specs.Window.{as_stretch};
 ghost use Rattle.imgref.specs.contracts.img.Img.{the_row};
+ghost use Rattle.imgref.specs.Written.{WindowPatchesGrid, WindowKeepsOutside, WindowKeepsFit, WindowKeepsContainer};
 ghost use Rattle.imgref.specs.Image.{buf_of, width_of, height_of, stride_of, layout_by, with_all, with_window, ref_layout, mut_layout};
 
 use crate::containers::AsMutSlice;
@@ -17,12 +18,15 @@ use image_shape::{Shape, Stretch, Window};
 
 impl<'s, T> Img<&'s [T]> {
     /// The window of `width` by `height` pixels with its corner at column `left` of row `top`, over
-    /// the same pixels, at the same stride. The image fits and the window is inside it (`is_valid`,
-    /// `has_window`).
+    /// the same pixels, at the same stride.
     ///
-    /// Its buffer begins at its first pixel and has `height` whole strides where the image's cells
+    /// Its buffer begins at its first pixel. It has `height` whole strides where the image's cells
     /// reach so far, and else ends at its last pixel (`roomy_window`). That of an empty window is
     /// empty.
+    ///
+    /// # Requires
+    ///
+    /// The image fits (`is_valid`), and the window is inside it (`has_window`).
     pub fn sub_image(&self, left: usize, top: usize, width: usize, height: usize) -> ImgRef<'s, T>
         requires fits { Fits (ref_layout self.now) }
         requires inside { IsInside (width_of self.now) (height_of self.now) (window left top width height) }
@@ -42,8 +46,13 @@ impl<'s, T> Img<&'s [T]> {
 }
 
 impl<'s, T> Img<&'s mut [T]> {
-    /// The image that a stretch of these cells is in this shape, for as long as they are lent. Once
-    /// the borrow ends, the cells are as they were, with that stretch of them as the image left it.
+    /// The image that a stretch of these cells is in this shape. Once the borrow ends, the cells are
+    /// as they were, with that stretch of them as the image left it. The image need not fit. (The
+    /// Rust crate has no such call.)
+    ///
+    /// # Requires
+    ///
+    /// By comparing numbers: the stretch ends within the cells.
     pub fn from_stretch(cells: &'s mut [T], stretch: Stretch, shape: Shape) -> ImgRefMut<'s, T>
         requires in_bounds { IsWithin (length cells.old) (as_stretch stretch) }
         ensures* hands_on { sem 𝓛 (follows (Array T.row 0) (Array T.row 0) cells.entry.ghost_name (buf_of result).ghost_name (with_stretch cells.old (as_stretch stretch))) }
@@ -54,11 +63,14 @@ impl<'s, T> Img<&'s mut [T]> {
     }
 
     /// The image cut down to the window of `width` by `height` pixels with its corner at column
-    /// `left` of row `top`, for as long as its pixels are lent. The image fits and the window is
-    /// inside it (`is_valid`, `has_window`).
+    /// `left` of row `top`, for as long as its pixels are lent.
     ///
     /// Its buffer has whole strides where the image has them (`roomy_window`). Once the borrow
     /// ends, the lent cells are as they were, with that stretch of them as the window left it.
+    ///
+    /// # Requires
+    ///
+    /// The image fits (`is_valid`), and the window is inside it (`has_window`).
     pub fn into_sub_image_mut(
         self,
         left: usize,
@@ -89,6 +101,10 @@ impl<C: AsMutSlice> Img<C> {
     /// The window of `width` by `height` pixels with its corner at column `left` of row `top`, for
     /// reading, as `sub_image` of an image of shared pixels gives it: with whole strides where the
     /// image has them (`roomy_window`).
+    ///
+    /// # Requires
+    ///
+    /// The image fits (`is_valid`), and the window is inside it (`has_window`).
     pub fn sub_image(
         &self,
         left: usize,
@@ -130,14 +146,17 @@ impl<C: AsMutSlice> Img<C> {
     }
 
     /// The window of `width` by `height` pixels with its corner at column `left` of row `top`, for
-    /// writing, at the same stride. The image fits and the window is inside it (`is_valid`,
-    /// `has_window`).
+    /// writing, at the same stride.
     ///
-    /// Its buffer begins at its first pixel. For an `ImgVec` it ends at the last pixel, always
+    /// Its buffer begins at its first pixel. For an `ImgVec` it always ends at the last pixel
     /// (`exact_window`); for an `ImgRefMut` it has `height` whole strides where the image's cells
     /// reach so far (`roomy_window`). That of an empty window is empty. Once the borrow ends, the
-    /// image's cells are as they were, with that stretch of them as the window left it: a write at
-    /// a place of the window is a write at the place that lies its corner further.
+    /// image's cells are as they were, with that stretch of them as the window left it. So a write
+    /// at place (x, y) of the window is a write at place (left + x, top + y) of the image.
+    ///
+    /// # Requires
+    ///
+    /// The image fits (`is_valid`), and the window is inside it (`has_window`).
     pub fn sub_image_mut(
         &mut self,
         left: usize,
@@ -151,6 +170,10 @@ impl<C: AsMutSlice> Img<C> {
         ensures layout { mut_layout result ≡ window_layout C.roomy_windows (layout_by C.AsSlice.cells self.old) (window left top width height) }
         ensures fits { Fits (mut_layout result) }
         ensures view { grid_of (mut_layout result) ≡ window_view (grid_of (layout_by C.AsSlice.cells self.old)) (window left top width height) }
+        ensures grid { WindowPatchesGrid C.AsSlice.cells C.with_cells C.roomy_windows self.old (window left top width height) (mut_layout result) }
+        ensures outside { WindowKeepsOutside C.AsSlice.cells C.with_cells C.roomy_windows self.old (window left top width height) (mut_layout result) }
+        ensures still_fits { WindowKeepsFit C.AsSlice.cells C.with_cells C.roomy_windows self.old (window left top width height) (mut_layout result) }
+        ensures container { WindowKeepsContainer C.AsSlice.cells C.with_cells C.roomy_windows self.old (window left top width height) (mut_layout result) }
     {
         let (buf, shape) = self.window_parts_mut(left, top, width, height);
         Img::from_parts(buf, shape)
@@ -159,8 +182,12 @@ impl<C: AsMutSlice> Img<C> {
     /// The window of `sub_image_mut` as its cells and its shape, from which `from_parts` makes it.
     ///
     /// For a caller that is itself proved and says what its writes leave: pass the cells to a
-    /// function of its own that makes the image from them, and they keep their tie to this image.
-    /// A returned image loses that tie in another crate's proof. All else takes `sub_image_mut`.
+    /// function of its own that makes the image from them, and a generated proof follows the borrow.
+    /// It doesn't follow that of a returned image. All else takes `sub_image_mut`.
+    ///
+    /// # Requires
+    ///
+    /// The image fits (`is_valid`), and the window is inside it (`has_window`).
     pub fn window_parts_mut(
         &mut self,
         left: usize,
@@ -174,7 +201,13 @@ impl<C: AsMutSlice> Img<C> {
         ensures layout { shaped result.0.now result.1 ≡ window_layout C.roomy_windows (layout_by C.AsSlice.cells self.old) (window left top width height) }
         ensures fits { Fits (shaped result.0.now result.1) }
         ensures view { grid_of (shaped result.0.now result.1) ≡ window_view (grid_of (layout_by C.AsSlice.cells self.old)) (window left top width height) }
+        ensures width { shape_width result.1 ≡ width }
+        ensures height { shape_height result.1 ≡ height }
         ensures holds_width { width_of self.old ≤ stride_of self.old }
+        ensures grid { WindowPatchesGrid C.AsSlice.cells C.with_cells C.roomy_windows self.old (window left top width height) (shaped result.0.now result.1) }
+        ensures outside { WindowKeepsOutside C.AsSlice.cells C.with_cells C.roomy_windows self.old (window left top width height) (shaped result.0.now result.1) }
+        ensures still_fits { WindowKeepsFit C.AsSlice.cells C.with_cells C.roomy_windows self.old (window left top width height) (shaped result.0.now result.1) }
+        ensures container { WindowKeepsContainer C.AsSlice.cells C.with_cells C.roomy_windows self.old (window left top width height) (shaped result.0.now result.1) }
     {
         let window = Window {
             left,

@@ -30,6 +30,22 @@ pub fn last_cell(cells: &[u8]) -> u8
     image[(1u32, 0u32)]
 }
 
+/// A cell of the last column, which is padding, by its place: the cell behind it is there too.
+pub fn padding_of_first_row(cells: &[u8]) -> u8
+    requires { length cells.now ≡ 4 }
+{
+    let image = Img::new_stride(cells, 1, 2, 2);
+    image[(1usize, 0usize)]
+}
+
+/// The first pixel of the lower row of two, further on than any `u32`.
+pub fn second_row_far_behind(cells: &[u8]) -> u8
+    requires { length cells.now ≡ 4294967297 }
+{
+    let image = Img::new_stride(cells, 1, 2, 4294967296);
+    image[(0u32, 1u32)]
+}
+
 /// How many cells the window of the last two columns has.
 pub fn cells_of_last_columns(cells: &[u8]) -> usize
     requires { 6 ≤ length cells.now }
@@ -50,6 +66,16 @@ pub fn pixels_if_it_fits(image: ImgRef<'_, u8>) -> usize {
 /// An image of no height, of the least width that needs no stride of its own.
 pub fn narrowest(cells: &[u8]) -> ImgRef<'_, u8> {
     Img::new(cells, 1, 0)
+}
+
+/// An image of no height, of the greatest width.
+pub fn widest(cells: &[u8]) -> ImgRef<'_, u8> {
+    Img::new(cells, 4294967295, 0)
+}
+
+/// An image of the greatest height.
+pub fn highest(cells: &[u8]) -> ImgRef<'_, u8> {
+    Img::new(cells, 1, 4294967295)
 }
 
 /// Two other cells in the place of an image's two.

@@ -6,7 +6,7 @@ ghost use Rattle.image_model.specs.Grid.{grid_of, patch, uniform};
 ghost use Rattle.imgref.specs.Image.{buf_of, width_of, height_of, layout_by, with_all};
 ghost use Rattle.imgref_callers.specs.Rows.{with_last_row};
 
-use imgref::{AsMutSlice, End, Img};
+use imgref::{AsMutSlice, Img};
 
 // Every cell becomes `value`. The slice's own `fill` asks for a `clone` that cannot fail.
 fn fill_row<T: Copy>(row: &mut [T], value: T)
@@ -39,8 +39,8 @@ where
     requires fits { Fits (layout_by C.AsSlice.cells image.old) }
     ensures { image.new ≡ with_all C.AsSlice.cells C.with_cells image.old (with_last_row (layout_by C.AsSlice.cells image.old) value) }
 {
-    let (row, _) = image.rows_mut().split_end(End::Last);
-    if let Some(row) = row {
+    let mut rows = image.rows_mut();
+    if let Some(row) = rows.next_back() {
         fill_row(row, value);
     }
 }

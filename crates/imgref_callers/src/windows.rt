@@ -24,6 +24,7 @@ fn put<T: Copy>(cells: &mut [T], shape: Shape, x: usize, y: usize, value: T)
 }
 
 /// Writes one pixel of a window of the image that these cells are.
+#[tactic(auto, using(image_model::proofs::Patches::fill_in_view))]
 fn put_inside<T: Copy>(cells: &mut [T], shape: Shape, window: Window, x: usize, y: usize, value: T)
     requires fits { Fits (shaped cells.old shape) }
     requires inside { IsInside (shape_width shape) (shape_height shape) (as_window window) }
@@ -43,6 +44,7 @@ fn put_inside<T: Copy>(cells: &mut [T], shape: Shape, window: Window, x: usize, 
 }
 
 /// Writes one pixel of a window of a window of an image that owns its pixels.
+#[tactic(auto, using(image_model::proofs::Patches::fill_in_view))]
 pub fn put_in_owner<T: Copy>(
     image: &mut ImgVec<T>,
     first: Window,
@@ -64,6 +66,7 @@ pub fn put_in_owner<T: Copy>(
 }
 
 /// Writes one pixel of a window of a window of a lent image.
+#[tactic(auto, using(image_model::proofs::Patches::fill_in_view))]
 pub fn put_in_lent<T: Copy>(
     image: &mut ImgRefMut<T>,
     first: Window,
@@ -86,6 +89,7 @@ pub fn put_in_lent<T: Copy>(
 }
 
 /// Writes one pixel of a window of a window of the image that these cells are.
+#[tactic(auto, using(image_model::proofs::Patches::fill_in_view))]
 pub fn put_in_cells<T: Copy>(
     cells: &mut [T],
     shape: Shape,

@@ -4,6 +4,7 @@ ghost use Rattle.std.specs.Prelude.{◌≡◌, ◌<◌, ◌≤◌, Some};
 ghost use Rattle.image_model.specs.Grid.{grid_of, patch, uniform};
 ghost use Rattle.image_model.specs.Layout.{Fits, SameOutside};
 ghost use Rattle.imgref.specs.Image.{width_of, height_of, vec_layout, mut_layout};
+ghost use Rattle.imgref_examples.specs.Stripes.{striped};
 
 use imgref::{ImgRefMut, ImgVec};
 
@@ -44,23 +45,26 @@ pub fn three_by_index(image: &mut ImgVec<u8>, value: u8)
     image.fill_window(1, 1, 2, 1, value);
 }
 
-/// Each row in turn.
+/// Each row in turn: its pixels become 0 or 1.
 pub fn stripes(image: &mut ImgVec<u8>)
     requires { Fits (vec_layout image.old) }
-    ensures { SameOutside (vec_layout image.old) (vec_layout image.new) }
+    ensures grid { grid_of (vec_layout image.new) ≡ striped (width_of image.old) (height_of image.old) }
+    ensures outside { SameOutside (vec_layout image.old) (vec_layout image.new) }
 {
     for y in 0..image.height() {
         image.fill_row(y, (y % 2) as u8);
     }
 }
 
-/// What was put is what is got.
+/// What was put is what is got, and nothing else has changed.
 #[tactic(auto, using(image_model::proofs::Patches::patches))]
 pub fn put_then_get(image: &mut ImgVec<u8>, x: usize, y: usize, value: u8) -> Option<u8>
     requires fits { Fits (vec_layout image.old) }
     requires column { x < width_of image.old }
     requires line { y < height_of image.old }
-    ensures { result ≡ Some value }
+    ensures value { result ≡ Some value }
+    ensures grid { grid_of (vec_layout image.new) ≡ patch (grid_of (vec_layout image.old)) x y (uniform 1 1 value) }
+    ensures outside { SameOutside (vec_layout image.old) (vec_layout image.new) }
 {
     image.put(x, y, value);
     image.get(x, y)

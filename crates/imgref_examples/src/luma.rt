@@ -1,8 +1,9 @@
 //! The plane of brightness in a raw frame.
 
-ghost use Rattle.std.specs.Prelude.{◌≡◌, ◌↔◌, ◌≤◌, ◌<◌, ◌^◌, IsOk, IfOk};
+ghost use Rattle.std.specs.Prelude.{◌≡◌, ◌↔◌, ◌≤◌, ◌<◌, ◌^◌, Some, IsOk, IfOk, IfErr};
 ghost use Rattle.image_model.specs.Layout.{Fits, layout};
 ghost use Rattle.imgref.specs.Image.{vec_layout};
+ghost use Rattle.imgref_examples.specs.Frames.{frame_fault, fault_text};
 
 use imgref::ImgVec;
 use std::error::Error;
@@ -20,6 +21,8 @@ pub enum FrameError {
 }
 
 impl fmt::Display for FrameError {
+    ghost output = { λ fault. Some (fault_text fault) };
+
     fn fmt<W: fmt::Write>(&self, f: &mut fmt::Formatter<W>) -> fmt::Result {
         match self {
             FrameError::TooLarge => write!(f, "too wide or too high"),
@@ -31,7 +34,7 @@ impl fmt::Display for FrameError {
 
 impl Error for FrameError {}
 
-/// The luma plane of a raw frame.
+/// The luma plane of a raw frame, or its first fault.
 pub fn luma_plane(
     frame: Vec<u8>,
     width: usize,
@@ -40,6 +43,7 @@ pub fn luma_plane(
 ) -> Result<ImgVec<u8>, FrameError>
     ensures taken { IsOk result ↔ ((width < 2 ^ 32) × (height < 2 ^ 32) × (1 ≤ stride) × (width ≤ stride) × Fits (layout frame.items width height stride)) }
     ensures plane { IfOk result (λ plane. vec_layout plane ≡ layout frame.items width height stride) }
+    ensures fault { IfErr result (λ fault. frame_fault frame.items width height stride ≡ Some fault) }
 {
     if width > u32::MAX as usize || height > u32::MAX as usize {
         return Err(FrameError::TooLarge);

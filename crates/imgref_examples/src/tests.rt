@@ -5,7 +5,8 @@ ghost use Rattle.imgref.specs.Image.{width_of, height_of};
 
 use crate::{
     FrameError, box_blur_3x3, brighten, brighten_places, brighten_rows, checksum, crop_copy, dot,
-    draw_rect, exact_checksum, luma_plane, put_then_get, stripes, three_by_index, three_places,
+    draw_rect, exact_checksum, flip, invert, luma_plane, put_then_get, stripes, three_by_index,
+    three_places, threshold,
 };
 use imgref::{Img, ImgVec};
 use std::alloc::{AllocError, Global};
@@ -52,6 +53,32 @@ fn brighter_pixels_stop_at_255(rt: HostRuntime) -> Result<(), Fail> {
     assert_eq!(rt;
         image.into_buf().as_slice(),
         [11u8, 12, 13, 100, 14, 15, 255].as_slice()
+    );
+    Ok(())
+}
+
+#[test]
+fn filters_and_flips_leave_padding(rt: HostRuntime) -> Result<(), Fail> {
+    let mut image = padded(rt.alloc())?;
+    assert!(rt; image.is_valid());
+    invert(&mut image);
+    assert_eq!(rt;
+        image.into_buf().as_slice(),
+        [254u8, 253, 252, 100, 251, 250, 5].as_slice()
+    );
+    let mut image = padded(rt.alloc())?;
+    assert!(rt; image.is_valid());
+    threshold(&mut image, 4);
+    assert_eq!(rt;
+        image.into_buf().as_slice(),
+        [0u8, 0, 0, 100, 255, 255, 255].as_slice()
+    );
+    let mut image = padded(rt.alloc())?;
+    assert!(rt; image.is_valid());
+    flip(&mut image);
+    assert_eq!(rt;
+        image.into_buf().as_slice(),
+        [4u8, 5, 250, 100, 1, 2, 3].as_slice()
     );
     Ok(())
 }

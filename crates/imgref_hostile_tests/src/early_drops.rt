@@ -28,7 +28,7 @@ fn take_rows(
         } else {
             rows.next_back()
         };
-        assert_eq!(rt; row.is_some(), left > 0, "step {step} of mix {mix}");
+        assert!(rt; row.is_some() == (left > 0), "step {step} of mix {mix}");
         if let Some(row) = row {
             row.fill(0);
             if is_front {
@@ -50,7 +50,7 @@ fn check_rows(
     window: Window,
     taken: (usize, usize),
 ) {
-    assert_eq!(rt; cells.len(), old.len());
+    assert!(rt; cells.len() == old.len());
     for (at, cell) in cells.iter().enumerate() {
         let x = (at % stride.max(1)).checked_sub(window.left);
         let y = (at / stride.max(1)).checked_sub(window.top);
@@ -62,7 +62,7 @@ fn check_rows(
             _ => false,
         };
         let expected = if is_written { Some(&0) } else { old.get(at) };
-        assert_eq!(rt; Some(cell), expected, "cell {at} after {taken:?}");
+        assert!(rt; Some(cell) == expected, "cell {at} after {taken:?}");
     }
 }
 
@@ -80,7 +80,7 @@ fn rows_of_lent_cells_from_each_mix_of_ends(rt: HostRuntime) -> Result<(), Fail>
             let mut lent = ImgRefMut::new_stride(cells.as_mut_slice(), 1, 4, 3);
             assert!(rt; lent.is_valid());
             let taken = take_rows(&rt, &mut lent, mix, steps);
-            assert_eq!(rt; taken.0.saturating_add(taken.1), steps.min(4) as usize);
+            assert!(rt; taken.0.saturating_add(taken.1) == (steps.min(4) as usize));
             check_rows(&rt, cells.as_slice(), TWELVE.as_slice(), 3, window, taken);
         }
     }
@@ -118,8 +118,10 @@ fn rows_of_each_window_of_an_owner(rt: HostRuntime) -> Result<(), Fail> {
         for mix in 0..4u32 {
             for steps in 0..4u32 {
                 let mut owner = padded(rt.alloc())?;
-                assert!(rt; owner.is_valid());
-                assert!(rt; owner.has_window(window.left, window.top, window.width, window.height));
+                assert!(rt;
+                    owner.is_valid()
+                        && owner.has_window(window.left, window.top, window.width, window.height)
+                );
                 let mut inner = owner.sub_image_mut(
                     window.left,
                     window.top,
@@ -147,7 +149,7 @@ fn take_pixels(rt: &impl Abort, pixels: PixelsIterMut<'_, u8>, steps: usize) {
     for step in 0..steps {
         let left = pixels.len();
         let pixel = pixels.next();
-        assert_eq!(rt; pixel.is_some(), left > 0, "step {step}");
+        assert!(rt; pixel.is_some() == (left > 0), "step {step}");
         if let Some(pixel) = pixel {
             *pixel = 0;
         }
@@ -156,7 +158,7 @@ fn take_pixels(rt: &impl Abort, pixels: PixelsIterMut<'_, u8>, steps: usize) {
 
 // The first so many pixels of a window are 0, and no other cell has changed.
 fn check_pixels(rt: &impl Abort, cells: &[u8], window: Window, steps: usize) {
-    assert_eq!(rt; cells.len(), 9);
+    assert!(rt; cells.len() == 9);
     let mut seen = 0usize;
     for (at, cell) in cells.iter().enumerate() {
         let x = (at % 4).checked_sub(window.left);
@@ -170,7 +172,7 @@ fn check_pixels(rt: &impl Abort, cells: &[u8], window: Window, steps: usize) {
         } else {
             PADDED.get(at)
         };
-        assert_eq!(rt; Some(cell), expected, "cell {at} after {steps}");
+        assert!(rt; Some(cell) == expected, "cell {at} after {steps}");
         if is_pixel {
             seen = seen.saturating_add(1);
         }
@@ -187,8 +189,10 @@ fn pixels_of_each_window_of_lent_cells(rt: HostRuntime) -> Result<(), Fail> {
         for steps in 0..8usize {
             let mut cells = PADDED;
             let mut lent = ImgRefMut::new_stride(cells.as_mut_slice(), 3, 2, 4);
-            assert!(rt; lent.is_valid());
-            assert!(rt; lent.has_window(window.left, window.top, window.width, window.height));
+            assert!(rt;
+                lent.is_valid()
+                    && lent.has_window(window.left, window.top, window.width, window.height)
+            );
             let mut inner = lent.sub_image_mut(
                 window.left,
                 window.top,
@@ -211,8 +215,10 @@ fn pixels_of_each_window_of_an_owner(rt: HostRuntime) -> Result<(), Fail> {
         }
         for steps in 0..8usize {
             let mut owner = padded(rt.alloc())?;
-            assert!(rt; owner.is_valid());
-            assert!(rt; owner.has_window(window.left, window.top, window.width, window.height));
+            assert!(rt;
+                owner.is_valid()
+                    && owner.has_window(window.left, window.top, window.width, window.height)
+            );
             let mut inner = owner.sub_image_mut(
                 window.left,
                 window.top,
@@ -238,6 +244,6 @@ fn adapters_that_stop_early_leave_the_rest(rt: HostRuntime) -> Result<(), Fail> 
     for row in lent.rows_mut().rev().take(1) {
         row.fill(9);
     }
-    assert_eq!(rt; cells, [1u8, 0, 0, 4, 9, 9, 9, 8, 9]);
+    assert!(rt; cells == [1u8, 0, 0, 4, 9, 9, 9, 8, 9]);
     Ok(())
 }

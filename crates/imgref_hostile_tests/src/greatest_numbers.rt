@@ -38,9 +38,8 @@ fn check_windows(rt: &impl Abort, image: ImgRef<'_, u8>) {
             for top in NUMBERS {
                 for height in NUMBERS {
                     let is_inside = is_column && is_within(top, height, image.height());
-                    assert_eq!(rt;
-                        image.has_window(left, top, width, height),
-                        is_inside,
+                    assert!(rt;
+                        image.has_window(left, top, width, height) == is_inside,
                         "{left},{top},{width},{height}"
                     );
                 }
@@ -71,34 +70,30 @@ fn check_empty(rt: &impl Abort, shape: Shape, window: Window) {
     } = window;
     let mut cells = [7u8];
     let mut image = ImgRefMut::from_parts(cells.as_mut_slice(), shape);
-    assert!(rt; image.is_valid());
-    assert!(rt; image.has_window(left, top, width, height));
+    assert!(rt; image.is_valid() && image.has_window(left, top, width, height));
     let seen = image.sub_image(left, top, width, height);
-    assert_eq!(rt; (seen.width(), seen.height()), (width, height));
-    assert_eq!(rt; (seen.buf().len(), seen.stride()), (0, usize::MAX));
+    assert!(rt;
+        (seen.width(), seen.height()) == (width, height)
+            && (seen.buf().len(), seen.stride()) == (0, usize::MAX)
+    );
     let (parts, part) = image.window_parts_mut(left, top, width, height);
-    assert_eq!(rt;
-        (parts.len(), part.width(), part.height()),
-        (0, width, height)
+    assert!(rt;
+        (parts.len(), part.width(), part.height()) == (0, width, height)
+            && image.is_valid()
+            && image.has_window(left, top, width, height)
     );
-    assert!(rt; image.is_valid());
-    assert!(rt; image.has_window(left, top, width, height));
     let lent = image.sub_image_mut(left, top, width, height);
-    assert_eq!(rt;
-        (lent.buf().len(), lent.width(), lent.height()),
-        (0, width, height)
+    assert!(rt;
+        (lent.buf().len(), lent.width(), lent.height()) == (0, width, height)
+            && image.is_valid()
+            && image.has_window(left, top, width, height)
     );
-    assert!(rt; image.is_valid());
-    assert!(rt; image.has_window(left, top, width, height));
     image.fill_window(left, top, width, height, 0);
-    assert!(rt; image.is_valid());
-    assert!(rt; image.has_window(left, top, width, height));
+    assert!(rt; image.is_valid() && image.has_window(left, top, width, height));
     let cut = image.into_sub_image_mut(left, top, width, height);
-    assert_eq!(rt;
-        (cut.buf().len(), cut.width(), cut.height()),
-        (0, width, height)
+    assert!(rt;
+        (cut.buf().len(), cut.width(), cut.height()) == (0, width, height) && cells == [7u8]
     );
-    assert_eq!(rt; cells, [7u8]);
 }
 
 #[test]
@@ -137,21 +132,21 @@ fn places_far_outside_have_no_pixel(rt: HostRuntime) -> Result<(), Fail> {
     let one = ImgRef::new_stride(PADDED.as_slice(), 1, 1, usize::MAX);
     let tall = ImgRef::new_stride(PADDED.as_slice(), 0, LAST, usize::MAX);
     let wide = ImgRef::new_stride(PADDED.as_slice(), LAST, 0, usize::MAX);
-    assert!(rt; owner.is_valid() && view.is_valid() && one.is_valid());
-    assert!(rt; tall.is_valid() && wide.is_valid());
+    assert!(rt;
+        owner.is_valid() && view.is_valid() && one.is_valid() && tall.is_valid() && wide.is_valid()
+    );
     let lent = ImgRefMut::new_stride(cells.as_mut_slice(), 3, 2, 4);
     assert!(rt; lent.is_valid());
     for x in NUMBERS {
         for y in NUMBERS {
             let pixel = pixel_at(x, y);
-            assert_eq!(rt; owner.get(x, y), pixel, "({x}, {y})");
-            assert_eq!(rt; view.get(x, y), pixel, "({x}, {y})");
-            assert_eq!(rt; lent.get(x, y), pixel, "({x}, {y})");
+            assert!(rt; owner.get(x, y) == pixel, "({x}, {y})");
+            assert!(rt; view.get(x, y) == pixel, "({x}, {y})");
+            assert!(rt; lent.get(x, y) == pixel, "({x}, {y})");
             let first = if x == 0 && y == 0 { Some(1) } else { None };
-            assert_eq!(rt; one.get(x, y), first, "({x}, {y})");
-            assert_eq!(rt;
-                (tall.get(x, y), wide.get(x, y)),
-                (None, None),
+            assert!(rt; one.get(x, y) == first, "({x}, {y})");
+            assert!(rt;
+                (tall.get(x, y), wide.get(x, y)) == (None, None),
                 "({x}, {y})"
             );
         }
@@ -212,117 +207,16 @@ fn a_shape_fits_no_less_than_its_last_pixel(rt: HostRuntime) -> Result<(), Fail>
         }
         let shape = Shape::new(width, height, stride);
         for count in NUMBERS {
-            assert_eq!(rt; shape.fits(count), count >= least, "{count} for {least}");
+            assert!(rt;
+                shape.fits(count) == (count >= least),
+                "{count} for {least}"
+            );
         }
         assert!(rt; shape.fits(least));
-        assert_eq!(rt; shape.fits(least.saturating_sub(1)), least == 0, "{least}");
-    }
-    Ok(())
-}
-
-// An image of no pixel at the greatest stride is compacted to no cell.
-fn check_compacted(rt: &impl Abort, image: ImgVec<u8>, width: usize, height: usize, stride: usize) {
-    let mut image = image;
-    assert!(rt; image.is_valid());
-    let (joined, found_width, found_height) = image.as_contiguous_buf();
-    assert_eq!(rt;
-        (joined.len(), found_width, found_height),
-        (0, width, height)
-    );
-    assert_eq!(rt; (image.stride(), image.buf().len()), (stride, 0));
-    assert!(rt; image.is_valid());
-    let (joined, found_width, found_height) = image.into_contiguous_buf();
-    assert_eq!(rt;
-        (joined.len(), found_width, found_height),
-        (0, width, height)
-    );
-}
-
-#[test]
-fn no_pixel_at_the_greatest_stride_is_compacted(rt: HostRuntime) -> Result<(), Fail> {
-    for (width, height, stride) in [(LAST, 0, LAST), (0, LAST, 1), (0, 0, 1), (1, 0, 1)] {
-        if width > LAST || height > LAST {
-            continue;
-        }
-        let none: ImgVec<u8> = Img::new_stride(Vec::new(rt.alloc()), width, height, usize::MAX);
-        check_compacted(&rt, none, width, height, stride);
-        let some: ImgVec<u8> = Img::new_stride(
-            PADDED.to_vec(rt.alloc())?,
-            width,
-            height,
-            usize::MAX,
-        );
-        check_compacted(&rt, some, width, height, stride);
-        let view = Img::new_stride(PADDED.as_slice(), width, height, usize::MAX);
-        assert!(rt; view.is_valid());
-        let (joined, found_width, found_height) = view.to_contiguous_buf(rt.alloc())?;
-        assert_eq!(rt;
-            (joined.as_ref().len(), found_width, found_height),
-            (0, width, height)
+        assert!(rt;
+            shape.fits(least.saturating_sub(1)) == (least == 0),
+            "{least}"
         );
     }
-    Ok(())
-}
-
-// Without a column there is no pixel to read or write, however many lines there are.
-fn check_rows_of_width_zero(rt: &impl Abort, lent: &mut ImgRefMut<'_, u8>, y: usize) {
-    assert!(rt; lent.is_valid());
-    assert!(rt; y < lent.height());
-    assert_eq!(rt; (lent.row(y).len(), lent.row_mut(y).len()), (0, 0));
-    assert!(rt; lent.is_valid());
-    assert_eq!(rt; (lent.rows().count(), lent.pixels().count()), (0, 0));
-    assert_eq!(rt; lent.rows_mut().count(), 0);
-    assert!(rt; lent.is_valid());
-    assert_eq!(rt; lent.pixels_mut().count(), 0);
-    assert!(rt; lent.is_valid());
-    assert!(rt; y < lent.height());
-    lent.fill_row(y, 0);
-    lent.fill(0);
-}
-
-#[test]
-fn rows_of_width_zero_at_the_greatest_stride(rt: HostRuntime) -> Result<(), Fail> {
-    for y in [0, 1, LAST - 1] {
-        let mut cells = PADDED;
-        let mut lent = Img::new_stride(cells.as_mut_slice(), 0, LAST, usize::MAX);
-        check_rows_of_width_zero(&rt, &mut lent, y);
-        assert_eq!(rt; cells, PADDED);
-        let mut owner: ImgVec<u8> = Img::new_stride(
-            PADDED.to_vec(rt.alloc())?,
-            0,
-            LAST,
-            usize::MAX,
-        );
-        check_rows_of_width_zero(&rt, &mut owner.as_mut(), y);
-        assert_eq!(rt; owner.buf().as_slice(), PADDED.as_slice());
-        let view = owner.as_ref();
-        assert!(rt; view.is_valid());
-        assert!(rt; y < view.height());
-        assert_eq!(rt; (view.row(y).len(), view.rows().rev().count()), (0, 0));
-        assert_eq!(rt; (view.pixels().count(), view.pixels_ref().count()), (0, 0));
-        assert_eq!(rt;
-            (view.width_padded(), view.height_padded()),
-            (usize::MAX, 0)
-        );
-    }
-    Ok(())
-}
-
-#[test]
-fn sizes_alone_tell_empty_images_apart(rt: HostRuntime) -> Result<(), Fail> {
-    let tall = ImgRef::new_stride(PADDED.as_slice(), 0, LAST, usize::MAX);
-    let same = ImgRef::new_stride(&[], 0, LAST, 1);
-    let lower = ImgRef::new_stride(&[], 0, LAST - 1, usize::MAX);
-    let wide = ImgRef::new_stride(PADDED.as_slice(), LAST, 0, usize::MAX);
-    assert!(rt; tall == same && tall.same_pixels(same));
-    assert!(rt; tall != lower && !tall.same_pixels(lower));
-    assert!(rt; tall != wide && wide == wide);
-    assert!(rt; tall.is_valid() && same.is_valid());
-    assert!(rt; tall.same_pixels_by(same, |_, _| false));
-    let copy = tall.to_owned(rt.alloc())?;
-    assert_eq!(rt;
-        (copy.width(), copy.height(), copy.stride()),
-        (0, LAST, usize::MAX)
-    );
     Ok(())
 }

@@ -9,7 +9,13 @@ mod fixtures;
 #[cfg(test)]
 mod greatest_numbers;
 #[cfg(test)]
+mod greatest_strides;
+#[cfg(test)]
+mod greatest_units;
+#[cfg(test)]
 mod short_buffers;
+#[cfg(test)]
+mod short_copies;
 #[cfg(test)]
 mod units;
 #[cfg(test)]

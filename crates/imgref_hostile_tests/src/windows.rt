@@ -14,9 +14,11 @@ fn check_view(rt: &impl Abort, found: ImgRef<'_, u8>, window: Window, count: usi
         width,
         height,
     } = window;
-    assert_eq!(rt; (found.width(), found.height()), (width, height));
-    assert_eq!(rt; found.stride(), 4);
-    assert!(rt; found.is_valid());
+    assert!(rt;
+        (found.width(), found.height()) == (width, height)
+            && found.stride() == 4
+            && found.is_valid()
+    );
     for y in 0..4usize {
         for x in 0..4usize {
             let pixel = if x < width && y < height {
@@ -24,20 +26,18 @@ fn check_view(rt: &impl Abort, found: ImgRef<'_, u8>, window: Window, count: usi
             } else {
                 None
             };
-            assert_eq!(rt;
-                found.get(x, y),
-                pixel,
+            assert!(rt;
+                found.get(x, y) == pixel,
                 "({x}, {y}) of {left},{top},{width},{height}"
             );
         }
     }
     let first = cells_of(window).first;
-    assert_eq!(rt; found.buf().len(), count, "{left},{top},{width},{height}");
+    assert!(rt; found.buf().len() == count, "{left},{top},{width},{height}");
     for (at, cell) in found.iter().enumerate() {
         let expected = PADDED.get(first.saturating_add(at));
-        assert_eq!(rt;
-            Some(cell),
-            expected,
+        assert!(rt;
+            Some(cell) == expected,
             "cell {at} of {left},{top},{width},{height}"
         );
     }
@@ -45,17 +45,17 @@ fn check_view(rt: &impl Abort, found: ImgRef<'_, u8>, window: Window, count: usi
 
 // So many cells from this one on are 0, and no other has changed.
 fn check_cleared(rt: &impl Abort, cells: &[u8], first: usize, count: usize) {
-    assert_eq!(rt; cells.len(), 9);
+    assert!(rt; cells.len() == 9);
     for (at, cell) in cells.iter().enumerate() {
         let is_written = at >= first && at.saturating_sub(first) < count;
         let expected = if is_written { Some(&0) } else { PADDED.get(at) };
-        assert_eq!(rt; Some(cell), expected, "cell {at} of {count} from {first}");
+        assert!(rt; Some(cell) == expected, "cell {at} of {count} from {first}");
     }
 }
 
 // The pixels of a window are 0, and no other cell has changed.
 fn check_filled(rt: &impl Abort, cells: &[u8], window: Window) {
-    assert_eq!(rt; cells.len(), 9);
+    assert!(rt; cells.len() == 9);
     for (at, cell) in cells.iter().enumerate() {
         let x = at % 4;
         let y = at / 4;
@@ -66,9 +66,8 @@ fn check_filled(rt: &impl Abort, cells: &[u8], window: Window) {
         } else {
             PADDED.get(at)
         };
-        assert_eq!(rt;
-            Some(cell),
-            expected,
+        assert!(rt;
+            Some(cell) == expected,
             "cell {at} of {}, {}",
             window.left,
             window.top
@@ -121,22 +120,23 @@ fn sixty_windows_for_reading(rt: HostRuntime) -> Result<(), Fail> {
         let window = numbered(number);
         let is_inside = window.left.saturating_add(window.width) <= 3
             && window.top.saturating_add(window.height) <= 2;
-        assert_eq!(rt; is_in_view(&rt, view, window), is_inside, "window {number}");
-        assert_eq!(rt;
-            is_in_image(&rt, &owner, window),
-            is_inside,
+        assert!(rt;
+            is_in_view(&rt, view, window) == is_inside,
             "window {number}"
         );
-        assert_eq!(rt;
-            is_in_image(&rt, &lent, window),
-            is_inside,
+        assert!(rt;
+            is_in_image(&rt, &owner, window) == is_inside,
+            "window {number}"
+        );
+        assert!(rt;
+            is_in_image(&rt, &lent, window) == is_inside,
             "window {number}"
         );
         if is_inside {
             inside = inside.saturating_add(1);
         }
     }
-    assert_eq!(rt; inside, 60);
+    assert!(rt; inside == 60);
     Ok(())
 }
 
@@ -151,22 +151,16 @@ fn check_owner(rt: &impl Abort, alloc: Global, window: Window) -> Result<(), All
     } = window;
     let cells = cells_of(window);
     let mut image = padded(alloc)?;
-    assert!(rt; image.is_valid());
-    assert!(rt; image.has_window(left, top, width, height));
+    assert!(rt; image.is_valid() && image.has_window(left, top, width, height));
     let found = image.sub_image_mut(left, top, width, height);
     check_view(rt, found.as_ref(), window, cells.exact);
-    assert!(rt; image.is_valid());
-    assert!(rt; image.has_window(left, top, width, height));
+    assert!(rt; image.is_valid() && image.has_window(left, top, width, height));
     image.sub_image_mut(left, top, width, height).fill(0);
     check_filled(rt, image.buf().as_slice(), window);
     let mut image = padded(alloc)?;
-    assert!(rt; image.is_valid());
-    assert!(rt; image.has_window(left, top, width, height));
+    assert!(rt; image.is_valid() && image.has_window(left, top, width, height));
     let (parts, shape) = image.window_parts_mut(left, top, width, height);
-    assert_eq!(rt;
-        (shape.width(), shape.height(), shape.stride()),
-        (width, height, 4)
-    );
+    assert!(rt; (shape.width(), shape.height(), shape.stride()) == (width, height, 4));
     parts.fill(0);
     check_cleared(rt, image.buf().as_slice(), cells.first, cells.exact);
     Ok(())
@@ -183,7 +177,7 @@ fn sixty_windows_of_an_owner_for_writing(rt: HostRuntime) -> Result<(), Fail> {
             inside = inside.saturating_add(1);
         }
     }
-    assert_eq!(rt; inside, 60);
+    assert!(rt; inside == 60);
     Ok(())
 }
 
@@ -198,23 +192,17 @@ fn check_lent(rt: &impl Abort, window: Window) {
     let cells = cells_of(window);
     let mut buf = PADDED;
     let mut image = ImgRefMut::new_stride(buf.as_mut_slice(), 3, 2, 4);
-    assert!(rt; image.is_valid());
-    assert!(rt; image.has_window(left, top, width, height));
+    assert!(rt; image.is_valid() && image.has_window(left, top, width, height));
     let found = image.sub_image_mut(left, top, width, height);
     check_view(rt, found.as_ref(), window, cells.roomy);
-    assert!(rt; image.is_valid());
-    assert!(rt; image.has_window(left, top, width, height));
+    assert!(rt; image.is_valid() && image.has_window(left, top, width, height));
     image.sub_image_mut(left, top, width, height).fill(0);
     check_filled(rt, buf.as_slice(), window);
     let mut buf = PADDED;
     let mut image = ImgRefMut::new_stride(buf.as_mut_slice(), 3, 2, 4);
-    assert!(rt; image.is_valid());
-    assert!(rt; image.has_window(left, top, width, height));
+    assert!(rt; image.is_valid() && image.has_window(left, top, width, height));
     let (parts, shape) = image.window_parts_mut(left, top, width, height);
-    assert_eq!(rt;
-        (shape.width(), shape.height(), shape.stride()),
-        (width, height, 4)
-    );
+    assert!(rt; (shape.width(), shape.height(), shape.stride()) == (width, height, 4));
     parts.fill(0);
     check_cleared(rt, buf.as_slice(), cells.first, cells.roomy);
 }
@@ -230,8 +218,7 @@ fn check_cut(rt: &impl Abort, window: Window) {
     let cells = cells_of(window);
     let mut buf = PADDED;
     let image = ImgRefMut::new_stride(buf.as_mut_slice(), 3, 2, 4);
-    assert!(rt; image.is_valid());
-    assert!(rt; image.has_window(left, top, width, height));
+    assert!(rt; image.is_valid() && image.has_window(left, top, width, height));
     let mut cut = image.into_sub_image_mut(left, top, width, height);
     check_view(rt, cut.as_ref(), window, cells.roomy);
     assert!(rt; cut.is_valid());
@@ -239,8 +226,7 @@ fn check_cut(rt: &impl Abort, window: Window) {
     check_filled(rt, buf.as_slice(), window);
     let mut buf = PADDED;
     let image = ImgRefMut::new_stride(buf.as_mut_slice(), 3, 2, 4);
-    assert!(rt; image.is_valid());
-    assert!(rt; image.has_window(left, top, width, height));
+    assert!(rt; image.is_valid() && image.has_window(left, top, width, height));
     image
         .into_sub_image_mut(left, top, width, height)
         .into_buf()
@@ -260,6 +246,6 @@ fn sixty_windows_of_lent_cells_for_writing(rt: HostRuntime) -> Result<(), Fail> 
             inside = inside.saturating_add(1);
         }
     }
-    assert_eq!(rt; inside, 60);
+    assert!(rt; inside == 60);
     Ok(())
 }

@@ -6,14 +6,10 @@ use Rattle.std.proofs.lemmas.Bool.{cond-false, and_from, eq-eqb}
 use Rattle.std.proofs.lemmas.List.{set-append_left, set-append_right, get_or_append_left, get_or-append_right}
 use Rattle.image_model.specs.Layout.{Layout, Fits, SameOutside}
 use Rattle.image_model.specs.Grid.{Grid, grid_of, patch}
-use Rattle.imgref.specs.Image.{buf_of, width_of, height_of, stride_of, vec_layout}
-use Rattle.imgref.specs.Containers.{others_of_vec}
-use Rattle.std.specs.Vec.{with_items_from}
-use Rattle.image_model.proofs.Stretches.{length-stretch_cells}
-use Rattle.image_model.proofs.Windows.{HasWindow, stretch_window, stretch_has, layout_is, handed_on_grid, handed_on_outside}
+use Rattle.imgref.specs.Image.{vec_layout}
 use Rattle.imgref.specs.declared.img.Img.{Img}
 use Rattle.image_model.specs.Windows as model
-use Rattle.image_model.specs.Windows.{Stretch, IsInside, window_view, window_stretch, window_layout, with_stretch}
+use Rattle.image_model.specs.Windows.{window_view}
 use Rattle.imgref_replay.specs.Commands.{grids_of, grid_at, window_named, view_named, differ_in_size, pair_faults, copy_faults, patched_at, meaning}
 use Rattle.imgref_replay.specs.Step.{first_fault, IsStep, ShowsCopy}
 use Rattle.imgref_replay.specs.declared.commands.Place.{Place}
@@ -77,30 +73,3 @@ module _ {X : Type 0} (all front back : List X) (n : ℕ) (parts : all ≡ front
 
   pub set_back : (x : X) → front ++ set back 0 x ≡ set all n x
   set_back x = sym (ap (λ xs. set xs n x) parts ∙ set-append_right front back n n x cut (omega arith) ∙ ap (λ k. front ++ set back k x) (let none : n - n ≡ 0 = omega arith in none))
-
--- the window m of an image that owns its pixels becomes n
-module _ {T Z : Type 0} (image : Img (Vec T Z)) (w : model.Window) (narrow : width_of image ≤ stride_of image) (fits : Fits (vec_layout image)) (inside : IsInside (width_of image) (height_of image) w)
-    (m n : Layout T) (is : m ≡ window_layout false (vec_layout image) w) (same : SameOutside m n) where
-  abbrev l : Layout T
-  l = vec_layout image
-
-  abbrev its_cells : Stretch
-  its_cells = window_stretch false (length l.cells) l.stride w
-
-  abbrev after : List T → Layout T
-  after cells = record l { cells = cells }
-
-  has : HasWindow (length l.cells) l.stride w its_cells
-  has = stretch_has false (length l.cells) l.stride l.width l.height w narrow fits inside
-
-  same_lent : SameOutside (stretch_window l w its_cells) n
-  same_lent = subst (λ (v : Layout T). SameOutside v n) (is ∙ sym (layout_is false l w)) same
-
-  ends : (with_items_from (buf_of image) its_cells.start n.cells).items ≡ with_stretch l.cells its_cells n.cells
-  ends = others_of_vec (buf_of image) its_cells n.cells has.within (same_lent.length_stays ∙ length-stretch_cells l.cells its_cells has.within)
-
-  pub window_patches : grid_of (record (vec_layout image) { cells = (with_items_from (buf_of image) (window_stretch false (length (vec_layout image).cells) (stride_of image) w).start n.cells).items }) ≡ patch (grid_of (vec_layout image)) w.left w.top (grid_of n)
-  window_patches = ap (λ (cells : List T). grid_of (after cells)) ends ∙ handed_on_grid l w its_cells has n same_lent narrow inside
-
-  pub window_keeps : SameOutside (vec_layout image) (record (vec_layout image) { cells = (with_items_from (buf_of image) (window_stretch false (length (vec_layout image).cells) (stride_of image) w).start n.cells).items })
-  window_keeps = subst (λ (cells : List T). SameOutside l (after cells)) (sym ends) (handed_on_outside l w its_cells has n same_lent inside)

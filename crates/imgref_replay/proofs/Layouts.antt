@@ -12,7 +12,7 @@ use Rattle.image_model.proofs.Agreement.{PixelsAlike, agree_grid, agree_sym, agr
 use Rattle.imgref.specs.Window.{as_path}
 use Rattle.image_model.specs.Tiles.{tile_start}
 use Rattle.imgref_replay.specs.Agreement.{do_agree}
-use Rattle.imgref_replay.specs.Mosaic.{mosaic}
+use Rattle.image_mosaics.specs.Mosaic.{mosaic}
 use Rattle.imgref_replay.specs.Commands.{grid_at, window_named, view_named, lacks_image, leaves_image, image_faults, window_faults, place_faults, pair_faults, copy_faults, lacks_tile, tile_faults, patched_at, meaning}
 use Rattle.imgref_replay.specs.Step.{first_fault, fault_of, reply_to, after}
 use Rattle.imgref_replay.specs.Run.{replies_to, after_all}

@@ -1,4 +1,4 @@
--- What the walk of `into_window_at` hands on, as machine values: the parts of an image, and the answers of `region_at` and of itself.
+-- What the proof by hand of `into_window_at` passes on, as machine values: the parts of an image, and the answers of `region_at` and of itself.
 use mathlib.Core.Path.{◌≡◌, refl, ◌∙◌}
 use mathlib.Core.Logic.{◌⊎◌, inl, inr}
 use Prim.Native.Nat.{ℕ, ◌^◌, ◌<◌}

@@ -8,7 +8,7 @@ use Rattle.imgref.specs.Image.{vec_layout}
 use Rattle.imgref.specs.declared.img.Img.{Img}
 use Rattle.imgref.specs.Window.{as_path}
 use Rattle.imgref_replay.specs.Agreement.{do_agree}
-use Rattle.imgref_replay.specs.Mosaic.{mosaic}
+use Rattle.image_mosaics.specs.Mosaic.{mosaic}
 use Rattle.imgref_replay.specs.declared.commands.Place.{Place}
 use Rattle.imgref_replay.specs.declared.commands.Command.{Command}
 use Rattle.imgref_replay.specs.declared.commands.Command.TheVariants.{Get, Put, Fill, Count, Same, Blit, Mosaic, Compact}

@@ -11,51 +11,73 @@ pub struct Place {
     pub path: Vec<Window>,
 }
 
-/// What is done to images, or asked of them.
+/// What is done to images, or asked of them. Columns and rows count from 0, sizes are in pixels.
+///
+/// The rule of each command is its row in the table `meaning` (`specs/Commands`).
 #[derive(Drop)]
 pub enum Command<T> {
     /// The pixel at column `x` of row `y` of a window.
     Get {
+        /// The window.
         spot: Place,
+        /// The column in the window.
         x: usize,
+        /// The row in the window.
         y: usize,
     },
     /// `value` is written at column `x` of row `y` of a window.
     Put {
+        /// The window.
         spot: Place,
+        /// The column in the window.
         x: usize,
+        /// The row in the window.
         y: usize,
+        /// The new pixel.
         value: T,
     },
     /// `value` is written at every place of a window.
     Fill {
+        /// The window.
         spot: Place,
+        /// The new pixel.
         value: T,
     },
     /// How many pixels of a window are equal to `value`.
     Count {
+        /// The window.
         spot: Place,
+        /// The pixel that is looked for.
         value: T,
     },
     /// Whether two windows have one size, and equal pixels at every place.
     Same {
+        /// The one window.
         first: Place,
+        /// The other window.
         second: Place,
     },
-    /// The pixels of a window are written over those of another of its size, as they were before.
+    /// The old pixels of a window are written over those of another of its size, overlapping or not.
     Blit {
+        /// The window that is read.
         source: Place,
+        /// The window that is written.
         target: Place,
     },
-    /// Every place of a window gets the pixel, as it was before, at the corner of its tile: tiles of
-    /// `tile_width` by `tile_height`, cut at the window's right and lower edge.
+    /// Every place of a window gets the old pixel at the corner of its tile. The tiles begin at the
+    /// window's corner, and are cut at its right and lower edge.
     Mosaic {
+        /// The window.
         spot: Place,
+        /// The width of a tile; 0 is refused.
         tile_width: usize,
+        /// The height of a tile; 0 is refused.
         tile_height: usize,
     },
-    /// An image loses all cells that are no pixel: its buffer becomes its rows one after the other.
+    /// An image loses its padding: its buffer becomes its rows one after the other, and its stride
+    /// the width, or 1 at width 0.
     Compact {
+        /// The number of the image, from 0.
         image: usize,
     },
 }
@@ -67,7 +89,7 @@ pub enum Reply<T> {
     Pixel(T),
     /// How many pixels there are.
     Counted(usize),
-    /// Whether it is so.
+    /// Whether the two windows are equal.
     Truth(bool),
     /// The command was carried out.
     Done,
@@ -75,7 +97,7 @@ pub enum Reply<T> {
     Refused(Refusal),
 }
 
-/// The first fault of a command.
+/// The first fault of a command. They are tested in this order.
 #[derive(Clone, Copy, PartialEq, Eq)]
 pub enum Refusal {
     /// The image number isn't below the number of images.

@@ -4,26 +4,12 @@ ghost use Rattle.std.specs.Prelude.{◌≡◌, ◌≢◌, ◌<◌, All, length, 
 ghost use Rattle.image_model.specs.Layout.{Fits, SameOutside};
 ghost use Rattle.image_model.specs.Grid.{grid_of, patch};
 ghost use Rattle.image_model.specs.Windows.{IsInside, window_view};
-ghost use Rattle.imgref.specs.Shape.{shape_width, shape_height, shaped};
-ghost use Rattle.imgref.specs.Image.{vec_layout, ref_layout, width_of, height_of};
+ghost use Rattle.imgref.specs.Image.{vec_layout, width_of, height_of};
 ghost use Rattle.imgref.specs.Window.{as_window};
 ghost use Rattle.imgref_replay.specs.Commands.{grids_of, grid_at};
 ghost use Rattle.imgref_replay.specs.Step.{ShowsCopy};
 
-use imgref::{ImgRef, ImgRefMut, ImgVec, Shape, Window};
-
-/// The pixels that these cells have in this shape become those of another image.
-fn copy_cells<T: Copy>(cells: &mut [T], shape: Shape, source: ImgRef<'_, T>)
-    requires fits { Fits (shaped cells.old shape) }
-    requires source_fits { Fits (ref_layout source) }
-    requires same_width { width_of source ≡ shape_width shape }
-    requires same_height { height_of source ≡ shape_height shape }
-    ensures grid { grid_of (shaped cells.new shape) ≡ grid_of (ref_layout source.entry) }
-    ensures outside { SameOutside (shaped cells.old shape) (shaped cells.new shape) }
-{
-    let mut image = ImgRefMut::from_parts(cells, shape);
-    image.copy_from(source);
-}
+use imgref::{ImgVec, Window};
 
 /// Copies a window of one image over a window of its size in another image.
 fn copy_over<T: Copy>(image: &mut ImgVec<T>, to: Window, source: &ImgVec<T>, from: Window)
@@ -38,8 +24,7 @@ fn copy_over<T: Copy>(image: &mut ImgVec<T>, to: Window, source: &ImgVec<T>, fro
     ensures fits { Fits (vec_layout image.new) }
 {
     let seen = source.sub_image(from.left, from.top, from.width, from.height);
-    let (cells, shape) = image.window_parts_mut(to.left, to.top, to.width, to.height);
-    copy_cells(cells, shape, seen);
+    image.copy_window(to.left, to.top, seen);
 }
 
 /// Copies a window of one image of a list over a window of its size in another image of it.

@@ -78,9 +78,16 @@ fn region_at(cells: usize, shape: Shape, path: &[Window]) -> Result<(Stretch, Sh
     Ok((stretch, inner))
 }
 
-/// The nested window that a path leads to: `path_layout` of the image, which fits. The empty path
-/// is the whole image. Where a window of the path isn't inside the size before it, the number of
-/// the first such window, from 0. The image fits.
+/// The nested window that a path leads to, over the image's own cells: `path_layout` of the image.
+/// Its corner is the sum of the path's corners, and the empty path is the whole image.
+///
+/// # Requires
+///
+/// The image fits: `is_valid`.
+///
+/// # Errors
+///
+/// The number, from 0, of the first window of the path that isn't inside the size before it.
 pub fn window_at<'s, T>(img: ImgRef<'s, T>, path: &[Window]) -> Result<ImgRef<'s, T>, usize>
     requires fits { Fits (ref_layout img) }
     ensures outside { result_err result ≡ first_outside (width_of img.entry) (height_of img.entry) (as_path path.now) }
@@ -95,9 +102,16 @@ pub fn window_at<'s, T>(img: ImgRef<'s, T>, path: &[Window]) -> Result<ImgRef<'s
     Ok(ImgRef::from_parts(&cells[stretch.start..end], inner))
 }
 
-/// The same for writing, in place of the image: once the borrow ends, the image has what was left in
-/// the window's cells, and every other cell is as it was. Where a window is outside, the borrow ends
-/// here, with no cell changed.
+/// The window of `window_at` for writing, in place of the image. Once the borrow ends, the image
+/// has what was left in the window's cells, and every other cell is as it was.
+///
+/// # Requires
+///
+/// The image fits: `is_valid`.
+///
+/// # Errors
+///
+/// As `window_at`. The borrow then ends here, with no cell changed.
 pub fn into_window_at<'s, T>(
     img: ImgRefMut<'s, T>,
     path: &[Window],

@@ -12,11 +12,17 @@ use crate::step::step;
 use imgref::ImgVec;
 use std::alloc::{AllocError, Global};
 
-/// Carries out the commands from the first to the last, and writes the reply to each over what
-/// `replies` held there. Replies and new pixels are what the commands mean on grids (`replies_to`
-/// and `after_all`): a command with a fault is refused by its first one and changes nothing. Each
-/// image fits again. It keeps its stride, length and padding until it is compacted, and is exactly
-/// its rows, one after the other, from then on (`IsRun`).
+/// Carries out the commands from the first to the last, and writes the reply to each into
+/// `replies`. It takes no memory.
+///
+/// Replies and new pixels are what the commands mean on grids (`replies_to`, `after_all`), whatever
+/// strides and padding. A command with a fault is refused by its first one and changes nothing.
+/// Each image fits again. It keeps its stride, length and padding until it is compacted, and is
+/// exactly its joined rows from then on (`IsRun`).
+///
+/// # Requires
+///
+/// Every image fits (`is_valid`), and `replies` is as long as `commands`.
 pub fn replay_into<T: Copy + Eq>(
     images: &mut [ImgVec<T>],
     commands: &[Command<T>],
@@ -31,9 +37,16 @@ pub fn replay_into<T: Copy + Eq>(
     }
 }
 
-/// Carries out the commands as `replay_into` does, and answers the replies, one for each command
-/// and in order. Room for all of them is taken before the first command: where it is refused, no
-/// image has changed.
+/// Carries out the commands as `replay_into` does, and gives the replies, one for each command and
+/// in order.
+///
+/// # Requires
+///
+/// Every image fits (`is_valid`).
+///
+/// # Errors
+///
+/// Out of memory. Room for all replies is taken before the first command, so no image has changed.
 pub fn replay<T: Copy + Eq>(
     alloc: Global,
     images: &mut [ImgVec<T>],
@@ -51,7 +64,12 @@ pub fn replay<T: Copy + Eq>(
 
 /// Carries out the same commands as `replay_into` does over two lists of images of the same sizes
 /// and pixels, whatever the strides and paddings of each. The replies are the same afterwards and
-/// the images have the same pixels, as the pixel's `==` tells.
+/// the images have the same pixels, as the pixel's `==` tells. It takes no memory.
+///
+/// # Requires
+///
+/// Every image fits (`is_valid`), and the two of each number agree (`same_pixels`). Both lists of
+/// replies are as long as `commands`.
 pub fn two_layouts<T: Copy + Eq>(
     a: &mut [ImgVec<T>],
     b: &mut [ImgVec<T>],

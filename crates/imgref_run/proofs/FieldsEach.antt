@@ -2,7 +2,7 @@
 use Rattle.std.proofs.Common.{◌≡◌, ℕ, List, [], ◌∷◌, ◌++◌, Option, Some, None, refl, sym, ap, ◌∙◌, append_assoc}
 use Rattle.std.specs.Option.{option_map}
 use Rattle.std.proofs.lemmas.List.{append-nil}
-use Rattle.imgref_run.specs.Reading.{each_of, ◌>>=◌}
+use Rattle.text_model.specs.Reading.{each_of, ◌>>=◌}
 
 -- what is read, after what was read before
 abbrev pub with_front : {A : Type 0} → List A → Option (List A) → Option (List A)

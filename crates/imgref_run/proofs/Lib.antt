@@ -1,10 +1,5 @@
-pub mod DeviceBytes
-pub mod FieldNumbers
-pub mod PartsCut
-pub mod PartsJoined
-pub mod Options
 pub mod FieldsEach
-pub mod FieldTexts
+pub mod PathTexts
 pub mod LineOrders
 pub mod LineImages
 pub mod LineTexts

@@ -6,12 +6,13 @@ use Rattle.std.specs.Fmt.{decimal}
 use Rattle.std.proofs.lemmas.Bool.{leb-true, le-leb}
 use Rattle.image_model.specs.Layout.{Layout, layout, is_fitting}
 use Rattle.image_model.proofs.Places.{is_fitting_decides}
-use Rattle.imgref_run.specs.Fields.{IsWord, IsPixel}
+use Rattle.text_model.specs.Fields.{IsWord, IsPixel}
 use Rattle.imgref_run.specs.Line.{IsImage, image_line, entry_fields}
-use Rattle.imgref_run.specs.Reading.{◌>>=◌, number_of, number_at, each_of, pixel_of, image_in, is_sized}
-use Rattle.imgref_run.proofs.PartsJoined.{AllLack, and_parts, lacks-decimal}
-use Rattle.imgref_run.proofs.Options.{bind_some, guard_some}
-use Rattle.imgref_run.proofs.FieldTexts.{first_is, first_back, each_is, each_back, then, number_law, pixel_law}
+use Rattle.text_model.specs.Reading.{◌>>=◌, number_of, number_at, each_of, pixel_of}
+use Rattle.imgref_run.specs.Reading.{image_in, is_sized}
+use Rattle.text_model.proofs.PartsJoined.{AllLack, and_parts, lacks-decimal}
+use Rattle.text_model.proofs.Options.{bind_some, guard_some}
+use Rattle.text_model.proofs.FieldTexts.{first_is, first_back, each_is, each_back, then, number_law, pixel_law}
 
 -- an image where it is one that scripts may hold
 abbrev sized : Layout ℕ → Option (Layout ℕ)

@@ -5,14 +5,14 @@ use Rattle.std.specs.Option.{option_map}
 use Rattle.std.specs.Str.{bytes_eq}
 use Rattle.std.proofs.lemmas.Slice.Eq.{bytes_eq-Decides}
 use Rattle.imgref_run.specs.Line.{Entry, image_line, order_line, entry_fields, entry_text, entry_of, IsEntry, IsLineOf, EachTextHasOneValue}
-use Rattle.imgref_run.specs.Parts.{parts_of}
+use Rattle.text_model.specs.Parts.{parts_of}
 use Rattle.imgref_run.specs.Reading.{Gives, image_in, order_in, line_in}
 use Rattle.imgref_run.specs.declared.line.Line.{Line}
 use Rattle.imgref_run.specs.declared.fault.LineFault.{LineFault}
 use Rattle.imgref_run.specs.declared.fault.LineFault.TheVariants.{Memory, Bad}
-use Rattle.imgref_run.proofs.PartsJoined.{parts_of-join}
-use Rattle.imgref_run.proofs.Options.{some, some_is, map_some, choice}
-use Rattle.imgref_run.proofs.FieldTexts.{join_is}
+use Rattle.text_model.proofs.PartsJoined.{parts_of-join}
+use Rattle.text_model.proofs.Options.{some, some_is, map_some, choice}
+use Rattle.text_model.proofs.FieldTexts.{join_is}
 use Rattle.imgref_run.proofs.LineImages.{image_is, image_back, lacks-image}
 use Rattle.imgref_run.proofs.LineOrders.{order_is, order_back, order_word, lacks-order}
 

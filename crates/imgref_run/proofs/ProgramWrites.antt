@@ -10,7 +10,7 @@ use Rattle.imgref_run.specs.declared.fault.RunFault.{RunFault}
 use Rattle.imgref_run.specs.declared.fault.RunFault.TheVariants.{Line, Memory, Input, Output}
 use Rattle.imgref_run.specs.Fault.{reader_failures}
 use Rattle.imgref_run.specs.Line.{IsImage}
-use Rattle.imgref_run.specs.Output.{AppendsBeginning}
+use Rattle.devices.specs.Whole.{AppendsBeginning}
 use Rattle.imgref_run.specs.Program.{Writes, IsOutputOf}
 
 -- a reader at its end gave all that it had

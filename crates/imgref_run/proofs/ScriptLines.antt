@@ -1,7 +1,7 @@
 -- How many lines bytes have.
 use Rattle.std.proofs.Common.{◌≡◌, ℕ, suc, ◌+◌, ◌≤◌, Bool, true, false, cond, eqb, List, [], ◌∷◌, length, refl, arith}
 use Rattle.std.specs.List.{onto_first}
-use Rattle.imgref_run.specs.Parts.{parts_of}
+use Rattle.text_model.specs.Parts.{parts_of}
 use Rattle.imgref_run.specs.Script.{whole_lines, lines_of}
 
 one_at_most : (b : Bool) (piece : List ℕ) → length (cond b [] (piece ∷ [])) ≤ 1

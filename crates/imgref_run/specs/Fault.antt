@@ -42,7 +42,7 @@ IsReadFault Memory = Unit {0}
 IsReadFault Input = Unit {0}
 IsReadFault Output = ⊥
 
--- the fault is want of memory, or it names the first line that isn't good
+-- the fault is out of memory, or it names the first line that isn't good
 abbrev pub ExplainsBad : List (List ℕ) → RunFault → Type 0
 ExplainsBad lines (Line n) = IsFirstBad lines n
 ExplainsBad lines Memory = Unit {0}

@@ -1,36 +1,13 @@
--- Fields: the text of a number, a pixel and a path, and which of these have one.
-use Rattle.std.specs.Prelude.{ℕ, ◌<◌, ◌^◌, List, [], ◌∷◌, map}
+-- Paths: their texts, and which of them have one.
+use Rattle.std.specs.Prelude.{List, ℕ, [], ◌∷◌, map}
 use Rattle.std.specs.List.{join_with_byte, AllByRecursion}
-use Rattle.std.specs.Fmt.{decimal}
 use Rattle.image_shape.specs.declared.window.Window.{Window}
-
--- ---- texts: numbers and pixels are decimal
-
--- a window is four numbers joined by commas
-unfoldable pub window_text : Window → List ℕ
-window_text w = join_with_byte 44 (decimal w.left ∷ decimal w.top ∷ decimal w.width ∷ decimal w.height ∷ [])
+use Rattle.text_model.specs.Fields.{window_text, IsWindow}
 
 -- a path is its windows joined by slashes, or a dash where it has none
 unfoldable pub path_text : List Window → List ℕ
 path_text [] = 45 ∷ []
 path_text (w ∷ ws) = join_with_byte 47 (map window_text (w ∷ ws))
-
--- ---- ranges
-
--- a number that a field may hold
-abbrev pub IsWord : ℕ → Type 0
-IsWord n = n < 2 ^ 64
-
--- a pixel of the program
-abbrev pub IsPixel : ℕ → Type 0
-IsPixel p = p < 2 ^ 8
-
--- a window whose numbers fields may hold
-pub record IsWindow (w : Window) : Type 0 where
-  pub left : IsWord w.left
-  pub top : IsWord w.top
-  pub width : IsWord w.width
-  pub height : IsWord w.height
 
 -- a path of such windows
 abbrev pub IsPath : List Window → Type 0

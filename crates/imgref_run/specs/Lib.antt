@@ -3,7 +3,5 @@ pub mod Line
 pub mod Script
 pub mod Output
 pub mod Program
-pub mod Device
 pub mod Fault
-pub mod Parts
 pub mod Reading

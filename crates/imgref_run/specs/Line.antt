@@ -9,7 +9,8 @@ use Rattle.image_shape.specs.declared.window.Window.{Window}
 use Rattle.imgref_replay.specs.declared.commands.Place.{Place}
 use Rattle.imgref_replay.specs.declared.commands.Command.{Command}
 use Rattle.imgref_replay.specs.declared.commands.Command.TheVariants.{Get, Put, Fill, Count, Same, Blit, Mosaic, Compact}
-use Rattle.imgref_run.specs.Fields.{path_text, IsWord, IsPixel, IsPath}
+use Rattle.imgref_run.specs.Fields.{path_text, IsPath}
+use Rattle.text_model.specs.Fields.{IsWord, IsPixel}
 use Rattle.imgref_run.specs.declared.line.Line.{Line}
 use Rattle.imgref_run.specs.declared.line.Line.TheVariants.{Image, Command as Ordered}
 
@@ -159,6 +160,6 @@ pub record IsLineOf (line : List ℕ) (e : Entry) : Type 0 where
   pub text : line ≡ entry_text e
   pub only : (other : Entry) → IsEntry other → line ≡ entry_text other → other ≡ e
 
--- no text belongs to two values
+-- each line parses in at most one way
 abbrev pub EachTextHasOneValue : Type 0
 EachTextHasOneValue = (d e : Entry) → IsEntry d → IsEntry e → entry_text d ≡ entry_text e → d ≡ e

@@ -1,8 +1,7 @@
 -- The output of a run: a line for each reply, and then one for each image.
-use Rattle.std.specs.Prelude.{ℕ, ◌≤◌, List, [], ◌∷◌, ◌++◌, take, length, Option, if◌then◌else◌, codes}
+use Rattle.std.specs.Prelude.{ℕ, List, [], ◌∷◌, ◌++◌, if◌then◌else◌, codes}
 use Rattle.std.specs.List.{flat_map}
 use Rattle.std.specs.Fmt.{decimal}
-use Rattle.std.specs.Io.KnownBytes.{Appends}
 use Rattle.image_model.specs.Layout.{Layout}
 use Rattle.imgref_replay.specs.declared.commands.Reply.{Reply}
 use Rattle.imgref_replay.specs.declared.commands.Reply.TheVariants.{Pixel, Counted, Truth, Done, Refused}
@@ -33,7 +32,3 @@ ended_line line = line ++ 10 ∷ []
 -- a line for each reply, and then one for each image
 abbrev pub output_text : List (Reply ℕ) → List (Layout ℕ) → List ℕ
 output_text replies images = flat_map (λ r. ended_line (reply_text r)) replies ++ flat_map (λ i. ended_line (image_text i)) images
-
--- a beginning of the text was written
-abbrev pub AppendsBeginning : Option (List ℕ) → Option (List ℕ) → List ℕ → Type 0
-AppendsBeginning old new text = (sent : ℕ) × (sent ≤ length text) × Appends old new (take sent text)

@@ -9,7 +9,8 @@ use Rattle.imgref_run.specs.declared.fault.RunFault.{RunFault}
 use Rattle.imgref_run.specs.declared.fault.RunFault.TheVariants.{Line, Memory, Input, Output}
 use Rattle.imgref_run.specs.Line.{order_of, image_text}
 use Rattle.imgref_run.specs.Script.{lines_of, IsScript, AreGood, IsFirstBad}
-use Rattle.imgref_run.specs.Output.{output_text, AppendsBeginning}
+use Rattle.imgref_run.specs.Output.{output_text}
+use Rattle.devices.specs.Whole.{AppendsBeginning}
 
 -- the input is a script, and the text is its output: that of the replies to its commands, and of its images after them; the lines of these images are themselves the script of these images
 pub record IsOutputOf (input text : List ℕ) : Type 0 where

@@ -3,7 +3,7 @@ use Rattle.std.specs.Prelude.{◌≡◌, ℕ, ◌-◌, ◌<◌, ◌≤◌, List,
 use Rattle.std.specs.List.{AllByRecursion, slice_index_or}
 use Rattle.image_model.specs.Layout.{Layout}
 use Rattle.imgref.specs.Image.{vec_layout}
-use Rattle.imgref_run.specs.Parts.{parts_of}
+use Rattle.text_model.specs.Parts.{parts_of}
 use Rattle.imgref_run.specs.Line.{Order, order_of, Entry, image_line, order_line, entry_text, image_text, order_text, IsImage, IsOrder, IsEntry}
 use Rattle.imgref_run.specs.declared.script.Script.{Script}
 

@@ -1,98 +1,108 @@
-use crate::fixtures::{Failing, STORED, STORED_OUTPUT, Sink, Source, run_or_memory};
-use crate::{Counted, RunFault, run};
+//! Devices: that they are asked as often as is due, and what is told where one fails. The scripts
+//! that a run is tried on stand in the folder cases/.
+
+use crate::fixtures::{Due, Failing, STORED, STORED_OUTPUT, Sink, Source, calls_of};
+use crate::{Counted, RunFault};
 use std::alloc::Global;
 use std::io::{ErrorKind, Read, Write};
 use std::process::Abort;
 use std::test::Fail;
 
-#[test]
-fn a_byte_a_call_gives_the_same(rt: HostRuntime) -> Result<(), Fail> {
-    let source = Source::new(STORED, 1, 0);
-    let sink = Sink::new(1, Failing::Never);
-    let (fault, reader, writer) = run_or_memory(&rt, rt.alloc(), source, sink)?;
-    assert_eq!(rt; fault, None);
-    assert!(rt; writer.device().holds(STORED_OUTPUT));
-    assert_eq!(rt;
-        (reader.device().calls, writer.device().calls),
-        (STORED.len() + 1, STORED_OUTPUT.len())
-    );
-    assert_eq!(rt; writer.device().flushes, 1);
+// Runs a script by a reader and a writer of one byte a call.
+fn expect(
+    rt: &impl Abort,
+    alloc: Global,
+    script: &str,
+    fault: Option<RunFault>,
+    text: &str,
+    calls: [usize; 3],
+) -> Result<(), RunFault> {
+    let due = Due {
+        fault,
+        text,
+        failures: [0, 0],
+    };
+    let source = Source::new(script, 1, 0);
+    let found = calls_of(rt, alloc, source, Sink::new(1, Failing::Never), due)?;
+    assert!(rt; found == calls);
     Ok(())
 }
 
+// An output is flushed once, an empty one too, and a script with a bad line has none.
 #[test]
-fn an_empty_output_is_only_flushed(rt: HostRuntime) -> Result<(), Fail> {
-    let source = Source::new("", 1, 0);
-    let sink = Sink::new(1, Failing::Never);
-    let (fault, reader, writer) = run_or_memory(&rt, rt.alloc(), source, sink)?;
-    assert_eq!(rt; fault, None);
-    assert_eq!(rt; (writer.device().calls, writer.device().flushes), (0, 1));
+fn a_byte_a_call_gives_the_same(rt: HostRuntime) -> Result<(), Fail> {
+    let calls = [STORED.len() + 1, STORED_OUTPUT.len(), 1];
+    expect(&rt, rt.alloc(), STORED, None, STORED_OUTPUT, calls)?;
+    expect(&rt, rt.alloc(), "", None, "", [1, 0, 1])?;
+    let bad = Some(RunFault::Line(1));
+    expect(&rt, rt.alloc(), "get", bad, "", [4, 0, 0])?;
     Ok(())
 }
 
 #[test]
 fn a_reader_that_fails(rt: HostRuntime) -> Result<(), Fail> {
     for call in 1..=STORED.len() + 1 {
+        let due = Due {
+            fault: Some(RunFault::Input),
+            text: "",
+            failures: [1, 0],
+        };
         let source = Source::new(STORED, 1, call);
         let sink = Sink::new(1, Failing::Never);
-        let (fault, reader, writer) = run_or_memory(&rt, rt.alloc(), source, sink)?;
-        assert_eq!(rt; fault, Some(RunFault::Input), "at call {call}");
-        assert_eq!(rt; (reader.failures(), writer.failures()), (1, 0));
-        assert_eq!(rt; (writer.device().calls, writer.device().flushes), (0, 0));
+        let calls = calls_of(&rt, rt.alloc(), source, sink, due)?;
+        assert!(rt; calls == [call, 0, 0], "at call {call}");
     }
     Ok(())
 }
 
-// A writer of one byte a call that fails so leaves the first bytes of the output.
+// A writer of one byte a call that fails so leaves the first bytes of the output, and is not asked
+// again.
 fn expect_beginning(
     rt: &impl Abort,
     alloc: Global,
     failing: Failing,
     taken: usize,
+    calls: [usize; 2],
 ) -> Result<(), RunFault> {
+    let due = Due {
+        fault: Some(RunFault::Output),
+        text: STORED_OUTPUT.get(..taken).unwrap_or("?"),
+        failures: [0, 1],
+    };
     let source = Source::new(STORED, usize::MAX, 0);
-    let sink = Sink::new(1, failing);
-    let (fault, reader, writer) = run_or_memory(rt, alloc, source, sink)?;
-    assert_eq!(rt; fault, Some(RunFault::Output), "after {taken} bytes");
-    assert_eq!(rt; (reader.failures(), writer.failures()), (0, 1));
-    assert!(rt;
-        writer
-            .device()
-            .holds(STORED_OUTPUT.get(..taken).unwrap_or("?")),
-        "after {taken} bytes"
-    );
+    let found = calls_of(rt, alloc, source, Sink::new(1, failing), due)?;
+    assert!(rt; [found[1], found[2]] == calls, "after {taken} bytes");
     Ok(())
 }
 
 #[test]
 fn a_writer_that_fails(rt: HostRuntime) -> Result<(), Fail> {
-    for taken in 0..STORED_OUTPUT.len() {
-        expect_beginning(&rt, rt.alloc(), Failing::Error(taken + 1), taken)?;
-        expect_beginning(&rt, rt.alloc(), Failing::Nothing(taken + 1), taken)?;
+    let count = STORED_OUTPUT.len();
+    for taken in 0..count {
+        let calls = [taken + 1, 0];
+        expect_beginning(&rt, rt.alloc(), Failing::Error(taken + 1), taken, calls)?;
+        expect_beginning(&rt, rt.alloc(), Failing::Nothing(taken + 1), taken, calls)?;
     }
+    expect_beginning(&rt, rt.alloc(), Failing::Flush, count, [count, 1])?;
     Ok(())
 }
 
-#[test]
-fn a_flush_that_fails(rt: HostRuntime) -> Result<(), Fail> {
-    expect_beginning(&rt, rt.alloc(), Failing::Flush, STORED_OUTPUT.len())?;
-    Ok(())
-}
-
-// With ample memory the output comes. Where a growth is refused, the answer is `Memory` and nothing
-// was written: the devices take no memory themselves.
-#[test]
-fn memory_is_found_or_nothing_is_written(rt: HostRuntime) {
-    let mut reader = Counted::new(Source::new(STORED, 1, 0));
-    let mut writer = Counted::new(Sink::new(1, Failing::Never));
-    match run(rt.alloc(), &mut reader, &mut writer) {
-        Ok(()) => assert!(rt; writer.device().holds(STORED_OUTPUT)),
-        Err(fault) => {
-            assert_eq!(rt; fault, RunFault::Memory);
-            assert_eq!(rt; writer.device().calls, 0);
-        }
+// Whether a read answers so many bytes, or else the source's error, and the failures and the calls
+// that are counted then.
+fn reads(
+    reader: &mut Counted<Source<'_>>,
+    place: &mut [u8; 4],
+    due: Option<usize>,
+    counts: (u64, usize),
+) -> bool {
+    if reader.failures() == u64::MAX {
+        return false;
     }
-    assert_eq!(rt; (reader.failures(), writer.failures()), (0, 0));
+    let is_due = match reader.read(place) {
+        Ok(count) => due == Some(count),
+        Err(error) => due.is_none() && error.kind() == ErrorKind::Interrupted,
+    };
+    is_due && (reader.failures(), reader.device().calls) == counts
 }
 
 // A counted reader asks its device once a call, and passes on what that answers: an error, some
@@ -101,50 +111,56 @@ fn memory_is_found_or_nothing_is_written(rt: HostRuntime) {
 fn a_counted_reader_asks_once(rt: HostRuntime) {
     let mut place = [0; 4];
     let mut reader = Counted::new(Source::new("abc", usize::MAX, 1));
-    let refused = reader.read(&mut place);
-    assert_eq!(rt;
-        refused.err().map(|e| e.kind()),
-        Some(ErrorKind::Interrupted)
-    );
-    assert_eq!(rt; (reader.failures(), reader.device().calls), (1, 1));
-    let given = reader.read(&mut place);
-    assert_eq!(rt; (given.ok(), place), (Some(3), *b"abc\0"));
-    assert_eq!(rt; (reader.failures(), reader.device().calls), (1, 2));
-    let end = reader.read(&mut place);
-    assert_eq!(rt; (end.ok(), place), (Some(0), *b"abc\0"));
-    assert_eq!(rt; (reader.failures(), reader.device().calls), (1, 3));
+    assert!(rt; reads(&mut reader, &mut place, None, (1, 1)));
+    assert!(rt; reads(&mut reader, &mut place, Some(3), (1, 2)));
+    assert!(rt; reads(&mut reader, &mut place, Some(0), (1, 3)));
+    assert!(rt; place == *b"abc\0");
+}
+
+// Whether a write answers so many bytes, or else the sink's error, and the failures and the calls
+// that are counted then.
+fn writes(
+    writer: &mut Counted<Sink>,
+    piece: &[u8],
+    due: Option<usize>,
+    counts: (u64, usize),
+) -> bool {
+    if writer.failures() == u64::MAX {
+        return false;
+    }
+    let is_due = match writer.write(piece) {
+        Ok(count) => due == Some(count),
+        Err(error) => due.is_none() && error.kind() == ErrorKind::Interrupted,
+    };
+    is_due && (writer.failures(), writer.device().calls) == counts
+}
+
+// The same of a flush, with the flushes that are counted.
+fn flushes(writer: &mut Counted<Sink>, is_ok: bool, counts: (u64, usize)) -> bool {
+    if writer.failures() == u64::MAX {
+        return false;
+    }
+    let is_due = match writer.flush() {
+        Ok(()) => is_ok,
+        Err(error) => !is_ok && error.kind() == ErrorKind::Interrupted,
+    };
+    is_due && (writer.failures(), writer.device().flushes) == counts
 }
 
 // So does a counted writer. An answer of no byte is a failure where there was one to take.
 #[test]
 fn a_counted_writer_asks_once(rt: HostRuntime) {
     let mut writer = Counted::new(Sink::new(2, Failing::Error(2)));
-    assert_eq!(rt; writer.write(b"xyz").ok(), Some(2));
-    assert_eq!(rt; (writer.failures(), writer.device().calls), (0, 1));
-    let refused = writer.write(b"z");
-    assert_eq!(rt;
-        refused.err().map(|e| e.kind()),
-        Some(ErrorKind::Interrupted)
-    );
-    assert_eq!(rt; (writer.failures(), writer.device().calls), (1, 2));
+    assert!(rt; writes(&mut writer, b"xyz", Some(2), (0, 1)));
+    assert!(rt; writes(&mut writer, b"z", None, (1, 2)) && writer.device().holds("xy"));
 
     let mut writer = Counted::new(Sink::new(2, Failing::Nothing(1)));
-    assert_eq!(rt; writer.write(b"x").ok(), Some(0));
-    assert_eq!(rt; (writer.failures(), writer.device().calls), (1, 1));
-    assert_eq!(rt; writer.write(b"").ok(), Some(0));
-    assert_eq!(rt; (writer.failures(), writer.device().calls), (1, 2));
-    assert!(rt; writer.flush().is_ok());
-    assert_eq!(rt; (writer.failures(), writer.device().flushes), (1, 1));
-    assert!(rt; writer.device().holds(""));
+    assert!(rt; writes(&mut writer, b"x", Some(0), (1, 1)));
+    assert!(rt; writes(&mut writer, b"", Some(0), (1, 2)));
+    assert!(rt; flushes(&mut writer, true, (1, 1)) && writer.device().holds(""));
 
     let mut writer = Counted::new(Sink::new(2, Failing::Flush));
-    let refused = writer.flush();
-    assert_eq!(rt;
-        refused.err().map(|e| e.kind()),
-        Some(ErrorKind::Interrupted)
-    );
-    assert_eq!(rt; (writer.failures(), writer.device().flushes), (1, 1));
-    assert_eq!(rt; writer.device().calls, 0);
+    assert!(rt; flushes(&mut writer, false, (1, 1)) && writer.device().calls == 0);
 }
 
 #[test]
@@ -161,8 +177,11 @@ fn faults_have_their_texts(rt: HostRuntime) -> Result<(), Fail> {
         (RunFault::Output, "fault output", 4),
     ];
     for (fault, text, status) in faults {
-        assert_eq!(rt; format!(in rt.alloc(); "{fault}")?.as_str(), text);
-        assert_eq!(rt; fault.status(), status);
+        let printed = format!(in rt.alloc(); "{fault}")?;
+        assert!(rt;
+            printed.as_str() == text && fault.status() == status,
+            "{text}"
+        );
     }
     Ok(())
 }

@@ -114,38 +114,34 @@ impl Write for Sink {
     }
 }
 
-// Runs the program, and answers its fault and both devices. Want of memory is handed on, for the
-// test to end with: nothing is written then.
-pub(crate) fn run_or_memory<'a>(
+// What is due of a run: its fault, what was written, and the failures of the reader and the writer.
+#[derive(Drop)]
+pub(crate) struct Due<'a> {
+    pub(crate) fault: Option<RunFault>,
+    pub(crate) text: &'a str,
+    pub(crate) failures: [u64; 2],
+}
+
+// Runs the program, and answers the calls of the reader and of the writer, and the flushes. Where
+// memory is refused nothing is written, and the test ends with that.
+pub(crate) fn calls_of(
     rt: &impl Abort,
     alloc: Global,
-    source: Source<'a>,
+    source: Source<'_>,
     sink: Sink,
-) -> Result<(Option<RunFault>, Counted<Source<'a>>, Counted<Sink>), RunFault> {
+    due: Due<'_>,
+) -> Result<[usize; 3], RunFault> {
     let mut reader = Counted::new(source);
     let mut writer = Counted::new(sink);
     let fault = run(alloc, &mut reader, &mut writer).err();
+    let failures = [reader.failures(), writer.failures()];
+    let sink = writer.device();
+    let calls = [reader.device().calls, sink.calls, sink.flushes];
     if fault == Some(RunFault::Memory) {
-        assert_eq!(rt; (writer.device().calls, writer.device().flushes), (0, 0));
-        assert_eq!(rt; (reader.failures(), writer.failures()), (0, 0));
+        assert!(rt; calls[1] == 0 && calls[2] == 0 && failures == [0, 0]);
         return Err(RunFault::Memory);
     }
-    Ok((fault, reader, writer))
-}
-
-// Runs a script whole, and compares the fault and what was written.
-pub(crate) fn expect_run(
-    rt: &impl Abort,
-    alloc: Global,
-    script: &str,
-    fault: Option<RunFault>,
-    output: &str,
-) -> Result<(), RunFault> {
-    let source = Source::new(script, usize::MAX, 0);
-    let sink = Sink::new(usize::MAX, Failing::Never);
-    let (found, reader, writer) = run_or_memory(rt, alloc, source, sink)?;
-    assert_eq!(rt; found, fault, "after {script}");
-    assert!(rt; writer.device().holds(output), "after {script}");
-    assert_eq!(rt; (reader.failures(), writer.failures()), (0, 0));
-    Ok(())
+    let is_due = fault == due.fault && failures == due.failures;
+    assert!(rt; is_due && sink.holds(due.text), "{}", due.text);
+    Ok(calls)
 }

@@ -2,11 +2,11 @@
 
 ghost use Rattle.std.specs.Prelude.{◌≡◌, ◌<◌, ◌+◌, IfOk, OnOk, IfErr};
 ghost use Rattle.std.specs.Io.KnownBytes.{Consumes, IsAtEnd};
-ghost use Rattle.imgref_run.specs.Device.{device_of, failures_of};
+ghost use Rattle.devices.specs.Device.{device_of, failures_of};
 ghost use Rattle.imgref_run.specs.Fault.{reader_failures, IsReadFault};
 
-use crate::device::Counted;
 use crate::fault::RunFault;
+use devices::Counted;
 use std::alloc::Global;
 use std::io::Read;
 

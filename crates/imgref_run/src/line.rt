@@ -3,15 +3,16 @@
 ghost use Rattle.std.specs.Prelude.{◌≡◌, IfOk, IsErrOf, codes};
 ghost use Rattle.imgref.specs.Image.{vec_layout};
 ghost use Rattle.imgref_run.specs.Line.{Entry, IsEntry, IsLineOf, entry_text, order_of, entry_of};
-ghost use Rattle.imgref_run.specs.Parts.{parts_of, parts_left};
+ghost use Rattle.text_model.specs.Parts.{parts_of};
+ghost use Rattle.texts.specs.Parts.{parts_left};
 ghost use Rattle.imgref_run.specs.Reading.{Gives, order_at, order_in, image_in, line_in};
 
 use crate::fault::LineFault;
-use crate::fields::{each, next, next_place};
-use crate::parts::Parts;
+use crate::fields::{each, next_place};
 use imgref::{Img, ImgVec};
 use imgref_replay::Command;
 use std::alloc::Global;
+use texts::{Parts, next};
 
 /// What a line stands for.
 #[derive(Drop)]

@@ -1,7 +1,6 @@
 //! Commands over images of bytes: a script in, a text out.
 #![tactic(auto)]
 
-mod device;
 #[cfg(test)]
 mod device_tests;
 mod fault;
@@ -11,13 +10,10 @@ mod fixtures;
 mod input;
 mod line;
 mod output;
-mod parts;
 mod program;
 mod script;
-#[cfg(test)]
-mod script_tests;
 
-pub use device::Counted;
+pub use devices::Counted;
 pub use fault::RunFault;
 pub use program::run;
 use std::process::ExitCode;

@@ -6,14 +6,15 @@ ghost use Rattle.std.specs.Fmt.{decimal};
 ghost use Rattle.std.specs.Io.KnownBytes.{Appends};
 ghost use Rattle.image_model.specs.Layout.{Fits};
 ghost use Rattle.imgref.specs.Image.{vec_layout};
-ghost use Rattle.imgref_run.specs.Device.{device_of, failures_of};
+ghost use Rattle.devices.specs.Device.{device_of, failures_of};
 ghost use Rattle.imgref_run.specs.Fault.{writer_failures};
-ghost use Rattle.imgref_run.specs.Fields.{IsPixel};
+ghost use Rattle.text_model.specs.Fields.{IsPixel};
 ghost use Rattle.imgref_run.specs.Line.{image_text, IsImage};
-ghost use Rattle.imgref_run.specs.Output.{refusal_number, reply_text, ended_line, output_text, AppendsBeginning};
+ghost use Rattle.devices.specs.Whole.{AppendsBeginning};
+ghost use Rattle.imgref_run.specs.Output.{refusal_number, reply_text, ended_line, output_text};
 
-use crate::device::Counted;
 use crate::fault::RunFault;
+use devices::Counted;
 use imgref::ImgVec;
 use imgref_replay::{Refusal, Reply};
 use std::alloc::{AllocError, Global};
@@ -97,12 +98,8 @@ pub(crate) fn write_all<W: Write>(writer: &mut Counted<W>, text: &[u8]) -> Resul
     ensures count { failures_of writer.new ≡ failures_of writer.old + writer_failures result }
     ensures fault { IfErr result (λ e. e ≡ RunFault.Output) }
 {
-    let mut sent = 0;
-    while sent < text.len() {
-        match writer.write(&text[sent..]) {
-            Ok(0) | Err(_) => return Err(RunFault::Output),
-            Ok(count) => sent += count,
-        }
+    if devices::write_all(writer, text).is_err() {
+        return Err(RunFault::Output);
     }
     match writer.flush() {
         Ok(()) => Ok(()),

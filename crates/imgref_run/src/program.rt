@@ -1,17 +1,17 @@
 //! The program on any reader and writer: a script in, its output out.
 
 ghost use Rattle.std.specs.Prelude.{◌≡◌, ◌<◌, ◌+◌, IfOk, IfErr, string_bytes};
-ghost use Rattle.imgref_run.specs.Device.{device_of, failures_of};
+ghost use Rattle.devices.specs.Device.{device_of, failures_of};
 ghost use Rattle.imgref_run.specs.Fault.{reader_failures, writer_failures, ExplainsBad};
 ghost use Rattle.imgref_run.specs.Line.{EachTextHasOneValue};
 ghost use Rattle.imgref_run.specs.Program.{IsOutputOf, Writes, ReadsAll};
 ghost use Rattle.imgref_run.specs.Script.{lines_of};
 
-use crate::device::Counted;
 use crate::fault::RunFault;
 use crate::input::read_all;
 use crate::output::{output, write_all};
 use crate::script::read_script;
+use devices::Counted;
 use imgref_replay::replay;
 use std::alloc::Global;
 use std::io::{Read, Write};

@@ -2,15 +2,15 @@
 
 ghost use Rattle.std.specs.Prelude.{◌≡◌, ◌∷◌, ◌++◌, [], List, ℕ, length, MatchOption, OnOk, IfOk, IfErr, IsErrOf};
 ghost use Rattle.imgref_run.specs.Fault.{ExplainsBad};
-ghost use Rattle.imgref_run.specs.Parts.{parts_left};
+ghost use Rattle.texts.specs.Parts.{parts_left};
 ghost use Rattle.imgref_run.specs.Script.{whole_lines, lines_of, images_of, orders_of, IsScript, IsGood, AreGood};
 
 use crate::fault::{LineFault, RunFault};
 use crate::line::{Line, read_line};
-use crate::parts::Parts;
 use imgref::ImgVec;
 use imgref_replay::Command;
 use std::alloc::Global;
+use texts::Parts;
 
 /// What a script holds.
 #[derive(Drop)]

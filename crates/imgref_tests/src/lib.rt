@@ -19,6 +19,10 @@ mod fixtures;
 #[cfg(test)]
 mod images;
 #[cfg(test)]
+mod keys;
+#[cfg(test)]
+mod memory;
+#[cfg(test)]
 mod nested_windows;
 #[cfg(test)]
 mod original;

@@ -31,6 +31,7 @@ fn the_first_cell_of_each_piece_is_written(rt: HostRuntime) -> Result<(), Fail> 
         image.buf().as_slice(),
         [0u8, 2, 3, 4, 0, 6, 7, 8, 0].as_slice()
     );
+    assert_eq!(rt; (image.width(), image.height(), image.stride()), (3, 2, 4));
     let mut cells = PADDED;
     let mut lent = Img::new_stride(cells.as_mut_slice(), 3, 2, 4);
     for piece in lent.rows_padded_mut() {
@@ -38,6 +39,7 @@ fn the_first_cell_of_each_piece_is_written(rt: HostRuntime) -> Result<(), Fail> 
             *first = 0;
         }
     }
+    assert_eq!(rt; (lent.width(), lent.height(), lent.stride()), (3, 2, 4));
     assert_eq!(rt; cells, [0u8, 2, 3, 4, 0, 6, 7, 8, 0]);
     Ok(())
 }

@@ -5,6 +5,7 @@ ghost use Rattle.imgref.specs.Image.{mut_layout, vec_layout};
 
 use crate::fixtures::{PADDED, cells_of, is_over, len_of, padded};
 use imgref::{ImgRef, ImgRefMut, ImgVec, Shape, fill_pixels};
+use imgref_callers::write_first;
 use std::test::Fail;
 
 fn add_one(image: &mut ImgVec<u8>)
@@ -112,6 +113,28 @@ fn writes_before_a_drop_stand(rt: HostRuntime) -> Result<(), Fail> {
         }
         drop(pixels);
         assert_eq!(rt; cells, left[count], "after {count}");
+    }
+    Ok(())
+}
+
+#[test]
+fn the_first_pixels_are_written(rt: HostRuntime) -> Result<(), Fail> {
+    let left = [
+        (0, PADDED),
+        (2, [0u8, 0, 3, 4, 5, 6, 7, 8, 9]),
+        (4, [0, 0, 0, 4, 0, 6, 7, 8, 9]),
+        (7, [0, 0, 0, 4, 0, 0, 0, 8, 9]),
+    ];
+    for (count, cells_left) in left {
+        let mut image = padded(rt.alloc())?;
+        assert!(rt; image.is_valid());
+        write_first(&mut image, count, 0);
+        assert_eq!(rt; image.buf().as_slice(), cells_left.as_slice(), "{count}");
+        let mut cells = PADDED;
+        let mut lent = ImgRefMut::new_stride(cells.as_mut_slice(), 3, 2, 4);
+        assert!(rt; lent.is_valid());
+        write_first(&mut lent, count, 0);
+        assert_eq!(rt; cells, cells_left, "{count}");
     }
     Ok(())
 }

@@ -1,4 +1,4 @@
--- What one name ends as by what another ends as. Assumes `Logic`.
+-- The final value of one name by that of another. Assumes `Logic`.
 use mathlib.Core.Path.{refl, ap, ◌∙◌}
 use mathlib.Core.List.{List, [], ◌∷◌, ◌++◌}
 use seplogic.Ra.Ura.{Ura}

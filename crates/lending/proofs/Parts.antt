@@ -1,4 +1,4 @@
--- Lent cells that are cut in two, and one part again, where a piece is let go: what the whole ends as. Assumes `Logic`.
+-- Lent cells that are cut in two, and one part again, where a piece is let go: the final cells of the whole. Assumes `Logic`.
 use mathlib.Core.Path.{◌≡◌, refl, sym, ap, ap₂, ◌∙◌}
 use Prim.Native.Nat.{ℕ}
 use lib.ListN.{take, drop as drop_list, take-append-drop}
@@ -27,7 +27,7 @@ module _ {M : Type 1} {𝓤 : Ura M} (𝓛 : Logic 𝓤) (R : RattleType) where
   abbrev code : L → Gv
   code = (coded_list R.coded).code
 
-  -- a slice that is let go ends as it is
+  -- the final cells of a slice that is let go are those that it has
   pub given_up : (ℓ : Lifetime) (κ : Lft) (r : MutBor L) (vs : List Val) → ent 𝓤 (sem 𝓛 ((MutSlice ℓ κ R).own_val r vs)) (sem 𝓛 (fres r.ghost_name (code r.now)))
   given_up ℓ κ r vs = qed 𝓛 (‵ ((MutSlice ℓ κ R).own_val r vs) ∷ []) ∵ fsplit3 ! $ drop ! $
       rewrite ! 0 (λ (l : L). ‵ (fobs r.ghost_name (code l))) (heres_id R r.now) refl $

@@ -39,7 +39,7 @@ cut_at {A} i n j xs e =
     sym (take-append-drop i xs)
     ∙ ap (λ (l : List A). take i xs ++ l) (sym (take-append-drop n (drop_list i xs)) ∙ ap (λ (l : List A). take n (drop_list i xs) ++ l) (drop-drop n i xs ∙ ap (λ (k : ℕ). drop_list k xs) e))
 
--- ---- the loan: xs is front, mid and back, and mid is lent
+-- ---- the borrow: xs is front, mid and back, and mid is lent
 module _ {M : Type 1} {𝓤 : Ura M} (𝓛 : Logic 𝓤) (ℓ : Lifetime) (κ : Lft) (q : Share) (b o : ℕ) (γ : GName) (R : RattleType)
     (xs front mid back : List R.Denot) (cut : xs ≡ front ++ (mid ++ back)) (p : ℕ) (on : at o (mem R).size (length front) ≡ p) (rm : Room R (length mid)) where
   open 𝓛 use {H, A}

@@ -1,4 +1,4 @@
--- What one name ends as by what another ends as.
+-- The final value of one name by that of another.
 use Rattle.std.specs.Borrow.{GName, Fml, RattleType}
 use base.Fml.{fres, fall, fwand}
 

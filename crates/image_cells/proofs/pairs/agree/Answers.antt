@@ -7,7 +7,7 @@ pub returns-then-not-f : goal.returns-then-not-f
 returns-then-not-f g c =
     let first = slice_get_read c.args.first.now (length c.args.first.now) c.loop-k.k _ refl (omega arith) c.index-first-k.is in
     let second = slice_get_read c.args.second.now (length c.args.second.now) c.loop-k.k _ refl (omega (arith, c.requires.as_many)) c.index-second-k.is in
-    (c.loop-k.k, (omega arith, record { first = _; second = _; first_is = first; second_is = second; answered = c.if-not-f.ensures }))
+    (c.loop-k.k, (omega arith, (c.loop-k.invariant, record { first = _; second = _; first_is = first; second_is = second; answered = c.if-not-f.ensures })))
 
 pub loop-k-preserved : goal.loop-k-preserved
 loop-k-preserved g c =

@@ -23,7 +23,15 @@ returns-then-not-agree g c = λ _.
     let column : pair.0 < k.width = omega (arith, pair.1.0, c.row.ensures.len) in
     let column' : pair.0 < l.width = omega (arith, column, c.width.ensures.value, c.width-2.ensures.value) in
     let line : y < k.height = omega (arith, c.height-y-end.ensures.value) in
-    (pair.0, (y, (column, (line, place_from_pair _ k l pair.0 y _ _ _ column column' c.row.ensures.value c.row-in-loop-y.ensures.value pair.1.1))))
+    record {
+      x = pair.0;
+      y = y;
+      column = column;
+      line = line;
+      rows_above = c.loop-y.invariant;
+      left_of_it = λ u before. place_from_pair _ k l u y _ _ _ (omega arith) (omega arith) c.row.ensures.value c.row-in-loop-y.ensures.value (pair.1.1.0 u before);
+      differs = place_from_pair _ k l pair.0 y _ _ _ column column' c.row.ensures.value c.row-in-loop-y.ensures.value pair.1.1.1;
+    }
 
 pub loop-y-preserved : goal.loop-y-preserved
 loop-y-preserved g c =

@@ -1,14 +1,15 @@
--- `cover_last` lends the image to an iterator, parts its last row, fills that and lets the others go: the image ends as its cells do. Assumes `Logic`.
+-- `cover_last` lends the image to an iterator and the iterator to `next_back`, fills the last row and lets the others go: the image ends as its cells do. Assumes `Logic`.
 use mathlib.Core.Path.{◌≡◌, refl, sym, ap, subst}
-use Prim.Native.Nat.{ℕ, ◌^◌, ◌<◌}
+use Prim.Native.Nat.{ℕ, zero, suc, ◌^◌, ◌<◌}
 use mathlib.Core.List.{List, [], ◌∷◌}
 use lib.ListN.{length, replicate}
 use lib.Dec.{T, lit<}
-use base.Fml.{Lft, GName, Share, feq, ftrue, fdead, fres, flft}
+use base.Fraction.{full_share}
+use base.Fml.{Lft, GName, Share, feq, ftrue, fdead, fres, fat, flft, flent}
 use base.Share
 use base.Logic.{SProp, ent, emp, id⊢, apply∗}
 use types.Logic.{sem}
-use mir.Syntax.{Args, Body, Fn, named, ty_unit, a_type, dcons, dnil, skip, seq, switch, arm}
+use mir.Syntax.{Args, Body, Fn, Local, Ty, local, named, ty_unit, a_type, dcons, dnil, skip, seq, switch, arm}
 use mir.MapTy.{inst_fn}
 use mir.Val.{Val, WT, has_ty, vptr, vunit, of_list}
 use prog.Wp.{Wp, after_seq, at_return}
@@ -18,24 +19,25 @@ use contract.Running.{tables}
 use types.Kit.{Item, Sq, any_q, ‵, ◌⊛◌, raw, later, some, at_ret, runs, ◌$◌, ◌∵◌, !, qed, by, move, keep, drop, split, split3, join, fsplit, fjoin, feq_l, feq_i, rewrite, use0, use1, use2, use3, await, pick}
 use types.Match.{live, vrt, in_variant}
 use types.Part.{whole as all_of, sub, agg}
-use types.Run.{stop, fld, hop, from, lit, addr, of_opd, unit_lit, and_then, no_more, first, switches_on, skips, exec, returns, enter}
-use types.ByLocal.{alloc_all, pass_all, free_all, look_at, look_in_at, get, get_in, get_tag, through, sets, lands_as, lands_last, env, holding, forget_but}
+use types.Run.{stop, fld, hop, from, addr, of_opd, unit_lit, and_then, no_more, first, switches_on, skips, exec, returns, enter}
+use types.ByLocal.{alloc_all, pass_all, free_all, look_at, look_in_at, get, get_in, get_tag, through, sets, lands_as, lands_last, env, holding, forget_but, take_at, give_at}
 use denote.Array.{Array}
 use denote.Builtin.{unit}
 use denote.Exit.{no}
 use denote.Follow.{follows, followed}
 use denote.FollowSlice.{finally-res}
 use denote.Laws.{shows, Is}
-use denote.Lend.{LentAgain, lends_again, comes_back}
+use denote.Lend.{LentAgain, lends_again, comes_back, lends_ref, ref_back}
+use denote.Memory.{part_at, mem}
+use borrow.Table.OneValue.{part_in_at, part_out_at}
+use types.SemTy.{Body as BorBody}
 use denote.Param.{param, copied, bounded}
 use denote.Param.Laws.{param_laws, copied_laws, copied_copy}
 use denote.RattleType.{RattleType, owns}
 use denote.Ref.{MutBor, MutRef, mut_vals, mut_Tells}
 use denote.Signature.{plain, named_lft, types_at}
-use denote.Struct.Tuple.{Tuple}
 use denote.Slice.{MutSlice}
-use denote.Model.Fixed.{row_Makes}
-use denote.Steps.{nothing, heard, owned, peeks, only}
+use denote.Steps.{nothing, heard, peeks, only}
 use denote.Triple.Call.{calls_at, calls_at_last}
 use denote.Triple.Clauses.{lasts}
 use denote.Triple.Spec.{triple_of}
@@ -54,17 +56,14 @@ use Rattle.lending.specs.Endings.{ends_as}
 use Rattle.lending.proofs.Endings.{ends_beside, ends_said}
 use Rattle.lending.proofs.Lifetimes.{Ends, begins}
 use Rattle.lending.proofs.Options.{none_or_some, none_told, some_told, some_slice, lent_val}
-use Rattle.lending.proofs.Pairs.{pair_told, pair_out}
 use Rattle.lending.proofs.Parts.{given_up}
 use Rattle.image_rows.specs.declared.ends.End.TheVariants.{Last}
 use Rattle.image_rows.specs.declared.writing.RowsIterMut.{RowsIterMut}
-use Rattle.image_rows.specs.contracts.ends.End as end_type
 use Rattle.image_rows.specs.contracts.writing.RowsIterMut as P
-use Rattle.image_rows.proofs.ends.End.TheLaws as end_laws
 use Rattle.image_rows.proofs.writing.RowsIterMut.TheLaws as laws
 use Rattle.image_rows.proofs.Values.{typed, cells_out}
-use Rattle.image_rows.specs.contracts.writing.RowsIterMut.split_end as N
-use Rattle.image_rows.proofs.writing.RowsIterMut.split_end.Met as stepping
+use Rattle.image_rows.specs.contracts.writing.RowsIterMut.next_back as N
+use Rattle.image_rows.proofs.writing.RowsIterMut.next_back.Met as stepping
 use Rattle.imgref.specs.Rows.{whole_spacing, cells_left, spacing_left, muts_left, name_of, put_back, hands_on, Yields, Moves}
 use Rattle.imgref.specs.declared.img.Img.{Img}
 use Rattle.imgref.specs.contracts.img.Img.{the_row}
@@ -83,6 +82,12 @@ use Rattle.imgref_callers.proofs.rows.cover_last.Code as compiled
 abbrev first_arm : Body → Body
 first_arm (seq (switch c (arm ks b others)) rest) = b
 first_arm _ = skip
+
+-- the type of a local
+abbrev type_of : ℕ → List Local → Ty
+type_of n [] = ty_unit
+type_of zero (local ty kind ∷ others) = ty
+type_of (suc n) (one ∷ others) = type_of n others
 
 pub cover_last_spec : {M : Type 1} → statement M
 cover_last_spec 𝓤 𝓛 𝓜 𝓡 wired X Y LX LY CY gh d gs ds gc dc bm bs bc =
@@ -119,7 +124,7 @@ cover_last_spec 𝓤 𝓛 𝓜 𝓡 wired X Y LX LY CY gh d gs ds gc dc bm bs bc
     -- [α; its end; κ₀; κ₂; κ₁; the image; the value]
     move ! (5 ∷ 2 ∷ []) $ use2 𝓛 (later (some (λ (δ : GName). ‵ ((MutRef (named 0) α Whole).own_val (record { ref_ptr = (b, o); ghost_name = δ; now = x.now }) (vptr b o ∷ [])) ⊛ ‵ (LentAgain Whole κ₀ α (Share.right q₀) γ b o δ x.now))))
     (lends_again 𝓛 Whole (named 0) κ₀ α (Share.right q₀) γ b o (named 0) x.now) $ await ! tt $ pick ! (λ δ. split ! $
-    -- [the loan; what is kept; α; its end; κ₂; κ₁; the value]
+    -- [the borrow; what is kept; α; its end; κ₂; κ₁; the value]
     let G₁ = triple_of 𝓛 (M.signature X Y) (M.spec X Y gh d gs ds 𝓛 𝓜.mem 𝓡.returns) in
     let x₁ : MutBor (Img X.Denot) = record { ref_ptr = (b, o); ghost_name = δ; now = x.now } in
     let z₁ : G₁.Ghost = (((α, (κ₁, (κ₂, tt))), (qα, (q₁, (q₂, tt))), (in₁, (in₂, tt)), (x₁, tt), (mut_vals x₁, tt)), tt) in
@@ -146,33 +151,54 @@ cover_last_spec 𝓤 𝓛 𝓜 𝓡 wired X Y LX LY CY gh d gs ds gc dc bm bs bc
     move ! (2 ∷ []) $ peeks ! Rows (Is Rows) (shows 𝓛 Rows) r (v₁ ∷ []) (λ is₁. let t₁ = told r (v₁ ∷ []) is₁ in
     rewrite ! 0 (λ (us : List Val). ‵ (Rows.own_val r us)) t₁ refl $
     lands_as ! (ap only t₁) refl (fit r (v₁ ∷ []) is₁) $
-    let last : Val = end_laws.lowered Last in
-    let EndRow : RattleType = end_type.the_row in
-    sets ! (agg ! (and_then ! (lit ! tt) (no_more !))) refl (tt, (record { fits = lit< tt }, tt)) $
+    sets ! (of_opd ! (get ! refl)) refl (fit r (v₁ ∷ []) is₁) $
     -- [the iterator; what follows; the tokens; what is kept; the end of α; the value]
+    move ! (2 ∷ []) $ split3 ! $ move ! (2 ∷ []) $ split ! $ move ! (1 ∷ []) $ drop ! $ move ! (1 ∷ []) $
+    use1 𝓛 (‵ (flft α (Share.left qα)) ⊛ ‵ (flft α (Share.right qα))) (𝓛.lfts.lft_split α qα) $ split ! $
+    use1 𝓛 (later (some (λ (p' : ℕ × Share). ‵ (flft (p'.0 ∷ α) p'.1) ⊛ raw (Ends 𝓛 α (Share.left qα) p'.0 p'.1)))) (begins 𝓛 α (Share.left qα)) $ await ! tt $ pick ! (λ p'. split ! $
+    let β : Lft = p'.0 ∷ α in let qβ : Share = p'.1 in let inside : β ⊑ α = meet_⊑_right (p'.0 ∷ []) α in
+    -- [β; its end; α; κ₂; κ₁; the iterator; what follows; what is kept; the end of α; the value]
+    take_at ! 3 $ move ! (0 ∷ 6 ∷ []) $
+    -- [local 3; the iterator; β; its end; α; κ₂; κ₁; what follows; what is kept; the end of α; the value]
+    let spelled : Ty = type_of 3 fn.locals in
+    use2 𝓛 (‵ (part_at Rows full_share r (l 3) 0)) (part_in_at 𝓛 Rows refl full_share r (l 3) 0 spelled refl (word r)) $
+    use1 𝓛 (later (some (λ (ε : GName). ‵ ((MutRef (named 0) β Rows).own_val (record { ref_ptr = (l 3, 0); ghost_name = ε; now = r }) (vptr (l 3) 0 ∷ [])) ⊛ ‵ (flent β (BorBody (mem Rows) (l 3) 0 ε)))))
+    (lends_ref 𝓛 Rows (named 0) β r (l 3) 0) $ await ! tt $ pick ! (λ ε. split ! $
+    -- [the borrow; what is kept of it; β; its end; α; κ₂; κ₁; what follows; what is kept; the end of α; the value]
+    sets ! (addr ! (from ! (stop !))) refl (tt, tt) $
     let G₂ = triple_of 𝓛 (N.signature Y) (N.spec Y 𝓛 𝓜.mem 𝓡.returns) in
-    let z₂ : G₂.Ghost = (((α, (κ₂, tt)), (qα, (q₂, tt)), (in₂, tt), (r, (Last, tt)), (word r ∷ [], (last ∷ [], tt))), tt) in
-    nothing ! $ owned ! EndRow (Is EndRow) (row_Makes EndRow end_laws.the_row_plain 𝓛) Last (last ∷ []) ([], (refl, (tt, (refl, tt)))) $ join ! $ move ! (1 ∷ 0 ∷ []) $ join ! $
-    move ! (2 ∷ []) $ split3 ! $ move ! (0 ∷ 2 ∷ []) $ join ! $ move ! (0 ∷ 2 ∷ []) $ join ! $
+    let x₂ : MutBor Sort = record { ref_ptr = (l 3, 0); ghost_name = ε; now = r } in
+    let z₂ : G₂.Ghost = (((β, (α, (κ₂, tt))), (qβ, (Share.right qα, (q₂, tt))), (inside, (⊑_trans β α κ₂ inside in₂, (in₂, tt))), (x₂, tt), (mut_vals x₂, tt)), tt) in
+    nothing ! $ move ! (1 ∷ 0 ∷ []) $ fjoin ! $
+    nothing ! $ move ! (6 ∷ 0 ∷ []) $ join ! $ move ! (5 ∷ 0 ∷ []) $ join ! $ move ! (3 ∷ 0 ∷ []) $ join ! $ join ! $
     nothing ! $ use0 𝓛 (raw (fact 𝓤 (κ₂ ⊑ Y.lives))) (fact_i 𝓤 (κ₂ ⊑ Y.lives) (emp 𝓤) inY) $ join ! $ move ! (1 ∷ 0 ∷ []) $ use2 𝓛 (raw (G₂.pre z₂)) (id⊢ 𝓤 _) $
-    -- [what the call asks; κ₁; what follows; what is kept; the end of α; the value]
-    calls_at ! fm G₂ (stepping.met 𝓤 𝓛 𝓜 𝓡 (compiled.calls-image_rows::writing::RowsIterMut::split_end 𝓡.env wired) Y LY) z₂ (and_then ! (get ! refl) (and_then ! (get ! refl) (no_more !))) (λ v₂.
+    -- [what the call asks; what is kept of the loan; the end of β; κ₁; what follows; what is kept; the end of α; the value]
+    calls_at ! fm G₂ (stepping.met 𝓤 𝓛 𝓜 𝓡 (compiled.calls-image_rows::writing::RowsIterMut::next_back 𝓡.env wired) Y LY) z₂ (and_then ! (get ! refl) (no_more !)) (λ v₂.
     let Slice : RattleType = MutSlice (named 0) α R in
     let Row : RattleType = OP.the_row Slice in
-    let Two : RattleType = Tuple (Row ∷ Rows ∷ []) in
     let Given : Type 0 = Option (MutBor (List Y.Denot)) in
-    use1 𝓛 (later (some (λ (out : Given × Sort). ((‵ (flft α qα) ⊛ ‵ (flft κ₂ q₂) ⊛ ‵ ftrue) ⊛ ‵ (Two.own_val out (v₂ ∷ []))) ⊛ some (λ (ws : (Unit {0} × Unit {0}) × (Unit {0} × Unit {0})). ‵ (lasts (N.ended Y) z₂.0.0 z₂.0.3 ws)
-    ⊛ (‵ (hands_on R Last r out.0 out.1) ⊛ raw (fact 𝓤 (Yields Last r out.0 out.1)) ⊛ raw (fact 𝓤 (Moves Last r out.0 out.1))))))) (id⊢ 𝓤 _) $
-    await ! tt $ pick ! (λ out. let m : Given = out.0 in let t : Sort = out.1 in split ! $ split ! $ move ! (2 ∷ []) $ pick ! (λ ws₂. split ! $ drop ! $ split ! $ move ! (1 ∷ []) $ split ! $
-    heard ! (Yields Last r m t) (λ steps. heard ! (Moves Last r m t) (λ moved.
-    -- [what follows the row; the tokens; the row and the iterator; κ₁; what follows; what is kept; the end of α; the value]
-    move ! (1 ∷ []) $ split3 ! $ move ! (2 ∷ []) $ drop ! $ move ! (3 ∷ []) $
-    -- [the row and the iterator; α; κ₂; what follows the row; κ₁; what follows; what is kept; the end of α; the value]
+    use1 𝓛 (later (some (λ (m : Given). ((‵ (flft β qβ) ⊛ ‵ (flft α (Share.right qα)) ⊛ ‵ (flft κ₂ q₂) ⊛ ‵ ftrue) ⊛ ‵ (Row.own_val m (v₂ ∷ []))) ⊛ some (λ (ws : Sort × Unit {0}). ‵ (lasts (N.ended Y) z₂.0.0 z₂.0.3 ws)
+    ⊛ (‵ (hands_on R Last r m ws.0) ⊛ raw (fact 𝓤 (Yields Last r m ws.0)) ⊛ raw (fact 𝓤 (Moves Last r m ws.0))))))) (id⊢ 𝓤 _) $
+    await ! tt $ pick ! (λ m. split ! $ split ! $ move ! (2 ∷ []) $ pick ! (λ ws₂. let t : Sort = ws₂.0 in split ! $ fsplit ! $ fsplit ! $ move ! (3 ∷ []) $ split3 ! $ move ! (1 ∷ []) $
+    heard ! (Yields Last r m t) (λ steps. move ! (1 ∷ []) $ heard ! (Moves Last r m t) (λ moved.
+    -- [what follows the row; how the iterator ends; its borrow; nothing; the tokens; the row; what is kept of the loan; the end of β; κ₁; what follows; what is kept; the end of α; the value]
+    move ! (4 ∷ []) $ split3 ! $ move ! (2 ∷ []) $ split ! $ move ! (1 ∷ []) $ drop ! $
+    move ! (1 ∷ 9 ∷ []) $ use2 𝓛 (later (‵ (fdead β) ⊛ ‵ (flft α (Share.left qα)))) (apply∗ 𝓤 (𝓛.A.lft β qβ) _) $ await ! tt $ split ! $
+    move ! (1 ∷ 3 ∷ []) $ use2 𝓛 (‵ (flft α qα)) (𝓛.lfts.lft_join α qα) $
+    -- [α; β is over; κ₂; what follows the row; how the iterator ends; its borrow; nothing; the row; what is kept of the loan; κ₁; what follows; what is kept; the end of α; the value]
+    move ! (1 ∷ 8 ∷ 4 ∷ []) $ use3 𝓛 (later (‵ (part_at Rows full_share t (l 3) 0))) (ref_back 𝓛 Rows β ε t (l 3) 0) $ await ! tt $
+    use1 𝓛 (some (λ (v₃ : Val). ‵ (fat full_share spelled (l 3) 0 v₃) ⊛ ‵ (Rows.own_val t (v₃ ∷ [])))) (part_out_at 𝓛 Rows refl full_share t (l 3) 0 spelled refl) $ pick ! (λ v₃. split ! $
+    move ! (1 ∷ []) $ peeks ! Rows (Is Rows) (shows 𝓛 Rows) t (v₃ ∷ []) (λ is₃. let t₃ = told t (v₃ ∷ []) is₃ in
+    rewrite ! 0 (λ (us : List Val). ‵ (Rows.own_val t us)) t₃ refl $ move ! (1 ∷ []) $ rewrite ! 0 (λ (us : Val). ‵ (fat full_share spelled (l 3) 0 us)) (ap only t₃) refl $ give_at ! 3 $
+    -- [the iterator; α; κ₂; what follows the row; its borrow; nothing; the row; κ₁; what follows; what is kept; the end of α; the value]
+    move ! (4 ∷ 5 ∷ []) $ drop ! $ drop ! $
     let A₀ : RattleType = Array R 0 in
     let Res : GName → List Y.Denot → Item 𝓤 = λ ν ys. ‵ (fres ν (A₀.coded.code ys)) in
     let given_back : ent 𝓤 (sem 𝓛 (Rows.own_val t (word t ∷ []))) (sem 𝓛 (fres (name_of t) (A₀.coded.code (cells_left t)))) =
     qed 𝓛 (‵ (Rows.own_val t (word t ∷ [])) ∷ []) ∵ use1 𝓛 (‵ ((MutSlice named_α.mir α (param 1 Y)).own_val t.cells (lent_val t.cells ∷ []))) (cells_out named_α (param 1 Y) LY₁ 𝓛 t (word t ∷ [])) $
     by ! (given_up 𝓛 (param 1 Y) named_α.mir α t.cells (lent_val t.cells ∷ [])) in
+    use1 𝓛 (Res (name_of t) (cells_left t)) given_back $ move ! (4 ∷ []) $
+    -- [the row; how the iterator's cells end; α; κ₂; what follows the row; κ₁; what follows; what is kept; the end of α; the value]
     let E = env fn.locals l in
     let rest : Body = after 6 fn.body in
     let next = any_q (after_seq 𝓤 H (Wp 𝓤 H 𝓣.C 𝓣.Λ E rest (at_return 𝓤 H E Post)) (at_return 𝓤 H E Post)) in
@@ -198,12 +224,9 @@ cover_last_spec 𝓤 𝓛 𝓜 𝓡 wired X Y LX LY CY gh d gs ds gc dc bm bs bc
     (λ (e : m ≡ None).
     let none : Val = live 0 (of_list []) in
     let at_end : t ≡ r = subst (λ (m' : Given). Moves Last r m' t) e moved in
-    rewrite ! 0 (λ (m' : Given). ‵ (Two.own_val (m', t) (v₂ ∷ []))) e refl $
-    peeks ! Two (Is Two) (shows 𝓛 Two) (None, t) (v₂ ∷ []) (λ is.
-    lands_as ! (ap only (pair_told Row Rows None t none (word t) (none_told Slice) (told t) (v₂ ∷ []) is)) refl (tt, ((record { fits = lit< tt }, tt), ((fit t _ is.1.1.1.0).1, tt))) $
-    sets ! (of_opd ! (get_in ! (fld ! refl (stop !)) (sub ! 0 refl (all_of !)))) refl (tt, (record { fits = lit< tt }, tt)) $
-    use1 𝓛 (‵ (Row.own_val None (none ∷ [])) ⊛ ‵ (Rows.own_val t (word t ∷ []))) (pair_out Row Rows None t none (word t) (none_told Slice) (told t) (v₂ ∷ []) 𝓛) $ split ! $ drop ! $
-    use1 𝓛 (Res (name_of t) (cells_left t)) given_back $
+    rewrite ! 0 (λ (m' : Given). ‵ (Row.own_val m' (v₂ ∷ []))) e refl $
+    peeks ! Row (Is Row) (shows 𝓛 Row) None (v₂ ∷ []) (λ is.
+    lands_as ! (ap only (none_told Slice (v₂ ∷ []) is)) refl (tt, (record { fits = lit< tt }, tt)) $ drop ! $
     first ! $ switches_on ! (get_tag ! (vrt ! refl (fld ! refl (stop !))) (all_of !)) $ exec ! 𝓣.C 𝓣.Λ E skip next $ skips ! $
     exec ! 𝓣.C 𝓣.Λ E rest (at_ret E Post) $ forget_but ! E (1 ∷ 2 ∷ []) refl $
     -- [how the iterator's cells end; α; κ₂; what follows the row; κ₁; what follows; what is kept; the end of α; the value]
@@ -213,15 +236,13 @@ cover_last_spec 𝓤 𝓛 𝓜 𝓡 wired X Y LX LY CY gh d gs ds gc dc bm bs bc
     (λ (found : (y : MutBor (List Y.Denot)) × (m ≡ Some y)). let y : MutBor (List Y.Denot) = found.0 in let e : m ≡ Some y = found.1 in
     let ν : GName = y.ghost_name in let full : List Y.Denot = replicate (length y.now) value in
     let some_row : Val = live 1 (of_list (lent_val y ∷ [])) in
-    rewrite ! 0 (λ (m' : Given). ‵ (Two.own_val (m', t) (v₂ ∷ []))) e refl $
-    rewrite ! 3 (λ (m' : Given). ‵ (hands_on R Last r m' t)) e refl $
-    peeks ! Two (Is Two) (shows 𝓛 Two) (Some y, t) (v₂ ∷ []) (λ is.
-    let row_ok : WT (lent_val y) = (tt, (record { fits = is.1.1.0.1.1.1.1.0.0.1.0 }, tt)) in
-    lands_as ! (ap only (pair_told Row Rows (Some y) t some_row (word t) (some_told 𝓛 (named 0) α R y) (told t) (v₂ ∷ []) is)) refl (tt, ((record { fits = lit< tt }, (row_ok, tt)), ((fit t _ is.1.1.1.0).1, tt))) $
-    sets ! (of_opd ! (get_in ! (fld ! refl (stop !)) (sub ! 0 refl (all_of !)))) refl (tt, (record { fits = lit< tt }, (row_ok, tt))) $
-    use1 𝓛 (‵ (Row.own_val (Some y) (some_row ∷ [])) ⊛ ‵ (Rows.own_val t (word t ∷ []))) (pair_out Row Rows (Some y) t some_row (word t) (some_told 𝓛 (named 0) α R y) (told t) (v₂ ∷ []) 𝓛) $ split ! $
+    rewrite ! 0 (λ (m' : Given). ‵ (Row.own_val m' (v₂ ∷ []))) e refl $
+    rewrite ! 4 (λ (m' : Given). ‵ (hands_on R Last r m' t)) e refl $
+    peeks ! Row (Is Row) (shows 𝓛 Row) (Some y) (v₂ ∷ []) (λ is. let told_y = some_told 𝓛 (named 0) α R y (v₂ ∷ []) is in
+    let row_ok : WT (lent_val y) = (tt, (record { fits = is.1.1.1.1.0.0.1.0 }, tt)) in
+    lands_as ! (ap only told_y) refl (tt, (record { fits = lit< tt }, (row_ok, tt))) $
+    rewrite ! 0 (λ (us : List Val). ‵ (Row.own_val (Some y) us)) told_y refl $
     use1 𝓛 (‵ (feq (List Val) (some_row ∷ []) (some_row ∷ [])) ⊛ ‵ (Slice.own_val y (lent_val y ∷ []))) (some_slice 𝓛 (named 0) α R y some_row) $ split ! $ drop ! $
-    move ! (1 ∷ []) $ use1 𝓛 (Res (name_of t) (cells_left t)) given_back $ move ! (1 ∷ []) $
     -- [the row; how the iterator's cells end; α; κ₂; what follows the row; κ₁; what follows; what is kept; the end of α; the value]
     first ! $ switches_on ! (get_tag ! (vrt ! refl (fld ! refl (stop !))) (all_of !)) $ exec ! 𝓣.C 𝓣.Λ E (first_arm (after 5 fn.body)) next $
     sets ! (of_opd ! (get_in ! (vrt ! refl (fld ! refl (stop !))) (in_variant ! 1 0 refl refl (all_of !)))) refl (tt, row_ok) $
@@ -246,4 +267,4 @@ cover_last_spec 𝓤 𝓛 𝓜 𝓡 wired X Y LX LY CY gh d gs ds gc dc bm bs bc
     -- [how the cells end; the row's length; its borrow; nothing; the tokens; κ₁; what follows; what is kept; the end of α]
     move ! (1 ∷ 2 ∷ 3 ∷ []) $ drop ! $ drop ! $ drop ! $ move ! (1 ∷ []) $ split3 ! $ move ! (2 ∷ []) $ drop ! $ forget_but ! E (1 ∷ 2 ∷ []) refl $ move ! (2 ∷ 0 ∷ 1 ∷ []) $ tail)))))))
     (none_or_some m)
-    ))))))))))))))))))))
+    ))))))))))))))))))))))))

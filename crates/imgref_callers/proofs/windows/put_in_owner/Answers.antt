@@ -1,23 +1,12 @@
--- The pixel of the inner window is the image's at the summed place.
-use Rattle.std.proofs.Common.{◌+◌, false, refl, arith}
-use Rattle.image_model.specs.Layout.{Layout}
-use Rattle.imgref.specs.Image.{buf_of, vec_layout}
-use Rattle.imgref.specs.Shape.{shaped}
-use Rattle.imgref.specs.Window.{as_window}
-use Rattle.imgref_callers.proofs.Writes.{of_vec, put_grid, put_outside}
+-- The clauses of the window at what is left in its cells.
+use Rattle.std.proofs.Common.{arith}
+use Rattle.image_model.proofs.Patches.{fill_in_view}
 use Rattle.imgref_callers.proofs.windows.put_in_owner.Goals as goal
 
-pub returns : goal.returns
-returns g c =
-    let a = c.args in
-    let r = c.requires in
-    let outer = c.window_parts_mut-owned in
-    let put = c.put_inside in
-    let l : Layout g.row.T.Denot = vec_layout a.image.now in
-    let n : Layout g.row.T.Denot = shaped put.new.cells outer.result.1 in
-    let ends = of_vec false l (as_window a.first) outer.ensures.holds_width r.fits r.first_inside _ n outer.ensures.layout put.ensures.outside (buf_of a.image.now) refl in
-    record {
-      grid = put_grid false l (as_window a.first) outer.ensures.holds_width r.fits r.first_inside _ n outer.ensures.layout put.ensures.outside _ ends (a.second.left + a.x) (a.second.top + a.y) a.value
-          (omega (arith, r.second_inside)) (omega (arith, r.second_inside)) put.ensures.grid;
-      outside = put_outside false l (as_window a.first) outer.ensures.holds_width r.fits r.first_inside _ n outer.ensures.layout put.ensures.outside _ ends;
-    }
+pub returns-clause-grid : goal.returns-clause-grid
+returns-clause-grid g c =
+    let patches = c.window_parts_mut-owned.ensures.grid c.put_inside.new.cells c.put_inside.ensures.outside in
+    grind (arith, fill_in_view)
+
+pub returns-clause-outside : goal.returns-clause-outside
+returns-clause-outside g c = c.window_parts_mut-owned.ensures.outside c.put_inside.new.cells c.put_inside.ensures.outside

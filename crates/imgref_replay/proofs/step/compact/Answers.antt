@@ -14,5 +14,5 @@ returns g c =
     let images = c.args.images.now in
     let i = c.args.image in
     let packing = c.as_contiguous_buf in
-    packed_image g.T.PartialEq.eq i images _ packing.follows.lender-at-none c.if-image-images.false (ap (get_or images i) c.index-images-image.is) packing.follows.holds-at-none
+    packed_image g.T.PartialEq.eq i images _ packing.follows.lender-at-none c.if-image-images.false (ap (get_or images i) c.index-images-image.is) packing.follows.holds-at-none.layout
     packing.ensures.packed packing.ensures.fits packing.ensures.grid c.requires

@@ -1,7 +1,7 @@
 -- Each part is read in turn, or none of them.
 use Rattle.std.proofs.Common.{sym}
-use Rattle.imgref_run.specs.Reading.{each_of}
-use Rattle.imgref_run.specs.Parts.{parts_left}
+use Rattle.text_model.specs.Reading.{each_of}
+use Rattle.texts.specs.Parts.{parts_left}
 use Rattle.imgref_run.proofs.FieldsEach.{each_of-more, each_of-stops, each_of-done}
 use Rattle.imgref_run.proofs.fields.each.Goals as goal
 

@@ -1,6 +1,6 @@
 use Rattle.std.proofs.Common.{◌≡◌, length}
-use Rattle.imgref_run.specs.Reading.{each_of}
-use Rattle.imgref_run.specs.Parts.{parts_left}
+use Rattle.text_model.specs.Reading.{each_of}
+use Rattle.texts.specs.Parts.{parts_left}
 use Rattle.imgref_run.proofs.FieldsEach.{with_front}
 use Rattle.imgref_run.proofs.fields.each.Given as goal
 

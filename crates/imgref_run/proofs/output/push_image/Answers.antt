@@ -2,7 +2,7 @@ use Rattle.std.proofs.Common.{◌≡◌, ◌++◌, rules, arith}
 use Rattle.std.specs.Prelude.{string_bytes}
 use Rattle.std.proofs.lemmas.List.Elements.{recursion_from_All}
 use Rattle.imgref.specs.Image.{vec_layout}
-use Rattle.imgref_run.specs.Fields.{IsPixel}
+use Rattle.text_model.specs.Fields.{IsPixel}
 use Rattle.imgref_run.specs.Line.{line_of, sizes_fields}
 use Rattle.imgref_run.proofs.OutputImages.{image_text_is, pushed_image}
 use Rattle.imgref_run.proofs.output.push_image.Goals as goal

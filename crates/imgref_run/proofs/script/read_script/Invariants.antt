@@ -1,6 +1,6 @@
 use Rattle.std.proofs.Common.{◌≡◌, ◌≤◌, length, take, drop}
 use Rattle.imgref_run.specs.Script.{images_of, orders_of}
-use Rattle.imgref_run.specs.Parts.{parts_left}
+use Rattle.texts.specs.Parts.{parts_left}
 use Rattle.imgref_run.specs.Script.{whole_lines, lines_of, IsScript, AreGood}
 use Rattle.imgref_run.proofs.script.read_script.Given as goal
 

@@ -1,4 +1,4 @@
--- `next` hands the first pixel out, and the cells that were lent follow it and those that are left. Assumes `Logic`.
+-- `next` gives the first pixel, and the cells that were lent follow it and those that are left. Assumes `Logic`.
 use mathlib.Core.Path.{◌≡◌, refl, sym, ap, ◌∙◌}
 use mathlib.Core.Bool.{true, false}
 use Prim.Native.Nat.{ℕ, ◌+◌, ◌-◌, ◌*◌, ◌≤◌, ◌<◌, ◌^◌}

@@ -1,4 +1,4 @@
--- `over` keeps the slice's own loan. Assumes `Logic`.
+-- `over` keeps the slice's own borrow. Assumes `Logic`.
 use mathlib.Core.Path.{◌≡◌, refl}
 use Prim.Native.Nat.{ℕ, ◌+◌, ◌*◌, ◌<◌, ◌≤◌, ◌^◌}
 use mathlib.Core.List.{List, [], ◌∷◌}

@@ -1,4 +1,4 @@
--- `split_end` cuts the cells that are kept off the others, and the row off those that are let go, and the cells follow the row and what is kept: a walk of its MIR by hand.
+-- `split_end` cuts the cells that are kept off the others, and the row off those that are let go, and the cells follow the row and what is kept: its MIR, proved by hand.
 use mathlib.Core.Path.{◌≡◌, refl, sym, ap}
 use Prim.Native.Nat.{ℕ, ◌+◌, ◌-◌, ◌*◌, ◌^◌, ◌<◌, ◌≤◌}
 use native.Mathlib.Omega.{arith}

@@ -1,4 +1,4 @@
--- `split_first` cuts the cells that are kept off the others, and the band off those before it, and the cells follow the band and what is kept: a walk of its MIR by hand.
+-- `split_first` cuts the cells that are kept off the others, and the band off those before it, and the cells follow the band and what is kept: its MIR, proved by hand.
 use mathlib.Core.Path.{◌≡◌, refl, sym, ap, ◌∙◌}
 use Prim.Native.Nat.{ℕ, ◌+◌, ◌-◌, ◌*◌, ◌^◌, ◌<◌, ◌≤◌}
 use native.Mathlib.Omega.{arith}

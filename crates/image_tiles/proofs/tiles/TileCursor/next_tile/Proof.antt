@@ -1,5 +1,5 @@
 -- `next_tile` counts the tiles that are left, and lends the next one on; where none is left, the cursor is given up as it is. A walk of its MIR by hand.
-use mathlib.Core.Path.{◌≡◌, refl, sym, ap, ◌∙◌}
+use mathlib.Core.Path.{◌≡◌, refl, sym, ap, ◌∙◌, subst}
 use Prim.Native.Nat.{ℕ, ◌<◌}
 use mathlib.Core.List.{List, [], ◌∷◌, ◌++◌}
 use lib.Dec.{eqb→eq, lit<}
@@ -44,7 +44,7 @@ use Rattle.imgref.specs.Image.{layout_by, mut_layout, shape_of}
 use Rattle.imgref.proofs.Values.{img_val, img_row, img_told}
 use Rattle.imgref.specs.declared.img.Img.{Img}
 use Rattle.std.specs.Prelude.{IsTrue}
-use Rattle.image_tiles.specs.Lending.{image_of, tiling_of, after_tile, name_of, NextTile, tiles_left}
+use Rattle.image_tiles.specs.Lending.{image_of, tiling_of, after_tile, name_of, IsNext, NextTile, tiles_left}
 use Rattle.image_tiles.specs.Tiling.{tile_now, windows_left, has_tile, stepped}
 use Rattle.image_tiles.specs.declared.tiles.TileCursor.{TileCursor}
 use Rattle.image_tiles.specs.contracts.tiles.TileCursor.{the_row}
@@ -88,7 +88,6 @@ next_tile_spec 𝓤 𝓛 𝓜 𝓡 wired X Y LX LY gh d gs ds bm bs =
     let γ : GName = x.ghost_name in
     let li : Layout Y.Denot = layout_by gs.cells (image_of h) in
     let before : List Window = tiles_left gs.cells h in
-    let rest : List Window = windows_left (stepped (tiling_of h)) in
     let here : Window = tile_now (tiling_of h) in
     let roomy = gh.roomy_windows in
     let FitsIn : Type 0 = Fits li in
@@ -98,7 +97,8 @@ next_tile_spec 𝓤 𝓛 𝓜 𝓡 wired X Y LX LY gh d gs ds bm bs =
     let Pair : RattleType = Counted (named 0) κ Whole in
     let F : List Y.Denot → TileCursor X.Denot = after_tile gs.cells gh.with_cells roomy h in
     let Answered : Type 0 = Option (Img (MutBor (List Y.Denot))) in
-    let Gives : Answered → Type 0 = NextTile roomy li before rest in
+    let Next : List Window → Img (MutBor (List Y.Denot)) → Type 0 = IsNext gs.cells gh.with_cells roomy h in
+    let Gives : Answered → Type 0 = NextTile gs.cells gh.with_cells roomy h before in
     let Tok : Item 𝓤 = ‵ (flft κ qs.0) ⊛ ‵ (flft κX qs.1.0) ⊛ ‵ (flft κY qs.1.1.0) ⊛ ‵ ftrue in
     let G₁ = triple_of 𝓛 (f.signature X Y) (f.spec X Y gh d gs ds 𝓛 𝓜.mem 𝓡.returns) in
     let z₁ : G₁.Ghost = ((κs, qs, (z.0.2.0, tt), (x, tt), (mut_vals x, tt)), tt) in
@@ -161,17 +161,13 @@ next_tile_spec 𝓤 𝓛 𝓜 𝓡 wired X Y LX LY gh d gs ds bm bs =
     move ! (1 ∷ 0 ∷ []) $ use2 𝓛 (raw (G₂.pre z₂)) (id⊢ 𝓤 _) $
     calls_at ! fm G₂ (lending.met 𝓤 𝓛 𝓜 𝓡 (compiled.calls-image_tiles::tiles::TileCursor::tile 𝓡.env wired) X Y LX LY gh d gs ds bm bs) z₂ (and_then ! (get ! refl) (no_more !)) (λ v₂.
     let Tile : Type 0 = Img (MutBor (List Y.Denot)) in
-    let Steps : Type 0 = windows_left (tiling_of h) ≡ here ∷ rest in
-    let Inside : Type 0 = IsInside (image_of h).width (image_of h).height here in
-    let Laid : Tile → Type 0 = λ u. mut_layout u ≡ window_layout roomy li here in
-    let Fitting : Tile → Type 0 = λ u. Fits (mut_layout u) in
-    let Viewed : Tile → Type 0 = λ u. grid_of (mut_layout u) ≡ window_view (grid_of li) here in
+    let Left : List Window = windows_left (tiling_of h) in
     use1 𝓛 (later (some (λ (u : Tile). (Tok ⊛ ‵ (Row.own_val u (v₂ ∷ []))) ⊛ some (λ (us₂ : Unit {0} × Unit {0}). ‵ (lasts (g.ended X Y gh d gs ds) z₂.0.0 z₂.0.3 us₂)
-    ⊛ (‵ (follows Whole (Array R 0) γ u.buf.ghost_name F) ⊛ raw (fact 𝓤 Steps) ⊛ raw (fact 𝓤 Inside) ⊛ raw (fact 𝓤 (Laid u)) ⊛ raw (fact 𝓤 (Fitting u)) ⊛ raw (fact 𝓤 (Viewed u))))))) (id⊢ 𝓤 _) $
+    ⊛ (‵ (follows Whole (Array R 0) γ u.buf.ghost_name F) ⊛ raw (fact 𝓤 (Next Left u))))))) (id⊢ 𝓤 _) $
     await ! tt $ pick ! (λ u. split ! $ split ! $ move ! (2 ∷ []) $ pick ! (λ us₂. split ! $ drop ! $ split ! $ move ! (1 ∷ []) $
-    split ! $ heard ! Steps (λ steps. split ! $ heard ! Inside (λ inside. split ! $ heard ! (Laid u) (λ laid. split ! $ heard ! (Fitting u) (λ fitting. heard ! (Viewed u) (λ viewed.
+    heard ! (Next Left u) (λ next.
     -- [what the cursor follows; the tokens; the tile]
-    let gives : Gives (Some u) = record { window = here; first = tiles_all_left gs.cells h fits ∙ steps; inside = inside; cells = laid; fits = fitting; shows = viewed } in
+    let gives : Gives (Some u) = subst (λ (ws : List Window). Next ws u) (sym (tiles_all_left gs.cells h fits)) next in
     move ! (2 ∷ []) $ peeks ! Row (Is Row) (shows 𝓛 Row) u (v₂ ∷ []) (λ is₂. let t₂ = img_told (named 0) κ R u (v₂ ∷ []) is₂ in
     let w₂ : Val = img_val u.buf.ref_ptr (length u.buf.now) (shape_of u) in
     rewrite ! 0 (λ (vs : List Val). ‵ (Row.own_val u vs)) (t₂.0) refl $
@@ -184,4 +180,4 @@ next_tile_spec 𝓤 𝓛 𝓜 𝓡 wired X Y LX LY gh d gs ds bm bs =
     use0 𝓛 (raw (fact 𝓤 (Gives (Some u)))) (fact_i 𝓤 (Gives (Some u)) (emp 𝓤) gives) $ move ! (1 ∷ 0 ∷ []) $ join ! $
     nothing ! $ nothing ! $ fjoin ! $
     -- [nothing of the cursor; the ensures; the answer; the tokens]
-    move ! (3 ∷ 0 ∷ 2 ∷ 1 ∷ []) $ by ! (leaves 𝓛 En stays c z (live 1 (of_list (w₂ ∷ []))) (Some u) (tt, tt) (tt, tt)))))))))))))))))))))))))
+    move ! (3 ∷ 0 ∷ 2 ∷ 1 ∷ []) $ by ! (leaves 𝓛 En stays c z (live 1 (of_list (w₂ ∷ []))) (Some u) (tt, tt) (tt, tt)))))))))))))))))))))

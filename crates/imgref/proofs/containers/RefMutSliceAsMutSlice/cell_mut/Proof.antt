@@ -61,7 +61,7 @@ use Rattle.imgref.specs.contracts.containers.RefMutSliceAsMutSlice.cell_mut.Key.
 use Rattle.imgref.proofs.containers.RefMutSliceAsMutSlice.cell_mut.Statement as stated
 use Rattle.imgref.proofs.containers.RefMutSliceAsMutSlice.cell_mut.Code as code
 
--- ---- the loan of the element at i
+-- ---- the borrow of the element at i
 module _ {M : Type 1} {𝓤 : Ura M} (𝓛 : Logic 𝓤) (ℓ : Lifetime) (κ : Lft) (q : Share) (b o : ℕ) (γ : GName) (R : RattleType) (xs : List R.Denot) (i : ℕ) (lt : i < length xs) (p : ℕ) (on : at o (mem R).size i ≡ p) where
   open 𝓛 use {H, A}
 

@@ -1,22 +1,20 @@
--- `pixels_mut` makes a cursor over all cells, which goes on under a name of the whole image. Assumes `Logic`.
+-- `pixels_mut` makes the cursor of `exact_pixels_mut`, which goes on under a name of the whole image. Assumes `Logic`.
 use mathlib.Core.Path.{◌≡◌, refl, sym, ap, ◌∙◌, subst}
-use Prim.Native.Nat.{ℕ, ◌+◌, ◌*◌, ◌<◌, ◌≤◌, ◌^◌}
-use native.Mathlib.Omega.{arith}
+use Prim.Native.Nat.{◌*◌, ◌<◌, ◌^◌}
 use mathlib.Core.List.{List, [], ◌∷◌, ◌++◌}
 use lib.ListN.{length}
 use base.Fml.{Lft, GName, ftrue, flft}
 use base.Logic.{SProp, emp, id⊢}
 use mir.Syntax.{Args, Fn, named, a_type, dcons, dnil}
 use mir.MapTy.{inst_fn}
-use mir.Val.{Val, vptr, vstruct, vcons, vnil, of_list}
+use mir.Val.{Val, vptr}
 use prog.Wp.{WpFn}
 use contract.BorrowLft.{◌⊑◌}
 use contract.Monad.{fact, fact_i}
 use contract.Running.{tables}
-use types.Kit.{Item, ‵, ◌⊛◌, raw, later, some, prop, ◌$◌, ◌∵◌, !, qed, by, move, keep, drop, split, split3, join, fsplit, fjoin, fpick, rewrite, regoal, use0, use1, use2, await, pick}
-use types.Part.{whole, sub, agg}
-use types.Run.{stop, fld, hop, from, addr, of_opd, and_then, no_more, returns, enter}
-use types.ByLocal.{alloc_all, pass_all, free_all, look_at, look_in_at, get, get_in, through, sets, lands_as}
+use types.Kit.{‵, ◌⊛◌, raw, later, some, prop, ◌$◌, ◌∵◌, !, qed, by, move, keep, drop, split, split3, join, fsplit, fjoin, rewrite, regoal, use0, use1, use2, await, pick}
+use types.Run.{stop, addr, and_then, no_more, returns, enter}
+use types.ByLocal.{alloc_all, pass_all, free_all, look_at, get, through, sets, lands_as}
 use denote.Array.{Array}
 use denote.Follow.{follows, follows_then}
 use denote.Laws.{shows, Is}
@@ -25,9 +23,7 @@ use denote.Param.Laws.{param_laws}
 use denote.RattleType.{RattleType, owns}
 use denote.Ref.{MutBor, MutRef, mut_vals, mut_Tells}
 use denote.Signature.{plain, named_lft, types_at}
-use denote.Slice.{MutSlice, slice_val}
 use denote.Steps.{nothing, heard, peeks, only}
-use denote.Struct.Tuple.{Tuple}
 use denote.Triple.Call.{calls_at}
 use denote.Triple.Clauses.{lasts}
 use denote.Triple.Spec.{triple_of}
@@ -37,36 +33,22 @@ use Rattle.std.proofs.raw_atomic.Walks.{proved_at, leaves}
 use Rattle.image_model.specs.Layout.{Layout, Fits}
 use Rattle.image_model.specs.Grid.{grid_of}
 use Rattle.image_model.specs.Rows.{pixels, grid_pixels}
-use Rattle.image_model.specs.Windows.{whole as whole_of}
-use Rattle.image_model.proofs.Stretches.{with_whole}
-use Rattle.image_shape.specs.declared.shape.Shape.{Shape}
-use Rattle.image_shape.specs.contracts.shape.Shape as shape
-use Rattle.image_shape.specs.Shape.{shaped}
 use Rattle.image_pixels.specs.Marks.{marks_of}
 use Rattle.image_pixels.specs.Pixels.{cells_left, marks_left, muts_left, name_of}
 use Rattle.image_pixels.specs.declared.pixels_mut.PixelsIterMut.{PixelsIterMut}
 use Rattle.image_pixels.specs.contracts.pixels_mut.PixelsIterMut as P
 use Rattle.image_pixels.proofs.pixels_mut.PixelsIterMut.TheLaws as laws
 use Rattle.image_pixels.proofs.Lenders.{relent, relends}
-use Rattle.image_pixels.specs.contracts.pixels_mut.PixelsIterMut.new as f
-use Rattle.image_pixels.proofs.pixels_mut.PixelsIterMut.new.Met as making
-use Rattle.imgref.specs.Image.{layout_by, with_all, shape_of}
+use Rattle.imgref.specs.contracts.img.Img.exact_pixels_mut as f
+use Rattle.imgref.proofs.img.Img.exact_pixels_mut.Met as making
+use Rattle.imgref.specs.Image.{layout_by, with_all, as_many, KeepsCount, AnyCellsFit}
 use Rattle.imgref.specs.declared.img.Img.{Img}
 use Rattle.imgref.specs.contracts.img.Img.{the_row}
-use Rattle.imgref.proofs.Values.{shape_val, shape_told, shape_made}
-use Rattle.imgref.specs.contracts.img.Img.all_parts_mut as a
-use Rattle.imgref.proofs.img.Img.all_parts_mut.Met as taking
+use Rattle.imgref.proofs.AsMany.{as_many_already, has_given, keeps_count, any_cells_fit}
 use Rattle.imgref.specs.contracts.img.Img.pixels_mut.{ended, clauses}
 use Rattle.imgref.specs.contracts.img.Img.pixels_mut.Key.{name as #self}
 use Rattle.imgref.proofs.img.Img.pixels_mut.Statement.{statement}
 use Rattle.imgref.proofs.img.Img.pixels_mut.Code as compiled
-
--- all cells and a shape, as one machine value
-abbrev both_val : ℕ × ℕ → ℕ → Shape → Val
-both_val p n s = vstruct (vcons (slice_val p n) (vcons (shape_val s) vnil))
-
-abbrev Both : Lft → RattleType → RattleType
-Both κ R = Tuple (MutSlice (named 0) κ R ∷ shape.the_row ∷ [])
 
 pub pixels_mut_spec : {M : Type 1} → statement M
 unfolding muts_left
@@ -96,10 +78,8 @@ pixels_mut_spec 𝓤 𝓛 𝓜 𝓡 wired X Y LX LY gh d gs ds bm bs =
     let Fit : Type 0 = Fits old in
     let α = named_lft 3 0 tt κs in
     let cursor : RattleType = P.the_row α R in
-    let Two : RattleType = Both κ R in
-    let Slice : RattleType = MutSlice (named 0) κ R in
-    let G₁ = triple_of 𝓛 (a.signature X Y) (a.spec X Y gh d gs ds 𝓛 𝓜.mem 𝓡.returns) in
-    let z₁ : G₁.Ghost = (((κ, (κX, (κY, tt))), (qs.0, (qs.1.0, (qs.1.1.0, tt))), z.0.2, (x, tt), (mut_vals x, tt)), tt) in
+    let G = triple_of 𝓛 (f.signature X Y) (f.spec X Y gh d gs ds 𝓛 𝓜.mem 𝓡.returns) in
+    let z₁ : G.Ghost = (((κ, (κX, (κY, tt))), (qs.0, (qs.1.0, (qs.1.1.0, tt))), z.0.2, (x, tt), (mut_vals x, tt)), tt) in
     qed 𝓛 (((‵ (flft κ qs.0) ⊛ ‵ (flft κX qs.1.0) ⊛ ‵ (flft κY qs.1.1.0) ⊛ ‵ ftrue) ⊛ ‵ (owns (types_at ps z.0.0) z.0.3 vss)) ∷ (raw (fact 𝓤 (κX ⊑ X.lives)) ⊛ raw (fact 𝓤 (κY ⊑ Y.lives)) ⊛ raw (fact 𝓤 Fit)) ∷ []) ∵
     move ! (1 ∷ []) $ split3 ! $ heard ! (κX ⊑ X.lives) (λ leX. heard ! (κY ⊑ Y.lives) (λ leY. heard ! Fit (λ fits. split ! $ move ! (1 ∷ []) $ fsplit ! $ keep ! (0 ∷ 2 ∷ []) $
     -- [the image's reference; the tokens]
@@ -110,74 +90,48 @@ pixels_mut_spec 𝓤 𝓛 𝓜 𝓡 wired X Y LX LY gh d gs ds bm bs =
     alloc_all ! (λ l. pass_all ! refl ((tt, tt), tt) $
     sets ! (addr ! (through ! refl (stop !))) refl (tt, tt) $
     nothing ! $ move ! (1 ∷ 0 ∷ []) $ join ! $ move ! (1 ∷ 0 ∷ []) $ join ! $
-    nothing ! $ use0 𝓛 (raw (fact 𝓤 (κY ⊑ Y.lives))) (fact_i 𝓤 (κY ⊑ Y.lives) (emp 𝓤) leY) $ join ! $ use0 𝓛 (raw (fact 𝓤 (κX ⊑ X.lives))) (fact_i 𝓤 (κX ⊑ X.lives) (emp 𝓤) leX) $ join ! $
-    move ! (1 ∷ 0 ∷ []) $ use2 𝓛 (raw (G₁.pre z₁)) (id⊢ 𝓤 _) $
-    calls_at ! fm G₁ (taking.met 𝓤 𝓛 𝓜 𝓡 (compiled.calls-imgref::img::Img::all_parts_mut 𝓡.env wired) X Y LX LY gh d gs ds bm bs) z₁ (and_then ! (get ! refl) (no_more !)) (λ v.
-    let Tok : Item 𝓤 = ‵ (flft κ qs.0) ⊛ ‵ (flft κX qs.1.0) ⊛ ‵ (flft κY qs.1.1.0) ⊛ ‵ ftrue in
+    use0 𝓛 (raw (fact 𝓤 Fit)) (fact_i 𝓤 Fit (emp 𝓤) fits) $ use0 𝓛 (raw (fact 𝓤 (κY ⊑ Y.lives))) (fact_i 𝓤 (κY ⊑ Y.lives) (emp 𝓤) leY) $ join ! $ use0 𝓛 (raw (fact 𝓤 (κX ⊑ X.lives))) (fact_i 𝓤 (κX ⊑ X.lives) (emp 𝓤) leX) $ join ! $
+    move ! (1 ∷ 0 ∷ []) $ use2 𝓛 (raw (G.pre z₁)) (id⊢ 𝓤 _) $
+    calls_at ! fm G (making.met 𝓤 𝓛 𝓜 𝓡 (compiled.calls-imgref::img::Img::exact_pixels_mut 𝓡.env wired) X Y LX LY gh d gs ds bm bs) z₁ (and_then ! (get ! refl) (no_more !)) (λ v.
     let F : List Y.Denot → Img X.Denot = with_all gs.cells gh.with_cells x.now in
-    use1 𝓛 (later (some (λ (p : MutBor (List Y.Denot) × Shape). (Tok ⊛ ‵ (Two.own_val p (v ∷ []))) ⊛ some (λ (ws : Unit {0} × Unit {0}). ‵ (lasts (a.ended X Y gh d gs ds) z₁.0.0 z₁.0.3 ws) ⊛ (‵ (follows Whole (Array R 0) x.ghost_name p.0.ghost_name F)
-    ⊛ raw (fact 𝓤 (p.0.now ≡ old.cells)) ⊛ raw (fact 𝓤 (p.1 ≡ shape_of x.now))))))) (id⊢ 𝓤 _) $
-    await ! tt $ pick ! (λ p. split ! $ split ! $ move ! (2 ∷ []) $ pick ! (λ ws. split ! $ drop ! $ split ! $ move ! (1 ∷ []) $
-    split ! $ heard ! (p.0.now ≡ old.cells) (λ all. heard ! (p.1 ≡ shape_of x.now) (λ same.
-    -- [what follows; the tokens; the cells and the shape]
-    move ! (2 ∷ []) $ peeks ! Two (Is Two) (shows 𝓛 Two) p (v ∷ []) (λ is.
-    let n : ℕ = length p.0.now in let sh = shape_told p.1 _ is.1.1.1.0 in let fn' : n < 2 ^ 64 = is.1.1.0.0.1.0 in
-    let has : v ∷ [] ≡ both_val p.0.ref_ptr n p.1 ∷ [] = is.1.0 ∙ (λ i. vstruct (of_list (is.1.1.0.0.0 i ++ (sh.0 i ++ []))) ∷ []) in
-    lands_as ! (ap only has) refl (tt, ((tt, (record { fits = fn' }, tt)), ((record { fits = sh.1 }, (record { fits = sh.2 }, (record { fits = sh.3 }, tt))), tt))) $
-    fpick ! (λ us. fsplit ! $ drop ! $ fsplit ! $ move ! (1 ∷ []) $ drop ! $
-    peeks ! Slice (Is Slice) (shows 𝓛 Slice) p.0 us.0 (λ isS. rewrite ! 0 (λ (vs : List Val). ‵ (Slice.own_val p.0 vs)) isS.0.0 refl $
-    -- [the cells; what follows; the tokens]
-    sets ! (of_opd ! (get_in ! (fld ! refl (stop !)) (sub ! 0 refl (whole !)))) refl (tt, (tt, (record { fits = fn' }, tt))) $
-    sets ! (of_opd ! (get_in ! (fld ! refl (stop !)) (sub ! 1 refl (whole !)))) refl (tt, (record { fits = sh.1 }, (record { fits = sh.2 }, (record { fits = sh.3 }, tt)))) $
-    sets ! (addr ! (from ! (fld ! refl (hop ! (look_in_at ! 2 (sub ! 0 refl (whole !))) (stop !))))) refl (tt, tt) $
-    sets ! (agg ! (and_then ! (get ! refl) (and_then ! (get_in ! (fld ! refl (stop !)) (sub ! 1 refl (whole !))) (no_more !)))) refl (tt, (tt, (record { fits = fn' }, tt))) $
-    let G₂ = triple_of 𝓛 (f.signature Y) (f.spec Y 𝓛 𝓜.mem 𝓡.returns) in
-    let z₂ : G₂.Ghost = (((κ, (κY, tt)), (qs.0, (qs.1.1.0, tt)), (z.0.2.1.0, tt), (p.0, (p.1, tt)), (slice_val p.0.ref_ptr n ∷ [], (shape_val p.1 ∷ [], tt))), tt) in
-    let Fit₂ : Type 0 = Fits (shaped p.0.now p.1) in let is_old : shaped p.0.now p.1 ≡ old = λ i. shaped (all i) (same i) in
-    -- [the token of the image; the cells; what follows; the tokens of the call]
-    move ! (2 ∷ []) $ split3 ! $ move ! (2 ∷ []) $ split ! $
-    -- [the token of Y; nothing; the loan's; the image's; the cells; what follows]
-    move ! (0 ∷ 1 ∷ []) $ join ! $ move ! (1 ∷ 0 ∷ []) $ join ! $
-    nothing ! $ use0 𝓛 (‵ (shape.the_row.own_val p.1 (shape_val p.1 ∷ []))) (shape_made 𝓛 p.1 sh.1 sh.2 sh.3) $ join ! $ move ! (3 ∷ 0 ∷ []) $ join ! $ move ! (1 ∷ 0 ∷ []) $ join ! $
-    use0 𝓛 (raw (fact 𝓤 Fit₂)) (fact_i 𝓤 Fit₂ (emp 𝓤) (subst Fits (sym is_old) fits)) $ use0 𝓛 (raw (fact 𝓤 (κY ⊑ Y.lives))) (fact_i 𝓤 (κY ⊑ Y.lives) (emp 𝓤) leY) $ join ! $
-    move ! (1 ∷ 0 ∷ []) $ use2 𝓛 (raw (G₂.pre z₂)) (id⊢ 𝓤 _) $
-    -- [what the call asks; the image's token; what follows]
-    calls_at ! fm G₂ (making.met 𝓤 𝓛 𝓜 𝓡 (compiled.calls-image_pixels::pixels_mut::PixelsIterMut::new 𝓡.env wired) Y LY) z₂ (and_then ! (get ! refl) (and_then ! (get ! refl) (no_more !))) (λ v₂.
-    let here : Layout Y.Denot = shaped p.0.now p.1 in
     let Sort : Type 0 = PixelsIterMut Y.Denot in
-    let Name : Sort → Type 0 = λ r. name_of r ≡ p.0.ghost_name in let Cells : Layout Y.Denot → Sort → Type 0 = λ l r. cells_left r ≡ l.cells in let Marks : Layout Y.Denot → Sort → Type 0 = λ l r. marks_left r ≡ marks_of l.width l.height l.stride in
-    let Pixels : Layout Y.Denot → Sort → Type 0 = λ l r. muts_left r ≡ pixels l in let Grid : Layout Y.Denot → Sort → Type 0 = λ l r. muts_left r ≡ grid_pixels (grid_of l) in
-    let Count : Layout Y.Denot → Sort → Type 0 = λ l r. length (muts_left r) ≡ l.width * l.height in let Countable : Sort → Type 0 = λ r. length (muts_left r) < 2 ^ 64 in
-    use1 𝓛 (later (some (λ (r : Sort). ((‵ (flft κ qs.0) ⊛ ‵ (flft κY qs.1.1.0) ⊛ ‵ ftrue) ⊛ ‵ (cursor.own_val r (v₂ ∷ []))) ⊛ some (λ (us : Unit {0} × (Unit {0} × Unit {0})). ‵ (lasts (f.ended Y) z₂.0.0 z₂.0.3 us)
-    ⊛ (raw (fact 𝓤 (Name r)) ⊛ raw (fact 𝓤 (Cells here r)) ⊛ raw (fact 𝓤 (Marks here r)) ⊛ raw (fact 𝓤 (Pixels here r)) ⊛ raw (fact 𝓤 (Grid here r)) ⊛ raw (fact 𝓤 (Count here r)) ⊛ raw (fact 𝓤 (Countable r))))))) (id⊢ 𝓤 _) $
-    await ! tt $ pick ! (λ r. split ! $ split ! $ move ! (2 ∷ []) $ pick ! (λ us₂. split ! $ drop ! $
-    split ! $ heard ! (Name r) (λ name. split ! $ heard ! (Cells here r) (λ cells. split ! $ heard ! (Marks here r) (λ marks. split ! $ heard ! (Pixels here r) (λ are_pixels. split ! $ heard ! (Grid here r) (λ grid. split ! $ heard ! (Count here r) (λ count. heard ! (Countable r) (λ countable.
-    -- [the tokens; the cursor; the image's token; what follows]
-    move ! (1 ∷ []) $ peeks ! cursor (Is cursor) (shows 𝓛 cursor) r (v₂ ∷ []) (λ is₂.
+    let Cells : Sort → Type 0 = λ r. cells_left r ≡ old.cells in let Marks : Sort → Type 0 = λ r. marks_left r ≡ marks_of old.width old.height old.stride in
+    let Pixels : Sort → Type 0 = λ r. muts_left r ≡ pixels old in let Grid : Sort → Type 0 = λ r. muts_left r ≡ grid_pixels (grid_of old) in
+    let Count : Sort → Type 0 = λ r. length (muts_left r) ≡ old.width * old.height in let Countable : Sort → Type 0 = λ r. length (muts_left r) < 2 ^ 64 in
+    use1 𝓛 (later (some (λ (r : Sort). ((‵ (flft κ qs.0) ⊛ ‵ (flft κX qs.1.0) ⊛ ‵ (flft κY qs.1.1.0) ⊛ ‵ ftrue) ⊛ ‵ (cursor.own_val r (v ∷ []))) ⊛ some (λ (us : Unit {0} × Unit {0}). ‵ (lasts (f.ended X Y gh d gs ds) z₁.0.0 z₁.0.3 us)
+    ⊛ (‵ (follows Whole (Array R 0) x.ghost_name (name_of r) F) ⊛ raw (fact 𝓤 (Cells r)) ⊛ raw (fact 𝓤 (Marks r)) ⊛ raw (fact 𝓤 (Pixels r)) ⊛ raw (fact 𝓤 (Grid r)) ⊛ raw (fact 𝓤 (Count r)) ⊛ raw (fact 𝓤 (Countable r))))))) (id⊢ 𝓤 _) $
+    await ! tt $ pick ! (λ r. split ! $ split ! $ move ! (2 ∷ []) $ pick ! (λ us. split ! $ drop ! $
+    split ! $ move ! (1 ∷ []) $ split ! $ heard ! (Cells r) (λ full. split ! $ heard ! (Marks r) (λ marks. split ! $ heard ! (Pixels r) (λ are_pixels. split ! $ heard ! (Grid r) (λ grid. split ! $ heard ! (Count r) (λ count. heard ! (Countable r) (λ countable.
+    -- [what follows; the tokens; the cursor]
+    move ! (2 ∷ []) $ peeks ! cursor (Is cursor) (shows 𝓛 cursor) r (v ∷ []) (λ is.
     let word : Val = laws.lowered α R (param_laws 1 Y LY) r in
-    let told₂ : v₂ ∷ [] ≡ word ∷ [] = (laws.lowers α R (param_laws 1 Y LY)).val_is r (v₂ ∷ []) is₂ in
-    let fit = (((laws.the_row_laws α R (param_laws 1 Y LY)).lawful 𝓛).typed r (word ∷ []) (subst (Is cursor r) told₂ is₂)).0 in
-    rewrite ! 0 (λ (vs : List Val). ‵ (cursor.own_val r vs)) told₂ refl $
-    lands_as ! (ap only told₂) refl fit $
+    let told₁ : v ∷ [] ≡ word ∷ [] = (laws.lowers α R (param_laws 1 Y LY)).val_is r (v ∷ []) is in
+    let fit = (((laws.the_row_laws α R (param_laws 1 Y LY)).lawful 𝓛).typed r (word ∷ []) (subst (Is cursor r) told₁ is)).0 in
+    rewrite ! 0 (λ (vs : List Val). ‵ (cursor.own_val r vs)) told₁ refl $
+    lands_as ! (ap only told₁) refl fit $
     -- the cursor goes on under a new name, below one of the whole
-    let cells_of : Img X.Denot → List Y.Denot = λ i. gs.cells i.buf in let full : r.cells ≡ old.cells = cells ∙ all in
-    let every : 0 + length old.cells ≤ length old.cells = omega arith in
-    let own : (ws : List Y.Denot) → length ws ≡ length r.cells → cells_of (F ws) ≡ ws = λ ws as_many. bm.others_stay x.now.buf (whole_of old.cells) ws every (as_many ∙ ap length full) ∙ with_whole old.cells ws in
-    move ! (1 ∷ []) $ split ! $ move ! (2 ∷ 0 ∷ []) $
-    use2 𝓛 (later (some (λ (δs : GName × GName). ‵ (cursor.own_val (relent r δs.0 δs.1) (word ∷ [])) ⊛ ‵ (flft κ qs.0) ⊛ ‵ (follows (Array R 0) Whole r.name δs.0 cells_of)))) (relends 𝓛 α qs.0 Whole R cells_of F r own x.now (sym full) word) $
+    let cells_of : Img X.Denot → List Y.Denot = λ i. as_many old.cells (gs.cells i.buf) in
+    let has : cells_of x.now ≡ r.cells = as_many_already old.cells old.cells refl ∙ sym full in
+    let own : (ws : List Y.Denot) → length ws ≡ length r.cells → cells_of (F ws) ≡ ws = λ ws same. let as_long : length ws ≡ length old.cells = same ∙ ap length full in
+    ap (as_many old.cells) (has_given gs.cells gh.with_cells bm.others_stay x.now ws as_long) ∙ as_many_already old.cells ws as_long in
+    -- [the cursor; what follows; the tokens]
+    move ! (2 ∷ []) $ split ! $ move ! (2 ∷ 0 ∷ []) $
+    use2 𝓛 (later (some (λ (δs : GName × GName). ‵ (cursor.own_val (relent r δs.0 δs.1) (word ∷ [])) ⊛ ‵ (flft κ qs.0) ⊛ ‵ (follows (Array R 0) Whole r.name δs.0 cells_of)))) (relends 𝓛 α qs.0 Whole R cells_of F r own x.now has word) $
     await ! tt $ pick ! (λ δs. split3 ! $
-    -- [the cursor; the loan's token; what follows the cells; the other token; the image's; what follows]
+    -- [the cursor; the borrow's token; what follows the cells; the other tokens; what follows]
     let r' : Sort = relent r δs.0 δs.1 in
-    move ! (2 ∷ []) $ rewrite ! 0 (λ (γ : GName). ‵ (follows (Array R 0) Whole γ δs.0 cells_of)) name refl $
-    move ! (5 ∷ 0 ∷ []) $ use2 𝓛 (‵ (follows Whole Whole x.ghost_name δs.0 (λ i. F (cells_of i)))) (follows_then 𝓛 Whole (Array R 0) Whole F cells_of x.ghost_name p.0.ghost_name δs.0) $
-    -- [what follows; the cursor; the loan's token; the other token; the image's]
-    move ! (4 ∷ 3 ∷ []) $ join ! $ move ! (3 ∷ 0 ∷ []) $ join ! $
+    move ! (4 ∷ 2 ∷ []) $ use2 𝓛 (‵ (follows Whole Whole x.ghost_name δs.0 (λ i. F (cells_of i)))) (follows_then 𝓛 Whole (Array R 0) Whole F cells_of x.ghost_name r.name δs.0) $
+    -- [what follows; the cursor; the borrow's token; the other tokens]
+    move ! (2 ∷ 3 ∷ []) $ join ! $
     -- [the tokens; what follows; the cursor]
     returns ! (look_at ! 0 refl) $ free_all ! refl $
-    use0 𝓛 (raw (fact 𝓤 (Countable r'))) (fact_i 𝓤 (Countable r') (emp 𝓤) countable) $ use0 𝓛 (raw (fact 𝓤 (Count old r'))) (fact_i 𝓤 (Count old r') (emp 𝓤) (subst (λ l. Count l r) is_old count)) $ join ! $
-    use0 𝓛 (raw (fact 𝓤 (Grid old r'))) (fact_i 𝓤 (Grid old r') (emp 𝓤) (subst (λ l. Grid l r) is_old grid)) $ join ! $ use0 𝓛 (raw (fact 𝓤 (Pixels old r'))) (fact_i 𝓤 (Pixels old r') (emp 𝓤) (subst (λ l. Pixels l r) is_old are_pixels)) $ join ! $
-    use0 𝓛 (raw (fact 𝓤 (Marks old r'))) (fact_i 𝓤 (Marks old r') (emp 𝓤) (subst (λ l. Marks l r) is_old marks)) $ join ! $ use0 𝓛 (raw (fact 𝓤 (Cells old r'))) (fact_i 𝓤 (Cells old r') (emp 𝓤) full) $ join ! $
+    let Fitting : Type 0 = AnyCellsFit gs.cells gh.with_cells x.now in let As_long : Type 0 = KeepsCount gs.cells gh.with_cells x.now in
+    use0 𝓛 (raw (fact 𝓤 (Countable r'))) (fact_i 𝓤 (Countable r') (emp 𝓤) countable) $ use0 𝓛 (raw (fact 𝓤 (Count r'))) (fact_i 𝓤 (Count r') (emp 𝓤) count) $ join ! $
+    use0 𝓛 (raw (fact 𝓤 (Grid r'))) (fact_i 𝓤 (Grid r') (emp 𝓤) grid) $ join ! $ use0 𝓛 (raw (fact 𝓤 (Pixels r'))) (fact_i 𝓤 (Pixels r') (emp 𝓤) are_pixels) $ join ! $
+    use0 𝓛 (raw (fact 𝓤 (Marks r'))) (fact_i 𝓤 (Marks r') (emp 𝓤) marks) $ join ! $ use0 𝓛 (raw (fact 𝓤 (Cells r'))) (fact_i 𝓤 (Cells r') (emp 𝓤) full) $ join ! $
+    use0 𝓛 (raw (fact 𝓤 Fitting)) (fact_i 𝓤 Fitting (emp 𝓤) (any_cells_fit gs.cells gh.with_cells bm.others_stay x.now fits)) $ join ! $
+    use0 𝓛 (raw (fact 𝓤 As_long)) (fact_i 𝓤 As_long (emp 𝓤) (keeps_count gs.cells gh.with_cells bm.others_stay x.now)) $ join ! $
     -- [the plain clauses; the tokens; what follows; the cursor]
     move ! (2 ∷ 0 ∷ []) $ join ! $ nothing ! $ nothing ! $ fjoin ! $
     -- [the reference; the ensures; the tokens; the cursor]
-    move ! (2 ∷ 0 ∷ 3 ∷ 1 ∷ []) $ by ! (leaves 𝓛 En stays c z word r' (tt, tt) (tt, tt)))))))))))))))))))))))))))
+    move ! (2 ∷ 0 ∷ 3 ∷ 1 ∷ []) $ by ! (leaves 𝓛 En stays c z word r' (tt, tt) (tt, tt))))))))))))))))))

@@ -5,17 +5,22 @@ use Rattle.image_model.specs.Windows.{Window, window, window_stretch, window_lay
 use Rattle.image_model.proofs.Windows.{fits_as, shows_as}
 use Rattle.image_shape.specs.Shape.{shape_width, shape_stride, shaped}
 use Rattle.image_shape.specs.Window.{as_stretch}
-use Rattle.imgref.specs.Image.{layout_by}
+use Rattle.imgref.specs.Image.{layout_by, window_buf}
 use Rattle.imgref.proofs.Numbers.{same_image}
 use Rattle.imgref.proofs.Shapes.{window_is}
+use Rattle.imgref.proofs.Writes.{window_patches, window_keeps, window_fits, window_contains}
 use Rattle.imgref.proofs.img.Img.window_parts_mut.Goals as goal
 
 pub returns : goal.returns
+unfolding window_buf
 returns g c =
     let i = c.args.self.now in
+    let cells = g.C.AsSlice.cells in
+    let with_cells = g.C.AsMutSlice.with_cells in
+    let stay = g.met.C.AsMutSlice.others_stay in
     let roomy = g.C.AsMutSlice.roomy_windows in
     let w : Window = window c.args.left c.args.top c.args.width c.args.height in
-    let l : Layout g.row.C-Item.Denot = layout_by g.C.AsSlice.cells i in
+    let l : Layout g.row.C-Item.Denot = layout_by cells i in
     let is_shape = c.shape-whole.ensures in
     let narrow = subst (λ s. shape_width s ≤ shape_stride s) is_shape c.stretch-part.ensures.holds_width in
     let at : as_stretch c.stretch-part.result ≡ window_stretch roomy (length l.cells) l.stride w =
@@ -29,6 +34,12 @@ returns g c =
         layout = is;
         fits = fits_as l narrow c.requires.fits w c.requires.inside roomy m is;
         view = shows_as l narrow c.requires.fits w c.requires.inside roomy m is;
+        width = c.window-shape.ensures.width;
+        height = c.window-shape.ensures.height;
         holds_width = narrow;
+        grid = window_patches cells with_cells stay roomy i w narrow c.requires.fits c.requires.inside m is;
+        outside = window_keeps cells with_cells stay roomy i w narrow c.requires.fits c.requires.inside m is;
+        still_fits = window_fits cells with_cells stay roomy i w narrow c.requires.fits c.requires.inside m is;
+        container = window_contains cells with_cells stay roomy i w narrow c.requires.fits c.requires.inside m is g.met.C.AsMutSlice.stretch_is_cells;
       },
     )

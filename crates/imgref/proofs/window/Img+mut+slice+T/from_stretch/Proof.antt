@@ -1,4 +1,4 @@
--- `from_stretch` lends a stretch of the cells on, and the cells follow it: a walk of its MIR by hand.
+-- `from_stretch` lends a stretch of the cells on, and the cells follow it: its MIR, proved by hand.
 use mathlib.Core.Path.{◌≡◌, refl, sym, ap, subst, ◌∙◌}
 use Prim.Native.Nat.{ℕ, ◌+◌, ◌-◌, ◌*◌, ◌^◌, ◌<◌, ◌≤◌}
 use native.Mathlib.Nat.{mul-le-mul_right}

@@ -1,4 +1,4 @@
--- `into_sub_image_mut` finds the window's stretch and shape, and lends that stretch on: a walk of its MIR by hand.
+-- `into_sub_image_mut` finds the window's stretch and shape, and lends that stretch on: its MIR, proved by hand.
 use mathlib.Core.Path.{◌≡◌, refl, sym, ap, subst, ◌∙◌}
 use Prim.Native.Nat.{◌^◌, ◌<◌}
 use mathlib.Core.List.{List, [], ◌∷◌, ◌++◌}

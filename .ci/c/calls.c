@@ -1,0 +1,221 @@
+/* Calls each function of imgref.h with random arguments, good and bad, beside a model that was written from the header alone:
+ * it goes place by place, and multiplies in 128 bits. A series of a function passes where each call answered what the model
+ * says, left exactly the model's cells, and every answer that the header gives the function was seen.
+ *
+ * Ends with the line 'N passed, M failed'. */
+#include "imgref.h"
+
+#include <stdio.h>
+#include <stdlib.h>
+#include <string.h>
+
+enum { ROUNDS = 3000, GUARD = 16 };
+
+/* ---- random numbers, the same in each run */
+
+static uint64_t state = 88172645463325252u;
+
+static size_t any(void) {
+    state ^= state << 13;
+    state ^= state >> 7;
+    state ^= state << 17;
+    return (size_t)(state >> 11);
+}
+
+/* Small, or near the end of 32 or of 64 bits. */
+static size_t any_number(void) {
+    const size_t ends[] = {0, 1, 7, UINT32_MAX, (size_t)UINT32_MAX + 1, SIZE_MAX / 2, SIZE_MAX};
+    return ends[any() % (sizeof ends / sizeof *ends)] + any() % 3 - any() % 3;
+}
+
+static size_t up_to(size_t last) { return last == SIZE_MAX ? any() : any() % (last + 1); }
+
+/* Mostly below a size, now and then at or past it. */
+static size_t near(size_t size) { return any() % 8 ? any() % (size % 64 + 1) : any() % 3 ? size : any_number(); }
+
+/* ---- the model of sizes and windows */
+
+struct sizes {
+    size_t len, width, height, stride;
+};
+
+static bool is_image(struct sizes is) {
+    if (is.stride < 1 || is.width > is.stride || is.width >> 32 || is.height >> 32) return false;
+    return !is.width || !is.height || (unsigned __int128)is.stride * (is.height - 1) + is.width <= is.len;
+}
+
+static bool is_inside(struct sizes is, struct imgref_window w) {
+    return (unsigned __int128)w.left + w.width <= is.width && (unsigned __int128)w.top + w.height <= is.height;
+}
+
+/* An image of this size, with padding and cells behind its last pixel. */
+static struct sizes sized(size_t width, size_t height) {
+    struct sizes is = {.width = width, .height = height, .stride = width + any() % 4};
+    is.stride += !is.stride;
+    is.len = (width && height ? is.stride * (height - 1) + width : 0) + any() % 5;
+    return is;
+}
+
+/* Mostly an image, else one with a number changed. */
+static struct sizes any_sizes(void) {
+    struct sizes is = sized(any() % 12, any() % 12);
+    if (any() % 6) return is;
+    switch (any() % 4) {
+    case 0: is.width = any_number(); break;
+    case 1: is.height = any_number(); break;
+    case 2: is.stride = any_number(); break;
+    default: is.len -= is.len ? any() % is.len + 1 : 0;
+    }
+    return is;
+}
+
+/* Mostly a window inside, else one with a number changed. */
+static struct imgref_window any_window(struct sizes is) {
+    size_t width = any() % (is.width % 64 + 1), height = any() % (is.height % 64 + 1);
+    struct imgref_window w = {up_to(is.width - width), up_to(is.height - height), width, height};
+    if (any() % 6) return w;
+    size_t *numbers[] = {&w.left, &w.top, &w.width, &w.height};
+    *numbers[any() % 4] = any_number();
+    return w;
+}
+
+/* ---- counting */
+
+static unsigned passed, failed;
+static bool well;
+
+/* What one call came to. */
+static void tell(bool is_well) { well = well && is_well; }
+
+static void count(const char *name, bool is_well) {
+    printf("%s: %s\n", name, is_well ? "passed" : "FAILED");
+    passed += is_well;
+    failed += !is_well;
+}
+
+/* Many calls of one function, which have to give each of these answers once at least. */
+static void series(const char *name, imgref_status (*one)(struct sizes), unsigned wanted) {
+    unsigned seen = 0;
+    well = true;
+    for (int k = 0; k < ROUNDS; k++) seen |= 1u << one(any_sizes());
+    if (seen != wanted) printf("%s: answers %x, wanted %x\n", name, seen, wanted);
+    count(name, well && seen == wanted);
+}
+
+/* ---- the calls on numbers */
+
+static imgref_status one_is_image(struct sizes is) {
+    tell(imgref_is_image(is.len, is.width, is.height, is.stride) == is_image(is));
+    return is_image(is) ? IMGREF_OK : IMGREF_NOT_AN_IMAGE;
+}
+
+static imgref_status one_has_window(struct sizes is) {
+    struct imgref_window w = any_window(is);
+    tell(imgref_has_window(is.width, is.height, w) == is_inside(is, w));
+    return is_inside(is, w) ? IMGREF_OK : IMGREF_WINDOW_OUTSIDE;
+}
+
+/* A window's first and last cell are found by going over its places. */
+static imgref_status one_window(struct sizes is) {
+    struct imgref_window w = any_window(is);
+    size_t start = 11, len = 12, wanted_start = 11, wanted_len = 12;
+    imgref_status wanted = !is_image(is) ? IMGREF_NOT_AN_IMAGE : !is_inside(is, w) ? IMGREF_WINDOW_OUTSIDE : IMGREF_OK;
+    if (wanted == IMGREF_OK) {
+        size_t first = SIZE_MAX, end = 0;
+        if (w.width && w.height)
+            for (size_t y = w.top; y < w.top + w.height; y++)
+                for (size_t x = w.left; x < w.left + w.width; x++) {
+                    size_t cell = y * is.stride + x;
+                    first = cell < first ? cell : first;
+                    end = cell + 1 > end ? cell + 1 : end;
+                }
+        wanted_start = end ? first : 0;
+        wanted_len = end ? end - first : 0;
+    }
+    imgref_status status = imgref_window(is.len, is.width, is.height, is.stride, w, &start, &len);
+    tell(status == wanted && start == wanted_start && len == wanted_len);
+    return status;
+}
+
+/* Tiles are counted by going over their corners. */
+static imgref_status one_tile(struct sizes is) {
+    size_t wide = any() % 9 ? any() % 5 : any_number(), high = any() % 9 ? any() % 5 : any_number();
+    size_t number = any() % 40, tiles = 0, given = 99;
+    const struct imgref_window before = {5, 6, 7, 8};
+    struct imgref_window tile = before, wanted_tile = before;
+    bool is_size = !(is.width >> 32) && !(is.height >> 32);
+    imgref_status wanted = !is_size ? IMGREF_NOT_AN_IMAGE : wide && high ? IMGREF_OK : IMGREF_NO_TILE;
+    if (is.width > 64 || is.height > 64) {
+        /* (too many to go over) */
+        imgref_status status = imgref_tile_count(is.width, is.height, wide, high, &given);
+        tell(status == wanted);
+        return status;
+    }
+    if (wanted == IMGREF_OK)
+        for (size_t top = 0; top < is.height; top += high < 64 ? high : 64)
+            for (size_t left = 0; left < is.width; left += wide < 64 ? wide : 64) {
+                size_t width = is.width - left < wide ? is.width - left : wide, height = is.height - top < high ? is.height - top : high;
+                if (tiles++ == number) wanted_tile = (struct imgref_window){left, top, width, height};
+            }
+    tell(imgref_tile_count(is.width, is.height, wide, high, &given) == wanted && given == (wanted == IMGREF_OK ? tiles : 99));
+    if (wanted == IMGREF_OK && number >= tiles) wanted = IMGREF_NO_TILE;
+    imgref_status status = imgref_tile(is.width, is.height, wide, high, number, &tile);
+    tell(status == wanted && !memcmp(&tile, &wanted_tile, sizeof tile));
+    return status;
+}
+
+/* ---- the calls on cells */
+
+#define CELL uint8_t
+#define OF(name) imgref_u8_##name
+#define MINE(name) of_8_##name
+#define TEXT "u8 "
+#include "cells.h"
+
+#define CELL uint16_t
+#define OF(name) imgref_u16_##name
+#define MINE(name) of_16_##name
+#define TEXT "u16 "
+#include "cells.h"
+
+#define CELL uint32_t
+#define OF(name) imgref_u32_##name
+#define MINE(name) of_32_##name
+#define TEXT "u32 "
+#include "cells.h"
+
+#define CELL uint64_t
+#define OF(name) imgref_u64_##name
+#define MINE(name) of_64_##name
+#define TEXT "u64 "
+#include "cells.h"
+
+/* ---- rows worked out by hand: 3 by 2 at stride 4, where the cells 3, 7 and 8 are padding */
+
+static void by_hand(void) {
+    uint8_t cells[9] = {1, 2, 3, 90, 4, 5, 6, 91, 92}, pixel = 0;
+    const struct imgref_window right = {1, 0, 2, 2}, past = {2, 0, 2, 2}, corner = {3, 2, 0, 0};
+    count("by hand: get", imgref_u8_get(cells, 9, 3, 2, 4, 2, 1, &pixel) == IMGREF_OK && pixel == 6);
+    count("by hand: no such place", imgref_u8_get(cells, 9, 3, 2, 4, 3, 1, &pixel) == IMGREF_PLACE_OUTSIDE && pixel == 6);
+    count("by hand: fill", imgref_u8_fill_window(cells, 9, 3, 2, 4, right, 0) == IMGREF_OK && !memcmp(cells, (uint8_t[]){1, 0, 0, 90, 4, 0, 0, 91, 92}, 9));
+    count("by hand: past the edge", imgref_u8_fill_window(cells, 9, 3, 2, 4, past, 7) == IMGREF_WINDOW_OUTSIDE && cells[2] == 0);
+    count("by hand: empty at the corner", imgref_u8_fill_window(cells, 9, 3, 2, 4, corner, 7) == IMGREF_OK && cells[8] == 92);
+    count("by hand: a cell too few", imgref_u8_put(cells, 6, 3, 2, 4, 0, 0, 7) == IMGREF_NOT_AN_IMAGE && cells[0] == 1);
+    count("by hand: no product wraps", imgref_u8_put(cells, 9, 3, UINT32_MAX, SIZE_MAX, 0, 0, 7) == IMGREF_NOT_AN_IMAGE && cells[0] == 1);
+    count("by hand: pack", imgref_u8_pack(cells, 9, 3, 2, 4) == IMGREF_OK && !memcmp(cells, (uint8_t[]){1, 0, 0, 4, 0, 0, 0, 91, 92}, 9));
+    count("by hand: no cell", imgref_u8_fill_window(&pixel, 0, 0, 5, 1, (struct imgref_window){0, 2, 0, 3}, 7) == IMGREF_OK && pixel == 6);
+}
+
+int main(void) {
+    by_hand();
+    series("is_image", one_is_image, 1u << IMGREF_OK | 1u << IMGREF_NOT_AN_IMAGE);
+    series("has_window", one_has_window, 1u << IMGREF_OK | 1u << IMGREF_WINDOW_OUTSIDE);
+    series("window", one_window, 1u << IMGREF_OK | 1u << IMGREF_NOT_AN_IMAGE | 1u << IMGREF_WINDOW_OUTSIDE);
+    series("tile_count and tile", one_tile, 1u << IMGREF_OK | 1u << IMGREF_NOT_AN_IMAGE | 1u << IMGREF_NO_TILE);
+    of_8_all_calls();
+    of_16_all_calls();
+    of_32_all_calls();
+    of_64_all_calls();
+    printf("%u passed, %u failed\n", passed, failed);
+    return failed || !passed;
+}

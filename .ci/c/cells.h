@@ -1,0 +1,206 @@
+/* The calls on one type of cell, each beside a model that goes place by place. Included once for each type, with CELL (the
+ * type), OF (a call's name) and MINE (a name of this file's for it). */
+
+/* A random image in a list with a guard on either side, which no call may touch. */
+struct MINE(image) {
+    CELL *list, *old, *cells;
+    struct sizes is;
+};
+
+static struct MINE(image) MINE(made)(struct sizes is) {
+    struct MINE(image) made = {.is = is};
+    size_t all = is.len + 2 * GUARD;
+    made.list = malloc(all * sizeof(CELL));
+    made.old = malloc(all * sizeof(CELL));
+    if (!made.list || !made.old) abort();
+    for (size_t k = 0; k < all; k++) made.list[k] = (CELL)(any() % 3 ? any() : any() % 4);
+    memcpy(made.old, made.list, all * sizeof(CELL));
+    made.cells = made.list + GUARD;
+    return made;
+}
+
+static void MINE(freed)(struct MINE(image) it) {
+    free(it.list);
+    free(it.old);
+}
+
+/* What the model says that the pixel in column x of row y was. */
+static CELL MINE(was)(const struct MINE(image) *it, size_t x, size_t y) { return it->old[GUARD + y * it->is.stride + x]; }
+
+static void MINE(set)(CELL *cells, const struct MINE(image) *it, size_t x, size_t y, CELL value) {
+    cells[GUARD + y * it->is.stride + x] = value;
+}
+
+/* Whether the call answered this and left this of all cells, guards included. Frees the expected list. */
+static bool MINE(left)(const struct MINE(image) *it, CELL *expected, imgref_status status, imgref_status wanted) {
+    bool well = status == wanted && !memcmp(it->list, expected, (it->is.len + 2 * GUARD) * sizeof(CELL));
+    free(expected);
+    return well;
+}
+
+static CELL *MINE(copy)(const struct MINE(image) *it) {
+    size_t bytes = (it->is.len + 2 * GUARD) * sizeof(CELL);
+    CELL *copied = malloc(bytes);
+    if (!copied) abort();
+    return memcpy(copied, it->old, bytes);
+}
+
+static imgref_status MINE(one_get)(struct sizes is) {
+    struct MINE(image) it = MINE(made)(is);
+    size_t x = near(is.width), y = near(is.height);
+    CELL pixel = 77, wanted_pixel = 77;
+    imgref_status wanted = !is_image(is) ? IMGREF_NOT_AN_IMAGE : x < is.width && y < is.height ? IMGREF_OK : IMGREF_PLACE_OUTSIDE;
+    if (wanted == IMGREF_OK) wanted_pixel = MINE(was)(&it, x, y);
+    imgref_status status = OF(get)(it.cells, is.len, is.width, is.height, is.stride, x, y, &pixel);
+    tell(MINE(left)(&it, MINE(copy)(&it), status, wanted) && pixel == wanted_pixel);
+    MINE(freed)(it);
+    return status;
+}
+
+static imgref_status MINE(one_put)(struct sizes is) {
+    struct MINE(image) it = MINE(made)(is);
+    size_t x = near(is.width), y = near(is.height);
+    CELL value = (CELL)any(), *expected = MINE(copy)(&it);
+    imgref_status wanted = !is_image(is) ? IMGREF_NOT_AN_IMAGE : x < is.width && y < is.height ? IMGREF_OK : IMGREF_PLACE_OUTSIDE;
+    if (wanted == IMGREF_OK) MINE(set)(expected, &it, x, y, value);
+    imgref_status status = OF(put)(it.cells, is.len, is.width, is.height, is.stride, x, y, value);
+    tell(MINE(left)(&it, expected, status, wanted));
+    MINE(freed)(it);
+    return status;
+}
+
+static imgref_status MINE(one_fill_window)(struct sizes is) {
+    struct MINE(image) it = MINE(made)(is);
+    struct imgref_window w = any_window(is);
+    CELL value = (CELL)any(), *expected = MINE(copy)(&it);
+    imgref_status wanted = !is_image(is) ? IMGREF_NOT_AN_IMAGE : !is_inside(is, w) ? IMGREF_WINDOW_OUTSIDE : IMGREF_OK;
+    if (wanted == IMGREF_OK && w.width)
+        for (size_t y = 0; y < w.height; y++)
+            for (size_t x = 0; x < w.width; x++) MINE(set)(expected, &it, w.left + x, w.top + y, value);
+    imgref_status status = OF(fill_window)(it.cells, is.len, is.width, is.height, is.stride, w, value);
+    tell(MINE(left)(&it, expected, status, wanted));
+    MINE(freed)(it);
+    return status;
+}
+
+static imgref_status MINE(one_copy_window)(struct sizes is) {
+    struct imgref_window w = any_window(is);
+    struct sizes other = any() % 4 ? sized(w.width % 64, w.height % 64) : any_sizes();
+    struct MINE(image) it = MINE(made)(is), source = MINE(made)(other);
+    CELL *expected = MINE(copy)(&it);
+    imgref_status wanted = !is_image(is) || !is_image(other)                             ? IMGREF_NOT_AN_IMAGE
+                           : !is_inside(is, w)                                           ? IMGREF_WINDOW_OUTSIDE
+                           : w.width != other.width || w.height != other.height          ? IMGREF_SIZES_DIFFER
+                                                                                         : IMGREF_OK;
+    if (wanted == IMGREF_OK && w.width)
+        for (size_t y = 0; y < w.height; y++)
+            for (size_t x = 0; x < w.width; x++) MINE(set)(expected, &it, w.left + x, w.top + y, MINE(was)(&source, x, y));
+    imgref_status status = OF(copy_window)(it.cells, is.len, is.width, is.height, is.stride, w, source.cells, other.len, other.width,
+                                           other.height, other.stride);
+    bool kept = MINE(left)(&source, MINE(copy)(&source), 0, 0);
+    tell(MINE(left)(&it, expected, status, wanted) && kept);
+    MINE(freed)(it);
+    MINE(freed)(source);
+    return status;
+}
+
+static imgref_status MINE(one_move_window)(struct sizes is) {
+    struct MINE(image) it = MINE(made)(is);
+    struct imgref_window from = any_window(is), to = any_window(is);
+    if (any() % 4) {
+        to.width = from.width;
+        to.height = from.height;
+        to.left = is.width >= to.width ? up_to(is.width - to.width) : 0;
+        to.top = is.height >= to.height ? up_to(is.height - to.height) : 0;
+    }
+    CELL *expected = MINE(copy)(&it);
+    imgref_status wanted = !is_image(is)                                                ? IMGREF_NOT_AN_IMAGE
+                           : !is_inside(is, from) || !is_inside(is, to)                 ? IMGREF_WINDOW_OUTSIDE
+                           : from.width != to.width || from.height != to.height         ? IMGREF_SIZES_DIFFER
+                                                                                        : IMGREF_OK;
+    if (wanted == IMGREF_OK && to.width)
+        for (size_t y = 0; y < to.height; y++)
+            for (size_t x = 0; x < to.width; x++) MINE(set)(expected, &it, to.left + x, to.top + y, MINE(was)(&it, from.left + x, from.top + y));
+    imgref_status status = OF(move_window)(it.cells, is.len, is.width, is.height, is.stride, from, to);
+    tell(MINE(left)(&it, expected, status, wanted));
+    MINE(freed)(it);
+    return status;
+}
+
+static imgref_status MINE(one_mosaic)(struct sizes is) {
+    struct MINE(image) it = MINE(made)(is);
+    struct imgref_window w = any_window(is);
+    size_t wide = any() % 9 ? any() % 5 : any_number(), high = any() % 9 ? any() % 5 : any_number();
+    CELL *expected = MINE(copy)(&it);
+    imgref_status wanted = !is_image(is)           ? IMGREF_NOT_AN_IMAGE
+                           : !is_inside(is, w)     ? IMGREF_WINDOW_OUTSIDE
+                           : wide == 0 || high == 0 ? IMGREF_NO_TILE
+                                                   : IMGREF_OK;
+    if (wanted == IMGREF_OK && w.width)
+        for (size_t y = 0; y < w.height; y++)
+            for (size_t x = 0; x < w.width; x++)
+                MINE(set)(expected, &it, w.left + x, w.top + y, MINE(was)(&it, w.left + x / wide * wide, w.top + y / high * high));
+    imgref_status status = OF(mosaic)(it.cells, is.len, is.width, is.height, is.stride, w, wide, high);
+    tell(MINE(left)(&it, expected, status, wanted));
+    MINE(freed)(it);
+    return status;
+}
+
+static imgref_status MINE(one_pack)(struct sizes is) {
+    struct MINE(image) it = MINE(made)(is);
+    CELL *expected = MINE(copy)(&it);
+    imgref_status wanted = is_image(is) ? IMGREF_OK : IMGREF_NOT_AN_IMAGE;
+    size_t k = GUARD;
+    if (wanted == IMGREF_OK && is.width)
+        for (size_t y = 0; y < is.height; y++)
+            for (size_t x = 0; x < is.width; x++) expected[k++] = MINE(was)(&it, x, y);
+    imgref_status status = OF(pack)(it.cells, is.len, is.width, is.height, is.stride);
+    tell(MINE(left)(&it, expected, status, wanted));
+    MINE(freed)(it);
+    return status;
+}
+
+static imgref_status MINE(one_equal)(struct sizes is) {
+    struct sizes other = any() % 4 && is.width < 64 && is.height < 64 ? sized(is.width, is.height) : any_sizes();
+    struct MINE(image) it = MINE(made)(is), second = MINE(made)(other);
+    imgref_status wanted = is_image(is) && is_image(other) ? IMGREF_OK : IMGREF_NOT_AN_IMAGE;
+    bool same_size = is.width == other.width && is.height == other.height, before = any() % 2, equal = before, wanted_equal = before;
+    if (wanted == IMGREF_OK && same_size && is.width) {
+        /* the second image has the pixels of the first, and now and then one that differs */
+        for (size_t y = 0; y < is.height; y++)
+            for (size_t x = 0; x < is.width; x++) MINE(set)(second.list, &second, x, y, MINE(was)(&it, x, y));
+        if (is.height && any() % 2) second.cells[any() % is.height * other.stride + any() % is.width] ^= (CELL)((CELL)1 << any() % (8 * sizeof(CELL)));
+        memcpy(second.old, second.list, (other.len + 2 * GUARD) * sizeof(CELL));
+    }
+    if (wanted == IMGREF_OK) {
+        wanted_equal = same_size;
+        if (same_size && is.width)
+            for (size_t y = 0; y < is.height; y++)
+                for (size_t x = 0; x < is.width; x++) wanted_equal = wanted_equal && MINE(was)(&it, x, y) == MINE(was)(&second, x, y);
+    }
+    imgref_status status = OF(equal)(it.cells, is.len, is.width, is.height, is.stride, second.cells, other.len, other.width, other.height,
+                                     other.stride, &equal);
+    bool kept = MINE(left)(&second, MINE(copy)(&second), 0, 0);
+    tell(MINE(left)(&it, MINE(copy)(&it), status, wanted) && equal == wanted_equal && kept);
+    MINE(freed)(it);
+    MINE(freed)(second);
+    return status;
+}
+
+static void MINE(all_calls)(void) {
+    series(TEXT "get", MINE(one_get), 1u << IMGREF_OK | 1u << IMGREF_NOT_AN_IMAGE | 1u << IMGREF_PLACE_OUTSIDE);
+    series(TEXT "put", MINE(one_put), 1u << IMGREF_OK | 1u << IMGREF_NOT_AN_IMAGE | 1u << IMGREF_PLACE_OUTSIDE);
+    series(TEXT "fill_window", MINE(one_fill_window), 1u << IMGREF_OK | 1u << IMGREF_NOT_AN_IMAGE | 1u << IMGREF_WINDOW_OUTSIDE);
+    series(TEXT "copy_window", MINE(one_copy_window),
+           1u << IMGREF_OK | 1u << IMGREF_NOT_AN_IMAGE | 1u << IMGREF_WINDOW_OUTSIDE | 1u << IMGREF_SIZES_DIFFER);
+    series(TEXT "move_window", MINE(one_move_window),
+           1u << IMGREF_OK | 1u << IMGREF_NOT_AN_IMAGE | 1u << IMGREF_WINDOW_OUTSIDE | 1u << IMGREF_SIZES_DIFFER);
+    series(TEXT "mosaic", MINE(one_mosaic), 1u << IMGREF_OK | 1u << IMGREF_NOT_AN_IMAGE | 1u << IMGREF_WINDOW_OUTSIDE | 1u << IMGREF_NO_TILE);
+    series(TEXT "pack", MINE(one_pack), 1u << IMGREF_OK | 1u << IMGREF_NOT_AN_IMAGE);
+    series(TEXT "equal", MINE(one_equal), 1u << IMGREF_OK | 1u << IMGREF_NOT_AN_IMAGE);
+}
+
+#undef CELL
+#undef OF
+#undef MINE
+#undef TEXT

@@ -1,0 +1,153 @@
+#!/usr/bin/env python3
+"""Shows what imgref_frames answers on real bytes: by a model written apart from it, and by ffmpeg.
+
+The contract speaks of readers and writers; here stand what `main` prints and its status, small streams of each sampling, each
+beginning of one, each byte of its line changed, and hidden pixels exchanged. Both builds are run that `rt ci` leaves. Where
+the machine has no ffmpeg or no GNU parallel, the cases with it are left out, and a line says 'skipped'.
+"""
+import pathlib
+import random
+import shutil
+import subprocess
+import sys
+import tempfile
+
+sys.path.insert(0, str(pathlib.Path(__file__).resolve().parent.parent))
+from cases import Cases, built
+from frames import STATUS, Fault, answer
+
+SAMPLINGS = ("mono", "420jpeg", "420", "422", "444")
+EDITS = ("fill 4,2,6,4 126", "mosaic 2,2,10,6 4,2", "mosaic 0,0,12,8 64,64", "move 0,0,6,4 4,2", "move 4,2,6,4 0,0", "crop 4,2,6,4", "fill 0,0,0,0 1")
+FILL = "fill 4,2,6,4 126"
+LISTS = (
+    "fill 0,0,4,4 9 mosaic 2,2,8,6 4,2",
+    "1..2 fill 0,0,4,4 9",
+    "0..2 mosaic 2,2,8,6 4,2 1..3 fill 4,2,2,2 7 crop 2,2,8,6",
+    "fill 2,2,4,4 9 move 2,2,4,4 6,2",
+    "2..1 fill 0,0,4,4 9 7..9 move 0,0,2,2 2,2",
+)
+
+
+def video(sampling, width=12, height=8, frames=3):
+    """A small video with pixels by chance, the same in each run."""
+    chance = random.Random(f"{sampling} {width} {height}")
+    chroma = {"mono": 0, "422": 2 * (-(-width // 2)) * height, "444": 2 * width * height}.get(sampling, 2 * (-(-width // 2)) * (-(-height // 2)))
+    line = f"YUV4MPEG2 W{width} H{height} F25:1 Ip A1:1 C{sampling} XLABEL=a\n".encode()
+    return line + b"".join(b"FRAME\n" + chance.randbytes(width * height + chroma) for _ in range(frames))
+
+
+def ends(program, words, data):
+    """What the program writes, what it says, and its status."""
+    done = subprocess.run([program, *words], input=data, capture_output=True, timeout=120)
+    return done.stdout, done.stderr.decode().split("\n")[0], done.returncode
+
+
+def edits_of(words):
+    """The edits that words are."""
+    words, edits = list(words), []
+    while words:
+        first, last = (int(it) for it in words.pop(0).split("..")) if ".." in words[0] else (0, 2**64)
+        word, window = words.pop(0), [int(it) for it in words.pop(0).split(",")]
+        edits.append((first, last, word, window, [] if word == "crop" else [int(it) for it in words.pop(0).split(",")]))
+    return edits
+
+
+def wanted(data, words):
+    """The same by the model."""
+    try:
+        return answer(data, edits_of(words)), "", 0
+    except Fault as fault:
+        return fault.written, f"fault {fault.name}", STATUS[fault.name.split()[0]]
+
+
+def differing(program, tries):
+    """Those tries of words and bytes at which the program differs from the model."""
+    return [f"{' '.join(words)} on {data[:60]!r}.." for words, data in tries if ends(program, words, data) != wanted(data, words)]
+
+
+def exchanged(data, window):
+    """Other brightness in a window of each frame of a mono video of 12 by 8."""
+    out, start = bytearray(data), data.index(b"\n") + 1
+    for frame in range((len(data) - start) // 102):
+        for y in range(window[1], window[1] + window[3]):
+            for x in range(window[0], window[0] + window[2]):
+                out[start + frame * 102 + 6 + y * 12 + x] ^= 0x55
+    return bytes(out)
+
+
+def by_model(cases, program):
+    whole = [(edit.split(), video(it, *size)) for it in SAMPLINGS for size in ((12, 8), (16, 9)) for edit in EDITS]
+    cases.count("each edit of each sampling is the model's", not differing(program, whole), "\n".join(differing(program, whole)))
+    lists = [(edits.split(), video(it)) for it in SAMPLINGS for edits in LISTS]
+    cases.count("lists of edits, each to its frames, are the model's", not differing(program, lists), "\n".join(differing(program, lists)))
+    small = video("420", 4, 2, 2)
+    beginnings = [(f"{word} 0,0,2,2 {last}".split(), small[:end]) for word, last in (("fill", "9"), ("mosaic", "2,2")) for end in range(len(small) + 1)]
+    cases.count("each beginning of a stream", not differing(program, beginnings), "\n".join(differing(program, beginnings)))
+    end = small.index(b"\n")
+    changed = [("fill 0,0,2,2 9".split(), small[:at] + bytes([byte]) + small[at + 1:]) for at in range(end + 1) for byte in (10, 32, 48, 49, 67, 87, 255)]
+    cases.count("each byte of the line changed", not differing(program, changed), "\n".join(differing(program, changed)))
+    outside = [(it.split(), video("420")) for it in ("fill 1,0,2,2 9", "fill 0,0,2,10 9", "mosaic 0,0,4,4 1,2", "mosaic 0,0,4,4 0,2", "move 0,0,4,4 10,0", "crop 0,0,0,4", "crop 0,0,3,4")]
+    cases.count("an edit that is none of the video is refused", not differing(program, outside), "\n".join(differing(program, outside)))
+    hidden = video("mono"), exchanged(video("mono"), (4, 2, 6, 4))
+    cases.count("hidden pixels can't be told from the output", hidden[0] != hidden[1] and ends(program, FILL.split(), hidden[0]) == ends(program, FILL.split(), hidden[1]))
+
+
+def by_words(cases, program):
+    for words in ("", "fill", "fill 1,2,3,4", "blur 0,0,1,1 2", "fill 0,0,1,1 256", "fill 0,0,01,1 2", "fill 0,0,1 2", "mosaic 0,0,1,1 2", "crop 0,0,1,1 2", "crop 0,0,2,2 fill 0,0,2,2 9", "1..2 crop 0,0,2,2", "1.2 fill 0,0,2,2 9", "--edits /nowhere"):
+        said = ends(program, words.split(), video("mono"))
+        cases.count(f"words '{words}' are refused", said == (b"", "fault words", 1), str(said))
+    with tempfile.NamedTemporaryFile("w", suffix=".edits") as listed:
+        listed.write(LISTS[2].replace(" 1..3", "\n1..3").replace(" crop", "\ncrop") + "\n")
+        listed.flush()
+        cases.count("a file of edits is the same as its words", ends(program, ["--edits", listed.name], video("420")) == ends(program, LISTS[2].split(), video("420")))
+    said = ends(program, "move 0,0,2,2 2,2 fill 0,0,2,2 9".split(), video("mono"))
+    cases.count("a move before a fill is noted", said[1].startswith("note: ") and said[2] == 0, str(said))
+    cases.count("help is printed", ends(program, ["--help"], b"")[0].startswith(b"usage: ") and ends(program, ["--help"], b"")[2] == 0)
+    for name, shell, status in (("a closed output", f'"{program}" {FILL} >&-', 5), ("a full output", f'"{program}" {FILL} > /dev/full', 5), ("an input that can't be read", f'"{program}" {FILL} < /', 4)):
+        done = subprocess.run(["sh", "-c", shell], input=video("mono"), capture_output=True, timeout=120)
+        cases.count(f"{name} ends with status {status}", done.returncode == status, str(done))
+
+
+def through(program, words, made, command):
+    """Whether the program's video is that of a command of ffmpeg's."""
+    theirs = subprocess.run(["ffmpeg", "-v", "error", "-i", "-", "-vf", command, "-f", "yuv4mpegpipe", "-strict", "-1", "-"], input=made, capture_output=True, timeout=120)
+    return ends(program, words.split(), made) == (theirs.stdout, "", 0)
+
+
+def by_ffmpeg(cases, program):
+    for pixels in ("yuv420p", "yuv422p", "yuv444p", "gray"):
+        source = ["-f", "lavfi", "-i", "testsrc2=size=128x96:rate=5:duration=1", "-pix_fmt", pixels]
+        made = subprocess.run(["ffmpeg", "-v", "error", *source, "-f", "yuv4mpegpipe", "-strict", "-1", "-"], capture_output=True, timeout=120).stdout
+        cases.count(f"crop is ffmpeg's on {pixels}", made and through(program, "crop 16,8,64,48", made, "crop=64:48:16:8:exact=1"))
+        if pixels != "gray":
+            cases.count(f"fill is ffmpeg's drawbox on {pixels}", through(program, "fill 16,8,64,48 126", made, "drawbox=x=16:y=8:w=64:h=48:color=gray@1:t=fill"))
+        for words in ("mosaic 16,8,64,48 8,8", "move 16,8,32,32 24,16"):
+            cases.count(f"{words} is the model's on {pixels}", not differing(program, [(words.split(), made)]))
+
+
+def by_parallel(cases, program):
+    with tempfile.TemporaryDirectory() as folder:
+        for name in SAMPLINGS:
+            pathlib.Path(folder, f"{name}.y4m").write_bytes(video(name))
+        subprocess.run(["sh", "-c", f"ls {folder}/*.y4m | parallel --will-cite '{program} {FILL} < {{}} > {{}}.out'"], check=True, timeout=120)
+        cases.count("a folder of videos goes through parallel", all(pathlib.Path(folder, f"{name}.y4m.out").read_bytes() == wanted(video(name), FILL.split())[0] for name in SAMPLINGS))
+
+
+def main():
+    cases = Cases()
+    programs = built("imgref_frames", ("", ".by-rattle"))
+    cases.count("both builds of the program are there", len(programs) == 2, "crates/imgref_frames/out lacks one, or it is older than its sources: `rt ci` makes them")
+    for program in programs:
+        by_model(cases, str(program))
+        by_words(cases, str(program))
+        if shutil.which("ffmpeg"):
+            by_ffmpeg(cases, str(program))
+        if shutil.which("parallel"):
+            by_parallel(cases, str(program))
+    for missing in (it for it in ("ffmpeg", "parallel") if not shutil.which(it)):
+        print(f"skipped: this machine has no {missing}")
+    return cases.end()
+
+
+if __name__ == "__main__":
+    sys.exit(main())

@@ -1,0 +1,93 @@
+#!/usr/bin/env python3
+"""The snippets of the documents are true.
+
+A snippet is a run of lines that are indented by four spaces. Those of docs/CALLERS.md, and each function in README.md, stand
+in a file of the crates, which the gate proves: the lines stand one after the other, however far they are indented there. A
+script in README.md or docs/SCRIPT.md gives what the page says, as the model tells (.ci/model.py). Each file that a document
+links to or names by its folders is there, and each definition that docs/GLOSSARY.md names stands in its file.
+"""
+import pathlib
+import re
+import sys
+
+sys.path.insert(0, str(pathlib.Path(__file__).resolve().parent.parent))
+import model
+from cases import ROOT, Cases
+
+SNIPPET = re.compile(r"(?:^    .*\n)+", re.MULTILINE)
+SPAN = re.compile(r"`([^`]+)`")
+LINK = re.compile(r"\]\(([^)#:]+)(?:#[^)]*)?\)")
+DEFINED = re.compile(r"`([\w/]+\.antt)`: (`\w+`(?:, `\w+`)*)")
+FILE = re.compile(r"[\w.+-]+(?:/[\w.+-]+)+/?")
+
+
+def as_lines(text):
+    """The lines, each in line feeds, without what they are indented by."""
+    return "\n" + "".join(f"{it.strip()}\n" for it in text.splitlines())
+
+
+def snippets(page):
+    """Each snippet of a page, and the text from it to the next one."""
+    found = list(SNIPPET.finditer(page))
+    ends = [it.start() for it in found[1:]] + [len(page)]
+    return [(it.group(), page[it.end() : end].strip()) for it, end in zip(found, ends)]
+
+
+def quoted(cases, name, texts):
+    """Each snippet of code stands in the crates."""
+    for snippet, _ in snippets((ROOT / name).read_text()):
+        if name != "README.md" or re.match(r" *(?:pub )?fn ", snippet):
+            stands = any(as_lines(snippet) in text for text in texts)
+            cases.count(f"{name}: {snippet.strip().splitlines()[0]}", stands, f"stands in no file of the crates:\n{snippet}")
+
+
+def tried(cases, name):
+    """Each script gives what stands behind it: a snippet, or the beginning of the output within the line."""
+    parts = snippets((ROOT / name).read_text())
+    for (script, text), (output, _) in zip(parts, [*parts[1:], ("", "")]):
+        lines = as_lines(script).strip().splitlines()
+        if len(lines) < 2 or not lines[0].startswith("image "):
+            continue
+        within = SPAN.findall(re.split(r"[.:]\s", text)[0]) if text.startswith("gives `") else []
+        due = within or as_lines(output).strip().splitlines()
+        written, _ = model.answer("".join(f"{it}\n" for it in lines).encode())
+        given = written.decode().splitlines()
+        cases.count(f"{name}: {lines[0]}", given[: len(due)] == due if within else given == due, f"the page says {due}, the model {given}")
+
+
+def missing_files(path):
+    """What a document links to or names that isn't there. A name in capitals stands for any."""
+    text = path.read_text()
+    yield from (it for it in LINK.findall(text) if not (path.parent / it).exists())
+    for name in filter(FILE.fullmatch, SPAN.findall(text)):
+        tops = [it for it in (ROOT, ROOT / "crates") if (it / name.split("/")[0]).exists()]
+        if tops and not re.search(r"\b[A-Z]{2,}\b", name) and not any((it / name).exists() or any(it.glob(f"{name}.*")) for it in tops):
+            yield name
+
+
+def undefined(text):
+    """The definitions of the glossary that don't stand in their files, which are in image_model where no folder is named."""
+    for name, words in DEFINED.findall(text):
+        file = ROOT / "crates" / name if "/" in name else ROOT / "crates/image_model/specs" / name
+        stands = set(re.findall(r"\w+", file.read_text())) if file.exists() else set()
+        yield from (f"{word} of {name}" for word in SPAN.findall(words) if word not in stands)
+
+
+def main():
+    cases = Cases()
+    missing = list(undefined((ROOT / "docs/GLOSSARY.md").read_text()))
+    cases.count("docs/GLOSSARY.md: its definitions", not missing, f"not there: {', '.join(missing)}")
+    for path in [ROOT / "README.md", ROOT / "CONTRIBUTING.md", *sorted((ROOT / "docs").glob("*.md"))]:
+        missing = list(missing_files(path))
+        cases.count(f"{path.relative_to(ROOT)}: the files it names", not missing, f"not there: {', '.join(missing)}")
+    files = [it for end in ("src/*.rt", "proofs/**/*.antt") for it in (ROOT / "crates").glob(f"*/{end}")]
+    texts = [as_lines(it.read_text()) for it in files]
+    for name in ("README.md", "docs/CALLERS.md"):
+        quoted(cases, name, texts)
+    for name in ("README.md", "docs/SCRIPT.md"):
+        tried(cases, name)
+    return cases.end()
+
+
+if __name__ == "__main__":
+    sys.exit(main())

@@ -1,0 +1,116 @@
+"""What imgref_frames must answer by docs/FRAMES.md: a model over the raw bytes, written apart from the program."""
+
+STATUS = {"words": 1, "header": 2, "memory": 3, "input": 4, "output": 5, "outside": 6, "frame": 7}
+# How many pixels share a chroma sample, across and down.
+SAMPLINGS = {b"mono": None, b"420jpeg": (2, 2), b"420mpeg2": (2, 2), b"420paldv": (2, 2), b"420": (2, 2), b"422": (2, 1), b"444": (1, 1)}
+
+
+class Fault(Exception):
+    """The fault that the program names, with what was written before it."""
+
+    def __init__(self, name, written=b""):
+        super().__init__(name)
+        self.name, self.written = name, written
+
+
+def number(text):
+    """A number without a sign and without a zero in front of another digit."""
+    if not text.isdigit() or (len(text) > 1 and text[:1] == b"0") or int(text) >= 2**64:
+        raise Fault("header")
+    return int(text)
+
+
+def format_of(line):
+    """The size of the frames and their sampling, by the line that the video begins with."""
+    word, *fields = line.split(b" ")
+    tagged = {}
+    for it in fields:
+        tagged.setdefault(it[:1], it[1:])
+    if word != b"YUV4MPEG2" or b"W" not in tagged or b"H" not in tagged or tagged.get(b"C", b"420") not in SAMPLINGS:
+        raise Fault("header")
+    return number(tagged[b"W"]), number(tagged[b"H"]), SAMPLINGS[tagged.get(b"C", b"420")]
+
+
+def planes_of(width, height, sampling):
+    """Each plane: its size, and how many pixels share a sample."""
+    planes = [(width, height, 1, 1)]
+    if sampling:
+        x, y = sampling
+        planes += [(-(-width // x), -(-height // y), x, y)] * 2
+    return planes
+
+
+def under(values, steps):
+    """Numbers of pixels as numbers of samples."""
+    if any(value % step for value, step in zip(values, steps)):
+        raise Fault("outside")
+    return [value // step for value, step in zip(values, steps)]
+
+
+def windows_of(plane, word, window, last):
+    """The window in samples of a plane, and what follows it."""
+    wide, high, x, y = plane
+    left, top, width, height = under(window, (x, y, x, y))
+    last = under(last, (x, y)) if word in ("mosaic", "move") else last
+    if not (0 < wide < 2**32 and high < 2**32) or left + width > wide or top + height > high:
+        raise Fault("outside")
+    if word == "mosaic" and 0 in last or word == "move" and (last[0] + width > wide or last[1] + height > high) or word == "crop" and width == 0:
+        raise Fault("outside")
+    return (left, top, width, height), last
+
+
+def edited(plane, cells, word, window, last):
+    """The cells of a plane after the edit."""
+    wide, high = plane[:2]
+    left, top, width, height = window
+    old = [cells[row * wide:(row + 1) * wide] for row in range(high)]
+    if word == "crop":
+        return b"".join(row[left:left + width] for row in old[top:top + height])
+    new = [bytearray(row) for row in old]
+    for y in range(height):
+        for x in range(width):
+            if word == "fill":
+                new[top + y][left + x] = last[0]
+            elif word == "mosaic":
+                new[top + y][left + x] = old[top + y - y % last[1]][left + x - x % last[0]]
+            else:
+                new[last[1] + y][last[0] + x] = old[top + y][left + x]
+    return b"".join(new)
+
+
+def resized(line, width, height):
+    """The line with another size."""
+    sizes = {b"W": b"W%d" % width, b"H": b"H%d" % height}
+    return b" ".join([b"YUV4MPEG2", *(sizes.get(it[:1], it) for it in line.split(b" ")[1:])])
+
+
+def answer(data, edits):
+    """What is written for these bytes; a fault tells what was written before it. An edit has the numbers of its first frame and
+    of the first behind its last, its word, its window and what follows that."""
+    end = data.find(b"\n", 0, 256)
+    if end < 0:
+        raise Fault("header")
+    line, at = data[:end], end + 1
+    planes = planes_of(*format_of(line))
+    steps = []
+    for first, last, word, window, more in edits:
+        found = [windows_of(plane, word, window, more) for plane in planes]
+        if word == "fill":
+            found = [(inside, more if number == 0 else [128]) for number, (inside, _) in enumerate(found)]
+        steps.append((first, last, word, found))
+    crops = [edit[3] for edit in edits if edit[2] == "crop"]
+    out = (resized(line, *crops[0][2:]) if crops else line) + b"\n"
+    size, frames = sum(wide * high for wide, high, _, _ in planes), 0
+    while at < len(data):
+        if data[at:at + 6] != b"FRAME\n" or len(data) < at + 6 + size:
+            raise Fault(f"frame {frames}", out)
+        at, out = at + 6, out + b"FRAME\n"
+        for number, plane in enumerate(planes):
+            count = plane[0] * plane[1]
+            cells, at = data[at:at + count], at + count
+            for first, last, word, found in steps:
+                if first <= frames < last:
+                    cells = edited(plane, cells, word, *found[number])
+            out += cells
+        frames += 1
+    return out

@@ -1,0 +1,3 @@
+pub mod DeviceBytes
+pub mod Filling
+pub mod Lines

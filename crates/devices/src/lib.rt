@@ -1,0 +1,9 @@
+//! Readers and writers whose failures are counted, and what is read from them or written to them
+//! whole: buffers and lines.
+#![tactic(auto)]
+
+mod counted;
+mod whole;
+
+pub use counted::Counted;
+pub use whole::{LineFault, ReadFailed, WriteFailed, fill, read_line, write_all};

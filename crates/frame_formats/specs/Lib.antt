@@ -1,0 +1,5 @@
+pub mod Format
+pub mod Line
+pub mod Plan
+pub mod Recipe
+pub mod Words

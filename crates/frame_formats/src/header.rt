@@ -1,0 +1,89 @@
+//! The line that a video begins with.
+
+ghost use Rattle.std.specs.Prelude.{◌≡◌, ◌<◌};
+ghost use Rattle.std.specs.Option.{option_map};
+ghost use Rattle.frame_formats.specs.Format.{tagged, chroma_of, format_of};
+ghost use Rattle.texts.specs.Parts.{parts_left};
+
+use texts::{Field, Parts};
+
+/// Which chroma samples a frame has behind its plane of brightness.
+#[derive(Clone, Copy, PartialEq, Eq)]
+pub enum Chroma {
+    /// None.
+    Mono,
+    /// Two planes, one sample for two by two pixels.
+    Small,
+    /// Two planes, one sample for two pixels of a row.
+    Wide,
+    /// Two planes, a sample for each pixel.
+    Whole,
+}
+
+/// The size of the frames in pixels, and their planes.
+#[derive(Clone, Copy, PartialEq, Eq)]
+pub struct Format {
+    pub width: usize,
+    pub height: usize,
+    pub chroma: Chroma,
+}
+
+// What stands behind the letter in the first field that begins with it.
+fn field<'a>(fields: Parts<'a>, letter: u8) -> Option<&'a [u8]>
+    requires { 0 < letter }
+    ensures { option_map (λ text. text.now) result ≡ tagged letter (parts_left fields.entry) }
+{
+    let mut rest = fields;
+    while let Some(field) = rest.next_part() {
+        if let Some((first, text)) = field.split_first() {
+            if *first == letter {
+                return Some(text);
+            }
+        }
+    }
+    None
+}
+
+fn read_chroma(word: &[u8]) -> Option<Chroma>
+    ensures { result ≡ chroma_of word.now }
+{
+    if word == b"mono".as_slice() {
+        Some(Chroma::Mono)
+    } else if word == b"420jpeg".as_slice() {
+        Some(Chroma::Small)
+    } else if word == b"420mpeg2".as_slice() {
+        Some(Chroma::Small)
+    } else if word == b"420paldv".as_slice() {
+        Some(Chroma::Small)
+    } else if word == b"420".as_slice() {
+        Some(Chroma::Small)
+    } else if word == b"422".as_slice() {
+        Some(Chroma::Wide)
+    } else if word == b"444".as_slice() {
+        Some(Chroma::Whole)
+    } else {
+        None
+    }
+}
+
+/// The format that the line names, or `None` where it isn't one that is read here.
+#[tactic(auto, unfolding(crate::specs::Format::format_in))]
+pub fn read_format(line: &[u8]) -> Option<Format>
+    ensures { result ≡ format_of line.now }
+{
+    let mut fields = Parts::new(line, b' ');
+    if fields.next_part()? != b"YUV4MPEG2".as_slice() {
+        return None;
+    }
+    let width = usize::read(field(fields, b'W')?)?;
+    let height = usize::read(field(fields, b'H')?)?;
+    let chroma = match field(fields, b'C') {
+        Some(word) => read_chroma(word)?,
+        None => Chroma::Small,
+    };
+    Some(Format {
+        width,
+        height,
+        chroma,
+    })
+}

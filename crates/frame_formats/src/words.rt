@@ -1,0 +1,120 @@
+//! The edits that words name.
+
+ghost use Rattle.std.specs.Prelude.{◌≡◌, ◌<◌, ◌≤◌, IfOk, length};
+ghost use Rattle.frame_formats.specs.Words.{pair_of, change_of};
+
+use image_planes::{Change, Step, Window};
+use std::alloc::Global;
+use texts::{Field, Parts, next};
+
+// Two numbers with a comma between them.
+#[tactic(auto, unfolding(crate::specs::Words::pair_in))]
+fn read_pair(piece: &[u8]) -> Option<(usize, usize)>
+    ensures { result ≡ pair_of piece.now }
+{
+    let mut numbers = Parts::new(piece, b',');
+    let first = next(&mut numbers)?;
+    let second = next(&mut numbers)?;
+    numbers.is_done().then_some((first, second))
+}
+
+// A change by its word, its window and what stands behind it.
+#[tactic(auto, unfolding(crate::specs::Words::change_of))]
+fn read_change(word: &[u8], window: Window, last: &[u8]) -> Option<Change>
+    ensures { result ≡ change_of word.now window last.now }
+{
+    if word == b"fill".as_slice() {
+        let value = u8::read(last)?;
+        Some(Change::Fill { window, value })
+    } else if word == b"mosaic".as_slice() {
+        let (tile_width, tile_height) = read_pair(last)?;
+        Some(Change::Mosaic {
+            window,
+            tile_width,
+            tile_height,
+        })
+    } else if word == b"move".as_slice() {
+        let (left, top) = read_pair(last)?;
+        Some(Change::Move { window, left, top })
+    } else {
+        None
+    }
+}
+
+// The numbers of the first frame and of the first behind the last one, as in `12..80`.
+fn read_span(word: &[u8]) -> Option<(usize, usize)> {
+    let mut parts = Parts::new(word, b'.');
+    let first = next(&mut parts)?;
+    if !parts.next_part()?.is_empty() {
+        return None;
+    }
+    let end = next(&mut parts)?;
+    parts.is_done().then_some((first, end))
+}
+
+/// What words say is done to a video: steps in their order, and then a window that is kept.
+#[derive(Drop)]
+pub struct Edits {
+    pub steps: Vec<Step>,
+    pub crop: Option<Window>,
+}
+
+/// Why words are not taken.
+#[derive(Clone, Copy, Debug, PartialEq, Eq)]
+pub enum WordsFault {
+    /// They are no edit, or one stands behind a crop.
+    NoEdit,
+    /// No memory was found.
+    Memory,
+}
+
+impl Edits {
+    /// No edit yet.
+    pub fn new(alloc: Global) -> Self {
+        Edits {
+            steps: Vec::new(alloc),
+            crop: None,
+        }
+    }
+
+    /// Adds the edit at the front of the words, and answers how many words it has: `crop L,T,W,H`,
+    /// `fill L,T,W,H V`, `mosaic L,T,W,H TW,TH` or `move L,T,W,H X,Y`, and before one of the last
+    /// three a range of frames, as `12..80`.
+    pub fn take(&mut self, words: &[&[u8]]) -> Result<usize, WordsFault>
+        ensures some { IfOk result (λ n. 0 < n) }
+        ensures there { IfOk result (λ n. n ≤ length words.now) }
+    {
+        let Some(front) = words.first() else {
+            return Err(WordsFault::NoEdit);
+        };
+        let span = read_span(front);
+        let at = if span.is_some() { 1 } else { 0 };
+        let (Some(word), Some(window)) = (words.get(at), words.get(at + 1)) else {
+            return Err(WordsFault::NoEdit);
+        };
+        let Some(window) = Window::read(window) else {
+            return Err(WordsFault::NoEdit);
+        };
+        if self.crop.is_some() {
+            return Err(WordsFault::NoEdit);
+        }
+        if *word == b"crop".as_slice() && span.is_none() {
+            self.crop = Some(window);
+            return Ok(at + 2);
+        }
+        let Some(last) = words.get(at + 2) else {
+            return Err(WordsFault::NoEdit);
+        };
+        let Some(change) = read_change(word, window, last) else {
+            return Err(WordsFault::NoEdit);
+        };
+        let (first, end) = match span {
+            Some((first, end)) => (first as u64, end as u64),
+            None => (0, u64::MAX),
+        };
+        match self.steps.push(Step { first, end, change }) {
+            Ok(()) => Ok(at + 3),
+            Err(_) => Err(WordsFault::Memory),
+        }
+    }
+}

@@ -1,0 +1,2 @@
+pub mod Mosaics
+pub mod Flattening

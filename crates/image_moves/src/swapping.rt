@@ -1,0 +1,52 @@
+//! Rows that change places.
+
+ghost use Rattle.std.specs.Prelude.{◌≡◌, ◌+◌, ◌<◌, ◌≤◌, length};
+ghost use Rattle.image_model.specs.Layout.{Fits, SameOutside};
+ghost use Rattle.image_model.specs.Grid.{grid_of};
+ghost use Rattle.image_model.specs.Swaps.{StretchesSwapped, rows_swapped};
+ghost use Rattle.image_shape.specs.Shape.{shape_height, shaped};
+
+use image_shape::Shape;
+
+// The `len` cells from `first` on and those from `second` on change places.
+fn swap_stretches<T>(cells: &mut [T], first: usize, second: usize, len: usize)
+    requires apart { first + len ≤ second }
+    requires inside { second + len ≤ length cells.old }
+    ensures { StretchesSwapped cells.old cells.new first second len }
+{
+    let (front, back) = cells.split_at_mut(second);
+    front[first..first + len].swap_with_slice(&mut back[..len]);
+}
+
+// The same of two rows, the upper one first.
+fn swap_apart<T>(cells: &mut [T], shape: Shape, upper: usize, lower: usize)
+    requires fits { Fits (shaped cells.old shape) }
+    requires order { upper < lower }
+    requires below { lower < shape_height shape }
+    ensures grid { grid_of (shaped cells.new shape) ≡ rows_swapped upper lower (grid_of (shaped cells.old shape)) }
+    ensures outside { SameOutside (shaped cells.old shape) (shaped cells.new shape) }
+{
+    let width = shape.width();
+    let stride = shape.stride();
+    // An image of no column may have more rows than it has cells.
+    if width == 0 {
+        return;
+    }
+    swap_stretches(cells, upper * stride, lower * stride, width);
+}
+
+/// The pixels of rows `y` and `z` of `shape` in `cells` change places, and the padding stays. The
+/// cells must fit, as `Shape::fits` tells.
+pub fn swap_rows<T>(cells: &mut [T], shape: Shape, y: usize, z: usize)
+    requires fits { Fits (shaped cells.old shape) }
+    requires first { y < shape_height shape }
+    requires second { z < shape_height shape }
+    ensures grid { grid_of (shaped cells.new shape) ≡ rows_swapped y z (grid_of (shaped cells.old shape)) }
+    ensures outside { SameOutside (shaped cells.old shape) (shaped cells.new shape) }
+{
+    if y < z {
+        swap_apart(cells, shape, y, z);
+    } else if z < y {
+        swap_apart(cells, shape, z, y);
+    }
+}

@@ -1,0 +1,92 @@
+//! A plane of a frame, and what is done to it.
+
+ghost use Rattle.std.specs.Prelude.{◌≡◌, ◌≤◌, ◌<◌, ◌^◌, length, IsTrue, IfSome};
+ghost use Rattle.std.specs.Option.{option_map};
+ghost use Rattle.image_planes.specs.Changes.{is_change_of, are_inside, job_for, changed_plane};
+
+use crate::change::{Change, Step};
+use crate::steps::{all_inside, do_steps};
+use imgref::{Shape, Window};
+
+/// A plane of a frame, an image of bytes without padding, and what is done to it.
+#[derive(Drop)]
+pub struct Plane {
+    width: usize,
+    height: usize,
+    steps: Vec<Step>,
+    ghost wide: { 0 < width },
+    ghost width_fits: { width < 2 ^ 32 },
+    ghost height_fits: { height < 2 ^ 32 },
+    ghost inside: { IsTrue (are_inside width height steps.items) },
+}
+
+impl Plane {
+    // These name the type itself.
+    ghost use Rattle.image_planes.specs.Planes.{job_of, plane_len};
+
+    /// A plane of this size with what is done to it, one step after the other; `None` where there is
+    /// no such plane, or a step reaches outside it.
+    pub fn new(width: usize, height: usize, steps: Vec<Step>) -> Option<Plane>
+        ensures { option_map job_of result ≡ job_for width height steps.items }
+    {
+        let greatest = u32::MAX as usize;
+        if width == 0 || width > greatest || height > greatest {
+            return None;
+        }
+        if !all_inside(width, height, &steps) {
+            return None;
+        }
+        Some(Plane {
+            width,
+            height,
+            steps,
+        })
+    }
+
+    /// How many bytes it has.
+    pub fn len(&self) -> usize
+        requires { plane_len self.now < 2 ^ 64 }
+        ensures { result ≡ plane_len self.now }
+    {
+        self.width * self.height
+    }
+
+    /// The same, or `None` where it is no number of this machine.
+    pub(crate) fn checked_len(&self) -> Option<usize>
+        ensures { IfSome result (λ n. n ≡ plane_len self.now) }
+    {
+        self.width.checked_mul(self.height)
+    }
+
+    /// Does the steps of the frame of this number to the plane that these cells are.
+    pub(crate) fn apply(&self, number: u64, cells: &mut [u8])
+        requires { length cells.old ≡ plane_len self.now }
+        ensures { cells.new ≡ changed_plane number (job_of self.now) cells.old }
+    {
+        let shape = Shape::new(self.width, self.height, self.width);
+        do_steps(cells, shape, &self.steps, number);
+    }
+}
+
+/// Whether a change is one of this size.
+pub(crate) fn is_inside(width: usize, height: usize, change: Change) -> bool
+    ensures { result ≡ is_change_of width height change }
+{
+    match change {
+        Change::Fill { window, value: _ } => window.is_inside(width, height),
+        Change::Mosaic {
+            window,
+            tile_width,
+            tile_height,
+        } => tile_width > 0 && tile_height > 0 && window.is_inside(width, height),
+        Change::Move { window, left, top } => {
+            let target = Window {
+                left,
+                top,
+                width: window.width,
+                height: window.height,
+            };
+            window.is_inside(width, height) && target.is_inside(width, height)
+        }
+    }
+}

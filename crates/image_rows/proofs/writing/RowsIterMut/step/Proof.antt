@@ -1,0 +1,180 @@
+-- `step` takes the iterator out of its place, parts a row off and puts the others back: its MIR, proved by hand. Assumes `Logic`.
+use mathlib.Core.Path.{◌≡◌, refl, sym, ap}
+use Prim.Native.Nat.{ℕ}
+use mathlib.Core.List.{List, [], ◌∷◌}
+use lib.Dec.{lit<}
+use base.Fml.{Lft, GName, Share, ftrue, fdead, flft}
+use base.Fraction.{full_share}
+use base.Logic.{SProp, emp, id⊢, apply∗}
+use base.Share
+use contract.BorrowLft.{◌⊑◌, ⊑_trans, meet_⊑_right}
+use contract.Monad.{fact, fact_i}
+use contract.Running.{tables}
+use mir.MapTy.{inst_fn}
+use mir.Syntax.{Args, Fn, named, a_type}
+use mir.Val.{Val, WT, vptr, of_list}
+use types.ByLocal.{alloc_all, pass_all, free_all, look_at, get, get_in, through, sets, lands_as, env, holding, forget_but}
+use types.Kit.{Sq, ‵, ◌⊛◌, raw, later, some, at_ret, runs, ◌$◌, ◌∵◌, !, qed, by, move, keep, drop, split, split3, join, fsplit, fsplit3, fjoin, fjoin3, feq_i, rewrite, use0, use1, use2, use3, await, pick}
+use types.Match.{live}
+use types.Part.{whole, sub}
+use types.Run.{stop, fld, addr, of_opd, and_then, no_more, assigns, store_raw, returns, enter}
+use denote.Laws.{shows, Is, Typed}
+use denote.Lend.{LentAgain, lends_again, comes_back}
+use denote.Memory.{cell_at}
+use denote.Model.Fixed.{row_Makes}
+use denote.Param.{param, layouts}
+use denote.Param.Laws.{param_laws}
+use denote.RattleType.{RattleType, owns}
+use denote.Ref.{MutBor, MutRef, mut_vals, mut_Tells}
+use denote.Signature.{plain, named_lft, types_at}
+use denote.Slice.{MutSlice}
+use denote.Steps.{nothing, heard, owned, peeks, facts, opens, closes, only}
+use denote.Struct.Tuple.{Tuple}
+use denote.Triple.Call.{calls_at}
+use denote.Triple.Clauses.{lasts}
+use denote.Triple.Spec.{triple_of}
+use denote.Triple.Table.{framed}
+use denote.Triple.Walked.{Stays, stay_ref, stay_dropped, walk_of, Goes-ref, Goes-dropped}
+use Rattle.std.proofs.Common.{⊎_elim}
+use Rattle.std.proofs.alloc.Shapes.{after}
+use Rattle.std.proofs.raw_atomic.Walks.{proved, leaves}
+use Rattle.std.specs.Prelude.{Option, Some, None}
+use Rattle.std.specs.contracts.option.Option as opt
+use Rattle.lending.proofs.Lifetimes.{Ends, begins}
+use Rattle.lending.proofs.Options.{none_or_some, none_told, some_told, lent_val}
+use Rattle.lending.proofs.Pairs.{pair_told, pair_out}
+use Rattle.image_rows.specs.Rows.{hands_on, Yields, Moves}
+use Rattle.image_rows.specs.declared.ends.End.{End}
+use Rattle.image_rows.specs.declared.writing.RowsIterMut.{RowsIterMut}
+use Rattle.image_rows.specs.contracts.ends.End as end_type
+use Rattle.image_rows.specs.contracts.writing.RowsIterMut.{the_row}
+use Rattle.image_rows.proofs.ends.End.TheLaws as end_laws
+use Rattle.image_rows.proofs.writing.RowsIterMut.TheLaws as laws
+use Rattle.image_rows.proofs.Values.{typed}
+use Rattle.image_rows.specs.contracts.writing.RowsIterMut.take as K
+use Rattle.image_rows.proofs.writing.RowsIterMut.take.Met as taking
+use Rattle.image_rows.specs.contracts.writing.RowsIterMut.split_end as N
+use Rattle.image_rows.proofs.writing.RowsIterMut.split_end.Met as parting
+use Rattle.image_rows.specs.contracts.writing.RowsIterMut.step.{ended, clauses}
+use Rattle.image_rows.specs.contracts.writing.RowsIterMut.step.Key.{name as #self}
+use Rattle.image_rows.proofs.writing.RowsIterMut.step.Statement.{statement}
+use Rattle.image_rows.proofs.writing.RowsIterMut.step.Code as compiled
+
+pub step_spec : {M : Type 1} → statement M
+step_spec 𝓤 𝓛 𝓜 𝓡 wired T' L =
+    let H = 𝓛.H in
+    let En = ended T' in
+    let c = clauses T' 𝓛 𝓜.mem 𝓡.returns in
+    let args : Args = layouts (a_type ∷ []) (T', tt) in
+    let fn : Fn = inst_fn args compiled.function in
+    let R : RattleType = param 0 T' in
+    let EndRow : RattleType = end_type.the_row in
+    let hs : Stays En.signature.params En.kept = (stay_ref (0 ∷ []) tt (plain (λ κs. the_row (named_lft 3 1 tt κs) R)), (stay_dropped _ En.kept.1.0, tt)) in
+    let 𝓣 = tables 𝓤 H 𝓜 𝓡 𝓡.env in
+    let fm = framed 𝓤 H 𝓜 𝓣 in
+    proved 𝓛 En hs c 𝓜 𝓡 (Goes-ref 𝓛 3 0 tt (plain (λ κs. the_row (named_lft 3 1 tt κs) R)), (Goes-dropped 𝓛 3 (plain (λ _. EndRow)) En.kept.1.0 (λ κs x f. refl), tt))
+    (#self args) fn (compiled.unfolded 𝓤 H 𝓜 𝓡 wired (T', tt))
+    (λ κs. (mut_vals, ((λ x. end_laws.lowered x ∷ []), tt))) (λ κs. (mut_Tells (named 0) κs.0 (the_row (named_lft 3 1 tt κs) R), (end_laws.lowers.val_is, tt))) (λ κs qs bounds a gg are.
+    let κ₀ : Lft = κs.0 in let κ₁ : Lft = κs.1.0 in let κ₂ : Lft = κs.1.1.0 in let q₀ : Share = qs.0 in let q₁ : Share = qs.1.0 in let q₂ : Share = qs.1.1.0 in
+    let x : MutBor (RowsIterMut T'.Denot) = a.0 in let end : End = a.1.0 in let h : RowsIterMut T'.Denot = x.now in
+    let b : ℕ = x.ref_ptr.0 in let o : ℕ = x.ref_ptr.1 in let γ : GName = x.ghost_name in let e : Val = end_laws.lowered end in
+    let named_κ₁ = named_lft 3 1 tt κs in let It : RattleType = the_row named_κ₁ R in
+    let Sort : Type 0 = RowsIterMut T'.Denot in
+    let LR = param_laws 0 T' L in
+    let lowers = laws.lowers named_κ₁ R LR in
+    let word : Sort → Val = lowers.lowered in
+    let told : (s : Sort) (vs : List Val) → Is It s vs → vs ≡ word s ∷ [] = lowers.val_is in
+    let fit : (s : Sort) (vs : List Val) → Is It s vs → _ = λ s vs is. (typed It (laws.the_row_laws named_κ₁ R LR) lowers 𝓛 s vs is).0 in
+    let ok_end = (typed EndRow end_laws.the_row_laws end_laws.lowers 𝓛 end (e ∷ []) are.1.0).0 in
+    let y : (walk_of 𝓛 En hs c).Ghost = ((κs, qs, bounds, a, (mut_vals x, (e ∷ [], tt))), gg) in
+    let Post : Val → SProp 𝓤 = (walk_of 𝓛 En hs c).post y in
+    qed 𝓛 (((‵ (flft κ₀ q₀) ⊛ ‵ (flft κ₁ q₁) ⊛ ‵ (flft κ₂ q₂) ⊛ ‵ ftrue) ⊛ ‵ (owns (types_at En.signature.params κs) a y.0.4)) ∷ (raw (fact 𝓤 (κ₂ ⊑ T'.lives)) ⊛ raw (emp 𝓤)) ∷ []) ∵
+    move ! (1 ∷ []) $ split ! $ heard ! (κ₂ ⊑ T'.lives) (λ le. drop ! $ split ! $ move ! (1 ∷ []) $ fsplit ! $ keep ! (0 ∷ 2 ∷ []) $
+    -- [self; the tokens]
+    enter ! 𝓣.C 𝓣.Λ fn (vptr b o ∷ e ∷ []) Post $ alloc_all ! (λ l. pass_all ! refl ((tt, tt), (ok_end, tt)) $
+    sets ! (addr ! (through ! refl (stop !))) refl (tt, tt) $
+    move ! (1 ∷ []) $ split3 ! $ move ! (2 ∷ []) $ split ! $ move ! (1 ∷ []) $ drop ! $ move ! (1 ∷ []) $
+    use1 𝓛 (‵ (flft κ₀ (Share.left q₀)) ⊛ ‵ (flft κ₀ (Share.right q₀))) (𝓛.lfts.lft_split κ₀ q₀) $ split ! $
+    use1 𝓛 (later (some (λ (p : ℕ × Share). ‵ (flft (p.0 ∷ κ₀) p.1) ⊛ raw (Ends 𝓛 κ₀ (Share.left q₀) p.0 p.1)))) (begins 𝓛 κ₀ (Share.left q₀)) $ await ! tt $ pick ! (λ p. split ! $
+    let α : Lft = p.0 ∷ κ₀ in let qα : Share = p.1 in let below : α ⊑ κ₁ = ⊑_trans α κ₀ κ₁ (meet_⊑_right (p.0 ∷ []) κ₀) bounds.0 in let above : κ₁ ⊑ κ₂ = bounds.1.1.0 in
+    -- [α; its end; κ₀; κ₂; κ₁; self]
+    move ! (5 ∷ 2 ∷ []) $ use2 𝓛 (later (some (λ (δ : GName). ‵ ((MutRef (named 0) α It).own_val (record { ref_ptr = (b, o); ghost_name = δ; now = h }) (vptr b o ∷ [])) ⊛ ‵ (LentAgain It κ₀ α (Share.right q₀) γ b o δ h))))
+    (lends_again 𝓛 It (named 0) κ₀ α (Share.right q₀) γ b o (named 0) h) $ await ! tt $ pick ! (λ δ. split ! $
+    -- [the borrow; what is kept; α; its end; κ₂; κ₁]
+    let G₁ = triple_of 𝓛 (K.signature T') (K.spec T' 𝓛 𝓜.mem 𝓡.returns) in
+    let x₁ : MutBor Sort = record { ref_ptr = (b, o); ghost_name = δ; now = h } in
+    let z₁ : G₁.Ghost = (((α, (κ₁, (κ₂, tt))), (qα, (q₁, (q₂, tt))), (below, (⊑_trans α κ₁ κ₂ below above, (above, tt))), (x₁, tt), (mut_vals x₁, tt)), tt) in
+    nothing ! $ move ! (1 ∷ 0 ∷ []) $ join ! $ nothing ! $ move ! (5 ∷ 0 ∷ []) $ join ! $ move ! (5 ∷ 0 ∷ []) $ join ! $ move ! (3 ∷ 0 ∷ []) $ join ! $ join ! $
+    nothing ! $ use0 𝓛 (raw (fact 𝓤 (κ₂ ⊑ T'.lives))) (fact_i 𝓤 (κ₂ ⊑ T'.lives) (emp 𝓤) le) $ join ! $ move ! (1 ∷ 0 ∷ []) $ use2 𝓛 (raw (G₁.pre z₁)) (id⊢ 𝓤 _) $
+    -- [what the call asks; what is kept; the end of α]
+    calls_at ! fm G₁ (taking.met 𝓤 𝓛 𝓜 𝓡 (compiled.calls-image_rows::writing::RowsIterMut::take 𝓡.env wired) T' L) z₁ (and_then ! (get ! refl) (no_more !)) (λ v₁.
+    use1 𝓛 (later (some (λ (r : Sort). ((‵ (flft α qα) ⊛ ‵ (flft κ₁ q₁) ⊛ ‵ (flft κ₂ q₂) ⊛ ‵ ftrue) ⊛ ‵ (It.own_val r (v₁ ∷ []))) ⊛ some (λ (ws : Sort × Unit {0}). ‵ (lasts (K.ended T') z₁.0.0 z₁.0.3 ws) ⊛ raw (fact 𝓤 (r ≡ h)))))) (id⊢ 𝓤 _) $
+    await ! tt $ pick ! (λ r. split ! $ split ! $ move ! (2 ∷ []) $ pick ! (λ ws₁. let n : Sort = ws₁.0 in split ! $ fsplit ! $ fsplit ! $ move ! (3 ∷ []) $ heard ! (r ≡ h) (λ same.
+    -- [how the place ends; its borrow; nothing; the tokens; the rows; what is kept; the end of α]
+    move ! (3 ∷ []) $ split3 ! $ move ! (2 ∷ []) $ split ! $ move ! (1 ∷ []) $ drop ! $
+    move ! (1 ∷ 8 ∷ []) $ use2 𝓛 (later (‵ (fdead α) ⊛ ‵ (flft κ₀ (Share.left q₀)))) (apply∗ 𝓤 (𝓛.A.lft α qα) _) $ await ! tt $ split ! $
+    -- [α is over; κ₀; κ₂; κ₁; how the place ends; its borrow; nothing; the rows; what is kept]
+    move ! (0 ∷ 8 ∷ 4 ∷ []) $ use3 𝓛 (later (‵ ((MutRef (named 0) κ₀ It).own_val (record { ref_ptr = (b, o); ghost_name = γ; now = n }) (vptr b o ∷ [])) ⊛ ‵ (flft κ₀ (Share.right q₀))))
+    (comes_back 𝓛 It (named 0) κ₀ α (Share.right q₀) γ b o δ h n) $ await ! tt $ split ! $
+    move ! (2 ∷ 1 ∷ []) $ use2 𝓛 (‵ (flft κ₀ q₀)) (𝓛.lfts.lft_join κ₀ q₀) $ move ! (4 ∷ 5 ∷ []) $ drop ! $ drop ! $
+    -- [κ₀; self; κ₂; κ₁; the rows]
+    move ! (4 ∷ []) $ rewrite ! 0 (λ (s : Sort). ‵ (It.own_val s (v₁ ∷ []))) same refl $
+    peeks ! It (Is It) (shows 𝓛 It) h (v₁ ∷ []) (λ is₁. let t₁ = told h (v₁ ∷ []) is₁ in
+    rewrite ! 0 (λ (us : List Val). ‵ (It.own_val h us)) t₁ refl $
+    lands_as ! (ap only t₁) refl (fit h (v₁ ∷ []) is₁) $
+    let G₂ = triple_of 𝓛 (N.signature T') (N.spec T' 𝓛 𝓜.mem 𝓡.returns) in
+    let z₂ : G₂.Ghost = (((κ₁, (κ₂, tt)), (q₁, (q₂, tt)), (above, tt), (h, (end, tt)), (word h ∷ [], (e ∷ [], tt))), tt) in
+    nothing ! $ owned ! EndRow (Is EndRow) (row_Makes EndRow end_laws.the_row_plain 𝓛) end (e ∷ []) are.1.0 $ join ! $ move ! (1 ∷ 0 ∷ []) $ join ! $
+    nothing ! $ move ! (4 ∷ 0 ∷ []) $ join ! $ move ! (4 ∷ 0 ∷ []) $ join ! $ join ! $
+    nothing ! $ use0 𝓛 (raw (fact 𝓤 (κ₂ ⊑ T'.lives))) (fact_i 𝓤 (κ₂ ⊑ T'.lives) (emp 𝓤) le) $ join ! $ move ! (1 ∷ 0 ∷ []) $ use2 𝓛 (raw (G₂.pre z₂)) (id⊢ 𝓤 _) $
+    -- [what the call asks; κ₀; self]
+    calls_at ! fm G₂ (parting.met 𝓤 𝓛 𝓜 𝓡 (compiled.calls-image_rows::writing::RowsIterMut::split_end 𝓡.env wired) T' L) z₂ (and_then ! (get ! refl) (and_then ! (get ! refl) (no_more !))) (λ v₂.
+    let Slice : RattleType = MutSlice (named 1) κ₁ R in
+    let Row : RattleType = opt.the_row Slice in
+    let Two : RattleType = Tuple (Row ∷ It ∷ []) in
+    let Given : Type 0 = Option (MutBor (List T'.Denot)) in
+    use1 𝓛 (later (some (λ (out : Given × Sort). ((‵ (flft κ₁ q₁) ⊛ ‵ (flft κ₂ q₂) ⊛ ‵ ftrue) ⊛ ‵ (Two.own_val out (v₂ ∷ []))) ⊛ some (λ (ws : (Unit {0} × Unit {0}) × (Unit {0} × Unit {0})). ‵ (lasts (N.ended T') z₂.0.0 z₂.0.3 ws)
+    ⊛ (‵ (hands_on R end h out.0 out.1) ⊛ raw (fact 𝓤 (Yields end h out.0 out.1)) ⊛ raw (fact 𝓤 (Moves end h out.0 out.1))))))) (id⊢ 𝓤 _) $
+    await ! tt $ pick ! (λ out. let m : Given = out.0 in let t : Sort = out.1 in split ! $ split ! $ move ! (2 ∷ []) $ pick ! (λ ws₂. split ! $ drop ! $ split ! $ move ! (1 ∷ []) $ split ! $
+    heard ! (Yields end h m t) (λ steps. heard ! (Moves end h m t) (λ moved.
+    -- [what follows the row; the tokens; the row and the iterator; κ₀; self]
+    let E = env fn.locals l in
+    -- the iterator goes back to its place, and the row is handed out
+    let tail : (v : Val) → Typed Row.mir (v ∷ []) → Typed It.mir (word t ∷ []) → Sq 𝓛 (‵ (Row.own_val m (v ∷ [])) ∷ ‵ (It.own_val t (word t ∷ [])) ∷ ‵ (hands_on R end h m t) ∷ (‵ (flft κ₁ q₁) ⊛ ‵ (flft κ₂ q₂) ⊛ ‵ ftrue)
+    ∷ ‵ (flft κ₀ q₀) ∷ ‵ ((MutRef (named 0) κ₀ It).own_val (record { ref_ptr = (b, o); ghost_name = γ; now = n }) (vptr b o ∷ [])) ∷ holding 𝓛 E ((1, vptr b o) ∷ (3, v) ∷ (4, word t) ∷ [])) (runs 𝓣.C 𝓣.Λ E (after 5 fn.body) (at_ret E Post)) = λ v row_ok t_ok.
+    sets ! (of_opd ! (get ! refl)) refl t_ok.0 $
+    move ! (5 ∷ 4 ∷ []) $ fsplit3 ! $ drop ! $ move ! (0 ∷ 1 ∷ 2 ∷ []) $ opens ! tt It {h = n} b o (λ us. move ! (1 ∷ []) $ facts ! It (Is It) (shows 𝓛 It) n us (λ is.
+    rewrite ! 0 (λ (vs : List Val). ‵ (cell_at full_share It.mir vs b o)) (told n us is) refl $
+    assigns ! (of_opd ! (get ! refl)) (through ! refl (stop !)) (store_raw ! 0 refl t_ok.0) $
+    -- [the cell; the open borrow; obs; auth; the row; the iterator; what follows the row; the tokens]
+    move ! (0 ∷ 5 ∷ 1 ∷ 2 ∷ 3 ∷ []) $ closes ! tt It t (word t ∷ []) b o $
+    sets ! (of_opd ! (get ! refl)) refl row_ok.0 $ returns ! (look_at ! 0 refl) $ free_all ! refl $
+    -- [obs; the borrow; κ₀; the row; what follows the row; the tokens]
+    move ! (2 ∷ 5 ∷ []) $ join ! $ move ! (1 ∷ 2 ∷ []) $ feq_i ! (List Val) (vptr b o ∷ []) (vptr b o ∷ []) refl $ fjoin3 ! $ nothing ! $ nothing ! $ fjoin ! $ move ! (1 ∷ 0 ∷ []) $ fjoin ! $
+    -- [self; the tokens; the row; what follows the row]
+    use0 𝓛 (raw (fact 𝓤 (Moves end h m t))) (fact_i 𝓤 (Moves end h m t) (emp 𝓤) moved) $ use0 𝓛 (raw (fact 𝓤 (Yields end h m t))) (fact_i 𝓤 (Yields end h m t) (emp 𝓤) steps) $ join ! $ move ! (4 ∷ 0 ∷ []) $ join ! $
+    move ! (2 ∷ 1 ∷ 3 ∷ 0 ∷ []) $ by ! (leaves 𝓛 En hs c y v m (t, (tt, tt)) (tt, (tt, tt))))) in
+    move ! (2 ∷ []) $
+    ⊎_elim
+    (λ (none : m ≡ None).
+    let no_row : Val = live 0 (of_list []) in
+    rewrite ! 0 (λ (m' : Given). ‵ (Two.own_val (m', t) (v₂ ∷ []))) none refl $
+    peeks ! Two (Is Two) (shows 𝓛 Two) (None, t) (v₂ ∷ []) (λ is. let fit_t = fit t _ is.1.1.1.0 in
+    lands_as ! (ap only (pair_told Row It None t no_row (word t) (none_told Slice) (told t) (v₂ ∷ []) is)) refl (tt, ((record { fits = lit< tt }, tt), (fit_t.1, tt))) $
+    sets ! (of_opd ! (get_in ! (fld ! refl (stop !)) (sub ! 0 refl (whole !)))) refl (tt, (record { fits = lit< tt }, tt)) $
+    sets ! (of_opd ! (get_in ! (fld ! refl (stop !)) (sub ! 1 refl (whole !)))) refl fit_t $
+    use1 𝓛 (‵ (Row.own_val None (no_row ∷ [])) ⊛ ‵ (It.own_val t (word t ∷ []))) (pair_out Row It None t no_row (word t) (none_told Slice) (told t) (v₂ ∷ []) 𝓛) $ split ! $
+    rewrite ! 0 (λ (m' : Given). ‵ (Row.own_val m' (no_row ∷ []))) (sym none) refl $
+    forget_but ! E (1 ∷ 3 ∷ 4 ∷ []) refl $ tail no_row ((tt, (record { fits = lit< tt }, tt)), tt) (fit_t, tt)))
+    (λ (found : (w : MutBor (List T'.Denot)) × (m ≡ Some w)). let w : MutBor (List T'.Denot) = found.0 in let is_some : m ≡ Some w = found.1 in
+    let some_row : Val = live 1 (of_list (lent_val w ∷ [])) in
+    rewrite ! 0 (λ (m' : Given). ‵ (Two.own_val (m', t) (v₂ ∷ []))) is_some refl $
+    peeks ! Two (Is Two) (shows 𝓛 Two) (Some w, t) (v₂ ∷ []) (λ is. let fit_t = fit t _ is.1.1.1.0 in
+    let row_ok : WT (lent_val w) = (tt, (record { fits = is.1.1.0.1.1.1.1.0.0.1.0 }, tt)) in
+    lands_as ! (ap only (pair_told Row It (Some w) t some_row (word t) (some_told 𝓛 (named 1) κ₁ R w) (told t) (v₂ ∷ []) is)) refl (tt, ((record { fits = lit< tt }, (row_ok, tt)), (fit_t.1, tt))) $
+    sets ! (of_opd ! (get_in ! (fld ! refl (stop !)) (sub ! 0 refl (whole !)))) refl (tt, (record { fits = lit< tt }, (row_ok, tt))) $
+    sets ! (of_opd ! (get_in ! (fld ! refl (stop !)) (sub ! 1 refl (whole !)))) refl fit_t $
+    use1 𝓛 (‵ (Row.own_val (Some w) (some_row ∷ [])) ⊛ ‵ (It.own_val t (word t ∷ []))) (pair_out Row It (Some w) t some_row (word t) (some_told 𝓛 (named 1) κ₁ R w) (told t) (v₂ ∷ []) 𝓛) $ split ! $
+    rewrite ! 0 (λ (m' : Given). ‵ (Row.own_val m' (some_row ∷ []))) (sym is_some) refl $
+    forget_but ! E (1 ∷ 3 ∷ 4 ∷ []) refl $ tail some_row ((tt, (record { fits = lit< tt }, (row_ok, tt))), tt) (fit_t, tt)))
+    (none_or_some m))))))))))))))))

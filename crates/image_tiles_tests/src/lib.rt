@@ -1,0 +1,12 @@
+//! The tests of `image_tiles`. They stand apart from the code that they test, since a crate with
+//! tests is proved twice.
+#![tactic(auto)]
+
+#[cfg(test)]
+mod bands;
+#[cfg(test)]
+mod fixtures;
+#[cfg(test)]
+mod tiles;
+#[cfg(test)]
+mod tilings;

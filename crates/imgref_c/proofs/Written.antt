@@ -1,0 +1,61 @@
+-- The part of an image that a window is, written.
+use Rattle.std.proofs.Common.{◌≡◌, ◌+◌, ◌-◌, ◌≤◌, List, ◌++◌, length, take, drop, drop-drop, sym, ap, ◌∙◌, subst, arith}
+use borrow.Rule.Slice.PartMut.{mid_of, put_mid}
+use Rattle.image_model.specs.Layout.{Layout, layout, Fits, SameOutside}
+use Rattle.image_model.specs.Grid.{grid_of, patch}
+use Rattle.image_model.specs.Windows.{Window, Stretch, IsInside, exact_stretch, exact_window, window_view}
+use Rattle.image_model.proofs.Windows.{HasWindow, stretch_window, exact_has, handed_on, handed_on_grid, handed_on_outside, exact_grid, exact_fits}
+use Rattle.image_shape.specs.declared.shape.Shape.{Shape}
+use Rattle.image_shape.specs.Shape.{shape_width, shape_height, shape_stride, shaped}
+
+-- the stretch of a window, in the window's shape
+module _ {T : Type 0} (cells : List T) (outer inner : Shape) (w : Window)
+    (narrow : shape_width outer ≤ shape_stride outer) (fits : Fits (shaped cells outer)) (inside : IsInside (shape_width outer) (shape_height outer) w)
+    (wide : shape_width inner ≡ w.width) (high : shape_height inner ≡ w.height) (same_stride : shape_stride inner ≡ shape_stride outer)
+    (s : Stretch) (is : s ≡ exact_stretch (shape_stride outer) w) where
+  abbrev l : Layout T
+  l = shaped cells outer
+
+  count : s.start + s.len - s.start ≡ s.len
+  count = omega arith
+
+  -- its cells
+  abbrev part : Layout T
+  part = shaped (mid_of s.start (s.start + s.len - s.start) cells) inner
+
+  sized : (n : List T) → shaped n inner ≡ layout n w.width w.height l.stride
+  sized n = λ i. layout n (wide i) (high i) (same_stride i)
+
+  part_is : part ≡ exact_window l w
+  part_is =
+      sized (mid_of s.start (s.start + s.len - s.start) cells)
+      ∙ ap (λ n. layout (take n (drop s.start cells)) w.width w.height l.stride) count
+      ∙ ap (stretch_window l w) is
+
+  pub part_fits : Fits part
+  part_fits = subst (λ (m : Layout T). Fits m) (sym part_is) (exact_fits l w fits inside)
+
+  pub part_shows : grid_of part ≡ window_view (grid_of l) w
+  part_shows = ap (λ (m : Layout T). grid_of m) part_is ∙ exact_grid l w fits inside
+
+  -- other cells in their place
+  module _ (n : List T) (same : SameOutside part (shaped n inner)) where
+    abbrev left : List T
+    left = put_mid s.start (s.start + s.len - s.start) cells n
+
+    has : HasWindow (length cells) l.stride w s
+    has = subst (HasWindow (length cells) l.stride w) (sym is) (exact_has (length cells) l.stride l.width l.height w fits inside)
+
+    left_is : shaped left outer ≡ handed_on l s n
+    left_is =
+        let behind : drop (s.start + s.len - s.start) (drop s.start cells) ≡ drop (s.start + s.len) cells = ap (λ k. drop k (drop s.start cells)) count ∙ drop-drop s.len s.start cells in
+        ap (λ m. shaped (take s.start cells ++ (n ++ m)) outer) behind
+
+    stays : SameOutside (stretch_window l w s) (shaped n inner)
+    stays = subst (λ (m : Layout T). SameOutside m (shaped n inner)) (part_is ∙ sym (ap (stretch_window l w) is)) same
+
+    pub part_grid : grid_of (shaped left outer) ≡ patch (grid_of l) w.left w.top (grid_of (shaped n inner))
+    part_grid = ap (λ (m : Layout T). grid_of m) left_is ∙ handed_on_grid l w s has (shaped n inner) stays narrow inside
+
+    pub part_outside : SameOutside l (shaped left outer)
+    part_outside = subst (λ (m : Layout T). SameOutside l m) (sym left_is) (handed_on_outside l w s has (shaped n inner) stays inside)

@@ -1,0 +1,4 @@
+pub mod Status
+pub mod Window
+pub mod Numbering
+pub mod Calls

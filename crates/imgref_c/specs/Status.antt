@@ -1,0 +1,88 @@
+-- Which status a call answers: that of the first test that fails.
+use Rattle.std.specs.Prelude.{length, ℕ, ◌+◌, ◌-◌, ◌*◌, ◌^◌, ◌<◌, ◌≤◌, Bool, ◌&&◌, ◌||◌, ◌==◌, nat_le, nat_lt, if◌then◌else◌}
+use Rattle.image_model.specs.Layout.{Reaches}
+use Rattle.image_model.specs.Grid.{is_place}
+use Rattle.image_model.specs.Windows.{Window, is_inside}
+use Rattle.image_model.specs.Tiles.{tiles}
+use Rattle.imgref_c.specs.declared.status.Status.{Status}
+use Rattle.imgref_c.specs.declared.status.Status.TheVariants.{Done, NotAnImage, WindowOutside, SizesDiffer, PlaceOutside, NoTile}
+
+-- the number that the header gives it
+abbrev pub code : Status → ℕ
+code Done = 0
+code NotAnImage = 1
+code WindowOutside = 2
+code SizesDiffer = 3
+code PlaceOutside = 4
+code NoTile = 5
+
+-- so many cells are an image of this size and stride
+pub record IsImage (count width height stride : ℕ) : Type 0 where
+  pub stride_positive : 1 ≤ stride
+  pub width_within : width ≤ stride
+  pub width_fits : width < 2 ^ 32
+  pub height_fits : height < 2 ^ 32
+  pub reaches : Reaches count width height stride
+
+-- the same as a test
+unfoldable pub is_image : ℕ → ℕ → ℕ → ℕ → Bool
+is_image count width height stride =
+    nat_le 1 stride && (nat_le width stride && (nat_lt width (2 ^ 32) && (nat_lt height (2 ^ 32) && ((width == 0) || ((height == 0) || nat_le (stride * (height - 1) + width) count)))))
+
+-- the first test, and where it passes the others
+abbrev pub first : Bool → Status → Status → Status
+first passes fault others = if passes then others else fault
+
+-- of a call on an image alone
+abbrev pub image_status : ℕ → ℕ → ℕ → ℕ → Status
+image_status count width height stride = first (is_image count width height stride) NotAnImage Done
+
+-- of a call on the pixel in a column of a row
+abbrev pub place_status : ℕ → ℕ → ℕ → ℕ → ℕ → ℕ → Status
+place_status count width height stride x y =
+    first (is_image count width height stride) NotAnImage (first (is_place width height x y) PlaceOutside Done)
+
+-- of a call on a window
+abbrev pub window_status : ℕ → ℕ → ℕ → ℕ → Window → Status
+window_status count width height stride w =
+    first (is_image count width height stride) NotAnImage (first (is_inside width height w) WindowOutside Done)
+
+-- of a copy of one image into a window of another
+abbrev pub copy_status : ℕ → ℕ → ℕ → ℕ → Window → ℕ → ℕ → ℕ → ℕ → Status
+copy_status count width height stride w source_count source_width source_height source_stride =
+    first (is_image count width height stride) NotAnImage
+    (first (is_image source_count source_width source_height source_stride) NotAnImage
+    (first (is_inside width height w) WindowOutside
+    (first ((w.width == source_width) && (w.height == source_height)) SizesDiffer Done)))
+
+-- of a move of one window to another
+abbrev pub move_status : ℕ → ℕ → ℕ → ℕ → Window → Window → Status
+move_status count width height stride from to =
+    first (is_image count width height stride) NotAnImage
+    (first (is_inside width height from && is_inside width height to) WindowOutside
+    (first ((from.width == to.width) && (from.height == to.height)) SizesDiffer Done))
+
+-- of a comparison of two images
+abbrev pub pair_status : ℕ → ℕ → ℕ → ℕ → ℕ → ℕ → ℕ → ℕ → Status
+pair_status count width height stride other_count other_width other_height other_stride =
+    first (is_image count width height stride && is_image other_count other_width other_height other_stride) NotAnImage Done
+
+-- of a mosaic of a window
+abbrev pub mosaic_status : ℕ → ℕ → ℕ → ℕ → Window → ℕ → ℕ → Status
+mosaic_status count width height stride w tile_width tile_height =
+    first (is_image count width height stride) NotAnImage
+    (first (is_inside width height w) WindowOutside
+    (first (nat_lt 0 tile_width && nat_lt 0 tile_height) NoTile Done))
+
+-- of a call on the tiles of a size
+abbrev pub tiles_status : ℕ → ℕ → ℕ → ℕ → Status
+tiles_status width height tile_width tile_height =
+    first (nat_lt width (2 ^ 32) && nat_lt height (2 ^ 32)) NotAnImage
+    (first (nat_lt 0 tile_width && nat_lt 0 tile_height) NoTile Done)
+
+-- of a call on one tile of a size
+abbrev pub tile_status : ℕ → ℕ → ℕ → ℕ → ℕ → Status
+tile_status width height tile_width tile_height number =
+    first (nat_lt width (2 ^ 32) && nat_lt height (2 ^ 32)) NotAnImage
+    (first (nat_lt 0 tile_width && nat_lt 0 tile_height) NoTile
+    (first (nat_lt number (length (tiles width height tile_width tile_height))) NoTile Done))

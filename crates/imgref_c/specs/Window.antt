@@ -1,0 +1,7 @@
+-- Windows that come from C, as the definitions see them.
+use Rattle.image_model.specs.Windows as model
+use Rattle.imgref_c.specs.declared.window.ImgrefWindow.{ImgrefWindow}
+
+-- the window with this one's corner and size
+abbrev pub as_window : ImgrefWindow → model.Window
+as_window w = model.window w.left w.top w.width w.height

@@ -1,0 +1,82 @@
+//! Writes to the part of an image that a window is.
+//!
+//! They are out of line: what a call tests first holds so many numbers that the loop over the rows
+//! would have no register left, which costs a third of the time at rows of 64 bytes.
+
+ghost use Rattle.std.specs.Prelude.{◌≡◌, ◌<◌};
+ghost use Rattle.image_model.specs.Layout.{Fits, SameOutside};
+ghost use Rattle.image_model.specs.Grid.{grid_of, patch, uniform};
+ghost use Rattle.image_model.specs.Windows.{IsInside, window_view};
+ghost use Rattle.image_mosaics.specs.Mosaic.{mosaic};
+ghost use Rattle.image_shape.specs.Shape.{shape_width, shape_height, shaped};
+ghost use Rattle.image_shape.specs.Window.{as_window};
+
+use image_mosaics::mosaic_cells;
+use image_pixels::{copy_pixels, fill_pixels};
+use image_shape::{Shape, Window};
+
+/// Every pixel of the window becomes `value`.
+#[inline(never)]
+pub(crate) fn fill_part<T: Copy>(cells: &mut [T], shape: Shape, window: Window, value: T)
+    requires fits { Fits (shaped cells.old shape) }
+    requires inside { IsInside (shape_width shape) (shape_height shape) (as_window window) }
+    ensures grid { grid_of (shaped cells.new shape) ≡ patch (grid_of (shaped cells.old shape)) window.left window.top (uniform window.width window.height value) }
+    ensures outside { SameOutside (shaped cells.old shape) (shaped cells.new shape) }
+{
+    let part = shape.stretch(false, cells.len(), window);
+    let end = part.start + part.len;
+    fill_pixels(&mut cells[part.start..end], shape.window(window), value);
+}
+
+/// The window gets the pixels of `source`, which has its size.
+#[inline(never)]
+pub(crate) fn copy_part<T: Copy>(
+    cells: &mut [T],
+    shape: Shape,
+    window: Window,
+    source: &[T],
+    source_shape: Shape,
+)
+    requires fits { Fits (shaped cells.old shape) }
+    requires inside { IsInside (shape_width shape) (shape_height shape) (as_window window) }
+    requires source_fits { Fits (shaped source.now source_shape) }
+    requires same_width { window.width ≡ shape_width source_shape }
+    requires same_height { window.height ≡ shape_height source_shape }
+    ensures grid { grid_of (shaped cells.new shape) ≡ patch (grid_of (shaped cells.old shape)) window.left window.top (grid_of (shaped source.now source_shape)) }
+    ensures outside { SameOutside (shaped cells.old shape) (shaped cells.new shape) }
+{
+    let part = shape.stretch(false, cells.len(), window);
+    let end = part.start + part.len;
+    copy_pixels(
+        &mut cells[part.start..end],
+        shape.window(window),
+        source,
+        source_shape,
+    );
+}
+
+/// Each tile of the window, from its corner on, gets the pixel that stood at the tile's corner.
+#[inline(never)]
+pub(crate) fn mosaic_part<T: Copy>(
+    cells: &mut [T],
+    shape: Shape,
+    window: Window,
+    tile_width: usize,
+    tile_height: usize,
+)
+    requires fits { Fits (shaped cells.old shape) }
+    requires inside { IsInside (shape_width shape) (shape_height shape) (as_window window) }
+    requires wide { 0 < tile_width }
+    requires high { 0 < tile_height }
+    ensures grid { grid_of (shaped cells.new shape) ≡ patch (grid_of (shaped cells.old shape)) window.left window.top (mosaic tile_width tile_height (window_view (grid_of (shaped cells.old shape)) (as_window window))) }
+    ensures outside { SameOutside (shaped cells.old shape) (shaped cells.new shape) }
+{
+    let part = shape.stretch(false, cells.len(), window);
+    let end = part.start + part.len;
+    mosaic_cells(
+        &mut cells[part.start..end],
+        shape.window(window),
+        tile_width,
+        tile_height,
+    );
+}

@@ -1,0 +1,38 @@
+//! What a call answers.
+
+ghost use Rattle.std.specs.Prelude.{◌≡◌};
+
+/// What a call answers: that it is done, or the first test that failed.
+#[derive(Clone, Copy, PartialEq, Eq)]
+pub(crate) enum Status {
+    /// It is done.
+    Done,
+    /// The cells are no image of that width, height and stride.
+    NotAnImage,
+    /// The window isn't inside the image.
+    WindowOutside,
+    /// The window and the source differ in width or height.
+    SizesDiffer,
+    /// There is no pixel in that column and row.
+    PlaceOutside,
+    /// There is no tile of that number, or a tile would have no pixel.
+    NoTile,
+}
+
+impl Status {
+    ghost use Rattle.imgref_c.specs.Status.{code};
+
+    /// Its number in the header.
+    pub(crate) fn code(self) -> u32
+        ensures { result ≡ code self }
+    {
+        match self {
+            Status::Done => 0,
+            Status::NotAnImage => 1,
+            Status::WindowOutside => 2,
+            Status::SizesDiffer => 3,
+            Status::PlaceOutside => 4,
+            Status::NoTile => 5,
+        }
+    }
+}

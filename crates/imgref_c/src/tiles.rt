@@ -1,0 +1,122 @@
+//! The tiles of a size, by their numbers.
+
+ghost use Rattle.std.specs.Prelude.{◌≡◌, ◌<◌, ◌^◌, length, Some, slice_get};
+ghost use Rattle.image_model.specs.Tiles.{tiles};
+ghost use Rattle.imgref_c.specs.Status.{code, tiles_status, tile_status};
+ghost use Rattle.imgref_c.specs.Numbering.{Numbered};
+ghost use Rattle.imgref_c.specs.Window.{as_window};
+ghost use Rattle.imgref_c.specs.Calls.{Gives};
+
+use crate::status::Status;
+use crate::window::ImgrefWindow;
+use image_tiles::tiles_along;
+
+// How many tiles a size has.
+#[tactic(auto, using(crate::proofs::Numbering::count_fits, crate::proofs::Numbering::counted))]
+fn count_of(width: usize, height: usize, tile_width: usize, tile_height: usize) -> usize
+    requires width_fits { width < 2 ^ 32 }
+    requires height_fits { height < 2 ^ 32 }
+    requires wide { 0 < tile_width }
+    requires high { 0 < tile_height }
+    ensures { result ≡ length (tiles width height tile_width tile_height) }
+{
+    tiles_along(height, tile_height) * tiles_along(width, tile_width)
+}
+
+// How many tiles stand in a line of a size that has a tile with this number.
+
+fn columns_of(
+    width: usize,
+    height: usize,
+    tile_width: usize,
+    tile_height: usize,
+    number: usize,
+) -> usize
+    requires wide { 0 < tile_width }
+    requires high { 0 < tile_height }
+    requires below { number < length (tiles width height tile_width tile_height) }
+    ensures { Numbered width height tile_width tile_height number result }
+{
+    tiles_along(width, tile_width)
+}
+
+// The window of the tile with this number.
+fn window_of(
+    width: usize,
+    height: usize,
+    tile_width: usize,
+    tile_height: usize,
+    number: usize,
+) -> ImgrefWindow
+    requires wide { 0 < tile_width }
+    requires high { 0 < tile_height }
+    requires below { number < length (tiles width height tile_width tile_height) }
+    ensures { slice_get (tiles width height tile_width tile_height) number ≡ Some (as_window result) }
+{
+    let columns = columns_of(width, height, tile_width, tile_height, number);
+    let left = number % columns * tile_width;
+    let top = number / columns * tile_height;
+    ImgrefWindow {
+        left,
+        top,
+        width: tile_width.min(width - left),
+        height: tile_height.min(height - top),
+    }
+}
+
+// Whether this is the size of an image, and a tile has a pixel.
+fn tested(width: usize, height: usize, tile_width: usize, tile_height: usize) -> Status
+    ensures { result ≡ tiles_status width height tile_width tile_height }
+{
+    let greatest = u32::MAX as usize;
+    if width > greatest || height > greatest {
+        return Status::NotAnImage;
+    }
+    if tile_width == 0 || tile_height == 0 {
+        return Status::NoTile;
+    }
+    Status::Done
+}
+
+/// How many tiles of `tile_width` by `tile_height` pixels a size has goes to `count`.
+#[unsafe(no_mangle)]
+pub extern "C" fn imgref_tile_count(
+    width: usize,
+    height: usize,
+    tile_width: usize,
+    tile_height: usize,
+    count: &mut usize,
+) -> u32
+    ensures status { result ≡ code (tiles_status width height tile_width tile_height) }
+    ensures gives { Gives result count.old count.new (count.new ≡ length (tiles width height tile_width tile_height)) }
+{
+    let status = tested(width, height, tile_width, tile_height);
+    if status == Status::Done {
+        *count = count_of(width, height, tile_width, tile_height);
+    }
+    status.code()
+}
+
+/// The window of the tile with this number goes to `window`: line by line, from left to right.
+#[unsafe(no_mangle)]
+pub extern "C" fn imgref_tile(
+    width: usize,
+    height: usize,
+    tile_width: usize,
+    tile_height: usize,
+    number: usize,
+    window: &mut ImgrefWindow,
+) -> u32
+    ensures status { result ≡ code (tile_status width height tile_width tile_height number) }
+    ensures gives { Gives result window.old window.new (slice_get (tiles width height tile_width tile_height) number ≡ Some (as_window window.new)) }
+{
+    let status = tested(width, height, tile_width, tile_height);
+    if status != Status::Done {
+        return status.code();
+    }
+    if number >= count_of(width, height, tile_width, tile_height) {
+        return Status::NoTile.code();
+    }
+    *window = window_of(width, height, tile_width, tile_height, number);
+    Status::Done.code()
+}

@@ -1,0 +1,36 @@
+//! A window that comes from C.
+
+ghost use Rattle.std.specs.Prelude.{◌≡◌};
+
+use image_shape::Window;
+
+/// A window of an image: its corner and its size, in pixels.
+#[repr(C)]
+#[derive(Clone, Copy)]
+pub struct ImgrefWindow {
+    /// The column of its corner.
+    pub left: usize,
+    /// The row of its corner.
+    pub top: usize,
+    /// How many columns it has.
+    pub width: usize,
+    /// How many rows it has.
+    pub height: usize,
+}
+
+impl ImgrefWindow {
+    ghost use Rattle.image_shape.specs.Window.{as_window as model_of};
+    ghost use Rattle.imgref_c.specs.Window.{as_window};
+
+    /// The same window for the calls below.
+    pub(crate) fn as_window(self) -> Window
+        ensures { model_of result ≡ as_window self }
+    {
+        Window {
+            left: self.left,
+            top: self.top,
+            width: self.width,
+            height: self.height,
+        }
+    }
+}

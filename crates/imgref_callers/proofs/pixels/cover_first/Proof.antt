@@ -1,0 +1,197 @@
+-- `cover_first` lends the image to a cursor and the cursor to `write_next`, and takes both back: the image ends as the cursor's cells do. Assumes `Logic`.
+use mathlib.Core.Path.{◌≡◌, refl, ap, subst}
+use Prim.Native.Nat.{ℕ, ◌*◌, ◌<◌, ◌^◌}
+use mathlib.Core.List.{List, [], ◌∷◌, ◌++◌}
+use lib.ListN.{length}
+use base.Fml.{Lft, GName, Share, ftrue, fdead, fres, flft, flent, fat}
+use base.Fraction.{full_share}
+use base.Share
+use base.Logic.{SProp, emp, id⊢, apply∗}
+use base.Stored.{coded_list}
+use mir.Syntax.{Args, Dict, Fn, Ty, named, w64, a_type, dcons, dnil, tcons, tnil, impl}
+use mir.MapTy.{inst_fn}
+use mir.Val.{Val, vint, vptr, vunit}
+use contract.BorrowLft.{◌⊑◌, ⊑_trans, meet_⊑_right}
+use contract.Monad.{fact, fact_i}
+use contract.Running.{tables}
+use types.Kit.{‵, ◌⊛◌, raw, later, some, ◌$◌, ◌∵◌, !, qed, by, move, keep, drop, split, split3, join, fsplit, fjoin, fpick, feq_l, feq_i, rewrite, use0, use1, use2, use3, await, pick}
+use types.Run.{stop, from, addr, of_opd, unit_lit, and_then, no_more, returns, enter}
+use types.ByLocal.{alloc_all, pass_all, free_all, look_at, get, through, sets, lands_as, take_at, give_at}
+use types.SemTy.{Body}
+use borrow.Table.OneValue.{part_in_at, part_out_at}
+use denote.Array.{Array}
+use denote.Builtin.{unit, usize}
+use denote.Exit.{no, yes}
+use denote.Plain.{uint_Makes, uint_vals, uint_Tells}
+use denote.Follow.{follows, followed}
+use denote.Laws.{shows, Is}
+use denote.Lend.{LentAgain, lends_again, comes_back, lends_ref, ref_back}
+use denote.Memory.{part_at, mem}
+use denote.Param.{param, copied, layout, bounded}
+use denote.Param.Laws.{param_laws, copied_laws, copied_copy}
+use denote.Param.NoDrop.{glues}
+use denote.RattleType.{RattleType, owns}
+use denote.Ref.{MutBor, MutRef, mut_vals, mut_Tells}
+use denote.Signature.{plain, named_lft, types_at}
+use denote.Steps.{nothing, heard, owned, peeks, only}
+use denote.Triple.Call.{calls_at}
+use denote.Triple.Clauses.{lasts}
+use denote.Triple.Spec.{triple_of}
+use denote.Triple.Table.{framed}
+use denote.Triple.Walked.{Stays, stay_ref, stay_dropped, walk_of, Goes-ref, Goes-dropped}
+use Rattle.std.proofs.raw_atomic.Walks.{proved, leaves}
+use Rattle.image_model.specs.Layout.{Layout, Fits}
+use Rattle.image_model.specs.Grid.{grid_of}
+use Rattle.image_model.specs.Rows.{pixels, grid_pixels}
+use Rattle.lending.proofs.Endings.{ends_said}
+use Rattle.lending.proofs.Lifetimes.{Ends, begins}
+use Rattle.image_pixels.specs.Marks.{marks_of}
+use Rattle.image_pixels.specs.Pixels.{cells_left, marks_left, muts_left, name_of}
+use Rattle.image_pixels.specs.declared.pixels_mut.PixelsIterMut.{PixelsIterMut}
+use Rattle.image_pixels.specs.contracts.pixels_mut.PixelsIterMut as P
+use Rattle.image_pixels.proofs.pixels_mut.PixelsIterMut.TheLaws as laws
+use Rattle.image_pixels.specs.contracts.pixels_mut.PixelsIterMut.drop as D
+use Rattle.image_pixels.proofs.pixels_mut.PixelsIterMut.drop.Met as dropping
+use Rattle.imgref.specs.Image.{with_all, layout_by}
+use Rattle.imgref.specs.declared.img.Img.{Img}
+use Rattle.imgref.specs.contracts.img.Img.{the_row}
+use Rattle.imgref.specs.contracts.img.Img.exact_pixels_mut as M
+use Rattle.imgref.proofs.img.Img.exact_pixels_mut.Met as making
+use Rattle.imgref_callers.specs.Pixels.{first_covered, writes_first}
+use Rattle.imgref_callers.specs.contracts.pixels.write_next as W
+use Rattle.imgref_callers.proofs.pixels.write_next.Met as writing
+use Rattle.imgref_callers.specs.contracts.pixels.cover_first.{ended, clauses}
+use Rattle.imgref_callers.specs.contracts.pixels.cover_first.Key.{name as #self}
+use Rattle.imgref_callers.proofs.pixels.cover_first.Statement.{statement}
+use Rattle.imgref_callers.proofs.pixels.cover_first.Code as compiled
+use Rattle.imgref_callers.proofs.Destruct++none.drop.Code.{code as let_go_code}
+
+pub cover_first_spec : {M : Type 1} → statement M
+unfolding let_go_code
+cover_first_spec 𝓤 𝓛 𝓜 𝓡 wired X Y LX LY CY gh d gs ds gc dc bm bs bc =
+    let H = 𝓛.H in
+    let En = ended X Y gh d gs ds gc dc in
+    let c = clauses X Y gh d gs ds gc dc 𝓛 𝓜.mem 𝓡.returns in
+    let args : Args = bounded (a_type ∷ a_type ∷ []) (X, (Y, tt)) (dcons d (dcons ds (dcons dc dnil))) in
+    let fn : Fn = inst_fn args compiled.function in
+    let R : RattleType = copied 1 Y in
+    let Whole : RattleType = the_row (param 0 X) in
+    let w = (copied_copy 1 Y CY).val in
+    let hs : Stays En.signature.params En.kept = (stay_ref (0 ∷ []) tt (plain (λ _. Whole)), (stay_dropped (plain (λ _. usize)) yes, (stay_dropped (plain (λ _. R)) no, tt))) in
+    let 𝓣 = tables 𝓤 H 𝓜 𝓡 𝓡.env in
+    let fm = framed 𝓤 H 𝓜 𝓣 in
+    proved 𝓛 En hs c 𝓜 𝓡 (Goes-ref 𝓛 3 0 tt (plain (λ _. Whole)), (Goes-dropped 𝓛 3 (plain (λ _. usize)) yes (λ κs x f. refl), (Goes-dropped 𝓛 3 (plain (λ _. R)) no (λ κs x f. refl), tt)))
+    (#self args) fn (compiled.unfolded 𝓤 H 𝓜 𝓡 wired (X, (Y, tt)) d ds dc)
+    (λ κs. (mut_vals, (uint_vals w64, ((λ x. w x ∷ []), tt)))) (λ κs. (mut_Tells (named 0) κs.0 Whole, (uint_Tells w64, ((copied_copy 1 Y CY).tells, tt)))) (λ κs qs bounds a gg are.
+    let κ₀ : Lft = κs.0 in let κ₁ : Lft = κs.1.0 in let κ₂ : Lft = κs.1.1.0 in let q₀ : Share = qs.0 in let q₁ : Share = qs.1.0 in let q₂ : Share = qs.1.1.0 in
+    let x : MutBor (Img X.Denot) = a.0 in let count : ℕ = a.1.0 in let low_count : count < 2 ^ 64 = are.1.0.1 in let value : Y.Denot = a.1.1.0 in let v : Val = w value in
+    let b : ℕ = x.ref_ptr.0 in let o : ℕ = x.ref_ptr.1 in let γ : GName = x.ghost_name in
+    let old : Layout Y.Denot = layout_by gs.cells x.now in let Fit : Type 0 = Fits old in
+    let bound : (walk_of 𝓛 En hs c).Ghost = ((κs, qs, bounds, a, (mut_vals x, (vint w64 count ∷ [], (v ∷ [], tt)))), gg) in
+    let Post : Val → SProp 𝓤 = (walk_of 𝓛 En hs c).post bound in
+    let good = (((copied_laws 1 Y LY).lawful 𝓛).typed value (v ∷ []) are.1.1.0).0 in
+    qed 𝓛 (((‵ (flft κ₀ q₀) ⊛ ‵ (flft κ₁ q₁) ⊛ ‵ (flft κ₂ q₂) ⊛ ‵ ftrue) ⊛ ‵ (owns (types_at En.signature.params κs) a bound.0.4)) ∷ (raw (fact 𝓤 (κ₁ ⊑ X.lives)) ⊛ raw (fact 𝓤 (κ₂ ⊑ Y.lives)) ⊛ raw (fact 𝓤 Fit)) ∷ []) ∵
+    move ! (1 ∷ []) $ split3 ! $ heard ! (κ₁ ⊑ X.lives) (λ inX. heard ! (κ₂ ⊑ Y.lives) (λ inY. heard ! Fit (λ fits. split ! $ move ! (1 ∷ []) $ fsplit ! $ move ! (1 ∷ []) $ fsplit ! $ move ! (1 ∷ []) $ fsplit ! $ keep ! (3 ∷ 0 ∷ 4 ∷ []) $
+    -- [the image's reference; the value; the tokens]
+    enter ! 𝓣.C 𝓣.Λ fn (vptr b o ∷ vint w64 count ∷ v ∷ []) Post $ alloc_all ! (λ l. pass_all ! refl ((tt, tt), ((tt, record { fits = low_count }), (good, tt))) $
+    sets ! (addr ! (through ! refl (stop !))) refl (tt, tt) $
+    move ! (2 ∷ []) $ split3 ! $ move ! (2 ∷ []) $ split ! $ move ! (1 ∷ []) $ drop ! $ move ! (1 ∷ []) $
+    use1 𝓛 (‵ (flft κ₀ (Share.left q₀)) ⊛ ‵ (flft κ₀ (Share.right q₀))) (𝓛.lfts.lft_split κ₀ q₀) $ split ! $
+    use1 𝓛 (later (some (λ (p : ℕ × Share). ‵ (flft (p.0 ∷ κ₀) p.1) ⊛ raw (Ends 𝓛 κ₀ (Share.left q₀) p.0 p.1)))) (begins 𝓛 κ₀ (Share.left q₀)) $ await ! tt $ pick ! (λ p. split ! $
+    let α : Lft = p.0 ∷ κ₀ in let qα : Share = p.1 in let below : α ⊑ κ₀ = meet_⊑_right (p.0 ∷ []) κ₀ in let in₁ : α ⊑ κ₁ = ⊑_trans α κ₀ κ₁ below bounds.1.0 in let in₂ : α ⊑ κ₂ = ⊑_trans α κ₀ κ₂ below bounds.0 in
+    -- [α; its end; κ₀; κ₂; κ₁; the image; the value]
+    move ! (5 ∷ 2 ∷ []) $ use2 𝓛 (later (some (λ (δ : GName). ‵ ((MutRef (named 0) α Whole).own_val (record { ref_ptr = (b, o); ghost_name = δ; now = x.now }) (vptr b o ∷ [])) ⊛ ‵ (LentAgain Whole κ₀ α (Share.right q₀) γ b o δ x.now))))
+    (lends_again 𝓛 Whole (named 0) κ₀ α (Share.right q₀) γ b o (named 0) x.now) $ await ! tt $ pick ! (λ δ. split ! $
+    -- [the borrow; what is kept; α; its end; κ₂; κ₁; the value]
+    let G₁ = triple_of 𝓛 (M.signature X Y) (M.spec X Y gh d gs ds 𝓛 𝓜.mem 𝓡.returns) in
+    let x₁ : MutBor (Img X.Denot) = record { ref_ptr = (b, o); ghost_name = δ; now = x.now } in
+    let z₁ : G₁.Ghost = (((α, (κ₁, (κ₂, tt))), (qα, (q₁, (q₂, tt))), (in₁, (in₂, tt)), (x₁, tt), (mut_vals x₁, tt)), tt) in
+    nothing ! $ move ! (1 ∷ 0 ∷ []) $ join ! $ nothing ! $ move ! (5 ∷ 0 ∷ []) $ join ! $ move ! (5 ∷ 0 ∷ []) $ join ! $ move ! (3 ∷ 0 ∷ []) $ join ! $ join ! $
+    use0 𝓛 (raw (fact 𝓤 Fit)) (fact_i 𝓤 Fit (emp 𝓤) fits) $ use0 𝓛 (raw (fact 𝓤 (κ₂ ⊑ Y.lives))) (fact_i 𝓤 (κ₂ ⊑ Y.lives) (emp 𝓤) inY) $ join ! $ use0 𝓛 (raw (fact 𝓤 (κ₁ ⊑ X.lives))) (fact_i 𝓤 (κ₁ ⊑ X.lives) (emp 𝓤) inX) $ join ! $
+    move ! (1 ∷ 0 ∷ []) $ use2 𝓛 (raw (G₁.pre z₁)) (id⊢ 𝓤 _) $
+    -- [what the call asks; what is kept; the end of α; the value]
+    calls_at ! fm G₁ (making.met 𝓤 𝓛 𝓜 𝓡 (compiled.calls-imgref::img::Img::exact_pixels_mut 𝓡.env wired) X Y LX LY gh d gs ds bm bs) z₁ (and_then ! (get ! refl) (no_more !)) (λ v₁.
+    let cursor : RattleType = P.the_row (named_lft 3 0 tt (α, (κ₁, (κ₂, tt)))) (param 1 Y) in
+    let Sort : Type 0 = PixelsIterMut Y.Denot in
+    let F : List Y.Denot → Img X.Denot = with_all gs.cells gh.with_cells x.now in
+    let marked = marks_of x.now.width x.now.height x.now.stride in
+    use1 𝓛 (later (some (λ (r : Sort). ((‵ (flft α qα) ⊛ ‵ (flft κ₁ q₁) ⊛ ‵ (flft κ₂ q₂) ⊛ ‵ ftrue) ⊛ ‵ (cursor.own_val r (v₁ ∷ []))) ⊛ some (λ (ws : Unit {0} × Unit {0}). ‵ (lasts (M.ended X Y gh d gs ds) z₁.0.0 z₁.0.3 ws)
+    ⊛ (‵ (follows Whole (Array (param 1 Y) 0) δ (name_of r) F) ⊛ raw (fact 𝓤 (cells_left r ≡ old.cells)) ⊛ raw (fact 𝓤 (marks_left r ≡ marked)) ⊛ raw (fact 𝓤 (muts_left r ≡ pixels old)) ⊛ raw (fact 𝓤 (muts_left r ≡ grid_pixels (grid_of old)))
+    ⊛ raw (fact 𝓤 (length (muts_left r) ≡ x.now.width * x.now.height)) ⊛ raw (fact 𝓤 (length (muts_left r) < 2 ^ 64))))))) (id⊢ 𝓤 _) $
+    await ! tt $ pick ! (λ r. split ! $ split ! $ move ! (2 ∷ []) $ pick ! (λ ws₁. split ! $ drop ! $ split ! $ move ! (1 ∷ []) $ split ! $ heard ! (cells_left r ≡ old.cells) (λ cells. split ! $ heard ! (marks_left r ≡ marked) (λ marked_is. drop ! $
+    -- [what follows; the tokens; the cursor; what is kept; the end of α; the value]
+    let lowered : Sort → Val = laws.lowered (named_lft 3 0 tt (α, (κ₁, (κ₂, tt)))) (param 1 Y) (param_laws 1 Y LY) in
+    let low = laws.lowers (named_lft 3 0 tt (α, (κ₁, (κ₂, tt)))) (param 1 Y) (param_laws 1 Y LY) in
+    let typed = ((laws.the_row_laws (named_lft 3 0 tt (α, (κ₁, (κ₂, tt)))) (param 1 Y) (param_laws 1 Y LY)).lawful 𝓛).typed in
+    move ! (2 ∷ []) $ peeks ! cursor (Is cursor) (shows 𝓛 cursor) r (v₁ ∷ []) (λ is₁.
+    let told₁ : v₁ ∷ [] ≡ lowered r ∷ [] = low.val_is r (v₁ ∷ []) is₁ in
+    let fit : (s : Sort) (vs : List Val) → Is cursor s vs → _ = λ s vs is. (typed s (lowered s ∷ []) (subst (Is cursor s) (low.val_is s vs is) is)).0 in
+    rewrite ! 0 (λ (us : List Val). ‵ (cursor.own_val r us)) told₁ refl $
+    lands_as ! (ap only told₁) refl (fit r (v₁ ∷ []) is₁) $
+    sets ! (of_opd ! (get ! refl)) refl (fit r (v₁ ∷ []) is₁) $
+    -- [the cursor; what follows; the tokens; what is kept; the end of α; the value]
+    move ! (2 ∷ []) $ split3 ! $ move ! (2 ∷ []) $ split ! $ move ! (1 ∷ []) $ drop ! $ move ! (1 ∷ []) $
+    use1 𝓛 (‵ (flft α (Share.left qα)) ⊛ ‵ (flft α (Share.right qα))) (𝓛.lfts.lft_split α qα) $ split ! $
+    use1 𝓛 (later (some (λ (p' : ℕ × Share). ‵ (flft (p'.0 ∷ α) p'.1) ⊛ raw (Ends 𝓛 α (Share.left qα) p'.0 p'.1)))) (begins 𝓛 α (Share.left qα)) $ await ! tt $ pick ! (λ p'. split ! $
+    let β : Lft = p'.0 ∷ α in let qβ : Share = p'.1 in let inside : β ⊑ α = meet_⊑_right (p'.0 ∷ []) α in
+    -- [β; its end; α; κ₂; κ₁; the cursor; what follows; what is kept; the end of α; the value]
+    take_at ! 4 $ move ! (0 ∷ 6 ∷ []) $
+    -- [local 4; the cursor; β; its end; α; κ₂; κ₁; what follows; what is kept; the end of α; the value]
+    let spelled : Ty = low.mir in
+    use2 𝓛 (‵ (part_at cursor full_share r (l 4) 0)) (part_in_at 𝓛 cursor refl full_share r (l 4) 0 spelled refl (lowered r)) $
+    use1 𝓛 (later (some (λ (ε : GName). ‵ ((MutRef (named 0) β cursor).own_val (record { ref_ptr = (l 4, 0); ghost_name = ε; now = r }) (vptr (l 4) 0 ∷ [])) ⊛ ‵ (flent β (Body (mem cursor) (l 4) 0 ε)))))
+    (lends_ref 𝓛 cursor (named 0) β r (l 4) 0) $ await ! tt $ pick ! (λ ε. split ! $
+    -- [the borrow; what is kept of it; β; its end; α; κ₂; κ₁; what follows; what is kept; the end of α; the value]
+    sets ! (addr ! (from ! (stop !))) refl (tt, tt) $
+    let G₂ = triple_of 𝓛 (W.signature Y) (W.spec Y gc dc 𝓛 𝓜.mem 𝓡.returns) in
+    let x₂ : MutBor Sort = record { ref_ptr = (l 4, 0); ghost_name = ε; now = r } in
+    let z₂ : G₂.Ghost = (((β, (α, (κ₂, tt))), (qβ, (Share.right qα, (q₂, tt))), (inside, (⊑_trans β α κ₂ inside in₂, (in₂, tt))), (x₂, (count, (value, tt))), (mut_vals x₂, (vint w64 count ∷ [], (v ∷ [], tt)))), tt) in
+    nothing ! $ move ! (11 ∷ 0 ∷ []) $ fjoin ! $ owned ! usize (Is usize) (uint_Makes 𝓛 w64) count (vint w64 count ∷ []) (refl, low_count) $ fjoin ! $ move ! (1 ∷ 0 ∷ []) $ fjoin ! $
+    nothing ! $ move ! (6 ∷ 0 ∷ []) $ join ! $ move ! (5 ∷ 0 ∷ []) $ join ! $ move ! (3 ∷ 0 ∷ []) $ join ! $ join ! $
+    nothing ! $ use0 𝓛 (raw (fact 𝓤 (κ₂ ⊑ Y.lives))) (fact_i 𝓤 (κ₂ ⊑ Y.lives) (emp 𝓤) inY) $ join ! $ move ! (1 ∷ 0 ∷ []) $ use2 𝓛 (raw (G₂.pre z₂)) (id⊢ 𝓤 _) $
+    -- [what the call asks; what is kept of the loan; the end of β; κ₁; what follows; what is kept; the end of α]
+    calls_at ! fm G₂ (writing.met 𝓤 𝓛 𝓜 𝓡 (compiled.calls-imgref_callers::pixels::write_next 𝓡.env wired) Y LY CY gc dc bc) z₂ (and_then ! (get ! refl) (and_then ! (get ! refl) (and_then ! (get ! refl) (no_more !)))) (λ v₂.
+    use1 𝓛 (later (some (λ (u : Unit {0}). ((‵ (flft β qβ) ⊛ ‵ (flft α (Share.right qα)) ⊛ ‵ (flft κ₂ q₂) ⊛ ‵ ftrue) ⊛ ‵ (unit.own_val u (v₂ ∷ []))) ⊛ some (λ (ws : Sort × (Unit {0} × (Unit {0} × Unit {0}))). ‵ (lasts (W.ended Y gc dc) z₂.0.0 z₂.0.3 ws) ⊛ ‵ (writes_first R count value r ws.0))))) (id⊢ 𝓤 _) $
+    await ! tt $ pick ! (λ u. split ! $ split ! $ move ! (1 ∷ []) $ feq_l ! (λ is_unit. lands_as ! (ap only is_unit) refl (tt, tt) $
+    move ! (1 ∷ []) $ pick ! (λ ws₂. let t : Sort = ws₂.0 in split ! $ fsplit ! $ fsplit ! $
+    -- [the cursor's last value; its borrow; nothing; what it fills; the tokens; what is kept of the loan; the end of β; κ₁; what follows; what is kept; the end of α]
+    move ! (4 ∷ []) $ split3 ! $ move ! (0 ∷ 8 ∷ []) $ use2 𝓛 (later (‵ (fdead β) ⊛ ‵ (flft α (Share.left qα)))) (apply∗ 𝓤 (𝓛.A.lft β qβ) _) $ await ! tt $ split ! $
+    move ! (1 ∷ 2 ∷ []) $ use2 𝓛 (‵ (flft α qα)) (𝓛.lfts.lft_join α qα) $
+    -- [α; β is over; κ₂; the cursor's last value; its borrow; nothing; what it fills; what is kept of the loan; κ₁; what follows; what is kept; the end of α]
+    move ! (1 ∷ 7 ∷ 3 ∷ []) $ use3 𝓛 (later (‵ (part_at cursor full_share t (l 4) 0))) (ref_back 𝓛 cursor β ε t (l 4) 0) $ await ! tt $
+    use1 𝓛 (some (λ (v₃ : Val). ‵ (fat full_share spelled (l 4) 0 v₃) ⊛ ‵ (cursor.own_val t (v₃ ∷ [])))) (part_out_at 𝓛 cursor refl full_share t (l 4) 0 spelled refl) $ pick ! (λ v₃. split ! $
+    move ! (1 ∷ []) $ peeks ! cursor (Is cursor) (shows 𝓛 cursor) t (v₃ ∷ []) (λ is₃.
+    let told₃ : v₃ ∷ [] ≡ lowered t ∷ [] = low.val_is t (v₃ ∷ []) is₃ in
+    rewrite ! 0 (λ (us : List Val). ‵ (cursor.own_val t us)) told₃ refl $ move ! (1 ∷ []) $ rewrite ! 0 (λ (us : Val). ‵ (fat full_share spelled (l 4) 0 us)) (ap only told₃) refl $ give_at ! 4 $
+    -- [the cursor; α; κ₂; its borrow; nothing; what it fills; κ₁; what follows; what is kept; the end of α]
+    sets ! (of_opd ! (unit_lit !)) refl (tt, tt) $ sets ! (of_opd ! (get ! refl)) refl (fit t (v₃ ∷ []) is₃) $
+    let let_go : Dict = impl ("imgref_callers::Destruct++none::drop" ∷ []) (tcons (layout Y) tnil) dnil in
+    let G₃ = triple_of 𝓛 (D.signature Y) (D.spec Y let_go 𝓛 𝓜.mem 𝓡.returns) in
+    let z₃ : G₃.Ghost = (((α, (κ₂, tt)), (qα, (q₂, tt)), (in₂, tt), (t, tt), (lowered t ∷ [], tt)), tt) in
+    nothing ! $ move ! (1 ∷ 0 ∷ []) $ fjoin ! $ move ! (1 ∷ 2 ∷ []) $ join ! $ join ! $
+    nothing ! $ use0 𝓛 (raw (fact 𝓤 (κ₂ ⊑ Y.lives))) (fact_i 𝓤 (κ₂ ⊑ Y.lives) (emp 𝓤) inY) $ join ! $ move ! (1 ∷ 0 ∷ []) $ use2 𝓛 (raw (G₃.pre z₃)) (id⊢ 𝓤 _) $
+    -- [what the call asks; the borrow of the cursor; nothing; what it fills; κ₁; what follows; what is kept; the end of α]
+    calls_at ! fm G₃ (dropping.met 𝓤 𝓛 𝓜 𝓡 (compiled.calls-image_pixels::pixels_mut::PixelsIterMut::drop 𝓡.env wired) Y LY let_go (glues "imgref_callers::Destruct++none::drop" 𝓡.env (compiled.calls-imgref_callers::Destruct++none::drop 𝓡.env wired) Y LY _ 𝓤 𝓛 𝓜 𝓡)) z₃ (and_then ! (get ! refl) (no_more !)) (λ v₄.
+    use1 𝓛 (later (some (λ (u₃ : Unit {0}). ((‵ (flft α qα) ⊛ ‵ (flft κ₂ q₂) ⊛ ‵ ftrue) ⊛ ‵ (unit.own_val u₃ (v₄ ∷ []))) ⊛ some (λ (ws : Unit {0} × Unit {0}). ‵ (lasts (D.ended Y let_go) z₃.0.0 z₃.0.3 ws) ⊛ ‵ (fres (name_of t) ((coded_list R.coded).code (cells_left t))))))) (id⊢ 𝓤 _) $
+    await ! tt $ pick ! (λ u₃. split ! $ split ! $ move ! (1 ∷ []) $ feq_l ! (λ was_unit. lands_as ! (ap only was_unit) refl (tt, tt) $
+    move ! (1 ∷ []) $ pick ! (λ ws₃. split ! $ drop ! $ move ! (1 ∷ []) $ split3 ! $
+    -- [α; κ₂; nothing; how the cells that are left end; the borrow of the cursor; nothing; what it fills; κ₁; what follows; what is kept; the end of α]
+    move ! (0 ∷ 10 ∷ []) $ use2 𝓛 (later (‵ (fdead α) ⊛ ‵ (flft κ₀ (Share.left q₀)))) (apply∗ 𝓤 (𝓛.A.lft α qα) _) $ await ! tt $ split ! $
+    move ! (7 ∷ []) $ fpick ! (λ done. fsplit ! $ feq_l ! (λ all.
+    -- [how the cells end; α is over; κ₀; κ₂; nothing; how the cells that are left end; the borrow of the cursor; nothing; κ₁; what follows; what is kept]
+    let A₀ : RattleType = Array R 0 in let zs : List Y.Denot = first_covered count (marks_left r) value (cells_left r) in
+    move ! (0 ∷ 5 ∷ []) $ use2 𝓛 (‵ (fres (name_of r) (A₀.coded.code (done ++ cells_left t)))) (ends_said 𝓛 A₀ A₀ (name_of r) (name_of t) (λ ws. done ++ ws) (cells_left t)) $
+    rewrite ! 0 (λ (ys : List Y.Denot). ‵ (fres (name_of r) (A₀.coded.code ys))) all refl $
+    move ! (8 ∷ 0 ∷ []) $ use2 𝓛 (‵ (fres δ (Whole.coded.code (F zs)))) (followed 𝓛 Whole A₀ F δ (name_of r) zs) $
+    -- [how the image ends; α is over; κ₀; κ₂; nothing; the borrow of the cursor; nothing; κ₁; what is kept]
+    move ! (1 ∷ 8 ∷ 0 ∷ []) $ use3 𝓛 (later (‵ ((MutRef (named 0) κ₀ Whole).own_val (record { ref_ptr = (b, o); ghost_name = γ; now = F zs }) (vptr b o ∷ [])) ⊛ ‵ (flft κ₀ (Share.right q₀))))
+    (comes_back 𝓛 Whole (named 0) κ₀ α (Share.right q₀) γ b o δ x.now (F zs)) $ await ! tt $ split ! $
+    move ! (2 ∷ 1 ∷ []) $ use2 𝓛 (‵ (flft κ₀ q₀)) (𝓛.lfts.lft_join κ₀ q₀) $
+    returns ! (look_at ! 0 refl) $ free_all ! refl $
+    -- [κ₀; the image; κ₂; nothing; the borrow of the cursor; nothing; κ₁]
+    let Is_written : Type 0 = F zs ≡ F (first_covered count marked value old.cells) in
+    use0 𝓛 (raw (fact 𝓤 Is_written)) (fact_i 𝓤 Is_written (emp 𝓤) (λ i. F (first_covered count (marked_is i) value (cells i)))) $
+    feq_i ! (List Val) (vunit ∷ []) (vunit ∷ []) refl $ nothing ! $ nothing ! $ fjoin ! $ nothing ! $ fjoin ! $ move ! (4 ∷ 0 ∷ []) $ fjoin ! $
+    nothing ! $ move ! (5 ∷ 0 ∷ []) $ join ! $ move ! (8 ∷ 0 ∷ []) $ join ! $ move ! (4 ∷ 0 ∷ []) $ join ! $
+    -- [the tokens; the image; (); the ensures]
+    keep ! (0 ∷ 1 ∷ 2 ∷ 3 ∷ []) $ by ! (leaves 𝓛 En hs c bound vunit tt (F zs, (tt, (tt, tt))) (tt, (tt, (tt, tt)))))))))))))))))))))))))))))))

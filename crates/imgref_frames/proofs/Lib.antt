@@ -1,0 +1,5 @@
+pub mod OneMore
+pub mod Videos
+pub mod Outcomes
+pub mod Hiding
+pub mod Sizes

@@ -1,0 +1,76 @@
+//! Why a run ended.
+
+ghost use Rattle.std.specs.Prelude.{◌≡◌, Some};
+
+use frame_formats::PlanFault;
+use std::fmt;
+
+/// Why a run ended before the whole video was written.
+#[derive(Clone, Copy, Debug, PartialEq, Eq)]
+pub enum RunFault {
+    /// The input doesn't begin with the line of a video that is read here. Nothing was written.
+    Header,
+    /// The edit isn't one of this video: it reaches outside a plane, or doesn't fall on whole
+    /// chroma samples. Nothing was written.
+    Outside,
+    /// So many frames were read, and what is behind them is none. They are written.
+    Frame(u64),
+    /// No memory was found. Nothing was written.
+    Memory,
+    /// The reader failed. The frames before are written.
+    Input,
+    /// The writer failed. A beginning of the video was written.
+    Output,
+    /// There are more frames than a number counts. They are written.
+    Endless,
+}
+
+impl RunFault {
+    ghost use Rattle.imgref_frames.specs.Fault.{status_of};
+
+    /// The status that the program ends with.
+    pub fn status(&self) -> u8
+        ensures { result ≡ status_of self.now }
+    {
+        match self {
+            RunFault::Header => 2,
+            RunFault::Memory => 3,
+            RunFault::Input => 4,
+            RunFault::Output => 5,
+            RunFault::Outside => 6,
+            RunFault::Frame(_) => 7,
+            RunFault::Endless => 8,
+        }
+    }
+}
+
+impl fmt::Display for RunFault {
+    ghost use Rattle.imgref_frames.specs.Fault.{fault_text};
+
+    ghost output = { λ fault. Some (fault_text fault) };
+
+    fn fmt<W: fmt::Write>(&self, f: &mut fmt::Formatter<W>) -> fmt::Result {
+        match self {
+            RunFault::Header => write!(f, "fault header"),
+            RunFault::Outside => write!(f, "fault outside"),
+            RunFault::Frame(number) => write!(f, "fault frame {number}"),
+            RunFault::Memory => write!(f, "fault memory"),
+            RunFault::Input => write!(f, "fault input"),
+            RunFault::Output => write!(f, "fault output"),
+            RunFault::Endless => write!(f, "fault endless"),
+        }
+    }
+}
+
+impl From<PlanFault> for RunFault {
+    ghost use Rattle.imgref_frames.specs.Program.{fault_of_plan};
+
+    ghost from_gives = { λ plan e. e ≡ fault_of_plan plan };
+
+    fn from(fault: PlanFault) -> RunFault {
+        match fault {
+            PlanFault::Outside => RunFault::Outside,
+            PlanFault::Memory => RunFault::Memory,
+        }
+    }
+}

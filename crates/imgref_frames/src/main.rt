@@ -1,0 +1,78 @@
+//! Frames of raw video on standard input, edited one by one, on standard output.
+#![tactic(auto)]
+
+mod fault;
+mod frames;
+mod program;
+mod words;
+
+pub use devices::Counted;
+pub use fault::RunFault;
+use frame_formats::WordsFault;
+pub use frame_formats::{Change, Step, Window};
+pub use program::run;
+use std::env;
+use std::process::ExitCode;
+use words::edits_of;
+
+// What the words are, as docs/FRAMES.md has it.
+const USAGE: &str = "usage: imgref_frames EDIT.. < video > video
+       imgref_frames --edits FILE < video > video
+EDIT is one of these, and is done to each frame, in their order:
+       [A..B] fill L,T,W,H V          brightness V, no colour
+       [A..B] mosaic L,T,W,H TW,TH    tiles of TW by TH pixels
+       [A..B] move L,T,W,H X,Y        to column X, row Y
+       crop L,T,W,H                   the last edit only
+A..B: only frames A to B-1, from 0. FILE has an edit a line.
+Cover first: a move before a fill may carry pixels away. See docs/FRAMES.md.";
+
+/// Reads a video from standard input, and writes it to standard output with what the words say done
+/// to its frames. Where the run ends with a fault, the program prints that to standard error and ends
+/// with its status.
+fn main(rt: HostRuntime) -> ExitCode {
+    let words = match env::args(&rt) {
+        Ok(words) => words,
+        Err(_) => return refuse_words(&rt),
+    };
+    let words: Vec<String> = match words.collect(rt.alloc()) {
+        Ok(words) => words,
+        Err(_) => return end(&rt, RunFault::Memory),
+    };
+    if words.len() == 2 && words[1].as_str() == "--help" {
+        let _ = println!(rt; "{USAGE}");
+        return ExitCode::SUCCESS;
+    }
+    let edits = match edits_of(&rt, &words) {
+        Ok(edits) => edits,
+        Err(WordsFault::NoEdit) => return refuse_words(&rt),
+        Err(WordsFault::Memory) => return end(&rt, RunFault::Memory),
+    };
+    if words::uncovers(&edits.steps) {
+        let _ = eprintln!(rt;
+            "note: a move stands before a fill or a mosaic, and may carry pixels away"
+        );
+    }
+    let mut reader = Counted::new(rt.stdin());
+    let mut writer = Counted::new(rt.stdout());
+    match run(
+        rt.alloc(),
+        &edits.steps,
+        edits.crop,
+        &mut reader,
+        &mut writer,
+    ) {
+        Ok(_) => ExitCode::SUCCESS,
+        Err(fault) => end(&rt, fault),
+    }
+}
+
+// The status tells of the fault even where its text can't be printed.
+fn refuse_words(rt: &HostRuntime) -> ExitCode {
+    let _ = eprintln!(rt; "fault words\n{USAGE}");
+    ExitCode::from(1)
+}
+
+fn end(rt: &HostRuntime, fault: RunFault) -> ExitCode {
+    let _ = eprintln!(rt; "{fault}");
+    ExitCode::from(fault.status())
+}

@@ -1,0 +1,60 @@
+//! Images as keys of a set: a pixel that is written makes another key.
+
+use imgref::{Img, ImgVec};
+use std::alloc::{AllocError, Global};
+use std::collections::HashSet;
+use std::hash::{DefaultHasher, Hash, Hasher};
+use std::test::Fail;
+
+// Which of four keys a set takes, one after the other.
+fn taken<K: Eq + Hash + Drop>(alloc: Global, keys: [K; 4]) -> Result<[bool; 4], AllocError> {
+    let mut set = HashSet::new(alloc);
+    let [first, second, third, fourth] = keys;
+    let is_first = set.insert(first)?;
+    let is_second = set.insert(second)?;
+    let is_third = set.insert(third)?;
+    Ok([is_first, is_second, is_third, set.insert(fourth)?])
+}
+
+fn hash_of<K: Hash>(key: &K) -> u64 {
+    let mut hasher = DefaultHasher::new();
+    key.hash(&mut hasher);
+    hasher.finish()
+}
+
+// Two by two at stride 2; the same at stride 3, where a pixel is written; four in a row; and again the first one's pixels,
+// at stride 3.
+#[test]
+fn a_written_image_is_another_key(rt: HostRuntime) -> Result<(), Fail> {
+    let mut packed: ImgVec<u8> = Img::new([0u8, 1, 2, 3].to_vec(rt.alloc())?, 2, 2);
+    let mut short: ImgVec<u8> = Img::new_stride([0u8, 1, 255, 2, 3].to_vec(rt.alloc())?, 2, 2, 3);
+    let mut line: ImgVec<u8> = Img::new([0u8, 1, 2, 3].to_vec(rt.alloc())?, 4, 1);
+    let mut padded: ImgVec<u8> = Img::new_stride(
+        [0u8, 1, 255, 2, 3, 255].to_vec(rt.alloc())?,
+        2,
+        2,
+        3,
+    );
+    let alike = [
+        packed.as_ref(),
+        short.as_ref(),
+        line.as_ref(),
+        padded.as_ref(),
+    ];
+    assert!(rt; taken(rt.alloc(), alike)? == [true, false, true, false]);
+    short[(0usize, 0usize)] = 100;
+    let due = [true, true, true, false];
+    let views = [
+        packed.as_ref(),
+        short.as_ref(),
+        line.as_ref(),
+        padded.as_ref(),
+    ];
+    assert!(rt; taken(rt.alloc(), views)? == due);
+    let lent = hash_of(&packed.as_mut());
+    let other = hash_of(&padded.as_mut());
+    assert!(rt; lent == other && lent == hash_of(&packed.as_ref()));
+    assert!(rt; packed.as_mut() == padded.as_mut() && packed.as_mut() != short.as_mut());
+    assert!(rt; taken(rt.alloc(), [packed, short, line, padded])? == due);
+    Ok(())
+}

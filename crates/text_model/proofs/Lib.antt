@@ -1,0 +1,5 @@
+pub mod Options
+pub mod FieldNumbers
+pub mod PartsCut
+pub mod PartsJoined
+pub mod FieldTexts

@@ -1,0 +1,106 @@
+//! Fields: pieces of text that stand for a number, a pixel or a window.
+
+ghost use Rattle.std.specs.Prelude.{◌≡◌, ◌≢◌, ◌≤◌, ◌-◌, ℕ, List, Option, slice_index};
+ghost use Rattle.text_model.specs.Reading.{Finds, digits_of, number_of, pixel_of, window_of, first_of_parts};
+ghost use Rattle.texts.specs.Parts.{parts_left};
+
+use crate::parts::Parts;
+use image_shape::Window;
+
+/// A value that one piece of text stands for.
+pub trait Field: Copy {
+    // The value that the piece is the text of, where there is one.
+    ghost reading: { List ℕ → Option Self };
+
+    fn read(piece: &[u8]) -> Option<Self>
+        ensures { result ≡ reading piece.now };
+}
+
+/// A number: each has one text, without a sign and without a zero in front of another digit.
+impl Field for usize {
+    ghost reading = { number_of };
+
+    #[tactic(auto, unfolding(text_model::specs::Reading::number_of))]
+    fn read(piece: &[u8]) -> Option<usize> {
+        match piece {
+            [b'0', _, ..] | [b'+', ..] => None,
+            _ => digits(piece),
+        }
+    }
+}
+
+// The number that the digits write, which may have zeros in front. Most numbers of a script have at
+// most three digits, and the library's `parse` asks of each byte more than that it is one.
+#[tactic(auto, unfolding(text_model::specs::Reading::digits_of))]
+fn digits(piece: &[u8]) -> Option<usize>
+    requires { slice_index piece.now 0 ≢ 43 }
+    ensures { result ≡ digits_of piece.now }
+{
+    match piece {
+        [a @ b'0'..=b'9'] => Some(value(*a)),
+        [a @ b'0'..=b'9', b @ b'0'..=b'9'] => Some(value(*a) * 10 + value(*b)),
+        [a @ b'0'..=b'9', b @ b'0'..=b'9', c @ b'0'..=b'9'] => {
+            Some((value(*a) * 10 + value(*b)) * 10 + value(*c))
+        }
+        _ => any_digits(piece),
+    }
+}
+
+// The value of a digit.
+fn value(digit: u8) -> usize
+    requires low { 48 ≤ digit }
+    requires high { digit ≤ 57 }
+    ensures value { result ≡ digit - 48 }
+    ensures small { result ≤ 9 }
+{
+    (digit - b'0') as usize
+}
+
+// The same of any number of digits.
+fn any_digits(piece: &[u8]) -> Option<usize>
+    requires { slice_index piece.now 0 ≢ 43 }
+    ensures { result ≡ digits_of piece.now }
+{
+    match str::from_utf8(piece) {
+        Ok(text) => text.parse().ok(),
+        Err(_) => None,
+    }
+}
+
+/// A pixel: a number up to 255.
+impl Field for u8 {
+    ghost reading = { pixel_of };
+
+    #[tactic(auto, unfolding(text_model::specs::Reading::pixel_of))]
+    fn read(piece: &[u8]) -> Option<u8> {
+        u8::try_from(usize::read(piece)?).ok()
+    }
+}
+
+/// A window: four numbers with commas between them.
+impl Field for Window {
+    ghost reading = { window_of };
+
+    #[tactic(auto, unfolding(text_model::specs::Reading::window_in))]
+    fn read(piece: &[u8]) -> Option<Window> {
+        let mut numbers = Parts::new(piece, b',');
+        let left = next(&mut numbers)?;
+        let top = next(&mut numbers)?;
+        let width = next(&mut numbers)?;
+        let height = next(&mut numbers)?;
+        numbers.is_done().then_some(Window {
+            left,
+            top,
+            width,
+            height,
+        })
+    }
+}
+
+/// The value that the next part is the text of.
+#[tactic(auto, unfolding(text_model::specs::Reading::first_of_parts))]
+pub fn next<T: Field>(parts: &mut Parts<'_>) -> Option<T>
+    ensures { Finds (λ x. (x, parts_left parts.new)) result (first_of_parts T.reading (parts_left parts.old)) }
+{
+    T::read(parts.next_part()?)
+}

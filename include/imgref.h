@@ -1,0 +1,120 @@
+/* imgref.h: strided 2D images for C and C++, over calls that are proved.
+ *
+ * An image is a list of cells with a width and a height in pixels and a stride in cells. The pixel in column x of row y is
+ * cell y * stride + x; every other cell is padding. The stride is at least 1 and at least the width, width and height are
+ * below 2^32, and the cells reach the last pixel: imgref_is_image tells. An image with no pixel may have no cell.
+ *
+ * A cell has 1, 2, 4 or 8 bytes: each call on cells stands here for uint8_t, uint16_t, uint32_t and uint64_t. A pixel of
+ * three bytes is three cells of one byte, and its window has three times the columns.
+ *
+ * Units     Widths, columns and left are counted in pixels, heights, rows and top too, strides and lengths in cells.
+ * Answers   A call answers IMGREF_OK, or which test failed first. Unless it is IMGREF_OK nothing has changed: no cell, and
+ *           nothing that a pointer for an answer points to.
+ * Padding   No call that writes changes padding but imgref_*_pack, which moves rows over it.
+ * Memory    The caller owns all of it and lends it for the call. No call keeps a pointer, takes memory or blocks, so any
+ *           number of threads may call at once on memory that none of them shares.
+ * Overlap   What a call may write must share no byte with anything else that the same call is given. What it only reads may
+ *           overlap. imgref_*_move_window goes between two windows of one image, which may overlap.
+ * Pointers  No pointer may be null, also where its length is 0: any other does there, as that of a variable of the cell's
+ *           type, and nothing behind it is read or written. Cells lie at a multiple of their size.
+ * Lengths   A length is the number of cells that may be read (and, where they aren't const, written) from the pointer on.
+ *
+ * What is proved rests on these last three: no call can test them.
+ */
+#ifndef IMGREF_H
+#define IMGREF_H
+
+#include <stdbool.h>
+#include <stddef.h>
+#include <stdint.h>
+
+#ifdef __cplusplus
+extern "C" {
+#endif
+
+/* What a call answers. */
+typedef uint32_t imgref_status;
+#define IMGREF_OK ((imgref_status)0)             /* it is done */
+#define IMGREF_NOT_AN_IMAGE ((imgref_status)1)   /* a length, width, height and stride that are no image */
+#define IMGREF_WINDOW_OUTSIDE ((imgref_status)2) /* a window isn't inside the image */
+#define IMGREF_SIZES_DIFFER ((imgref_status)3)   /* a window differs in size from what comes into it */
+#define IMGREF_PLACE_OUTSIDE ((imgref_status)4)  /* there is no pixel in that column and row */
+#define IMGREF_NO_TILE ((imgref_status)5)        /* there is no tile of that number, or a tile would have no pixel */
+
+/* A window of an image: the column and the row of its corner, and its size. It is inside where left + width is at most the
+ * image's width and top + height at most its height, so an empty one at the edge is. No such sum wraps. */
+struct imgref_window {
+    size_t left;
+    size_t top;
+    size_t width;
+    size_t height;
+};
+
+/* Whether so many cells are an image of this size and stride. */
+bool imgref_is_image(size_t len, size_t width, size_t height, size_t stride);
+
+/* Whether a window is inside an image of this size. */
+bool imgref_has_window(size_t width, size_t height, struct imgref_window window);
+
+/* Where a window's cells begin among those of the image, and how many there are up to its last pixel; of an empty window 0
+ * and 0. So `cells + start` with that count, the window's size and the image's stride is an image, and nothing is copied.
+ * IMGREF_NOT_AN_IMAGE, IMGREF_WINDOW_OUTSIDE. */
+imgref_status imgref_window(size_t len, size_t width, size_t height, size_t stride, struct imgref_window window, size_t *start,
+                            size_t *count);
+
+/* How many tiles of this size cover an image of that size: their corners are the multiples of the tile's size, and they are
+ * cut at the right and the lower edge. IMGREF_NOT_AN_IMAGE (a size of 2^32 or more), IMGREF_NO_TILE (a tile of no pixel). */
+imgref_status imgref_tile_count(size_t width, size_t height, size_t tile_width, size_t tile_height, size_t *count);
+
+/* The window of the tile with a number below that count: line by line, from left to right. The same, and IMGREF_NO_TILE where
+ * there is none of that number. */
+imgref_status imgref_tile(size_t width, size_t height, size_t tile_width, size_t tile_height, size_t number,
+                          struct imgref_window *window);
+
+/* For each type of cell, with `cells` and `len` an image of `width` by `height` at `stride`:
+ *
+ * get          The pixel in column x of row y goes to `pixel`. NOT_AN_IMAGE, PLACE_OUTSIDE.
+ * put          The pixel in column x of row y becomes `value`. NOT_AN_IMAGE, PLACE_OUTSIDE.
+ * fill_window  Every pixel of the window becomes `value`. NOT_AN_IMAGE, WINDOW_OUTSIDE.
+ * copy_window  The window gets the pixels of `source`, an image of the window's size with a stride of its own. NOT_AN_IMAGE
+ *              (of either), WINDOW_OUTSIDE, SIZES_DIFFER.
+ * move_window  The window `to` gets the pixels that the window `from` had; they may overlap. NOT_AN_IMAGE, WINDOW_OUTSIDE (of
+ *              either), SIZES_DIFFER.
+ * mosaic       Each tile of the window, from the window's corner on, gets the pixel that stood at the tile's corner.
+ *              NOT_AN_IMAGE, WINDOW_OUTSIDE, NO_TILE (a tile of no pixel).
+ * pack         The rows come one after the other at the front of the cells, with no padding: from then on the stride is the
+ *              width, or 1 for width 0, and the pixels are the first width * height cells. The cells behind them stay.
+ *              NOT_AN_IMAGE.
+ * equal        Whether two images have one size and equal pixels at every place goes to `equal`; strides and padding don't
+ *              count. NOT_AN_IMAGE (of either).
+ */
+#define IMGREF_CALLS(NAME, CELL)                                                                                             \
+    imgref_status imgref_##NAME##_get(const CELL *cells, size_t len, size_t width, size_t height, size_t stride, size_t x,    \
+                                      size_t y, CELL *pixel);                                                                 \
+    imgref_status imgref_##NAME##_put(CELL *cells, size_t len, size_t width, size_t height, size_t stride, size_t x,          \
+                                      size_t y, CELL value);                                                                  \
+    imgref_status imgref_##NAME##_fill_window(CELL *cells, size_t len, size_t width, size_t height, size_t stride,            \
+                                              struct imgref_window window, CELL value);                                       \
+    imgref_status imgref_##NAME##_copy_window(CELL *cells, size_t len, size_t width, size_t height, size_t stride,            \
+                                              struct imgref_window window, const CELL *source, size_t source_len,             \
+                                              size_t source_width, size_t source_height, size_t source_stride);               \
+    imgref_status imgref_##NAME##_move_window(CELL *cells, size_t len, size_t width, size_t height, size_t stride,            \
+                                              struct imgref_window from, struct imgref_window to);                            \
+    imgref_status imgref_##NAME##_mosaic(CELL *cells, size_t len, size_t width, size_t height, size_t stride,                 \
+                                         struct imgref_window window, size_t tile_width, size_t tile_height);                 \
+    imgref_status imgref_##NAME##_pack(CELL *cells, size_t len, size_t width, size_t height, size_t stride);                  \
+    imgref_status imgref_##NAME##_equal(const CELL *cells, size_t len, size_t width, size_t height, size_t stride,            \
+                                        const CELL *other, size_t other_len, size_t other_width, size_t other_height,         \
+                                        size_t other_stride, bool *equal);
+
+IMGREF_CALLS(u8, uint8_t)
+IMGREF_CALLS(u16, uint16_t)
+IMGREF_CALLS(u32, uint32_t)
+IMGREF_CALLS(u64, uint64_t)
+#undef IMGREF_CALLS
+
+#ifdef __cplusplus
+}
+#endif
+
+#endif

@@ -1,0 +1,117 @@
+"""The crates of the repository: what each stands on, whether what was built of it is fresh, and rooms to work on one in.
+
+A room is a folder with one crate and those below it: copies of their sources, and hard links to the work that was kept of
+them. `rt` lets one run at a time work in a crate and in all below it, so crates are proved side by side in rooms.
+"""
+import contextlib
+import fcntl
+import os
+import pathlib
+import shutil
+import tempfile
+
+ROOT = pathlib.Path(__file__).resolve().parent.parent
+# The folders of a crate that its proofs are made of.
+PARTS = ("src", "specs", "proofs")
+
+
+def crates(root=ROOT):
+    """The crates of crates.txt, each with those that it names."""
+    return {name: below for name, _, below in _entries(root)}
+
+
+def is_library(name, root=ROOT):
+    """Whether other crates can stand on this one: it is neither a program nor a static library."""
+    kind = next(kind for it, kind, _ in _entries(root) if it == name)
+    return not kind and not (root / "crates" / name / "src/main.rt").exists()
+
+
+def _entries(root):
+    for line in (root / "crates.txt").read_text().splitlines():
+        head, _, below = line.split("#")[0].partition(":")
+        if head.strip():
+            name, *kind = head.split()
+            yield name, kind, below.split()
+
+
+def with_those_below(name, root=ROOT):
+    """A crate and all that it stands on, lowest first."""
+    found, all_of_them = [], crates(root)
+
+    def visit(name):
+        if name in all_of_them and name not in found:
+            for it in all_of_them[name]:
+                visit(it)
+            found.append(name)
+
+    visit(name)
+    return found
+
+
+def sources(name, root=ROOT):
+    """The files that a crate's programs are made of: its own, those of the crates below it, and crates.txt."""
+    yield root / "crates.txt"
+    for crate in with_those_below(name, root):
+        yield from own_sources(crate, root)
+
+
+def own_sources(name, root=ROOT):
+    """The files of a crate alone."""
+    for part in PARTS:
+        for at, _, files in os.walk(root / "crates" / name / part):
+            yield from (pathlib.Path(at, it) for it in files if it.endswith((".rt", ".antt")))
+
+
+def is_fresh(program, name):
+    """Whether a program is there and newer than all that it is made of."""
+    return program.is_file() and all(it.stat().st_mtime <= program.stat().st_mtime for it in sources(name))
+
+
+def linked(source, target):
+    """A hard link where both folders are on one disk, else a copy. The prover replaces a kept file and doesn't write into it."""
+    try:
+        os.link(source, target)
+    except OSError:
+        shutil.copy2(source, target)
+
+
+@contextlib.contextmanager
+def room(name, root=ROOT, changes_below=False):
+    """Gives the folder of that crate in a room, which is there until the end of the block, with what was built below it and
+    the proofs that were kept of it. Where a crate below is to be changed too, those of all are there."""
+    with tempfile.TemporaryDirectory(prefix="room-", ignore_cleanup_errors=True) as top:
+        top, names = pathlib.Path(top), with_those_below(name, root)
+        lines = (root / "crates.txt").read_text().splitlines()
+        (top / "crates.txt").write_text("".join(f"{it}\n" for it in lines if it.split(":")[0].split()[:1] and it.split()[0].rstrip(":") in names))
+        for it in names:
+            source, target = root / "crates" / it, top / "crates" / it
+            for part in PARTS:
+                if (source / part).is_dir():
+                    shutil.copytree(source / part, target / part)
+            with held(source):
+                for kept in ["rlib", *["incremental"] * (it == name or changes_below)]:
+                    if (source / "out" / kept).is_dir():
+                        shutil.copytree(source / "out" / kept, target / "out" / kept, copy_function=linked)
+        yield top / "crates" / name
+
+
+@contextlib.contextmanager
+def held(folder):
+    """Keeps every run of `rt` out of a crate's folder until the end of the block, as `rt` itself does."""
+    handle = os.open(folder, os.O_RDONLY)
+    try:
+        fcntl.flock(handle, fcntl.LOCK_EX)
+        yield
+    finally:
+        os.close(handle)
+
+
+def keep(made, name, root=ROOT):
+    """Moves the work that was kept in a room to the crate itself."""
+    target = root / "crates" / name
+    with held(target):
+        (target / "out").mkdir(exist_ok=True)
+        for kept in ("incremental", "rlib"):
+            if (made / "out" / kept).is_dir():
+                shutil.rmtree(target / "out" / kept, ignore_errors=True)
+                shutil.move(made / "out" / kept, target / "out" / kept)
