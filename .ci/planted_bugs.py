@@ -37,7 +37,7 @@ HARDLY = re.compile(r"(?:\./)?proofs/.*(?:has no field|is not in scope|has no `|
 
 @dataclasses.dataclass
 class Bug:
-    """A planted bug: the file of the edit, its pairs of old and new text by file, and the lines of the functions that it changes."""
+    """A planted bug: its file, its pairs of old and new text by file, and for each pair the lines of the function there, or None."""
 
     path: pathlib.Path
     pairs: list
@@ -128,7 +128,7 @@ def goal_of(bug, lines):
     """The first goal that stays open in a function that the bug changes, or nothing. (A text of a bug is one line, so lines keep their numbers.)"""
     for line in lines:
         found = GOAL.match(line)
-        if found and any(found[1] == file and start <= int(found[2]) <= end for file, start, end in bug.spans):
+        if found and any(it and found[1] == it[0] and it[1] <= int(found[2]) <= it[2] for it in bug.spans):
             return line
     return None
 
