@@ -1,8 +1,9 @@
 //! Bands of full width.
 
-use crate::fixtures::{GREATEST, SQUARE, write};
+use crate::fixtures::{GREATEST, write};
 use image_tiles::BandsMut;
 use imgref::{Img, ImgRefMut};
+use imgref_fixtures::SQUARE;
 use std::iter::ExactSizeIterator;
 
 fn image_of(cells: &mut [u8; 11]) -> ImgRefMut<'_, u8> {

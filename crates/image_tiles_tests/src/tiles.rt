@@ -1,8 +1,9 @@
 //! Tiles lent one after the other.
 
-use crate::fixtures::{GREATEST, SQUARE, write};
+use crate::fixtures::{GREATEST, write};
 use image_tiles::TilesMut;
 use imgref::{Img, ImgRefMut};
+use imgref_fixtures::SQUARE;
 
 // Sets each pixel of the next tile, and answers its width, height, stride and the length of its
 // buffer.

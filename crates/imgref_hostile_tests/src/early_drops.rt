@@ -1,7 +1,8 @@
 //! Iterators for writing that are dropped before their end: what was written stands, all else stays.
 
-use crate::fixtures::{PADDED, cells_of, numbered, padded};
+use crate::fixtures::{cells_of, numbered};
 use imgref::{Img, ImgRefMut, PixelsIterMut, Window};
+use imgref_fixtures::{PADDED, padded};
 use std::process::Abort;
 use std::test::Fail;
 

@@ -1,14 +1,6 @@
-//! The image of nine cells, and what its windows have.
+//! What the image of nine cells has at its places and in its windows.
 
-use imgref::{Img, ImgVec, Window};
-use std::alloc::{AllocError, Global};
-
-// Three by two with one cell of padding after each row, and one behind them.
-pub const PADDED: [u8; 9] = [1, 2, 3, 4, 5, 6, 7, 8, 9];
-
-pub fn padded(alloc: Global) -> Result<ImgVec<u8>, AllocError> {
-    Ok(Img::new_stride(PADDED.to_vec(alloc)?, 3, 2, 4))
-}
+use imgref::Window;
 
 // The pixel of a place of that image.
 pub fn pixel_at(x: usize, y: usize) -> Option<u8> {

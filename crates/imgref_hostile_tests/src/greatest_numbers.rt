@@ -1,7 +1,8 @@
 //! Numbers at the type's end: windows, places, strides, sizes.
 
-use crate::fixtures::{PADDED, padded, pixel_at};
+use crate::fixtures::pixel_at;
 use imgref::{Img, ImgExt, ImgRef, ImgRefMut, ImgVec, Shape, Window};
+use imgref_fixtures::{PADDED, padded};
 use std::process::Abort;
 use std::test::Fail;
 

@@ -1,7 +1,7 @@
 //! Images of no pixel at the greatest stride, or of the greatest sizes.
 
-use crate::fixtures::PADDED;
 use imgref::{Img, ImgExt, ImgRef, ImgRefMut, ImgVec};
+use imgref_fixtures::PADDED;
 use std::process::Abort;
 use std::test::Fail;
 

@@ -1,7 +1,7 @@
 //! Buffers that end before the last pixel: what asks no fit works on them, and is safe.
 
-use crate::fixtures::PADDED;
 use imgref::{AsMutSlice, AsSlice, Img, ImgExt, ImgExtMut, ImgRef, ImgVec};
+use imgref_fixtures::PADDED;
 use std::alloc::{AllocError, Global};
 use std::hash::{DefaultHasher, Hash, Hasher};
 use std::process::Abort;

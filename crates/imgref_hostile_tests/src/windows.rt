@@ -1,7 +1,8 @@
 //! Each window of the image of nine cells, by every call of each kind.
 
-use crate::fixtures::{PADDED, cells_of, numbered, padded, pixel_at};
+use crate::fixtures::{cells_of, numbered, pixel_at};
 use imgref::{AsMutSlice, Img, ImgRef, ImgRefMut, Window};
+use imgref_fixtures::{PADDED, padded};
 use std::alloc::{AllocError, Global};
 use std::process::Abort;
 use std::test::Fail;

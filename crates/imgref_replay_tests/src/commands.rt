@@ -5,8 +5,9 @@ ghost use Rattle.std.specs.Prelude.{All, IfOk, map};
 ghost use Rattle.image_model.specs.Layout.{Fits};
 ghost use Rattle.imgref.specs.Image.{vec_layout};
 
-use crate::fixtures::{A, ALL, Line, commands, has, image, window};
+use crate::fixtures::{ALL, Line, commands, has, image, window};
 use imgref::ImgVec;
+use imgref_fixtures::PADDED;
 use imgref_replay::{Command, Place, Refusal, Reply, replay, replay_into};
 use std::alloc::{AllocError, Global};
 use std::process::Abort;
@@ -171,7 +172,7 @@ fn prepared(
     let path = [window([1, 0, 2, 2]), window([1, 0, 1, 2])].to_vec(alloc)?;
     let spot = Place { image: 0, path };
     all.push(Command::Get { spot, x: 0, y: 1 })?;
-    Ok((all, [image(rt, alloc, &A, [3, 2, 4])?]))
+    Ok((all, [image(rt, alloc, &PADDED, [3, 2, 4])?]))
 }
 
 // Where memory is refused in `replay`, no image has changed. It takes one growth: this test takes one more than the next,
@@ -181,7 +182,7 @@ fn refused_memory_changes_nothing(rt: HostRuntime) -> Result<(), Fail> {
     let (commands, mut images) = prepared(&rt, rt.alloc())?;
     let answer = replay(rt.alloc(), &mut images, &commands);
     if answer.is_err() {
-        assert!(rt; has(&images[0], 4, &A));
+        assert!(rt; has(&images[0], 4, &PADDED));
     }
     let due = [
         Reply::Done,
@@ -196,6 +197,6 @@ fn refused_memory_changes_nothing(rt: HostRuntime) -> Result<(), Fail> {
 #[test]
 fn what_replay_is_given(rt: HostRuntime) -> Result<(), Fail> {
     let (commands, images) = prepared(&rt, rt.alloc())?;
-    assert!(rt; commands.len() == 4 && has(&images[0], 4, &A));
+    assert!(rt; commands.len() == 4 && has(&images[0], 4, &PADDED));
     Ok(())
 }

@@ -11,9 +11,6 @@ use std::process::Abort;
 
 pub const GREATEST: usize = usize::MAX;
 
-// Three columns and two rows at stride 4: the fourth cell is padding, and so are the last two.
-pub const A: [u8; 9] = [1, 2, 3, 4, 5, 6, 7, 8, 9];
-
 // The whole image, by the empty path. Other windows are left, top, width and height.
 pub const ALL: [usize; 4] = [GREATEST, GREATEST, GREATEST, GREATEST];
 

@@ -5,8 +5,9 @@ ghost use Rattle.image_model.specs.Layout.{Fits};
 ghost use Rattle.image_model.specs.Grid.{Agree, grid_of};
 ghost use Rattle.imgref.specs.Image.{vec_layout};
 
-use crate::fixtures::{A, ALL, Line, commands, has, image};
+use crate::fixtures::{ALL, Line, commands, has, image};
 use imgref::ImgVec;
+use imgref_fixtures::PADDED;
 use imgref_replay::{Refusal, Reply, two_layouts};
 use std::alloc::{AllocError, Global};
 use std::process::Abort;
@@ -51,7 +52,7 @@ fn three_images(rt: &impl Abort, alloc: Global) -> Result<bool, AllocError> {
     let commands = commands(alloc, &all_commands())?;
     assert!(rt; commands.len() == 12);
     let first = pair(
-        image(rt, alloc, &A, [3, 2, 4])?,
+        image(rt, alloc, &PADDED, [3, 2, 4])?,
         image(rt, alloc, &[1, 2, 3, 5, 6, 7], [3, 2, 3])?,
     );
     let second = pair(
@@ -100,7 +101,7 @@ fn one_image(rt: &impl Abort, alloc: Global) -> Result<bool, AllocError> {
     ];
     let commands = commands(alloc, &lines)?;
     assert!(rt; commands.len() == 3);
-    let padded = image(rt, alloc, &A, [3, 2, 4])?;
+    let padded = image(rt, alloc, &PADDED, [3, 2, 4])?;
     let packed = image(rt, alloc, &[1, 2, 3, 5, 6, 7], [3, 2, 3])?;
     let Some((padded, packed)) = pair(padded, packed) else {
         return Ok(false);

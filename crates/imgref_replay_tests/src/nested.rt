@@ -1,7 +1,8 @@
 //! Every small window in every small window, for reading and for writing.
 
-use crate::fixtures::{A, window};
+use crate::fixtures::window;
 use imgref::{ImgRef, ImgRefMut};
+use imgref_fixtures::PADDED;
 use imgref_replay::{Window, into_window_at, window_at};
 
 // Each cell has its number plus 1.
@@ -112,7 +113,7 @@ fn leads(
 
 #[test]
 fn each_window_in_a_window_is_read(rt: HostRuntime) {
-    let image = ImgRef::new_stride(A.as_slice(), 3, 2, 4);
+    let image = ImgRef::new_stride(PADDED.as_slice(), 3, 2, 4);
     let mut pairs = 0u32;
     for number in 0..65536usize {
         let (outer, inner) = (numbered(number / 256), numbered(number % 256));
@@ -171,7 +172,7 @@ fn each_window_of_every_small_image_is_read(rt: HostRuntime) {
     }
 }
 
-// Whether these cells are those of A, but for 0 in a window.
+// Whether these cells are those of PADDED, but for 0 in a window.
 fn are_filled(cells: [u8; 9], window: Window) -> bool {
     for (at, cell) in cells.iter().enumerate() {
         let (x, y) = (at % 4, at / 4);
@@ -189,7 +190,7 @@ fn are_filled(cells: [u8; 9], window: Window) -> bool {
     true
 }
 
-// Whether these cells are those of A, but for 0 in a stretch.
+// Whether these cells are those of PADDED, but for 0 in a stretch.
 fn are_cleared(cells: [u8; 9], stretch: (usize, usize)) -> bool {
     let (first, count) = stretch;
     for (at, cell) in cells.iter().enumerate() {
@@ -202,9 +203,9 @@ fn are_cleared(cells: [u8; 9], stretch: (usize, usize)) -> bool {
     true
 }
 
-// The cells of A once the pixels of what a path leads to are 0, or all its cells.
+// The cells of PADDED once the pixels of what a path leads to are 0, or all its cells.
 fn written(path: &[Window], is_whole: bool) -> [u8; 9] {
-    let mut cells = A;
+    let mut cells = PADDED;
     let image = ImgRefMut::new_stride(cells.as_mut_slice(), 3, 2, 4);
     if image.is_valid() {
         if let Ok(mut found) = into_window_at(image, path) {
@@ -220,7 +221,7 @@ fn written(path: &[Window], is_whole: bool) -> [u8; 9] {
 
 // Whether a path leads to this window for writing too, or else this one is its first window outside.
 fn lends(path: &[Window], due: Result<Window, usize>, stretch: (usize, usize)) -> bool {
-    let mut cells = A;
+    let mut cells = PADDED;
     let image = ImgRefMut::new_stride(cells.as_mut_slice(), 3, 2, 4);
     if !image.is_valid() {
         return false;
@@ -244,7 +245,7 @@ fn each_window_in_a_window_is_written(rt: HostRuntime) {
         let (filled, cleared) = (written(&path, false), written(&path, true));
         let is_well = match due {
             Ok(window) => are_filled(filled, window) && are_cleared(cleared, stretch),
-            Err(_) => filled == A && cleared == A,
+            Err(_) => filled == PADDED && cleared == PADDED,
         };
         assert!(rt; is_well, "pair {number}");
     }

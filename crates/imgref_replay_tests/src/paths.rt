@@ -1,7 +1,8 @@
 //! Windows by paths, as calls.
 
-use crate::fixtures::{A, GREATEST, window};
+use crate::fixtures::{GREATEST, window};
 use imgref::{Img, ImgRef, ImgVec};
+use imgref_fixtures::PADDED;
 use imgref_replay::{Window, into_window_at, window_at};
 use std::test::Fail;
 
@@ -14,7 +15,7 @@ fn windows(numbers: [[usize; 4]; 3]) -> [Window; 3] {
     [window(numbers[0]), window(numbers[1]), window(numbers[2])]
 }
 
-// Whether a path leads to a window of this width and height with these of the cells of A: the
+// Whether a path leads to a window of this width and height with these of the cells of PADDED: the
 // first one's number, and how many; or else this one is its first window outside.
 fn leads(image: ImgRef<'_, u8>, path: Path, due: Result<[usize; 4], usize>) -> bool {
     let (numbers, count) = path;
@@ -31,7 +32,7 @@ fn leads(image: ImgRef<'_, u8>, path: Path, due: Result<[usize; 4], usize>) -> b
                 return false;
             };
             let (first, count) = (due[2], due[3]);
-            let cells = A.get(first..first.saturating_add(count));
+            let cells = PADDED.get(first..first.saturating_add(count));
             found.width() == due[0]
                 && found.height() == due[1]
                 && found.stride() == image.stride()
@@ -43,7 +44,7 @@ fn leads(image: ImgRef<'_, u8>, path: Path, due: Result<[usize; 4], usize>) -> b
 
 #[test]
 fn a_path_leads_to_its_window_or_ends_outside(rt: HostRuntime) {
-    let image: ImgRef<'_, u8> = Img::new_stride(&A, 3, 2, 4);
+    let image: ImgRef<'_, u8> = Img::new_stride(&PADDED, 3, 2, 4);
     let rows = [
         ([[1, 0, 2, 2], [1, 0, 1, 2], NONE], 2, Ok([1, 2, 2, 5])),
         ([[0, 1, 3, 1], [1, 0, 2, 1], NONE], 2, Ok([2, 1, 5, 2])),
@@ -66,10 +67,10 @@ fn a_path_leads_to_its_window_or_ends_outside(rt: HostRuntime) {
     for (number, (windows, count, due)) in rows.iter().enumerate() {
         assert!(rt; leads(image, (*windows, *count), *due), "row {number}");
     }
-    let far = Img::new_stride(&A[..2], 2, 1, GREATEST);
+    let far = Img::new_stride(&PADDED[..2], 2, 1, GREATEST);
     assert!(rt; leads(far, ([[1, 0, 1, 1], NONE, NONE], 1), Ok([1, 1, 1, 1])));
     // The corner of the empty window would be cell `GREATEST * 4294967294`.
-    let tall = Img::new_stride(&A[..0], 0, 4294967295, GREATEST);
+    let tall = Img::new_stride(&PADDED[..0], 0, 4294967295, GREATEST);
     assert!(rt;
         leads(
             tall,
@@ -111,7 +112,7 @@ fn write_at<T: Copy>(
 // changes, and the image is borrowed again.
 #[test]
 fn a_write_in_a_nested_window_is_one_in_the_image(rt: HostRuntime) -> Result<(), Fail> {
-    let mut image: ImgVec<u8> = Img::new_stride(A.to_vec(rt.alloc())?, 3, 2, 4);
+    let mut image: ImgVec<u8> = Img::new_stride(PADDED.to_vec(rt.alloc())?, 3, 2, 4);
     let rows = [
         (
             [[1, 0, 2, 2], [1, 0, 1, 2]],

@@ -5,8 +5,8 @@ ghost use Rattle.image_model.specs.Layout.{Fits};
 ghost use Rattle.image_model.specs.Windows.{IsInside, window};
 ghost use Rattle.imgref.specs.Image.{width_of, height_of, layout_by, buf_of};
 
-use crate::fixtures::PADDED;
 use imgref::{AsMutSlice, AsSlice, Img, ImgVec};
+use imgref_fixtures::PADDED;
 use std::test::Fail;
 
 // Each of these calls one bound alone, as a caller that knows no type does.
@@ -66,22 +66,22 @@ fn set_first<T: Copy>(cells: &mut [T], value: T)
 fn each_container_is_used_through_its_bound(rt: HostRuntime) -> Result<(), Fail> {
     let mut cells = PADDED;
     let mut owned = PADDED.to_vec(rt.alloc())?;
-    assert_eq!(rt; cells_of(&owned), PADDED.as_slice());
-    assert_eq!(rt; cells_of(&PADDED.as_slice()), PADDED.as_slice());
-    assert_eq!(rt; cells_of(&cells.as_mut_slice()), PADDED.as_slice());
+    assert!(rt; cells_of(&owned) == PADDED.as_slice());
+    assert!(rt; cells_of(&PADDED.as_slice()) == PADDED.as_slice());
+    assert!(rt; cells_of(&cells.as_mut_slice()) == PADDED.as_slice());
     assert!(rt; owned.len() == 9);
     *cell_of(&mut owned, 3) = 0;
     *cell_of(&mut cells.as_mut_slice(), 3) = 0;
-    assert_eq!(rt; owned.as_slice(), [1u8, 2, 3, 0, 5, 6, 7, 8, 9].as_slice());
-    assert_eq!(rt; cells.as_slice(), [1u8, 2, 3, 0, 5, 6, 7, 8, 9].as_slice());
+    assert!(rt; owned.as_slice() == [1u8, 2, 3, 0, 5, 6, 7, 8, 9].as_slice());
+    assert!(rt; cells.as_slice() == [1u8, 2, 3, 0, 5, 6, 7, 8, 9].as_slice());
     let mut owner: ImgVec<u8> = Img::new_stride(owned, 3, 2, 4);
     assert!(rt; owner.is_valid());
     assert!(rt; owner.has_window(0, 0, 1, 2));
-    assert_eq!(rt; window_len(&mut owner, 0, 0, 1, 2), 5);
+    assert!(rt; window_len(&mut owner, 0, 0, 1, 2) == 5);
     let mut lent = Img::new_stride(cells.as_mut_slice(), 3, 2, 4);
     assert!(rt; lent.is_valid());
     assert!(rt; lent.has_window(0, 0, 1, 2));
-    assert_eq!(rt; window_len(&mut lent, 0, 0, 1, 2), 8);
+    assert!(rt; window_len(&mut lent, 0, 0, 1, 2) == 8);
     Ok(())
 }
 
@@ -89,8 +89,8 @@ fn each_container_is_used_through_its_bound(rt: HostRuntime) -> Result<(), Fail>
 fn a_lender_learns_what_was_written(rt: HostRuntime) -> Result<(), Fail> {
     let mut cells = [1u8, 2, 3];
     set_first_two(&mut cells, 7);
-    assert_eq!(rt; cells, [7u8, 7, 3]);
+    assert!(rt; cells == [7u8, 7, 3]);
     set_first(&mut cells, 9);
-    assert_eq!(rt; cells, [9u8, 7, 3]);
+    assert!(rt; cells == [9u8, 7, 3]);
     Ok(())
 }

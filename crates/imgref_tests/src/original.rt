@@ -5,8 +5,8 @@ ghost use Rattle.image_model.specs.Layout.{Fits};
 ghost use Rattle.imgref.specs.Image.{ref_layout, vec_layout};
 
 use crate::answers::ANSWERS;
-use crate::fixtures::PADDED;
 use imgref::{Img, ImgRef, ImgVec};
+use imgref_fixtures::PADDED;
 use std::alloc::{AllocError, Global};
 use std::fmt::Write;
 use std::process::Abort;

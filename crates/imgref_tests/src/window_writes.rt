@@ -1,7 +1,7 @@
 //! Windows for writing.
 
-use crate::fixtures::padded;
 use imgref::{AsMutSlice, AsSlice, Img, ImgRefMut, ImgVec};
+use imgref_fixtures::padded;
 use std::test::Fail;
 
 // Writes the cell at a place, where it is there.
@@ -20,20 +20,14 @@ fn a_window_of_an_owner_for_writing_ends_at_its_last_pixel(rt: HostRuntime) -> R
     let mut owner = padded(rt.alloc())?;
     assert!(rt; owner.is_valid());
     assert!(rt; owner.has_window(0, 1, 3, 1));
-    assert_eq!(rt;
-        &**owner.sub_image_mut(0, 1, 3, 1).buf(),
-        [5u8, 6, 7].as_slice()
-    );
+    assert!(rt; &**owner.sub_image_mut(0, 1, 3, 1).buf() == [5u8, 6, 7].as_slice());
     let mut owner = padded(rt.alloc())?;
     assert!(rt; owner.is_valid());
     assert!(rt; owner.has_window(0, 0, 1, 2));
     let mut window = owner.sub_image_mut(0, 0, 1, 2);
-    assert_eq!(rt; &**window.buf(), [1u8, 2, 3, 4, 5].as_slice());
+    assert!(rt; &**window.buf() == [1u8, 2, 3, 4, 5].as_slice());
     assert!(rt; set(&mut window, 1, 0, 9));
-    assert_eq!(rt;
-        owner.into_buf().as_slice(),
-        [1u8, 9, 3, 4, 5, 6, 7, 8, 9].as_slice()
-    );
+    assert!(rt; owner.into_buf().as_slice() == [1u8, 9, 3, 4, 5, 6, 7, 8, 9].as_slice());
     Ok(())
 }
 
@@ -44,12 +38,9 @@ fn a_window_of_a_lent_image_for_writing_has_whole_strides(rt: HostRuntime) -> Re
     assert!(rt; lent.is_valid());
     assert!(rt; lent.has_window(0, 0, 1, 2));
     let mut window = lent.sub_image_mut(0, 0, 1, 2);
-    assert_eq!(rt; &**window.buf(), [1u8, 2, 3, 4, 5, 6, 7, 8].as_slice());
+    assert!(rt; &**window.buf() == [1u8, 2, 3, 4, 5, 6, 7, 8].as_slice());
     assert!(rt; set(&mut window, 1, 0, 9));
-    assert_eq!(rt;
-        owner.into_buf().as_slice(),
-        [1u8, 9, 3, 4, 5, 6, 7, 8, 9].as_slice()
-    );
+    assert!(rt; owner.into_buf().as_slice() == [1u8, 9, 3, 4, 5, 6, 7, 8, 9].as_slice());
     Ok(())
 }
 
@@ -60,20 +51,14 @@ fn an_image_is_cut_down_to_a_window(rt: HostRuntime) -> Result<(), Fail> {
     assert!(rt; lent.is_valid());
     assert!(rt; lent.has_window(1, 0, 2, 2));
     let window = lent.into_sub_image_mut(1, 0, 2, 2);
-    assert_eq!(rt;
-        (window.width(), window.height(), window.stride()),
-        (2, 2, 4)
-    );
-    assert_eq!(rt; &**window.buf(), [2u8, 3, 4, 5, 6, 7, 8, 9].as_slice());
+    assert!(rt; (window.width(), window.height(), window.stride()) == (2, 2, 4));
+    assert!(rt; &**window.buf() == [2u8, 3, 4, 5, 6, 7, 8, 9].as_slice());
     assert!(rt; window.is_valid());
     assert!(rt; window.has_window(1, 1, 1, 1));
     let mut nested = window.into_sub_image_mut(1, 1, 1, 1);
-    assert_eq!(rt; &**nested.buf(), [7u8].as_slice());
+    assert!(rt; &**nested.buf() == [7u8].as_slice());
     assert!(rt; set(&mut nested, 0, 0, 0));
-    assert_eq!(rt;
-        owner.into_buf().as_slice(),
-        [1u8, 2, 3, 4, 5, 6, 0, 8, 9].as_slice()
-    );
+    assert!(rt; owner.into_buf().as_slice() == [1u8, 2, 3, 4, 5, 6, 0, 8, 9].as_slice());
     Ok(())
 }
 
@@ -88,8 +73,8 @@ fn a_window_for_writing_is_indexed_from_its_corner(rt: HostRuntime) -> Result<()
     assert!(rt; owner.is_valid());
     assert!(rt; owner.has_window(1, 1, 1, 1));
     let window = owner.sub_image_mut(1, 1, 1, 1);
-    assert_eq!(rt; window[(0usize, 0usize)], 5);
-    assert_eq!(rt; &**window.buf(), [5u8].as_slice());
+    assert!(rt; window[(0usize, 0usize)] == 5);
+    assert!(rt; &**window.buf() == [5u8].as_slice());
     Ok(())
 }
 
@@ -97,13 +82,10 @@ fn a_window_for_writing_is_indexed_from_its_corner(rt: HostRuntime) -> Result<()
 fn the_whole_image_is_written_through(rt: HostRuntime) -> Result<(), Fail> {
     let mut owner = padded(rt.alloc())?;
     let mut lent = owner.as_mut();
-    assert_eq!(rt; (lent.width(), lent.height(), lent.stride()), (3, 2, 4));
+    assert!(rt; (lent.width(), lent.height(), lent.stride()) == (3, 2, 4));
     assert!(rt; set(&mut lent.as_mut(), 0, 0, 9));
-    assert_eq!(rt; &**lent.buf(), [9u8, 2, 3, 4, 5, 6, 7, 8, 9].as_slice());
-    assert_eq!(rt;
-        owner.into_buf().as_slice(),
-        [9u8, 2, 3, 4, 5, 6, 7, 8, 9].as_slice()
-    );
+    assert!(rt; &**lent.buf() == [9u8, 2, 3, 4, 5, 6, 7, 8, 9].as_slice());
+    assert!(rt; owner.into_buf().as_slice() == [9u8, 2, 3, 4, 5, 6, 7, 8, 9].as_slice());
     Ok(())
 }
 
@@ -113,16 +95,13 @@ fn the_parts_of_a_window_make_it(rt: HostRuntime) -> Result<(), Fail> {
     assert!(rt; owner.is_valid());
     assert!(rt; owner.has_window(1, 0, 2, 1));
     let (cells, shape) = owner.window_parts_mut(1, 0, 2, 1);
-    assert_eq!(rt; &*cells, [2u8, 3].as_slice());
-    assert_eq!(rt; (shape.width(), shape.height(), shape.stride()), (2, 1, 4));
+    assert!(rt; &*cells == [2u8, 3].as_slice());
+    assert!(rt; (shape.width(), shape.height(), shape.stride()) == (2, 1, 4));
     let mut window: ImgRefMut<'_, u8> = Img::from_parts(cells, shape);
     assert!(rt; set(&mut window, 1, 0, 9));
     let mut lent = owner.as_mut();
     assert!(rt; lent.is_valid());
     assert!(rt; lent.has_window(1, 0, 2, 1));
-    assert_eq!(rt;
-        &*lent.window_parts_mut(1, 0, 2, 1).0,
-        [2u8, 9, 4, 5].as_slice()
-    );
+    assert!(rt; &*lent.window_parts_mut(1, 0, 2, 1).0 == [2u8, 9, 4, 5].as_slice());
     Ok(())
 }

@@ -3,9 +3,9 @@
 ghost use Rattle.image_model.specs.Layout.{Fits};
 ghost use Rattle.imgref.specs.Image.{mut_layout, vec_layout};
 
-use crate::fixtures::{PADDED, cells_of, is_over, len_of, padded};
 use imgref::{ImgRef, ImgRefMut, ImgVec, Shape, fill_pixels};
 use imgref_callers::write_first;
+use imgref_fixtures::{PADDED, cells_of, is_over, len_of, padded};
 use std::test::Fail;
 
 fn add_one(image: &mut ImgVec<u8>)
@@ -39,10 +39,7 @@ fn a_loop_writes_the_pixels_alone(rt: HostRuntime) -> Result<(), Fail> {
     let mut image = padded(rt.alloc())?;
     assert!(rt; image.is_valid());
     add_one(&mut image);
-    assert_eq!(rt;
-        image.buf().as_slice(),
-        [2u8, 3, 4, 4, 6, 7, 8, 8, 9].as_slice()
-    );
+    assert!(rt; image.buf().as_slice() == [2u8, 3, 4, 4, 6, 7, 8, 8, 9].as_slice());
     Ok(())
 }
 
@@ -51,17 +48,17 @@ fn pixels_without_size(rt: HostRuntime) -> Result<(), Fail> {
     let mut cells = [(), (), (), (), ()];
     let image = ImgRef::new_stride(cells.as_slice(), 2, 2, 3);
     assert!(rt; image.is_valid());
-    assert_eq!(rt; image.pixels().count(), 4);
+    assert!(rt; image.pixels().count() == 4);
     let mut pixels = image.pixels();
     for left in [4, 3, 2, 1] {
-        assert_eq!(rt; len_of(&pixels), left);
+        assert!(rt; len_of(&pixels) == left);
         assert!(rt; pixels.next().is_some());
     }
-    assert_eq!(rt; len_of(&pixels), 0);
+    assert!(rt; len_of(&pixels) == 0);
     assert!(rt; is_over(&mut pixels) && is_over(&mut pixels));
     let mut seen = image.pixels_ref();
     for left in [4, 3, 2, 1] {
-        assert_eq!(rt; len_of(&seen), left);
+        assert!(rt; len_of(&seen) == left);
         assert!(rt; seen.next().is_some());
     }
     assert!(rt; is_over(&mut seen) && is_over(&mut seen));
@@ -69,7 +66,7 @@ fn pixels_without_size(rt: HostRuntime) -> Result<(), Fail> {
     assert!(rt; writing.is_valid());
     let mut items = writing.pixels_mut();
     for left in [4, 3, 2, 1] {
-        assert_eq!(rt; len_of(&items), left);
+        assert!(rt; len_of(&items) == left);
         assert!(rt; items.next().is_some());
     }
     assert!(rt; is_over(&mut items) && is_over(&mut items));
@@ -97,9 +94,8 @@ fn writes_before_a_drop_stand(rt: HostRuntime) -> Result<(), Fail> {
             }
         }
         drop(pixels);
-        assert_eq!(rt;
-            image.buf().as_slice(),
-            left[count].as_slice(),
+        assert!(rt;
+            image.buf().as_slice() == left[count].as_slice(),
             "after {count}"
         );
         let mut cells = PADDED;
@@ -112,7 +108,7 @@ fn writes_before_a_drop_stand(rt: HostRuntime) -> Result<(), Fail> {
             }
         }
         drop(pixels);
-        assert_eq!(rt; cells, left[count], "after {count}");
+        assert!(rt; cells == left[count], "after {count}");
     }
     Ok(())
 }
@@ -129,12 +125,12 @@ fn the_first_pixels_are_written(rt: HostRuntime) -> Result<(), Fail> {
         let mut image = padded(rt.alloc())?;
         assert!(rt; image.is_valid());
         write_first(&mut image, count, 0);
-        assert_eq!(rt; image.buf().as_slice(), cells_left.as_slice(), "{count}");
+        assert!(rt; image.buf().as_slice() == cells_left.as_slice(), "{count}");
         let mut cells = PADDED;
         let mut lent = ImgRefMut::new_stride(cells.as_mut_slice(), 3, 2, 4);
         assert!(rt; lent.is_valid());
         write_first(&mut lent, count, 0);
-        assert_eq!(rt; cells, cells_left, "{count}");
+        assert!(rt; cells == cells_left, "{count}");
     }
     Ok(())
 }
@@ -145,10 +141,10 @@ fn one_row_at_the_greatest_stride(rt: HostRuntime) -> Result<(), Fail> {
     let mut image = ImgRefMut::new_stride(cells.as_mut_slice(), 1, 1, usize::MAX);
     assert!(rt; image.is_valid());
     let mut pixels = image.pixels();
-    assert_eq!(rt; pixels.next(), Some(5));
+    assert!(rt; pixels.next() == Some(5));
     assert!(rt; is_over(&mut pixels) && is_over(&mut pixels));
     image.fill(7);
-    assert_eq!(rt; cells, [7u8]);
+    assert!(rt; cells == [7u8]);
     Ok(())
 }
 
@@ -158,15 +154,15 @@ fn fills_the_pixels_alone(rt: HostRuntime) -> Result<(), Fail> {
     let mut owned = padded(rt.alloc())?;
     assert!(rt; owned.is_valid());
     owned.fill(0);
-    assert_eq!(rt; owned.buf().as_slice(), filled.as_slice());
+    assert!(rt; owned.buf().as_slice() == filled.as_slice());
     let mut cells = PADDED;
     let mut lent = ImgRefMut::new_stride(cells.as_mut_slice(), 3, 2, 4);
     assert!(rt; lent.is_valid());
     lent.fill(0);
-    assert_eq!(rt; cells, filled);
+    assert!(rt; cells == filled);
     let mut cells = PADDED;
     fill_pixels(&mut cells[1..], Shape::new(2, 2, 4), 0);
-    assert_eq!(rt; cells, [1u8, 0, 0, 4, 5, 0, 0, 8, 9]);
+    assert!(rt; cells == [1u8, 0, 0, 4, 5, 0, 0, 8, 9]);
     Ok(())
 }
 
@@ -178,13 +174,13 @@ fn each_kind_has_all_its_pixels(rt: HostRuntime) -> Result<(), Fail> {
         for height in 1..15usize {
             let mut owner = ImgVec::new_stride(cells, width, height, 100);
             assert!(rt; owner.is_valid());
-            assert_eq!(rt; owner.pixels_mut().count(), width * height);
+            assert!(rt; owner.pixels_mut().count() == width * height);
             cells = owner.into_buf();
             let mut lent = ImgRefMut::new_stride(others.as_mut_slice(), width, height, 100);
             assert!(rt; lent.is_valid());
-            assert_eq!(rt; count_lent(&lent), width * height);
-            assert_eq!(rt; count_seen(&lent), width * height);
-            assert_eq!(rt; count_written(&mut lent), width * height);
+            assert!(rt; count_lent(&lent) == width * height);
+            assert!(rt; count_seen(&lent) == width * height);
+            assert!(rt; count_written(&mut lent) == width * height);
         }
     }
     Ok(())

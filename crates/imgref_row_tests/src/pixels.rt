@@ -6,8 +6,8 @@ ghost use Rattle.image_model.specs.Rows.{pixels};
 ghost use Rattle.imgref.specs.Image.{width_of, height_of, ref_layout};
 ghost use Rattle.imgref.specs.Pixels.{copies_left};
 
-use crate::fixtures::{PADDED, cells_of, is_over, len_of, padded};
 use imgref::{ImgRef, ImgRefMut, ImgVec, PixelsIter};
+use imgref_fixtures::{PADDED, cells_of, is_over, len_of, padded};
 use std::test::Fail;
 
 // What a caller learns from a chain over the pixels.
@@ -95,7 +95,7 @@ fn an_owner_gives_its_pixels(rt: HostRuntime) -> Result<(), Fail> {
     let image = padded(rt.alloc())?;
     assert!(rt; image.is_valid());
     let found: Vec<u8> = image.pixels().collect(rt.alloc())?;
-    assert_eq!(rt; found.as_slice(), [1u8, 2, 3, 5, 6, 7].as_slice());
+    assert!(rt; found.as_slice() == [1u8, 2, 3, 5, 6, 7].as_slice());
     Ok(())
 }
 
@@ -104,12 +104,12 @@ fn a_view_gives_its_pixels(rt: HostRuntime) -> Result<(), Fail> {
     let view = ImgRef::new_stride(PADDED.as_slice(), 3, 2, 4);
     assert!(rt; view.is_valid());
     let found: Vec<u8> = view.pixels().collect(rt.alloc())?;
-    assert_eq!(rt; found.as_slice(), [1u8, 2, 3, 5, 6, 7].as_slice());
+    assert!(rt; found.as_slice() == [1u8, 2, 3, 5, 6, 7].as_slice());
     let mut seen = view.pixels_ref();
     for expected in [1u8, 2, 3, 5, 6, 7] {
-        assert_eq!(rt; seen.next(), Some(&expected));
+        assert!(rt; seen.next() == Some(&expected));
     }
-    assert_eq!(rt; (seen.next(), seen.next()), (None, None));
+    assert!(rt; (seen.next(), seen.next()) == (None, None));
     Ok(())
 }
 
@@ -119,7 +119,7 @@ fn an_image_for_writing_gives_its_pixels(rt: HostRuntime) -> Result<(), Fail> {
     let image = ImgRefMut::new_stride(cells.as_mut_slice(), 3, 2, 4);
     assert!(rt; image.is_valid());
     let found: Vec<u8> = image.pixels().collect(rt.alloc())?;
-    assert_eq!(rt; found.as_slice(), [1u8, 2, 3, 5, 6, 7].as_slice());
+    assert!(rt; found.as_slice() == [1u8, 2, 3, 5, 6, 7].as_slice());
     Ok(())
 }
 
@@ -127,23 +127,21 @@ fn an_image_for_writing_gives_its_pixels(rt: HostRuntime) -> Result<(), Fail> {
 fn chains_and_loops_over_pixels(rt: HostRuntime) -> Result<(), Fail> {
     let view = ImgRef::new_stride(PADDED.as_slice(), 3, 2, 4);
     assert!(rt; view.is_valid());
-    assert_eq!(rt;
-        view.pixels()
+    assert!(rt;
+        (view
+            .pixels()
             .map(|pixel| pixel as u64)
-            .fold(0, u64::wrapping_add),
-        24
+            .fold(0, u64::wrapping_add))
+            == 24
     );
-    assert_eq!(rt; count_pixels(view), 6);
+    assert!(rt; count_pixels(view) == 6);
     assert!(rt; all_below(view, 8) && !all_below(view, 7));
-    assert_eq!(rt; count_equal(view, 5), 1);
-    assert_eq!(rt; count_equal(view, 4), 0);
-    assert_eq!(rt; (sum_seen(view), wrapping_sum(view)), (24, 24));
+    assert!(rt; count_equal(view, 5) == 1);
+    assert!(rt; count_equal(view, 4) == 0);
+    assert!(rt; (sum_seen(view), wrapping_sum(view)) == (24, 24));
     let mut pixels = view.pixels();
     skip_pixels(&mut pixels, 4);
-    assert_eq!(rt;
-        (pixels.next(), pixels.next(), pixels.next()),
-        (Some(6), Some(7), None)
-    );
+    assert!(rt; (pixels.next(), pixels.next(), pixels.next()) == (Some(6), Some(7), None));
     Ok(())
 }
 
@@ -156,7 +154,7 @@ fn pixels_of_a_nested_window(rt: HostRuntime) -> Result<(), Fail> {
     let inner = outer.sub_image(1, 0, 1, 2);
     assert!(rt; inner.is_valid());
     let found: Vec<u8> = inner.pixels().collect(rt.alloc())?;
-    assert_eq!(rt; found.as_slice(), [3u8, 7].as_slice());
+    assert!(rt; found.as_slice() == [3u8, 7].as_slice());
     Ok(())
 }
 
@@ -171,13 +169,13 @@ fn sizes_of_pixels_that_are_no_copies(rt: HostRuntime) -> Result<(), Fail> {
     ];
     let image = ImgRef::new_stride(beads.as_slice(), 2, 2, 3);
     assert!(rt; image.is_valid());
-    assert_eq!(rt; whole_weight(image), 12);
+    assert!(rt; whole_weight(image) == 12);
     let mut pixels = image.pixels_ref();
     for (left, weight) in [(4, 1u8), (3, 2), (2, 4), (1, 5)] {
-        assert_eq!(rt; pixels.size_hint(), (left, Some(left)));
-        assert_eq!(rt; pixels.next().map(|bead| bead.weight), Some(weight));
+        assert!(rt; pixels.size_hint() == (left, Some(left)));
+        assert!(rt; pixels.next().map(|bead| bead.weight) == Some(weight));
     }
-    assert_eq!(rt; pixels.size_hint(), (0, Some(0)));
+    assert!(rt; pixels.size_hint() == (0, Some(0)));
     assert!(rt; is_over(&mut pixels) && is_over(&mut pixels));
     Ok(())
 }
@@ -187,10 +185,7 @@ fn every_small_size_has_its_pixels(rt: HostRuntime) -> Result<(), Fail> {
     let column = ImgRef::new([1u8, 2].as_slice(), 1, 2);
     assert!(rt; column.is_valid());
     let mut pixels = column.pixels();
-    assert_eq!(rt;
-        (pixels.next(), pixels.next(), pixels.next()),
-        (Some(1), Some(2), None)
-    );
+    assert!(rt; (pixels.next(), pixels.next(), pixels.next()) == (Some(1), Some(2), None));
     for width in 1..16usize {
         for height in 1..8usize {
             for padding in 0..3usize {
@@ -202,13 +197,10 @@ fn every_small_size_has_its_pixels(rt: HostRuntime) -> Result<(), Fail> {
                     .pixels()
                     .map(|pixel| pixel as usize)
                     .fold(0, usize::wrapping_add);
-                assert_eq!(rt;
-                    (sum, image.pixels().count()),
-                    (width * height, width * height)
-                );
+                assert!(rt; (sum, image.pixels().count()) == (width * height, width * height));
                 let mut pixels = image.pixels();
                 for taken in 0..width * height {
-                    assert_eq!(rt; len_of(&pixels), width * height - taken);
+                    assert!(rt; len_of(&pixels) == width * height - taken);
                     assert!(rt; pixels.next().is_some());
                 }
                 assert!(rt; is_over(&mut pixels) && len_of(&pixels) == 0);
@@ -229,6 +221,6 @@ fn an_image_without_columns_has_no_pixel(rt: HostRuntime) -> Result<(), Fail> {
     assert!(rt; is_over(&mut lent.pixels_mut()));
     let none: ImgRef<'_, u64> = ImgRef::new_stride(&[], 0, 2, 1);
     assert!(rt; none.is_valid());
-    assert_eq!(rt; sum_of(none), 0);
+    assert!(rt; sum_of(none) == 0);
     Ok(())
 }

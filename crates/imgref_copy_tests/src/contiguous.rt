@@ -1,7 +1,7 @@
 //! Buffers without padding: joined in place, lent, or gathered.
 
-use crate::fixtures::{PADDED, cells_of, padded};
 use imgref::{Img, ImgRef, ImgVec};
+use imgref_fixtures::{PADDED, cells_of, padded};
 use std::alloc::{AllocError, Global};
 use std::borrow::CowSlice;
 use std::process::Abort;
@@ -26,9 +26,9 @@ fn a_second_compaction_changes_nothing(rt: HostRuntime) -> Result<(), Fail> {
     for _turn in 0..2 {
         assert!(rt; image.is_valid());
         let (joined, width, height) = image.as_contiguous_buf();
-        assert_eq!(rt; joined, [1u8, 2, 3, 4, 5, 6].as_slice());
-        assert_eq!(rt; (width, height), (2, 3));
-        assert_eq!(rt; (image.stride(), image.buf().len()), (2, 6));
+        assert!(rt; joined == [1u8, 2, 3, 4, 5, 6].as_slice());
+        assert!(rt; (width, height) == (2, 3));
+        assert!(rt; (image.stride(), image.buf().len()) == (2, 6));
     }
     Ok(())
 }
@@ -42,12 +42,12 @@ fn no_column_leaves_no_cell(rt: HostRuntime) -> Result<(), Fail> {
         let mut image: ImgVec<u8> = Img::new_stride([9u8, 9].to_vec(rt.alloc())?, 0, 2, stride);
         assert!(rt; image.is_valid());
         let (joined, width, height) = image.as_contiguous_buf();
-        assert_eq!(rt; (joined.len(), width, height), (0, 0, 2));
-        assert_eq!(rt; (image.stride(), image.buf().len()), (1, 0));
+        assert!(rt; (joined.len(), width, height) == (0, 0, 2));
+        assert!(rt; (image.stride(), image.buf().len()) == (1, 0));
         let image: ImgVec<u8> = Img::new_stride([9u8, 9].to_vec(rt.alloc())?, 0, 2, stride);
         assert!(rt; image.is_valid());
         let (joined, width, height) = image.into_contiguous_buf();
-        assert_eq!(rt; (joined.len(), width, height), (0, 0, 2));
+        assert!(rt; (joined.len(), width, height) == (0, 0, 2));
     }
     Ok(())
 }
@@ -57,8 +57,8 @@ fn pixels_of_no_size_are_compacted(rt: HostRuntime) -> Result<(), Fail> {
     let mut image: ImgVec<()> = Img::new_stride([(); 5].to_vec(rt.alloc())?, 2, 2, 3);
     assert!(rt; image.is_valid());
     let (joined, width, height) = image.as_contiguous_buf();
-    assert_eq!(rt; (joined.len(), width, height), (4, 2, 2));
-    assert_eq!(rt; (image.stride(), image.buf().len()), (2, 4));
+    assert!(rt; (joined.len(), width, height) == (4, 2, 2));
+    assert!(rt; (image.stride(), image.buf().len()) == (2, 4));
     Ok(())
 }
 
@@ -69,8 +69,8 @@ fn rows_that_touch_are_lent(rt: HostRuntime) -> Result<(), Fail> {
     assert!(rt; seen.is_valid());
     let (joined, width, height) = seen.to_contiguous_buf(rt.alloc())?;
     assert!(rt; matches!(&joined, CowSlice::Borrowed(_)));
-    assert_eq!(rt; joined.as_ref(), [1u8, 2, 3, 4].as_slice());
-    assert_eq!(rt; (width, height), (2, 2));
+    assert!(rt; joined.as_ref() == [1u8, 2, 3, 4].as_slice());
+    assert!(rt; (width, height) == (2, 2));
     Ok(())
 }
 
@@ -81,13 +81,13 @@ fn rows_apart_are_gathered(rt: HostRuntime) -> Result<(), Fail> {
     assert!(rt; seen.is_valid());
     let (joined, width, height) = seen.to_contiguous_buf(rt.alloc())?;
     assert!(rt; matches!(&joined, CowSlice::Owned(_)));
-    assert_eq!(rt; joined.as_ref(), [1u8, 2, 4, 5].as_slice());
-    assert_eq!(rt; (width, height), (2, 2));
+    assert!(rt; joined.as_ref() == [1u8, 2, 4, 5].as_slice());
+    assert!(rt; (width, height) == (2, 2));
     drop(joined);
     assert!(rt; image.is_valid());
     let (joined, width, height) = image.into_contiguous_buf();
-    assert_eq!(rt; joined.as_slice(), [1u8, 2, 4, 5].as_slice());
-    assert_eq!(rt; (width, height), (2, 2));
+    assert!(rt; joined.as_slice() == [1u8, 2, 4, 5].as_slice());
+    assert!(rt; (width, height) == (2, 2));
     Ok(())
 }
 
@@ -98,11 +98,11 @@ fn the_image_stays_where_memory_is_wanting(rt: HostRuntime) -> Result<(), Fail> 
     let seen: ImgRef<'_, u8> = image.as_ref();
     assert!(rt; seen.is_valid());
     match seen.to_contiguous_buf(rt.alloc()) {
-        Ok((joined, _, _)) => assert_eq!(rt; joined.as_ref(), [1u8, 2, 3, 5, 6, 7].as_slice()),
+        Ok((joined, _, _)) => assert!(rt; joined.as_ref() == [1u8, 2, 3, 5, 6, 7].as_slice()),
         Err(AllocError) => {}
     }
-    assert_eq!(rt; *seen.buf(), PADDED.as_slice());
-    assert_eq!(rt; (seen.width(), seen.height(), seen.stride()), (3, 2, 4));
+    assert!(rt; *seen.buf() == PADDED.as_slice());
+    assert!(rt; (seen.width(), seen.height(), seen.stride()) == (3, 2, 4));
     Ok(())
 }
 
@@ -111,16 +111,16 @@ fn readme(rt: HostRuntime) -> Result<(), Fail> {
     let image: ImgVec<u8> = Img::new(cells_of(rt.alloc(), 1000, 0)?, 50, 20);
     assert!(rt; image.is_valid());
     let origin = (0u32, 0u32);
-    assert_eq!(rt; image[origin], 0);
-    assert_eq!(rt; image.row(0), [0u8; 50].as_slice());
-    assert_eq!(rt; image.rows().count(), 20);
-    assert_eq!(rt; image.pixels().count(), 1000);
+    assert!(rt; image[origin] == 0);
+    assert!(rt; image.row(0) == [0u8; 50].as_slice());
+    assert!(rt; image.rows().count() == 20);
+    assert!(rt; image.pixels().count() == 1000);
     assert!(rt; image.has_window(5, 5, 15, 15));
     let window = image.sub_image(5, 5, 15, 15);
     let (joined, width, height) = window.to_contiguous_buf(rt.alloc())?;
     assert!(rt; matches!(&joined, CowSlice::Owned(_)));
-    assert_eq!(rt; joined.as_ref(), [0u8; 225].as_slice());
-    assert_eq!(rt; (width, height), (15, 15));
+    assert!(rt; joined.as_ref() == [0u8; 225].as_slice());
+    assert!(rt; (width, height) == (15, 15));
     Ok(())
 }
 
@@ -140,8 +140,8 @@ fn check_joined(
     assert!(rt; image.is_valid());
     let pixels: Vec<u8> = image.pixels().collect(alloc)?;
     let (joined, new_width, new_height) = image.into_contiguous_buf();
-    assert_eq!(rt; pixels.as_slice(), joined.as_slice());
-    assert_eq!(rt; (new_width, new_height), (width, height));
+    assert!(rt; pixels.as_slice() == joined.as_slice());
+    assert!(rt; (new_width, new_height) == (width, height));
     Ok(())
 }
 
@@ -163,9 +163,9 @@ fn a_copy_and_the_buffer_are_joined_alike(rt: HostRuntime) -> Result<(), Fail> {
     assert!(rt; image.is_valid());
     let pixels: Vec<u8> = image.pixels().collect(rt.alloc())?;
     let (lent, _, _) = image.as_ref().to_contiguous_buf(rt.alloc())?;
-    assert_eq!(rt; lent.as_ref(), pixels.as_slice());
+    assert!(rt; lent.as_ref() == pixels.as_slice());
     drop(lent);
     let (joined, _, _) = image.into_contiguous_buf();
-    assert_eq!(rt; pixels.as_slice(), joined.as_slice());
+    assert!(rt; pixels.as_slice() == joined.as_slice());
     Ok(())
 }

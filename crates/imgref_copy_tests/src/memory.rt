@@ -1,7 +1,7 @@
 //! Calls that take no memory, what is left where a growth is refused, and buffers that keep theirs.
 
-use crate::fixtures::{PADDED, SQUARE, padded};
 use imgref::{Img, ImgRef, ImgVec};
+use imgref_fixtures::{PADDED, SQUARE, padded};
 use std::alloc::{AllocError, Global};
 use std::borrow::CowSlice;
 use std::test::Fail;

@@ -6,8 +6,8 @@ ghost use Rattle.image_model.specs.Rows.{row_count};
 ghost use Rattle.imgref.specs.Rows.{refs_left};
 ghost use Rattle.imgref.specs.Image.{width_of, height_of, ref_layout};
 
-use crate::fixtures::{SQUARE, cells_of, is_over, len_of, padded};
 use imgref::{Img, ImgRef, ImgRefMut, ImgVec, RowsIter};
+use imgref_fixtures::{SQUARE, cells_of, is_over, len_of, padded};
 use std::test::Fail;
 
 // What a caller learns from a chain over the rows.
@@ -86,8 +86,8 @@ fn rows_come_from_both_ends(rt: HostRuntime) -> Result<(), Fail> {
     assert!(rt; gives_the_square(lent.rows()));
     assert!(rt; gives_the_square(view.rows()));
     let mut rows = view.rows();
-    assert_eq!(rt; last_of(&mut rows), Some([7u8, 8, 9].as_slice()));
-    assert_eq!(rt; len_of(&rows), 2);
+    assert!(rt; last_of(&mut rows) == Some([7u8, 8, 9].as_slice()));
+    assert!(rt; len_of(&rows) == 2);
     Ok(())
 }
 
@@ -96,14 +96,14 @@ fn an_image_without_columns_has_no_row(rt: HostRuntime) -> Result<(), Fail> {
     let mut cells = [9u8, 9];
     let view = Img::new_stride(cells.as_slice(), 0, 2, 1);
     assert!(rt; view.is_valid());
-    assert_eq!(rt; (view.height(), count_rows(view)), (2, 0));
+    assert!(rt; (view.height(), count_rows(view)) == (2, 0));
     assert!(rt; is_over(&mut view.rows()));
     let mut lent: ImgRefMut<'_, u8> = Img::new_stride(cells.as_mut_slice(), 0, 2, 1);
     assert!(rt; lent.is_valid());
     assert!(rt; is_over(&mut lent.rows()) && is_over(&mut lent.rows_mut()));
     let empty: ImgRef<'_, u8> = Img::new_stride(&[], 0, 3, 1);
     assert!(rt; empty.is_valid());
-    assert_eq!(rt; (empty.height(), count_rows(empty)), (3, 0));
+    assert!(rt; (empty.height(), count_rows(empty)) == (3, 0));
     Ok(())
 }
 
@@ -112,13 +112,13 @@ fn an_image_without_lines_has_no_row(rt: HostRuntime) -> Result<(), Fail> {
     let mut cells = [0u8];
     let view = Img::new_stride(cells.as_slice(), 1, 0, 1);
     assert!(rt; view.is_valid() && view.has_window(1, 0, 0, 0));
-    assert_eq!(rt; count_rows(view), 0);
-    assert_eq!(rt; view.sub_image(1, 0, 0, 0).rows().count(), 0);
+    assert!(rt; count_rows(view) == 0);
+    assert!(rt; view.sub_image(1, 0, 0, 0).rows().count() == 0);
     let mut lent: ImgRefMut<'_, u8> = Img::new_stride(cells.as_mut_slice(), 1, 0, 1);
     assert!(rt; lent.is_valid() && lent.has_window(0, 0, 1, 0));
-    assert_eq!(rt; lent.rows_mut().count(), 0);
+    assert!(rt; lent.rows_mut().count() == 0);
     let mut window = lent.sub_image_mut(0, 0, 1, 0);
-    assert_eq!(rt; (window.rows().count(), window.rows_mut().count()), (0, 0));
+    assert!(rt; (window.rows().count(), window.rows_mut().count()) == (0, 0));
     Ok(())
 }
 
@@ -126,11 +126,11 @@ fn an_image_without_lines_has_no_row(rt: HostRuntime) -> Result<(), Fail> {
 fn rows_far_apart(rt: HostRuntime) -> Result<(), Fail> {
     let image: ImgVec<u8> = Img::new_stride(cells_of(rt.alloc(), 10000, 0)?, 10, 15, 100);
     assert!(rt; image.is_valid());
-    assert_eq!(rt; image.rows().count(), 15);
-    assert_eq!(rt; image.rows().rev().count(), 15);
-    assert_eq!(rt; image.rows().fuse().rev().count(), 15);
-    assert_eq!(rt; count_from_the_end(image.as_ref()), 15);
-    assert_eq!(rt; count_fused(image.as_ref()), 15);
+    assert!(rt; image.rows().count() == 15);
+    assert!(rt; image.rows().rev().count() == 15);
+    assert!(rt; image.rows().fuse().rev().count() == 15);
+    assert!(rt; count_from_the_end(image.as_ref()) == 15);
+    assert!(rt; count_fused(image.as_ref()) == 15);
     Ok(())
 }
 
@@ -139,10 +139,10 @@ fn a_window_has_its_own_rows(rt: HostRuntime) -> Result<(), Fail> {
     let owned = padded(rt.alloc())?;
     assert!(rt; owned.is_valid() && owned.has_window(1, 1, 2, 1));
     let window = owned.sub_image(1, 1, 2, 1);
-    assert_eq!(rt; window.rows().next(), Some([6u8, 7].as_slice()));
-    assert_eq!(rt; window.rows().count(), 1);
-    assert_eq!(rt; window.rows().rev().count(), 1);
-    assert_eq!(rt; window.rows().fuse().rev().count(), 1);
+    assert!(rt; window.rows().next() == Some([6u8, 7].as_slice()));
+    assert!(rt; window.rows().count() == 1);
+    assert!(rt; window.rows().rev().count() == 1);
+    assert!(rt; window.rows().fuse().rev().count() == 1);
     Ok(())
 }
 
@@ -155,11 +155,11 @@ fn every_small_size_has_its_rows(rt: HostRuntime) -> Result<(), Fail> {
                 let cells = cells_of(rt.alloc(), stride * height + padding, 1)?;
                 let image: ImgVec<u8> = Img::new_stride(cells, width, height, stride);
                 assert!(rt; image.is_valid());
-                assert_eq!(rt; image.rows().count(), height);
+                assert!(rt; image.rows().count() == height);
                 let mut rows = image.rows();
-                assert_eq!(rt; rows.next().map(|row| row.len()), Some(width));
-                assert_eq!(rt; rows.size_hint(), (height - 1, Some(height - 1)));
-                assert_eq!(rt; rows.count(), height - 1);
+                assert!(rt; rows.next().map(|row| row.len()) == Some(width));
+                assert!(rt; rows.size_hint() == (height - 1, Some(height - 1)));
+                assert!(rt; rows.count() == height - 1);
             }
         }
     }
@@ -171,14 +171,14 @@ fn one_row_at_the_greatest_stride(rt: HostRuntime) -> Result<(), Fail> {
     let mut cells = [5u8];
     let view: ImgRef<'_, u8> = Img::new_stride(cells.as_slice(), 1, 1, usize::MAX);
     assert!(rt; view.is_valid());
-    assert_eq!(rt; view.rows().next(), Some([5u8].as_slice()));
-    assert_eq!(rt; count_rows(view), 1);
+    assert!(rt; view.rows().next() == Some([5u8].as_slice()));
+    assert!(rt; count_rows(view) == 1);
     let mut image: ImgRefMut<'_, u8> = Img::new_stride(cells.as_mut_slice(), 1, 1, usize::MAX);
     assert!(rt; image.is_valid());
     if let Some(row) = image.rows_mut().next_back() {
         row.fill(7);
     }
-    assert_eq!(rt; cells, [7u8]);
+    assert!(rt; cells == [7u8]);
     Ok(())
 }
 
@@ -186,7 +186,7 @@ fn one_row_at_the_greatest_stride(rt: HostRuntime) -> Result<(), Fail> {
 fn loops_and_tests_over_rows(rt: HostRuntime) -> Result<(), Fail> {
     let view = Img::new_stride(SQUARE.as_slice(), 3, 3, 4);
     assert!(rt; view.is_valid());
-    assert_eq!(rt; sum_of_last_column(view), 18);
+    assert!(rt; sum_of_last_column(view) == 18);
     assert!(rt; !all_start_at(view.rows(), 1));
     let line = Img::new(SQUARE.as_slice(), 11, 1);
     assert!(rt; line.is_valid() && all_start_at(line.rows(), 1));

@@ -2,8 +2,8 @@
 
 ghost use Rattle.std.specs.Prelude.{◌≡◌, ◌≢◌};
 
-use crate::fixtures::{PADDED, padded};
 use imgref::{Img, ImgRef, ImgVec};
+use imgref_fixtures::{PADDED, padded};
 use std::alloc::AllocError;
 use std::borrow::CowSlice;
 use std::process::Abort;
@@ -61,13 +61,13 @@ fn fussy_padding() -> [Fussy; 7] {
 
 // The image of nine cells, padding included.
 fn check_padded(rt: &impl Abort, image: &ImgVec<u8>) {
-    assert_eq!(rt; image.buf().as_slice(), PADDED.as_slice());
-    assert_eq!(rt; (image.width(), image.height(), image.stride()), (3, 2, 4));
+    assert!(rt; image.buf().as_slice() == PADDED.as_slice());
+    assert!(rt; (image.width(), image.height(), image.stride()) == (3, 2, 4));
 }
 
 fn check_padded_ref(rt: &impl Abort, image: ImgRef<'_, u8>) {
-    assert_eq!(rt; *image.buf(), PADDED.as_slice());
-    assert_eq!(rt; (image.width(), image.height(), image.stride()), (3, 2, 4));
+    assert!(rt; *image.buf() == PADDED.as_slice());
+    assert!(rt; (image.width(), image.height(), image.stride()) == (3, 2, 4));
 }
 
 #[test]
@@ -79,11 +79,8 @@ fn each_kind_is_copied_whole(rt: HostRuntime) -> Result<(), Fail> {
     check_padded(&rt, &image.as_mut().to_owned(rt.alloc())?);
     let small = Img::new_stride([1u8, 2, 3, 4, 5, 6, 7, 8].as_slice(), 2, 2, 3);
     let copy = small.to_owned(rt.alloc())?;
-    assert_eq!(rt;
-        copy.buf().as_slice(),
-        [1u8, 2, 3, 4, 5, 6, 7, 8].as_slice()
-    );
-    assert_eq!(rt; (copy.width(), copy.height(), copy.stride()), (2, 2, 3));
+    assert!(rt; copy.buf().as_slice() == [1u8, 2, 3, 4, 5, 6, 7, 8].as_slice());
+    assert!(rt; (copy.width(), copy.height(), copy.stride()) == (2, 2, 3));
     Ok(())
 }
 
@@ -92,11 +89,8 @@ fn an_image_that_does_not_fit_is_copied(rt: HostRuntime) -> Result<(), Fail> {
     let short = Img::new_stride([7u8].as_slice(), 2, 2, usize::MAX);
     assert!(rt; !short.is_valid());
     let copy = short.to_owned(rt.alloc())?;
-    assert_eq!(rt; copy.buf().as_slice(), [7u8].as_slice());
-    assert_eq!(rt;
-        (copy.width(), copy.height(), copy.stride()),
-        (2, 2, usize::MAX)
-    );
+    assert!(rt; copy.buf().as_slice() == [7u8].as_slice());
+    assert!(rt; (copy.width(), copy.height(), copy.stride()) == (2, 2, usize::MAX));
     Ok(())
 }
 
@@ -107,11 +101,8 @@ fn lent_cells_become_owned(rt: HostRuntime) -> Result<(), Fail> {
     let Ok(joined) = lent.into_owned(rt.alloc()) else {
         return Err(AllocError.into());
     };
-    assert_eq!(rt; joined.buf().as_slice(), [1u8, 2, 3, 5, 6, 7].as_slice());
-    assert_eq!(rt;
-        (joined.width(), joined.height(), joined.stride()),
-        (3, 2, 3)
-    );
+    assert!(rt; joined.buf().as_slice() == [1u8, 2, 3, 5, 6, 7].as_slice());
+    assert!(rt; (joined.width(), joined.height(), joined.stride()) == (3, 2, 3));
     let lent: Img<CowSlice<'_, u8>> = Img::new_stride(PADDED.as_slice(), 3, 2, 4).into();
     let Ok(whole) = lent.into_vec(rt.alloc()) else {
         return Err(AllocError.into());
@@ -160,7 +151,7 @@ fn the_image_stays_where_memory_is_wanting(rt: HostRuntime) -> Result<(), Fail> 
     let lent: Img<CowSlice<'_, u8>> = image.as_ref().into();
     assert!(rt; lent.is_valid());
     match lent.into_owned(rt.alloc()) {
-        Ok(joined) => assert_eq!(rt; joined.buf().as_slice(), [1u8, 2, 3, 5, 6, 7].as_slice()),
+        Ok(joined) => assert!(rt; joined.buf().as_slice() == [1u8, 2, 3, 5, 6, 7].as_slice()),
         Err(back) => {
             assert!(rt; matches!(back.buf(), CowSlice::Borrowed(_)));
             check_padded_ref(&rt, Img::from_parts(back.buf().as_ref(), back.shape()));
@@ -187,12 +178,12 @@ fn a_clone_that_refuses_is_told(rt: HostRuntime) -> Result<(), Fail> {
     let Err(back) = lent.into_owned(rt.alloc()) else {
         return Err(AllocError.into());
     };
-    assert_eq!(rt; (back.width(), back.height(), back.stride()), (3, 2, 4));
+    assert!(rt; (back.width(), back.height(), back.stride()) == (3, 2, 4));
     let Err(back) = back.into_vec(rt.alloc()) else {
         return Err(AllocError.into());
     };
-    assert_eq!(rt; (back.width(), back.height(), back.stride()), (3, 2, 4));
-    assert_eq!(rt; back.buf().as_ref(), kept.as_slice());
+    assert!(rt; (back.width(), back.height(), back.stride()) == (3, 2, 4));
+    assert!(rt; back.buf().as_ref() == kept.as_slice());
     Ok(())
 }
 
@@ -202,7 +193,7 @@ fn an_owner_whose_clone_refuses_stays(rt: HostRuntime) -> Result<(), Fail> {
     let owner: ImgVec<Fussy> = Img::new_stride(Vec::from_array(rt.alloc(), all_fussy())?, 3, 2, 4);
     assert!(rt; owner.to_owned(rt.alloc()).is_err());
     assert!(rt; owner.clone(rt.alloc()).is_err());
-    assert_eq!(rt; owner.buf().as_slice(), kept.as_slice());
+    assert!(rt; owner.buf().as_slice() == kept.as_slice());
     Ok(())
 }
 
@@ -215,6 +206,6 @@ fn padding_is_not_cloned_with_the_rows(rt: HostRuntime) -> Result<(), Fail> {
     assert!(rt; image.to_owned(rt.alloc()).is_err());
     let (joined, _, _) = image.to_contiguous_buf(rt.alloc())?;
     let expected = [pixel(1), pixel(2), pixel(3), pixel(4), pixel(6), pixel(7)];
-    assert_eq!(rt; joined.as_ref(), expected.as_slice());
+    assert!(rt; joined.as_ref() == expected.as_slice());
     Ok(())
 }

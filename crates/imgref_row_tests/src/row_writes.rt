@@ -5,9 +5,9 @@ ghost use Rattle.image_model.specs.Layout.{Fits};
 ghost use Rattle.image_model.specs.Rows.{row_count};
 ghost use Rattle.imgref.specs.Image.{width_of, height_of, mut_layout, vec_layout};
 
-use crate::fixtures::{PADDED, SQUARE, cells_of, is_over, len_of, padded};
 use imgref::{Img, ImgRefMut, ImgVec};
 use imgref_callers::fill_last_row;
+use imgref_fixtures::{PADDED, SQUARE, cells_of, is_over, len_of, padded};
 use std::test::Fail;
 
 fn count_for_writing(image: &mut ImgVec<u8>) -> usize
@@ -47,14 +47,14 @@ fn a_written_row_stands_alone(rt: HostRuntime) -> Result<(), Fail> {
     if let Some(row) = owned.rows_mut().next_back() {
         row.fill(0);
     }
-    assert_eq!(rt; owned.buf().as_slice(), left.as_slice());
+    assert!(rt; owned.buf().as_slice() == left.as_slice());
     let mut cells = PADDED;
     let mut lent: ImgRefMut<'_, u8> = Img::new_stride(cells.as_mut_slice(), 3, 2, 4);
     assert!(rt; lent.is_valid());
     if let Some(row) = lent.rows_mut().next_back() {
         row.fill(0);
     }
-    assert_eq!(rt; cells, left);
+    assert!(rt; cells == left);
     Ok(())
 }
 
@@ -63,17 +63,14 @@ fn the_last_row_is_filled(rt: HostRuntime) -> Result<(), Fail> {
     let mut owned = padded(rt.alloc())?;
     assert!(rt; owned.is_valid());
     fill_last_row(&mut owned, 0);
-    assert_eq!(rt;
-        owned.buf().as_slice(),
-        [1u8, 2, 3, 4, 0, 0, 0, 8, 9].as_slice()
-    );
+    assert!(rt; owned.buf().as_slice() == [1u8, 2, 3, 4, 0, 0, 0, 8, 9].as_slice());
     // Neither an image without columns nor one without lines has a row.
     for (width, height) in [(0usize, 2usize), (3, 0)] {
         let mut cells = PADDED;
         let mut lent: ImgRefMut<'_, u8> = Img::new_stride(cells.as_mut_slice(), width, height, 4);
         assert!(rt; lent.is_valid());
         fill_last_row(&mut lent, 0);
-        assert_eq!(rt; cells, PADDED, "{width} by {height}");
+        assert!(rt; cells == PADDED, "{width} by {height}");
     }
     Ok(())
 }
@@ -95,7 +92,7 @@ fn rows_written_before_a_drop_stand(rt: HostRuntime) -> Result<(), Fail> {
                 } else {
                     (rows.next_back(), false)
                 };
-                assert_eq!(rt; row.is_some(), front < back, "step {step} of mix {mix}");
+                assert!(rt; row.is_some() == (front < back), "step {step} of mix {mix}");
                 if let Some(row) = row {
                     row.fill(100);
                     if at_front {
@@ -105,9 +102,8 @@ fn rows_written_before_a_drop_stand(rt: HostRuntime) -> Result<(), Fail> {
                     }
                 }
             }
-            assert_eq!(rt;
-                len_of(&rows),
-                back.saturating_sub(front),
+            assert!(rt;
+                len_of(&rows) == back.saturating_sub(front),
                 "{steps} of mix {mix}"
             );
             drop(rows);
@@ -115,7 +111,7 @@ fn rows_written_before_a_drop_stand(rt: HostRuntime) -> Result<(), Fail> {
                 let row = cell / 4;
                 let written = cell % 4 < 3 && (row < front || row >= back);
                 let expected = if written { 100 } else { SQUARE[cell] };
-                assert_eq!(rt; *now, expected, "cell {cell} after {steps} of mix {mix}");
+                assert!(rt; *now == expected, "cell {cell} after {steps} of mix {mix}");
             }
         }
     }
@@ -128,9 +124,9 @@ fn rows_of_pixels_without_size(rt: HostRuntime) -> Result<(), Fail> {
     let mut image: ImgRefMut<'_, ()> = Img::new_stride(cells.as_mut_slice(), 2, 2, 3);
     assert!(rt; image.is_valid());
     let mut rows = image.rows_mut();
-    assert_eq!(rt; rows.next_back().map(|row| row.len()), Some(2));
-    assert_eq!(rt; rows.size_hint(), (1, Some(1)));
-    assert_eq!(rt; rows.next().map(|row| row.len()), Some(2));
+    assert!(rt; rows.next_back().map(|row| row.len()) == Some(2));
+    assert!(rt; rows.size_hint() == (1, Some(1)));
+    assert!(rt; rows.next().map(|row| row.len()) == Some(2));
     assert!(rt; is_over(&mut rows) && is_over(&mut rows));
     Ok(())
 }
@@ -141,20 +137,17 @@ fn a_window_has_its_own_rows_for_writing(rt: HostRuntime) -> Result<(), Fail> {
         let mut copy = padded(rt.alloc())?;
         assert!(rt; copy.is_valid() && copy.has_window(1, 1, 2, 1));
         let mut window = copy.sub_image_mut(1, 1, 2, 1);
-        assert_eq!(rt; window.rows().next(), Some([6u8, 7].as_slice()));
-        assert_eq!(rt; count_written(&mut window, direction), 1);
+        assert!(rt; window.rows().next() == Some([6u8, 7].as_slice()));
+        assert!(rt; count_written(&mut window, direction) == 1);
         let mut cells = PADDED;
         let mut lent: ImgRefMut<'_, u8> = Img::new_stride(cells.as_mut_slice(), 3, 2, 4);
         assert!(rt; lent.is_valid() && lent.has_window(1, 1, 2, 1));
-        assert_eq!(rt;
-            count_written(&mut lent.sub_image_mut(1, 1, 2, 1), direction),
-            1
-        );
+        assert!(rt; count_written(&mut lent.sub_image_mut(1, 1, 2, 1), direction) == 1);
         let mut cells = PADDED;
         let lent: ImgRefMut<'_, u8> = Img::new_stride(cells.as_mut_slice(), 3, 2, 4);
         assert!(rt; lent.is_valid() && lent.has_window(1, 1, 2, 1));
         let mut window = lent.into_sub_image_mut(1, 1, 2, 1);
-        assert_eq!(rt; count_written(&mut window, direction), 1);
+        assert!(rt; count_written(&mut window, direction) == 1);
     }
     Ok(())
 }
@@ -164,10 +157,7 @@ fn a_loop_writes_the_last_column(rt: HostRuntime) -> Result<(), Fail> {
     let mut image: ImgVec<u8> = Img::new_stride(SQUARE.to_vec(rt.alloc())?, 3, 3, 4);
     assert!(rt; image.is_valid());
     clear_last_column(&mut image);
-    assert_eq!(rt;
-        image.buf().as_slice(),
-        [1u8, 2, 0, 0, 4, 5, 0, 0, 7, 8, 0].as_slice()
-    );
+    assert!(rt; image.buf().as_slice() == [1u8, 2, 0, 0, 4, 5, 0, 0, 7, 8, 0].as_slice());
     Ok(())
 }
 
@@ -175,6 +165,6 @@ fn a_loop_writes_the_last_column(rt: HostRuntime) -> Result<(), Fail> {
 fn rows_far_apart_are_counted(rt: HostRuntime) -> Result<(), Fail> {
     let mut image: ImgVec<u8> = Img::new_stride(cells_of(rt.alloc(), 10000, 0)?, 10, 15, 100);
     assert!(rt; image.is_valid());
-    assert_eq!(rt; count_for_writing(&mut image), 15);
+    assert!(rt; count_for_writing(&mut image) == 15);
     Ok(())
 }

@@ -2,8 +2,8 @@
 
 ghost use Rattle.std.specs.Prelude.{◌≡◌, length, IfOk};
 
-use crate::fixtures::{PADDED, cells_of, padded};
 use imgref::{Img, ImgRef, ImgRefMut, ImgVec};
+use imgref_fixtures::{PADDED, cells_of, padded};
 use std::test::Fail;
 
 // Each cell plus 1, in the same buffer.
@@ -30,8 +30,8 @@ fn a_callback_changes_the_cells(rt: HostRuntime) -> Result<(), Fail> {
     let more = image.try_map_buf(add_one);
     assert!(rt; more.is_ok());
     if let Ok(image) = more {
-        assert_eq!(rt; image.buf().as_slice(), [2u8, 3].as_slice());
-        assert_eq!(rt; (image.width(), image.height(), image.stride()), (2, 1, 2));
+        assert!(rt; image.buf().as_slice() == [2u8, 3].as_slice());
+        assert!(rt; (image.width(), image.height(), image.stride()) == (2, 1, 2));
     }
     Ok(())
 }
@@ -41,10 +41,10 @@ fn with_vec(rt: HostRuntime) -> Result<(), Fail> {
     let old: ImgVec<u8> = Img::new_stride(cells_of(rt.alloc(), 20, 0)?, 10, 2, 10);
     let mut cells: Vec<u16> = Vec::new(rt.alloc());
     cells.resize(20, 6)?;
-    assert_eq!(rt; (old.buf().len(), cells.len()), (20, 20));
+    assert!(rt; (old.buf().len(), cells.len()) == (20, 20));
     let new = old.new_buf(cells);
-    assert_eq!(rt; (new.width(), new.height(), new.stride()), (10, 2, 10));
-    assert_eq!(rt; new.buf().as_slice(), [6u16; 20].as_slice());
+    assert!(rt; (new.width(), new.height(), new.stride()) == (10, 2, 10));
+    assert!(rt; new.buf().as_slice() == [6u16; 20].as_slice());
     Ok(())
 }
 
@@ -52,24 +52,24 @@ fn with_vec(rt: HostRuntime) -> Result<(), Fail> {
 fn with_slice(rt: HostRuntime) -> Result<(), Fail> {
     let cells = cells_of(rt.alloc(), 20, 0)?;
     let lent: ImgRef<'_, u8> = Img::new_stride(cells.as_slice(), 10, 2, 10);
-    assert_eq!(rt; lent.iter().count(), 20);
-    assert_eq!(rt; lent.into_iter().count(), 20);
+    assert!(rt; lent.iter().count() == 20);
+    assert!(rt; lent.into_iter().count() == 20);
     let owner: ImgVec<u8> = Img::new_stride(cells_of(rt.alloc(), 20, 0)?, 10, 2, 10);
-    assert_eq!(rt; owner.iter().count(), 20);
+    assert!(rt; owner.iter().count() == 20);
     assert!(rt; owner.is_valid());
-    assert_eq!(rt; owner.rows().count(), 2);
+    assert!(rt; owner.rows().count() == 2);
     let mut seen = 0u32;
     for cell in *owner.as_ref().buf() {
-        assert_eq!(rt; *cell, 0);
+        assert!(rt; *cell == 0);
         seen = seen.saturating_add(1);
     }
-    assert_eq!(rt; seen, 20);
+    assert!(rt; seen == 20);
     let mut taken = 0u32;
     for cell in owner {
-        assert_eq!(rt; cell, 0);
+        assert!(rt; cell == 0);
         taken = taken.saturating_add(1);
     }
-    assert_eq!(rt; taken, 20);
+    assert!(rt; taken == 20);
     Ok(())
 }
 
@@ -78,12 +78,12 @@ fn an_image_that_does_not_fit_gives_each_cell(rt: HostRuntime) -> Result<(), Fai
     let short = Img::new_stride(PADDED.as_slice(), 3, 3, usize::MAX);
     assert!(rt; !short.is_valid());
     let found: Vec<u8> = short.iter().copied().collect(rt.alloc())?;
-    assert_eq!(rt; found.as_slice(), PADDED.as_slice());
+    assert!(rt; found.as_slice() == PADDED.as_slice());
     let mut cells = PADDED;
     let lent: ImgRefMut<'_, u8> = Img::new_stride(cells.as_mut_slice(), 3, 3, usize::MAX);
     let found: Vec<u8> = lent.iter().copied().collect(rt.alloc())?;
-    assert_eq!(rt; found.as_slice(), PADDED.as_slice());
+    assert!(rt; found.as_slice() == PADDED.as_slice());
     let found: Vec<u8> = padded(rt.alloc())?.into_iter().collect(rt.alloc())?;
-    assert_eq!(rt; found.as_slice(), PADDED.as_slice());
+    assert!(rt; found.as_slice() == PADDED.as_slice());
     Ok(())
 }

@@ -1,4 +1,5 @@
-//! Cells that several tests begin with, and calls through one bound.
+//! Cells that the tests of several crates begin with, and calls through one bound.
+#![tactic(auto)]
 
 use imgref::{Img, ImgVec};
 use std::alloc::{AllocError, Global};

@@ -4,9 +4,9 @@ ghost use Rattle.std.specs.Prelude.{◌≡◌, ◌*◌, ◌<◌, ◌++◌, lengt
 ghost use Rattle.image_model.specs.Layout.{Fits, layout};
 ghost use Rattle.imgref.specs.Image.{width_of, height_of, layout_by, vec_layout};
 
-use crate::fixtures::PADDED;
 use imgref::{AsSlice, Img, ImgRefMut, ImgVec};
 use imgref_callers::fill_row_at;
+use imgref_fixtures::PADDED;
 use std::test::Fail;
 
 fn row_of<C: AsSlice>(image: &Img<C>, y: usize) -> &[C::Item]
@@ -33,16 +33,16 @@ fn a_row_has_the_pixels_of_a_line(rt: HostRuntime) -> Result<(), Fail> {
     let mut cells = [1u8, 2, 3, 4, 5, 6, 7, 8];
     let owned: ImgVec<u8> = Img::new_stride(cells.to_vec(rt.alloc())?, 2, 2, 3);
     assert!(rt; owned.is_valid());
-    assert_eq!(rt; owned.row(0), [1u8, 2].as_slice());
-    assert_eq!(rt; row_of(&owned, 1), [4u8, 5].as_slice());
+    assert!(rt; owned.row(0) == [1u8, 2].as_slice());
+    assert!(rt; row_of(&owned, 1) == [4u8, 5].as_slice());
     let lent = Img::new_stride(cells.as_slice(), 2, 2, 3);
     assert!(rt; lent.is_valid());
-    assert_eq!(rt; lent.row(0), [1u8, 2].as_slice());
-    assert_eq!(rt; row_of(&lent, 1), [4u8, 5].as_slice());
+    assert!(rt; lent.row(0) == [1u8, 2].as_slice());
+    assert!(rt; row_of(&lent, 1) == [4u8, 5].as_slice());
     let written = Img::new_stride(cells.as_mut_slice(), 2, 2, 3);
     assert!(rt; written.is_valid());
-    assert_eq!(rt; written.row(0), [1u8, 2].as_slice());
-    assert_eq!(rt; row_of(&written, 1), [4u8, 5].as_slice());
+    assert!(rt; written.row(0) == [1u8, 2].as_slice());
+    assert!(rt; row_of(&written, 1) == [4u8, 5].as_slice());
     Ok(())
 }
 
@@ -54,13 +54,13 @@ fn a_row_of_width_zero_is_empty(rt: HostRuntime) -> Result<(), Fail> {
             continue;
         }
         let mut owned: ImgVec<u8> = Img::new_stride(cells.to_vec(rt.alloc())?, 0, 2, stride);
-        assert_eq!(rt; owned.row(1).len(), 0);
-        assert_eq!(rt; owned.row_mut(1).len(), 0);
+        assert!(rt; owned.row(1).len() == 0);
+        assert!(rt; owned.row_mut(1).len() == 0);
         let lent = Img::new_stride(cells.as_slice(), 0, 4294967295, stride);
-        assert_eq!(rt; lent.row(4294967294).len(), 0);
+        assert!(rt; lent.row(4294967294).len() == 0);
         let mut written = Img::new_stride(cells.as_mut_slice(), 0, 2, stride);
-        assert_eq!(rt; written.row(1).len(), 0);
-        assert_eq!(rt; written.row_mut(1).len(), 0);
+        assert!(rt; written.row(1).len() == 0);
+        assert!(rt; written.row_mut(1).len() == 0);
     }
     Ok(())
 }
@@ -71,16 +71,13 @@ fn a_write_in_a_row_changes_its_cells(rt: HostRuntime) -> Result<(), Fail> {
     let mut owned: ImgVec<u8> = Img::new_stride(cells.to_vec(rt.alloc())?, 2, 2, 3);
     assert!(rt; owned.is_valid());
     let row = owned.row_mut(1);
-    assert_eq!(rt; &*row, [4u8, 5].as_slice());
+    assert!(rt; &*row == [4u8, 5].as_slice());
     row.fill(0);
-    assert_eq!(rt;
-        owned.into_buf().as_slice(),
-        [1u8, 2, 3, 0, 0, 6, 7, 8].as_slice()
-    );
+    assert!(rt; owned.into_buf().as_slice() == [1u8, 2, 3, 0, 0, 6, 7, 8].as_slice());
     let mut lent = Img::new_stride(cells.as_mut_slice(), 2, 2, 3);
     assert!(rt; lent.is_valid());
     lent.row_mut(0).fill(9);
-    assert_eq!(rt; cells.as_slice(), [9u8, 9, 3, 4, 5, 6, 7, 8].as_slice());
+    assert!(rt; cells.as_slice() == [9u8, 9, 3, 4, 5, 6, 7, 8].as_slice());
     Ok(())
 }
 
@@ -89,14 +86,11 @@ fn a_row_is_filled(rt: HostRuntime) -> Result<(), Fail> {
     let mut owned: ImgVec<u8> = Img::new_stride(PADDED.to_vec(rt.alloc())?, 3, 2, 4);
     assert!(rt; owned.is_valid());
     fill_row_at(&mut owned, 0, 0);
-    assert_eq!(rt;
-        owned.buf().as_slice(),
-        [0u8, 0, 0, 4, 5, 6, 7, 8, 9].as_slice()
-    );
+    assert!(rt; owned.buf().as_slice() == [0u8, 0, 0, 4, 5, 6, 7, 8, 9].as_slice());
     let mut cells = PADDED;
     let mut lent: ImgRefMut<'_, u8> = Img::new_stride(cells.as_mut_slice(), 0, 2, 4);
     assert!(rt; lent.is_valid());
     fill_row_at(&mut lent, 1, 0);
-    assert_eq!(rt; cells, PADDED);
+    assert!(rt; cells == PADDED);
     Ok(())
 }
