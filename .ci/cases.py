@@ -44,3 +44,10 @@ def built(name, endings):
     """What `rt` left of a crate in its folder out/: the programs NAME with these endings. One that is older than a source is none."""
     programs = [ROOT / "crates" / name / "out" / f"{name}{it}" for it in endings]
     return [it for it in programs if is_fresh(it, name)]
+
+
+def both_builds(cases, name):
+    """A program as both compilers made it: LLVM's, and that of Rattle's own. That both are there is a case."""
+    programs = built(name, ("", ".by-rattle"))
+    cases.count(f"both builds of {name} are there", len(programs) == 2, f"crates/{name}/out lacks one, or it is older than its sources: `rt ci` makes them")
+    return programs

@@ -147,6 +147,12 @@ def copied():
         yield top
 
 
+def quick(parts):
+    """Proves and tests what has changed."""
+    parts.append(Part("rt all test", ["rt", "all", "test"], counts=False, nice=0))
+    parts[0].run()
+
+
 def whole(parts, top):
     """Runs everything, and answers once all has ended."""
     checks = sorted((ROOT / ".ci/checks").glob("*.py"))
@@ -182,13 +188,13 @@ def main(words):
     began, parts = time.monotonic(), []
     LOGS.mkdir(exist_ok=True)
     say(f"About {QUICK_MINUTES if words else MINUTES} minutes on four processors (here: {len(os.sched_getaffinity(0))}){', less over kept work' if words else ''}.")
-    with Memory(parts) as memory, copied() as top:
+    with Memory(parts) as memory:
         try:
             if words:
-                parts.append(Part("rt all test", ["rt", "all", "test"], counts=False, nice=0))
-                parts[0].run()
+                quick(parts)
             else:
-                whole(parts, top)
+                with copied() as top:
+                    whole(parts, top)
         except KeyboardInterrupt:
             sys.exit("interrupted")
         finally:

@@ -14,7 +14,7 @@ import subprocess
 import sys
 
 from program import say, shown
-from proving import Failed, Progress, libraries, prove, run, weights_of
+from proving import Progress, prove_and_make, weights_of
 from workspace import ROOT, is_fresh, with_those_below
 
 NAME = "imgref_c"
@@ -24,6 +24,8 @@ OUT = ROOT / "out/c"
 # The version of the Rust crate that this is a port of, and the number that changes where a built caller has to be built again.
 VERSION, ABI = "1.12.3", "1"
 EXPORTS = "imgref_*"
+
+
 class Failure(Exception):
     """What can't be built, and why."""
 
@@ -51,12 +53,7 @@ def proved():
     say(f"First the library is proved, with the {len(names) - 1} crates below it. With nothing changed it is built at once.")
     progress = Progress(*weights_of(names))
     with shown(progress):
-        try:
-            prove(libraries(names), progress)
-            progress.begin(NAME)
-            said = run(["rt", "lib"], ARCHIVE.parent.parent, lambda line: progress.hear(NAME, line))
-        except Failed as failed:
-            said = f"{failed.name} is not proved\n{failed.said}"
+        said = prove_and_make(NAME, ["rt", "lib"], progress)
     if said is not None:
         raise Failure(f"{said}NOT PROVED")
     # (rt leaves an archive whose text has not changed as it was)

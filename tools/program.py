@@ -18,7 +18,7 @@ import tempfile
 import threading
 import time
 
-from proving import Failed, Processors, Progress, libraries, processors, prove, run, weights_of
+from proving import Progress, processors, prove_and_make, weights_of
 from workspace import ROOT, crates, is_fresh, with_those_below
 
 NAME = "imgref_run"
@@ -70,20 +70,13 @@ def build(name):
     say(f"(here: {count}), less after an edit, and nothing after that. `make try` runs the script program at once, with nothing proved.")
     progress = Progress(*weights_of(names))
     (folder / "out").mkdir(exist_ok=True)
-    said = None
     with shown(progress):
-        try:
-            prove(libraries(names), progress)
-            progress.begin(name)
-            # (it is run too: with this word each program ends well)
-            said = run(["rt", "run", "--", "--help"], folder, lambda line: progress.hear(name, line))
-        except Failed as failed:
-            said = f"{failed.name} is not proved\n{failed.said}"
+        # (it is run too: with this word each program ends well)
+        said = prove_and_make(name, ["rt", "run", "--", "--help"], progress)
     (folder / "out/build.log").write_text("\n".join([*progress.log, ""]))
     if said is not None:
         say(f"{said}NOT PROVED")
         return 1
-    progress.end(name)
     say(progress.text())
     # (rt leaves a program whose text has not changed as it was)
     program_of(name).touch()

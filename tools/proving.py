@@ -16,9 +16,9 @@ from workspace import ROOT, crates, is_library, keep, own_sources, room, with_th
 SO_FAR = re.compile(r"so far: (\d+) of (\d+) functions checked")
 
 
-def weight(name, root=ROOT):
+def weight(name):
     """What a crate's proof takes, roughly in seconds of one processor: it reads the libraries, and then goes by lines."""
-    files = [*own_sources(name, root)]
+    files = [*own_sources(name)]
     count = lambda end: sum(it.read_bytes().count(b"\n") for it in files if it.name.endswith(end))
     code = count(".rt") - count("tests.rt")
     return 8 + code / 15 + count(".antt") / 150
@@ -58,24 +58,17 @@ class Progress:
         (checked, of), seconds = self.functions[name], self.clock() - self.begun[name]
         return max(0.9 * checked / of if of else 0, 0.9 * seconds / (seconds + self.weights[name]))
 
-    def left(self):
-        """What is left of the longest chain of crates, each of which waits for the one before it."""
-        found = {}
-        for name in self.weights:
-            before = max((found[it] for it in self.below[name] if it in found), default=0)
-            found[name] = before + self.weights[name] * (1 - self.share(name))
-        return max(found.values())
-
-    def whole(self):
-        """The longest chain as it was before anything was done."""
+    def chain(self, left):
+        """The weight of the longest chain of crates, each of which waits for the one before it, by what is left of each, from 0 to 1."""
         found = {}
         for name, weight in self.weights.items():
-            found[name] = weight + max((found[it] for it in self.below[name] if it in found), default=0)
+            found[name] = weight * left(name) + max((found[it] for it in self.below[name] if it in found), default=0)
         return max(found.values())
 
     def text(self):
         """One line: the time, how much is done, what is left, and how far each crate is that is being proved."""
-        seconds, done = self.clock() - self.began, 1 - self.left() / self.whole()
+        seconds = self.clock() - self.began
+        done = 1 - self.chain(lambda it: 1 - self.share(it)) / self.chain(lambda it: 1)
         parts = [f"{name} {checked} of {of}" if of else f"{name} begins" for name, (checked, of) in self.functions.items() if name not in self.done]
         left = f", about {max(round(seconds * (1 - done) / done / 60), 1)} min left" if 0.1 <= done < 1 else ""
         return f"{int(seconds) // 60}:{int(seconds) % 60:02}  {100 * done:3.0f} %{left}  {'; '.join(parts)}".rstrip()
@@ -114,22 +107,22 @@ class Failed(Exception):
         self.name, self.said = name, said
 
 
-def prove(names, progress, root=ROOT):
+def prove(names, progress):
     """Proves these crates, lowest first, and keeps the work. Raises Failed of the first that is not proved."""
-    names, at, ended = sorted(names, key=lambda it: len(with_those_below(it, root))), Processors(processors()), {}
+    names, at, ended = sorted(names, key=lambda it: len(with_those_below(it))), Processors(processors()), {}
 
     def work(name):
-        for it in with_those_below(name, root)[:-1]:
+        for it in with_those_below(name)[:-1]:
             if it in ended:
                 ended[it].result()
         taken = at.take()
         try:
             progress.begin(name)
-            with room(name, root) as made:
-                said = run(["rt", "lib" if is_library(name, root) else "check", "--jobs", str(taken)], made, lambda line: progress.hear(name, line))
+            with room(name) as made:
+                said = run(["rt", "lib" if is_library(name) else "check", "--jobs", str(taken)], made, lambda line: progress.hear(name, line))
                 if said is not None:
                     raise Failed(name, said)
-                keep(made, name, root)
+                keep(made, name)
             progress.end(name)
         finally:
             at.give(taken)
@@ -151,11 +144,19 @@ def run(command, at, hear):
     return "".join(lines) if part.returncode else None
 
 
-def libraries(names, root=ROOT):
-    """Those of these crates that others can stand on."""
-    return [it for it in names if is_library(it, root)]
+def weights_of(names):
+    all_of_them = crates()
+    return {it: weight(it) for it in names}, {it: all_of_them[it] for it in names}
 
 
-def weights_of(names, root=ROOT):
-    all_of_them = crates(root)
-    return {it: weight(it, root) for it in names}, {it: all_of_them[it] for it in names}
+def prove_and_make(name, command, progress):
+    """Proves the crates below one, and then has a command prove and build that one. Answers what was said where that failed, or nothing."""
+    try:
+        prove([it for it in with_those_below(name) if is_library(it)], progress)
+    except Failed as failed:
+        return f"{failed.name} is not proved\n{failed.said}"
+    progress.begin(name)
+    said = run(command, ROOT / "crates" / name, lambda line: progress.hear(name, line))
+    if said is None:
+        progress.end(name)
+    return said

@@ -15,28 +15,29 @@ ROOT = pathlib.Path(__file__).resolve().parent.parent
 PARTS = ("src", "specs", "proofs")
 
 
-def crates(root=ROOT):
-    """The crates of crates.txt, each with those that it names."""
-    return {name: below for name, _, below in _entries(root)}
-
-
-def is_library(name, root=ROOT):
-    """Whether other crates can stand on this one: it is neither a program nor a static library."""
-    kind = next(kind for it, kind, _ in _entries(root) if it == name)
-    return not kind and not (root / "crates" / name / "src/main.rt").exists()
-
-
-def _entries(root):
-    for line in (root / "crates.txt").read_text().splitlines():
+def entries():
+    """Each crate of crates.txt: its line, its name, its kind where it says one, and the crates that it names."""
+    for line in (ROOT / "crates.txt").read_text().splitlines():
         head, _, below = line.split("#")[0].partition(":")
         if head.strip():
             name, *kind = head.split()
-            yield name, kind, below.split()
+            yield line, name, kind, below.split()
 
 
-def with_those_below(name, root=ROOT):
+def crates():
+    """The crates, each with those that it names."""
+    return {name: below for _, name, _, below in entries()}
+
+
+def is_library(name):
+    """Whether other crates can stand on this one: it is neither a program nor a static library."""
+    kind = next(kind for _, it, kind, _ in entries() if it == name)
+    return not kind and not (ROOT / "crates" / name / "src/main.rt").exists()
+
+
+def with_those_below(name):
     """A crate and all that it stands on, lowest first."""
-    found, all_of_them = [], crates(root)
+    found, all_of_them = [], crates()
 
     def visit(name):
         if name in all_of_them and name not in found:
@@ -48,17 +49,17 @@ def with_those_below(name, root=ROOT):
     return found
 
 
-def sources(name, root=ROOT):
+def sources(name):
     """The files that a crate's programs are made of: its own, those of the crates below it, and crates.txt."""
-    yield root / "crates.txt"
-    for crate in with_those_below(name, root):
-        yield from own_sources(crate, root)
+    yield ROOT / "crates.txt"
+    for crate in with_those_below(name):
+        yield from own_sources(crate)
 
 
-def own_sources(name, root=ROOT):
+def own_sources(name):
     """The files of a crate alone."""
     for part in PARTS:
-        for at, _, files in os.walk(root / "crates" / name / part):
+        for at, _, files in os.walk(ROOT / "crates" / name / part):
             yield from (pathlib.Path(at, it) for it in files if it.endswith((".rt", ".antt")))
 
 
@@ -76,15 +77,14 @@ def linked(source, target):
 
 
 @contextlib.contextmanager
-def room(name, root=ROOT, changes_below=False):
+def room(name, changes_below=False):
     """Gives the folder of that crate in a room, which is there until the end of the block, with what was built below it and
     the proofs that were kept of it. Where a crate below is to be changed too, those of all are there."""
     with tempfile.TemporaryDirectory(prefix="room-", ignore_cleanup_errors=True) as top:
-        top, names = pathlib.Path(top), with_those_below(name, root)
-        lines = (root / "crates.txt").read_text().splitlines()
-        (top / "crates.txt").write_text("".join(f"{it}\n" for it in lines if it.split(":")[0].split()[:1] and it.split()[0].rstrip(":") in names))
+        top, names = pathlib.Path(top), with_those_below(name)
+        (top / "crates.txt").write_text("".join(f"{line}\n" for line, it, _, _ in entries() if it in names))
         for it in names:
-            source, target = root / "crates" / it, top / "crates" / it
+            source, target = ROOT / "crates" / it, top / "crates" / it
             for part in PARTS:
                 if (source / part).is_dir():
                     shutil.copytree(source / part, target / part)
@@ -106,9 +106,9 @@ def held(folder):
         os.close(handle)
 
 
-def keep(made, name, root=ROOT):
+def keep(made, name):
     """Moves the work that was kept in a room to the crate itself."""
-    target = root / "crates" / name
+    target = ROOT / "crates" / name
     with held(target):
         (target / "out").mkdir(exist_ok=True)
         for kept in ("incremental", "rlib"):

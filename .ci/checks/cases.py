@@ -16,7 +16,7 @@ import sys
 
 sys.path.insert(0, str(pathlib.Path(__file__).resolve().parent.parent))
 import model
-from cases import ROOT, Cases, built
+from cases import ROOT, Cases, both_builds
 
 FOLDER = ROOT / "cases"
 FIRST = (ROOT / "examples/first.script").read_bytes()
@@ -73,8 +73,7 @@ def main():
     for label, rows in tables:
         other = [name for name, script, output in rows if model.answer(script)[0] != output]
         cases.count(f"{len(rows)} {label} agree with the model", rows and not other, "\n".join(other))
-    programs = built("imgref_run", ("", ".by-rattle"))
-    cases.count("both builds of the program are there", len(programs) == 2, "crates/imgref_run/out lacks one, or it is older than its sources: `rt ci` makes them")
+    programs = both_builds(cases, "imgref_run")
     with concurrent.futures.ThreadPoolExecutor() as pool:
         for program in programs:
             for label, rows in tables:

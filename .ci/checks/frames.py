@@ -13,7 +13,7 @@ import sys
 import tempfile
 
 sys.path.insert(0, str(pathlib.Path(__file__).resolve().parent.parent))
-from cases import Cases, built
+from cases import Cases, both_builds
 from frames import STATUS, Fault, answer
 
 SAMPLINGS = ("mono", "420jpeg", "420", "422", "444")
@@ -135,8 +135,7 @@ def by_parallel(cases, program):
 
 def main():
     cases = Cases()
-    programs = built("imgref_frames", ("", ".by-rattle"))
-    cases.count("both builds of the program are there", len(programs) == 2, "crates/imgref_frames/out lacks one, or it is older than its sources: `rt ci` makes them")
+    programs = both_builds(cases, "imgref_frames")
     for program in programs:
         by_model(cases, str(program))
         by_words(cases, str(program))

@@ -9,7 +9,7 @@ import subprocess
 import sys
 
 sys.path.insert(0, str(pathlib.Path(__file__).resolve().parent.parent))
-from cases import ROOT, Cases, built
+from cases import ROOT, Cases, both_builds
 
 SCRIPT = (ROOT / "examples/first.script").read_bytes()
 WRITTEN = (ROOT / "crates/imgref_run/stdout").read_bytes()
@@ -47,8 +47,7 @@ def redirected(given, taken):
 
 def main():
     cases = Cases()
-    programs = built("imgref_run", ("", ".by-rattle"))
-    cases.count("both builds of the program are there", len(programs) == 2, "crates/imgref_run/out lacks one, or it is older than its sources: `rt ci` makes them")
+    programs = both_builds(cases, "imgref_run")
     for program in programs:
         for label, given, taken, wanted, status in CASES:
             printed, ended = end_of(program, given, taken)

@@ -16,7 +16,7 @@ import tempfile
 
 sys.path.insert(0, str(pathlib.Path(__file__).resolve().parent.parent))
 import model
-from cases import ROOT, Cases, built, crates
+from cases import ROOT, Cases, both_builds, built, crates
 
 REFUSES = pathlib.Path(__file__).resolve().with_name("refused_growth.c")
 SCRIPTS = sorted((ROOT / "examples").glob("*.script"))
@@ -83,8 +83,7 @@ def main():
     resource.setrlimit(resource.RLIMIT_CORE, (0, 0))
     with tempfile.TemporaryDirectory(prefix="growths-") as room, concurrent.futures.ThreadPoolExecutor(4) as pool:
         library = made(room)
-        programs = built("imgref_run", ("", ".by-rattle"))
-        cases.count("both builds of the program are there", len(programs) == 2, "crates/imgref_run/out lacks one, or it is older than its sources: `rt ci` makes them")
+        programs = both_builds(cases, "imgref_run")
         for program in programs:
             for script in SCRIPTS:
                 growths, bad = of_program(library, program, script.read_bytes())

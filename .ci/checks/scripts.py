@@ -13,7 +13,7 @@ import sys
 
 sys.path.insert(0, str(pathlib.Path(__file__).resolve().parent.parent))
 import model
-from cases import ROOT, Cases, built
+from cases import ROOT, Cases, both_builds
 
 EVERY_WORD = (ROOT / "examples/every_word.script").read_bytes()
 OTHERS = b" \n\t\r,/0-\x00\xff"
@@ -105,8 +105,7 @@ def main(words):
         ("bytes changed", changes()),
         (f"random scripts of seed {seed}", [made.script() for _ in range(COUNT)]),
     ]
-    programs = built("imgref_run", ("", ".by-rattle"))
-    cases.count("both builds of the program are there", len(programs) == 2, "crates/imgref_run/out lacks one, or it is older than its sources: `rt ci` makes them")
+    programs = both_builds(cases, "imgref_run")
     with concurrent.futures.ThreadPoolExecutor() as pool:
         for program in programs:
             for label, scripts in kinds:
