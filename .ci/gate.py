@@ -23,11 +23,10 @@ import tempfile
 import threading
 import time
 
-from cases import ROOT
+from checking import ROOT
 
-# The checks that run what the proofs built, so come after them; and those that go over what the planted bugs proved first.
-OF_BUILT = ("program_ends.py", "refused_growths.py", "scripts.py", "cases.py", "frames.py")
-OF_KEPT = ("layers.py", "row_mover_privacy.py", "c_library.py")
+# The checks. Those in `built` run what `rt ci` built, and those in `proofs` go over the proofs that the planted bugs keep.
+CHECKS = ROOT / ".ci/checks"
 # What it takes from nothing on four processors, in minutes: some of it was measured beside other work.
 MINUTES, QUICK_MINUTES = 45, 15
 COUNT = re.compile(r"(\d+) passed, (\d+) failed")
@@ -128,8 +127,9 @@ class Memory:
         self.thread.join()
 
 
-def script(path, top=ROOT):
-    return Part(path.name, [sys.executable, str(top / path.relative_to(ROOT))], top)
+def scripts(folder, top=ROOT):
+    """The checks of a folder, which run in the repository or in its copy."""
+    return [Part(it.name, [sys.executable, str(top / it.relative_to(ROOT))], top) for it in sorted(folder.glob("*.py"))]
 
 
 @contextlib.contextmanager
@@ -155,13 +155,12 @@ def quick(parts):
 
 def whole(parts, top):
     """Runs everything, and answers once all has ended."""
-    checks = sorted((ROOT / ".ci/checks").glob("*.py"))
     of_ci = Part("rt ci", ["rt", "ci"], top, nice=0)
     bugs = Part("planted bugs", [sys.executable, str(ROOT / ".ci/planted_bugs.py")])
-    kept = [bugs, *[script(it) for it in checks if it.name in OF_KEPT]]
-    beside = [script(it) for it in checks if it.name not in (*OF_BUILT, *OF_KEPT)]
+    kept = [bugs, *scripts(CHECKS / "proofs")]
+    beside = scripts(CHECKS)
     # (these run in the copy, where `rt ci` left the programs)
-    built = [of_ci, *[script(it, top) for it in checks if it.name in OF_BUILT]]
+    built = [of_ci, *scripts(CHECKS / "built", top)]
     parts += [*built, *kept, *beside]
     with concurrent.futures.ThreadPoolExecutor() as pool:
         for it in [pool.submit(lambda line: [it.run() for it in line], line) for line in (built, kept, beside)]:

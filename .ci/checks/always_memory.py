@@ -12,7 +12,7 @@ import subprocess
 import sys
 
 sys.path.insert(0, str(pathlib.Path(__file__).resolve().parent.parent))
-from cases import Cases, changeable_copy
+from checking import Cases, changeable_copy
 
 # No machine has so many bytes.
 NO_ROOM = "let _room: Vec<u8> = Vec::with_capacity(alloc, usize::MAX)?;"

@@ -10,7 +10,7 @@ import re
 import sys
 
 sys.path.insert(0, str(pathlib.Path(__file__).resolve().parent.parent))
-from cases import ROOT, Cases
+from checking import ROOT, Cases
 
 CRATES = ["imgref", "image_tiles", "imgref_replay"]
 ITEM = re.compile(r"( *)(pub )?(fn|struct|enum|trait|type) (\w+)")

@@ -10,7 +10,7 @@ import re
 import sys
 
 sys.path.insert(0, str(pathlib.Path(__file__).resolve().parent.parent))
-from cases import ROOT, Cases
+from checking import ROOT, Cases
 from proving import Progress
 
 LOG = ROOT / ".ci/recorded/build.log"

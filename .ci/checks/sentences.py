@@ -10,7 +10,7 @@ import re
 import sys
 
 sys.path.insert(0, str(pathlib.Path(__file__).resolve().parent.parent))
-from cases import ROOT, Cases
+from checking import ROOT, Cases
 
 MOST_WORDS, README_WORDS, README_LINES = 35, 30, 80
 REPLACED = re.compile(r"\b(want of memory|wrong bod(?:y|ies)|one further|goes round|the loan|cells end as|no text belongs)\b", re.IGNORECASE)

@@ -176,7 +176,7 @@ fn prepared(
 }
 
 // Where memory is refused in `replay`, no image has changed. It takes one growth: this test takes one more than the next,
-// as `.ci/checks/refused_growths.py` counts.
+// as `.ci/checks/built/refused_growths.py` counts.
 #[test]
 fn refused_memory_changes_nothing(rt: HostRuntime) -> Result<(), Fail> {
     let (commands, mut images) = prepared(&rt, rt.alloc())?;

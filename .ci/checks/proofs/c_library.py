@@ -12,8 +12,8 @@ import subprocess
 import sys
 import tempfile
 
-sys.path.insert(0, str(pathlib.Path(__file__).resolve().parent.parent))
-from cases import ROOT, Cases
+sys.path.insert(0, str(pathlib.Path(__file__).resolve().parents[2]))
+from checking import ROOT, Cases
 
 WARNINGS = ["-Wall", "-Wextra", "-Werror", "-pedantic"]
 COUNT = re.compile(r"(\d+) passed, (\d+) failed")

@@ -1,4 +1,4 @@
-"""What the checks of .ci/checks share: counting cases, a copy of the repository to change, and what was built from it."""
+"""What the checks share: counting cases, a copy of the repository to change, and what was built from it."""
 import contextlib
 import pathlib
 import shutil

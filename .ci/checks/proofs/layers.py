@@ -13,8 +13,8 @@ import re
 import subprocess
 import sys
 
-sys.path.insert(0, str(pathlib.Path(__file__).resolve().parent.parent))
-from cases import Cases
+sys.path.insert(0, str(pathlib.Path(__file__).resolve().parents[2]))
+from checking import Cases
 from proving import Progress, processors, prove, weights_of
 from workspace import room, with_those_below
 

@@ -8,8 +8,8 @@ import pathlib
 import subprocess
 import sys
 
-sys.path.insert(0, str(pathlib.Path(__file__).resolve().parent.parent))
-from cases import ROOT, Cases, both_builds
+sys.path.insert(0, str(pathlib.Path(__file__).resolve().parents[2]))
+from checking import ROOT, Cases, both_builds
 
 SCRIPT = (ROOT / "examples/first.script").read_bytes()
 WRITTEN = (ROOT / "crates/imgref_run/stdout").read_bytes()

@@ -12,8 +12,8 @@ import subprocess
 import sys
 import tempfile
 
-sys.path.insert(0, str(pathlib.Path(__file__).resolve().parent.parent))
-from cases import Cases, both_builds
+sys.path.insert(0, str(pathlib.Path(__file__).resolve().parents[2]))
+from checking import Cases, both_builds
 from frames import STATUS, Fault, answer
 
 SAMPLINGS = ("mono", "420jpeg", "420", "422", "444")

@@ -11,9 +11,9 @@ import random
 import subprocess
 import sys
 
-sys.path.insert(0, str(pathlib.Path(__file__).resolve().parent.parent))
+sys.path.insert(0, str(pathlib.Path(__file__).resolve().parents[2]))
 import model
-from cases import ROOT, Cases, both_builds
+from checking import ROOT, Cases, both_builds
 
 EVERY_WORD = (ROOT / "examples/every_word.script").read_bytes()
 OTHERS = b" \n\t\r,/0-\x00\xff"

@@ -14,9 +14,9 @@ import pathlib
 import subprocess
 import sys
 
-sys.path.insert(0, str(pathlib.Path(__file__).resolve().parent.parent))
+sys.path.insert(0, str(pathlib.Path(__file__).resolve().parents[2]))
 import model
-from cases import ROOT, Cases, both_builds
+from checking import ROOT, Cases, both_builds
 
 FOLDER = ROOT / "cases"
 FIRST = (ROOT / "examples/first.script").read_bytes()
