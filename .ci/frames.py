@@ -40,22 +40,45 @@ def planes_of(width, height, sampling):
     return planes
 
 
-def under(values, steps):
-    """Numbers of pixels as numbers of samples."""
-    if any(value % step for value, step in zip(values, steps)):
-        raise Fault("outside")
-    return [value // step for value, step in zip(values, steps)]
+def samples(pixels, step):
+    return -(-pixels // step)
 
 
-def windows_of(plane, word, window, last):
-    """The window in samples of a plane, and what follows it."""
-    wide, high, x, y = plane
-    left, top, width, height = under(window, (x, y, x, y))
-    last = under(last, (x, y)) if word in ("mosaic", "move") else last
-    if not (0 < wide < 2**32 and high < 2**32) or left + width > wide or top + height > high:
+def under(window, size, steps):
+    """A window of a frame of this size as one of samples. Its edges are theirs, or the right and the lower one of the frame."""
+    left, top, width, height = window
+    for start, count, whole, step in zip((left, top), (width, height), size, steps):
+        if start % step or (count % step and start + count != whole):
+            raise Fault("outside")
+    return left // steps[0], top // steps[1], samples(width, steps[0]), samples(height, steps[1])
+
+
+def padded(size, sides):
+    """The size of a frame with a border of so many columns and rows: left, top, right, bottom."""
+    return sides[0] + size[0] + sides[2], sides[1] + size[1] + sides[3]
+
+
+def windows_of(plane, size, word, window, last):
+    """The window in samples of a plane of a frame of this size, and what follows it. Of a pad it is the corner of the plane and
+    the size around it."""
+    wide, high, *steps = plane
+    if word == "pad":
+        whole = padded(size, window)
+        left, top, _, _ = under((*window[:2], *size), whole, steps)
+        if max(whole) >= 2**32:
+            raise Fault("outside")
+        return (left, top, samples(whole[0], steps[0]), samples(whole[1], steps[1])), last
+    left, top, width, height = under(window, size, steps)
+    if not (0 < wide < 2**32 and high < 2**32) or left + width > wide or top + height > high or word == "crop" and width == 0:
         raise Fault("outside")
-    if word == "mosaic" and 0 in last or word == "move" and (last[0] + width > wide or last[1] + height > high) or word == "crop" and width == 0:
-        raise Fault("outside")
+    if word == "mosaic":
+        if 0 in last or any(it % step for it, step in zip(last, steps)):
+            raise Fault("outside")
+        last = [it // step for it, step in zip(last, steps)]
+    if word == "move":
+        last = under((*last, *window[2:]), size, steps)[:2]
+        if last[0] + width > wide or last[1] + height > high:
+            raise Fault("outside")
     return (left, top, width, height), last
 
 
@@ -66,6 +89,9 @@ def edited(plane, cells, word, window, last):
     old = [cells[row * wide:(row + 1) * wide] for row in range(high)]
     if word == "crop":
         return b"".join(row[left:left + width] for row in old[top:top + height])
+    if word == "pad":
+        around = [bytes(last) * width for _ in range(height)]
+        return b"".join(row[:left] + old[y - top] + row[left + wide:] if top <= y < top + high else row for y, row in enumerate(around))
     new = [bytearray(row) for row in old]
     for y in range(height):
         for x in range(width):
@@ -91,15 +117,16 @@ def answer(data, edits):
     if end < 0:
         raise Fault("header")
     line, at = data[:end], end + 1
-    planes = planes_of(*format_of(line))
+    width, height, sampling = format_of(line)
+    planes = planes_of(width, height, sampling)
     steps = []
     for first, last, word, window, more in edits:
-        found = [windows_of(plane, word, window, more) for plane in planes]
-        if word == "fill":
+        found = [windows_of(plane, (width, height), word, window, more) for plane in planes]
+        if word in ("fill", "pad"):
             found = [(inside, more if number == 0 else [128]) for number, (inside, _) in enumerate(found)]
         steps.append((first, last, word, found))
-    crops = [edit[3] for edit in edits if edit[2] == "crop"]
-    out = (resized(line, *crops[0][2:]) if crops else line) + b"\n"
+    sizes = [edit[3][2:] if edit[2] == "crop" else padded((width, height), edit[3]) for edit in edits if edit[2] in ("crop", "pad")]
+    out = (resized(line, *sizes[0]) if sizes else line) + b"\n"
     size, frames = sum(wide * high for wide, high, _, _ in planes), 0
     while at < len(data):
         if data[at:at + 6] != b"FRAME\n" or len(data) < at + 6 + size:

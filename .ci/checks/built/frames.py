@@ -1,9 +1,9 @@
 #!/usr/bin/env python3
-"""Shows what imgref_frames answers on real bytes: by a model written apart from it, and by ffmpeg.
+"""Shows what imgref_frames answers on real bytes: by a model written apart from it, by ffmpeg and by netpbm.
 
 The contract speaks of readers and writers; here stand what `main` prints and its status, small streams of each sampling, each
 beginning of one, each byte of its line changed, and hidden pixels exchanged. Both builds are run that `rt ci` leaves. Where
-the machine has no ffmpeg or no GNU parallel, the cases with it are left out, and a line says 'skipped'.
+the machine has no ffmpeg, no netpbm or no GNU parallel, the cases with it are left out, and a line says 'skipped'.
 """
 import pathlib
 import random
@@ -17,7 +17,9 @@ from checking import Cases, both_builds
 from frames import STATUS, Fault, answer
 
 SAMPLINGS = ("mono", "420jpeg", "420", "422", "444")
-EDITS = ("fill 4,2,6,4 126", "mosaic 2,2,10,6 4,2", "mosaic 0,0,12,8 64,64", "move 0,0,6,4 4,2", "move 4,2,6,4 0,0", "crop 4,2,6,4", "fill 0,0,0,0 1")
+EDITS = ("fill 4,2,6,4 126", "mosaic 2,2,10,6 4,2", "mosaic 0,0,12,8 64,64", "move 0,0,6,4 4,2", "move 4,2,6,4 0,0", "crop 4,2,6,4", "fill 0,0,0,0 1", "pad 2,4,6,8 16", "pad 4,0,1,3 200", "pad 1,0,0,0 9", "pad 0,2,0,0 9")
+# These end at the right or the lower edge of 13 by 9.
+ODD = ("fill 10,6,3,3 7", "mosaic 2,2,11,7 4,2", "move 8,0,5,3 8,6", "move 8,6,5,3 0,0", "crop 4,2,9,7", "crop 4,2,7,7", "fill 12,8,1,1 3", "fill 13,0,0,1 3")
 FILL = "fill 4,2,6,4 126"
 LISTS = (
     "fill 0,0,4,4 9 mosaic 2,2,8,6 4,2",
@@ -25,6 +27,7 @@ LISTS = (
     "0..2 mosaic 2,2,8,6 4,2 1..3 fill 4,2,2,2 7 crop 2,2,8,6",
     "fill 2,2,4,4 9 move 2,2,4,4 6,2",
     "2..1 fill 0,0,4,4 9 7..9 move 0,0,2,2 2,2",
+    "fill 0,0,4,4 9 1..2 mosaic 4,2,4,4 2,2 pad 2,2,2,2 16",
 )
 
 
@@ -78,6 +81,8 @@ def exchanged(data, window):
 def by_model(cases, program):
     whole = [(edit.split(), video(it, *size)) for it in SAMPLINGS for size in ((12, 8), (16, 9)) for edit in EDITS]
     cases.count("each edit of each sampling is the model's", not differing(program, whole), "\n".join(differing(program, whole)))
+    odd = [(edit.split(), video(it, 13, 9)) for it in SAMPLINGS for edit in EDITS + ODD]
+    cases.count("edits at odd edges are the model's", not differing(program, odd), "\n".join(differing(program, odd)))
     lists = [(edits.split(), video(it)) for it in SAMPLINGS for edits in LISTS]
     cases.count("lists of edits, each to its frames, are the model's", not differing(program, lists), "\n".join(differing(program, lists)))
     small = video("420", 4, 2, 2)
@@ -86,14 +91,14 @@ def by_model(cases, program):
     end = small.index(b"\n")
     changed = [("fill 0,0,2,2 9".split(), small[:at] + bytes([byte]) + small[at + 1:]) for at in range(end + 1) for byte in (10, 32, 48, 49, 67, 87, 255)]
     cases.count("each byte of the line changed", not differing(program, changed), "\n".join(differing(program, changed)))
-    outside = [(it.split(), video("420")) for it in ("fill 1,0,2,2 9", "fill 0,0,2,10 9", "mosaic 0,0,4,4 1,2", "mosaic 0,0,4,4 0,2", "move 0,0,4,4 10,0", "crop 0,0,0,4", "crop 0,0,3,4")]
+    outside = [(it.split(), video("420")) for it in ("fill 1,0,2,2 9", "fill 0,0,2,10 9", "mosaic 0,0,4,4 1,2", "mosaic 0,0,4,4 0,2", "move 0,0,4,4 10,0", "crop 0,0,0,4", "crop 0,0,3,4", "pad 1,0,0,0 9", "pad 0,0,4294967284,0 9", "pad 0,0,0,18446744073709551615 9")]
     cases.count("an edit that is none of the video is refused", not differing(program, outside), "\n".join(differing(program, outside)))
     hidden = video("mono"), exchanged(video("mono"), (4, 2, 6, 4))
     cases.count("hidden pixels can't be told from the output", hidden[0] != hidden[1] and ends(program, FILL.split(), hidden[0]) == ends(program, FILL.split(), hidden[1]))
 
 
 def by_words(cases, program):
-    for words in ("", "fill", "fill 1,2,3,4", "blur 0,0,1,1 2", "fill 0,0,1,1 256", "fill 0,0,01,1 2", "fill 0,0,1 2", "mosaic 0,0,1,1 2", "crop 0,0,1,1 2", "crop 0,0,2,2 fill 0,0,2,2 9", "1..2 crop 0,0,2,2", "1.2 fill 0,0,2,2 9", "--edits /nowhere"):
+    for words in ("", "fill", "fill 1,2,3,4", "blur 0,0,1,1 2", "fill 0,0,1,1 256", "fill 0,0,01,1 2", "fill 0,0,1 2", "mosaic 0,0,1,1 2", "crop 0,0,1,1 2", "crop 0,0,2,2 fill 0,0,2,2 9", "pad 0,0,2,2", "pad 0,0,2,2 256", "pad 0,0,2,2 9 crop 0,0,2,2", "1..2 pad 0,0,2,2 9", "1..2 crop 0,0,2,2", "1.2 fill 0,0,2,2 9", "--edits /nowhere"):
         said = ends(program, words.split(), video("mono"))
         cases.count(f"words '{words}' are refused", said == (b"", "fault words", 1), str(said))
     with tempfile.NamedTemporaryFile("w", suffix=".edits") as listed:
@@ -121,8 +126,34 @@ def by_ffmpeg(cases, program):
         cases.count(f"crop is ffmpeg's on {pixels}", made and through(program, "crop 16,8,64,48", made, "crop=64:48:16:8:exact=1"))
         if pixels != "gray":
             cases.count(f"fill is ffmpeg's drawbox on {pixels}", through(program, "fill 16,8,64,48 126", made, "drawbox=x=16:y=8:w=64:h=48:color=gray@1:t=fill"))
+            cases.count(f"pad is ffmpeg's on {pixels}", through(program, "pad 16,8,32,24 16", made, "pad=176:128:16:8:color=black"))
         for words in ("mosaic 16,8,64,48 8,8", "move 16,8,32,32 24,16"):
             cases.count(f"{words} is the model's on {pixels}", not differing(program, [(words.split(), made)]))
+
+
+def by_netpbm(cases, program):
+    """Edits of one frame without chroma, beside the tools for pictures of that name."""
+    made = video("mono", frames=1)
+    cells = made[made.index(b"\n") + 7:]
+
+    def picture(cells, width, height):
+        return b"P5\n%d %d\n255\n" % (width, height) + cells
+
+    def said(words, given):
+        return subprocess.run(words.split(), input=given, capture_output=True, check=True, timeout=120).stdout
+
+    def ours(words, width, height):
+        written = ends(program, words.split(), made)[0]
+        return picture(written[written.index(b"\n") + 7:], width, height)
+
+    whole = picture(cells, 12, 8)
+    part = said("pamcut -left 4 -top 2 -width 6 -height 4", whole)
+    cases.count("crop is pamcut", ours("crop 4,2,6,4", 6, 4) == part)
+    cases.count("pad is pnmpad", ours("pad 1,2,3,4 0", 16, 14) == said("pnmpad -black -left=1 -top=2 -right=3 -bottom=4", whole))
+    with tempfile.NamedTemporaryFile(suffix=".pgm") as front:
+        front.write(part)
+        front.flush()
+        cases.count("move is pnmpaste", ours("move 4,2,6,4 1,3", 12, 8) == said(f"pnmpaste {front.name} 1 3", whole))
 
 
 def by_parallel(cases, program):
@@ -141,9 +172,11 @@ def main():
         by_words(cases, str(program))
         if shutil.which("ffmpeg"):
             by_ffmpeg(cases, str(program))
+        if shutil.which("pamcut"):
+            by_netpbm(cases, str(program))
         if shutil.which("parallel"):
             by_parallel(cases, str(program))
-    for missing in (it for it in ("ffmpeg", "parallel") if not shutil.which(it)):
+    for missing in (it for it in ("ffmpeg", "pamcut", "parallel") if not shutil.which(it)):
         print(f"skipped: this machine has no {missing}")
     return cases.end()
 

@@ -19,23 +19,23 @@ grown front s (Some ss) = ap (λ l. Some l) (sym (append_assoc front (s ∷ []) 
 abbrev pub with_change : Step → Change → Step
 with_change s change = record { first = s.first; end = s.end; change = change }
 
-pub step_more : (x y : ℕ) (front steps : List Step) (i : ℕ) (d : Step) (change : Change) (total : Option (List Step)) → i < length steps → change_under x y (get_or steps i d).change ≡ Some change
-    → with_front front (steps_under x y (drop i steps)) ≡ total → with_front (front ++ with_change (get_or steps i d) change ∷ []) (steps_under x y (drop (i + 1) steps)) ≡ total
+pub step_more : (x y width height : ℕ) (front steps : List Step) (i : ℕ) (d : Step) (change : Change) (total : Option (List Step)) → i < length steps → change_under x y width height (get_or steps i d).change ≡ Some change
+    → with_front front (steps_under x y width height (drop i steps)) ≡ total → with_front (front ++ with_change (get_or steps i d) change ∷ []) (steps_under x y width height (drop (i + 1) steps)) ≡ total
 unfolding steps_under
-step_more x y front steps i d change total within found so_far =
-    let one : with_front front (steps_under x y (drop i steps)) ≡ with_front (front ++ with_change (get_or steps i d) change ∷ []) (steps_under x y (drop (i + 1) steps)) =
-    at_drop_more (λ ss. with_front front (steps_under x y ss)) steps i d within ∙ rw found (grown front (with_change (get_or steps i d) change) (steps_under x y (drop (i + 1) steps))) in
+step_more x y width height front steps i d change total within found so_far =
+    let one : with_front front (steps_under x y width height (drop i steps)) ≡ with_front (front ++ with_change (get_or steps i d) change ∷ []) (steps_under x y width height (drop (i + 1) steps)) =
+    at_drop_more (λ ss. with_front front (steps_under x y width height ss)) steps i d within ∙ rw found (grown front (with_change (get_or steps i d) change) (steps_under x y width height (drop (i + 1) steps))) in
     sym one ∙ so_far
 
-pub step_stops : (x y : ℕ) (front steps : List Step) (i : ℕ) (d : Step) (total : Option (List Step)) → i < length steps → change_under x y (get_or steps i d).change ≡ None
-    → with_front front (steps_under x y (drop i steps)) ≡ total → total ≡ None
+pub step_stops : (x y width height : ℕ) (front steps : List Step) (i : ℕ) (d : Step) (total : Option (List Step)) → i < length steps → change_under x y width height (get_or steps i d).change ≡ None
+    → with_front front (steps_under x y width height (drop i steps)) ≡ total → total ≡ None
 unfolding steps_under
-step_stops x y front steps i d total within found so_far =
-    let one : with_front front (steps_under x y (drop i steps)) ≡ None = at_drop_more (λ ss. with_front front (steps_under x y ss)) steps i d within ∙ rw found refl in
+step_stops x y width height front steps i d total within found so_far =
+    let one : with_front front (steps_under x y width height (drop i steps)) ≡ None = at_drop_more (λ ss. with_front front (steps_under x y width height ss)) steps i d within ∙ rw found refl in
     sym so_far ∙ one
 
-pub steps_done : (x y : ℕ) (front steps : List Step) (i : ℕ) (total : Option (List Step)) → length steps ≤ i → with_front front (steps_under x y (drop i steps)) ≡ total → total ≡ Some front
+pub steps_done : (x y width height : ℕ) (front steps : List Step) (i : ℕ) (total : Option (List Step)) → length steps ≤ i → with_front front (steps_under x y width height (drop i steps)) ≡ total → total ≡ Some front
 unfolding steps_under
-steps_done x y front steps i total past so_far =
-    let one : with_front front (steps_under x y (drop i steps)) ≡ Some front = at_drop_all (λ ss. with_front front (steps_under x y ss)) steps i past ∙ ap (λ l. Some l) (append-nil front) in
+steps_done x y width height front steps i total past so_far =
+    let one : with_front front (steps_under x y width height (drop i steps)) ≡ Some front = at_drop_all (λ ss. with_front front (steps_under x y width height ss)) steps i past ∙ ap (λ l. Some l) (append-nil front) in
     sym so_far ∙ one

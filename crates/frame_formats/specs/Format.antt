@@ -1,5 +1,5 @@
 -- The format that a video's line names, and the planes of its frames.
-use Rattle.std.specs.Prelude.{ℕ, ◌+◌, ◌/◌, ◌%◌, ◌&&◌, ◌==◌, if◌then◌else◌, List, [], ◌∷◌, Option, Some, None, drop, slice_index, codes}
+use Rattle.std.specs.Prelude.{ℕ, ◌+◌, ◌/◌, ◌%◌, ◌&&◌, ◌==◌, ◌||◌, ◌^◌, Bool, nat_lt, if◌then◌else◌, List, [], ◌∷◌, Option, Some, None, drop, slice_index, codes}
 use Rattle.std.specs.Option.{option_map}
 use Rattle.std.specs.Str.{bytes_eq}
 use Rattle.image_shape.specs.declared.window.Window.{Window}
@@ -7,12 +7,16 @@ use Rattle.image_planes.specs.declared.change.Change.{Change}
 use Rattle.image_planes.specs.declared.change.Change.TheVariants.{Fill, Mosaic, Move}
 use Rattle.image_planes.specs.declared.change.Step.{Step}
 use Rattle.image_planes.specs.Changes.{Job, job_for}
-use Rattle.image_planes.specs.Kept.{Slice, slice_for}
+use Rattle.image_planes.specs.Resized.{Resizing, resizing_for}
+use Rattle.image_planes.specs.declared.target.Resize.{Resize}
+use Rattle.image_planes.specs.declared.target.Resize.TheVariants.{Crop, Pad}
 use Rattle.text_model.specs.Parts.{parts_of}
 use Rattle.text_model.specs.Reading.{◌>>=◌, number_of}
 use Rattle.frame_formats.specs.declared.header.Chroma.{Chroma}
 use Rattle.frame_formats.specs.declared.header.Chroma.TheVariants.{Mono, Small, Wide, Whole}
 use Rattle.frame_formats.specs.declared.header.Format.{Format}
+use Rattle.frame_formats.specs.declared.framing.Framing.{Framing}
+use Rattle.frame_formats.specs.declared.framing.Framing.TheVariants.{Crop as CropPixels, Pad as PadPixels}
 
 -- what stands behind the letter in the first field that begins with it
 abbrev pub tagged : ℕ → List (List ℕ) → Option (List ℕ)
@@ -60,47 +64,54 @@ format_of line = format_of_fields (parts_of 32 line)
 abbrev pub samples : ℕ → ℕ → ℕ
 samples pixels step = pixels / step + (if pixels % step == 0 then 0 else 1)
 
--- the window of chroma samples under a window of pixels, where its edges are theirs
-unfoldable pub window_under : ℕ → ℕ → Window → Option Window
-window_under x y w =
-    if (w.left % x == 0) && ((w.top % y == 0) && ((w.width % x == 0) && (w.height % y == 0)))
-    then Some (record { left = w.left / x; top = w.top / y; width = w.width / x; height = w.height / y }) else None
+-- whether pixels from a whole sample on go by whole samples, or end where the frame ends
+abbrev pub ends_on_sample : ℕ → ℕ → ℕ → ℕ → Bool
+ends_on_sample step pixels start count = (count % step == 0) || (start + count == pixels)
+
+-- the window of chroma samples under a window of a frame of this size, where its edges are theirs or the frame's
+unfoldable pub window_under : ℕ → ℕ → ℕ → ℕ → Window → Option Window
+window_under x y width height w =
+    if (w.left % x == 0) && ((w.top % y == 0) && (ends_on_sample x width w.left w.width && ends_on_sample y height w.top w.height))
+    then Some (record { left = w.left / x; top = w.top / y; width = samples w.width x; height = samples w.height y }) else None
 
 -- a number of pixels as one of samples
 abbrev pub exact_samples : ℕ → ℕ → Option ℕ
 exact_samples step pixels = if pixels % step == 0 then Some (pixels / step) else None
 
--- the change of chroma samples under a change of pixels: a fill leaves no colour
-unfoldable pub change_under : ℕ → ℕ → Change → Option Change
-change_under x y (Fill w value) = do
-  under ← window_under x y w
+-- a window of this size at another corner
+abbrev pub at_corner : Window → ℕ → ℕ → Window
+at_corner w left top = record { left = left; top = top; width = w.width; height = w.height }
+
+-- the change of chroma samples under a change of pixels of a frame of this size: a fill leaves no colour
+unfoldable pub change_under : ℕ → ℕ → ℕ → ℕ → Change → Option Change
+change_under x y width height (Fill w value) = do
+  under ← window_under x y width height w
   Some (Fill under 128)
-change_under x y (Mosaic w tile_width tile_height) = do
-  under ← window_under x y w
+change_under x y width height (Mosaic w tile_width tile_height) = do
+  under ← window_under x y width height w
   wide ← exact_samples x tile_width
   high ← exact_samples y tile_height
   Some (Mosaic under wide high)
-change_under x y (Move w left top) = do
-  under ← window_under x y w
-  column ← exact_samples x left
-  line ← exact_samples y top
-  Some (Move under column line)
+change_under x y width height (Move w left top) = do
+  under ← window_under x y width height w
+  goal ← window_under x y width height (at_corner w left top)
+  Some (Move under goal.left goal.top)
 
 -- a step as one of samples, of the same frames
-abbrev pub step_under : ℕ → ℕ → Step → Option Step
-step_under x y s = option_map (λ change. record { first = s.first; end = s.end; change = change }) (change_under x y s.change)
+abbrev pub step_under : ℕ → ℕ → ℕ → ℕ → Step → Option Step
+step_under x y width height s = option_map (λ change. record { first = s.first; end = s.end; change = change }) (change_under x y width height s.change)
 
 -- all steps as steps of samples
-unfoldable pub steps_under : ℕ → ℕ → List Step → Option (List Step)
-steps_under x y [] = Some []
-steps_under x y (s ∷ ss) = do
-  under ← step_under x y s
-  others ← steps_under x y ss
+unfoldable pub steps_under : ℕ → ℕ → ℕ → ℕ → List Step → Option (List Step)
+steps_under x y width height [] = Some []
+steps_under x y width height (s ∷ ss) = do
+  under ← step_under x y width height s
+  others ← steps_under x y width height ss
   Some (under ∷ others)
 
 -- a plane of chroma samples, one for so many columns and lines of pixels
 abbrev pub chroma_job : ℕ → ℕ → ℕ → ℕ → List Step → Option Job
-chroma_job x y width height steps = steps_under x y steps >>= job_for (samples width x) (samples height y)
+chroma_job x y width height steps = steps_under x y width height steps >>= job_for (samples width x) (samples height y)
 
 -- two of them
 unfoldable pub two_planes : ℕ → ℕ → ℕ → ℕ → List Step → Option (List Job)
@@ -118,22 +129,45 @@ jobs_for f steps = do
   luma ← job_for f.width f.height steps
   option_map (λ chroma. luma ∷ chroma) (chroma_jobs f.chroma f.width f.height steps)
 
--- a window that is kept of a plane of chroma samples
-abbrev pub chroma_slice : ℕ → ℕ → ℕ → ℕ → Window → Option Slice
-chroma_slice x y width height window = window_under x y window >>= slice_for (samples width x) (samples height y)
+-- ---- frames of another size
+
+-- how many pixels there are with so many before and behind, below 2 ^ 32
+abbrev pub padded_size : ℕ → ℕ → ℕ → Option ℕ
+padded_size before pixels behind = if nat_lt (before + pixels + behind) (2 ^ 32) then Some (before + pixels + behind) else None
+
+-- what becomes of the size of the plane of brightness
+unfoldable pub resize_for : Format → Framing → Option Resize
+resize_for f (CropPixels w) = Some (Crop w)
+resize_for f (PadPixels left top right bottom value) = do
+  width ← padded_size left f.width right
+  height ← padded_size top f.height bottom
+  Some (Pad left top width height value)
+
+-- the same of a plane of chroma samples: a border has no colour
+unfoldable pub resize_under : ℕ → ℕ → ℕ → ℕ → Resize → Option Resize
+resize_under x y width height (Crop w) = do
+  under ← window_under x y width height w
+  Some (Crop under)
+resize_under x y width height (Pad left top wide high value) = do
+  under ← window_under x y wide high (record { left = left; top = top; width = width; height = height })
+  Some (Pad under.left under.top (samples wide x) (samples high y) 128)
+
+-- a plane of chroma samples, and what becomes of it
+abbrev pub chroma_resizing : ℕ → ℕ → ℕ → ℕ → Resize → Option Resizing
+chroma_resizing x y width height resize = resize_under x y width height resize >>= resizing_for (samples width x) (samples height y)
 
 -- two of them
-unfoldable pub two_slices : ℕ → ℕ → ℕ → ℕ → Window → Option (List Slice)
-two_slices x y width height window = option_map (λ slice. slice ∷ slice ∷ []) (chroma_slice x y width height window)
+unfoldable pub two_resizings : ℕ → ℕ → ℕ → ℕ → Resize → Option (List Resizing)
+two_resizings x y width height resize = option_map (λ plane. plane ∷ plane ∷ []) (chroma_resizing x y width height resize)
 
-abbrev pub chroma_slices : Chroma → ℕ → ℕ → Window → Option (List Slice)
-chroma_slices Mono width height window = Some []
-chroma_slices Small width height window = two_slices 2 2 width height window
-chroma_slices Wide width height window = two_slices 2 1 width height window
-chroma_slices Whole width height window = two_slices 1 1 width height window
+abbrev pub chroma_resizings : Chroma → ℕ → ℕ → Resize → Option (List Resizing)
+chroma_resizings Mono width height resize = Some []
+chroma_resizings Small width height resize = two_resizings 2 2 width height resize
+chroma_resizings Wide width height resize = two_resizings 2 1 width height resize
+chroma_resizings Whole width height resize = two_resizings 1 1 width height resize
 
--- the windows that are kept of the planes of a frame of this format, or nothing where one reaches outside or doesn't fall on whole samples
-unfoldable pub slices_for : Format → Window → Option (List Slice)
-slices_for f window = do
-  luma ← slice_for f.width f.height window
-  option_map (λ chroma. luma ∷ chroma) (chroma_slices f.chroma f.width f.height window)
+-- the planes of a frame of this format and what becomes of them, or nothing where a window reaches outside or an edge doesn't fall on whole samples
+unfoldable pub resizings_for : Format → Resize → Option (List Resizing)
+resizings_for f resize = do
+  luma ← resizing_for f.width f.height resize
+  option_map (λ chroma. luma ∷ chroma) (chroma_resizings f.chroma f.width f.height resize)

@@ -5,6 +5,8 @@ use Rattle.std.specs.Str.{bytes_eq}
 use Rattle.image_shape.specs.declared.window.Window.{Window}
 use Rattle.image_planes.specs.declared.change.Change.{Change}
 use Rattle.image_planes.specs.declared.change.Change.TheVariants.{Fill, Mosaic, Move}
+use Rattle.frame_formats.specs.declared.framing.Framing.{Framing}
+use Rattle.frame_formats.specs.declared.framing.Framing.TheVariants.{Pad}
 use Rattle.text_model.specs.Parts.{parts_of}
 use Rattle.text_model.specs.Reading.{◌>>=◌, number_at, pixel_of, is_nil}
 
@@ -25,3 +27,7 @@ change_of word window last =
     else if bytes_eq word (codes "mosaic") then option_map (λ p. Mosaic window p.0 p.1) (pair_of last)
     else if bytes_eq word (codes "move") then option_map (λ p. Move window p.0 p.1) (pair_of last)
     else None
+
+-- a border by its sides and what stands behind them
+unfoldable pub pad_of : Window → List ℕ → Option Framing
+pad_of sides last = option_map (λ value. Pad sides.left sides.top sides.width sides.height value) (pixel_of last)

@@ -3,12 +3,12 @@
 ghost use Rattle.std.specs.Prelude.{◌≡◌, ◌<◌, ◌++◌, map, Some, None, IfOk, OnOk, IfErr};
 ghost use Rattle.std.specs.Option.{option_map};
 ghost use Rattle.image_planes.specs.Planes.{job_of};
-ghost use Rattle.image_planes.specs.SliceOf.{slice_of};
+ghost use Rattle.image_planes.specs.Targets.{resizing_of};
 ghost use Rattle.frame_formats.specs.Plan.{Tells};
-ghost use Rattle.frame_formats.specs.Format.{samples, window_under, exact_samples, change_under, steps_under, chroma_job, two_planes, chroma_jobs, jobs_for, chroma_slice, two_slices, chroma_slices, slices_for};
+ghost use Rattle.frame_formats.specs.Format.{samples, ends_on_sample, window_under, exact_samples, at_corner, change_under, steps_under, chroma_job, two_planes, chroma_jobs, jobs_for, resize_under, chroma_resizing, two_resizings, chroma_resizings, resizings_for};
 
 use crate::header::{Chroma, Format};
-use image_planes::{Change, Cut, Plane, Step, Window};
+use image_planes::{Change, Plane, Resize, Step, Target, Window};
 use std::alloc::Global;
 
 /// Why there is no plan.
@@ -32,56 +32,6 @@ fn whole_samples(step: usize, pixels: usize) -> Option<usize>
     }
 }
 
-#[tactic(auto, unfolding(crate::specs::Format::window_under))]
-fn window_of_samples(x: usize, y: usize, window: Window) -> Option<Window>
-    requires across { 0 < x }
-    requires down { 0 < y }
-    ensures { result ≡ window_under x y window }
-{
-    if window.left % x == 0
-        && window.top % y == 0
-        && window.width % x == 0
-        && window.height % y == 0
-    {
-        Some(Window {
-            left: window.left / x,
-            top: window.top / y,
-            width: window.width / x,
-            height: window.height / y,
-        })
-    } else {
-        None
-    }
-}
-
-#[tactic(auto, unfolding(crate::specs::Format::change_under))]
-fn change_of_samples(x: usize, y: usize, change: Change) -> Option<Change>
-    requires across { 0 < x }
-    requires down { 0 < y }
-    ensures { result ≡ change_under x y change }
-{
-    match change {
-        Change::Fill { window, value: _ } => Some(Change::Fill {
-            window: window_of_samples(x, y, window)?,
-            value: 128,
-        }),
-        Change::Mosaic {
-            window,
-            tile_width,
-            tile_height,
-        } => Some(Change::Mosaic {
-            window: window_of_samples(x, y, window)?,
-            tile_width: whole_samples(x, tile_width)?,
-            tile_height: whole_samples(y, tile_height)?,
-        }),
-        Change::Move { window, left, top } => Some(Change::Move {
-            window: window_of_samples(x, y, window)?,
-            left: whole_samples(x, left)?,
-            top: whole_samples(y, top)?,
-        }),
-    }
-}
-
 fn count_samples(pixels: usize, step: usize) -> usize
     requires positive { 0 < step }
     ensures { result ≡ samples pixels step }
@@ -93,21 +43,103 @@ fn count_samples(pixels: usize, step: usize) -> usize
     }
 }
 
+// Whether so many pixels from a whole sample on go by whole samples, or end where the frame ends.
+fn ends_on_sample(step: usize, pixels: usize, start: usize, count: usize) -> bool
+    requires { 0 < step }
+    ensures { result ≡ ends_on_sample step pixels start count }
+{
+    count % step == 0 || (start <= pixels && pixels - start == count)
+}
+
+// The window of samples under one of a frame of so many pixels.
+#[tactic(auto, unfolding(crate::specs::Format::window_under))]
+fn window_of_samples(
+    x: usize,
+    y: usize,
+    width: usize,
+    height: usize,
+    window: Window,
+) -> Option<Window>
+    requires across { 0 < x }
+    requires down { 0 < y }
+    ensures { result ≡ window_under x y width height window }
+{
+    if window.left % x == 0
+        && window.top % y == 0
+        && ends_on_sample(x, width, window.left, window.width)
+        && ends_on_sample(y, height, window.top, window.height)
+    {
+        Some(Window {
+            left: window.left / x,
+            top: window.top / y,
+            width: count_samples(window.width, x),
+            height: count_samples(window.height, y),
+        })
+    } else {
+        None
+    }
+}
+
+#[tactic(auto, unfolding(crate::specs::Format::change_under))]
+fn change_of_samples(
+    x: usize,
+    y: usize,
+    width: usize,
+    height: usize,
+    change: Change,
+) -> Option<Change>
+    requires across { 0 < x }
+    requires down { 0 < y }
+    ensures { result ≡ change_under x y width height change }
+{
+    match change {
+        Change::Fill { window, value: _ } => Some(Change::Fill {
+            window: window_of_samples(x, y, width, height, window)?,
+            value: 128,
+        }),
+        Change::Mosaic {
+            window,
+            tile_width,
+            tile_height,
+        } => Some(Change::Mosaic {
+            window: window_of_samples(x, y, width, height, window)?,
+            tile_width: whole_samples(x, tile_width)?,
+            tile_height: whole_samples(y, tile_height)?,
+        }),
+        Change::Move { window, left, top } => {
+            let under = window_of_samples(x, y, width, height, window)?;
+            let goal = Window {
+                left,
+                top,
+                width: window.width,
+                height: window.height,
+            };
+            let goal = window_of_samples(x, y, width, height, goal)?;
+            Some(Change::Move {
+                window: under,
+                left: goal.left,
+                top: goal.top,
+            })
+        }
+    }
+}
+
 // The steps in samples.
 fn steps_of_samples(
     alloc: Global,
     x: usize,
     y: usize,
+    format: Format,
     steps: &[Step],
 ) -> Result<Vec<Step>, PlanFault>
     requires across { 0 < x }
     requires down { 0 < y }
-    ensures steps { IfOk result (λ under. steps_under x y steps.now ≡ Some under.items) }
-    ensures fault { IfErr result (Tells (steps_under x y steps.now ≡ None)) }
+    ensures steps { IfOk result (λ under. steps_under x y format.width format.height steps.now ≡ Some under.items) }
+    ensures fault { IfErr result (Tells (steps_under x y format.width format.height steps.now ≡ None)) }
 {
     let mut under = Vec::new(alloc);
     for step in steps {
-        let Some(change) = change_of_samples(x, y, step.change) else {
+        let Some(change) = change_of_samples(x, y, format.width, format.height, step.change) else {
             return Err(PlanFault::Outside);
         };
         let step = Step {
@@ -136,7 +168,7 @@ fn chroma_plane(
     ensures plane { IfOk result (λ plane. chroma_job x y format.width format.height steps.now ≡ Some (job_of plane)) }
     ensures fault { IfErr result (Tells (chroma_job x y format.width format.height steps.now ≡ None)) }
 {
-    let under = match steps_of_samples(alloc, x, y, steps) {
+    let under = match steps_of_samples(alloc, x, y, format, steps) {
         Ok(under) => under,
         Err(fault) => return Err(fault),
     };
@@ -220,71 +252,119 @@ pub fn plan(alloc: Global, format: Format, steps: &[Step]) -> Result<Vec<Plane>,
     }
 }
 
-// The window of chroma samples that is kept, in a plane of them.
-fn chroma_cut(x: usize, y: usize, format: Format, window: Window) -> Option<Cut>
+// What becomes of a plane of chroma samples.
+#[tactic(auto, unfolding(crate::specs::Format::resize_under))]
+fn resize_of_samples(
+    x: usize,
+    y: usize,
+    width: usize,
+    height: usize,
+    resize: Resize,
+) -> Option<Resize>
     requires across { 0 < x }
     requires down { 0 < y }
-    ensures { option_map slice_of result ≡ chroma_slice x y format.width format.height window }
+    ensures { result ≡ resize_under x y width height resize }
 {
-    let under = window_of_samples(x, y, window)?;
-    Cut::new(
+    match resize {
+        Resize::Crop(window) => {
+            let under = window_of_samples(x, y, width, height, window)?;
+            Some(Resize::Crop(under))
+        }
+        Resize::Pad {
+            left,
+            top,
+            width: wide,
+            height: high,
+            value: _,
+        } => {
+            let place = Window {
+                left,
+                top,
+                width,
+                height,
+            };
+            let under = window_of_samples(x, y, wide, high, place)?;
+            Some(Resize::Pad {
+                left: under.left,
+                top: under.top,
+                width: count_samples(wide, x),
+                height: count_samples(high, y),
+                value: 128,
+            })
+        }
+    }
+}
+
+// A plane of chroma samples with what becomes of it.
+fn chroma_target(x: usize, y: usize, format: Format, resize: Resize) -> Option<Target>
+    requires across { 0 < x }
+    requires down { 0 < y }
+    ensures { option_map resizing_of result ≡ chroma_resizing x y format.width format.height resize }
+{
+    let under = resize_of_samples(x, y, format.width, format.height, resize)?;
+    Target::new(
         count_samples(format.width, x),
         count_samples(format.height, y),
         under,
     )
 }
 
-// Adds both windows of chroma samples.
-#[tactic(auto, unfolding(crate::specs::Format::two_slices))]
-fn push_two_cuts(
-    cuts: &mut Vec<Cut>,
+// Adds both planes of chroma samples.
+#[tactic(auto, unfolding(crate::specs::Format::two_resizings))]
+fn push_two_targets(
+    targets: &mut Vec<Target>,
     x: usize,
     y: usize,
     format: Format,
-    window: Window,
+    resize: Resize,
 ) -> Result<(), PlanFault>
     requires across { 0 < x }
     requires down { 0 < y }
-    ensures cuts { OnOk result (option_map (λ slices. map slice_of cuts.old.items ++ slices) (two_slices x y format.width format.height window) ≡ Some (map slice_of cuts.new.items)) }
-    ensures fault { IfErr result (Tells (two_slices x y format.width format.height window ≡ None)) }
+    ensures targets { OnOk result (option_map (λ planes. map resizing_of targets.old.items ++ planes) (two_resizings x y format.width format.height resize) ≡ Some (map resizing_of targets.new.items)) }
+    ensures fault { IfErr result (Tells (two_resizings x y format.width format.height resize ≡ None)) }
 {
-    let Some(cut) = chroma_cut(x, y, format, window) else {
+    let Some(target) = chroma_target(x, y, format, resize) else {
         return Err(PlanFault::Outside);
     };
-    if cuts.push(cut).is_err() || cuts.push(cut).is_err() {
+    if targets.push(target).is_err() || targets.push(target).is_err() {
         return Err(PlanFault::Memory);
     }
     Ok(())
 }
 
-// Adds the windows of chroma samples that the format has.
-fn push_chroma_cuts(cuts: &mut Vec<Cut>, format: Format, window: Window) -> Result<(), PlanFault>
-    ensures cuts { OnOk result (option_map (λ slices. map slice_of cuts.old.items ++ slices) (chroma_slices format.chroma format.width format.height window) ≡ Some (map slice_of cuts.new.items)) }
-    ensures fault { IfErr result (Tells (chroma_slices format.chroma format.width format.height window ≡ None)) }
+// Adds the planes of chroma samples that the format has.
+fn push_chroma_targets(
+    targets: &mut Vec<Target>,
+    format: Format,
+    resize: Resize,
+) -> Result<(), PlanFault>
+    ensures targets { OnOk result (option_map (λ planes. map resizing_of targets.old.items ++ planes) (chroma_resizings format.chroma format.width format.height resize) ≡ Some (map resizing_of targets.new.items)) }
+    ensures fault { IfErr result (Tells (chroma_resizings format.chroma format.width format.height resize ≡ None)) }
 {
     match format.chroma {
         Chroma::Mono => Ok(()),
-        Chroma::Small => push_two_cuts(cuts, 2, 2, format, window),
-        Chroma::Wide => push_two_cuts(cuts, 2, 1, format, window),
-        Chroma::Whole => push_two_cuts(cuts, 1, 1, format, window),
+        Chroma::Small => push_two_targets(targets, 2, 2, format, resize),
+        Chroma::Wide => push_two_targets(targets, 2, 1, format, resize),
+        Chroma::Whole => push_two_targets(targets, 1, 1, format, resize),
     }
 }
 
-/// The windows that are kept of the planes of a frame of this format.
-#[tactic(auto, unfolding(crate::specs::Format::slices_for))]
-pub fn plan_crop(alloc: Global, format: Format, window: Window) -> Result<Vec<Cut>, PlanFault>
-    ensures cuts { IfOk result (λ cuts. slices_for format window ≡ Some (map slice_of cuts.items)) }
-    ensures fault { IfErr result (Tells (slices_for format window ≡ None)) }
+/// The planes of a frame of this format with what becomes of the size of each, where that of the
+/// plane of brightness becomes this.
+#[tactic(auto, unfolding(crate::specs::Format::resizings_for))]
+pub fn plan_resize(alloc: Global, format: Format, resize: Resize) -> Result<Vec<Target>, PlanFault>
+    ensures targets { IfOk result (λ targets. resizings_for format resize ≡ Some (map resizing_of targets.items)) }
+    ensures fault { IfErr result (Tells (resizings_for format resize ≡ None)) }
 {
-    let Some(luma) = Cut::new(format.width, format.height, window) else {
+    let Some(luma) = Target::new(format.width, format.height, resize) else {
         return Err(PlanFault::Outside);
     };
-    let mut cuts = Vec::new(alloc);
-    if cuts.push(luma).is_err() {
+    let mut targets = Vec::new(alloc);
+    if targets.push(luma).is_err() {
         return Err(PlanFault::Memory);
     }
-    match push_chroma_cuts(&mut cuts, format, window) {
-        Ok(()) => Ok(cuts),
+    match push_chroma_targets(&mut targets, format, resize) {
+        Ok(()) => Ok(targets),
         Err(fault) => Err(fault),
     }
 }

@@ -3,17 +3,17 @@
 #![tactic(auto)]
 
 mod change;
-mod cut;
-mod cuts;
 mod hiding;
 mod plane;
 mod planes;
 mod steps;
+mod target;
+mod targets;
 
 pub use change::{Change, Step};
-pub use cut::Cut;
-pub use cuts::{cut_planes, cuts_len, kept_cuts_len};
 pub use hiding::changes_hide;
 pub use imgref::Window;
 pub use plane::Plane;
 pub use planes::{change_planes, planes_len};
+pub use target::{Resize, Target};
+pub use targets::{resize_planes, sources_len, targets_len};

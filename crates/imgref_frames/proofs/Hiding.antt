@@ -1,17 +1,18 @@
 -- Inputs that differ only in what is hidden get the same answer and the same output, and each input one output.
 use Rattle.std.proofs.Common.{◌≡◌, ◌≢◌, ℕ, ◌+◌, List, [], ◌∷◌, ◌++◌, Option, Some, None, option_and_then, Result, Ok, Err, length, refl, sym, ap, ◌∙◌, subst, arith, append_assoc, inl, inr, length-append}
 use Rattle.std.specs.Prelude.{All}
+use Rattle.std.specs.Option.{option_map}
 use Rattle.std.specs.List.{AllByRecursion}
 use Rattle.std.proofs.lemmas.List.{append_cancel_left}
 use Rattle.std.proofs.lemmas.List.Elements.{recursion_from_All}
 use Rattle.text_model.proofs.Options.{some_is, bind_some, map_some}
 use Rattle.image_planes.specs.Changes.{Job, changed_planes}
-use Rattle.image_planes.specs.Kept.{kept_planes}
+use Rattle.image_planes.specs.Resized.{resized_planes}
 use Rattle.image_planes.specs.Unseen.{PlanesAlike}
-use Rattle.frame_formats.specs.Format.{format_of, jobs_for, slices_for}
-use Rattle.frame_formats.specs.Recipe.{Edits, Recipe, recipe_for, changing, cropping, finished}
+use Rattle.frame_formats.specs.Format.{format_of, jobs_for, resize_for, resizings_for}
+use Rattle.frame_formats.specs.Recipe.{Edits, Recipe, recipe_for, changing, resizing_frames, finished}
 use Rattle.frame_formats.specs.declared.header.Format.{Format}
-use Rattle.image_shape.specs.declared.window.Window.{Window}
+use Rattle.frame_formats.specs.declared.framing.Framing.{Framing}
 use Rattle.imgref_frames.specs.Alike.{Alike, FramesAlike, Hides, OneOutput}
 use Rattle.imgref_frames.specs.Passing.{IsNoFrame}
 use Rattle.imgref_frames.specs.Program.{Carries, CarriesSome, Writes}
@@ -115,19 +116,20 @@ carried size jobs f law n (x ∷ mine) behind (p ∷ ps) (q ∷ qs) rest sized a
 abbrev ChangesHide : Type 0
 ChangesHide = (number : ℕ) (jobs : List Job) (cells others : List ℕ) → PlanesAlike number jobs cells others → changed_planes number jobs cells ≡ changed_planes number jobs others
 
-finished_hides : ChangesHide → (line : List ℕ) (format : Format) (jobs : List Job) (crop : Option Window) (recipe : Recipe) → finished line format jobs crop ≡ Some recipe
+finished_hides : ChangesHide → (line : List ℕ) (format : Format) (jobs : List Job) (framing : Option Framing) (recipe : Recipe) → finished line format jobs framing ≡ Some recipe
     → (n : ℕ) (p q : List ℕ) → PlanesAlike n recipe.jobs p q → recipe.frame n p ≡ recipe.frame n q
 finished_hides law line format jobs None recipe e n p q =
     subst (λ (r : Recipe). PlanesAlike n r.jobs p q → r.frame n p ≡ r.frame n q) (some_is (changing line jobs) recipe e) (law n jobs p q)
-finished_hides law line format jobs (Some window) recipe e n p q =
-    let m = map_some (slices_for format window) (cropping line window.width window.height jobs) recipe e in
-    subst (λ (r : Recipe). PlanesAlike n r.jobs p q → r.frame n p ≡ r.frame n q) m.2 (λ alike. ap (kept_planes m.0) (law n jobs p q alike))
+finished_hides law line format jobs (Some framing) recipe e n p q =
+    let b = bind_some (resize_for format framing) (λ resize. option_map (resizing_frames line jobs resize) (resizings_for format resize)) recipe e in
+    let m = map_some (resizings_for format b.0) (resizing_frames line jobs b.0) recipe b.2 in
+    subst (λ (r : Recipe). PlanesAlike n r.jobs p q → r.frame n p ≡ r.frame n q) m.2 (λ alike. ap (resized_planes m.0) (law n jobs p q alike))
 
 recipe_hides : ChangesHide → (edit : Edits) (line : List ℕ) (recipe : Recipe) → recipe_for edit line ≡ Some recipe → (n : ℕ) (p q : List ℕ) → PlanesAlike n recipe.jobs p q → recipe.frame n p ≡ recipe.frame n q
 recipe_hides law edit line recipe e =
-    let b = bind_some (format_of line) (λ format. option_and_then (λ jobs. finished line format jobs edit.crop) (jobs_for format edit.steps)) recipe e in
-    let m = bind_some (jobs_for b.0 edit.steps) (λ jobs. finished line b.0 jobs edit.crop) recipe b.2 in
-    finished_hides law line b.0 m.0 edit.crop recipe m.2
+    let b = bind_some (format_of line) (λ format. option_and_then (λ jobs. finished line format jobs edit.framing) (jobs_for format edit.steps)) recipe e in
+    let m = bind_some (jobs_for b.0 edit.steps) (λ jobs. finished line b.0 jobs edit.framing) recipe b.2 in
+    finished_hides law line b.0 m.0 edit.framing recipe m.2
 
 -- ---- inputs
 

@@ -9,11 +9,10 @@ mod words;
 pub use devices::Counted;
 pub use fault::RunFault;
 use frame_formats::WordsFault;
-pub use frame_formats::{Change, Step, Window};
+pub use frame_formats::{Change, Framing, Step, Window};
 pub use program::run;
-use std::env;
 use std::process::ExitCode;
-use words::edits_of;
+use words::{edits_of, words_of};
 
 // What the words are, as docs/FRAMES.md has it.
 const USAGE: &str = "usage: imgref_frames EDIT.. < video > video
@@ -23,6 +22,7 @@ EDIT is one of these, and is done to each frame, in their order:
        [A..B] mosaic L,T,W,H TW,TH    tiles of TW by TH pixels
        [A..B] move L,T,W,H X,Y        to column X, row Y
        crop L,T,W,H                   the last edit only
+       pad L,T,R,B V                  the same: a border of brightness V, no colour
 A..B: only frames A to B-1, from 0. FILE has an edit a line.
 Cover first: a move before a fill may carry pixels away. See docs/FRAMES.md.";
 
@@ -30,13 +30,9 @@ Cover first: a move before a fill may carry pixels away. See docs/FRAMES.md.";
 /// to its frames. Where the run ends with a fault, the program prints that to standard error and ends
 /// with its status.
 fn main(rt: HostRuntime) -> ExitCode {
-    let words = match env::args(&rt) {
+    let words = match words_of(&rt) {
         Ok(words) => words,
-        Err(_) => return refuse_words(&rt),
-    };
-    let words: Vec<String> = match words.collect(rt.alloc()) {
-        Ok(words) => words,
-        Err(_) => return end(&rt, RunFault::Memory),
+        Err(fault) => return refuse_words(&rt, fault),
     };
     if words.len() == 2 && words[1].as_str() == "--help" {
         let _ = println!(rt; "{USAGE}");
@@ -44,8 +40,7 @@ fn main(rt: HostRuntime) -> ExitCode {
     }
     let edits = match edits_of(&rt, &words) {
         Ok(edits) => edits,
-        Err(WordsFault::NoEdit) => return refuse_words(&rt),
-        Err(WordsFault::Memory) => return end(&rt, RunFault::Memory),
+        Err(fault) => return refuse_words(&rt, fault),
     };
     if words::uncovers(&edits.steps) {
         let _ = eprintln!(rt;
@@ -57,7 +52,7 @@ fn main(rt: HostRuntime) -> ExitCode {
     match run(
         rt.alloc(),
         &edits.steps,
-        edits.crop,
+        edits.framing,
         &mut reader,
         &mut writer,
     ) {
@@ -67,9 +62,14 @@ fn main(rt: HostRuntime) -> ExitCode {
 }
 
 // The status tells of the fault even where its text can't be printed.
-fn refuse_words(rt: &HostRuntime) -> ExitCode {
-    let _ = eprintln!(rt; "fault words\n{USAGE}");
-    ExitCode::from(1)
+fn refuse_words(rt: &HostRuntime, fault: WordsFault) -> ExitCode {
+    match fault {
+        WordsFault::NoEdit => {
+            let _ = eprintln!(rt; "fault words\n{USAGE}");
+            ExitCode::from(1)
+        }
+        WordsFault::Memory => end(rt, RunFault::Memory),
+    }
 }
 
 fn end(rt: &HostRuntime, fault: RunFault) -> ExitCode {

@@ -2,9 +2,9 @@
 
 ghost use Rattle.std.specs.Prelude.{◌≡◌, ◌≢◌, ◌≤◌, ◌<◌, ◌+◌, ◌++◌, ◌∷◌, [], All, length, map, take, Some, None, IfOk, IfErr};
 ghost use Rattle.image_planes.specs.Changes.{jobs_len};
-ghost use Rattle.image_planes.specs.Kept.{kepts_len};
+ghost use Rattle.image_planes.specs.Resized.{targets_len};
 ghost use Rattle.image_planes.specs.Planes.{job_of};
-ghost use Rattle.image_planes.specs.SliceOf.{slice_of};
+ghost use Rattle.image_planes.specs.Targets.{resizing_of};
 ghost use Rattle.devices.specs.Device.{device_of, failures_of};
 ghost use Rattle.imgref_frames.specs.Fault.{reader_failures, writer_failures};
 ghost use Rattle.frame_formats.specs.Recipe.{edits};
@@ -13,10 +13,12 @@ ghost use Rattle.imgref_frames.specs.Program.{Follows, Writes};
 ghost use Rattle.imgref_frames.specs.Video.{frame_head};
 
 use crate::fault::RunFault;
-use crate::frames::{crop_frames, pass_frames};
+use crate::frames::{pass_frames, resize_frames};
 use devices::{Counted, LineFault, read_line, write_all};
-use frame_formats::{Cut, Plane, Step, Window, plan, plan_crop, read_format, resized_line};
-use image_planes::{changes_hide, kept_cuts_len, planes_len};
+use frame_formats::{
+    Framing, Plane, Step, Target, plan, plan_resize, read_format, resize_of, resized_line,
+};
+use image_planes::{changes_hide, planes_len, targets_len};
 use std::alloc::Global;
 use std::io::{Read, Write};
 
@@ -48,13 +50,13 @@ fn put_head(frame: &mut [u8])
     frame[..6].copy_from_slice(b"FRAME\n");
 }
 
-// Room for one frame of the windows that are kept, with its head.
-fn kept_buffer(alloc: Global, cuts: &[Cut]) -> Result<Vec<u8>, RunFault>
-    ensures length { IfOk result (λ frame. length frame.items ≡ 6 + kepts_len (map slice_of cuts.now)) }
+// Room for one frame in its other size, with its head.
+fn other_buffer(alloc: Global, targets: &[Target]) -> Result<Vec<u8>, RunFault>
+    ensures length { IfOk result (λ frame. length frame.items ≡ 6 + targets_len (map resizing_of targets.now)) }
     ensures head { IfOk result (λ frame. take 6 frame.items ≡ frame_head) }
     ensures fault { IfErr result (λ e. e ≡ RunFault.Memory) }
 {
-    let Some(cells) = kept_cuts_len(cuts) else {
+    let Some(cells) = targets_len(targets) else {
         return Err(RunFault::Memory);
     };
     let Some(len) = cells.checked_add(6) else {
@@ -102,11 +104,11 @@ fn run_change<R: Read, W: Write>(
     pass_frames(reader, writer, &planes, &mut frame)
 }
 
-// Writes the line with the window's size, and then the windows of the frames behind it.
-fn run_crop<R: Read, W: Write>(
+// Writes the line with the new size, and then the frames behind it in that size.
+fn run_resize<R: Read, W: Write>(
     alloc: Global,
     steps: &[Step],
-    window: Window,
+    framing: Framing,
     line: &[u8],
     reader: &mut Counted<R>,
     writer: &mut Counted<W>,
@@ -114,7 +116,7 @@ fn run_crop<R: Read, W: Write>(
     requires one_line { All (λ b. b ≢ 10) line.now }
     requires reader_counts { failures_of reader.old < u64.MAX }
     requires writer_counts { failures_of writer.old < u64.MAX }
-    ensures follows { Follows result (edits steps.now (Some window)) line.now (R.remaining (device_of reader.old)) (W.contents (device_of writer.old)) (W.contents (device_of writer.new)) }
+    ensures follows { Follows result (edits steps.now (Some framing)) line.now (R.remaining (device_of reader.old)) (W.contents (device_of writer.old)) (W.contents (device_of writer.new)) }
     ensures reader_count { failures_of reader.new ≡ failures_of reader.old + reader_failures result }
     ensures writer_count { failures_of writer.new ≡ failures_of writer.old + writer_failures result }
 {
@@ -125,39 +127,42 @@ fn run_crop<R: Read, W: Write>(
         Ok(planes) => planes,
         Err(fault) => return Err(RunFault::from(fault)),
     };
-    let cuts = match plan_crop(alloc, format, window) {
-        Ok(cuts) => cuts,
+    let Some(resize) = resize_of(format, framing) else {
+        return Err(RunFault::Outside);
+    };
+    let targets = match plan_resize(alloc, format, resize) {
+        Ok(targets) => targets,
         Err(fault) => return Err(RunFault::from(fault)),
     };
     let mut frame = match frame_buffer(alloc, &planes) {
         Ok(frame) => frame,
         Err(fault) => return Err(fault),
     };
-    let mut kept = match kept_buffer(alloc, &cuts) {
-        Ok(kept) => kept,
+    let mut other = match other_buffer(alloc, &targets) {
+        Ok(other) => other,
         Err(fault) => return Err(fault),
     };
-    let head = match resized_line(alloc, line, window.width, window.height) {
+    let head = match resized_line(alloc, line, resize.width(), resize.height()) {
         Ok(head) => head,
         Err(_) => return Err(RunFault::Memory),
     };
     if write_all(writer, &head).is_err() {
         return Err(RunFault::Output);
     }
-    crop_frames(reader, writer, &planes, &cuts, &mut frame, &mut kept)
+    resize_frames(reader, writer, &planes, &targets, &mut frame, &mut other)
 }
 
 // The run, without what it hides.
 fn carry<R: Read, W: Write>(
     alloc: Global,
     steps: &[Step],
-    crop: Option<Window>,
+    framing: Option<Framing>,
     reader: &mut Counted<R>,
     writer: &mut Counted<W>,
 ) -> Result<u64, RunFault>
     requires reader_counts { failures_of reader.old < u64.MAX }
     requires writer_counts { failures_of writer.old < u64.MAX }
-    ensures written { Writes result (edits steps.now crop) (R.remaining (device_of reader.old)) (W.contents (device_of writer.old)) (W.contents (device_of writer.new)) }
+    ensures written { Writes result (edits steps.now framing) (R.remaining (device_of reader.old)) (W.contents (device_of writer.old)) (W.contents (device_of writer.new)) }
     ensures reader_count { failures_of reader.new ≡ failures_of reader.old + reader_failures result }
     ensures writer_count { failures_of writer.new ≡ failures_of writer.old + writer_failures result }
 {
@@ -167,19 +172,19 @@ fn carry<R: Read, W: Write>(
         Err(LineFault::NoLine) => return Err(RunFault::Header),
         Err(LineFault::Reader) => return Err(RunFault::Input),
     };
-    match crop {
+    match framing {
         None => run_change(alloc, steps, &line[..len], &line[..len + 1], reader, writer),
-        Some(window) => run_crop(alloc, steps, window, &line[..len], reader, writer),
+        Some(framing) => run_resize(alloc, steps, framing, &line[..len], reader, writer),
     }
 }
 
-/// Reads a video, and writes what the steps and then the crop make of it, frame by frame; answers how many frames
-/// there were. All memory is found before the first byte is written: that of one frame, and of one
-/// frame of the windows where it is cropped.
+/// Reads a video, and writes what the steps and then a crop or a border make of it, frame by frame;
+/// answers how many frames there were. All memory is found before the first byte is written: that of
+/// one frame, and of one frame of the new size where there is one.
 pub fn run<R: Read, W: Write>(
     alloc: Global,
     steps: &[Step],
-    crop: Option<Window>,
+    framing: Option<Framing>,
     reader: &mut Counted<R>,
     writer: &mut Counted<W>,
 ) -> Result<u64, RunFault>
@@ -188,18 +193,18 @@ pub fn run<R: Read, W: Write>(
 
     // On Ok the video that the edits make of the input; on a fault nothing, whole frames, or a
     // beginning of that video, as the fault says.
-    ensures written { Writes result (edits steps.now crop) (R.remaining (device_of reader.old)) (W.contents (device_of writer.old)) (W.contents (device_of writer.new)) }
+    ensures written { Writes result (edits steps.now framing) (R.remaining (device_of reader.old)) (W.contents (device_of writer.old)) (W.contents (device_of writer.new)) }
 
     // Each count grew exactly where the answer is that device's fault.
     ensures reader_count { failures_of reader.new ≡ failures_of reader.old + reader_failures result }
     ensures writer_count { failures_of writer.new ≡ failures_of writer.old + writer_failures result }
 
     // Inputs that differ only in what a fill or a mosaic hides can't be told from one another.
-    ensures hiding { Hides result (edits steps.now crop) (R.remaining (device_of reader.old)) (W.contents (device_of writer.old)) (W.contents (device_of writer.new)) }
+    ensures hiding { Hides result (edits steps.now framing) (R.remaining (device_of reader.old)) (W.contents (device_of writer.old)) (W.contents (device_of writer.new)) }
 
     // So the output is the only one of its input.
     ensures one_output { OneOutput }
 {
     changes_hide();
-    carry(alloc, steps, crop, reader, writer)
+    carry(alloc, steps, framing, reader, writer)
 }

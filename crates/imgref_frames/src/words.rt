@@ -2,8 +2,29 @@
 
 use frame_formats::{Change, Edits, Step, WordsFault};
 use std::alloc::Global;
-use std::fs;
+use std::{env, fs, io};
 use texts::Parts;
+
+// Why words could not be had: there was no memory for them, or they are none.
+fn fault_of(error: io::Error) -> WordsFault {
+    if error.kind() == io::ErrorKind::OutOfMemory {
+        WordsFault::Memory
+    } else {
+        WordsFault::NoEdit
+    }
+}
+
+/// The words of the command line, the program's name first.
+pub(crate) fn words_of(rt: &HostRuntime) -> Result<Vec<String>, WordsFault> {
+    let words = match env::args(rt) {
+        Ok(words) => words,
+        Err(error) => return Err(fault_of(error)),
+    };
+    match words.collect(rt.alloc()) {
+        Ok(words) => Ok(words),
+        Err(_) => Err(WordsFault::Memory),
+    }
+}
 
 // Adds all edits that the words are.
 fn take_all(edits: &mut Edits, words: &[&[u8]]) -> Result<(), WordsFault> {
@@ -49,7 +70,7 @@ pub(crate) fn edits_of(rt: &HostRuntime, words: &[String]) -> Result<Edits, Word
     if words.len() == 3 && words[1].as_str() == "--edits" {
         let text = match fs::read(rt, words[2].as_str()) {
             Ok(text) => text,
-            Err(_) => return Err(WordsFault::NoEdit),
+            Err(error) => return Err(fault_of(error)),
         };
         return edits_of_lines(alloc, &text);
     }

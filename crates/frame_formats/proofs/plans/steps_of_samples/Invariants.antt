@@ -4,4 +4,4 @@ use Rattle.frame_formats.proofs.StepsEach.{with_front}
 use Rattle.frame_formats.proofs.plans.steps_of_samples.Given as goal
 
 abbrev pub invariant-loop-step : goal.invariant-loop-step
-invariant-loop-step l = with_front l.under.items (steps_under l.x l.y (drop l.step-index l.steps)) ≡ steps_under l.x l.y l.steps
+invariant-loop-step l = with_front l.under.items (steps_under l.x l.y l.format.width l.format.height (drop l.step-index l.steps)) ≡ steps_under l.x l.y l.format.width l.format.height l.steps

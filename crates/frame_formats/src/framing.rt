@@ -1,0 +1,55 @@
+//! What becomes of the size of the frames.
+
+ghost use Rattle.std.specs.Prelude.{◌≡◌};
+ghost use Rattle.frame_formats.specs.Format.{padded_size, resize_for};
+
+use crate::header::Format;
+use image_planes::{Resize, Window};
+
+/// What becomes of the size of the frames, in pixels.
+#[derive(Clone, Copy, PartialEq, Eq)]
+pub enum Framing {
+    /// The window alone is kept.
+    Crop(Window),
+    /// A border of so many columns and rows stands around the frame, of one brightness and without
+    /// colour.
+    Pad {
+        left: usize,
+        top: usize,
+        right: usize,
+        bottom: usize,
+        value: u8,
+    },
+}
+
+// How many pixels there are with those before and behind.
+fn padded_size(before: usize, pixels: usize, behind: usize) -> Option<usize>
+    ensures { result ≡ padded_size before pixels behind }
+{
+    let size = before.checked_add(pixels)?.checked_add(behind)?;
+    (size <= u32::MAX as usize).then_some(size)
+}
+
+/// What becomes of the plane of brightness of a frame of this format, or `None` where its new size
+/// is too large.
+#[tactic(auto, unfolding(crate::specs::Format::resize_for))]
+pub fn resize_of(format: Format, framing: Framing) -> Option<Resize>
+    ensures { result ≡ resize_for format framing }
+{
+    match framing {
+        Framing::Crop(window) => Some(Resize::Crop(window)),
+        Framing::Pad {
+            left,
+            top,
+            right,
+            bottom,
+            value,
+        } => Some(Resize::Pad {
+            left,
+            top,
+            width: padded_size(left, format.width, right)?,
+            height: padded_size(top, format.height, bottom)?,
+            value,
+        }),
+    }
+}

@@ -1,0 +1,241 @@
+//! Planes of another size, copied out of a frame.
+
+ghost use Rattle.std.specs.Prelude.{◌≡◌, ◌<◌, ◌^◌, ◌*◌, length, IfSome, IsTrue};
+ghost use Rattle.std.specs.Option.{option_map};
+ghost use Rattle.image_model.specs.Layout.{Fits, SameOutside};
+ghost use Rattle.image_model.specs.Grid.{grid_of, patch, uniform};
+ghost use Rattle.image_model.specs.Rows.{grid_pixels};
+ghost use Rattle.image_model.specs.Windows.{IsInside, is_inside, window_view};
+ghost use Rattle.imgref.specs.Image.{ref_layout, width_of, height_of};
+ghost use Rattle.imgref.specs.Shape.{shaped, shape_width, shape_height};
+ghost use Rattle.imgref.specs.Window.{as_window};
+ghost use Rattle.image_planes.specs.Resized.{is_resize_of, resizing_for, resized_plane, source_len, target_len};
+
+use imgref::{ImgRef, ImgRefMut, Shape, Window, fill_pixels};
+
+/// What becomes of the size of a plane.
+#[derive(Clone, Copy, PartialEq, Eq)]
+pub enum Resize {
+    /// The window alone is kept.
+    Crop(Window),
+    /// A plane of this size and this value has the whole plane at a corner.
+    Pad {
+        left: usize,
+        top: usize,
+        width: usize,
+        height: usize,
+        value: u8,
+    },
+}
+
+/// A plane of a frame, an image of bytes without padding, and what becomes of its size.
+#[derive(Clone, Copy, PartialEq, Eq)]
+pub struct Target {
+    width: usize,
+    height: usize,
+    resize: Resize,
+    ghost wide: { 0 < width },
+    ghost width_fits: { width < 2 ^ 32 },
+    ghost height_fits: { height < 2 ^ 32 },
+    ghost inside: { IsTrue (is_resize_of width height resize) },
+}
+
+// The pixels that these cells have in this shape become those of another image.
+fn copy_cells(cells: &mut [u8], shape: Shape, source: ImgRef<'_, u8>)
+    requires fits { Fits (shaped cells.old shape) }
+    requires source_fits { Fits (ref_layout source) }
+    requires same_width { width_of source ≡ shape_width shape }
+    requires same_height { height_of source ≡ shape_height shape }
+    ensures grid { grid_of (shaped cells.new shape) ≡ grid_of (ref_layout source.entry) }
+    ensures outside { SameOutside (shaped cells.old shape) (shaped cells.new shape) }
+{
+    let mut image = ImgRefMut::from_parts(cells, shape);
+    image.copy_from(source);
+}
+
+// The window becomes another image.
+fn put_image(cells: &mut [u8], shape: Shape, window: Window, source: ImgRef<'_, u8>)
+    requires fits { Fits (shaped cells.old shape) }
+    requires inside { IsInside (shape_width shape) (shape_height shape) (as_window window) }
+    requires source_fits { Fits (ref_layout source) }
+    requires same_width { width_of source ≡ window.width }
+    requires same_height { height_of source ≡ window.height }
+    ensures grid { grid_of (shaped cells.new shape) ≡ patch (grid_of (shaped cells.old shape)) window.left window.top (grid_of (ref_layout source.entry)) }
+    ensures outside { SameOutside (shaped cells.old shape) (shaped cells.new shape) }
+{
+    let part = shape.stretch(false, cells.len(), window);
+    let end = part.start + part.len;
+    copy_cells(&mut cells[part.start..end], shape.window(window), source);
+}
+
+// The cells become the pixels of a window of the image.
+fn crop_image(source: ImgRef<'_, u8>, window: Window, target: &mut [u8])
+    requires fits { Fits (ref_layout source) }
+    requires wide { 0 < window.width }
+    requires width_fits { window.width < 2 ^ 32 }
+    requires height_fits { window.height < 2 ^ 32 }
+    requires inside { IsInside (width_of source) (height_of source) (as_window window) }
+    requires room { length target.old ≡ window.width * window.height }
+    ensures { target.new ≡ grid_pixels (window_view (grid_of (ref_layout source.entry)) (as_window window)) }
+{
+    let part = source.sub_image(window.left, window.top, window.width, window.height);
+    copy_cells(
+        target,
+        Shape::new(window.width, window.height, window.width),
+        part,
+    );
+}
+
+// The cells become the pixels of a grid of this size and value with the image at a corner.
+fn pad_image(
+    source: ImgRef<'_, u8>,
+    place: Window,
+    width: usize,
+    height: usize,
+    value: u8,
+    target: &mut [u8],
+)
+    requires fits { Fits (ref_layout source) }
+    requires same_width { width_of source ≡ place.width }
+    requires same_height { height_of source ≡ place.height }
+    requires wide { 0 < width }
+    requires width_fits { width < 2 ^ 32 }
+    requires height_fits { height < 2 ^ 32 }
+    requires inside { IsInside width height (as_window place) }
+    requires room { length target.old ≡ width * height }
+    ensures { target.new ≡ grid_pixels (patch (uniform width height value) place.left place.top (grid_of (ref_layout source.entry))) }
+{
+    let shape = Shape::new(width, height, width);
+    fill_pixels(target, shape, value);
+    put_image(target, shape, place, source);
+}
+
+impl Resize {
+    ghost use Rattle.image_planes.specs.Resized.{new_width, new_height};
+
+    /// How many columns there are then.
+    pub fn width(&self) -> usize
+        ensures { result ≡ new_width self.now }
+    {
+        match self {
+            Resize::Crop(window) => window.width,
+            Resize::Pad { width, .. } => *width,
+        }
+    }
+
+    /// How many rows there are then.
+    pub fn height(&self) -> usize
+        ensures { result ≡ new_height self.now }
+    {
+        match self {
+            Resize::Crop(window) => window.height,
+            Resize::Pad { height, .. } => *height,
+        }
+    }
+
+    // Whether it is one of a plane of this size.
+    fn is_of(&self, width: usize, height: usize) -> bool
+        ensures { result ≡ is_resize_of width height self.now }
+    {
+        match self {
+            Resize::Crop(window) => window.width > 0 && window.is_inside(width, height),
+            Resize::Pad {
+                left,
+                top,
+                width: wide,
+                height: high,
+                value: _,
+            } => {
+                let greatest = u32::MAX as usize;
+                let place = Window {
+                    left: *left,
+                    top: *top,
+                    width,
+                    height,
+                };
+                *wide <= greatest && *high <= greatest && place.is_inside(*wide, *high)
+            }
+        }
+    }
+}
+
+impl Target {
+    // These name the type itself.
+    ghost use Rattle.image_planes.specs.Targets.{resizing_of};
+
+    /// A plane of this size with what becomes of it, or `None` where there is no such plane, or its
+    /// window has no column or reaches outside, or it reaches outside what is around it.
+    pub fn new(width: usize, height: usize, resize: Resize) -> Option<Target>
+        ensures { option_map resizing_of result ≡ resizing_for width height resize }
+    {
+        let greatest = u32::MAX as usize;
+        if width == 0 || width > greatest || height > greatest {
+            return None;
+        }
+        if !resize.is_of(width, height) {
+            return None;
+        }
+        Some(Target {
+            width,
+            height,
+            resize,
+        })
+    }
+
+    /// How many bytes the plane has, or `None` where that is no number of this machine.
+    pub(crate) fn checked_source_len(&self) -> Option<usize>
+        ensures { IfSome result (λ n. n ≡ source_len (resizing_of self.now)) }
+    {
+        self.width.checked_mul(self.height)
+    }
+
+    /// The same of the plane in its other size.
+    pub(crate) fn checked_len(&self) -> Option<usize>
+        ensures { IfSome result (λ n. n ≡ target_len (resizing_of self.now)) }
+    {
+        self.resize.width().checked_mul(self.resize.height())
+    }
+
+    /// How many bytes the plane has.
+    pub(crate) fn source_len(&self) -> usize
+        requires { source_len (resizing_of self.now) < 2 ^ 64 }
+        ensures { result ≡ source_len (resizing_of self.now) }
+    {
+        self.width * self.height
+    }
+
+    /// How many bytes the plane has in its other size.
+    pub(crate) fn len(&self) -> usize
+        requires { target_len (resizing_of self.now) < 2 ^ 64 }
+        ensures { result ≡ target_len (resizing_of self.now) }
+    {
+        self.resize.width() * self.resize.height()
+    }
+
+    /// Copies the plane that the source is, in its other size, over the target.
+    pub(crate) fn apply(&self, source: &[u8], target: &mut [u8])
+        requires whole { length source.now ≡ source_len (resizing_of self.now) }
+        requires room { length target.old ≡ target_len (resizing_of self.now) }
+        ensures { target.new ≡ resized_plane (resizing_of self.now) source.now }
+    {
+        let whole = ImgRef::new(source, self.width, self.height);
+        match self.resize {
+            Resize::Crop(window) => crop_image(whole, window, target),
+            Resize::Pad {
+                left,
+                top,
+                width,
+                height,
+                value,
+            } => {
+                let place = Window {
+                    left,
+                    top,
+                    width: self.width,
+                    height: self.height,
+                };
+                pad_image(whole, place, width, height, value, target);
+            }
+        }
+    }
+}
