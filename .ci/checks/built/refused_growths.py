@@ -1,9 +1,11 @@
 #!/usr/bin/env python3
-"""Refuses each growth of the program and of every test in turn, on what `rt ci` built.
+"""Refuses each growth of the programs and of every test in turn, on what `rt ci` built.
 
-No clause can say that memory is found, and every contract allows the answer that none was. So the program is run on each
-example with its first growth refused, then with its second, until a run has none to refuse: each time but the last it must
-print `fault memory` alone and end with status 3. Each test is run so too, and must pass or return the refusal as its
+No clause can say that memory is found, and every contract allows the answer that none was. So the script program is run on each
+example, and the one for video on a small stream with each kind of edits, with the first growth refused, then with the second,
+until a run has none to refuse. Each time but the last it must say `fault memory` alone, on the stream for faults, and end with
+status 3: so all memory is taken before the first byte is written. (Or it writes exactly what it writes with memory: the library
+asks for a list of words to be made smaller, and goes on where that is refused.) Each test is run so too, and must pass or return the refusal as its
 result: an assertion that fails shows an answer that changed in the place of the error.
 """
 import concurrent.futures
@@ -15,11 +17,19 @@ import sys
 import tempfile
 
 sys.path.insert(0, str(pathlib.Path(__file__).resolve().parents[2]))
+import frames
 import model
 from checking import ROOT, Cases, both_builds, built, crates
 
 REFUSES = pathlib.Path(__file__).resolve().with_name("refused_growth.c")
 SCRIPTS = sorted((ROOT / "examples").glob("*.script"))
+# A video of two frames of 4 by 2 pixels, and words of edits: a list of two, and each that changes the size.
+VIDEO = b"YUV4MPEG2 W4 H2 C420 F25:1\n" + b"FRAME\n0123456789AB" * 2
+EDITS = (
+    ("fill 0,0,2,2 16 1..2 move 0,0,2,2 2,0", [(0, 2**64, "fill", [0, 0, 2, 2], [16]), (1, 2, "move", [0, 0, 2, 2], [2, 0])]),
+    ("mosaic 0,0,4,2 2,2 crop 0,0,2,2", [(0, 2**64, "mosaic", [0, 0, 4, 2], [2, 2]), (0, 2**64, "crop", [0, 0, 2, 2], [])]),
+    ("pad 2,2,2,2 16", [(0, 2**64, "pad", [2, 2, 2, 2], [16])]),
+)
 # What a test says whose result is the refusal: of a call, of a push to a vector, and of a run.
 HANDED_ON = (b"error: AllocError\n", b"error: AllocFailed { .. }\n", b"error: Memory\n")
 # A crate of tests, a test, the same without its one call that takes memory, and how many growths that call takes.
@@ -48,14 +58,17 @@ def runs(library, command, given=b""):
     raise ValueError(f"{command}: it has no end")
 
 
-def of_program(library, program, script):
-    """How many growths were refused on a script, and what is wrong."""
-    bad = []
-    for number, (ran, was_refused) in enumerate(runs(library, [program], script), 1):
-        wanted = (b"fault memory\n", 3) if was_refused else model.answer(script)
-        if (ran.stdout, ran.returncode) != wanted:
-            bad.append(f"growth {number}: it printed {ran.stdout!r} and ended with status {ran.returncode}")
-    return number - 1, bad
+def of_program(library, command, given, told, ends):
+    """How many refused growths were told on this input, and what is wrong. `told` is what a refusal must leave, `ends` what a run must
+    that has none: its output, and its status."""
+    bad, count = [], 0
+    for number, (ran, was_refused) in enumerate(runs(library, command, given), 1):
+        said = ran.stdout, ran.returncode
+        is_told = was_refused and said == told and b"fault memory\n" in ran.stdout + ran.stderr
+        count += is_told
+        if not is_told and said != ends:
+            bad.append(f"growth {number}: it printed {ran.stdout!r}, said {ran.stderr!r} and ended with status {ran.returncode}")
+    return count, bad
 
 
 def of_test(library, program, test):
@@ -83,11 +96,16 @@ def main():
     resource.setrlimit(resource.RLIMIT_CORE, (0, 0))
     with tempfile.TemporaryDirectory(prefix="growths-") as room, concurrent.futures.ThreadPoolExecutor(4) as pool:
         library = made(room)
-        programs = both_builds(cases, "imgref_run")
-        for program in programs:
-            for script in SCRIPTS:
-                growths, bad = of_program(library, program, script.read_bytes())
-                cases.count(f"{program.name}, {script.name}: each of {growths} growths refused is told, and nothing else is written", growths > 0 and not bad, "\n".join(bad[:3]))
+        tries = [("imgref_run", [], script.name, script.read_bytes(), (b"fault memory\n", 3), model.answer(script.read_bytes())) for script in SCRIPTS]
+        tries += [("imgref_frames", words.split(), words, VIDEO, (b"", 3), (frames.answer(VIDEO, edits), 0)) for words, edits in EDITS]
+        listed = pathlib.Path(room, "edits")
+        listed.write_text(f"{EDITS[2][0]}\n")
+        tries.append(("imgref_frames", ["--edits", listed], "a file of edits", VIDEO, (b"", 3), (frames.answer(VIDEO, EDITS[2][1]), 0)))
+        for name in ("imgref_run", "imgref_frames"):
+            for program in both_builds(cases, name):
+                for _, words, label, given, told, ends in (it for it in tries if it[0] == name):
+                    growths, bad = of_program(library, [program, *words], given, told, ends)
+                    cases.count(f"{program.name}, {label}: {growths} refused growths are told, and nothing else is written", growths > 0 and not bad, "\n".join(bad[:3]))
         for crate in (it for it in crates() if says(it, "#[test]")):
             for program in built(crate, ("_tests",)) or [None]:
                 found = [*pool.map(lambda test: of_test(library, program, test), tests_of(program) if program else [])]
