@@ -1,3 +1,4 @@
 pub mod Shifting
 pub mod Compacting
 pub mod Moving
+pub mod Stretches

@@ -5,6 +5,7 @@
 //! the moves of whole windows stand outside it. No call takes memory.
 #![tactic(auto)]
 
+mod blocks;
 mod mover;
 mod moves;
 #[cfg(test)]

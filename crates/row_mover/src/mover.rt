@@ -1,6 +1,7 @@
 ghost use Rattle.std.specs.Prelude.{◌≡◌, ◌+◌, ◌≤◌, length};
 ghost use Rattle.image_model.specs.Shifts.{shifted};
 
+use crate::blocks::copy_by_blocks;
 use std::marker::Model;
 
 /// Shifts cells within one list that was lent to it, and counts the shifts.
@@ -74,7 +75,7 @@ impl<'a, T: Copy> RowMover<'a, T> {
         } else if target + len <= start {
             copy_before(cells, start, len, target);
         } else {
-            copy_over(cells, start, len, target);
+            copy_by_blocks(cells, start, len, target);
         }
     }
 }
@@ -97,16 +98,4 @@ fn copy_before<T: Copy>(cells: &mut [T], start: usize, len: usize, target: usize
 {
     let (front, back) = cells.split_at_mut(start);
     front[target..target + len].copy_from_slice(&back[..len]);
-}
-
-// Copies a stretch to a place that it overlaps.
-// Out of line: inlined into a loop over rows, the compiler moves the bytes of a row one by one, and
-// shifts of bytes take eight times as long.
-#[inline(never)]
-fn copy_over<T: Copy>(cells: &mut [T], start: usize, len: usize, target: usize)
-    requires source { start + len ≤ length cells.old }
-    requires target { target + len ≤ length cells.old }
-    ensures { cells.new ≡ shifted cells.old start len target }
-{
-    cells.copy_within(start..start + len, target);
 }

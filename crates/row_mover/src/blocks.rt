@@ -1,0 +1,109 @@
+//! Stretches copied to a place that they overlap, by blocks that are read before they are written.
+//!
+//! The library's `copy_within` goes cell by cell behind its last whole vector. A block has a length
+//! that the compiler knows, so vectors alone read and write it. Two blocks that overlap copy the
+//! rest.
+
+ghost use Rattle.std.specs.Prelude.{◌≡◌, ◌+◌, ◌*◌, ◌<◌, ◌≤◌, length};
+ghost use Rattle.image_model.specs.Shifts.{shifted};
+
+// Copies `N` cells: all are read before one is written.
+fn copy_block<T: Copy, const N: usize>(cells: &mut [T], start: usize, target: usize)
+    requires some { 0 < N }
+    requires source { start + N ≤ length cells.old }
+    requires target { target + N ≤ length cells.old }
+    ensures { cells.new ≡ shifted cells.old start N target }
+{
+    let _count = cells.len();
+    let mut block = [cells[start]; N];
+    block
+        .as_mut_slice()
+        .copy_from_slice(&cells[start..start + N]);
+    cells[target..target + N].copy_from_slice(block.as_slice());
+}
+
+// Copies `N` to `2 * N` cells, as the first and the last `N`: all are read before one is written.
+fn copy_ends<T: Copy, const N: usize>(cells: &mut [T], start: usize, len: usize, target: usize)
+    requires some { 0 < N }
+    requires enough { N ≤ len }
+    requires few { len ≤ 2 * N }
+    requires source { start + len ≤ length cells.old }
+    requires target { target + len ≤ length cells.old }
+    ensures { cells.new ≡ shifted cells.old start len target }
+{
+    let _count = cells.len();
+    let mut first = [cells[start]; N];
+    let mut last = [cells[start]; N];
+    first
+        .as_mut_slice()
+        .copy_from_slice(&cells[start..start + N]);
+    last.as_mut_slice()
+        .copy_from_slice(&cells[start + len - N..start + len]);
+    cells[target..target + N].copy_from_slice(first.as_slice());
+    cells[target + len - N..target + len].copy_from_slice(last.as_slice());
+}
+
+// Copies at most 16 cells.
+fn copy_few<T: Copy>(cells: &mut [T], start: usize, len: usize, target: usize)
+    requires few { len ≤ 16 }
+    requires source { start + len ≤ length cells.old }
+    requires target { target + len ≤ length cells.old }
+    ensures { cells.new ≡ shifted cells.old start len target }
+{
+    if len > 8 {
+        copy_ends::<T, 8>(cells, start, len, target);
+    } else if len > 4 {
+        copy_ends::<T, 4>(cells, start, len, target);
+    } else if len > 2 {
+        copy_ends::<T, 2>(cells, start, len, target);
+    } else if len > 0 {
+        copy_ends::<T, 1>(cells, start, len, target);
+    }
+}
+
+// Copies a stretch towards the back, by blocks from its end.
+fn copy_up<T: Copy>(cells: &mut [T], start: usize, len: usize, target: usize)
+    requires enough { 16 ≤ len }
+    requires up { start ≤ target }
+    requires target { target + len ≤ length cells.old }
+    ensures { cells.new ≡ shifted cells.old start len target }
+{
+    let _count = cells.len();
+    let mut left = len;
+    while left >= 32 {
+        left -= 16;
+        copy_block::<T, 16>(cells, start + left, target + left);
+    }
+    copy_ends::<T, 16>(cells, start, left, target);
+}
+
+// Copies a stretch towards the front, by blocks from its start.
+fn copy_down<T: Copy>(cells: &mut [T], start: usize, len: usize, target: usize)
+    requires enough { 16 ≤ len }
+    requires down { target ≤ start }
+    requires source { start + len ≤ length cells.old }
+    ensures { cells.new ≡ shifted cells.old start len target }
+{
+    let _count = cells.len();
+    let mut done = 0;
+    while len - done >= 32 {
+        copy_block::<T, 16>(cells, start + done, target + done);
+        done += 16;
+    }
+    copy_ends::<T, 16>(cells, start + done, len - done, target + done);
+}
+
+/// Copies a stretch to a place that it may overlap.
+pub(crate) fn copy_by_blocks<T: Copy>(cells: &mut [T], start: usize, len: usize, target: usize)
+    requires source { start + len ≤ length cells.old }
+    requires target { target + len ≤ length cells.old }
+    ensures { cells.new ≡ shifted cells.old start len target }
+{
+    if len <= 16 {
+        copy_few(cells, start, len, target);
+    } else if start <= target {
+        copy_up(cells, start, len, target);
+    } else {
+        copy_down(cells, start, len, target);
+    }
+}
