@@ -1,0 +1,4 @@
+pub mod Lent
+pub mod Sizes
+pub mod Nested
+pub mod Filled

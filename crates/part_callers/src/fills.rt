@@ -1,0 +1,20 @@
+//! Cells in a shape that are filled through the cursor of `pixels_mut`.
+
+ghost use Rattle.std.specs.Prelude.{◌≡◌};
+ghost use Rattle.image_model.specs.Layout.{Fits, SameOutside};
+ghost use Rattle.image_model.specs.Grid.{grid_of, uniform};
+ghost use Rattle.imgref.specs.Shape.{shape_width, shape_height, shaped};
+
+use imgref::{ImgRefMut, Shape};
+use imgref_callers::write_first;
+
+// Every pixel becomes `value`, one after the other.
+pub fn fill<T: Copy>(cells: &mut [T], shape: Shape, value: T)
+    requires fits { Fits (shaped cells.old shape) }
+    ensures grid { grid_of (shaped cells.new shape) ≡ uniform (shape_width shape) (shape_height shape) value }
+    ensures outside { SameOutside (shaped cells.old shape) (shaped cells.new shape) }
+{
+    let count = shape.width() * shape.height();
+    let mut image = ImgRefMut::from_parts(cells, shape);
+    write_first(&mut image, count, value);
+}

@@ -1,0 +1,12 @@
+//! Users of what lends a part of an image: tiles, bands and paths of nested windows. Each says by the
+//! grid what its writes leave of the image.
+#![tactic(auto)]
+
+mod fills;
+mod paths;
+#[cfg(test)]
+mod tests;
+mod tiles;
+
+pub use paths::{fill_through_path, put_through_path};
+pub use tiles::fill_next_tile;
