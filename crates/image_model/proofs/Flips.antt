@@ -51,11 +51,11 @@ unfolding grid_of flipped_upto
 flipped_none l = same_grids l.width l.height (pixel l) _ (λ u v column line. sym (pixel_at l u v column line) ∙ ap ((grid_of l).pixel u) (sym (still_row l.height 0 v (omega arith) (omega arith))))
 
 -- two rows more
-pub flipped_more : {T : Type 0} (n : ℕ) (l k : Layout T) → grid_of k ≡ flipped_upto n (grid_of l) → k.height ≡ l.height → n < l.height / 2
-    → rows_swapped n (k.height - 1 - n) (grid_of k) ≡ flipped_upto (n + 1) (grid_of l)
+pub flipped_more : {T : Type 0} (n z : ℕ) (l k : Layout T) → grid_of k ≡ flipped_upto n (grid_of l) → z ≡ l.height - 1 - n → n < l.height / 2
+    → rows_swapped n z (grid_of k) ≡ flipped_upto (n + 1) (grid_of l)
 unfolding grid_of flipped_upto rows_swapped
-flipped_more n l k so high half =
-    ap (λ h. rows_swapped n (h - 1 - n) (grid_of k)) high
+flipped_more n z l k so last half =
+    ap (λ m. rows_swapped n m (grid_of k)) last
     ∙ ap (rows_swapped n (l.height - 1 - n)) so
     ∙ same_grids l.width l.height _ _ (λ u v column line.
     at_place l.width l.height (λ x y. (grid_of l).pixel x (flipped_row l.height n y)) u (swapped_row n (l.height - 1 - n) v) column (within v line)
@@ -65,9 +65,9 @@ flipped_more n l k so high half =
     within v line = grind (arith, nat_tests, half)
 
 -- all rows
-pub flipped_all : {T : Type 0} (l : Layout T) → flipped_upto (l.height / 2) (grid_of l) ≡ flipped (grid_of l)
+pub flipped_all : {T : Type 0} (n : ℕ) (l : Layout T) → n ≡ l.height / 2 → flipped_upto n (grid_of l) ≡ flipped (grid_of l)
 unfolding grid_of flipped flipped_upto
-flipped_all l = same_grids l.width l.height _ _ (λ u v column line. ap ((grid_of l).pixel u) (turned v line))
+flipped_all n l done = ap (λ m. flipped_upto m (grid_of l)) done ∙ same_grids l.width l.height _ _ (λ u v column line. ap ((grid_of l).pixel u) (turned v line))
   where
     turned : (v : ℕ) → v < l.height → flipped_row l.height (l.height / 2) v ≡ l.height - 1 - v
     turned v line =
@@ -76,4 +76,5 @@ flipped_all l = same_grids l.width l.height _ _ (λ u v column line. ap ((grid_o
         (λ still. cond-false (nat_lt v (l.height / 2) || nat_lt (l.height - 1 - v) (l.height / 2)) _ _ still ∙ (let mid : v ≡ l.height - 1 - v = grind (arith, nat_tests, still) in mid))
         (cases_Bool (nat_lt v (l.height / 2) || nat_lt (l.height - 1 - v) (l.height / 2)))
 
+-- these laws, for a caller's `using`
 pub ruleset flips = (flipped_none, flipped_more, flipped_all)

@@ -1,12 +1,12 @@
 pub mod Cells
 pub mod Places
 pub mod Grids
-pub mod Patches
 pub mod Stretches
 pub mod Windows
 pub mod Paths
 pub mod OneRow
 pub mod Rows
+pub mod Patches
 pub mod Pixels
 pub mod Kept
 pub mod Agreement

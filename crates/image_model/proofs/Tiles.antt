@@ -1,15 +1,16 @@
 -- The tiles of a size, by their numbers: each is inside, and each place lies in exactly one.
-use Rattle.std.proofs.Common.{◌≡◌, ℕ, zero, suc, ◌+◌, ◌-◌, ◌*◌, ◌/◌, ◌%◌, ◌<◌, ◌≤◌, true, inl, inr, List, ◌++◌, length, Some, refl, sym, ap, ◌∙◌, subst, arith, min, length-append, get_or}
+use Rattle.std.proofs.Common.{◌≡◌, ℕ, zero, suc, ◌+◌, ◌-◌, ◌*◌, ◌/◌, ◌%◌, ◌<◌, ◌≤◌, true, inl, inr, List, [], ◌∷◌, ◌++◌, length, Some, refl, sym, ap, ◌∙◌, subst, arith, min, length-append, get_or}
 use Rattle.std.specs.Prelude.{IsTrue, Option, None}
 use Rattle.std.specs.Option.{IsSomeAnd}
 use Rattle.std.specs.List.{All, slice_get, flat_map, range_with_len}
-use Rattle.std.proofs.lemmas.Bool.{cases_lt}
+use Rattle.std.proofs.lemmas.Bool.{cases_lt, and_from, le-leb}
+use Rattle.std.proofs.lemmas.List.Elements.{All-tail}
 use Rattle.std.proofs.lemmas.Nat.{div-add-mod', mod_below, div_below, le-div, div-mul-add}
 use Rattle.std.proofs.lemmas.List.FromFn.{length-map-range_with_len}
 use Rattle.std.proofs.lemmas.Option.{slice_get_within, slice_get-get_or, same_Some}
 use Rattle.std.proofs.Math.Nat.{suc-mul}
 use Rattle.image_model.specs.Windows.{Window, IsInside}
-use Rattle.image_model.specs.Tiles.{tile_count, tile, tile_line, tiles, tile_start, has_place, EachPlaceInOne}
+use Rattle.image_model.specs.Tiles.{tile_count, tile, tile_line, tiles, are_inside, tile_start, has_place, EachPlaceInOne}
 use Rattle.image_model.proofs.Cells.{slice_get-append_left, slice_get-append_right}
 use Rattle.image_model.proofs.Grids.{covers_decides}
 use Rattle.image_model.proofs.Rows.{slice_get-tabulated}
@@ -166,6 +167,13 @@ module _ (width height tile_width tile_height : ℕ) (wide : 0 < tile_width) (hi
       alone : (k : ℕ) (o : Option Window) → slice_get all k ≡ o → IsSomeAnd o (λ w. IsTrue (has_place w x y)) → k ≡ y / tile_height * columns + x / tile_width
       alone k (Some w) is has = only_tile x y k w is has
       alone k None is has = absurd has
+
+-- windows that are inside one by one, for a loop over them
+pub all_inside : (width height : ℕ) (windows : List Window) → All (IsInside width height) windows → are_inside width height windows ≡ true
+all_inside width height [] each = refl
+all_inside width height (w ∷ windows) each =
+    let here = each 0 w (omega arith) in
+    and_from _ _ (and_from _ _ (le-leb (w.left + w.width) width here.0) (le-leb (w.top + w.height) height here.1)) (all_inside width height windows (All-tail (IsInside width height) w windows each))
 
 -- the tile of a place has its corner where the tiles of its column and of its row begin
 pub corner_of_tile : (width height tile_width tile_height x y : ℕ) → let w : Window = tile width height tile_width tile_height (x / tile_width) (y / tile_height) in

@@ -1,9 +1,9 @@
 -- The tiles of a size: the windows that cover it, cut at its right and lower edge.
-use Rattle.std.specs.Prelude.{◌≡◌, ℕ, ◌+◌, ◌-◌, ◌*◌, ◌/◌, ◌%◌, ◌<◌, Bool, IsTrue, List, map, min, slice_get}
+use Rattle.std.specs.Prelude.{◌≡◌, ℕ, ◌+◌, ◌-◌, ◌*◌, ◌/◌, ◌%◌, ◌<◌, Bool, true, ◌&&◌, IsTrue, List, [], ◌∷◌, map, min, slice_get}
 use Rattle.std.specs.Option.{IsSomeAnd}
 use Rattle.std.specs.List.{flat_map, range_with_len}
 use Rattle.image_model.specs.Grid.{covers}
-use Rattle.image_model.specs.Windows.{Window, window}
+use Rattle.image_model.specs.Windows.{Window, window, is_inside}
 
 -- how many tiles of one length begin below another
 abbrev pub tile_count : ℕ → ℕ → ℕ
@@ -23,6 +23,11 @@ tile_line width height tile_width tile_height j =
 abbrev pub tiles : ℕ → ℕ → ℕ → ℕ → List Window
 tiles width height tile_width tile_height =
     flat_map (tile_line width height tile_width tile_height) (range_with_len 0 (tile_count tile_height height))
+
+-- whether each window of a list is inside a size
+abbrev pub are_inside : ℕ → ℕ → List Window → Bool
+are_inside width height [] = true
+are_inside width height (w ∷ windows) = is_inside width height w && are_inside width height windows
 
 -- where the tile of column x begins, and likewise that of a row
 abbrev pub tile_start : ℕ → ℕ → ℕ

@@ -12,3 +12,4 @@ pub mod Eqhash
 pub mod Image
 pub mod Index
 pub mod Written
+pub mod Words

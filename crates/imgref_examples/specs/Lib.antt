@@ -1,2 +1,4 @@
+pub mod Darkened
 pub mod Frames
+pub mod Signed
 pub mod Stripes

@@ -1,14 +1,31 @@
-//! The pixels of a window, copied.
+//! The pixels of a window, copied: as an image of their own, or as a list.
 
-ghost use Rattle.std.specs.Prelude.{◌≡◌, ◌↔◌, IsSome, IfOk, IfSome};
-ghost use Rattle.image_model.specs.Grid.{grid_of};
-ghost use Rattle.image_model.specs.Layout.{Fits};
-ghost use Rattle.image_model.specs.Rows.{grid_pixels};
-ghost use Rattle.image_model.specs.Windows.{IsInside, window, window_view};
-ghost use Rattle.imgref.specs.Image.{width_of, height_of, ref_layout};
+ghost use Rattle.std.specs.Prelude.{◌≡◌, ◌↔◌, ◌*◌, max, length, IsSome, IfOk, IfSome};
+ghost use Rattle.imgref.specs.Words.{Fits, IsInside, grid_of, grid_pixels, window, window_view, width_of, height_of, stride_of, ref_layout, vec_layout};
 
-use imgref::ImgRef;
+use imgref::{ImgRef, ImgVec};
 use std::alloc::{AllocError, Global};
+
+/// The pixels of a window in an image of their own, with no padding.
+pub fn crop_packed(
+    alloc: Global,
+    image: ImgRef<'_, u8>,
+    left: usize,
+    top: usize,
+    width: usize,
+    height: usize,
+) -> Result<ImgVec<u8>, AllocError>
+    requires fits { Fits (ref_layout image) }
+    requires inside { IsInside (width_of image) (height_of image) (window left top width height) }
+    ensures grid { IfOk result (λ copy. grid_of (vec_layout copy) ≡ window_view (grid_of (ref_layout image.entry)) (window left top width height)) }
+    ensures stride { IfOk result (λ copy. stride_of copy ≡ max width 1) }
+    ensures packed { IfOk result (λ copy. length (vec_layout copy).cells ≡ width * height) }
+{
+    let cells = vec![in alloc; 0u8; width * height]?;
+    let mut copy = ImgVec::new_stride(cells, width, height, width.max(1));
+    copy.copy_from(image.sub_image(left, top, width, height));
+    Ok(copy)
+}
 
 /// The pixels of a window, row by row; `None` where the window isn't inside the image.
 pub fn crop_copy(

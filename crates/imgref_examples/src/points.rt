@@ -1,10 +1,7 @@
 //! Filters that change each pixel by itself.
 
 ghost use Rattle.std.specs.Prelude.{◌≡◌, ◌-◌, nat_lt, if◌then◌else◌};
-ghost use Rattle.image_model.specs.Layout.{Fits, SameOutside};
-ghost use Rattle.image_model.specs.Grid.{grid_of};
-ghost use Rattle.image_model.specs.Mapped.{mapped};
-ghost use Rattle.imgref.specs.Image.{vec_layout};
+ghost use Rattle.imgref.specs.Words.{Fits, SameOutside, grid_of, mapped, vec_layout};
 
 use imgref::ImgVec;
 

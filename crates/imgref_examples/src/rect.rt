@@ -1,9 +1,7 @@
 //! A rectangle that is cut at the image's edge.
 
 ghost use Rattle.std.specs.Prelude.{◌≡◌};
-ghost use Rattle.image_model.specs.Grid.{grid_of, patch, uniform};
-ghost use Rattle.image_model.specs.Layout.{Fits, SameOutside};
-ghost use Rattle.imgref.specs.Image.{vec_layout};
+ghost use Rattle.imgref.specs.Words.{Fits, SameOutside, grid_of, patch, uniform, vec_layout};
 
 use imgref::ImgVec;
 

@@ -1,10 +1,7 @@
 //! Sums of the pixels.
 
-ghost use Rattle.std.specs.Prelude.{◌≡◌, ◌%◌, ◌*◌, ◌^◌, ◌<◌, sum};
-ghost use Rattle.image_model.specs.Grid.{grid_of};
-ghost use Rattle.image_model.specs.Layout.{Fits};
-ghost use Rattle.image_model.specs.Rows.{grid_pixels};
-ghost use Rattle.imgref.specs.Image.{width_of, height_of, ref_layout};
+ghost use Rattle.std.specs.Prelude.{◌≡◌, ◌%◌, ◌*◌, ◌^◌, ◌<◌, ◌+◌, sum};
+ghost use Rattle.imgref.specs.Words.{Fits, grid_of, grid_pixels, width_of, height_of, ref_layout};
 
 use imgref::ImgRef;
 
@@ -16,6 +13,29 @@ pub fn checksum(image: ImgRef<'_, u8>) -> u64
     let mut sum = 0u64;
     for pixel in image.pixels() {
         sum = sum.wrapping_add(u64::from(pixel));
+    }
+    sum
+}
+
+// A sum so far with the pixels of a row.
+fn with_row(before: u64, row: &[u8]) -> u64
+    ensures { result ≡ (before + sum row.now) % 2 ^ 64 }
+{
+    let mut sum = before;
+    for pixel in row {
+        sum = sum.wrapping_add(u64::from(*pixel));
+    }
+    sum
+}
+
+/// The same sum row by row, which is faster on wide rows: a row is a slice.
+pub fn checksum_by_rows(image: ImgRef<'_, u8>) -> u64
+    requires { Fits (ref_layout image) }
+    ensures { result ≡ sum (grid_pixels (grid_of (ref_layout image.entry))) % 2 ^ 64 }
+{
+    let mut sum = 0u64;
+    for row in image.rows() {
+        sum = with_row(sum, row);
     }
     sum
 }

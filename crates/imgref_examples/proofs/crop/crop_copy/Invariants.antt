@@ -1,10 +1,7 @@
 use Rattle.std.proofs.Common.{◌≡◌, ◌++◌}
 use Rattle.std.specs.List.{flat_map}
-use Rattle.image_model.specs.Grid.{grid_of}
-use Rattle.image_model.specs.Rows.{grid_pixels}
-use Rattle.image_model.specs.Windows.{window, window_view}
-use Rattle.imgref.specs.Image.{ref_layout}
 use Rattle.imgref.specs.Rows.{refs_left}
+use Rattle.imgref.specs.Words.{grid_of, grid_pixels, window, window_view, ref_layout}
 use Rattle.imgref_examples.proofs.crop.crop_copy.Given as goal
 
 abbrev pub invariant-loop-row : goal.invariant-loop-row

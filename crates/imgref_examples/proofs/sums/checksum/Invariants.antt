@@ -1,8 +1,6 @@
 use Rattle.std.proofs.Common.{◌≡◌, ◌+◌, ◌%◌, ◌^◌, sum}
-use Rattle.image_model.specs.Grid.{grid_of}
-use Rattle.image_model.specs.Rows.{grid_pixels}
-use Rattle.imgref.specs.Image.{ref_layout}
 use Rattle.imgref.specs.Pixels.{copies_left}
+use Rattle.imgref.specs.Words.{grid_of, grid_pixels, ref_layout}
 use Rattle.imgref_examples.proofs.sums.checksum.Given as goal
 
 abbrev pub invariant-loop-pixel : goal.invariant-loop-pixel

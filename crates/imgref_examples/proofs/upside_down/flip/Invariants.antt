@@ -1,8 +1,5 @@
 use Rattle.std.proofs.Common.{◌≡◌}
-use Rattle.image_model.specs.Layout.{Fits, SameOutside}
-use Rattle.image_model.specs.Grid.{grid_of}
-use Rattle.image_model.specs.Flips.{flipped_upto}
-use Rattle.imgref.specs.Image.{vec_layout}
+use Rattle.imgref.specs.Words.{Fits, SameOutside, grid_of, flipped_upto, vec_layout}
 use Rattle.imgref_examples.proofs.upside_down.flip.Given as goal
 
 abbrev pub invariant-loop-y : goal.invariant-loop-y

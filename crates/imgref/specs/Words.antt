@@ -1,0 +1,11 @@
+-- The words of contracts over images, for one import of a caller's.
+pub use Rattle.image_model.specs.Layout.{Fits, SameOutside}
+pub use Rattle.image_model.specs.Grid.{grid_of, view, patch, uniform, one_row}
+pub use Rattle.image_model.specs.Rows.{row, grid_pixels, grid_rows}
+pub use Rattle.image_model.specs.Windows.{window, window_view, IsInside}
+pub use Rattle.image_model.specs.Tiles.{tiles, are_inside}
+pub use Rattle.image_model.specs.Mapped.{mapped}
+pub use Rattle.image_model.specs.Swaps.{rows_swapped}
+pub use Rattle.image_model.specs.Flips.{flipped, flipped_upto}
+pub use Rattle.image_shape.specs.Window.{as_window}
+pub use Rattle.imgref.specs.Image.{width_of, height_of, stride_of, vec_layout, ref_layout, mut_layout, layout_by}

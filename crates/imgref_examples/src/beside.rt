@@ -1,0 +1,20 @@
+//! What is seen at one place after writes at others.
+
+ghost use Rattle.std.specs.Prelude.{◌≡◌, ◌<◌, ◌+◌, Some};
+ghost use Rattle.imgref.specs.Words.{Fits, SameOutside, width_of, height_of, vec_layout};
+
+use imgref::ImgVec;
+
+/// A pixel is put and the row below it is filled: the pixel is got as it was put.
+#[tactic(auto, using(image_model::proofs::Patches::at_places))]
+pub fn put_above_fill(image: &mut ImgVec<u8>, x: usize, y: usize, value: u8) -> Option<u8>
+    requires fits { Fits (vec_layout image.old) }
+    requires column { x < width_of image.old }
+    requires line { y + 1 < height_of image.old }
+    ensures value { result ≡ Some value }
+    ensures outside { SameOutside (vec_layout image.old) (vec_layout image.new) }
+{
+    image.put(x, y, value);
+    image.fill_row(y + 1, 0);
+    image.get(x, y)
+}
