@@ -4,7 +4,7 @@
 
 ghost use Rattle.std.specs.Prelude.{◌≡◌, ◌≤◌, length};
 
-use imgref::{Img, ImgRef};
+use imgref::{Img, ImgRef, ImgRefMut};
 
 /// The first pixel of the lower row of two.
 pub fn start_of_last_row(cells: &[u8]) -> u8
@@ -20,6 +20,14 @@ pub fn clear_start_of_last_row(cells: &mut [u8])
 {
     let mut image = Img::new(cells, 2, 2);
     image.row_mut(1)[0] = 0;
+}
+
+/// The lower two rows of three change places.
+pub fn exchange_last_rows(cells: &mut [u8])
+    requires { 6 ≤ length cells.old }
+{
+    let mut image = Img::new(cells, 2, 3);
+    image.swap_rows(1, 2);
 }
 
 /// The last cell of the buffer, by its place: one past the only pixel.
@@ -61,6 +69,14 @@ pub fn pixels_if_it_fits(image: ImgRef<'_, u8>) -> usize {
     } else {
         0
     }
+}
+
+/// Halves every pixel of an image that may not fit: none then.
+pub fn halve_if_it_fits(image: &mut ImgRefMut<'_, u8>) {
+    if !image.is_valid() {
+        return;
+    }
+    image.map_pixels(|p| p / 2);
 }
 
 /// An image of no height, of the least width that needs no stride of its own.

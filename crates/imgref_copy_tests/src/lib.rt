@@ -1,4 +1,4 @@
-//! The tests of `imgref` for copies, moves, equality, whole buffers, and memory that runs out.
+//! The tests of `imgref` for copies, moves, rows that change places, equality, whole buffers, and memory that runs out.
 #![tactic(auto)]
 
 #[cfg(test)]
@@ -11,5 +11,7 @@ mod copies;
 mod equality;
 #[cfg(test)]
 mod memory;
+#[cfg(test)]
+mod swaps;
 #[cfg(test)]
 mod whole_buffers;

@@ -61,6 +61,9 @@ fn check_rows_of_width_zero(rt: &impl Abort, lent: &mut ImgRefMut<'_, u8>, y: us
     );
     assert!(rt; lent.is_valid() && y < lent.height());
     lent.fill_row(y, 0);
+    lent.swap_rows(y, 0);
+    lent.swap_rows(0, y);
+    lent.map_pixels(|_| 0);
     lent.fill(0);
 }
 

@@ -73,6 +73,8 @@ fn lent_pixels_are_written(rt: HostRuntime) -> Result<(), Fail> {
     assert!(rt; lent.is_valid() && lent.has_window(1, 1, 2, 1));
     lent.fill_window(1, 1, 2, 1, ());
     lent.move_window(1, 1, 0, 0, 2, 1);
+    lent.swap_rows(0, 1);
+    lent.map_pixels(|unit| unit);
     assert!(rt; lent.is_valid() && lent.get(2, 1) == Some(()) && lent.get(3, 1) == None);
     assert!(rt; lent.same_pixels(ImgRef::new_stride(UNITS.as_slice(), 3, 2, 4)));
     fill_pixels(cells.as_mut_slice(), Shape::new(3, 2, 4), ());

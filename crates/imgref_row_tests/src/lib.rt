@@ -1,6 +1,9 @@
-//! The tests of the rows and pixels of `imgref`, read and written, by number and by iterators.
+//! The tests of the rows and pixels of `imgref`, read and written, by number, by iterators and by
+//! closures.
 #![tactic(auto)]
 
+#[cfg(test)]
+mod maps;
 #[cfg(test)]
 mod pixel_writes;
 #[cfg(test)]
