@@ -1,14 +1,15 @@
 -- The edit that words name.
-use Rattle.std.specs.Prelude.{ℕ, List, Option, Some, None, if◌then◌else◌, codes}
+use Rattle.std.specs.Prelude.{ℕ, List, [], ◌∷◌, ◌++◌, Option, Some, None, if◌then◌else◌, codes}
 use Rattle.std.specs.Option.{option_map}
 use Rattle.std.specs.Str.{bytes_eq}
 use Rattle.image_shape.specs.declared.window.Window.{Window}
+use Rattle.image_planes.specs.declared.change.Step.{Step}
 use Rattle.image_planes.specs.declared.change.Change.{Change}
 use Rattle.image_planes.specs.declared.change.Change.TheVariants.{Fill, Mosaic, Move}
 use Rattle.frame_formats.specs.declared.framing.Framing.{Framing}
-use Rattle.frame_formats.specs.declared.framing.Framing.TheVariants.{Pad}
+use Rattle.frame_formats.specs.declared.framing.Framing.TheVariants.{Crop, Pad}
 use Rattle.text_model.specs.Parts.{parts_of}
-use Rattle.text_model.specs.Reading.{◌>>=◌, number_at, pixel_of, is_nil}
+use Rattle.text_model.specs.Reading.{◌>>=◌, number_at, pixel_of, window_of, is_nil}
 
 -- two numbers, and no part more
 unfoldable pub pair_in : List (List ℕ) → Option (ℕ × ℕ)
@@ -31,3 +32,72 @@ change_of word window last =
 -- a border by its sides and what stands behind them
 unfoldable pub pad_of : Window → List ℕ → Option Framing
 pad_of sides last = option_map (λ value. Pad sides.left sides.top sides.width sides.height value) (pixel_of last)
+
+-- the number behind an empty part
+abbrev pub behind_gap : List (List ℕ) → Option (ℕ × List (List ℕ))
+behind_gap [] = None
+behind_gap (part ∷ parts) = if is_nil part then number_at parts else None
+
+-- two numbers with two dots between them, and no part more
+unfoldable pub span_in : List (List ℕ) → Option (ℕ × ℕ)
+span_in parts = do
+  first ← number_at parts
+  end ← behind_gap first.1
+  if is_nil end.1 then Some (first.0, end.0) else None
+
+-- the range of frames that a word names: the first, and the first behind them
+abbrev pub span_of : List ℕ → Option (ℕ × ℕ)
+span_of word = span_in (parts_of 46 word)
+
+-- ---- the edit at the front of words
+
+-- a border by its sides and the words behind them
+abbrev pub pad_at : Window → List (List ℕ) → Option Framing
+pad_at sides [] = None
+pad_at sides (last ∷ words) = pad_of sides last
+
+-- what becomes of the size, by its word, its four numbers and the words behind them, and how many words there are
+abbrev pub framing_by : List ℕ → Window → List (List ℕ) → Option (Framing × ℕ)
+framing_by word numbers words =
+    if bytes_eq word (codes "crop") then Some (Crop numbers, 2)
+    else if bytes_eq word (codes "pad") then option_map (λ framing. (framing, 3)) (pad_at numbers words)
+    else None
+
+unfoldable pub framing_at : List (List ℕ) → Option (Framing × ℕ)
+framing_at [] = None
+framing_at (word ∷ []) = None
+framing_at (word ∷ (numbers ∷ words)) = window_of numbers >>= λ window. framing_by word window words
+
+-- a change of the frames of a range, by its word, its window and what stands behind it
+unfoldable pub step_at : ℕ → ℕ → List (List ℕ) → Option Step
+step_at first end [] = None
+step_at first end (word ∷ []) = None
+step_at first end (word ∷ (numbers ∷ [])) = None
+step_at first end (word ∷ (numbers ∷ (last ∷ words))) = window_of numbers >>= λ window. option_map (λ change. record { first = first; end = end; change = change }) (change_of word window last)
+
+-- the same with the range before it, and how many words there are: with no range it is a change of all frames
+abbrev pub ranged_by : Option (ℕ × ℕ) → List ℕ → List (List ℕ) → Option (Step × ℕ)
+ranged_by (Some span) front words = option_map (λ step. (step, 4)) (step_at span.0 span.1 words)
+ranged_by None front words = option_map (λ step. (step, 3)) (step_at 0 18446744073709551615 (front ∷ words))
+
+unfoldable pub ranged_at : List (List ℕ) → Option (Step × ℕ)
+ranged_at [] = None
+ranged_at (front ∷ words) = ranged_by (span_of front) front words
+
+-- an edit: a step or none, what becomes of the size, and how many words it has
+pub record Named : Type 0 where
+  pub steps : List Step
+  pub framing : Option Framing
+  pub count : ℕ
+
+abbrev pub named : Option (Framing × ℕ) → Option (Step × ℕ) → Option Named
+named (Some f) s = Some (record { steps = []; framing = Some f.0; count = f.1 })
+named None s = option_map (λ r. record { steps = r.0 ∷ []; framing = None; count = r.1 }) s
+
+-- the edit at the front of words
+abbrev pub edit_at : List (List ℕ) → Option Named
+edit_at words = named (framing_at words) (ranged_at words)
+
+-- steps with those of an edit behind them, what becomes of the size, and how many words the edit has
+abbrev pub with_edit : List Step → Named → List Step × (Option Framing × ℕ)
+with_edit steps e = (steps ++ e.steps, (e.framing, e.count))

@@ -1,7 +1,8 @@
 //! The edits that words name.
 
-ghost use Rattle.std.specs.Prelude.{◌≡◌, ◌<◌, ◌≤◌, IfOk, length};
-ghost use Rattle.frame_formats.specs.Words.{pair_of, change_of, pad_of};
+ghost use Rattle.std.specs.Prelude.{◌≡◌, ◌<◌, ◌≤◌, ◌++◌, map, [], Some, None, IfOk, IfErr, IfSome, length};
+ghost use Rattle.std.specs.Option.{option_map};
+ghost use Rattle.frame_formats.specs.Words.{pair_of, change_of, pad_of, span_of, framing_at, step_at, ranged_at, edit_at, with_edit};
 
 use crate::framing::Framing;
 use image_planes::{Change, Step, Window};
@@ -57,14 +58,66 @@ fn read_pad(sides: Window, last: &[u8]) -> Option<Framing>
 }
 
 // The numbers of the first frame and of the first behind the last one, as in `12..80`.
-fn read_span(word: &[u8]) -> Option<(usize, usize)> {
+#[tactic(auto, unfolding(crate::specs::Words::span_in))]
+fn read_span(word: &[u8]) -> Option<(usize, usize)>
+    ensures { result ≡ span_of word.now }
+{
     let mut parts = Parts::new(word, b'.');
     let first = next(&mut parts)?;
-    if !parts.next_part()?.is_empty() {
+    let gap = parts.next_part()?;
+    if !gap.is_empty() {
         return None;
     }
     let end = next(&mut parts)?;
     parts.is_done().then_some((first, end))
+}
+
+// What becomes of the size, by the words at the front, and how many they are.
+#[tactic(auto, unfolding(crate::specs::Words::framing_at))]
+fn read_framing(words: &[&[u8]]) -> Option<(Framing, usize)>
+    ensures framing { result ≡ framing_at (map (λ w. w.now) words.now) }
+    ensures some { IfSome result (λ f. 0 < f.1) }
+    ensures there { IfSome result (λ f. f.1 ≤ length words.now) }
+{
+    let (word, others) = words.split_first()?;
+    let (numbers, others) = others.split_first()?;
+    let window = Window::read(numbers)?;
+    if *word == b"crop".as_slice() {
+        Some((Framing::Crop(window), 2))
+    } else if *word == b"pad".as_slice() {
+        let (last, _) = others.split_first()?;
+        Some((read_pad(window, last)?, 3))
+    } else {
+        None
+    }
+}
+
+// A change of the frames of a range, by the words at the front.
+#[tactic(auto, unfolding(crate::specs::Words::step_at))]
+fn read_step(first: u64, end: u64, words: &[&[u8]]) -> Option<Step>
+    ensures step { result ≡ step_at first end (map (λ w. w.now) words.now) }
+    ensures there { IfSome result (λ _. 3 ≤ length words.now) }
+{
+    let (word, others) = words.split_first()?;
+    let (numbers, others) = others.split_first()?;
+    let (last, _) = others.split_first()?;
+    let window = Window::read(numbers)?;
+    let change = read_change(word, window, last)?;
+    Some(Step { first, end, change })
+}
+
+// The same with a range at the front or none, and how many words there are.
+#[tactic(auto, unfolding(crate::specs::Words::ranged_at))]
+fn read_ranged(words: &[&[u8]]) -> Option<(Step, usize)>
+    ensures step { result ≡ ranged_at (map (λ w. w.now) words.now) }
+    ensures some { IfSome result (λ s. 0 < s.1) }
+    ensures there { IfSome result (λ s. s.1 ≤ length words.now) }
+{
+    let (front, others) = words.split_first()?;
+    match read_span(front) {
+        Some((first, end)) => Some((read_step(first as u64, end as u64, others)?, 4)),
+        None => Some((read_step(0, u64::MAX, words)?, 3)),
+    }
 }
 
 /// What words say is done to a video: steps in their order, and then what becomes of the size.
@@ -85,7 +138,10 @@ pub enum WordsFault {
 
 impl Edits {
     /// No edit yet.
-    pub fn new(alloc: Global) -> Self {
+    pub fn new(alloc: Global) -> Self
+        ensures steps { result.steps.items ≡ [] }
+        ensures framing { result.framing ≡ None }
+    {
         Edits {
             steps: Vec::new(alloc),
             framing: None,
@@ -95,57 +151,31 @@ impl Edits {
     /// Adds the edit at the front of the words, and answers how many words it has: `crop L,T,W,H`,
     /// `pad L,T,R,B V`, `fill L,T,W,H V`, `mosaic L,T,W,H TW,TH` or `move L,T,W,H X,Y`, and before one
     /// of the last three a range of frames, as `12..80`.
+    ///
+    /// # Errors
+    ///
+    /// `NoEdit` where there is no edit at the front, or one would stand behind a crop or a pad.
     pub fn take(&mut self, words: &[&[u8]]) -> Result<usize, WordsFault>
+        ensures taken { IfOk result (λ n. option_map (with_edit self.old.steps.items) (edit_at (map (λ w. w.now) words.now)) ≡ Some (self.new.steps.items, (self.new.framing, n))) }
+        ensures last { IfOk result (λ _. self.old.framing ≡ None) }
+        ensures none { IfErr result (λ e. e ≡ WordsFault.NoEdit → self.old.framing ≡ None → edit_at (map (λ w. w.now) words.now) ≡ None) }
+        ensures same_steps { IfErr result (λ _. self.new.steps.items ≡ self.old.steps.items) }
+        ensures same_framing { IfErr result (λ _. self.new.framing ≡ self.old.framing) }
         ensures some { IfOk result (λ n. 0 < n) }
         ensures there { IfOk result (λ n. n ≤ length words.now) }
     {
-        let Some(front) = words.first() else {
-            return Err(WordsFault::NoEdit);
-        };
-        let span = read_span(front);
-        let at = if span.is_some() { 1 } else { 0 };
-        let (Some(word), Some(window)) = (words.get(at), words.get(at + 1)) else {
-            return Err(WordsFault::NoEdit);
-        };
-        let Some(window) = Window::read(window) else {
-            return Err(WordsFault::NoEdit);
-        };
         if self.framing.is_some() {
             return Err(WordsFault::NoEdit);
         }
-        if *word == b"crop".as_slice() && span.is_none() {
-            self.framing = Some(Framing::Crop(window));
-            return Ok(at + 2);
-        }
-        let Some(last) = words.get(at + 2) else {
-            return Err(WordsFault::NoEdit);
-        };
-        if *word == b"pad".as_slice() && span.is_none() {
-            let Some(framing) = read_pad(window, last) else {
-                return Err(WordsFault::NoEdit);
-            };
+        if let Some((framing, count)) = read_framing(words) {
             self.framing = Some(framing);
-            return Ok(at + 3);
+            return Ok(count);
         }
-        let Some(change) = read_change(word, window, last) else {
+        let Some((step, count)) = read_ranged(words) else {
             return Err(WordsFault::NoEdit);
         };
-        self.push_step(span, change)?;
-        Ok(at + 3)
-    }
-
-    // Adds a change of the frames of a range, or of all.
-    fn push_step(
-        &mut self,
-        span: Option<(usize, usize)>,
-        change: Change,
-    ) -> Result<(), WordsFault> {
-        let (first, end) = match span {
-            Some((first, end)) => (first as u64, end as u64),
-            None => (0, u64::MAX),
-        };
-        match self.steps.push(Step { first, end, change }) {
-            Ok(()) => Ok(()),
+        match self.steps.push(step) {
+            Ok(()) => Ok(count),
             Err(_) => Err(WordsFault::Memory),
         }
     }
