@@ -1,1 +1,2 @@
 pub mod StepsEach
+pub mod EditsEach

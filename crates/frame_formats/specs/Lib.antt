@@ -3,3 +3,4 @@ pub mod Line
 pub mod Plan
 pub mod Recipe
 pub mod Words
+pub mod Lists

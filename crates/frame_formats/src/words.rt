@@ -1,7 +1,8 @@
 //! The edits that words name.
 
-ghost use Rattle.std.specs.Prelude.{◌≡◌, ◌<◌, ◌≤◌, ◌++◌, map, [], Some, None, IfOk, IfErr, IfSome, length};
+ghost use Rattle.std.specs.Prelude.{◌≡◌, ◌<◌, ◌≤◌, ◌++◌, map, [], Some, None, IfOk, IfErr, OnOk, IfSome, length};
 ghost use Rattle.std.specs.Option.{option_map};
+ghost use Rattle.frame_formats.specs.Lists.{Adds, AddsNone};
 ghost use Rattle.frame_formats.specs.Words.{pair_of, change_of, pad_of, span_of, framing_at, step_at, ranged_at, edit_at, with_edit};
 
 use crate::framing::Framing;
@@ -178,5 +179,24 @@ impl Edits {
             Ok(()) => Ok(count),
             Err(_) => Err(WordsFault::Memory),
         }
+    }
+
+    /// Adds all edits that the words are, one behind the other.
+    ///
+    /// # Errors
+    ///
+    /// `NoEdit` where the words are no edits, or one would stand behind a crop or a pad.
+    pub fn take_all(&mut self, words: &[&[u8]]) -> Result<(), WordsFault>
+        ensures adds { OnOk result (Adds (map (λ w. w.now) words.now) self.old self.new) }
+        ensures none { IfErr result (λ e. e ≡ WordsFault.NoEdit → AddsNone (map (λ w. w.now) words.now) self.old) }
+    {
+        let mut at = 0;
+        while at < words.len() {
+            match self.take(&words[at..]) {
+                Ok(count) => at += count,
+                Err(fault) => return Err(fault),
+            }
+        }
+        Ok(())
     }
 }

@@ -26,15 +26,6 @@ pub(crate) fn words_of(rt: &HostRuntime) -> Result<Vec<String>, WordsFault> {
     }
 }
 
-// Adds all edits that the words are.
-fn take_all(edits: &mut Edits, words: &[&[u8]]) -> Result<(), WordsFault> {
-    let mut at = 0;
-    while at < words.len() {
-        at += edits.take(&words[at..])?;
-    }
-    Ok(())
-}
-
 // Adds the one edit that a line is, with a space between two words. An empty line is none.
 fn take_line(alloc: Global, edits: &mut Edits, line: &[u8]) -> Result<(), WordsFault> {
     if line.is_empty() {
@@ -84,7 +75,7 @@ pub(crate) fn edits_of(rt: &HostRuntime, words: &[String]) -> Result<Edits, Word
         return Err(WordsFault::NoEdit);
     }
     let mut edits = Edits::new(alloc);
-    take_all(&mut edits, &bytes[1..])?;
+    edits.take_all(&bytes[1..])?;
     Ok(edits)
 }
 
