@@ -7,3 +7,4 @@ pub mod ScriptLines
 pub mod ScriptGood
 pub mod OutputImages
 pub mod ProgramWrites
+pub mod Digits

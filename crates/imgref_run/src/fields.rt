@@ -11,11 +11,16 @@ use imgref_replay::{Place, Window};
 use std::alloc::Global;
 use texts::{Field, Parts, next};
 
-/// The values that all parts that are left are the texts of.
-pub(crate) fn each<T: Field>(alloc: Global, parts: &mut Parts<'_>) -> Result<Vec<T>, LineFault>
+/// The values that all parts that are left are the texts of. There is room for this many from the
+/// start.
+pub(crate) fn each<T: Field>(
+    alloc: Global,
+    parts: &mut Parts<'_>,
+    room: usize,
+) -> Result<Vec<T>, LineFault>
     ensures { Gives (λ values. values.items) result (each_of T.reading (parts_left parts.old)) }
 {
-    let mut values = Vec::new(alloc);
+    let mut values = Vec::with_capacity(alloc, room)?;
     while let Some(part) = parts.next_part() {
         let Some(value) = T::read(part) else {
             return Err(LineFault::Bad);
@@ -33,7 +38,9 @@ fn path(alloc: Global, field: &[u8]) -> Result<Vec<Window>, LineFault>
     if field == b"-".as_slice() {
         return Ok(Vec::new(alloc));
     }
-    each(alloc, &mut Parts::new(field, b'/'))
+    // A path is kept as long as its command: it takes the room of its windows and no more.
+    let slashes = field.iter().filter(|byte| **byte == b'/').count();
+    each(alloc, &mut Parts::new(field, b'/'), slashes + 1)
 }
 
 /// The path that the next field is the text of.

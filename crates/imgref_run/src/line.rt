@@ -30,7 +30,7 @@ fn read_image(alloc: Global, fields: &mut Parts<'_>) -> Result<ImgVec<u8>, LineF
     let width = next(fields).ok_or(LineFault::Bad)?;
     let height = next(fields).ok_or(LineFault::Bad)?;
     let stride = next(fields).ok_or(LineFault::Bad)?;
-    let cells = each(alloc, fields)?;
+    let cells = each(alloc, fields, 0)?;
     let greatest = u32::MAX as usize;
     if width > greatest || height > greatest || stride < 1 || stride < width {
         return Err(LineFault::Bad);

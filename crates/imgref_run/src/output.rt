@@ -1,6 +1,6 @@
 //! The output of a run: the text of replies and images, written whole.
 
-ghost use Rattle.std.specs.Prelude.{◌≡◌, ◌<◌, ◌+◌, ◌∷◌, ◌++◌, [], map, All, OnOk, OnErr, IfOk, IfErr, string_bytes};
+ghost use Rattle.std.specs.Prelude.{◌≡◌, ◌<◌, ◌+◌, ◌∷◌, ◌++◌, ◌%◌, [], map, All, OnOk, OnErr, IfOk, IfErr, codes};
 ghost use Rattle.std.specs.List.{flat_map};
 ghost use Rattle.std.specs.Fmt.{decimal};
 ghost use Rattle.std.specs.Io.KnownBytes.{Appends};
@@ -9,7 +9,7 @@ ghost use Rattle.imgref.specs.Image.{vec_layout};
 ghost use Rattle.devices.specs.Device.{device_of, failures_of};
 ghost use Rattle.imgref_run.specs.Fault.{writer_failures};
 ghost use Rattle.text_model.specs.Fields.{IsPixel};
-ghost use Rattle.imgref_run.specs.Line.{image_text, IsImage};
+ghost use Rattle.imgref_run.specs.Line.{line_of, image_text, IsImage};
 ghost use Rattle.devices.specs.Whole.{AppendsBeginning};
 ghost use Rattle.imgref_run.specs.Output.{refusal_number, reply_text, ended_line, output_text};
 
@@ -18,7 +18,6 @@ use devices::Counted;
 use imgref::ImgVec;
 use imgref_replay::{Refusal, Reply};
 use std::alloc::{AllocError, Global};
-use std::fmt::Write as _;
 use std::io::Write;
 
 fn number_of(refusal: Refusal) -> u8
@@ -33,39 +32,102 @@ fn number_of(refusal: Refusal) -> u8
     }
 }
 
-fn push_reply(text: &mut String, reply: Reply<u8>) -> Result<(), AllocError>
-    ensures { OnOk result (string_bytes text.new ≡ string_bytes text.old ++ ended_line (reply_text reply)) }
+// The byte of the last digit of a number.
+fn last_digit(number: u64) -> u8
+    ensures { result ≡ 48 + number % 10 }
 {
-    match reply {
-        Reply::Pixel(value) => writeln!(text, "pixel {value}"),
-        Reply::Counted(number) => writeln!(text, "count {number}"),
-        Reply::Truth(truth) => writeln!(text, "{truth}"),
-        Reply::Done => writeln!(text, "done"),
-        Reply::Refused(refusal) => writeln!(text, "refused {}", number_of(refusal)),
+    b'0' + (number % 10) as u8
+}
+
+// Adds a space and the text of a pixel. It has at most three digits: one write of them all is
+// cheaper than a write for each.
+#[tactic(auto, using(crate::proofs::Digits::digits))]
+fn push_pixel(text: &mut Vec<u8>, pixel: u8) -> Result<(), AllocError>
+    ensures text { OnOk result (text.new.items ≡ text.old.items ++ 32 ∷ decimal pixel) }
+    ensures pixel { IsPixel pixel }
+{
+    let number = pixel as u64;
+    let (ones, tens) = (last_digit(number), last_digit(number / 10));
+    if number < 10 {
+        text.extend_from_slice(&[b' ', ones])
+    } else if number < 100 {
+        text.extend_from_slice(&[b' ', tens, ones])
+    } else {
+        text.extend_from_slice(&[b' ', last_digit(number / 10 / 10), tens, ones])
     }
 }
 
-fn push_cells(text: &mut String, cells: &[u8]) -> Result<(), AllocError>
-    ensures text { OnOk result (string_bytes text.new ≡ string_bytes text.old ++ flat_map (λ cell. 32 ∷ decimal cell) cells.now) }
+// Adds the text of a number.
+#[tactic(auto, using(crate::proofs::Digits::one_digit, crate::proofs::Digits::last_digit))]
+fn push_number(text: &mut Vec<u8>, number: u64) -> Result<(), AllocError>
+    ensures { OnOk result (text.new.items ≡ text.old.items ++ decimal number) }
+{
+    if number < 10 {
+        return text.extend_from_slice(&[last_digit(number)]);
+    }
+    push_number(text, number / 10)?;
+    text.extend_from_slice(&[last_digit(number)])?;
+    Ok(())
+}
+
+fn push_reply(text: &mut Vec<u8>, reply: Reply<u8>) -> Result<(), AllocError>
+    ensures { OnOk result (text.new.items ≡ text.old.items ++ ended_line (reply_text reply)) }
+{
+    match reply {
+        Reply::Pixel(value) => {
+            text.extend_from_slice(b"pixel")?;
+            push_pixel(text, value)?;
+        }
+        Reply::Counted(number) => {
+            text.extend_from_slice(b"count ")?;
+            push_number(text, number as u64)?;
+        }
+        Reply::Truth(true) => text.extend_from_slice(b"true")?,
+        Reply::Truth(false) => text.extend_from_slice(b"false")?,
+        Reply::Done => text.extend_from_slice(b"done")?,
+        Reply::Refused(refusal) => {
+            text.extend_from_slice(b"refused")?;
+            push_pixel(text, number_of(refusal))?;
+        }
+    }
+    text.extend_from_slice(b"\n")
+}
+
+fn push_cells(text: &mut Vec<u8>, cells: &[u8]) -> Result<(), AllocError>
+    ensures text { OnOk result (text.new.items ≡ text.old.items ++ flat_map (λ cell. 32 ∷ decimal cell) cells.now) }
     ensures pixels { OnOk result (All IsPixel cells.now) }
 {
     for cell in cells {
-        write!(text, " {cell}")?;
+        push_pixel(text, *cell)?;
     }
     Ok(())
 }
 
-fn push_image(text: &mut String, image: &ImgVec<u8>) -> Result<(), AllocError>
+// Adds what the line of an image begins with.
+fn push_sizes(
+    text: &mut Vec<u8>,
+    width: usize,
+    height: usize,
+    stride: usize,
+) -> Result<(), AllocError>
+    ensures { OnOk result (text.new.items ≡ text.old.items ++ line_of (codes "image" ∷ decimal width ∷ decimal height ∷ decimal stride ∷ [])) }
+{
+    text.extend_from_slice(b"image ")?;
+    push_number(text, width as u64)?;
+    text.extend_from_slice(b" ")?;
+    push_number(text, height as u64)?;
+    text.extend_from_slice(b" ")?;
+    push_number(text, stride as u64)
+}
+
+fn push_image(text: &mut Vec<u8>, image: &ImgVec<u8>) -> Result<(), AllocError>
     requires { Fits (vec_layout image.now) }
-    ensures text { OnOk result (string_bytes text.new ≡ string_bytes text.old ++ ended_line (image_text (vec_layout image.now))) }
+    ensures text { OnOk result (text.new.items ≡ text.old.items ++ ended_line (image_text (vec_layout image.now))) }
     ensures good { OnOk result (IsImage (vec_layout image.now)) }
 {
-    let width = image.width();
-    let height = image.height();
-    let stride = image.stride();
-    write!(text, "image {width} {height} {stride}")?;
+    push_sizes(text, image.width(), image.height(), image.stride())?;
     push_cells(text, image.buf())?;
-    text.push_str("\n")?;
+    text.extend_from_slice(b"\n")?;
     Ok(())
 }
 
@@ -75,12 +137,12 @@ pub(crate) fn output(
     alloc: Global,
     replies: &[Reply<u8>],
     images: &[ImgVec<u8>],
-) -> Result<String, AllocError>
+) -> Result<Vec<u8>, AllocError>
     requires { All Fits (map vec_layout images.now) }
-    ensures text { IfOk result (λ text. string_bytes text ≡ output_text replies.now (map vec_layout images.now)) }
+    ensures text { IfOk result (λ text. text.items ≡ output_text replies.now (map vec_layout images.now)) }
     ensures good { OnOk result (All IsImage (map vec_layout images.now)) }
 {
-    let mut text = String::new(alloc);
+    let mut text = Vec::new(alloc);
     for reply in replies {
         push_reply(&mut text, *reply)?;
     }

@@ -1,6 +1,6 @@
 //! The program on any reader and writer: a script in, its output out.
 
-ghost use Rattle.std.specs.Prelude.{◌≡◌, ◌<◌, ◌+◌, IfOk, IfErr, string_bytes};
+ghost use Rattle.std.specs.Prelude.{◌≡◌, ◌<◌, ◌+◌, IfOk, IfErr};
 ghost use Rattle.devices.specs.Device.{device_of, failures_of};
 ghost use Rattle.imgref_run.specs.Fault.{reader_failures, writer_failures, ExplainsBad};
 ghost use Rattle.imgref_run.specs.Line.{EachTextHasOneValue};
@@ -17,11 +17,13 @@ use std::alloc::Global;
 use std::io::{Read, Write};
 
 // The output of a script.
-fn answer(alloc: Global, input: &[u8]) -> Result<String, RunFault>
-    ensures answer { IfOk result (λ text. IsOutputOf input.now (string_bytes text)) }
-    ensures fault { IfErr result (ExplainsBad (lines_of input.now)) }
+fn answer(alloc: Global, input: Vec<u8>) -> Result<Vec<u8>, RunFault>
+    ensures answer { IfOk result (λ text. IsOutputOf input.items text.items) }
+    ensures fault { IfErr result (ExplainsBad (lines_of input.items)) }
 {
-    let mut script = read_script(alloc, input)?;
+    let mut script = read_script(alloc, &input)?;
+    // The commands hold all that is needed of it, and take as much room.
+    drop(input);
     let replies = replay(alloc, &mut script.images, &script.commands)?;
     Ok(output(alloc, &replies, &script.images)?)
 }
@@ -49,6 +51,6 @@ pub fn run<R: Read, W: Write>(
     ensures one_value { EachTextHasOneValue }
 {
     let input = read_all(alloc, reader)?;
-    let text = answer(alloc, &input)?;
-    write_all(writer, text.as_bytes())
+    let text = answer(alloc, input)?;
+    write_all(writer, &text)
 }

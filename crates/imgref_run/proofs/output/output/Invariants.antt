@@ -1,5 +1,5 @@
 use Rattle.std.proofs.Common.{◌≡◌, ◌++◌, map, take}
-use Rattle.std.specs.Prelude.{All, string_bytes}
+use Rattle.std.specs.Prelude.{All}
 use Rattle.std.specs.List.{flat_map}
 use Rattle.imgref.specs.Image.{vec_layout}
 use Rattle.imgref_run.specs.Line.{image_text, IsImage}
@@ -7,10 +7,10 @@ use Rattle.imgref_run.specs.Output.{reply_text, ended_line}
 use Rattle.imgref_run.proofs.output.output.Given as goal
 
 abbrev pub invariant-loop-reply : goal.invariant-loop-reply
-invariant-loop-reply l = string_bytes l.text ≡ flat_map (λ r. ended_line (reply_text r)) (take l.reply-index l.replies)
+invariant-loop-reply l = l.text.items ≡ flat_map (λ r. ended_line (reply_text r)) (take l.reply-index l.replies)
 
 abbrev pub invariant-loop-image : goal.invariant-loop-image
 invariant-loop-image l = record {
-  text : string_bytes l.text ≡ flat_map (λ r. ended_line (reply_text r)) l.fn.replies ++ flat_map (λ i. ended_line (image_text i)) (map vec_layout (take l.image-index l.images));
+  text : l.text.items ≡ flat_map (λ r. ended_line (reply_text r)) l.fn.replies ++ flat_map (λ i. ended_line (image_text i)) (map vec_layout (take l.image-index l.images));
   good : All IsImage (map vec_layout (take l.image-index l.images));
 }

@@ -1,5 +1,4 @@
-use Rattle.std.proofs.Common.{◌≡◌, ◌++◌, rules, arith}
-use Rattle.std.specs.Prelude.{string_bytes}
+use Rattle.std.proofs.Common.{◌≡◌, ◌++◌, arith}
 use Rattle.std.proofs.lemmas.List.Elements.{recursion_from_All}
 use Rattle.imgref.specs.Image.{vec_layout}
 use Rattle.text_model.specs.Fields.{IsPixel}
@@ -10,8 +9,8 @@ use Rattle.imgref_run.proofs.output.push_image.Goals as goal
 pub returns-clause-text : goal.returns-clause-text
 returns-clause-text c =
     let l = vec_layout c.args.image.now in
-    let sizes : string_bytes c.write.new.self ≡ string_bytes c.args.text.now ++ line_of (sizes_fields l) = search rules in
-    pushed_image _ _ _ _ _ _ _ (image_text_is l) sizes (rw (c.deref.ensures.value, c.buf.ensures) at c.in_ok-push_cells.ensures.text) c.in_ok-push_str.ensures.bytes
+    let sizes : c.push_sizes.new.text.items ≡ c.args.text.now.items ++ line_of (sizes_fields l) = rw (c.width.ensures.value, c.height.ensures.value, c.stride.ensures.value) at c.in_ok-push_sizes.ensures in
+    pushed_image _ _ _ _ _ _ _ (image_text_is l) sizes (rw (c.deref.ensures.value, c.buf.ensures) at c.in_ok-push_cells.ensures.text) c.in_ok-extend_from_slice.ensures.items
 
 pub returns-clause-good : goal.returns-clause-good
 returns-clause-good c = record {

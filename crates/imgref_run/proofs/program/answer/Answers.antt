@@ -11,21 +11,21 @@ replay-requires c = rw c.deref_mut.ensures.value (All-fit (images_of c.in_ok-scr
 
 pub output-requires : goal.output-requires
 output-requires c =
-    let same : c.deref-3.result.now ≡ c.replay.new.images = grind (arith, common_steps) in
+    let same : c.deref-4.result.now ≡ c.replay.new.images = grind (arith, common_steps) in
     rw same c.in_ok-replies.ensures.run.all_fit
 
 pub returns-clause-answer : goal.returns-clause-answer
 returns-clause-answer c =
     let old = c.in_ok-script.script in
-    let same : c.deref-3.result.now ≡ c.replay.new.images = grind (arith, common_steps) in
+    let same : c.deref-4.result.now ≡ c.replay.new.images = grind (arith, common_steps) in
     record {
       images = images_of old;
       commands = old.commands.items;
-      script = c.in_ok-script.ensures.script;
-      good = c.in_ok-script.ensures.good;
+      script = rw c.deref.ensures.value at c.in_ok-script.ensures.script;
+      good = rw c.deref.ensures.value at c.in_ok-script.ensures.good;
       layouts = map vec_layout c.replay.new.images;
       replies = c.in_ok-replies.replies.items;
-      run = rw (c.deref_mut.ensures.value, c.deref.ensures.value) at c.in_ok-replies.ensures.run;
-      output = rw (c.deref-2.ensures.value, same) at c.in_ok-output.ensures.text;
+      run = rw (c.deref_mut.ensures.value, c.deref-2.ensures.value) at c.in_ok-replies.ensures.run;
+      output = rw (c.deref-3.ensures.value, same) at c.in_ok-output.ensures.text;
       again = own_script (map vec_layout c.replay.new.images) (rw same at c.in_ok-output.ensures.good);
     }
