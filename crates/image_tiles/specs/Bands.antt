@@ -3,6 +3,7 @@ use Rattle.std.specs.Prelude.{◌≡◌, ℕ, ◌+◌, ◌-◌, ◌*◌, ◌==�
 use Rattle.std.specs.List.{range_with_len}
 use Rattle.std.specs.Borrow.{MutBor, GName, Fml, RattleType, ftrue, follows_both, Array}
 use Rattle.image_model.specs.Layout.{Layout, layout}
+use Rattle.image_model.specs.Rows.{row_count}
 use Rattle.image_model.specs.Tiles.{tile_count}
 use Rattle.image_model.specs.Windows.{Window, window, exact_window}
 use Rattle.imgref.specs.declared.img.Img.{Img}
@@ -27,6 +28,10 @@ abbrev pub bands : {T : Type 0} → Layout T → ℕ → List (Layout T)
 bands l band_height = map (λ j. exact_window l (band_window l.width l.height band_height j)) (range_with_len 0 (band_count l.width l.height band_height))
 
 -- ---- how bands lie in a list of cells
+
+-- all rows of a size, as bands of so many rows: without a column there is none
+abbrev pub all_lines : ℕ → ℕ → ℕ → ℕ → Lines
+all_lines width height stride band_height = record { skip = 0; rows = row_count width height; width = width; stride = stride; band_height = band_height }
 
 -- how many rows the first band has
 abbrev pub band_rows : Lines → ℕ

@@ -8,7 +8,7 @@ ghost use Rattle.image_model.specs.Rows.{row_count};
 ghost use Rattle.image_model.specs.Tiles.{EachPlaceInOne};
 ghost use Rattle.image_model.specs.Windows.{IsInside, window_view};
 ghost use Rattle.imgref.specs.Shape.{shape_width, shape_height, shape_stride};
-ghost use Rattle.imgref.specs.Image.{buf_of, width_of, height_of, mut_layout};
+ghost use Rattle.imgref.specs.Image.{buf_of, width_of, height_of, stride_of, mut_layout};
 
 use crate::tiling::tiles_along;
 use imgref::{ImgRefMut, Shape};
@@ -120,7 +120,7 @@ pub struct BandsMut<'a, T> {
 impl<'a, T> BandsMut<'a, T> {
     ghost use Rattle.std.specs.Borrow.{sem};
     ghost use Rattle.std.specs.Iterator.{YieldsFirstBy};
-    ghost use Rattle.image_tiles.specs.Bands.{bands, band_windows, bands_left, name_of, cells_left, hands_on, Moves};
+    ghost use Rattle.image_tiles.specs.Bands.{bands, band_windows, bands_left, name_of, cells_left, lines_left, all_lines, hands_on, Moves};
 
     /// The bands of an image, of `band_height` rows each. An image with no pixel has none.
     ///
@@ -133,6 +133,7 @@ impl<'a, T> BandsMut<'a, T> {
         requires high { 0 < band_height }
         ensures name { name_of result ≡ (buf_of img.entry).ghost_name }
         ensures cells { cells_left result ≡ (buf_of img.entry).now }
+        ensures lines { lines_left result ≡ all_lines (width_of img.entry) (height_of img.entry) (stride_of img.entry) band_height }
         ensures bands { bands_left result ≡ bands (mut_layout img.entry) band_height }
         ensures fit { All Fits (bands_left result) }
         ensures views { map grid_of (bands_left result) ≡ map (window_view (grid_of (mut_layout img.entry))) (band_windows (width_of img.entry) (height_of img.entry) band_height) }

@@ -1,14 +1,15 @@
 -- The window that a path comes to: what is written in its cells is in the image at the path's corner.
-use Rattle.std.proofs.Common.{◌≡◌, ◌+◌, ◌≤◌, List, length, sym, ap, ◌∙◌, subst, arith}
+use Rattle.std.proofs.Common.{◌≡◌, ◌+◌, ◌≤◌, List, length, sym, ap, ◌∙◌, subst}
 use Rattle.std.specs.Prelude.{None}
 use Rattle.image_model.specs.Grid.{grid_of}
 use Rattle.image_model.specs.Layout.{Layout, Fits, SameOutside}
 use Rattle.image_model.specs.Windows.{Window, Stretch, IsInside, whole, with_stretch, first_outside, path_stretch, path_window, path_layout}
 use Rattle.image_model.proofs.Paths.{path_has, path_fits, path_grid, path_inside}
-use Rattle.image_model.proofs.Stretches.{length-stretch_cells, length-with_stretch, with_whole}
+use Rattle.image_model.proofs.Stretches.{length-stretch_cells, length-with_stretch}
 use Rattle.image_model.proofs.Windows.{HasWindow, stretch_window, handed_on, handed_on_grid, handed_on_outside}
 use Rattle.imgref.specs.declared.img.Img.{Img}
-use Rattle.imgref.specs.Image.{buf_of, width_of, height_of, stride_of, layout_by}
+use Rattle.imgref.specs.Image.{width_of, height_of, stride_of, layout_by}
+use Rattle.part_callers.proofs.Whole.{all_replaced}
 use Rattle.part_callers.specs.Paths.{with_path, IsNested}
 
 module _ {C T : Type 0} (cells : C → List T) (with_cells : C → Stretch → List T → C)
@@ -40,10 +41,7 @@ module _ {C T : Type 0} (cells : C → List T) (with_cells : C → Stretch → L
     as_many = same.length_stays ∙ length-stretch_cells l.cells s has.within
 
     handed : layout_by cells (with_path cells with_cells i path left) ≡ handed_on l s left
-    handed =
-        let ys : List T = with_stretch l.cells s left in
-        let within : 0 + length l.cells ≤ length l.cells = omega arith in
-        ap (λ (items : List T). record l { cells = items }) (others_stay (buf_of i) (whole l.cells) ys within (length-with_stretch l.cells s left has.within as_many) ∙ with_whole l.cells ys)
+    handed = all_replaced cells with_cells others_stay i (with_stretch l.cells s left) (length-with_stretch l.cells s left has.within as_many)
 
   pub nested : IsNested cells with_cells i path m
   nested = record {

@@ -1,2 +1,3 @@
 pub mod Tiles
 pub mod Paths
+pub mod Bands

@@ -2,11 +2,13 @@
 //! grid what its writes leave of the image.
 #![tactic(auto)]
 
+mod bands;
 mod fills;
 mod paths;
 #[cfg(test)]
 mod tests;
 mod tiles;
 
+pub use bands::fill_first_band;
 pub use paths::{fill_through_path, put_through_path};
 pub use tiles::fill_next_tile;

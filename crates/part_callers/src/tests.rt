@@ -1,4 +1,4 @@
-use crate::{fill_next_tile, fill_through_path, put_through_path};
+use crate::{fill_first_band, fill_next_tile, fill_through_path, put_through_path};
 use image_tiles::TilesMut;
 use imgref::{ImgRefMut, ImgVec, Window};
 use imgref_replay::window_at;
@@ -54,5 +54,22 @@ fn writes_through_a_path(rt: HostRuntime) -> Result<(), Fail> {
     assert!(rt; window_at(lent.as_ref(), PATH.as_slice()).is_ok());
     fill_through_path(&mut lent, PATH.as_slice(), 0);
     assert_eq!(rt; cells, [1, 2, 0, 4, 5, 6, 0, 8, 9]);
+    Ok(())
+}
+
+#[test]
+fn a_band_is_filled(rt: HostRuntime) -> Result<(), Fail> {
+    let mut owner: ImgVec<u8> = ImgVec::new_stride(CELLS.to_vec(rt.alloc())?, 3, 2, 4);
+    assert!(rt; owner.is_valid());
+    fill_first_band(&mut owner, 1, 0);
+    assert_eq!(rt;
+        owner.into_buf().as_slice(),
+        [0, 0, 0, 4, 5, 6, 7, 8, 9].as_slice()
+    );
+    let mut cells = CELLS;
+    let mut lent: ImgRefMut<'_, u8> = ImgRefMut::new_stride(cells.as_mut_slice(), 3, 2, 4);
+    assert!(rt; lent.is_valid());
+    fill_first_band(&mut lent, 5, 0);
+    assert_eq!(rt; cells, [0, 0, 0, 4, 0, 0, 0, 8, 9]);
     Ok(())
 }
