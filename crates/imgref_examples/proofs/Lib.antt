@@ -1,1 +1,2 @@
 pub mod StripedRows
+mod Brightened

@@ -2,3 +2,4 @@ pub mod Darkened
 pub mod Frames
 pub mod Signed
 pub mod Stripes
+pub mod Brightness

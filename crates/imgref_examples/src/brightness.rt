@@ -2,7 +2,9 @@
 
 ghost use Rattle.std.specs.Prelude.{◌≡◌};
 ghost use Rattle.image_model.specs.Layout.{Fits, SameOutside};
+ghost use Rattle.image_model.specs.Grid.{grid_of};
 ghost use Rattle.imgref.specs.Image.{width_of, height_of, vec_layout};
+ghost use Rattle.imgref_examples.specs.Brightness.{brightened};
 
 use imgref::ImgVec;
 
@@ -21,10 +23,11 @@ pub fn brighten(image: &mut ImgVec<u8>, by: u8)
     }
 }
 
-/// The same place by place; the padding stays.
+/// The same place by place: every pixel is brighter, and the padding stays.
 pub fn brighten_places(image: &mut ImgVec<u8>, by: u8)
     requires { Fits (vec_layout image.old) }
-    ensures { SameOutside (vec_layout image.old) (vec_layout image.new) }
+    ensures grid { grid_of (vec_layout image.new) ≡ brightened by (grid_of (vec_layout image.old)) }
+    ensures outside { SameOutside (vec_layout image.old) (vec_layout image.new) }
 {
     for y in 0..image.height() {
         for x in 0..image.width() {
