@@ -1,5 +1,5 @@
 -- Edits that are taken from words one after the other.
-use Rattle.std.proofs.Common.{◌≡◌, ℕ, ◌+◌, ◌<◌, ◌≤◌, List, [], ◌∷◌, ◌++◌, Option, Some, None, length, map, drop, refl, sym, ap, ◌∙◌, subst, arith, append_assoc, length-drop}
+use Rattle.std.proofs.Common.{◌≡◌, ℕ, ◌<◌, List, [], ◌∷◌, ◌++◌, Option, Some, None, length, drop, refl, sym, ap, ◌∙◌, subst, arith, append_assoc}
 use Rattle.std.specs.List.{flat_map}
 use Rattle.std.specs.Option.{option_map}
 use Rattle.std.proofs.lemmas.List.{append-nil}
@@ -7,7 +7,7 @@ use Rattle.text_model.proofs.Options.{some_is, map_some}
 use Rattle.image_planes.specs.declared.change.Step.{Step}
 use Rattle.frame_formats.specs.declared.framing.Framing.{Framing}
 use Rattle.frame_formats.specs.declared.words.Edits.{Edits}
-use Rattle.frame_formats.specs.Lists.{AreEdits, Adds, AddsNone, framing_after}
+use Rattle.frame_formats.specs.Lists.{AreEdits, Adds, framing_after}
 use Rattle.frame_formats.specs.Words.{Named, edit_at, with_edit}
 
 -- what is known of edits before and after one was taken from words
