@@ -14,6 +14,7 @@ pub mod Shifts
 pub mod Alike
 pub mod Tiles
 pub mod Mapped
+pub mod MappedRows
 pub mod Swaps
 pub mod Flips
 pub mod Examples

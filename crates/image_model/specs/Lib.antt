@@ -7,5 +7,6 @@ pub mod Alike
 pub mod Kept
 pub mod Tiles
 pub mod Mapped
+pub mod MappedRows
 pub mod Swaps
 pub mod Flips

@@ -4,7 +4,8 @@ ghost use Rattle.imgref.specs.Words.{Fits, vec_layout};
 
 use crate::{
     checksum, checksum_by_rows, crop_packed, darken_lent_tiles, darken_tiles, draw_border,
-    exact_checksum, flip, greatest_in, invert, paste_at, paste_sprite, put_above_fill, threshold,
+    exact_checksum, flip, greatest_in, invert, invert_rows, paste_at, paste_sprite, put_above_fill,
+    threshold,
 };
 use imgref::{Img, ImgRef, ImgVec, Window};
 use std::alloc::{AllocError, Global};
@@ -19,6 +20,7 @@ const SPRITE: [u8; 4] = [70, 71, 72, 73];
 #[derive(Clone, Copy)]
 enum Program {
     Invert,
+    InvertRows,
     Threshold(u8),
     Flip,
     Border(Window),
@@ -44,6 +46,7 @@ fn run(program: Program, image: &mut ImgVec<u8>)
     let sprite = Img::new(SPRITE.as_slice(), 2, 2);
     match program {
         Program::Invert => invert(image),
+        Program::InvertRows => invert_rows(image),
         Program::Threshold(limit) => threshold(image, limit),
         Program::Flip => flip(image),
         Program::Border(w) => {
@@ -93,6 +96,12 @@ fn programs_leave_padding(rt: HostRuntime) -> Result<(), Fail> {
     for (program, after) in [
         (
             Program::Invert,
+            [
+                254, 253, 252, 251, 100, 250, 249, 248, 247, 101, 246, 245, 244, 5,
+            ],
+        ),
+        (
+            Program::InvertRows,
             [
                 254, 253, 252, 251, 100, 250, 249, 248, 247, 101, 246, 245, 244, 5,
             ],
