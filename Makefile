@@ -6,6 +6,7 @@
 # make frames              proves and builds the program for video: crates/imgref_frames/out/imgref_frames
 # make c                   proves and builds the library for C: out/c/libimgref.a, libimgref.so, imgref.pc
 # make install PREFIX=..   builds it, and installs it with its header
+# make bench [BENCH=..]    times the calls and the program beside plain C; BENCH: options of tools/bench.py
 #
 # SCRIPT=- takes the script from standard input.
 
@@ -13,7 +14,7 @@ SCRIPT ?= examples/first.script
 PREFIX ?= /usr/local
 export SCRIPT
 
-.PHONY: try run check test frames c install
+.PHONY: try run check test frames c install bench
 
 try:
 	@python3 tools/program.py try
@@ -35,3 +36,6 @@ c:
 
 install:
 	@python3 tools/c_library.py install "$(PREFIX)"
+
+bench:
+	@python3 tools/bench.py $(BENCH)
