@@ -1,4 +1,4 @@
-/* Times the calls of imgref.h, and those of bench/exports, beside the loops that a C programmer writes and the plainest call on as
+/* Times the calls of imgref.h, and those of bench_exports, beside the loops that a C programmer writes and the plainest call on as
  * many cells without padding: memset, memcpy, memmove or memcmp. tools/bench.py builds it, and makes the table.
  *
  *     speed ROUNDS SIDE ..

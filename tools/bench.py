@@ -3,7 +3,7 @@
 
     bench.py [--rounds N] [--sides N,..] [--pixels N] [--write]
 
-First it proves and builds what has changed: the program, the library for C, and the few exports of bench/exports. All that is
+First it proves and builds what has changed: the program, the library for C, and the crate bench_exports. All that is
 compared takes turns, and the least time of each counts. With --write the table goes into docs/PERFORMANCE.md, and the plot
 into docs/speed.svg: do that on a machine at rest. CC names the compiler (cc).
 """
@@ -21,12 +21,11 @@ import time
 
 import c_library
 from program import program_of, say
-from workspace import ROOT, room
+from workspace import ROOT
 
 OUT = ROOT / "out/bench"
 PAGE, PLOT = ROOT / "docs/PERFORMANCE.md", ROOT / "docs/speed.svg"
 BEGIN, END = "<!-- table of make bench -->", "<!-- end of the table -->"
-EXPORTS = "bench_exports"
 
 
 def command(*words, **more):
@@ -40,31 +39,14 @@ def compiler():
     return os.environ.get("CC", "cc").split()
 
 
-def exports():
-    """Proves and builds bench/exports over the proved imgref, in a room, and gives its archive."""
-    archive, kept = OUT / f"lib{EXPORTS}.a", OUT / "incremental"
-    with room("imgref") as below:
-        made = below.parent / EXPORTS
-        with open(below.parent.parent / "crates.txt", "a") as lines:
-            lines.write(f"{EXPORTS} staticlib: imgref image_model\n")
-        shutil.copytree(ROOT / "bench/exports", made)
-        if kept.is_dir():
-            shutil.copytree(kept, made / "out/incremental")
-        command("rt", "lib", cwd=made, stdout=subprocess.DEVNULL)
-        shutil.copy2(made / "out" / archive.name, archive)
-        shutil.rmtree(kept, ignore_errors=True)
-        shutil.copytree(made / "out/incremental", kept)
-    return archive
-
-
 def built():
     """Builds all that is timed."""
     OUT.mkdir(parents=True, exist_ok=True)
     command(sys.executable, ROOT / "tools/program.py", "build", "imgref_run")
     c_library.build()
-    say("The exports of the benchmark are proved and built.")
+    exports = c_library.archive_of("bench_exports")
     speed, numbers = OUT / "speed", OUT / "numbers"
-    command(*compiler(), "-O2", f"-I{ROOT / 'include'}", "-o", speed, ROOT / "bench/speed.c", exports(), ROOT / "out/c/libimgref.a")
+    command(*compiler(), "-O2", f"-I{ROOT / 'include'}", "-o", speed, ROOT / "bench/speed.c", exports, ROOT / "out/c/libimgref.a")
     command(*compiler(), "-O2", "-o", numbers, ROOT / "bench/numbers.c")
     return speed, numbers
 

@@ -18,7 +18,6 @@ from proving import Progress, prove_and_make, weights_of
 from workspace import ROOT, is_fresh, with_those_below
 
 NAME = "imgref_c"
-ARCHIVE = ROOT / "crates" / NAME / "out" / f"lib{NAME}.a"
 HEADER = ROOT / "include/imgref.h"
 OUT = ROOT / "out/c"
 # The version of the Rust crate that this is a port of, and the number that changes where a built caller has to be built again.
@@ -47,17 +46,20 @@ def compiler():
     return os.environ.get("CC", "cc").split()
 
 
-def proved():
-    """Proves the crate and those below it, and leaves its archive."""
-    names = with_those_below(NAME)
-    say(f"First the library is proved, with the {len(names) - 1} crates below it. With nothing changed it is built at once.")
+def archive_of(name):
+    """The archive of a static library, which is proved first, with the crates below it, where something has changed."""
+    archive, names = ROOT / "crates" / name / "out" / f"lib{name}.a", with_those_below(name)
+    if is_fresh(archive, name):
+        return archive
+    say(f"First {name} is proved, with the {len(names) - 1} crates below it. With nothing changed it is built at once.")
     progress = Progress(*weights_of(names))
     with shown(progress):
-        said = prove_and_make(NAME, ["rt", "lib"], progress)
+        said = prove_and_make(name, ["rt", "lib"], progress)
     if said is not None:
         raise Failure(f"{said}NOT PROVED")
     # (rt leaves an archive whose text has not changed as it was)
-    ARCHIVE.touch()
+    archive.touch()
+    return archive
 
 
 def toolchain():
@@ -66,12 +68,12 @@ def toolchain():
     return sorted(it for it in (kit / "c").glob("lib*.a"))
 
 
-def link():
-    """Links the archive into one object that shows the header's names alone, and makes both libraries of it."""
+def link(archive):
+    """Links an archive into one object that shows the header's names alone, and makes both libraries of it."""
     OUT.mkdir(parents=True, exist_ok=True)
     whole, shared, static = OUT / "imgref.o", OUT / f"libimgref.so.{ABI}", OUT / "libimgref.a"
     static.unlink(missing_ok=True)
-    command(*compiler(), "-r", "-nostdlib", "-o", whole, "-Wl,--whole-archive", ARCHIVE, "-Wl,--no-whole-archive", *toolchain())
+    command(*compiler(), "-r", "-nostdlib", "-o", whole, "-Wl,--whole-archive", archive, "-Wl,--no-whole-archive", *toolchain())
     command("objcopy", "--wildcard", f"--keep-global-symbol={EXPORTS}", whole)
     command(*compiler(), "-shared", "-o", shared, whole, f"-Wl,-soname,{shared.name}", "-Wl,-z,defs", "-Wl,-z,noexecstack", "-Wl,--gc-sections", "-Wl,-s")
     linked(OUT)
@@ -90,10 +92,9 @@ def linked(folder):
 
 def build():
     """Builds what has changed."""
-    if not is_fresh(ARCHIVE, NAME):
-        proved()
+    archive = archive_of(NAME)
     if not is_fresh(OUT / "libimgref.a", NAME):
-        link()
+        link(archive)
     say(f"{OUT.relative_to(ROOT)}/libimgref.a, libimgref.so, imgref.pc")
 
 

@@ -1,6 +1,4 @@
 //! What the benchmark times and the library for C doesn't export: calls with a closure, and swaps.
-//!
-//! It is no crate of `crates.txt`: `tools/bench.py` proves and builds it in a folder of its own.
 #![tactic(auto)]
 
 ghost use Rattle.std.specs.Prelude.{◌^◌, ◌<◌, ◌≤◌};
