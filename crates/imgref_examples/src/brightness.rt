@@ -1,10 +1,8 @@
 //! Every pixel brighter: by lent rows, by places and row by row.
 
-ghost use Rattle.std.specs.Prelude.{◌≡◌};
-ghost use Rattle.image_model.specs.Layout.{Fits, SameOutside};
-ghost use Rattle.image_model.specs.Grid.{grid_of};
-ghost use Rattle.imgref.specs.Image.{width_of, height_of, vec_layout};
-ghost use Rattle.imgref_examples.specs.Brightness.{brightened};
+ghost use Rattle.std.specs.Prelude.{◌≡◌, ◌<◌, map, length};
+ghost use Rattle.imgref.specs.Words.{Fits, SameOutside, grid_of, patch, one_row, row, width_of, height_of, vec_layout};
+ghost use Rattle.imgref_examples.specs.Brightness.{brighter, brightened};
 
 use imgref::ImgVec;
 
@@ -38,18 +36,34 @@ pub fn brighten_places(image: &mut ImgVec<u8>, by: u8)
 }
 
 // Adds `by` to every pixel of a row, up to 255.
-fn brighten_row(row: &mut [u8], by: u8) {
-    for pixel in row {
+fn brighten_row(row: &mut [u8], by: u8)
+    ensures { row.new ≡ map (brighter by) row.old }
+{
+    for pixel in row.iter_mut() {
         *pixel = pixel.saturating_add(by);
     }
 }
 
-/// The same row by row; the padding stays.
+// The same of row `y` of an image.
+fn brighten_line(image: &mut ImgVec<u8>, y: usize, by: u8)
+    requires fits { Fits (vec_layout image.old) }
+    requires below { y < height_of image.old }
+    ensures grid { grid_of (vec_layout image.new) ≡ patch (grid_of (vec_layout image.old)) 0 y (one_row (map (brighter by) (row (vec_layout image.old) y))) }
+    ensures outside { SameOutside (vec_layout image.old) (vec_layout image.new) }
+    ensures fits { Fits (vec_layout image.new) }
+    ensures long { length (row (vec_layout image.old) y) ≡ width_of image.old }
+{
+    brighten_row(image.row_mut(y), by);
+}
+
+/// The same row by row: every pixel is brighter, and the padding stays.
+#[tactic(auto, using(image_model::proofs::MappedRows::mapped_rows))]
 pub fn brighten_rows(image: &mut ImgVec<u8>, by: u8)
-    requires { Fits (vec_layout image.old) }
-    ensures { SameOutside (vec_layout image.old) (vec_layout image.new) }
+    requires fits { Fits (vec_layout image.old) }
+    ensures grid { grid_of (vec_layout image.new) ≡ brightened by (grid_of (vec_layout image.old)) }
+    ensures outside { SameOutside (vec_layout image.old) (vec_layout image.new) }
 {
     for y in 0..image.height() {
-        brighten_row(image.row_mut(y), by);
+        brighten_line(image, y, by);
     }
 }

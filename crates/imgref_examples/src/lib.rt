@@ -13,7 +13,6 @@ mod nested;
 #[cfg(test)]
 mod outcomes;
 mod paste;
-mod point_rows;
 mod points;
 mod rect;
 mod sums;
@@ -31,7 +30,6 @@ pub use drawing::{dot, put_then_get, stripes, three_by_index, three_places};
 pub use luma::{FrameError, luma_plane};
 pub use nested::greatest_in;
 pub use paste::{paste_at, paste_sprite};
-pub use point_rows::invert_rows;
 pub use points::{invert, threshold};
 pub use rect::draw_rect;
 pub use sums::{checksum, checksum_by_rows, exact_checksum};

@@ -3,8 +3,8 @@
 ghost use Rattle.imgref.specs.Words.{Fits, vec_layout};
 
 use crate::{
-    checksum, checksum_by_rows, crop_packed, darken_lent_tiles, darken_tiles, draw_border,
-    exact_checksum, flip, greatest_in, invert, invert_rows, paste_at, paste_sprite, put_above_fill,
+    brighten_rows, checksum, checksum_by_rows, crop_packed, darken_lent_tiles, darken_tiles,
+    draw_border, exact_checksum, flip, greatest_in, invert, paste_at, paste_sprite, put_above_fill,
     threshold,
 };
 use imgref::{Img, ImgRef, ImgVec, Window};
@@ -20,7 +20,7 @@ const SPRITE: [u8; 4] = [70, 71, 72, 73];
 #[derive(Clone, Copy)]
 enum Program {
     Invert,
-    InvertRows,
+    BrightenRows(u8),
     Threshold(u8),
     Flip,
     Border(Window),
@@ -46,7 +46,7 @@ fn run(program: Program, image: &mut ImgVec<u8>)
     let sprite = Img::new(SPRITE.as_slice(), 2, 2);
     match program {
         Program::Invert => invert(image),
-        Program::InvertRows => invert_rows(image),
+        Program::BrightenRows(by) => brighten_rows(image, by),
         Program::Threshold(limit) => threshold(image, limit),
         Program::Flip => flip(image),
         Program::Border(w) => {
@@ -101,10 +101,8 @@ fn programs_leave_padding(rt: HostRuntime) -> Result<(), Fail> {
             ],
         ),
         (
-            Program::InvertRows,
-            [
-                254, 253, 252, 251, 100, 250, 249, 248, 247, 101, 246, 245, 244, 5,
-            ],
+            Program::BrightenRows(10),
+            [11, 12, 13, 14, 100, 15, 16, 17, 18, 101, 19, 20, 21, 255],
         ),
         (
             Program::Threshold(4),

@@ -1,6 +1,8 @@
-use Rattle.image_model.specs.Layout.{Fits, SameOutside}
-use Rattle.imgref.specs.Image.{vec_layout}
+use Rattle.std.proofs.Common.{◌≡◌}
+use Rattle.image_model.specs.MappedRows.{mapped_upto}
+use Rattle.imgref.specs.Words.{Fits, SameOutside, grid_of, vec_layout}
+use Rattle.imgref_examples.specs.Brightness.{brighter}
 use Rattle.imgref_examples.proofs.brightness.brighten_rows.Given as goal
 
 abbrev pub invariant-loop-y : goal.invariant-loop-y
-invariant-loop-y l = Fits (vec_layout l.image) × SameOutside (vec_layout l.fn.image) (vec_layout l.image)
+invariant-loop-y l = Fits (vec_layout l.image) × SameOutside (vec_layout l.fn.image) (vec_layout l.image) × (grid_of (vec_layout l.image) ≡ mapped_upto (brighter l.fn.by) l.y (grid_of (vec_layout l.fn.image)))
