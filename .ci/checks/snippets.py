@@ -56,11 +56,12 @@ def tried(cases, name):
 
 
 def missing_files(path):
-    """What a document links to or names that isn't there. A name in capitals stands for any."""
+    """What a document links to or names that isn't there. A name in capitals stands for any, and what is below `out` is built."""
     text = path.read_text()
     yield from (it for it in LINK.findall(text) if not (path.parent / it).exists())
     for name in filter(FILE.fullmatch, SPAN.findall(text)):
-        tops = [it for it in (ROOT, ROOT / "crates") if (it / name.split("/")[0]).exists()]
+        top = name.split("/")[0]
+        tops = [it for it in (ROOT, ROOT / "crates") if top != "out" and (it / top).exists()]
         if tops and not re.search(r"\b[A-Z]{2,}\b", name) and not any((it / name).exists() or any(it.glob(f"{name}.*")) for it in tops):
             yield name
 
