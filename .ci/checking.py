@@ -6,7 +6,7 @@ import sys
 import tempfile
 
 sys.path.insert(0, str(pathlib.Path(__file__).resolve().parent.parent / "tools"))
-from workspace import ROOT, crates, is_fresh
+from workspace import ROOT, crates, is_fresh, says
 
 
 class Cases:

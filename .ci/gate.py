@@ -23,15 +23,16 @@ import tempfile
 import threading
 import time
 
-from checking import ROOT
+from checking import ROOT, crates, says
 
 # The checks. Those in `built` run what `rt ci` built, and those in `proofs` go over the proofs that the planted bugs keep.
 CHECKS = ROOT / ".ci/checks"
 # What it takes from nothing on four processors, in minutes: some of it was measured beside other work.
 MINUTES, QUICK_MINUTES = 45, 15
 COUNT = re.compile(r"(\d+) passed, (\d+) failed")
-# What is shown of a long part while it goes on.
-TOLD = re.compile(r"rt: \w+(?:: its tests are)? (?:NOT PROVED|proved)|rt: \w+: its tests (?:passed|FAILED)|rt: \w+ ran|== \w+$|rt: FAILED|.*NOT REFUSED|.*FAILED")
+# What is shown of a long part while it goes on: each proof that has ended, and what failed.
+ENDED = re.compile(r"== (\w+(?:: its tests)?)$")
+TOLD = re.compile(r"rt: .*NOT PROVED|rt: .*FAILED|.*NOT REFUSED|.*FAILED")
 LOGS = ROOT / "out"
 SAID = threading.Lock()
 
@@ -47,11 +48,12 @@ def minutes(seconds):
 
 @dataclasses.dataclass
 class Part:
-    """A part of the gate: its name, the command, where it runs, and what came of it."""
+    """A part of the gate: its name, the command, where it runs, how many proofs it tells of, and what came of it."""
 
     name: str
     command: list
     at: pathlib.Path = ROOT
+    proofs: int = 0
     counts: bool = True
     # (what runs beside `rt ci` takes what it leaves)
     nice: int = 15
@@ -63,7 +65,7 @@ class Part:
 
     def run(self):
         """Runs the part, writes what it says into a file, and shows how far it is."""
-        began, lines = time.monotonic(), []
+        began, lines, ended = time.monotonic(), [], 0
         log = LOGS / f"{self.name.replace(' ', '_')}.log"
         how = {"stdin": subprocess.DEVNULL, "stdout": subprocess.PIPE, "stderr": subprocess.STDOUT, "text": True, "errors": "replace"}
         # (a session of its own, by which its memory is counted and all of it is ended)
@@ -75,7 +77,10 @@ class Part:
             for line in self.process.stdout:
                 lines.append(line.rstrip("\n"))
                 kept.write(line)
-                if TOLD.match(line):
+                if found := ENDED.match(line):
+                    ended += 1
+                    say(f"{minutes(time.monotonic() - began)}  {self.name}: {ended} of {self.proofs}, {found[1]}")
+                elif TOLD.match(line):
                     say(f"{minutes(time.monotonic() - began)}  {self.name}: {line.strip()[:150]}")
         self.seconds = time.monotonic() - began
         self.count(lines, self.process.returncode == 0)
@@ -149,13 +154,13 @@ def copied():
 
 def quick(parts):
     """Proves and tests what has changed."""
-    parts.append(Part("rt all test", ["rt", "all", "test"], counts=False, nice=0))
+    parts.append(Part("rt all test", ["rt", "all", "test"], proofs=len(crates()), counts=False, nice=0))
     parts[0].run()
 
 
 def whole(parts, top):
     """Runs everything, and answers once all has ended."""
-    of_ci = Part("rt ci", ["rt", "ci"], top, nice=0)
+    of_ci = Part("rt ci", ["rt", "ci"], top, proofs=sum(1 + says(it, "#[test]") for it in crates()), nice=0)
     bugs = Part("planted bugs", [sys.executable, str(ROOT / ".ci/planted_bugs.py")])
     kept = [bugs, *scripts(CHECKS / "proofs")]
     beside = scripts(CHECKS)

@@ -63,6 +63,11 @@ def own_sources(name):
             yield from (pathlib.Path(at, it) for it in files if it.endswith((".rt", ".antt")))
 
 
+def says(name, word):
+    """Whether the code of a crate has a word, as `#[test]`."""
+    return any(word in it.read_text() for it in own_sources(name) if it.name.endswith(".rt"))
+
+
 def is_fresh(program, name):
     """Whether a program is there and newer than all that it is made of."""
     return program.is_file() and all(it.stat().st_mtime <= program.stat().st_mtime for it in sources(name))

@@ -19,7 +19,7 @@ import tempfile
 sys.path.insert(0, str(pathlib.Path(__file__).resolve().parents[2]))
 import frames
 import model
-from checking import ROOT, Cases, both_builds, built, crates
+from checking import ROOT, Cases, both_builds, built, crates, says
 
 REFUSES = pathlib.Path(__file__).resolve().with_name("refused_growth.c")
 SCRIPTS = sorted((ROOT / "examples").glob("*.script"))
@@ -84,10 +84,6 @@ def tests_of(program):
     """The names of the tests of a built program."""
     listed = subprocess.run([program, "--list"], check=True, capture_output=True, text=True).stdout
     return [it.removesuffix(": test") for it in listed.splitlines() if it.endswith(": test")]
-
-
-def says(crate, word):
-    return any(word in it.read_text() for it in (ROOT / "crates" / crate / "src").rglob("*.rt"))
 
 
 def main():
