@@ -55,7 +55,7 @@ class Part:
     at: pathlib.Path = ROOT
     proofs: int = 0
     counts: bool = True
-    # (what runs beside `rt ci` takes what it leaves)
+    # (`rt ci` and the planted bugs take longest: all else takes what they leave)
     nice: int = 15
     seconds: float = 0
     memory: int = 0
@@ -161,7 +161,7 @@ def quick(parts):
 def whole(parts, top):
     """Runs everything, and answers once all has ended."""
     of_ci = Part("rt ci", ["rt", "ci"], top, proofs=sum(1 + says(it, "#[test]") for it in crates()), nice=0)
-    bugs = Part("planted bugs", [sys.executable, str(ROOT / ".ci/planted_bugs.py")])
+    bugs = Part("planted bugs", [sys.executable, str(ROOT / ".ci/planted_bugs.py")], nice=0)
     kept = [bugs, *scripts(CHECKS / "proofs")]
     beside = scripts(CHECKS)
     # (these run in the copy, where `rt ci` left the programs)
