@@ -1,2 +1,3 @@
 pub mod StripedRows
-mod Brightened
+mod Blurred
+mod Swept

@@ -1,0 +1,108 @@
+-- The mean of nine pixels, and images that become blurred place by place.
+use Rattle.std.proofs.Common.{◌≡◌, ℕ, ◌+◌, ◌-◌, ◌<◌, ◌≤◌, ◌/◌, inl, inr, List, [], ◌++◌, true, Option, Some, refl, sym, ap, ◌∙◌, arith, ⊎_elim, sum}
+use Rattle.std.specs.List.{cons_option}
+use Rattle.std.specs.Prelude.{if◌then◌else◌}
+use Rattle.std.proofs.lemmas.List.{append-nil}
+use Rattle.std.proofs.lemmas.List.Sums.{sum_by-append}
+use Rattle.std.proofs.lemmas.Bool.{cond-true, cond-false, cases_Bool}
+use Rattle.std.proofs.lemmas.Bool.Decides.{nat_tests}
+use Rattle.image_model.specs.Layout.{Layout, pixel}
+use Rattle.image_model.specs.Grid.{Grid, grid_of, covers, patch, uniform, view}
+use Rattle.image_model.specs.Rows.{grid_pixels}
+use Rattle.image_model.proofs.Grids.{covers_decides, at_place, pixel_at}
+use Rattle.imgref_examples.specs.Blur.{sum_of_three, mean_of_nine, blurred}
+use Rattle.imgref_examples.specs.Swept.{is_before, swept}
+use Rattle.imgref_examples.proofs.Swept.{same_sweep, none_swept, all_swept, one_swept}
+
+-- what a blurred image has at a place
+abbrev now : Grid ℕ → Layout ℕ → ℕ → ℕ → Option ℕ
+now src l x y = if covers 1 1 (l.width - 2) (l.height - 2) x y then Some (mean_of_nine src x y) else (grid_of l).pixel x y
+
+-- three pixels side by side
+pub three_pixels : (l : Layout ℕ) (x y p q r : ℕ) → x + 2 < l.width → y < l.height
+    → pixel l x y ≡ Some p → pixel l (x + 1) y ≡ Some q → pixel l (x + 2) y ≡ Some r → sum_of_three (grid_of l) x y ≡ p + q + r
+unfolding view
+three_pixels l x y p q r column line first second third = rw (a, b, c) (omega arith)
+  where
+    at : (m u n s : ℕ) → m ≡ u → n ≡ y → u < l.width → pixel l u y ≡ Some s → (grid_of l).pixel m n ≡ Some s
+    at m u n s same_column same_row inside e =
+        ap (λ k. (grid_of l).pixel k n) same_column ∙ ap ((grid_of l).pixel u) same_row ∙ pixel_at l u y inside line ∙ e
+
+    a : (grid_of l).pixel (x + 0) (y + 0) ≡ Some p
+    a = at (x + 0) x (y + 0) p (omega arith) (omega arith) (omega (arith, column)) first
+
+    b : (grid_of l).pixel (x + 1) (y + 0) ≡ Some q
+    b = at (x + 1) (x + 1) (y + 0) q refl (omega arith) (omega (arith, column)) second
+
+    c : (grid_of l).pixel (x + 2) (y + 0) ≡ Some r
+    c = at (x + 2) (x + 2) (y + 0) r refl (omega arith) column third
+
+-- the pixels of three columns of a row
+abbrev across : Grid ℕ → ℕ → ℕ → List ℕ
+across g x y = cons_option (g.pixel (x + 0) y) (cons_option (g.pixel (x + 1) y) (cons_option (g.pixel (x + 2) y) []))
+
+sum_across : (g : Grid ℕ) (x y n : ℕ) → y + 0 ≡ n → sum (across g x n) ≡ sum_of_three g x y
+unfolding view
+sum_across g x y n e = ap sum (sym (append-nil (across g x n))) ∙ ap (λ m. sum (across g x m ++ [])) (sym e)
+
+-- the sum of nine pixels by their rows
+nine_by_rows : (g : Grid ℕ) (x y : ℕ) → sum (grid_pixels (view g x y 3 3)) ≡ sum_of_three g x y + sum_of_three g x (y + 1) + sum_of_three g x (y + 2)
+unfolding view
+nine_by_rows g x y =
+    let first : sum (across g x (y + 0)) ≡ sum_of_three g x y = sum_across g x y (y + 0) (omega arith) in
+    let second : sum (across g x (y + 1)) ≡ sum_of_three g x (y + 1) = sum_across g x (y + 1) (y + 1) (omega arith) in
+    let third : sum (across g x (y + 2) ++ []) ≡ sum_of_three g x (y + 2) = ap sum (append-nil (across g x (y + 2))) ∙ sum_across g x (y + 2) (y + 2) (omega arith) in
+    sum_by-append (λ p. p) (across g x (y + 0)) (across g x (y + 1) ++ (across g x (y + 2) ++ []))
+    ∙ ap (λ n. sum (across g x (y + 0)) + n) (sum_by-append (λ p. p) (across g x (y + 1)) (across g x (y + 2) ++ []))
+    ∙ omega (arith, first, second, third)
+
+-- the mean of a pixel and its neighbours by the rows about it
+pub mean_by_rows : (g : Grid ℕ) (x y : ℕ) → 0 < y → mean_of_nine g x y ≡ (sum_of_three g (x - 1) (y - 1) + sum_of_three g (x - 1) y + sum_of_three g (x - 1) (y + 1)) / 9
+mean_by_rows g x y line =
+    let beside : y - 1 + 1 ≡ y = omega (arith, line) in
+    let below : y - 1 + 2 ≡ y + 1 = omega (arith, line) in
+    ap (λ n. n / 9) (
+    nine_by_rows g (x - 1) (y - 1)
+    ∙ ap (λ n. sum_of_three g (x - 1) (y - 1) + sum_of_three g (x - 1) n + sum_of_three g (x - 1) (y - 1 + 2)) beside
+    ∙ ap (λ n. sum_of_three g (x - 1) (y - 1) + sum_of_three g (x - 1) y + sum_of_three g (x - 1) n) below)
+
+-- a blur that goes on over the edges alone changes nothing
+same_blur : (x y m n : ℕ) (src : Grid ℕ) (l : Layout ℕ)
+    → ((u v : ℕ) → 1 ≤ u → 1 ≤ v → u < 1 + (l.width - 2) → v < 1 + (l.height - 2) → is_before x y u v ≡ is_before m n u v)
+    → swept x y (blurred src (grid_of l)) (grid_of l) ≡ swept m n (blurred src (grid_of l)) (grid_of l)
+unfolding grid_of blurred
+same_blur x y m n src l interior = same_sweep x y m n (blurred src (grid_of l)) l (λ u v column line.
+    ⊎_elim
+    (λ hit. let c = (covers_decides 1 1 (l.width - 2) (l.height - 2) u v).0 hit in inl (interior u v c.0 c.1 c.2 c.3))
+    (λ miss. inr (at_place l.width l.height (now src l) u v column line ∙ cond-false (covers 1 1 (l.width - 2) (l.height - 2) u v) _ _ miss))
+    (cases_Bool (covers 1 1 (l.width - 2) (l.height - 2) u v)))
+
+-- the first row is an edge
+pub none_blurred : (src : Grid ℕ) (l : Layout ℕ) → grid_of l ≡ swept 0 1 (blurred src (grid_of l)) (grid_of l)
+none_blurred src l = sym (none_swept (blurred src (grid_of l)) l) ∙ same_blur 0 0 0 1 src l (λ u v left above right below. grind (arith, nat_tests))
+
+-- the first column is
+pub row_begins : (y : ℕ) (src : Grid ℕ) (l : Layout ℕ) → swept 0 y (blurred src (grid_of l)) (grid_of l) ≡ swept 1 y (blurred src (grid_of l)) (grid_of l)
+row_begins y src l = same_blur 0 y 1 y src l (λ u v left above right below. grind (arith, nat_tests))
+
+-- the last column is
+pub row_ends : (x y : ℕ) (src : Grid ℕ) (l : Layout ℕ) → l.width - 1 ≤ x → swept x y (blurred src (grid_of l)) (grid_of l) ≡ swept 0 (y + 1) (blurred src (grid_of l)) (grid_of l)
+row_ends x y src l wide = same_blur x y 0 (y + 1) src l (λ u v left above right below. grind (arith, nat_tests))
+
+-- the last row is
+pub all_blurred : (y : ℕ) (src : Grid ℕ) (l : Layout ℕ) → l.height - 1 ≤ y → swept 0 y (blurred src (grid_of l)) (grid_of l) ≡ blurred src (grid_of l)
+unfolding grid_of blurred
+all_blurred y src l high = same_blur 0 y 0 l.height src l (λ u v left above right below. grind (arith, nat_tests)) ∙ all_swept 0 l.height (now src l) l (omega arith)
+
+-- one interior place more has its mean
+pub one_blurred : (x y : ℕ) (src : Grid ℕ) (l k : Layout ℕ) → grid_of k ≡ swept x y (blurred src (grid_of l)) (grid_of l) → k.width ≡ l.width → k.height ≡ l.height
+    → 1 ≤ x → 1 ≤ y → x + 1 < l.width → y + 1 < l.height → patch (grid_of k) x y (uniform 1 1 (mean_of_nine src x y)) ≡ swept (x + 1) y (blurred src (grid_of l)) (grid_of l)
+unfolding grid_of blurred
+one_blurred x y src l k e wide high left above right below =
+    one_swept x y (blurred src (grid_of l)) l k e wide high (omega (arith, right)) (omega (arith, below)) (mean_of_nine src x y) there
+  where
+    hit : covers 1 1 (l.width - 2) (l.height - 2) x y ≡ true
+    hit = (covers_decides 1 1 (l.width - 2) (l.height - 2) x y).1 (left, above, omega (arith, right), omega (arith, below))
+
+    there : (blurred src (grid_of l)).pixel x y ≡ Some (mean_of_nine src x y)
+    there = at_place l.width l.height (now src l) x y (omega (arith, right)) (omega (arith, below)) ∙ cond-true (covers 1 1 (l.width - 2) (l.height - 2) x y) _ _ hit
