@@ -219,7 +219,7 @@ fn an_image_without_columns_has_no_pixel(rt: HostRuntime) -> Result<(), Fail> {
     let mut lent = ImgRefMut::new_stride(cells.as_mut_slice(), 0, 2, 1);
     assert!(rt; lent.is_valid());
     assert!(rt; is_over(&mut lent.pixels_mut()));
-    let none: ImgRef<'_, u64> = ImgRef::new_stride(&[], 0, 2, 1);
+    let none: ImgRef<'_, u64> = ImgRef::new_stride(&[], 0, 3, 1);
     assert!(rt; none.is_valid());
     assert!(rt; sum_of(none) == 0);
     Ok(())
