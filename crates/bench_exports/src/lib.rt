@@ -21,7 +21,12 @@ pub extern "C" fn bench_u8_map_pixels(cells: &mut [u8], width: usize, height: us
 
 /// The same of pixels of four bytes.
 #[unsafe(no_mangle)]
-pub extern "C" fn bench_u32_map_pixels(cells: &mut [u32], width: usize, height: usize, stride: usize)
+pub extern "C" fn bench_u32_map_pixels(
+    cells: &mut [u32],
+    width: usize,
+    height: usize,
+    stride: usize,
+)
     requires stride_positive { 1 ≤ stride }
     requires width_within { width ≤ stride }
     requires width_fits { width < 2 ^ 32 }
