@@ -24,7 +24,7 @@ from workspace import ROOT, crates, is_fresh, with_those_below
 NAME = "imgref_run"
 FOLDER = ROOT / "crates" / NAME
 # What it takes from nothing on four processors, by the time of its parts.
-MINUTES = 8
+MINUTES = 10
 # How often a line is written where there is no terminal, in seconds; and what takes a line of a terminal back.
 EVERY, BACK = 10, "\r\033[K"
 FAULT = re.compile(rb"fault line (\d+)\n")
