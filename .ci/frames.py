@@ -110,6 +110,16 @@ def resized(line, width, height):
     return b" ".join([b"YUV4MPEG2", *(sizes.get(it[:1], it) for it in line.split(b" ")[1:])])
 
 
+def edits_of(words):
+    """The edits that words are."""
+    words, edits = list(words), []
+    while words:
+        first, last = (int(it) for it in words.pop(0).split("..")) if ".." in words[0] else (0, 2**64)
+        word, window = words.pop(0), [int(it) for it in words.pop(0).split(",")]
+        edits.append((first, last, word, window, [] if word == "crop" else [int(it) for it in words.pop(0).split(",")]))
+    return edits
+
+
 def answer(data, edits):
     """What is written for these bytes; a fault tells what was written before it. An edit has the numbers of its first frame and
     of the first behind its last, its word, its window and what follows that."""

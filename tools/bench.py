@@ -20,7 +20,8 @@ import tempfile
 import time
 
 import c_library
-from program import program_of, say
+from c_library import Failure, archive_of, command, compiler
+from program import built, program_of, say
 from workspace import ROOT
 
 OUT = ROOT / "out/bench"
@@ -28,23 +29,13 @@ PAGE, PLOT = ROOT / "docs/PERFORMANCE.md", ROOT / "docs/speed.svg"
 BEGIN, END = "<!-- table of make bench -->", "<!-- end of the table -->"
 
 
-def command(*words, **more):
-    ran = subprocess.run([str(it) for it in words], text=True, **more)
-    if ran.returncode:
-        sys.exit(f"{' '.join(map(str, words))} failed")
-    return ran.stdout
-
-
-def compiler():
-    return os.environ.get("CC", "cc").split()
-
-
-def built():
+def made():
     """Builds all that is timed."""
     OUT.mkdir(parents=True, exist_ok=True)
-    command(sys.executable, ROOT / "tools/program.py", "build", "imgref_run")
+    if built("imgref_run"):
+        raise Failure("imgref_run is not proved")
     c_library.build()
-    exports = c_library.archive_of("bench_exports")
+    exports = archive_of("bench_exports")
     speed, numbers = OUT / "speed", OUT / "numbers"
     command(*compiler(), "-O2", f"-I{ROOT / 'include'}", "-o", speed, ROOT / "bench/speed.c", exports, ROOT / "out/c/libimgref.a")
     command(*compiler(), "-O2", "-o", numbers, ROOT / "bench/numbers.c")
@@ -134,7 +125,7 @@ def main():
     asked = options.parse_args()
     sides = [int(it) for it in asked.sides.split(",")]
     began = time.time()
-    speed, numbers = built()
+    speed, numbers = made()
     rows = calls(speed, asked.rounds, sides)
     found = table(rows, sides, *program(numbers, asked.pixels))
     print(found)
@@ -148,4 +139,7 @@ def main():
 
 
 if __name__ == "__main__":
-    main()
+    try:
+        main()
+    except Failure as why:
+        sys.exit(str(why))

@@ -14,7 +14,7 @@ import tempfile
 
 sys.path.insert(0, str(pathlib.Path(__file__).resolve().parents[2]))
 from checking import Cases, both_builds
-from frames import STATUS, Fault, answer
+from frames import STATUS, Fault, answer, edits_of
 
 SAMPLINGS = ("mono", "420jpeg", "420", "422", "444")
 EDITS = ("fill 4,2,6,4 126", "mosaic 2,2,10,6 4,2", "mosaic 0,0,12,8 64,64", "move 0,0,6,4 4,2", "move 4,2,6,4 0,0", "crop 4,2,6,4", "fill 0,0,0,0 1", "pad 2,4,6,8 16", "pad 4,0,1,3 200", "pad 1,0,0,0 9", "pad 0,2,0,0 9")
@@ -45,16 +45,6 @@ def ends(program, words, data):
     return done.stdout, done.stderr.decode().split("\n")[0], done.returncode
 
 
-def edits_of(words):
-    """The edits that words are."""
-    words, edits = list(words), []
-    while words:
-        first, last = (int(it) for it in words.pop(0).split("..")) if ".." in words[0] else (0, 2**64)
-        word, window = words.pop(0), [int(it) for it in words.pop(0).split(",")]
-        edits.append((first, last, word, window, [] if word == "crop" else [int(it) for it in words.pop(0).split(",")]))
-    return edits
-
-
 def wanted(data, words):
     """The same by the model."""
     try:
@@ -66,6 +56,12 @@ def wanted(data, words):
 def differing(program, tries):
     """Those tries of words and bytes at which the program differs from the model."""
     return [f"{' '.join(words)} on {data[:60]!r}.." for words, data in tries if ends(program, words, data) != wanted(data, words)]
+
+
+def count_tries(cases, label, program, tries):
+    """One case: at each of these tries the program is as the model."""
+    wrong = differing(program, tries)
+    cases.count(label, not wrong, "\n".join(wrong))
 
 
 def exchanged(data, window):
@@ -80,19 +76,19 @@ def exchanged(data, window):
 
 def by_model(cases, program):
     whole = [(edit.split(), video(it, *size)) for it in SAMPLINGS for size in ((12, 8), (16, 9)) for edit in EDITS]
-    cases.count("each edit of each sampling is the model's", not differing(program, whole), "\n".join(differing(program, whole)))
+    count_tries(cases, "each edit of each sampling is the model's", program, whole)
     odd = [(edit.split(), video(it, 13, 9)) for it in SAMPLINGS for edit in EDITS + ODD]
-    cases.count("edits at odd edges are the model's", not differing(program, odd), "\n".join(differing(program, odd)))
+    count_tries(cases, "edits at odd edges are the model's", program, odd)
     lists = [(edits.split(), video(it)) for it in SAMPLINGS for edits in LISTS]
-    cases.count("lists of edits, each to its frames, are the model's", not differing(program, lists), "\n".join(differing(program, lists)))
+    count_tries(cases, "lists of edits, each to its frames, are the model's", program, lists)
     small = video("420", 4, 2, 2)
     beginnings = [(f"{word} 0,0,2,2 {last}".split(), small[:end]) for word, last in (("fill", "9"), ("mosaic", "2,2")) for end in range(len(small) + 1)]
-    cases.count("each beginning of a stream", not differing(program, beginnings), "\n".join(differing(program, beginnings)))
+    count_tries(cases, "each beginning of a stream", program, beginnings)
     end = small.index(b"\n")
     changed = [("fill 0,0,2,2 9".split(), small[:at] + bytes([byte]) + small[at + 1:]) for at in range(end + 1) for byte in (10, 32, 48, 49, 67, 87, 255)]
-    cases.count("each byte of the line changed", not differing(program, changed), "\n".join(differing(program, changed)))
+    count_tries(cases, "each byte of the line changed", program, changed)
     outside = [(it.split(), video("420")) for it in ("fill 1,0,2,2 9", "fill 0,0,2,10 9", "mosaic 0,0,4,4 1,2", "mosaic 0,0,4,4 0,2", "move 0,0,4,4 10,0", "crop 0,0,0,4", "crop 0,0,3,4", "pad 1,0,0,0 9", "pad 0,0,4294967284,0 9", "pad 0,0,0,18446744073709551615 9")]
-    cases.count("an edit that is none of the video is refused", not differing(program, outside), "\n".join(differing(program, outside)))
+    count_tries(cases, "an edit that is none of the video is refused", program, outside)
     hidden = video("mono"), exchanged(video("mono"), (4, 2, 6, 4))
     cases.count("hidden pixels can't be told from the output", hidden[0] != hidden[1] and ends(program, FILL.split(), hidden[0]) == ends(program, FILL.split(), hidden[1]))
 
@@ -107,7 +103,8 @@ def by_words(cases, program):
         cases.count("a file of edits is the same as its words", ends(program, ["--edits", listed.name], video("420")) == ends(program, LISTS[2].split(), video("420")))
     said = ends(program, "move 0,0,2,2 2,2 fill 0,0,2,2 9".split(), video("mono"))
     cases.count("a move before a fill is noted", said[1].startswith("note: ") and said[2] == 0, str(said))
-    cases.count("help is printed", ends(program, ["--help"], b"")[0].startswith(b"usage: ") and ends(program, ["--help"], b"")[2] == 0)
+    said = ends(program, ["--help"], b"")
+    cases.count("help is printed", said[0].startswith(b"usage: ") and said[2] == 0, str(said))
     for name, shell, status in (("a closed output", f'"{program}" {FILL} >&-', 5), ("a full output", f'"{program}" {FILL} > /dev/full', 5), ("an input that can't be read", f'"{program}" {FILL} < /', 4)):
         done = subprocess.run(["sh", "-c", shell], input=video("mono"), capture_output=True, timeout=120)
         cases.count(f"{name} ends with status {status}", done.returncode == status, str(done))
@@ -128,7 +125,7 @@ def by_ffmpeg(cases, program):
             cases.count(f"fill is ffmpeg's drawbox on {pixels}", through(program, "fill 16,8,64,48 126", made, "drawbox=x=16:y=8:w=64:h=48:color=gray@1:t=fill"))
             cases.count(f"pad is ffmpeg's on {pixels}", through(program, "pad 16,8,32,24 16", made, "pad=176:128:16:8:color=black"))
         for words in ("mosaic 16,8,64,48 8,8", "move 16,8,32,32 24,16"):
-            cases.count(f"{words} is the model's on {pixels}", not differing(program, [(words.split(), made)]))
+            count_tries(cases, f"{words} is the model's on {pixels}", program, [(words.split(), made)])
 
 
 def by_netpbm(cases, program):

@@ -20,10 +20,14 @@ pub(crate) fn words_of(rt: &HostRuntime) -> Result<Vec<String>, WordsFault> {
         Ok(words) => words,
         Err(error) => return Err(fault_of(error)),
     };
-    match words.collect(rt.alloc()) {
-        Ok(words) => Ok(words),
-        Err(_) => Err(WordsFault::Memory),
+    // One by one: `collect` asks for less where it is refused the room for all.
+    let mut all = Vec::new(rt.alloc());
+    for word in words {
+        if all.push(word).is_err() {
+            return Err(WordsFault::Memory);
+        }
     }
+    Ok(all)
 }
 
 // Adds the one edit that a line is, with a space between two words. An empty line is none.
