@@ -11,7 +11,7 @@ use Rattle.image_model.specs.Alike.{Alike}
 use Rattle.image_model.proofs.Agreement.{agree_grid}
 use Rattle.image_model.proofs.Alike.{alike_agree}
 use Rattle.image_model.proofs.Grids.{at_place}
-use Rattle.imgref_replay.specs.Agreement.{at_each_place, are_alike_pixels, do_agree}
+use Rattle.imgref_replay.specs.Agreement.{at_each_place, are_alike_pixels, agree_at_places}
 
 -- each number of a range passes a test
 each_of_range : (test : ℕ → Bool) (a n : ℕ) → Decides (list_all test (range_with_len a n)) ((k : ℕ) → a ≤ k → k < a + n → IsTrue (test k))
@@ -36,13 +36,17 @@ each_place width height test =
     )
 
 module _ {T : Type 0} (eq : T → T → Bool) where
+  -- grids of one size with alike pixels at each place, as a test
+  abbrev pub do_agree : Grid T → Grid T → Bool
+  do_agree g h = agree_at_places g.width h.width g.height h.height (λ x y. are_alike_pixels eq (g.pixel x y) (h.pixel x y))
+
   pixels_decide : (o p : Option T) → Decides (are_alike_pixels eq o p) (AlikePixels eq o p)
   pixels_decide None None = (λ _. tt, λ _. refl)
   pixels_decide (Some a) (Some b) = (λ e. e, λ e. e)
   pixels_decide None (Some b) = (λ e. cc, λ h. absurd h)
   pixels_decide (Some a) None = (λ e. cc, λ h. absurd h)
 
-  pub agree_decides : (v w m n : ℕ) (f k : ℕ → ℕ → Option T) → let g = grid v m f in let h = grid w n k in Decides (do_agree eq g h) (Agree eq g h)
+  agree_decides : (v w m n : ℕ) (f k : ℕ → ℕ → Option T) → let g = grid v m f in let h = grid w n k in Decides (do_agree g h) (Agree eq g h)
   agree_decides v w m n f k = (told, tested)
     where
       g : Grid T
@@ -51,7 +55,7 @@ module _ {T : Type 0} (eq : T → T → Bool) where
       h : Grid T
       h = grid w n k
 
-      told : do_agree eq g h ≡ true → Agree eq g h
+      told : do_agree g h ≡ true → Agree eq g h
       told e =
           let sizes = and_parts _ _ e in
           let rest = and_parts _ _ sizes.1 in
@@ -62,21 +66,21 @@ module _ {T : Type 0} (eq : T → T → Bool) where
           (subst (λ p. AlikePixels eq (g.pixel x y) p) (at_place w n k x y column line)
           ((pixels_decide (g.pixel x y) (h.pixel x y)).0 ((each_place v m _).0 rest.1 x y (omega (arith, wide)) (omega (arith, high))))))
 
-      tested : Agree eq g h → do_agree eq g h ≡ true
+      tested : Agree eq g h → do_agree g h ≡ true
       tested a =
           and_from _ _ (eq-eqb v w a.same_width)
           (and_from _ _ (eq-eqb m n a.same_height)
           ((each_place v m (λ x y. are_alike_pixels eq (g.pixel x y) (h.pixel x y))).1 (λ x y _ _. (pixels_decide (g.pixel x y) (h.pixel x y)).1 (a.alike x y))))
 
   -- images that fit are alike exactly where the test of their grids holds
-  alike_tested : (k l : Layout T) (told : Bool) → Fits k → Fits l → IsTrue told ↔ Alike eq k l → told ≡ do_agree eq (grid_of k) (grid_of l)
+  alike_tested : (k l : Layout T) (told : Bool) → Fits k → Fits l → IsTrue told ↔ Alike eq k l → told ≡ do_agree (grid_of k) (grid_of l)
   unfolding grid_of
   alike_tested k l told k_fits l_fits decides =
       let grids = agree_decides k.width l.width k.height l.height _ _ in
-      same_from_decides told (do_agree eq (grid_of k) (grid_of l)) decides
+      same_from_decides told (do_agree (grid_of k) (grid_of l)) decides
       (λ e. let a = grids.0 e in record { same_width = a.same_width; same_height = a.same_height; same_pixels = inl (k_fits, l_fits, a) }, λ a. grids.1 (alike_agree eq k l a k_fits))
 
   -- the same of the grids that are known to be theirs
-  pub views_tested : (k l : Layout T) (g h : Grid T) (told : Bool) → Fits k → Fits l → IsTrue told ↔ Alike eq k l → grid_of k ≡ g → grid_of l ≡ h → told ≡ do_agree eq g h
+  pub views_tested : (k l : Layout T) (g h : Grid T) (told : Bool) → Fits k → Fits l → IsTrue told ↔ Alike eq k l → grid_of k ≡ g → grid_of l ≡ h → told ≡ do_agree g h
   views_tested k l g h told k_fits l_fits decides one two =
-      subst (λ v. told ≡ do_agree eq v h) one (subst (λ v. told ≡ do_agree eq (grid_of k) v) two (alike_tested k l told k_fits l_fits decides))
+      subst (λ v. told ≡ do_agree v h) one (subst (λ v. told ≡ do_agree (grid_of k) v) two (alike_tested k l told k_fits l_fits decides))

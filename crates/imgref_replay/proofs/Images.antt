@@ -14,7 +14,7 @@ use Rattle.image_model.proofs.Cells.{slice_get-set_other}
 use Rattle.imgref.specs.Image.{width_of, height_of, vec_layout}
 use Rattle.imgref.specs.declared.img.Img.{Img}
 use Rattle.imgref.specs.Window.{as_path}
-use Rattle.imgref_replay.specs.Commands.{grid_at, grids_of, lacks_image, window_faults}
+use Rattle.imgref_replay.specs.Commands.{grid_at, grids_of, sizes_of, lacks_image, window_faults}
 use Rattle.imgref_replay.specs.Step.{first_fault, AllKept}
 use Rattle.imgref_replay.specs.declared.commands.Place.{Place}
 use Rattle.imgref_replay.specs.declared.commands.Refusal.TheVariants.{WindowOutside}
@@ -40,6 +40,12 @@ pub inside_at : {T Z : Type 0} (images : List (Img (Vec T Z))) (i : ℕ) (image 
     → (let g = grid_at (grids_of images) i in IsInside g.width g.height w) → IsInside (width_of image) (height_of image) w
 unfolding grid_of
 inside_at images i image w there is inside = subst (λ g. IsInside g.width g.height w) (grid_at-images images i image there is) inside
+
+-- a place of grid i is one of image i
+pub place_at : {T Z : Type 0} (images : List (Img (Vec T Z))) (i : ℕ) (image : Img (Vec T Z)) (x y : ℕ) → i < length images → image ≡ get_or images i image
+    → (let g = grid_at (grids_of images) i in (x < g.width) × (y < g.height)) → (x < width_of image) × (y < height_of image)
+unfolding grid_of
+place_at images i image x y there is inside = subst (λ g. (x < g.width) × (y < g.height)) (grid_at-images images i image there is) inside
 
 -- layout i of a list is kept as its test says, and every other layout is as it was
 layouts_set : {T : Type 0} (compacted : ℕ → Bool) (ls : List (Layout T)) (i : ℕ) (d new : Layout T) → i < length ls → ((j : ℕ) → j ≢ i → compacted j ≡ false)
@@ -83,10 +89,10 @@ kept_set compacted images i image new there is others kept =
 -- of the window that a place names: its image is there, so its path alone decides whether it is refused
 pub fault_named : {T Z : Type 0} (images : List (Img (Vec T Z))) (spot : Place) (image : Img (Vec T Z)) (outside : Option ℕ) → spot.image < length images → image ≡ get_or images spot.image image
     → outside ≡ first_outside (width_of image) (height_of image) (as_path spot.path.items)
-    → first_fault (window_faults spot (grids_of images)) ≡ (if is_some outside then Some WindowOutside else None)
+    → first_fault (window_faults spot (sizes_of (grids_of images))) ≡ (if is_some outside then Some WindowOutside else None)
 unfolding grid_of
 fault_named images spot image outside there is at_path =
     let within : spot.image < length (grids_of images) = rw (length-grids images) there in
-    cond-false (lacks_image spot.image (grids_of images)) _ _ (lt-leb (length (grids_of images)) spot.image within)
+    cond-false (lacks_image spot.image (sizes_of (grids_of images))) _ _ (lt-leb (length (grids_of images)) spot.image within)
     ∙ ap (λ g. if is_some (first_outside g.width g.height (as_path spot.path.items)) then Some WindowOutside else None) (grid_at-images images spot.image image there is)
     ∙ ap (λ o. if is_some o then Some WindowOutside else None) (sym at_path)

@@ -12,8 +12,8 @@ use Rattle.image_model.proofs.Grids.{is_place_decides}
 use Rattle.image_model.proofs.Places.{outside_refl}
 use Rattle.imgref.specs.Image.{vec_layout}
 use Rattle.imgref.specs.declared.img.Img.{Img}
-use Rattle.imgref_replay.specs.Commands.{grids_of, grid_at, window_named, lacks_image, misses_window, lacks_tile, window_faults, place_faults, tile_faults, meaning}
-use Rattle.imgref_replay.specs.Step.{first_fault, fault_of, compacts, AllKept, IsStep}
+use Rattle.imgref_replay.specs.Commands.{grids_of, grid_at, Sizes, sizes_of, window_named, lacks_image, misses_window, lacks_tile, window_faults, place_faults, tile_faults, meaning}
+use Rattle.imgref_replay.specs.Step.{first_fault, fault_of, answer_to, effect_of, compacts, AllKept, IsStep}
 use Rattle.imgref_replay.specs.declared.commands.Command.{Command}
 use Rattle.imgref_replay.specs.declared.commands.Command.TheVariants.{Compact}
 use Rattle.imgref_replay.specs.declared.commands.Place.{Place}
@@ -30,20 +30,20 @@ faults_after ((true, refusal) ∷ firsts) others e = absurd cc
 faults_after ((false, refusal) ∷ firsts) others e = faults_after firsts others e
 
 -- a place of a window that has no fault
-pub no_place_fault : {T : Type 0} (spot : Place) (x y : ℕ) (grids : List (Grid T)) → None ≡ first_fault (window_faults spot grids)
-    → (let w = window_named spot grids in (x < w.width) × (y < w.height)) → None ≡ first_fault (place_faults spot x y grids)
-no_place_fault spot x y grids e within =
-    let w = window_named spot grids in
-    let place : first_fault ((misses_window spot x y grids, PlaceOutside) ∷ []) ≡ None = cond-false (not (is_place w.width w.height x y)) (Some PlaceOutside) None (ap not ((is_place_decides w.width w.height x y).1 within)) in
-    sym (faults_after (window_faults spot grids) ((misses_window spot x y grids, PlaceOutside) ∷ []) (sym e) ∙ place)
+pub no_place_fault : (spot : Place) (x y : ℕ) (sizes : Sizes) → None ≡ first_fault (window_faults spot sizes)
+    → (let w = window_named spot sizes in (x < w.width) × (y < w.height)) → None ≡ first_fault (place_faults spot x y sizes)
+no_place_fault spot x y sizes e within =
+    let w = window_named spot sizes in
+    let place : first_fault ((misses_window spot x y sizes, PlaceOutside) ∷ []) ≡ None = cond-false (not (is_place w.width w.height x y)) (Some PlaceOutside) None (ap not ((is_place_decides w.width w.height x y).1 within)) in
+    sym (faults_after (window_faults spot sizes) ((misses_window spot x y sizes, PlaceOutside) ∷ []) (sym e) ∙ place)
 
 -- a window with tiles that has no fault
-pub no_tile_fault : {T : Type 0} (spot : Place) (tile_width tile_height : ℕ) (grids : List (Grid T)) → None ≡ first_fault (window_faults spot grids) → tile_width ≢ 0 → tile_height ≢ 0
-    → None ≡ first_fault (tile_faults spot tile_width tile_height grids)
-no_tile_fault spot tile_width tile_height grids e wide high =
+pub no_tile_fault : (spot : Place) (tile_width tile_height : ℕ) (sizes : Sizes) → None ≡ first_fault (window_faults spot sizes) → tile_width ≢ 0 → tile_height ≢ 0
+    → None ≡ first_fault (tile_faults spot tile_width tile_height sizes)
+no_tile_fault spot tile_width tile_height sizes e wide high =
     let both : lacks_tile tile_width tile_height ≡ false = λ k. (ne_eqb tile_width 0 wide k) || (ne_eqb tile_height 0 high k) in
     let tile : first_fault ((lacks_tile tile_width tile_height, NoTile) ∷ []) ≡ None = cond-false (lacks_tile tile_width tile_height) (Some NoTile) None both in
-    sym (faults_after (window_faults spot grids) ((lacks_tile tile_width tile_height, NoTile) ∷ []) (sym e) ∙ tile)
+    sym (faults_after (window_faults spot sizes) ((lacks_tile tile_width tile_height, NoTile) ∷ []) (sym e) ∙ tile)
 
 -- images stay as they are kept, where nothing is compacted
 kept_outside : {T : Type 0} (compacted : ℕ → Bool) (olds news : List (Layout T)) → ((i : ℕ) → compacted i ≡ false) → AllKept (λ _. false) olds news → AllKept compacted olds news
@@ -54,31 +54,31 @@ not_compacted command none i = rw none refl
 
 -- a command that asks, and leaves all as it is
 pub asked : {T : Type 0} (eq : T → T → Bool) (command : Command T) (ls : List (Layout T)) (reply : Reply T) → None ≡ fault_of command (map grid_of ls)
-    → reply ≡ (meaning command).answer eq (map grid_of ls) → (meaning command).effect (map grid_of ls) ≡ map grid_of ls → (meaning command).compacted ≡ None → All Fits ls
+    → reply ≡ answer_to eq command (map grid_of ls) → effect_of command (map grid_of ls) ≡ map grid_of ls → (meaning command).compacted ≡ None → All Fits ls
     → IsStep eq command ls ls (Ok reply)
 asked eq command ls reply accepted answer stays none fits = record {
   fault = accepted;
   answer = answer;
-  grids = sym stays ∙ ap (λ o. option_map_or (λ _. map grid_of ls) o ((meaning command).effect (map grid_of ls))) accepted;
+  grids = sym stays ∙ ap (λ o. option_map_or (λ _. map grid_of ls) o (effect_of command (map grid_of ls))) accepted;
   kept = kept_outside (λ i. compacts i command) ls ls (not_compacted command none) (λ i old new in_old in_new. subst (SameOutside old) (same_Some old new (sym in_old ∙ in_new)) (outside_refl old));
   fits = fits;
 }
 
 -- a command that writes in the window of a place, and leaves all else as it is
 pub wrote : {T Z : Type 0} (eq : T → T → Bool) (command : Command T) (images : List (Img (Vec T Z))) (spot : Place) (image new : Img (Vec T Z)) (window : model.Window) (change : model.Window → Grid T → Grid T)
-    → spot.image < length images → image ≡ get_or images spot.image image → window ≡ window_named spot (grids_of images)
+    → spot.image < length images → image ≡ get_or images spot.image image → window ≡ window_named spot (sizes_of (grids_of images))
     → grid_of (vec_layout new) ≡ change window (grid_of (vec_layout image)) → SameOutside (vec_layout image) (vec_layout new) → Fits (vec_layout new) → All Fits (map vec_layout images)
-    → None ≡ fault_of command (grids_of images) → Done ≡ (meaning command).answer eq (grids_of images)
-    → (meaning command).effect (grids_of images) ≡ set (grids_of images) spot.image (change (window_named spot (grids_of images)) (grid_at (grids_of images) spot.image)) → (meaning command).compacted ≡ None
+    → None ≡ fault_of command (grids_of images) → Done ≡ answer_to eq command (grids_of images)
+    → effect_of command (grids_of images) ≡ set (grids_of images) spot.image (change (window_named spot (sizes_of (grids_of images))) (grid_at (grids_of images) spot.image)) → (meaning command).compacted ≡ None
     → IsStep eq command (map vec_layout images) (map vec_layout (set images spot.image new)) (Ok Done)
 wrote eq command images spot image new window change there is comes_to changed outside fits all_fit accepted answer effect none = record {
   fault = accepted;
   answer = answer;
   grids =
       grids_set images spot.image new
-      ∙ ap (set (grids_of images) spot.image) (changed ∙ ap (λ w. change w (grid_of (vec_layout image))) comes_to ∙ ap (change (window_named spot (grids_of images))) (sym (grid_at-images images spot.image image there is)))
+      ∙ ap (set (grids_of images) spot.image) (changed ∙ ap (λ w. change w (grid_of (vec_layout image))) comes_to ∙ ap (change (window_named spot (sizes_of (grids_of images)))) (sym (grid_at-images images spot.image image there is)))
       ∙ sym effect
-      ∙ ap (λ o. option_map_or (λ _. grids_of images) o ((meaning command).effect (grids_of images))) accepted;
+      ∙ ap (λ o. option_map_or (λ _. grids_of images) o (effect_of command (grids_of images))) accepted;
   kept = kept_outside (λ i. compacts i command) _ _ (not_compacted command none) (kept_set (λ _. false) images spot.image image new there is (λ _ _. refl) outside);
   fits = fits_set images spot.image new fits all_fit;
 }
@@ -88,7 +88,7 @@ pub packed_image : {T Z : Type 0} (eq : T → T → Bool) (i : ℕ) (images : Li
     → vec_layout new ≡ packed (vec_layout image) → IsPacked (packed (vec_layout image)) → Fits (packed (vec_layout image)) → grid_of (packed (vec_layout image)) ≡ grid_of (vec_layout image)
     → All Fits (map vec_layout images) → IsStep eq (Compact i) (map vec_layout images) (map vec_layout (set images i new)) (Ok Done)
 packed_image {T} eq i images image new there is layout packs fits grid all_fit =
-    let accepted : None ≡ fault_of {T = T} (Compact i) (grids_of images) = sym (cond-false (lacks_image i (grids_of images)) (Some NoImage) None (lt-leb (length (grids_of images)) i (rw (length-grids images) there))) in
+    let accepted : None ≡ fault_of {T = T} (Compact i) (grids_of images) = sym (cond-false (lacks_image i (sizes_of (grids_of images))) (Some NoImage) None (lt-leb (length (grids_of images)) i (rw (length-grids images) there))) in
     record {
       fault = accepted;
       answer = refl;

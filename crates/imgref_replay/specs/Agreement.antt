@@ -1,7 +1,6 @@
--- Whether grids agree, as a test.
+-- Whether what stands at the places of two sizes agrees, as a test.
 use Rattle.std.specs.Prelude.{ℕ, Bool, true, false, ◌&&◌, ◌==◌, Option, Some, None}
 use Rattle.std.specs.List.{list_all, range_with_len}
-use Rattle.image_model.specs.Grid.{Grid}
 
 -- a test holds at each place of a size
 abbrev pub at_each_place : ℕ → ℕ → (ℕ → ℕ → Bool) → Bool
@@ -13,6 +12,6 @@ are_alike_pixels eq None None = true
 are_alike_pixels eq (Some a) (Some b) = eq a b
 are_alike_pixels eq _ _ = false
 
--- one size, and equal pixels at each place
-abbrev pub do_agree : {T : Type 0} → (T → T → Bool) → Grid T → Grid T → Bool
-do_agree eq g h = (g.width == h.width) && ((g.height == h.height) && at_each_place g.width g.height (λ x y. are_alike_pixels eq (g.pixel x y) (h.pixel x y)))
+-- one width, one height, and a test holds at each place of that size
+abbrev pub agree_at_places : ℕ → ℕ → ℕ → ℕ → (ℕ → ℕ → Bool) → Bool
+agree_at_places v w m n test = (v == w) && ((m == n) && at_each_place v m test)

@@ -1,14 +1,15 @@
 -- What each command means on grids: it speaks of places alone, and of no cell, stride or padding.
-use Rattle.std.specs.Prelude.{ℕ, ◌+◌, Bool, not, ◌&&◌, ◌||◌, ◌==◌, nat_le, Option, Some, None, List, [], ◌∷◌, ◌++◌, length, map, Vec, slice_set, slice_index_or, is_some, count_by}
+use Rattle.std.specs.Prelude.{◌≡◌, ◌<◌, ℕ, ◌+◌, Bool, not, ◌&&◌, ◌||◌, ◌==◌, nat_le, Option, Some, None, List, [], ◌∷◌, ◌++◌, length, map, Vec, slice_set, slice_index_or, is_some, count_by}
+use Rattle.std.specs.List.{flat_map}
 use Rattle.std.specs.Option.{option_map_or}
-use Rattle.image_model.specs.Grid.{Grid, grid, grid_of, is_place, patch, uniform}
-use Rattle.image_model.specs.Rows.{grid_pixels}
-use Rattle.image_model.specs.Windows.{Window, window_view, first_outside, path_window}
+use Rattle.image_model.specs.Grid.{Grid, grid, grid_of, is_place, patch}
+use Rattle.image_model.specs.Rows.{table_rows}
+use Rattle.image_model.specs.Tiles.{tile_start}
+use Rattle.image_model.specs.Windows.{Window, window, window_view, first_outside, path_window}
 use Rattle.imgref.specs.Image.{vec_layout}
 use Rattle.imgref.specs.declared.img.Img.{Img}
 use Rattle.imgref.specs.Window.{as_path}
-use Rattle.imgref_replay.specs.Agreement.{do_agree}
-use Rattle.image_mosaics.specs.Mosaic.{mosaic}
+use Rattle.imgref_replay.specs.Agreement.{are_alike_pixels, agree_at_places}
 use Rattle.imgref_replay.specs.declared.commands.Place.{Place}
 use Rattle.imgref_replay.specs.declared.commands.Command.{Command}
 use Rattle.imgref_replay.specs.declared.commands.Command.TheVariants.{Get, Put, Fill, Count, Same, Blit, Mosaic, Compact}
@@ -27,105 +28,181 @@ grids_of images = map grid_of (map vec_layout images)
 abbrev pub grid_at : {T : Type 0} → List (Grid T) → ℕ → Grid T
 grid_at grids i = slice_index_or grids i (grid 0 0 (λ _ _. None))
 
+-- how many images there are, and the size of each by its number
+pub record Sizes : Type 0 where
+  pub count : ℕ
+  pub width : ℕ → ℕ
+  pub height : ℕ → ℕ
+
+-- the sizes of grids
+abbrev pub sizes_of : {T : Type 0} → List (Grid T) → Sizes
+sizes_of grids = record { count = length grids; width = λ i. (grid_at grids i).width; height = λ i. (grid_at grids i).height }
+
 -- the one window that the path of a place comes to
-abbrev pub window_named : {T : Type 0} → Place → List (Grid T) → Window
-window_named spot grids = let g = grid_at grids spot.image in path_window g.width g.height (as_path spot.path.items)
+abbrev pub window_named : Place → Sizes → Window
+window_named spot sizes = path_window (sizes.width spot.image) (sizes.height spot.image) (as_path spot.path.items)
 
 -- what is seen through that window
 abbrev pub view_named : {T : Type 0} → Place → List (Grid T) → Grid T
-view_named spot grids = window_view (grid_at grids spot.image) (window_named spot grids)
+view_named spot grids = window_view (grid_at grids spot.image) (window_named spot (sizes_of grids))
 
--- ---- faults: a test, and the refusal where it holds
+-- column x of row y of that window is a place of it, and this column and row of the image
+pub record IsPlaceNamed {T : Type 0} (spot : Place) (x y : ℕ) (grids : List (Grid T)) (column row : ℕ) : Type 0 where
+  pub column_is : column ≡ (window_named spot (sizes_of grids)).left + x
+  pub row_is : row ≡ (window_named spot (sizes_of grids)).top + y
+  pub x_within : x < (window_named spot (sizes_of grids)).width
+  pub y_within : y < (window_named spot (sizes_of grids)).height
+  pub column_inside : column < (grid_at grids spot.image).width
+  pub row_inside : row < (grid_at grids spot.image).height
+
+-- ---- faults: a test of sizes, and the refusal where it holds
 
 -- the image number is not below the number of images
-abbrev pub lacks_image : {T : Type 0} → ℕ → List (Grid T) → Bool
-lacks_image image grids = nat_le (length grids) image
+abbrev pub lacks_image : ℕ → Sizes → Bool
+lacks_image image sizes = nat_le sizes.count image
 
 -- a window of the path is not inside the size before it
-abbrev pub leaves_image : {T : Type 0} → Place → List (Grid T) → Bool
-leaves_image spot grids = let g = grid_at grids spot.image in is_some (first_outside g.width g.height (as_path spot.path.items))
+abbrev pub leaves_image : Place → Sizes → Bool
+leaves_image spot sizes = is_some (first_outside (sizes.width spot.image) (sizes.height spot.image) (as_path spot.path.items))
 
 -- column x of row y is no place of the window
-abbrev pub misses_window : {T : Type 0} → Place → ℕ → ℕ → List (Grid T) → Bool
-misses_window spot x y grids = let w = window_named spot grids in not (is_place w.width w.height x y)
+abbrev pub misses_window : Place → ℕ → ℕ → Sizes → Bool
+misses_window spot x y sizes = let w = window_named spot sizes in not (is_place w.width w.height x y)
 
 -- two windows differ in width or height
-abbrev pub differ_in_size : {T : Type 0} → Place → Place → List (Grid T) → Bool
-differ_in_size source target grids = let v = window_named source grids in let w = window_named target grids in not ((v.width == w.width) && (v.height == w.height))
+abbrev pub differ_in_size : Place → Place → Sizes → Bool
+differ_in_size source target sizes = let v = window_named source sizes in let w = window_named target sizes in not ((v.width == w.width) && (v.height == w.height))
 
 -- a tile of this size has no place
 abbrev pub lacks_tile : ℕ → ℕ → Bool
 lacks_tile tile_width tile_height = (tile_width == 0) || (tile_height == 0)
 
 -- of an image
-abbrev pub image_faults : {T : Type 0} → ℕ → List (Grid T) → List (Bool × Refusal)
-image_faults image grids = (lacks_image image grids, NoImage) ∷ []
+abbrev pub image_faults : ℕ → Sizes → List (Bool × Refusal)
+image_faults image sizes = (lacks_image image sizes, NoImage) ∷ []
 
 -- of a window: its image is tested first, and then its path
-abbrev pub window_faults : {T : Type 0} → Place → List (Grid T) → List (Bool × Refusal)
-window_faults spot grids = (lacks_image spot.image grids, NoImage) ∷ (leaves_image spot grids, WindowOutside) ∷ []
+abbrev pub window_faults : Place → Sizes → List (Bool × Refusal)
+window_faults spot sizes = (lacks_image spot.image sizes, NoImage) ∷ (leaves_image spot sizes, WindowOutside) ∷ []
 
 -- of a place of a window: those of the window, and then the place
-abbrev pub place_faults : {T : Type 0} → Place → ℕ → ℕ → List (Grid T) → List (Bool × Refusal)
-place_faults spot x y grids = window_faults spot grids ++ (misses_window spot x y grids, PlaceOutside) ∷ []
+abbrev pub place_faults : Place → ℕ → ℕ → Sizes → List (Bool × Refusal)
+place_faults spot x y sizes = window_faults spot sizes ++ (misses_window spot x y sizes, PlaceOutside) ∷ []
 
 -- of two windows: both images are tested before the first path
-abbrev pub pair_faults : {T : Type 0} → Place → Place → List (Grid T) → List (Bool × Refusal)
-pair_faults first second grids =
-    (lacks_image first.image grids, NoImage) ∷ (lacks_image second.image grids, NoImage) ∷ (leaves_image first grids, WindowOutside) ∷ (leaves_image second grids, WindowOutside) ∷ []
+abbrev pub pair_faults : Place → Place → Sizes → List (Bool × Refusal)
+pair_faults first second sizes =
+    (lacks_image first.image sizes, NoImage) ∷ (lacks_image second.image sizes, NoImage) ∷ (leaves_image first sizes, WindowOutside) ∷ (leaves_image second sizes, WindowOutside) ∷ []
 
 -- of two windows that are to have one size: those of the windows, and then their sizes
-abbrev pub copy_faults : {T : Type 0} → Place → Place → List (Grid T) → List (Bool × Refusal)
-copy_faults source target grids = pair_faults source target grids ++ (differ_in_size source target grids, SizesDiffer) ∷ []
+abbrev pub copy_faults : Place → Place → Sizes → List (Bool × Refusal)
+copy_faults source target sizes = pair_faults source target sizes ++ (differ_in_size source target sizes, SizesDiffer) ∷ []
 
 -- of a window that is to have tiles: those of the window, and then the tile
-abbrev pub tile_faults : {T : Type 0} → Place → ℕ → ℕ → List (Grid T) → List (Bool × Refusal)
-tile_faults spot tile_width tile_height grids = window_faults spot grids ++ (lacks_tile tile_width tile_height, NoTile) ∷ []
+abbrev pub tile_faults : Place → ℕ → ℕ → Sizes → List (Bool × Refusal)
+tile_faults spot tile_width tile_height sizes = window_faults spot sizes ++ (lacks_tile tile_width tile_height, NoTile) ∷ []
+
+-- ---- pixels that a command speaks of
+
+-- a pixel that the command was given, or the old one in column x of row y of a window
+pub data Source (T : Type 0) : Type 0 where
+  given : T → Source T
+  old : Place → ℕ → ℕ → Source T
+
+-- that pixel, where there is one
+abbrev pub pixel_from : {T : Type 0} → Source T → List (Grid T) → Option T
+pixel_from (given value) grids = Some value
+pixel_from (old spot x y) grids = (view_named spot grids).pixel x y
+
+-- all that a reply may depend on: the sizes, and which pixels are equal
+pub record Scene (T : Type 0) : Type 0 where
+  pub sizes : Sizes
+  pub are_equal : Source T → Source T → Bool
+
+-- the scene of grids, by a test of pixels
+abbrev pub scene_of : {T : Type 0} → (T → T → Bool) → List (Grid T) → Scene T
+scene_of eq grids = record { sizes = sizes_of grids; are_equal = λ a b. are_alike_pixels eq (pixel_from a grids) (pixel_from b grids) }
+
+-- how many places of a size pass a test
+abbrev pub count_places : ℕ → ℕ → (ℕ → ℕ → Bool) → ℕ
+count_places width height test = count_by (λ passes. passes) (flat_map (λ row. row) (table_rows (λ x y. Some (test x y)) width height))
+
+-- how many pixels of a window are equal to a value
+abbrev pub count_equal : {T : Type 0} → Place → T → Scene T → ℕ
+count_equal spot value scene = let w = window_named spot scene.sizes in count_places w.width w.height (λ x y. scene.are_equal (old spot x y) (given value))
+
+-- whether two windows have one size, and equal pixels at each place
+abbrev pub are_same : {T : Type 0} → Place → Place → Scene T → Bool
+are_same first second scene =
+    let v = window_named first scene.sizes in
+    let w = window_named second scene.sizes in
+    agree_at_places v.width w.width v.height w.height (λ x y. scene.are_equal (old first x y) (old second x y))
+
+-- ---- what is answered and what is written
+
+-- a reply that holds a pixel, or one that holds none
+pub data Answer (T : Type 0) : Type 0 where
+  shown : Source T → Answer T
+  told : Reply T → Answer T
+
+-- the reply of an answer
+abbrev pub reply_of : {T : Type 0} → Answer T → List (Grid T) → Reply T
+reply_of (shown source) grids = option_map_or (λ pixel. Pixel pixel) (pixel_from source grids) Done
+reply_of (told reply) grids = reply
+
+-- a window of one image
+pub record Area : Type 0 where
+  pub image : ℕ
+  pub window : Window
+
+-- the window of a place
+abbrev pub window_area : Place → Sizes → Area
+window_area spot sizes = record { image = spot.image; window = window_named spot sizes }
+
+-- column x of row y of that window, alone
+abbrev pub place_area : Place → ℕ → ℕ → Sizes → Area
+place_area spot x y sizes = let w = window_named spot sizes in record { image = spot.image; window = window (w.left + x) (w.top + y) 1 1 }
+
+-- an area that is written, and where the new pixel in column x of its row y comes from
+pub record Change (T : Type 0) : Type 0 where
+  pub area : Area
+  pub pixel : ℕ → ℕ → Source T
+
+-- the grids with the one of the area patched there: each new pixel is as it was before the change
+abbrev pub changed : {T : Type 0} → Change T → List (Grid T) → List (Grid T)
+changed change grids =
+    let image = change.area.image in
+    let w = change.area.window in
+    slice_set grids image (patch (grid_at grids image) w.left w.top (grid w.width w.height (λ x y. pixel_from (change.pixel x y) grids)))
 
 -- ---- meanings
 
--- what a command means: its faults in the order of their tests, and where it has none its reply, by a test of pixels, and the grids after it; and the image that it compacts
+-- what a command means: its faults in the order of their tests, and where it has none what it answers and what it writes; and the image that it compacts
 pub record Meaning (T : Type 0) : Type 0 where
-  pub faults : List (Grid T) → List (Bool × Refusal)
-  pub answer : (T → T → Bool) → List (Grid T) → Reply T
-  pub effect : List (Grid T) → List (Grid T)
+  pub faults : Sizes → List (Bool × Refusal)
+  pub answer : Scene T → Answer T
+  pub change : Sizes → Option (Change T)
   pub compacted : Option ℕ
 
 -- a command that asks: the grids stay
-abbrev pub asks : {T : Type 0} → (List (Grid T) → List (Bool × Refusal)) → ((T → T → Bool) → List (Grid T) → Reply T) → Meaning T
-asks faults answer = record { faults = faults; answer = answer; effect = λ grids. grids; compacted = None }
+abbrev pub asks : {T : Type 0} → (Sizes → List (Bool × Refusal)) → (Scene T → Answer T) → Meaning T
+asks faults answer = record { faults = faults; answer = answer; change = λ _. None; compacted = None }
 
--- a command that writes: it is done
-abbrev pub writes : {T : Type 0} → (List (Grid T) → List (Bool × Refusal)) → (List (Grid T) → List (Grid T)) → Meaning T
-writes faults effect = record { faults = faults; answer = λ _ _. Done; effect = effect; compacted = None }
+-- a command that writes an area: it is done
+abbrev pub writes : {T : Type 0} → (Sizes → List (Bool × Refusal)) → (Sizes → Area) → (ℕ → ℕ → Source T) → Meaning T
+writes faults area pixel = record { faults = faults; answer = λ _. told Done; change = λ sizes. Some (record { area = area sizes; pixel = pixel }); compacted = None }
 
 -- a command that compacts an image: it is done, and no grid changes
 abbrev pub packs : {T : Type 0} → ℕ → Meaning T
-packs image = record { faults = image_faults image; answer = λ _ _. Done; effect = λ grids. grids; compacted = Some image }
-
--- the pixel in column x of row y
-abbrev pub pixel_reply : {T : Type 0} → Grid T → ℕ → ℕ → Reply T
-pixel_reply g x y = option_map_or (λ pixel. Pixel pixel) (g.pixel x y) Done
-
--- how many pixels pass a test
-abbrev pub count_reply : {T : Type 0} → (T → Bool) → Grid T → Reply T
-count_reply test g = Counted (count_by test (grid_pixels g))
-
--- whether two grids agree
-abbrev pub agreement_reply : {T : Type 0} → (T → T → Bool) → Grid T → Grid T → Reply T
-agreement_reply eq g h = Truth (do_agree eq g h)
-
--- the grids with the one of a place patched at a corner
-abbrev pub patched_at : {T : Type 0} → Place → ℕ → ℕ → Grid T → List (Grid T) → List (Grid T)
-patched_at spot left top h grids = slice_set grids spot.image (patch (grid_at grids spot.image) left top h)
+packs image = record { faults = image_faults image; answer = λ _. told Done; change = λ _. None; compacted = Some image }
 
 -- each command
 abbrev pub meaning : {T : Type 0} → Command T → Meaning T
-meaning (Get spot x y) = asks (place_faults spot x y) (λ eq grids. pixel_reply (view_named spot grids) x y)
-meaning (Put spot x y value) = writes (place_faults spot x y) (λ grids. let w = window_named spot grids in patched_at spot (w.left + x) (w.top + y) (uniform 1 1 value) grids)
-meaning (Fill spot value) = writes (window_faults spot) (λ grids. let w = window_named spot grids in patched_at spot w.left w.top (uniform w.width w.height value) grids)
-meaning (Count spot value) = asks (window_faults spot) (λ eq grids. count_reply (λ pixel. eq pixel value) (view_named spot grids))
-meaning (Same first second) = asks (pair_faults first second) (λ eq grids. agreement_reply eq (view_named first grids) (view_named second grids))
-meaning (Blit source target) = writes (copy_faults source target) (λ grids. let w = window_named target grids in patched_at target w.left w.top (view_named source grids) grids)
-meaning (Mosaic spot tile_width tile_height) = writes (tile_faults spot tile_width tile_height) (λ grids. let w = window_named spot grids in patched_at spot w.left w.top (mosaic tile_width tile_height (view_named spot grids)) grids)
+meaning (Get spot x y) = asks (place_faults spot x y) (λ _. shown (old spot x y))
+meaning (Put spot x y value) = writes (place_faults spot x y) (place_area spot x y) (λ _ _. given value)
+meaning (Fill spot value) = writes (window_faults spot) (window_area spot) (λ _ _. given value)
+meaning (Count spot value) = asks (window_faults spot) (λ scene. told (Counted (count_equal spot value scene)))
+meaning (Same first second) = asks (pair_faults first second) (λ scene. told (Truth (are_same first second scene)))
+meaning (Blit source target) = writes (copy_faults source target) (window_area target) (λ x y. old source x y)
+meaning (Mosaic spot tile_width tile_height) = writes (tile_faults spot tile_width tile_height) (window_area spot) (λ x y. old spot (tile_start tile_width x) (tile_start tile_height y))
 meaning (Compact image) = packs image

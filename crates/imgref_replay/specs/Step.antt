@@ -5,7 +5,7 @@ use Rattle.std.specs.Result.{result_err}
 use Rattle.image_model.specs.Layout.{Layout, Fits}
 use Rattle.image_model.specs.Grid.{Grid, grid_of, patch}
 use Rattle.image_model.specs.Kept.{IsKept}
-use Rattle.imgref_replay.specs.Commands.{grid_at, meaning}
+use Rattle.imgref_replay.specs.Commands.{grid_at, sizes_of, scene_of, reply_of, changed, meaning}
 use Rattle.imgref_replay.specs.declared.commands.Command.{Command}
 use Rattle.imgref_replay.specs.declared.commands.Refusal.{Refusal}
 use Rattle.imgref_replay.specs.declared.commands.Reply.{Reply}
@@ -18,15 +18,23 @@ first_fault (test ∷ tests) = if test.0 then Some test.1 else first_fault tests
 
 -- the first fault of a command
 abbrev pub fault_of : {T : Type 0} → Command T → List (Grid T) → Option Refusal
-fault_of command grids = first_fault ((meaning command).faults grids)
+fault_of command grids = first_fault ((meaning command).faults (sizes_of grids))
+
+-- what a command answers that has no fault
+abbrev pub answer_to : {T : Type 0} → (T → T → Bool) → Command T → List (Grid T) → Reply T
+answer_to eq command grids = reply_of ((meaning command).answer (scene_of eq grids)) grids
+
+-- the grids after a command that has no fault
+abbrev pub effect_of : {T : Type 0} → Command T → List (Grid T) → List (Grid T)
+effect_of command grids = option_map_or (λ change. changed change grids) ((meaning command).change (sizes_of grids)) grids
 
 -- the reply to a command: its first fault, or its answer
 abbrev pub reply_to : {T : Type 0} → (T → T → Bool) → Command T → List (Grid T) → Reply T
-reply_to eq command grids = option_map_or (λ refusal. Refused refusal) (fault_of command grids) ((meaning command).answer eq grids)
+reply_to eq command grids = option_map_or (λ refusal. Refused refusal) (fault_of command grids) (answer_to eq command grids)
 
 -- the grids after a command: with a fault they stay
 abbrev pub after : {T : Type 0} → Command T → List (Grid T) → List (Grid T)
-after command grids = option_map_or (λ _. grids) (fault_of command grids) ((meaning command).effect grids)
+after command grids = option_map_or (λ _. grids) (fault_of command grids) (effect_of command grids)
 
 -- whether a command compacts image i, where there is one: a command that is refused names no image
 abbrev pub compacts : {T : Type 0} → ℕ → Command T → Bool
@@ -45,7 +53,7 @@ pub record ShowsCopy {T : Type 0} (i left top : ℕ) (copy : Grid T) (olds news 
 -- a command was carried out, or refused with nothing changed
 pub record IsStep {T : Type 0} (eq : T → T → Bool) (command : Command T) (olds news : List (Layout T)) (result : Result (Reply T) Refusal) : Type 0 where
   pub fault : result_err result ≡ fault_of command (map grid_of olds)
-  pub answer : IfOk result (λ reply. reply ≡ (meaning command).answer eq (map grid_of olds))
+  pub answer : IfOk result (λ reply. reply ≡ answer_to eq command (map grid_of olds))
   pub grids : map grid_of news ≡ after command (map grid_of olds)
   pub kept : AllKept (λ i. compacts i command) olds news
   pub fits : All Fits news

@@ -8,7 +8,7 @@ ghost use Rattle.image_model.specs.Rows.{pixels};
 ghost use Rattle.image_model.specs.Windows.{IsInside};
 ghost use Rattle.imgref.specs.Image.{vec_layout, ref_layout};
 ghost use Rattle.imgref.specs.Window.{as_window};
-ghost use Rattle.imgref_replay.specs.Commands.{grids_of, grid_at, window_named, view_named, window_faults, pair_faults};
+ghost use Rattle.imgref_replay.specs.Commands.{grids_of, grid_at, sizes_of, window_named, view_named, window_faults, place_faults, pair_faults, IsPlaceNamed};
 ghost use Rattle.imgref_replay.specs.Step.{first_fault, IsStep};
 ghost use Rattle.imgref_replay.specs.Run.{IsRun};
 
@@ -20,9 +20,9 @@ use imgref::{ImgRef, ImgVec, Window};
 
 /// The one window of its image that a place names; or the first fault of that name.
 fn locate<T>(images: &[ImgVec<T>], spot: &Place) -> Result<Window, Refusal>
-    ensures fault { result_err result ≡ first_fault (window_faults spot.now (grids_of images.now)) }
+    ensures fault { result_err result ≡ first_fault (window_faults spot.now (sizes_of (grids_of images.now))) }
     ensures image { OnOk result (spot.now.image < length images.now) }
-    ensures window { IfOk result (λ w. as_window w ≡ window_named spot.now (grids_of images.now)) }
+    ensures window { IfOk result (λ w. as_window w ≡ window_named spot.now (sizes_of (grids_of images.now))) }
     ensures inside { IfOk result (λ w. let g = grid_at (grids_of images.now) spot.now.image in IsInside g.width g.height (as_window w)) }
     ensures small { IfOk result (λ w. (w.left + w.width < 2 ^ 64) × (w.top + w.height < 2 ^ 64)) }
 {
@@ -42,11 +42,11 @@ fn locate_both<T>(
     first: &Place,
     second: &Place,
 ) -> Result<(Window, Window), Refusal>
-    ensures fault { result_err result ≡ first_fault (pair_faults first.now second.now (grids_of images.now)) }
+    ensures fault { result_err result ≡ first_fault (pair_faults first.now second.now (sizes_of (grids_of images.now))) }
     ensures first_image { OnOk result (first.now.image < length images.now) }
     ensures second_image { OnOk result (second.now.image < length images.now) }
-    ensures first_window { IfOk result (λ w. as_window w.0 ≡ window_named first.now (grids_of images.now)) }
-    ensures second_window { IfOk result (λ w. as_window w.1 ≡ window_named second.now (grids_of images.now)) }
+    ensures first_window { IfOk result (λ w. as_window w.0 ≡ window_named first.now (sizes_of (grids_of images.now))) }
+    ensures second_window { IfOk result (λ w. as_window w.1 ≡ window_named second.now (sizes_of (grids_of images.now))) }
     ensures first_inside { IfOk result (λ w. let g = grid_at (grids_of images.now) first.now.image in IsInside g.width g.height (as_window w.0)) }
     ensures second_inside { IfOk result (λ w. let g = grid_at (grids_of images.now) second.now.image in IsInside g.width g.height (as_window w.1)) }
 {
@@ -60,7 +60,7 @@ fn locate_both<T>(
 fn show<'i, T>(images: &'i [ImgVec<T>], spot: &Place, window: Window) -> ImgRef<'i, T>
     requires fit { All Fits (map vec_layout images.now) }
     requires image { spot.now.image < length images.now }
-    requires named { as_window window ≡ window_named spot.now (grids_of images.now) }
+    requires named { as_window window ≡ window_named spot.now (sizes_of (grids_of images.now)) }
     requires inside { let g = grid_at (grids_of images.now) spot.now.image in IsInside g.width g.height (as_window window) }
     ensures view { grid_of (ref_layout result) ≡ view_named spot.now (grids_of images.now) }
     ensures fits { Fits (ref_layout result) }
@@ -71,7 +71,7 @@ fn show<'i, T>(images: &'i [ImgVec<T>], spot: &Place, window: Window) -> ImgRef<
 /// What is seen through the window that a place names.
 fn view<'i, T>(images: &'i [ImgVec<T>], spot: &Place) -> Result<ImgRef<'i, T>, Refusal>
     requires { All Fits (map vec_layout images.now) }
-    ensures fault { result_err result ≡ first_fault (window_faults spot.now (grids_of images.now)) }
+    ensures fault { result_err result ≡ first_fault (window_faults spot.now (sizes_of (grids_of images.now))) }
     ensures view { IfOk result (λ seen. grid_of (ref_layout seen) ≡ view_named spot.now (grids_of images.now)) }
     ensures fits { IfOk result (λ seen. Fits (ref_layout seen)) }
 {
@@ -79,8 +79,26 @@ fn view<'i, T>(images: &'i [ImgVec<T>], spot: &Place) -> Result<ImgRef<'i, T>, R
     Ok(show(images, spot, window))
 }
 
+/// The column and the row, in its image, of column `x` of row `y` of a window; or the first fault.
+fn locate_pixel<T>(
+    images: &[ImgVec<T>],
+    spot: &Place,
+    x: usize,
+    y: usize,
+) -> Result<(usize, usize), Refusal>
+    ensures fault { result_err result ≡ first_fault (place_faults spot.now x y (sizes_of (grids_of images.now))) }
+    ensures image { OnOk result (spot.now.image < length images.now) }
+    ensures place { IfOk result (λ place. IsPlaceNamed spot.now x y (grids_of images.now) place.0 place.1) }
+{
+    let window = locate(images, spot)?;
+    if x < window.width && y < window.height {
+        Ok((window.left + x, window.top + y))
+    } else {
+        Err(Refusal::PlaceOutside)
+    }
+}
+
 /// The pixel at a place of a window.
-#[tactic(auto, unfolding(image_model::specs::Grid::grid_of, image_model::specs::Grid::view))]
 fn get<T: Copy + Eq>(
     images: &[ImgVec<T>],
     spot: &Place,
@@ -90,12 +108,8 @@ fn get<T: Copy + Eq>(
     requires { All Fits (map vec_layout images.now) }
     ensures { IsStep T.eq (Command.Get spot.now x y) (map vec_layout images.now) (map vec_layout images.now) result }
 {
-    let seen = view(images, spot)?;
-    if x < seen.width() && y < seen.height() {
-        Ok(Reply::Pixel(seen[(x, y)]))
-    } else {
-        Err(Refusal::PlaceOutside)
-    }
+    let place = locate_pixel(images, spot, x, y)?;
+    Ok(Reply::Pixel(images[spot.image][place]))
 }
 
 /// Writes the pixel at a place of a window.
@@ -109,13 +123,9 @@ fn put<T: Copy + Eq>(
     requires { All Fits (map vec_layout images.old) }
     ensures { IsStep T.eq (Command.Put spot.now x y value) (map vec_layout images.old) (map vec_layout images.new) result }
 {
-    let window = locate(images, spot)?;
-    if x < window.width && y < window.height {
-        images[spot.image].put(window.left + x, window.top + y, value);
-        Ok(Reply::Done)
-    } else {
-        Err(Refusal::PlaceOutside)
-    }
+    let (column, row) = locate_pixel(images, spot, x, y)?;
+    images[spot.image].put(column, row, value);
+    Ok(Reply::Done)
 }
 
 /// Writes the value at every place of a window.

@@ -16,6 +16,7 @@ fill_window-requires g c =
     }
 
 pub returns : goal.returns
+unfolding uniform
 returns g c =
     let images = c.args.images.now in
     let spot = c.args.spot.now in

@@ -1,4 +1,5 @@
 use Rattle.std.proofs.Common.{refl, ap}
+use Rattle.image_model.specs.Grid.{view}
 use Rattle.imgref.specs.Image.{ref_layout}
 use Rattle.imgref_replay.specs.Commands.{grids_of, view_named}
 use Rattle.imgref_replay.specs.declared.commands.Reply.TheVariants.{Truth}
@@ -7,6 +8,7 @@ use Rattle.imgref_replay.proofs.Steps.{asked}
 use Rattle.imgref_replay.proofs.step.same.Goals as goal
 
 pub returns : goal.returns
+unfolding view
 returns g c =
     let eq = g.T.PartialEq.eq in
     let grids = grids_of c.args.images.now in
