@@ -4,12 +4,12 @@ ghost use Rattle.std.specs.Prelude.{◌≡◌};
 ghost use Rattle.imgref_run.specs.Line.{place_of};
 ghost use Rattle.texts.specs.Parts.{parts_left};
 ghost use Rattle.imgref_run.specs.Reading.{Gives, path_of, path_at, place_at};
-ghost use Rattle.text_model.specs.Reading.{each_of};
+ghost use Rattle.text_model.specs.Reading.{each_of, first_of_parts};
 
 use crate::fault::LineFault;
 use imgref_replay::{Place, Window};
 use std::alloc::Global;
-use texts::{Field, Parts, next};
+use texts::{Field, Parts};
 
 /// The values that all parts that are left are the texts of. There is room for this many from the
 /// start.
@@ -28,6 +28,13 @@ pub(crate) fn each<T: Field>(
         values.push(value)?;
     }
     Ok(values)
+}
+
+/// The value that the next field is the text of.
+pub(crate) fn next_value<T: Field>(fields: &mut Parts<'_>) -> Result<T, LineFault>
+    ensures { Gives (λ x. (x, parts_left fields.new)) result (first_of_parts T.reading (parts_left fields.old)) }
+{
+    texts::next(fields).ok_or(LineFault::Bad)
 }
 
 /// The path that the field is the text of.
@@ -56,7 +63,7 @@ fn next_path(alloc: Global, fields: &mut Parts<'_>) -> Result<Vec<Window>, LineF
 pub(crate) fn next_place(alloc: Global, fields: &mut Parts<'_>) -> Result<Place, LineFault>
     ensures { Gives (λ p. (place_of p, parts_left fields.new)) result (place_at (parts_left fields.old)) }
 {
-    let image = next(fields).ok_or(LineFault::Bad)?;
+    let image = next_value(fields)?;
     let path = next_path(alloc, fields)?;
     Ok(Place { image, path })
 }

@@ -8,11 +8,11 @@ ghost use Rattle.texts.specs.Parts.{parts_left};
 ghost use Rattle.imgref_run.specs.Reading.{Gives, order_at, order_in, image_in, line_in};
 
 use crate::fault::LineFault;
-use crate::fields::{each, next_place};
+use crate::fields::{each, next_place, next_value};
 use imgref::{Img, ImgVec};
 use imgref_replay::Command;
 use std::alloc::Global;
-use texts::{Parts, next};
+use texts::Parts;
 
 /// What a line stands for.
 #[derive(Drop)]
@@ -27,9 +27,9 @@ pub(crate) enum Line {
 fn read_image(alloc: Global, fields: &mut Parts<'_>) -> Result<ImgVec<u8>, LineFault>
     ensures { Gives vec_layout result (image_in (parts_left fields.old)) }
 {
-    let width = next(fields).ok_or(LineFault::Bad)?;
-    let height = next(fields).ok_or(LineFault::Bad)?;
-    let stride = next(fields).ok_or(LineFault::Bad)?;
+    let width = next_value(fields)?;
+    let height = next_value(fields)?;
+    let stride = next_value(fields)?;
     let cells = each(alloc, fields, 0)?;
     let greatest = u32::MAX as usize;
     if width > greatest || height > greatest || stride < 1 || stride < width {
@@ -50,25 +50,25 @@ fn command_at(alloc: Global, word: &[u8], fields: &mut Parts<'_>) -> Result<Comm
     if word == b"get".as_slice() {
         Ok(Command::Get {
             spot: next_place(alloc, fields)?,
-            x: next(fields).ok_or(LineFault::Bad)?,
-            y: next(fields).ok_or(LineFault::Bad)?,
+            x: next_value(fields)?,
+            y: next_value(fields)?,
         })
     } else if word == b"put".as_slice() {
         Ok(Command::Put {
             spot: next_place(alloc, fields)?,
-            x: next(fields).ok_or(LineFault::Bad)?,
-            y: next(fields).ok_or(LineFault::Bad)?,
-            value: next(fields).ok_or(LineFault::Bad)?,
+            x: next_value(fields)?,
+            y: next_value(fields)?,
+            value: next_value(fields)?,
         })
     } else if word == b"fill".as_slice() {
         Ok(Command::Fill {
             spot: next_place(alloc, fields)?,
-            value: next(fields).ok_or(LineFault::Bad)?,
+            value: next_value(fields)?,
         })
     } else if word == b"count".as_slice() {
         Ok(Command::Count {
             spot: next_place(alloc, fields)?,
-            value: next(fields).ok_or(LineFault::Bad)?,
+            value: next_value(fields)?,
         })
     } else if word == b"same".as_slice() {
         Ok(Command::Same {
@@ -83,12 +83,12 @@ fn command_at(alloc: Global, word: &[u8], fields: &mut Parts<'_>) -> Result<Comm
     } else if word == b"mosaic".as_slice() {
         Ok(Command::Mosaic {
             spot: next_place(alloc, fields)?,
-            tile_width: next(fields).ok_or(LineFault::Bad)?,
-            tile_height: next(fields).ok_or(LineFault::Bad)?,
+            tile_width: next_value(fields)?,
+            tile_height: next_value(fields)?,
         })
     } else if word == b"compact".as_slice() {
         Ok(Command::Compact {
-            image: next(fields).ok_or(LineFault::Bad)?,
+            image: next_value(fields)?,
         })
     } else {
         Err(LineFault::Bad)
