@@ -60,6 +60,30 @@ fn every_command<T: Copy>(one: T, other: T) -> [Line<T>; 16] {
     ]
 }
 
+// The replies to them. Where both pixels are equal, all four are found, and two columns are the same.
+fn due<T: Copy + Eq>(one: T, other: T) -> [Reply<T>; 16] {
+    let is_same = one == other;
+    let found = if is_same { 4 } else { 3 };
+    [
+        Reply::Done,
+        Reply::Pixel(other),
+        Reply::Pixel(one),
+        Reply::Refused(Refusal::PlaceOutside),
+        Reply::Counted(found),
+        Reply::Done,
+        Reply::Counted(found),
+        Reply::Done,
+        Reply::Counted(2),
+        Reply::Truth(is_same),
+        Reply::Truth(false),
+        Reply::Done,
+        Reply::Done,
+        Reply::Refused(Refusal::NoTile),
+        Reply::Done,
+        Reply::Done,
+    ]
+}
+
 #[test]
 fn pixels_may_have_fields(rt: HostRuntime) -> Result<(), Fail> {
     let commands = commands(rt.alloc(), &every_command(SKY, SAND))?;
@@ -70,25 +94,7 @@ fn pixels_may_have_fields(rt: HostRuntime) -> Result<(), Fail> {
         image(&rt, rt.alloc(), &[SKY, SAND, SAND, SAND, SKY], [2, 2, 3])?,
     ];
     let replies = replay(rt.alloc(), &mut images, &commands)?;
-    let due = [
-        Reply::Done,
-        Reply::Pixel(SAND),
-        Reply::Pixel(SKY),
-        Reply::Refused(Refusal::PlaceOutside),
-        Reply::Counted(3),
-        Reply::Done,
-        Reply::Counted(3),
-        Reply::Done,
-        Reply::Counted(2),
-        Reply::Truth(false),
-        Reply::Truth(false),
-        Reply::Done,
-        Reply::Done,
-        Reply::Refused(Refusal::NoTile),
-        Reply::Done,
-        Reply::Done,
-    ];
-    assert!(rt; replies.as_slice() == due.as_slice());
+    assert!(rt; replies.as_slice() == due(SKY, SAND).as_slice());
     assert!(rt; has(&images[0], 3, &[SAND, SAND, SKY, SAND, SAND]));
     assert!(rt; has(&images[1], 3, &[SKY, SAND, SKY, SKY, SAND]));
     assert!(rt; has(&images[2], 2, &[SAND, SAND, SKY, SKY]));
@@ -106,25 +112,7 @@ fn pixels_may_have_no_size(rt: HostRuntime) -> Result<(), Fail> {
         image(&rt, rt.alloc(), &[(); 5], [2, 2, 3])?,
     ];
     let replies = replay(rt.alloc(), &mut images, &commands)?;
-    let due = [
-        Reply::Done,
-        Reply::Pixel(()),
-        Reply::Pixel(()),
-        Reply::Refused(Refusal::PlaceOutside),
-        Reply::Counted(4),
-        Reply::Done,
-        Reply::Counted(4),
-        Reply::Done,
-        Reply::Counted(2),
-        Reply::Truth(true),
-        Reply::Truth(false),
-        Reply::Done,
-        Reply::Done,
-        Reply::Refused(Refusal::NoTile),
-        Reply::Done,
-        Reply::Done,
-    ];
-    assert!(rt; replies.as_slice() == due.as_slice());
+    assert!(rt; replies.as_slice() == due((), ()).as_slice());
     assert!(rt; has(&images[0], 3, &[(); 5]));
     assert!(rt; has(&images[1], 3, &[(); 5]));
     assert!(rt; has(&images[2], 2, &[(); 4]));
