@@ -1,9 +1,9 @@
 -- Clones that equal what they were made of, row by row.
-use Rattle.std.proofs.Common.{◌≡◌, ℕ, suc, ◌+◌, List, [], ◌∷◌, ◌++◌, refl, subst, sym, ap, ◌∙◌, arith}
+use Rattle.std.proofs.Common.{◌≡◌, ℕ, suc, ◌+◌, List, [], ◌∷◌, ◌++◌, refl, subst, ap, ◌∙◌, arith}
 use Rattle.std.specs.List.{AllZip, AppendsClones}
 use Rattle.image_model.specs.Layout.{Layout}
-use Rattle.image_model.specs.Rows.{row, joined_rows}
-use Rattle.image_model.proofs.Rows.{joined_upto, joined_upto_more, joined_is}
+use Rattle.image_model.specs.Rows.{row, row_count, joined_rows}
+use Rattle.image_model.proofs.Rows.{joined_upto, joined_upto_more}
 use Rattle.image_cells.specs.Clones.{ClonesEqual}
 
 module _ {T : Type 0} (is_clone : T → T → Type 0) where
@@ -38,6 +38,5 @@ module _ {T : Type 0} (is_clone : T → T → Type 0) where
         (all_clones (joined_upto l n) old (row l n) a.0 h (subst (λ us. AllZip is_clone us a.0) e a.2))
 
     -- the clones of all rows are the joined rows
-    pub all_rows_cloned : (pixels : List T) → ClonesEqual is_clone (joined_rows l) → AreClonesUpto l.height pixels → pixels ≡ joined_rows l
-    all_rows_cloned pixels e h =
-        equal_clones (joined_rows l) pixels e (subst (λ us. AllZip is_clone us pixels) (sym (joined_is l.cells l.width l.height l.stride)) h)
+    pub all_rows_cloned : (pixels : List T) → ClonesEqual is_clone (joined_rows l) → AreClonesUpto (row_count l.width l.height) pixels → pixels ≡ joined_rows l
+    all_rows_cloned pixels e h = equal_clones (joined_rows l) pixels e h

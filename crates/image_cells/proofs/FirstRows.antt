@@ -6,15 +6,11 @@ use Rattle.std.specs.Hash.{HashWrites, fed_then, fed_along}
 use Rattle.std.proofs.lemmas.List.{flat_map_more}
 use Rattle.std.proofs.lemmas.List.FromFn.{map-range_with_len_more, length-map-range_with_len}
 use Rattle.image_model.specs.Layout.{Layout}
-use Rattle.image_model.specs.Rows.{row, rows}
-use Rattle.image_model.proofs.Rows.{row_count-wide}
+use Rattle.image_model.specs.Rows.{row, rows, row_count}
 
 -- the first rows of a layout
 abbrev pub first_rows : {T : Type 0} → Layout T → ℕ → List (List T)
 first_rows l n = map (row l) (range_with_len 0 n)
-
-all_rows : {T : Type 0} (l : Layout T) → 0 < l.width → rows l ≡ first_rows l l.height
-all_rows l wide = ap (first_rows l) (row_count-wide l.width l.height wide)
 
 one_more : {T : Type 0} (l : Layout T) (n : ℕ) → first_rows l (n + 1) ≡ first_rows l n ++ row l n ∷ []
 one_more l n = map-range_with_len_more (row l) 0 n n (omega arith)
@@ -61,20 +57,20 @@ module _ {T : Type 0} (E : T → T → Bool) (a b : Layout T) where
   pub one_equal : (n : ℕ) → equal_upto n ≡ true → pointwise E (row a n) (row b n) ≡ true → equal_upto (n + 1) ≡ true
   one_equal n h k = more n ∙ (λ i. h i && k i)
 
-  module _ (wide : 0 < a.width) (same_width : a.width ≡ b.width) (same_height : a.height ≡ b.height) where
-    both_wide : 0 < b.width
-    both_wide = omega (arith, wide, same_width)
+  module _ (same_width : a.width ≡ b.width) (same_height : a.height ≡ b.height) where
+    abbrev count : ℕ
+    count = row_count a.width a.height
 
     -- the rows are equal if all of them are
-    pub all_equal : pointwise (pointwise E) (rows a) (rows b) ≡ equal_upto a.height
-    all_equal = λ i. pointwise (pointwise E) (all_rows a wide i) ((all_rows b both_wide ∙ ap (first_rows b) (sym same_height)) i)
+    pub all_equal : pointwise (pointwise E) (rows a) (rows b) ≡ equal_upto count
+    all_equal = λ i. pointwise (pointwise E) (rows a) (first_rows b (row_count (sym same_width i) (sym same_height i)))
 
     -- one that differs tells them apart
-    pub one_differs : (n : ℕ) → n < a.height → pointwise E (row a n) (row b n) ≡ false → pointwise (pointwise E) (rows a) (rows b) ≡ false
+    pub one_differs : (n : ℕ) → n < count → pointwise E (row a n) (row b n) ≡ false → pointwise (pointwise E) (rows a) (rows b) ≡ false
     one_differs n below d =
         let first : equal_upto (n + 1) ≡ false = more n ∙ ap (λ t. equal_upto n && t) d ∙ and_false (equal_upto n) in
-        let e : n + 1 + (a.height - (n + 1)) ≡ a.height = omega arith in
-        all_equal ∙ sym (ap equal_upto e) ∙ stays (n + 1) (a.height - (n + 1)) first
+        let e : n + 1 + (count - (n + 1)) ≡ count = omega arith in
+        all_equal ∙ sym (ap equal_upto e) ∙ stays (n + 1) (count - (n + 1)) first
 
 -- ---- fed
 
@@ -88,7 +84,3 @@ module _ {S T : Type 0} (write : S → List ℕ → S) (F : T → HashWrites) (l
   one_fed n s t u r e h k =
       fed_along write s u (flat_map_more (flat_map F) [] (first_rows l n) (row l n) ∙ ap (flat_map (flat_map F)) (sym (one_more l n)))
       (fed_then write s t u (fed_upto n) (flat_map F (row l n)) h (k ∙ ap (λ q. fold write t (flat_map F q)) e))
-
-  -- all rows are fed
-  pub all_fed : 0 < l.width → fed_upto l.height ≡ flat_map (flat_map F) (rows l)
-  all_fed wide = ap (flat_map (flat_map F)) (sym (all_rows l wide))

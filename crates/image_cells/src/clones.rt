@@ -39,11 +39,8 @@ pub fn joined_clones<T: Clone>(
     ensures joined { IfOk result (λ v. v.items ≡ joined_rows (shaped cells.now shape)) }
     ensures succeeds { shape_width shape * shape_height shape ≡ 0 → IsOk result }
 {
-    let mut pixels = Vec::with_capacity(alloc, shape.width() * shape.height())?;
-    if shape.width() == 0 {
-        return Ok(pixels);
-    }
-    for y in 0..shape.height() {
+    let mut pixels: Vec<T> = Vec::with_capacity(alloc, shape.width() * shape.height())?;
+    for y in 0..shape.row_count() {
         pixels.extend_from_slice(row(cells, shape, y))?;
     }
     Ok(pixels)

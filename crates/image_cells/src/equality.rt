@@ -23,10 +23,7 @@ fn have_equal_rows<T: PartialEq>(
     requires same_height { shape_height first_shape ≡ shape_height second_shape }
     ensures { result ≡ pointwise (pointwise T.eq) (rows_of (shaped first.now first_shape)) (rows_of (shaped second.now second_shape)) }
 {
-    if first_shape.width() == 0 {
-        return true;
-    }
-    for y in 0..first_shape.height() {
+    for y in 0..first_shape.row_count() {
         if row(first, first_shape, y) != row(second, second_shape, y) {
             return false;
         }

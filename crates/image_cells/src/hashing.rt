@@ -15,10 +15,10 @@ pub fn feed<T: Hash, H: Hasher>(cells: &[T], shape: Shape, state: &mut H)
 {
     state.write_u32(shape.width() as u32);
     state.write_u32(shape.height() as u32);
-    if !shape.fits(cells.len()) || shape.width() == 0 {
+    if !shape.fits(cells.len()) {
         return;
     }
-    for y in 0..shape.height() {
+    for y in 0..shape.row_count() {
         T::hash_slice(row(cells, shape, y), state);
     }
 }

@@ -43,10 +43,7 @@ pub fn agree_at_places<T, U, F: Fn(&T, &U) -> bool>(
     {
         return false;
     }
-    if first_shape.width() == 0 {
-        return true;
-    }
-    for y in 0..first_shape.height() {
+    for y in 0..first_shape.row_count() {
         if !agree(row(first, first_shape, y), row(second, second_shape, y), f) {
             return false;
         }

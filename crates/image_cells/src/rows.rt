@@ -17,11 +17,10 @@ pub fn row_start<T>(cells: &[T], shape: Shape, y: usize) -> usize
     ensures room { result + shape_width shape ≤ length cells.now }
     ensures cells { take (shape_width shape) (drop result cells.now) ≡ row_of (shaped cells.now shape) y }
 {
-    let _len = cells.len();
-    if shape.width() == 0 {
-        0
+    if y < shape.row_count() {
+        shape.row(cells.len(), y).start
     } else {
-        y * shape.stride()
+        0
     }
 }
 

@@ -11,7 +11,7 @@ use Rattle.std.proofs.lemmas.Bool.Decides.{nat_tests}
 use Rattle.std.proofs.Math.Nat.{mul-le-mul_left}
 use Rattle.std.proofs.lemmas.Option.{slice_get_cases, slice_get-get_or}
 use Rattle.std.proofs.lemmas.Bool.{cond-false, cond_both, ne_eqb}
-use Rattle.image_model.specs.Layout.{Layout, layout, Fits, pixel}
+use Rattle.image_model.specs.Layout.{Layout, layout, Reaches, Fits, pixel}
 use Rattle.image_model.specs.Grid.{grid_of}
 use Rattle.image_model.specs.Rows.{row, rows, row_count, joined_rows, grid_row, grid_rows, grid_joined_rows}
 use Rattle.image_model.proofs.Cells.{slice_get-take, slice_get-drop}
@@ -74,6 +74,18 @@ some_column (suc width) height y below = omega arith
 
 pub row_count-le : (width height : ℕ) → row_count width height ≤ height
 row_count-le width height = cond_both (width == 0) 0 height (λ n. n ≤ height) (λ _. omega arith) (λ _. omega arith)
+
+-- a size of some height without this row has no column
+pub no_column : (width height y : ℕ) → row_count width height ≤ y → y < height → width ≡ 0
+no_column zero height y none high = refl
+no_column (suc v) height y none high = absurd (omega (arith, none, high, row_count-wide (suc v) height (omega arith)))
+
+-- where there is a row there is a pixel
+pub some_pixel : (width height y : ℕ) → y < row_count width height → 0 < width * height
+some_pixel width height y below =
+    let one : 1 ≤ width = some_column width height y below in
+    let high : 1 ≤ height = omega (arith, below, row_count-le width height) in
+    omega (arith, mul-le-mul_left width high)
 
 -- ---- the rows of a grid
 
@@ -143,10 +155,16 @@ length-joined_upto l (suc n) h =
     let one = length-row l n (h n (omega arith)) in
     rw (joined_upto_suc l n) (omega (arith, length-append (joined_upto l n) (row l n), length-joined_upto l n below, one))
 
+-- cells that fit a size have each row that has a pixel
+pub row_reached : (count width height stride y : ℕ) → Reaches count width height stride → y < row_count width height → y * stride + width ≤ count
+row_reached count width height stride y fits below =
+    let some = some_column width height y below in
+    let high : y < height = omega (arith, below, row_count-le width height) in
+    let le : y ≤ height - 1 = omega arith in
+    omega (arith, fits some (omega arith), mul-le-mul_left stride le)
+
 pub rows_from_fits : {T : Type 0} (l : Layout T) → Fits l → 0 < l.width → HasRows l l.height
-rows_from_fits l fits some y lt =
-    let le : y ≤ l.height - 1 = omega arith in
-    omega (arith, fits some (omega arith), mul-le-mul_left l.stride le)
+rows_from_fits l fits some y lt = row_reached (length l.cells) l.width l.height l.stride y fits (rw (row_count-wide l.width l.height some) lt)
 
 -- where the rows touch, the joined rows are the first cells
 joined_touching : {T : Type 0} (l : Layout T) (n : ℕ) → l.width ≡ l.stride → joined_upto l n ≡ take (n * l.width) l.cells

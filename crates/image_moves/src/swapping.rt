@@ -26,13 +26,13 @@ fn swap_apart<T>(cells: &mut [T], shape: Shape, upper: usize, lower: usize)
     ensures grid { grid_of (shaped cells.new shape) ≡ rows_swapped upper lower (grid_of (shaped cells.old shape)) }
     ensures outside { SameOutside (shaped cells.old shape) (shaped cells.new shape) }
 {
-    let width = shape.width();
-    let stride = shape.stride();
-    // An image of no column may have more rows than it has cells.
-    if width == 0 {
+    // Without a column there is nothing to swap.
+    if lower >= shape.row_count() {
         return;
     }
-    swap_stretches(cells, upper * stride, lower * stride, width);
+    let first = shape.row(cells.len(), upper);
+    let second = shape.row(cells.len(), lower);
+    swap_stretches(cells, first.start, second.start, second.len);
 }
 
 /// The pixels of rows `y` and `z` of `shape` in `cells` change places, and the padding stays. The

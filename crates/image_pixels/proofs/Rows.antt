@@ -3,11 +3,12 @@ use Rattle.std.proofs.Common.{◌≡◌, ℕ, zero, suc, ◌+◌, ◌-◌, ◌*�
 use Rattle.std.specs.List.{slice_get}
 use Rattle.std.proofs.lemmas.Bool.{cases_lt}
 use Rattle.std.proofs.Math.Nat.{mul-le-mul_right}
-use Rattle.image_model.specs.Layout.{pixel, Layout, layout, Fits, IsPadding, SameOutside}
+use Rattle.image_model.specs.Layout.{pixel, layout, Fits, IsPadding, SameOutside}
 use Rattle.image_model.specs.Grid.{grid, grid_of}
+use Rattle.image_model.specs.Rows.{row_count}
 use Rattle.image_model.specs.Windows.{Stretch, with_stretch}
-use Rattle.image_model.proofs.Grids.{at_place, same_grids}
-use Rattle.image_model.proofs.Rows.{HasRows, rows_from_fits}
+use Rattle.image_model.proofs.Grids.{same_grids}
+use Rattle.image_model.proofs.Rows.{row_reached, row_count-le, row_count-wide}
 use Rattle.image_model.proofs.Stretches.{length-with_stretch, with_stretch_at, with_stretch_beside}
 
 -- one cell more
@@ -18,82 +19,88 @@ filled_more (suc n) value (x ∷ xs) within =
     let on : suc n + 1 ≡ suc (n + 1) = omega arith in
     ap (λ ys. value ∷ ys) (filled_more n value xs (omega (arith, within))) ∙ ap (λ k. replicate k value ++ drop k (x ∷ xs)) (sym on)
 
--- each place has its pixel of a table, and what is outside the places stays
-pub record Shows {T : Type 0} (old new : Layout T) (at : ℕ → ℕ → Option T) : Type 0 where
-  pub grid_is : grid_of new ≡ grid old.width old.height at
-  pub outside_stays : SameOutside old new
+-- the cells that a loop writes over are as many as a row has
+pub row_length : {T : Type 0} (old now : List T) (w h s y start len : ℕ) → Fits (layout old w h s) → y < row_count w h → start ≡ y * s → len ≡ w → length now ≡ length old
+    → length (take (start + len - start) (drop start now)) ≡ w
+row_length old now w h s y start len fits below from count same =
+    omega (arith, from, count, row_reached (length old) w h s y fits below, same, length-take (start + len - start) (drop start now), length-drop start now)
 
--- where there is no place, nothing is left to write
-pub shows_nothing : {T : Type 0} (l : Layout T) (at : ℕ → ℕ → Option T) → (0 < l.width → 0 < l.height → ⊥) → Shows l l at
+-- each place of the first y rows has a pixel that is right there, and all other cells are as before
+pub record RowsDone {T : Type 0} (IsRight : ℕ → ℕ → Option T → Type 0) (old new : List T) (w s y : ℕ) : Type 0 where
+  pub as_many : length new ≡ length old
+  pub each : (x j : ℕ) → x < w → j < y → IsRight x j (slice_get new (j * s + x))
+  pub others : (k : ℕ) → IsPadding w y s k → slice_get new k ≡ slice_get old k
+
+module _ {T : Type 0} (IsRight : ℕ → ℕ → Option T → Type 0) where
+  -- no row is written yet
+  pub no_row : (cells : List T) (w s : ℕ) → RowsDone IsRight cells cells w s 0
+  no_row cells w s = record { as_many = refl; each = λ x j column line. absurd (omega (arith, line)); others = λ k other. refl }
+
+  -- a cell of row y is as it was
+  pub still : (old now : List T) (w s y x : ℕ) → w ≤ s → x < w → RowsDone IsRight old now w s y → slice_get now (y * s + x) ≡ slice_get old (y * s + x)
+  still old now w s y x wide column so =
+      so.others (y * s + x) (record {
+        no_place = λ u j inside line at.
+            let next : (j + 1) * s ≤ y * s = mul-le-mul_right s (omega arith) in
+            absurd (omega (arith, next, at, inside, wide));
+      })
+
+  module _ (old now line : List T) (w h s y : ℕ) (fits : Fits (layout old w h s)) (below : y < row_count w h) where
+    -- one row more
+    pub one_row_more : w ≤ s → length line ≡ w → ((x : ℕ) → x < w → IsRight x y (slice_get line x)) → RowsDone IsRight old now w s y
+        → RowsDone IsRight old (with_stretch now (record { start = y * s; len = w }) line) w s (y + 1)
+    one_row_more wide long right so =
+        let row : Stretch = record { start = y * s; len = w } in
+        let new : List T = with_stretch now row line in
+        let inside : y * s + w ≤ length now = omega (arith, row_reached (length old) w h s y fits below, so.as_many) in
+        record {
+          as_many = length-with_stretch now row line inside long ∙ so.as_many;
+          each = λ x j column upto.
+              elim (cases_lt j y) [
+                | inl earlier ↦
+                    let next : (j + 1) * s ≤ y * s = mul-le-mul_right s (omega arith) in
+                    subst (IsRight x j) (sym (with_stretch_beside now row line inside long (j * s + x) (inl (omega (arith, next))))) (so.each x j column earlier)
+                | inr last ↦
+                    let this : y ≡ j = omega (arith, upto, last) in
+                    subst (λ n. IsRight x n (slice_get new (n * s + x))) this (subst (IsRight x y) (sym (with_stretch_at now row line inside x (omega (arith, long)))) (right x column))
+              ];
+          others = λ k other.
+              let stays = so.others k (record { no_place = λ x j column before. other.no_place x j column (omega arith) }) in
+              elim (cases_lt k (y * s)) [
+                | inl ahead ↦ with_stretch_beside now row line inside long k (inl ahead) ∙ stays
+                | inr behind ↦
+                    elim (cases_lt k (y * s + w)) [
+                      | inl here ↦ let at : y * s + (k - y * s) ≡ k = omega arith in absurd (other.no_place (k - y * s) y (omega arith) (omega arith) at)
+                      | inr after ↦ with_stretch_beside now row line inside long k (inr after) ∙ stays
+                    ]
+              ];
+        }
+
+    module _ (start len : ℕ) (from : start ≡ y * s) (count : len ≡ w) where
+      -- the same of the cells that a loop leaves: those before the row, the row, and those behind it
+      pub row_written : w ≤ s → length line ≡ w → ((x : ℕ) → x < w → IsRight x y (slice_get line x)) → RowsDone IsRight old now w s y
+          → RowsDone IsRight old (take start now ++ (line ++ drop (start + len - start) (drop start now))) w s (y + 1)
+      row_written wide long right so =
+          let back : start + len - start ≡ w = omega (arith, count) in
+          let rest : drop (start + len - start) (drop start now) ≡ drop (y * s + w) now = ap (λ n. drop n (drop start now)) back ∙ drop-drop w start now ∙ ap (λ n. drop (n + w) now) from in
+          subst (λ cells. RowsDone IsRight old cells w s (y + 1)) (λ i. take (sym from i) now ++ (line ++ sym rest i)) (one_row_more wide long right so)
+
+  -- all rows are written, and what is outside the places stays
+  pub outside_stays : (old new : List T) (w h s y : ℕ) → y ≡ row_count w h → RowsDone IsRight old new w s y → SameOutside (layout old w h s) (layout new w h s)
+  outside_stays old new w h s y all so = record {
+    width_stays = refl;
+    height_stays = refl;
+    stride_stays = refl;
+    length_stays = so.as_many;
+    padding_stays = λ k padding. so.others k (record { no_place = λ x j column line. padding.no_place x j column (omega (arith, line, all, row_count-le w h)) });
+  }
+
+  -- and each place is right
+  pub all_right : (old new : List T) (w h s y x j : ℕ) → y ≡ row_count w h → x < w → j < h → RowsDone IsRight old new w s y → IsRight x j (slice_get new (j * s + x))
+  all_right old new w h s y x j all column line so = so.each x j column (omega (arith, line, all, row_count-wide w h (omega (arith, column))))
+
+-- where each row is that of a table, the grid is the table
+pub shows_table : {T : Type 0} (at : ℕ → ℕ → Option T) (old new : List T) (w h s y : ℕ) → y ≡ row_count w h → RowsDone (λ x j p. p ≡ at x j) old new w s y → grid_of (layout new w h s) ≡ grid w h at
 unfolding grid_of
-shows_nothing l at none = record {
-  grid_is = same_grids l.width l.height (pixel l) at (λ x y column line. absurd (none (omega arith) (omega arith)));
-  outside_stays = record { width_stays = refl; height_stays = refl; stride_stays = refl; length_stays = refl; padding_stays = λ k padding. refl };
-}
-
--- one row more
-pub shows_row : {T : Type 0} (old now line : List T) (w h s y : ℕ) (at : ℕ → ℕ → Option T) → Fits (layout old w h s) → 0 < w → w ≤ s → y < h → length line ≡ w → ((x : ℕ) → x < w → slice_get line x ≡ at x y)
-    → Shows (layout old w y s) (layout now w y s) at
-    → Shows (layout old w (y + 1) s) (layout (with_stretch now (record { start = y * s; len = w }) line) w (y + 1) s) at
-unfolding grid_of
-shows_row {T} old now line w h s y at fits some wide below long is so =
-    let row : Stretch = record { start = y * s; len = w } in
-    let new : List T = with_stretch now row line in
-    let same : length now ≡ length old = so.outside_stays.length_stays in
-    let has : HasRows (layout old w h s) h = rows_from_fits (layout old w h s) fits some in
-    let inside : y * s + w ≤ length now = omega (arith, has y below) in
-    record {
-      grid_is =
-          same_grids w (y + 1) (λ x j. slice_get new (j * s + x)) at (λ x j column upto.
-          elim (cases_lt j y) [
-            | inl earlier ↦
-                let next : (j + 1) * s ≤ y * s = mul-le-mul_right s (omega arith) in
-                with_stretch_beside now row line inside long (j * s + x) (inl (omega (arith, next)))
-                ∙ sym (at_place w y (λ x j. slice_get now (j * s + x)) x j column earlier)
-                ∙ ap (λ g. g.pixel x j) so.grid_is
-                ∙ at_place w y at x j column earlier
-            | inr last ↦
-                let this : j ≡ y = omega (arith, upto) in
-                ap (λ k. slice_get new (k * s + x)) this ∙ with_stretch_at now row line inside x (omega (arith, long)) ∙ is x column ∙ ap (at x) (sym this)
-          ]);
-      outside_stays = record {
-        width_stays = refl;
-        height_stays = refl;
-        stride_stays = refl;
-        length_stays = length-with_stretch now row line inside long ∙ same;
-        padding_stays = λ k padding.
-            let earlier : IsPadding w y s k = record { no_place = λ x j column before. padding.no_place x j column (omega arith) } in
-            let stays = so.outside_stays.padding_stays k earlier in
-            elim (cases_lt k (y * s)) [
-              | inl before ↦ with_stretch_beside now row line inside long k (inl before) ∙ stays
-              | inr behind ↦
-                  elim (cases_lt k (y * s + w)) [
-                    | inl here ↦ let at : y * s + (k - y * s) ≡ k = omega arith in absurd (padding.no_place (k - y * s) y (omega arith) (omega arith) at)
-                    | inr after ↦ with_stretch_beside now row line inside long k (inr after) ∙ stays
-                  ]
-            ];
-      };
-    }
-
--- the same of the cells that a loop leaves: those before the row, the row, and those behind it
-pub row_written : {T : Type 0} (old now line : List T) (w h s y : ℕ) (at : ℕ → ℕ → Option T) → Fits (layout old w h s) → 0 < w → w ≤ s → y < h → length line ≡ w → ((x : ℕ) → x < w → slice_get line x ≡ at x y)
-    → Shows (layout old w y s) (layout now w y s) at
-    → Shows (layout old w (y + 1) s) (layout (take (y * s) now ++ (line ++ drop (y * s + w - y * s) (drop (y * s) now))) w (y + 1) s) at
-row_written old now line w h s y at fits some wide below long is so =
-    let back : y * s + w - y * s ≡ w = omega arith in
-    let rest : drop (y * s + w - y * s) (drop (y * s) now) ≡ drop (y * s + w) now = ap (λ n. drop n (drop (y * s) now)) back ∙ drop-drop w (y * s) now in
-    subst (λ cells. Shows (layout old w (y + 1) s) (layout cells w (y + 1) s) at) (λ i. take (y * s) now ++ (line ++ sym rest i)) (shows_row old now line w h s y at fits some wide below long is so)
-
--- so many cells of such a list are the row that is written over
-pub row_length : {T : Type 0} (old now : List T) (w h s y : ℕ) → Fits (layout old w h s) → 0 < w → y < h → length now ≡ length old → length (take (y * s + w - y * s) (drop (y * s) now)) ≡ w
-row_length old now w h s y fits some below same =
-    let has : y * s + w ≤ length old = rows_from_fits (layout old w h s) fits some y below in
-    omega (arith, has, same, length-take (y * s + w - y * s) (drop (y * s) now), length-drop (y * s) now)
-
--- the same at numbers that are equal
-pub shows_at : {T : Type 0} (old now : List T) (w y s width height stride : ℕ) (at : ℕ → ℕ → Option T) → w ≡ width → y ≡ height → s ≡ stride
-    → Shows (layout old w y s) (layout now w y s) at → Shows (layout old width height stride) (layout now width height stride) at
-shows_at old now w y s width height stride at wide high far so =
-    subst (λ n. Shows (layout old width height n) (layout now width height n) at) far
-    (subst (λ n. Shows (layout old width n s) (layout now width n s) at) high
-    (subst (λ n. Shows (layout old n y s) (layout now n y s) at) wide so))
+shows_table at old new w h s y all so =
+    same_grids w h (pixel (layout new w h s)) at (λ x j column line. all_right (λ x j p. p ≡ at x j) old new w h s y x j all column line so)

@@ -26,16 +26,9 @@ pub fn copy_pixels<T: Copy>(cells: &mut [T], shape: Shape, source: &[T], source_
     ensures grid { grid_of (shaped cells.new shape) ≡ grid_of (shaped source.now source_shape) }
     ensures outside { SameOutside (shaped cells.old shape) (shaped cells.new shape) }
 {
-    let width = shape.width();
-    let stride = shape.stride();
-    let source_stride = source_shape.stride();
-    // An image of no column may have more rows than it has cells.
-    if width == 0 {
-        return;
-    }
-    for y in 0..shape.height() {
-        let start = y * stride;
-        let from = y * source_stride;
-        put_row(cells, start, &source[from..from + width]);
+    for y in 0..shape.row_count() {
+        let row = shape.row(cells.len(), y);
+        let from = source_shape.row(source.len(), y);
+        put_row(cells, row.start, &source[from.start..from.start + from.len]);
     }
 }

@@ -28,16 +28,11 @@ impl Counts {
         ensures height_fits { shape_height shape < 2 ^ 32 }
     {
         let width = shape.width();
-        let height = shape.height();
         Counts {
-            left: if height == 0 { 0 } else { width },
-            rows_left: if width == 0 {
-                0
-            } else {
-                height.saturating_sub(1)
-            },
+            left: if shape.height() == 0 { 0 } else { width },
+            rows_left: shape.row_count().saturating_sub(1),
             width,
-            pad: shape.stride() - width,
+            pad: shape.padding(),
         }
     }
 }

@@ -23,14 +23,8 @@ pub fn fill_pixels<T: Copy>(cells: &mut [T], shape: Shape, value: T)
     ensures grid { grid_of (shaped cells.new shape) ≡ uniform (shape_width shape) (shape_height shape) value }
     ensures outside { SameOutside (shaped cells.old shape) (shaped cells.new shape) }
 {
-    let width = shape.width();
-    let stride = shape.stride();
-    // An image of no column may have more rows than it has cells.
-    if width == 0 {
-        return;
-    }
-    for y in 0..shape.height() {
-        let start = y * stride;
-        fill_cells(&mut cells[start..start + width], value);
+    for y in 0..shape.row_count() {
+        let row = shape.row(cells.len(), y);
+        fill_cells(&mut cells[row.start..row.start + row.len], value);
     }
 }

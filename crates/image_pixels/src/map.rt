@@ -26,14 +26,8 @@ pub fn map_pixels<T: Copy, F: Fn(T) -> T>(cells: &mut [T], shape: Shape, f: &F)
     ensures grid { IsMapped (F.post f.now) (shaped cells.old shape) (shaped cells.new shape) }
     ensures outside { SameOutside (shaped cells.old shape) (shaped cells.new shape) }
 {
-    let width = shape.width();
-    let stride = shape.stride();
-    // An image of no column may have more rows than it has cells.
-    if width == 0 {
-        return;
-    }
-    for y in 0..shape.height() {
-        let start = y * stride;
-        map_cells(&mut cells[start..start + width], f);
+    for y in 0..shape.row_count() {
+        let row = shape.row(cells.len(), y);
+        map_cells(&mut cells[row.start..row.start + row.len], f);
     }
 }

@@ -37,11 +37,10 @@ impl Spacing {
         ensures small { row_count (shape_width shape) (shape_height shape) < 2 ^ 32 }
         ensures wide { shape_width shape ≤ shape_stride shape }
     {
-        let width = shape.width();
         Spacing {
             skip: 0,
-            count: if width == 0 { 0 } else { shape.height() },
-            width,
+            count: shape.row_count(),
+            width: shape.width(),
             stride: shape.stride(),
         }
     }

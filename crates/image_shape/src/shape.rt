@@ -1,7 +1,8 @@
 //! A width, a height and a stride.
 
-ghost use Rattle.std.specs.Prelude.{◌≡◌, ◌^◌, ◌≤◌, ◌<◌, ◌↔◌, IsTrue};
+ghost use Rattle.std.specs.Prelude.{◌≡◌, ◌+◌, ◌-◌, ◌*◌, ◌^◌, ◌≤◌, ◌<◌, ◌↔◌, IsTrue};
 ghost use Rattle.image_model.specs.Layout.{Reaches};
+ghost use Rattle.image_model.specs.Rows.{row_count};
 ghost use Rattle.image_model.specs.Windows.{IsInside, IsWithin, window_stretch};
 ghost use Rattle.image_shape.specs.Window.{as_window, as_stretch};
 
@@ -67,6 +68,60 @@ impl Shape {
         ensures fits { shape_stride self.now < 2 ^ 64 }
     {
         self.stride
+    }
+
+    /// The number of cells between the end of a row and the start of the next one.
+    pub fn padding(&self) -> usize
+        ensures value { result ≡ shape_stride self.now - shape_width self.now }
+        ensures holds_width { shape_width self.now ≤ shape_stride self.now }
+    {
+        let stride = self.stride;
+        stride - self.width as usize
+    }
+
+    /// The number of rows that have a pixel: without a column there is none.
+    pub fn row_count(&self) -> usize
+        ensures value { result ≡ row_count (shape_width self.now) (shape_height self.now) }
+        ensures fits { row_count (shape_width self.now) (shape_height self.now) < 2 ^ 32 }
+    {
+        match self.width {
+            0 => 0,
+            _ => self.height as usize,
+        }
+    }
+
+    /// The number of the cell in column `x` of row `y`. It may be padding, or lie below the last row.
+    pub fn cell(&self, x: usize, y: usize) -> usize
+        requires counts { y * shape_stride self.now + x < 2 ^ 64 }
+        ensures value { result ≡ y * shape_stride self.now + x }
+    {
+        y * self.stride + x
+    }
+
+    /// The number of cells from the first pixel to the last.
+    pub fn reach(&self) -> usize
+        requires some { 0 < shape_height self.now }
+        requires counts { shape_stride self.now * (shape_height self.now - 1) + shape_width self.now < 2 ^ 64 }
+        ensures value { result ≡ shape_stride self.now * (shape_height self.now - 1) + shape_width self.now }
+    {
+        let last_row = self.stride * (self.height as usize - 1);
+        last_row + self.width as usize
+    }
+
+    /// The cells of row `y`, of `cells` cells that fit. The row has a pixel, so its start can't wrap.
+    pub fn row(&self, cells: usize, y: usize) -> Stretch
+        requires below { y < row_count (shape_width self.now) (shape_height self.now) }
+        requires fits { Reaches cells (shape_width self.now) (shape_height self.now) (shape_stride self.now) }
+        ensures start { result.start ≡ y * shape_stride self.now }
+        ensures len { result.len ≡ shape_width self.now }
+        ensures inside { y * shape_stride self.now + shape_width self.now ≤ cells }
+        ensures holds_width { shape_width self.now ≤ shape_stride self.now }
+    {
+        let _cells = cells;
+        Stretch {
+            start: y * self.stride,
+            len: self.width as usize,
+        }
     }
 
     /// Whether so many cells reach to the last pixel, or there is no pixel at all.

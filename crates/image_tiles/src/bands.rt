@@ -60,11 +60,10 @@ impl Lines {
         ensures width_fits { shape_width shape < 2 ^ 32 }
         ensures rows_fit { result.rows < 2 ^ 32 }
     {
-        let width = shape.width();
         Lines {
             skip: 0,
-            rows: if width == 0 { 0 } else { shape.height() },
-            width,
+            rows: shape.row_count(),
+            width: shape.width(),
             stride: shape.stride(),
             band_height,
         }
@@ -87,12 +86,13 @@ impl Lines {
         ensures rest { result.rest ≡ behind self }
     {
         let rows = self.band_height.min(self.rows);
+        let shape = Shape::new(self.width, rows, self.stride);
         Cut {
             skip: self.skip,
-            end: self.skip + (self.stride * (rows - 1) + self.width),
-            shape: Shape::new(self.width, rows, self.stride),
+            end: self.skip + shape.reach(),
+            shape,
             rest: Lines {
-                skip: self.stride - self.width,
+                skip: shape.padding(),
                 rows: self.rows - rows,
                 ..self
             },

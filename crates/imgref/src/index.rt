@@ -29,7 +29,7 @@ impl<C: AsSlice> Index<(usize, usize)> for Img<C> {
     fn index(&self, index: (usize, usize)) -> &C::Item {
         let cells = self.buf.as_slice();
         let _len = cells.len();
-        &cells[index.1 * self.stride() + index.0]
+        &cells[self.shape().cell(index.0, index.1)]
     }
 }
 
@@ -49,7 +49,7 @@ impl<C: AsMutSlice> IndexMut<(usize, usize)> for Img<C> {
         ensures fits { KeepsFit C.AsSlice.cells C.with_cell self.old index.0 index.1 }
     {
         let _len = self.buf.as_slice().len();
-        let at = index.1 * self.stride() + index.0;
+        let at = self.shape().cell(index.0, index.1);
         self.buf.cell_mut(at)
     }
 }

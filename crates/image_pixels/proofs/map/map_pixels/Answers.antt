@@ -1,28 +1,41 @@
 -- The rows so far are answers, and nothing else has changed.
-use Rattle.std.proofs.Common.{◌≡◌, ℕ, ◌≤◌, arith}
-use Rattle.image_model.specs.Layout.{Fits, layout}
+use Rattle.std.proofs.Common.{◌≡◌, ◌<◌, ◌∙◌, arith}
+use Rattle.image_model.specs.Layout.{SameOutside}
+use Rattle.image_model.specs.Mapped.{HasAnswers}
+use Rattle.image_model.specs.Rows.{row_count}
 use Rattle.image_shape.specs.Shape.{shaped}
-use Rattle.image_model.proofs.Places.{outside_refl}
 use Rattle.image_model.proofs.Mapped.{is_mapped}
-use Rattle.image_pixels.proofs.Mapping.{row_changed, all_rows}
+use Rattle.image_pixels.proofs.Mapping.{row_answers}
+use Rattle.image_pixels.proofs.Rows.{no_row, row_written, row_length, all_right, outside_stays}
 use Rattle.image_pixels.proofs.map.map_pixels.Goals as goal
 
-pub returns-then-width-eq0-clause-grid : goal.returns-then-width-eq0-clause-grid
-returns-then-width-eq0-clause-grid g c =
-    let whole = shaped c.args.cells.now c.args.shape in
-    is_mapped _ whole whole c.requires.fits (outside_refl whole) (λ x y p q column. absurd (omega (arith, column, c.width-width.ensures.value)))
+pub loop-y-init : goal.loop-y-init
+loop-y-init g c = no_row _ c.args.cells.now c.args.shape.width c.args.shape.stride
 
 pub loop-y-preserved : goal.loop-y-preserved
 loop-y-preserved g c =
-    let w : ℕ = c.width-width.result in
-    let h : ℕ = c.height-y-end.result in
-    let s : ℕ = c.stride-stride.result in
-    let fits : Fits (layout c.args.cells.now w h s) = rw (c.width-width.ensures.value, c.height-y-end.ensures.value, c.stride-stride.ensures.value) c.requires.fits in
-    let wide : w ≤ s = rw (c.width-width.ensures.value, c.stride-stride.ensures.value) c.width-width.ensures.within in
-    row_changed _ c.args.cells.now c.loop-y.cells c.map_cells.new.cells w h s c.loop-y.y fits (omega arith) wide (omega arith) c.map_cells.ensures c.loop-y.invariant
+    let s = c.args.shape in
+    let old = c.args.cells.now in
+    let now = c.loop-y.cells in
+    let made = c.map_cells.new.cells in
+    let y = c.loop-y.y in
+    let row = c.row-row in
+    let below : y < row_count s.width s.height = omega (arith, c.row_count-y-end.ensures.value) in
+    let long = row_length old now s.width s.height s.stride y row.result.start row.result.len c.requires.fits below row.ensures.start row.ensures.len c.loop-y.invariant.as_many in
+    row_written _ old now made s.width s.height s.stride y c.requires.fits below row.result.start row.result.len row.ensures.start row.ensures.len row.ensures.holds_width
+    (c.map_cells.ensures.as_many ∙ long)
+    (λ x column. row_answers (goal.F-post g c.args.f.now) old now made s.width s.stride y row.result.start row.result.len x row.ensures.start row.ensures.len row.ensures.holds_width column c.loop-y.invariant c.map_cells.ensures) c.loop-y.invariant
+
+pub returns-clause-answers : goal.returns-clause-answers
+returns-clause-answers g c = λ x j p q column line was is.
+    let s = c.args.shape in
+    all_right _ c.args.cells.now c.loop-y.cells s.width s.height s.stride c.loop-y.y x j (omega (arith, c.row_count-y-end.ensures.value)) column line c.loop-y.invariant p q was is
+
+pub returns-clause-outside : goal.returns-clause-outside
+returns-clause-outside g c = let s = c.args.shape in outside_stays _ c.args.cells.now c.loop-y.cells s.width s.height s.stride c.loop-y.y (omega (arith, c.row_count-y-end.ensures.value)) c.loop-y.invariant
 
 pub returns-clause-grid : goal.returns-clause-grid
 returns-clause-grid g c =
-    let high : c.loop-y.y ≡ c.args.shape.height = omega (arith, c.height-y-end.ensures.value) in
-    let so = all_rows _ c.args.cells.now c.loop-y.cells c.width-width.result c.loop-y.y c.stride-stride.result c.args.shape.width c.args.shape.height c.args.shape.stride c.width-width.ensures.value high c.stride-stride.ensures.value c.loop-y.invariant in
-    is_mapped _ (shaped c.args.cells.now c.args.shape) (shaped c.loop-y.cells c.args.shape) c.requires.fits so.0 so.1
+    let old = shaped c.args.cells.now c.args.shape in
+    let new = shaped c.loop-y.cells c.args.shape in
+    is_mapped _ old new c.requires.fits (returns-clause-outside g c) (returns-clause-answers g c)
