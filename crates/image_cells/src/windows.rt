@@ -4,7 +4,7 @@ ghost use Rattle.std.specs.Prelude.{◌≡◌, length};
 ghost use Rattle.image_model.specs.Layout.{Fits};
 ghost use Rattle.image_model.specs.Grid.{grid_of};
 ghost use Rattle.image_model.specs.Windows.{window_view, IsInside, IsWithin, roomy_stretch, roomy_window, stretch_cells};
-ghost use Rattle.image_shape.specs.Shape.{shape_width, shape_height, shape_stride, shaped};
+ghost use Rattle.image_shape.specs.Shape.{shape_width, shape_height, shape_stride, shaped_grid, shaped};
 ghost use Rattle.image_shape.specs.Window.{as_window, as_stretch};
 
 use image_shape::{Shape, Stretch, Window};
@@ -16,7 +16,7 @@ pub fn roomy_part<T>(cells: &[T], shape: Shape, window: Window) -> (&[T], Shape)
     requires inside { IsInside (shape_width shape) (shape_height shape) (as_window window) }
     ensures layout { shaped result.0.now result.1 ≡ roomy_window (shaped cells.now shape) (as_window window) }
     ensures fits { Fits (shaped result.0.now result.1) }
-    ensures view { grid_of (shaped result.0.now result.1) ≡ window_view (grid_of (shaped cells.now shape)) (as_window window) }
+    ensures view { shaped_grid result.0.now result.1 ≡ window_view (shaped_grid cells.now shape) (as_window window) }
 {
     let part = shape.stretch(true, cells.len(), window);
     (
@@ -39,7 +39,7 @@ pub fn roomy_stretch_mut<T>(
     ensures stretch { as_stretch result.1 ≡ roomy_stretch (length cells.old) (shape_stride shape) (as_window window) }
     ensures layout { shaped (stretch_cells cells.old (as_stretch result.1)) result.2 ≡ roomy_window (shaped cells.old shape) (as_window window) }
     ensures fits { Fits (roomy_window (shaped cells.old shape) (as_window window)) }
-    ensures view { grid_of (roomy_window (shaped cells.old shape) (as_window window)) ≡ window_view (grid_of (shaped cells.old shape)) (as_window window) }
+    ensures view { grid_of (roomy_window (shaped cells.old shape) (as_window window)) ≡ window_view (shaped_grid cells.old shape) (as_window window) }
 {
     let stretch = shape.stretch(true, cells.len(), window);
     (cells, stretch, shape.window(window))

@@ -2,9 +2,9 @@
 
 ghost use Rattle.std.specs.Prelude.{◌≡◌};
 ghost use Rattle.image_model.specs.Layout.{Fits, SameOutside};
-ghost use Rattle.image_model.specs.Grid.{grid_of, patch};
+ghost use Rattle.image_model.specs.Grid.{patch};
 ghost use Rattle.image_model.specs.Windows.{IsInside, window_view};
-ghost use Rattle.image_shape.specs.Shape.{shape_width, shape_height, shaped};
+ghost use Rattle.image_shape.specs.Shape.{shape_width, shape_height, shaped_grid, shaped};
 ghost use Rattle.image_shape.specs.Window.{as_window};
 
 use image_shape::{Shape, Window};
@@ -24,7 +24,7 @@ fn with_moved_window<T: Copy>(
     requires same_width { source.width ≡ target.width }
     requires same_height { source.height ≡ target.height }
     ensures same { result.ghost_name ≡ cells.entry.ghost_name }
-    ensures grid { grid_of (shaped result.now shape) ≡ patch (grid_of (shaped cells.old shape)) target.left target.top (window_view (grid_of (shaped cells.old shape)) (as_window source)) }
+    ensures grid { shaped_grid result.now shape ≡ patch (shaped_grid cells.old shape) target.left target.top (window_view (shaped_grid cells.old shape) (as_window source)) }
     ensures outside { SameOutside (shaped cells.old shape) (shaped result.now shape) }
 {
     let from = shape.stretch(false, cells.len(), source).start;
@@ -43,7 +43,7 @@ pub fn move_pixels<T: Copy>(cells: &mut [T], shape: Shape, source: Window, targe
     requires target_inside { IsInside (shape_width shape) (shape_height shape) (as_window target) }
     requires same_width { source.width ≡ target.width }
     requires same_height { source.height ≡ target.height }
-    ensures grid { grid_of (shaped cells.new shape) ≡ patch (grid_of (shaped cells.old shape)) target.left target.top (window_view (grid_of (shaped cells.old shape)) (as_window source)) }
+    ensures grid { shaped_grid cells.new shape ≡ patch (shaped_grid cells.old shape) target.left target.top (window_view (shaped_grid cells.old shape) (as_window source)) }
     ensures outside { SameOutside (shaped cells.old shape) (shaped cells.new shape) }
 {
     with_moved_window(cells, shape, source, target);

@@ -6,7 +6,7 @@ ghost use Rattle.image_model.specs.Layout.{Fits};
 ghost use Rattle.image_model.specs.Grid.{grid_of};
 ghost use Rattle.image_model.specs.Rows.{joined_rows};
 ghost use Rattle.image_model.specs.Kept.{IsPacked, packed};
-ghost use Rattle.image_shape.specs.Shape.{shape_width, shape_height, shaped};
+ghost use Rattle.image_shape.specs.Shape.{shape_width, shape_height, shaped_grid, shaped};
 
 use image_shape::Shape;
 use row_mover::RowMover;
@@ -40,7 +40,7 @@ pub fn pack<T: Copy>(buf: &mut Vec<T>, shape: Shape) -> Shape
     ensures layout { shaped buf.new.items result ≡ packed (shaped buf.old.items shape) }
     ensures packed { IsPacked (packed (shaped buf.old.items shape)) }
     ensures fits { Fits (packed (shaped buf.old.items shape)) }
-    ensures grid { grid_of (packed (shaped buf.old.items shape)) ≡ grid_of (shaped buf.old.items shape) }
+    ensures grid { grid_of (packed (shaped buf.old.items shape)) ≡ shaped_grid buf.old.items shape }
     ensures capacity { vec_capacity buf.new ≡ vec_capacity buf.old }
 {
     let width = shape.width();

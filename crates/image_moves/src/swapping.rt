@@ -2,9 +2,8 @@
 
 ghost use Rattle.std.specs.Prelude.{◌≡◌, ◌+◌, ◌<◌, ◌≤◌, length};
 ghost use Rattle.image_model.specs.Layout.{Fits, SameOutside};
-ghost use Rattle.image_model.specs.Grid.{grid_of};
 ghost use Rattle.image_model.specs.Swaps.{StretchesSwapped, rows_swapped};
-ghost use Rattle.image_shape.specs.Shape.{shape_height, shaped};
+ghost use Rattle.image_shape.specs.Shape.{shape_height, shaped_grid, shaped};
 
 use image_shape::Shape;
 
@@ -23,7 +22,7 @@ fn swap_apart<T>(cells: &mut [T], shape: Shape, upper: usize, lower: usize)
     requires fits { Fits (shaped cells.old shape) }
     requires order { upper < lower }
     requires below { lower < shape_height shape }
-    ensures grid { grid_of (shaped cells.new shape) ≡ rows_swapped upper lower (grid_of (shaped cells.old shape)) }
+    ensures grid { shaped_grid cells.new shape ≡ rows_swapped upper lower (shaped_grid cells.old shape) }
     ensures outside { SameOutside (shaped cells.old shape) (shaped cells.new shape) }
 {
     // Without a column there is nothing to swap.
@@ -41,7 +40,7 @@ pub fn swap_rows<T>(cells: &mut [T], shape: Shape, y: usize, z: usize)
     requires fits { Fits (shaped cells.old shape) }
     requires first { y < shape_height shape }
     requires second { z < shape_height shape }
-    ensures grid { grid_of (shaped cells.new shape) ≡ rows_swapped y z (grid_of (shaped cells.old shape)) }
+    ensures grid { shaped_grid cells.new shape ≡ rows_swapped y z (shaped_grid cells.old shape) }
     ensures outside { SameOutside (shaped cells.old shape) (shaped cells.new shape) }
 {
     if y < z {

@@ -1,4 +1,4 @@
--- A fold that is under way over the items of a cursor, taken a line at a time.
+-- A fold that is under way over the items of a cursor, taken a row at a time.
 use Rattle.std.proofs.Common.{◌≡◌, ◌<◌, ◌≤◌, ◌^◌, ◌*◌, ◌+◌, ℕ, zero, suc, true, Some, List, [], ◌∷◌, ◌++◌, length, drop, get_or, replicate, refl, sym, ap, ◌∙◌, arith}
 use native.Mathlib.Nat.{mul-le-mul_left}
 use Rattle.std.proofs.iter.Next.{served, Serves-on, Yields-more}

@@ -9,15 +9,15 @@ use Rattle.image_model.specs.Layout.{Layout, layout, Reaches, Fits}
 use Rattle.image_model.specs.Grid.{grid_of}
 use Rattle.image_model.specs.Rows.{row, pixels, grid_pixels}
 use Rattle.image_model.proofs.Rows.{HasRows, joined_is, row_is, row_empty, rows_from_fits, length-joined_rows, grid_joined_rows_of}
-use Rattle.image_pixels.specs.Marks.{pick, marks, marks_of, rows_from, first_line, lines_after}
+use Rattle.image_pixels.specs.Marks.{pick, marks, marks_of, rows_from, first_row, rows_after}
 use Rattle.image_pixels.proofs.Marks.{all_false, pick_none}
 
 module _ {X : Type 0} where
   -- where the next n cells are marked, these come first
-  pick_line : (n : ℕ) (ms : List Bool) (xs : List X) → pick (replicate n true ++ ms) xs ≡ take n xs ++ pick ms (drop n xs)
-  pick_line zero ms xs = refl
-  pick_line (suc n) ms [] = sym (pick_none ms)
-  pick_line (suc n) ms (x ∷ xs) = ap (λ zs. x ∷ zs) (pick_line n ms xs)
+  pick_row : (n : ℕ) (ms : List Bool) (xs : List X) → pick (replicate n true ++ ms) xs ≡ take n xs ++ pick ms (drop n xs)
+  pick_row zero ms xs = refl
+  pick_row (suc n) ms [] = sym (pick_none ms)
+  pick_row (suc n) ms (x ∷ xs) = ap (λ zs. x ∷ zs) (pick_row n ms xs)
 
 module _ {X : Type 0} (l : Layout X) (wide : l.width ≤ l.stride) where
   -- n rows from row y on
@@ -34,24 +34,24 @@ module _ {X : Type 0} (l : Layout X) (wide : l.width ≤ l.stride) where
       let rest : HasRows l (y + 1 + n) = λ k below. has k (omega arith) in
       all_false pad (replicate l.width true ++ rows_from n l.width pad) (drop p l.cells) (omega (arith, length-drop p l.cells))
       ∙ ap (λ xs. pick (replicate l.width true ++ rows_from n l.width pad) xs) (drop-drop pad p l.cells ∙ ap (λ k. drop k l.cells) at)
-      ∙ pick_line l.width (rows_from n l.width pad) (drop (y * l.stride) l.cells)
+      ∙ pick_row l.width (rows_from n l.width pad) (drop (y * l.stride) l.cells)
       ∙ ap (λ xs. xs ++ pick (rows_from n l.width pad) (drop l.width (drop (y * l.stride) l.cells))) (sym (row_is l y whole))
       ∙ ap (λ xs. row l y ++ pick (rows_from n l.width pad) xs) (drop-drop l.width (y * l.stride) l.cells)
       ∙ ap (λ xs. row l y ++ xs) (rows_picked n (y + 1) (y * l.stride + l.width) next rest)
 
 -- ---- the marks of a size
 
-none_first : (w : ℕ) → first_line w 0 ≡ 0
+none_first : (w : ℕ) → first_row w 0 ≡ 0
 none_first w = refl
 
-some_first : (w h : ℕ) → first_line w (suc h) ≡ w
+some_first : (w h : ℕ) → first_row w (suc h) ≡ w
 some_first w h = let some : (suc h == 0) ≡ false = grind (arith, nat_tests) in ap (λ b. cond b 0 w) some
 
-some_after : (w h : ℕ) → lines_after (suc w) h ≡ h - 1
+some_after : (w h : ℕ) → rows_after (suc w) h ≡ h - 1
 some_after w h = let some : (suc w == 0) ≡ false = grind (arith, nat_tests) in ap (λ b. cond b 0 (h - 1)) some
 
 -- the marks of a size reach no further than the cells that fit it
-pub marks_reach : (count w h s : ℕ) → Reaches count w h s → w ≤ s → first_line w h + lines_after w h * ((s - w) + w) ≤ count
+pub marks_reach : (count w h s : ℕ) → Reaches count w h s → w ≤ s → first_row w h + rows_after w h * ((s - w) + w) ≤ count
 marks_reach count zero zero s fits wide = omega arith
 marks_reach count zero (suc h) s fits wide = omega (arith, some_first zero h)
 marks_reach count (suc w) zero s fits wide = rw (some_after w zero) (omega (arith, zero-mul (s - suc w + suc w)))
@@ -60,9 +60,9 @@ marks_reach count (suc w) (suc h) s fits wide =
     rw (some_first (suc w) h, some_after w (suc h), back) (omega (arith, fits (omega arith) (omega arith)))
 
 -- further rows are marked only where there is a column
-pub lines_wide : (w h : ℕ) → 0 < lines_after w h → 0 < w
-lines_wide zero h some = omega (arith, some)
-lines_wide (suc w) h some = omega arith
+pub rows_wide : (w h : ℕ) → 0 < rows_after w h → 0 < w
+rows_wide zero h some = omega (arith, some)
+rows_wide (suc w) h some = omega arith
 
 -- the marked cells of a fitting size are its pixels
 pub marked_pixels : {X : Type 0} (cells : List X) (w h s : ℕ) → Fits (layout cells w h s) → w ≤ s → pick (marks_of w h s) cells ≡ pixels (layout cells w h s)
@@ -76,7 +76,7 @@ marked_pixels {X} cells (suc w) (suc h) s fits wide =
     let none : 0 * s ≡ 0 = omega arith in
     let first : row l 0 ≡ take (suc w) cells = row_is l 0 (has 0 (omega arith)) ∙ ap (λ k. take (suc w) (drop k cells)) none in
     ap₂ (λ n m. pick (marks n m (suc w) (s - suc w)) cells) (some_first (suc w) h) (some_after w (suc h) ∙ least)
-    ∙ pick_line (suc w) (rows_from h (suc w) (s - suc w)) cells
+    ∙ pick_row (suc w) (rows_from h (suc w) (s - suc w)) cells
     ∙ ap (λ xs. xs ++ pick (rows_from h (suc w) (s - suc w)) (drop (suc w) cells)) (sym first)
     ∙ ap (λ xs. row l 0 ++ xs) (rows_picked l wide h 1 (suc w) (omega arith) (λ y below. has y (omega arith)))
     ∙ sym (joined_is cells (suc w) (suc h) s)
@@ -92,7 +92,7 @@ abbrev pub ArePixels : {X : Type 0} → Layout X → List X → Type 0
 ArePixels l xs = (xs ≡ pixels l) × (xs ≡ grid_pixels (grid_of l)) × (length xs ≡ l.width * l.height) × (length xs < 2 ^ 64)
 
 -- the numbers that a cursor over a whole layout begins with
-module _ {X : Type 0} (l : Layout X) (left rows width pad : ℕ) (narrow : l.width ≤ l.stride) (el : left ≡ first_line l.width l.height) (er : rows ≡ lines_after l.width l.height) (ew : width ≡ l.width) (ep : pad ≡ l.stride - l.width) where
+module _ {X : Type 0} (l : Layout X) (left rows width pad : ℕ) (narrow : l.width ≤ l.stride) (el : left ≡ first_row l.width l.height) (er : rows ≡ rows_after l.width l.height) (ew : width ≡ l.width) (ep : pad ≡ l.stride - l.width) where
   pub start_marks : marks left rows width pad ≡ marks_of l.width l.height l.stride
   start_marks = λ i. marks (el i) (er i) (ew i) (ep i)
 

@@ -9,9 +9,9 @@ use borrow.Table.Elements.{length-take-le, length_app}
 use Rattle.image_pixels.specs.Marks.{pick, marks, rows_from, skipped}
 
 -- the marks before a step
-pub marks_in_line : (left rows width pad : ℕ) → 0 < left → marks left rows width pad ≡ replicate 0 false ++ true ∷ marks (left - 1) rows width pad
-marks_in_line zero rows width pad h = absurd (omega (arith, h))
-marks_in_line (suc k) rows width pad h = let e : k ≡ suc k - 1 = omega arith in ap (λ n. true ∷ marks n rows width pad) e
+pub marks_in_row : (left rows width pad : ℕ) → 0 < left → marks left rows width pad ≡ replicate 0 false ++ true ∷ marks (left - 1) rows width pad
+marks_in_row zero rows width pad h = absurd (omega (arith, h))
+marks_in_row (suc k) rows width pad h = let e : k ≡ suc k - 1 = omega arith in ap (λ n. true ∷ marks n rows width pad) e
 
 pub marks_new_row : (rows width pad : ℕ) → 0 < rows → 0 < width → marks 0 rows width pad ≡ replicate pad false ++ true ∷ marks (width - 1) (rows - 1) width pad
 marks_new_row zero width pad h p = absurd (omega (arith, h))
@@ -41,9 +41,9 @@ module _ {X : Type 0} where
       let l : length (take k xs) ≡ k = length-take-le k xs (omega (arith, h)) in
       (p.0, p.1, e, l, ap length e ∙ length_app (take k xs) (p.0 ∷ p.1) ∙ ap (λ n. n + suc (length p.1)) l)
 
-pub skipped_in_line : (left pad : ℕ) → 0 < left → skipped left pad ≡ 0
-skipped_in_line zero pad h = absurd (omega (arith, h))
-skipped_in_line (suc k) pad h = refl
+pub skipped_in_row : (left pad : ℕ) → 0 < left → skipped left pad ≡ 0
+skipped_in_row zero pad h = absurd (omega (arith, h))
+skipped_in_row (suc k) pad h = refl
 
 pub one_at_least : (n : ℕ) → T (not (eqb n 0)) → 1 ≤ n
 one_at_least zero t = absurd (T_not (eqb 0 0) t (eqb_refl 0))

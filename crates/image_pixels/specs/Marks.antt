@@ -6,21 +6,21 @@ abbrev pub rows_from : ℕ → ℕ → ℕ → List Bool
 rows_from zero width pad = []
 rows_from (suc n) width pad = replicate pad false ++ (replicate width true ++ rows_from n width pad)
 
--- the pixels that are left in a line, and then the further rows
+-- the pixels that are left in a row, and then the further rows
 abbrev pub marks : ℕ → ℕ → ℕ → ℕ → List Bool
 marks left rows width pad = replicate left true ++ rows_from rows width pad
 
--- how many pixels the first line of a size has
-abbrev pub first_line : ℕ → ℕ → ℕ
-first_line width height = if height == 0 then 0 else width
+-- how many pixels the first row of a size has
+abbrev pub first_row : ℕ → ℕ → ℕ
+first_row width height = if height == 0 then 0 else width
 
--- how many lines come after the first one: with no column there is none
-abbrev pub lines_after : ℕ → ℕ → ℕ
-lines_after width height = if width == 0 then 0 else height - 1
+-- how many rows come after the first one: with no column there is none
+abbrev pub rows_after : ℕ → ℕ → ℕ
+rows_after width height = if width == 0 then 0 else height - 1
 
 -- the marks of a size at a stride
 abbrev pub marks_of : ℕ → ℕ → ℕ → List Bool
-marks_of width height stride = marks (first_line width height) (lines_after width height) width (stride - width)
+marks_of width height stride = marks (first_row width height) (rows_after width height) width (stride - width)
 
 -- the marked cells
 abbrev pub pick : {X : Type 0} → List Bool → List X → List X

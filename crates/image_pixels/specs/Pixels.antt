@@ -13,10 +13,10 @@ module _ {T : Type 0} where
   unfoldable pub refs_left : PixelsRefIter T → List T
   refs_left s = pick (marks s.left s.rows_left s.width s.pad) s.cells.cells
 
-  -- the next of some pixels are taken as one line, or there is none
-  abbrev pub TakesLine : List T → Option (Bor (List T)) → List T → Type 0
-  TakesLine xs None ys = (xs ≡ []) × (ys ≡ [])
-  TakesLine xs (Some line) ys = (xs ≡ line.now ++ ys) × (0 < length line.now)
+  -- the next of some pixels are taken as one row, or there is none
+  abbrev pub TakesRow : List T → Option (Bor (List T)) → List T → Type 0
+  TakesRow xs None ys = (xs ≡ []) × (ys ≡ [])
+  TakesRow xs (Some row) ys = (xs ≡ row.now ++ ys) × (0 < length row.now)
 
   -- the copies that a cursor still gives
   unfoldable pub copies_left : PixelsIter T → List T

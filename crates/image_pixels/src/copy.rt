@@ -2,8 +2,7 @@
 
 ghost use Rattle.std.specs.Prelude.{◌≡◌, ◌+◌, ◌≤◌, ◌++◌, length, take, drop};
 ghost use Rattle.image_model.specs.Layout.{Fits, SameOutside};
-ghost use Rattle.image_model.specs.Grid.{grid_of};
-ghost use Rattle.image_shape.specs.Shape.{shape_width, shape_height, shaped};
+ghost use Rattle.image_shape.specs.Shape.{shape_width, shape_height, shaped_grid, shaped};
 
 use image_shape::Shape;
 
@@ -23,7 +22,7 @@ pub fn copy_pixels<T: Copy>(cells: &mut [T], shape: Shape, source: &[T], source_
     requires source_fits { Fits (shaped source.now source_shape) }
     requires same_width { shape_width shape ≡ shape_width source_shape }
     requires same_height { shape_height shape ≡ shape_height source_shape }
-    ensures grid { grid_of (shaped cells.new shape) ≡ grid_of (shaped source.now source_shape) }
+    ensures grid { shaped_grid cells.new shape ≡ shaped_grid source.now source_shape }
     ensures outside { SameOutside (shaped cells.old shape) (shaped cells.new shape) }
 {
     for y in 0..shape.row_count() {

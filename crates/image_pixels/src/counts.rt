@@ -2,11 +2,11 @@
 
 ghost use Rattle.std.specs.Prelude.{◌≡◌, ◌-◌, ◌<◌, ◌≤◌, ◌^◌};
 ghost use Rattle.image_shape.specs.Shape.{shape_width, shape_height, shape_stride};
-ghost use Rattle.image_pixels.specs.Marks.{first_line, lines_after};
+ghost use Rattle.image_pixels.specs.Marks.{first_row, rows_after};
 
 use image_shape::Shape;
 
-// The pixels that are left in a line, the lines after it, the width of each, and how many cells of
+// The pixels that are left in a row, the rows after it, the width of each, and how many cells of
 // padding lie before it.
 #[derive(Clone, Copy)]
 pub(crate) struct Counts {
@@ -19,8 +19,8 @@ pub(crate) struct Counts {
 impl Counts {
     // Those of a whole shape.
     pub(crate) fn of_shape(shape: Shape) -> Counts
-        ensures left { result.left ≡ first_line (shape_width shape) (shape_height shape) }
-        ensures rows_left { result.rows_left ≡ lines_after (shape_width shape) (shape_height shape) }
+        ensures left { result.left ≡ first_row (shape_width shape) (shape_height shape) }
+        ensures rows_left { result.rows_left ≡ rows_after (shape_width shape) (shape_height shape) }
         ensures width { result.width ≡ shape_width shape }
         ensures pad { result.pad ≡ shape_stride shape - shape_width shape }
         ensures narrow { shape_width shape ≤ shape_stride shape }

@@ -2,8 +2,8 @@
 
 ghost use Rattle.std.specs.Prelude.{◌≡◌, length, replicate};
 ghost use Rattle.image_model.specs.Layout.{Fits, SameOutside};
-ghost use Rattle.image_model.specs.Grid.{grid_of, uniform};
-ghost use Rattle.image_shape.specs.Shape.{shape_width, shape_height, shaped};
+ghost use Rattle.image_model.specs.Grid.{uniform};
+ghost use Rattle.image_shape.specs.Shape.{shape_width, shape_height, shaped_grid, shaped};
 
 use image_shape::Shape;
 
@@ -20,7 +20,7 @@ fn fill_cells<T: Copy>(cells: &mut [T], value: T)
 /// `Shape::fits` tells.
 pub fn fill_pixels<T: Copy>(cells: &mut [T], shape: Shape, value: T)
     requires fits { Fits (shaped cells.old shape) }
-    ensures grid { grid_of (shaped cells.new shape) ≡ uniform (shape_width shape) (shape_height shape) value }
+    ensures grid { shaped_grid cells.new shape ≡ uniform (shape_width shape) (shape_height shape) value }
     ensures outside { SameOutside (shaped cells.old shape) (shaped cells.new shape) }
 {
     for y in 0..shape.row_count() {

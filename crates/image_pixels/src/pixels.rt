@@ -7,9 +7,8 @@ ghost use Rattle.std.specs.Borrow.{Bor, ftrue};
 ghost use Rattle.std.specs.Iterator.{YieldsFirst, YieldsFirstRef};
 ghost use Rattle.std.specs.Iterator.Runs.{YieldsInOrder, YieldsRefsInOrder};
 ghost use Rattle.image_model.specs.Layout.{Fits};
-ghost use Rattle.image_model.specs.Grid.{grid_of};
 ghost use Rattle.image_model.specs.Rows.{pixels as pixels_of, grid_pixels};
-ghost use Rattle.image_shape.specs.Shape.{shape_width, shape_height, shaped};
+ghost use Rattle.image_shape.specs.Shape.{shape_width, shape_height, shaped_grid, shaped};
 
 use crate::call::call;
 use crate::cells::Cells;
@@ -17,12 +16,12 @@ use crate::counts::Counts;
 use image_shape::Shape;
 use std::iter::{ExactSizeIterator, FusedIterator};
 
-// The width from which on a line is worth a loop of its own.
+// The width from which on a row is worth a loop of its own.
 const NARROW: usize = 8;
 
 /// The pixels of an image for reading, row by row and from left to right, without the padding.
 ///
-/// It is a pointer to the next cell beside the pixels left in the line and the rows left. The
+/// It is a pointer to the next cell beside the pixels left in the row and the rows left. The
 /// pointer steps over the padding only when a further row is taken.
 #[derive(Drop)]
 pub struct PixelsRefIter<'a, T> {
@@ -38,14 +37,14 @@ pub struct PixelsRefIter<'a, T> {
 impl<'a, T> PixelsRefIter<'a, T> {
     ghost use Rattle.std.specs.Prelude.{◌≡◌, ◌+◌, ◌*◌, ◌<◌, ◌≤◌, ◌++◌, length, true, false, []};
     ghost use Rattle.image_pixels.specs.Marks.{pick, marks};
-    ghost use Rattle.image_pixels.specs.Pixels.{refs_left, TakesLine};
+    ghost use Rattle.image_pixels.specs.Pixels.{refs_left, TakesRow};
 
     /// The pixels of `shape` in `cells`: `width` times `height` of them, row by row and from left
     /// to right, without the padding. The cells must fit, as `Shape::fits` tells.
     pub fn new(cells: &'a [T], shape: Shape) -> PixelsRefIter<'a, T>
         requires fits { Fits (shaped cells.now shape) }
         ensures pixels { refs_left result ≡ pixels_of (shaped cells.now shape) }
-        ensures grid { refs_left result ≡ grid_pixels (grid_of (shaped cells.now shape)) }
+        ensures grid { refs_left result ≡ grid_pixels (shaped_grid cells.now shape) }
         ensures count { length (refs_left result) ≡ shape_width shape * shape_height shape }
         ensures countable { length (refs_left result) < 2 ^ 64 }
         ensures runs { YieldsRefsInOrder (YieldsFirstRef (refs_left {T = T})) refs_left }
@@ -53,7 +52,7 @@ impl<'a, T> PixelsRefIter<'a, T> {
         PixelsRefIter::over(Cells::new(cells), Counts::of_shape(shape))
     }
 
-    // The pixels left in a line and the rows after it, as they lie in these cells.
+    // The pixels left in a row and the rows after it, as they lie in these cells.
     #[tactic(auto, unfolding(crate::specs::Pixels::refs_left))]
     fn over(cells: Cells<'a, T>, counts: Counts) -> PixelsRefIter<'a, T>
         requires reaches { counts.left + counts.rows_left * (counts.pad + counts.width) ≤ length cells.cells }
@@ -69,8 +68,8 @@ impl<'a, T> PixelsRefIter<'a, T> {
         }
     }
 
-    // Goes on to the next line, past the padding before it.
-    fn enter_line(&mut self)
+    // Goes on to the next row, past the padding before it.
+    fn enter_row(&mut self)
         requires over { self.old.left ≡ 0 }
         requires some { 0 < self.old.rows_left }
         ensures stays { refs_left self.new ≡ refs_left self.old }
@@ -81,10 +80,10 @@ impl<'a, T> PixelsRefIter<'a, T> {
         self.left = self.width;
     }
 
-    // Whether there is a pixel, going on to its line where none is left in this one.
+    // Whether there is a pixel, going on to its row where none is left in this one.
     //
-    // The count is tested after that too: so the compiler sees that a line has a pixel.
-    fn find_line(&mut self) -> bool
+    // The count is tested after that too: so the compiler sees that a row has a pixel.
+    fn find_row(&mut self) -> bool
         ensures stays { refs_left self.new ≡ refs_left self.old }
         ensures some { result ≡ true → 0 < self.new.left }
         ensures none { result ≡ false → refs_left self.old ≡ [] }
@@ -93,12 +92,12 @@ impl<'a, T> PixelsRefIter<'a, T> {
             if self.rows_left == 0 {
                 return false;
             }
-            self.enter_line();
+            self.enter_row();
         }
         self.left > 0
     }
 
-    // The next `count` pixels of this line.
+    // The next `count` pixels of this row.
     fn take(&mut self, count: usize) -> &'a [T]
         requires { count ≤ self.old.left }
         ensures taken { refs_left self.old ≡ result.now ++ refs_left self.new }
@@ -108,11 +107,11 @@ impl<'a, T> PixelsRefIter<'a, T> {
         self.cells.take(count)
     }
 
-    // What is left of this line, or else the next line; none where there is no pixel.
-    fn take_line(&mut self) -> Option<&'a [T]>
-        ensures { TakesLine (refs_left self.old) result (refs_left self.new) }
+    // What is left of this row, or else the next row; none where there is no pixel.
+    fn take_row(&mut self) -> Option<&'a [T]>
+        ensures { TakesRow (refs_left self.old) result (refs_left self.new) }
     {
-        if !self.find_line() {
+        if !self.find_row() {
             return None;
         }
         let count = self.left;
@@ -133,7 +132,7 @@ impl<'a, T> Iterator for PixelsRefIter<'a, T> {
     ghost remaining = { item_count refs_left };
 
     fn next(&mut self) -> Option<&'a T> {
-        if !self.find_line() {
+        if !self.find_row() {
             return None;
         }
         Some(&self.take(1)[0])
@@ -158,7 +157,7 @@ impl<'a, T> PixelsRefIter<'a, T> {
 
     /// What `f` makes of `init` and of each pixel in turn, as the iterator's own `fold` gives it.
     ///
-    /// It goes a line at a time, each a loop of its own, where the rows are not narrow: on wide rows
+    /// It goes a row at a time, each a loop of its own, where the rows are not narrow: on wide rows
     /// of small pixels it is faster than a `for`.
     pub fn fold<B, F: FnMut(B, &'a T) -> B>(mut self, init: B, mut f: F) -> B
         requires callable { CallableInFold (YieldsFirstRef refs_left) F.FnMut self f init }
@@ -169,8 +168,8 @@ impl<'a, T> PixelsRefIter<'a, T> {
             return Iterator::fold(self, init, f);
         }
         let mut acc = init;
-        while let Some(line) = self.take_line() {
-            for pixel in line {
+        while let Some(row) = self.take_row() {
+            for pixel in row {
                 acc = call(&mut f, acc, pixel);
             }
         }
@@ -200,7 +199,7 @@ impl<'a, T: Copy> PixelsIter<'a, T> {
     pub fn new(cells: &'a [T], shape: Shape) -> PixelsIter<'a, T>
         requires fits { Fits (shaped cells.now shape) }
         ensures pixels { copies_left result ≡ pixels_of (shaped cells.now shape) }
-        ensures grid { copies_left result ≡ grid_pixels (grid_of (shaped cells.now shape)) }
+        ensures grid { copies_left result ≡ grid_pixels (shaped_grid cells.now shape) }
         ensures count { length (copies_left result) ≡ shape_width shape * shape_height shape }
         ensures countable { length (copies_left result) < 2 ^ 64 }
         ensures runs { YieldsInOrder (YieldsFirst (copies_left {T = T})) copies_left }
@@ -248,7 +247,7 @@ impl<T: Copy> PixelsIter<'_, T> {
 
     /// What `f` makes of `init` and of each pixel in turn, as the iterator's own `fold` gives it.
     ///
-    /// It goes a line at a time, each a loop of its own, where the rows are not narrow: on wide rows
+    /// It goes a row at a time, each a loop of its own, where the rows are not narrow: on wide rows
     /// of small pixels it is faster than a `for`.
     pub fn fold<B, F: FnMut(B, T) -> B>(mut self, init: B, mut f: F) -> B
         requires callable { CallableInFold (YieldsFirst copies_left) F.FnMut self f init }
@@ -259,8 +258,8 @@ impl<T: Copy> PixelsIter<'_, T> {
             return Iterator::fold(self, init, f);
         }
         let mut acc = init;
-        while let Some(line) = self.inner.take_line() {
-            for pixel in line {
+        while let Some(row) = self.inner.take_row() {
+            for pixel in row {
                 acc = f(acc, *pixel);
             }
         }

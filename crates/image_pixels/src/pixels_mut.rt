@@ -3,9 +3,8 @@
 ghost use Rattle.std.specs.Prelude.{◌≡◌, ◌+◌, ◌*◌, ◌^◌, ◌<◌, ◌≤◌, length, List};
 ghost use Rattle.std.specs.Borrow.{GName, ftrue};
 ghost use Rattle.image_model.specs.Layout.{Fits};
-ghost use Rattle.image_model.specs.Grid.{grid_of};
 ghost use Rattle.image_model.specs.Rows.{pixels as pixels_of, grid_pixels};
-ghost use Rattle.image_shape.specs.Shape.{shape_width, shape_height, shape_stride, shaped};
+ghost use Rattle.image_shape.specs.Shape.{shape_width, shape_height, shape_stride, shaped_grid, shaped};
 ghost use Rattle.image_pixels.specs.Loans.{lent};
 
 use crate::counts::Counts;
@@ -80,7 +79,7 @@ impl<'a, T> PixelsIterMut<'a, T> {
         ensures cells { cells_left result ≡ cells.old }
         ensures marks { marks_left result ≡ marks_of (shape_width shape) (shape_height shape) (shape_stride shape) }
         ensures pixels { muts_left result ≡ pixels_of (shaped cells.old shape) }
-        ensures grid { muts_left result ≡ grid_pixels (grid_of (shaped cells.old shape)) }
+        ensures grid { muts_left result ≡ grid_pixels (shaped_grid cells.old shape) }
         ensures count { length (muts_left result) ≡ shape_width shape * shape_height shape }
         ensures countable { length (muts_left result) < 2 ^ 64 }
     {

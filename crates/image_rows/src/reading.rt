@@ -1,10 +1,9 @@
 //! Rows for reading.
 
 ghost use Rattle.std.specs.Prelude.{◌≡◌, ◌^◌, ◌<◌, ◌≤◌, length, All};
-ghost use Rattle.image_model.specs.Grid.{grid_of};
 ghost use Rattle.image_model.specs.Layout.{Fits, layout};
 ghost use Rattle.image_model.specs.Rows.{rows as rows_of, row_count, grid_rows};
-ghost use Rattle.image_shape.specs.Shape.{shape_width, shape_height, shape_stride, shaped};
+ghost use Rattle.image_shape.specs.Shape.{shape_width, shape_height, shape_stride, shaped_grid, shaped};
 
 use crate::spacing::Spacing;
 use image_shape::Shape;
@@ -31,7 +30,7 @@ impl<'a, T> RowsIter<'a, T> {
     pub fn new(cells: &'a [T], shape: Shape) -> RowsIter<'a, T>
         requires fits { Fits (shaped cells.now shape) }
         ensures rows { refs_left result ≡ rows_of (shaped cells.now shape) }
-        ensures grid { refs_left result ≡ grid_rows (grid_of (shaped cells.now shape)) }
+        ensures grid { refs_left result ≡ grid_rows (shaped_grid cells.now shape) }
         ensures count { length (refs_left result) ≡ row_count (shape_width shape) (shape_height shape) }
         ensures countable { length (refs_left result) < 2 ^ 64 }
         ensures wide { All (λ row. length row ≡ shape_width shape) (refs_left result) }

@@ -1,10 +1,9 @@
 //! Rows for writing.
 
 ghost use Rattle.std.specs.Prelude.{◌≡◌, ◌+◌, ◌-◌, ◌*◌, ◌^◌, ◌<◌, ◌≤◌, length, All};
-ghost use Rattle.image_model.specs.Grid.{grid_of};
 ghost use Rattle.image_model.specs.Layout.{Fits};
 ghost use Rattle.image_model.specs.Rows.{rows as rows_of, row_count, grid_rows};
-ghost use Rattle.image_shape.specs.Shape.{shape_width, shape_height, shape_stride, shaped};
+ghost use Rattle.image_shape.specs.Shape.{shape_width, shape_height, shape_stride, shaped_grid, shaped};
 
 use crate::ends::End;
 use crate::parts::part;
@@ -36,7 +35,7 @@ impl<'a, T> RowsIterMut<'a, T> {
         ensures cells { cells_left result ≡ cells.old }
         ensures spacing { spacing_left result ≡ whole_spacing (shape_width shape) (shape_height shape) (shape_stride shape) }
         ensures rows { muts_left result ≡ rows_of (shaped cells.old shape) }
-        ensures grid { muts_left result ≡ grid_rows (grid_of (shaped cells.old shape)) }
+        ensures grid { muts_left result ≡ grid_rows (shaped_grid cells.old shape) }
         ensures count { length (muts_left result) ≡ row_count (shape_width shape) (shape_height shape) }
         ensures countable { length (muts_left result) < 2 ^ 64 }
         ensures wide { All (λ row. length row ≡ shape_width shape) (muts_left result) }

@@ -1,6 +1,7 @@
 -- What a contract sees of a shape: its numbers, and the layout that cells make in it.
 use Rattle.std.specs.Prelude.{ℕ, List}
 use Rattle.image_model.specs.Layout.{Layout, layout}
+use Rattle.image_model.specs.Grid.{Grid, grid_of}
 use Rattle.image_shape.specs.declared.shape.Shape.{Shape}
 
 -- the number of columns
@@ -18,3 +19,7 @@ shape_stride s = s.stride
 -- these cells in this shape
 abbrev pub shaped : {T : Type 0} → List T → Shape → Layout T
 shaped cells s = layout cells s.width s.height s.stride
+
+-- and their grid
+abbrev pub shaped_grid : {T : Type 0} → List T → Shape → Grid T
+shaped_grid cells s = grid_of (shaped cells s)

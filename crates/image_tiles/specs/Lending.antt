@@ -3,10 +3,9 @@ use Rattle.std.specs.Prelude.{List, ◌≡◌, ◌<◌, [], ◌∷◌, Bool, if�
 use Rattle.std.specs.Borrow.{MutBor, GName}
 use mathlib.Core.Option as maybe
 use Rattle.image_model.specs.Layout.{Fits, is_fitting}
-use Rattle.image_model.specs.Grid.{grid_of}
 use Rattle.image_model.specs.Windows.{Window, Stretch, IsInside, window_view, window_layout}
 use Rattle.imgref.specs.declared.img.Img.{Img}
-use Rattle.imgref.specs.Image.{buf_of, width_of, height_of, layout_by, mut_layout, with_window}
+use Rattle.imgref.specs.Image.{buf_of, width_of, height_of, grid_by, layout_by, mut_grid, mut_layout, with_window}
 use Rattle.imgref.specs.Written.{WindowPatchesGrid, WindowKeepsOutside, WindowKeepsFit, WindowKeepsContainer}
 use Rattle.image_tiles.specs.declared.tiles.TileCursor.{TileCursor}
 use Rattle.image_tiles.specs.declared.tiling.Tiling.{Tiling}
@@ -45,7 +44,7 @@ module _ {C T : Type 0} (cells : C → List T) (with_cells : C → Stretch → L
     pub some_height : 0 < (tile_now s.tiling).height
     pub cells_are : mut_layout tile ≡ window_layout roomy (layout_by cells s.img) (tile_now s.tiling)
     pub fits : Fits (mut_layout tile)
-    pub shows : grid_of (mut_layout tile) ≡ window_view (grid_of (layout_by cells s.img)) (tile_now s.tiling)
+    pub shows : mut_grid tile ≡ window_view (grid_by cells s.img) (tile_now s.tiling)
     pub grid : WindowPatchesGrid cells with_cells roomy s.img (tile_now s.tiling) (mut_layout tile)
     pub outside : WindowKeepsOutside cells with_cells roomy s.img (tile_now s.tiling) (mut_layout tile)
     pub still_fits : WindowKeepsFit cells with_cells roomy s.img (tile_now s.tiling) (mut_layout tile)

@@ -8,7 +8,7 @@ ghost use Rattle.image_model.specs.Rows.{row_count};
 ghost use Rattle.image_model.specs.Tiles.{EachPlaceInOne};
 ghost use Rattle.image_model.specs.Windows.{IsInside, window_view};
 ghost use Rattle.imgref.specs.Shape.{shape_width, shape_height, shape_stride};
-ghost use Rattle.imgref.specs.Image.{buf_of, width_of, height_of, stride_of, mut_layout};
+ghost use Rattle.imgref.specs.Image.{buf_of, width_of, height_of, stride_of, mut_grid, mut_layout};
 
 use crate::tiling::tiles_along;
 use imgref::{ImgRefMut, Shape};
@@ -136,7 +136,7 @@ impl<'a, T> BandsMut<'a, T> {
         ensures lines { lines_left result ≡ all_lines (width_of img.entry) (height_of img.entry) (stride_of img.entry) band_height }
         ensures bands { bands_left result ≡ bands (mut_layout img.entry) band_height }
         ensures fit { All Fits (bands_left result) }
-        ensures views { map grid_of (bands_left result) ≡ map (window_view (grid_of (mut_layout img.entry))) (band_windows (width_of img.entry) (height_of img.entry) band_height) }
+        ensures views { map grid_of (bands_left result) ≡ map (window_view (mut_grid img.entry)) (band_windows (width_of img.entry) (height_of img.entry) band_height) }
         ensures inside { All (IsInside (width_of img.entry) (height_of img.entry)) (band_windows (width_of img.entry) (height_of img.entry) band_height) }
         ensures each_once { EachPlaceInOne (width_of img.entry) (height_of img.entry) (band_windows (width_of img.entry) (height_of img.entry) band_height) }
     {

@@ -3,12 +3,11 @@
 ghost use Rattle.std.specs.Prelude.{◌≡◌, ◌≤◌, ◌<◌, ◌∷◌, length, IsTrue};
 ghost use Rattle.std.specs.Borrow.{sem, follows, follows_if, Array};
 ghost use Rattle.image_model.specs.Layout.{Fits};
-ghost use Rattle.image_model.specs.Grid.{grid_of};
 ghost use Rattle.image_model.specs.Tiles.{tiles};
 ghost use Rattle.image_model.specs.Windows.{IsInside, window_view, window_layout};
-ghost use Rattle.image_shape.specs.Shape.{shaped, shape_width, shape_height};
+ghost use Rattle.image_shape.specs.Shape.{shaped_grid, shaped, shape_width, shape_height};
 ghost use Rattle.imgref.specs.Written.{WindowPatchesGrid, WindowKeepsOutside, WindowKeepsFit, WindowKeepsContainer};
-ghost use Rattle.imgref.specs.Image.{buf_of, width_of, height_of, stride_of, layout_by, mut_layout};
+ghost use Rattle.imgref.specs.Image.{buf_of, width_of, height_of, stride_of, grid_by, layout_by};
 ghost use Rattle.image_tiles.specs.Tiling.{tile_now, windows_left, has_tile, stepped, tiling_width, tiling_height};
 
 use crate::tiling::Tiling;
@@ -85,7 +84,7 @@ impl<C: AsMutSlice> TileCursor<C> {
         ensures inside { IsInside (width_of (image_of self.old)) (height_of (image_of self.old)) (tile_now (tiling_of self.old)) }
         ensures layout { shaped result.0.now result.1 ≡ window_layout C.roomy_windows (layout_by C.AsSlice.cells (image_of self.old)) (tile_now (tiling_of self.old)) }
         ensures fits { Fits (shaped result.0.now result.1) }
-        ensures view { grid_of (shaped result.0.now result.1) ≡ window_view (grid_of (layout_by C.AsSlice.cells (image_of self.old))) (tile_now (tiling_of self.old)) }
+        ensures view { shaped_grid result.0.now result.1 ≡ window_view (grid_by C.AsSlice.cells (image_of self.old)) (tile_now (tiling_of self.old)) }
         ensures some_width { 0 < shape_width result.1 }
         ensures some_height { 0 < shape_height result.1 }
         ensures holds_width { width_of (image_of self.old) ≤ stride_of (image_of self.old) }

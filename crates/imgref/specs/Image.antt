@@ -2,6 +2,7 @@
 use Rattle.std.specs.Prelude.{◌≡◌, ℕ, Bool, List, ◌++◌, Vec, length, take, drop}
 use Rattle.std.specs.Borrow.{Bor, MutBor}
 use Rattle.image_model.specs.Layout.{Layout, Fits, layout}
+use Rattle.image_model.specs.Grid.{Grid, grid_of}
 use Rattle.image_model.specs.Windows.{Window, Stretch, window_stretch, whole}
 use Rattle.image_shape.specs.declared.shape.Shape.{Shape}
 use Rattle.imgref.specs.declared.img.Img.{Img}
@@ -41,6 +42,10 @@ module _ {C : Type 0} where
     abbrev pub layout_by : Img C → Layout T
     layout_by i = layout (cells i.buf) i.width i.height i.stride
 
+    -- and its grid
+    abbrev pub grid_by : Img C → Grid T
+    grid_by i = grid_of (layout_by i)
+
     -- the cells that a window takes, with whole strides or up to its last pixel
     abbrev pub stretch_by : Bool → Img C → Window → Stretch
     stretch_by roomy i w = window_stretch roomy (length (cells i.buf)) (stride_of i) w
@@ -50,6 +55,10 @@ module _ {C : Type 0} where
       -- the image with other cells in the place of all
       abbrev pub with_all : Img C → List T → Img C
       with_all i others = with_buf i (with_cells (buf_of i) (whole (cells (buf_of i))) others)
+
+      -- the image is as it was but for its cells
+      abbrev pub OnlyCellsChange : Img C → Img C → Type 0
+      OnlyCellsChange old new = new ≡ with_all old (cells (buf_of new))
 
       -- the image with the cells that another one has, as many as before
       abbrev pub with_cells_of : Img C → Img C → Img C
@@ -75,10 +84,22 @@ module _ {C : Type 0} where
 abbrev pub vec_layout : {T Z : Type 0} → Img (Vec T Z) → Layout T
 vec_layout i = layout_by (λ v. v.items) i
 
+-- and its grid
+abbrev pub vec_grid : {T Z : Type 0} → Img (Vec T Z) → Grid T
+vec_grid i = grid_of (vec_layout i)
+
 -- the layout of an image of lent pixels
 abbrev pub ref_layout : {T : Type 0} → Img (Bor (List T)) → Layout T
 ref_layout i = layout_by (λ s. s.now) i
 
+-- and its grid
+abbrev pub ref_grid : {T : Type 0} → Img (Bor (List T)) → Grid T
+ref_grid i = grid_of (ref_layout i)
+
 -- the layout of an image of pixels that are lent for writing
 abbrev pub mut_layout : {T : Type 0} → Img (MutBor (List T)) → Layout T
 mut_layout i = layout_by (λ s. s.now) i
+
+-- and its grid
+abbrev pub mut_grid : {T : Type 0} → Img (MutBor (List T)) → Grid T
+mut_grid i = grid_of (mut_layout i)

@@ -1,10 +1,10 @@
 -- What an index of an image names, one cell or the window of one row, and the image after a write there.
 use Rattle.std.specs.Prelude.{◌≡◌, ℕ, ◌<◌, List, length}
 use Rattle.image_model.specs.Layout.{Layout, Fits, SameOutside, cell_of}
-use Rattle.image_model.specs.Grid.{grid_of, patch, uniform, one_row}
+use Rattle.image_model.specs.Grid.{patch, uniform, one_row}
 use Rattle.image_model.specs.Windows.{Window, Stretch, window, window_start}
 use Rattle.imgref.specs.declared.img.Img.{Img}
-use Rattle.imgref.specs.Image.{buf_of, width_of, height_of, with_buf, layout_by}
+use Rattle.imgref.specs.Image.{buf_of, width_of, height_of, with_buf, grid_by, layout_by}
 
 -- there is a cell at column x of row y: it may be padding, or lie below the last row
 abbrev pub HasCell : {T : Type 0} → Layout T → ℕ → ℕ → Type 0
@@ -33,7 +33,7 @@ module _ {C T : Type 0} (cells : C → List T) where
   module _ (with_cell : C → ℕ → T → C) (i : Img C) (x y : ℕ) where
     -- at a place of an image that fits: the grid with that pixel
     abbrev pub PatchesGrid : Type 0
-    PatchesGrid = Fits (layout_by cells i) → x < width_of i → y < height_of i → (value : T) → grid_of (layout_by cells (with_cell_at with_cell i x y value)) ≡ patch (grid_of (layout_by cells i)) x y (uniform 1 1 value)
+    PatchesGrid = Fits (layout_by cells i) → x < width_of i → y < height_of i → (value : T) → grid_by cells (with_cell_at with_cell i x y value) ≡ patch (grid_by cells i) x y (uniform 1 1 value)
 
     -- at a place: the same outside
     abbrev pub KeepsOutside : Type 0
@@ -48,7 +48,7 @@ module _ {C T : Type 0} (cells : C → List T) where
   module _ (with_cells : C → Stretch → List T → C) (i : Img C) (y : ℕ) where
     -- the grid with that row
     abbrev pub RowPatchesGrid : Type 0
-    RowPatchesGrid = (left : List T) → length left ≡ width_of i → grid_of (layout_by cells (with_row with_cells i y left)) ≡ patch (grid_of (layout_by cells i)) 0 y (one_row left)
+    RowPatchesGrid = (left : List T) → length left ≡ width_of i → grid_by cells (with_row with_cells i y left) ≡ patch (grid_by cells i) 0 y (one_row left)
 
     -- the same outside
     abbrev pub RowKeepsOutside : Type 0

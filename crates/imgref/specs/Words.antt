@@ -8,4 +8,4 @@ pub use Rattle.image_model.specs.Mapped.{mapped}
 pub use Rattle.image_model.specs.Swaps.{rows_swapped}
 pub use Rattle.image_model.specs.Flips.{flipped, flipped_upto}
 pub use Rattle.image_shape.specs.Window.{as_window}
-pub use Rattle.imgref.specs.Image.{width_of, height_of, stride_of, vec_layout, ref_layout, mut_layout, layout_by}
+pub use Rattle.imgref.specs.Image.{width_of, height_of, stride_of, vec_layout, ref_layout, mut_layout, layout_by, vec_grid, ref_grid, mut_grid, grid_by}

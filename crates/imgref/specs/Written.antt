@@ -4,7 +4,7 @@ use Rattle.image_model.specs.Layout.{Layout, Fits, SameOutside}
 use Rattle.image_model.specs.Grid.{grid_of, patch}
 use Rattle.image_model.specs.Windows.{Window, Stretch, whole}
 use Rattle.imgref.specs.declared.img.Img.{Img}
-use Rattle.imgref.specs.Image.{buf_of, layout_by, with_window, window_buf}
+use Rattle.imgref.specs.Image.{buf_of, grid_by, layout_by, with_window, window_buf}
 
 -- how the container is read and written; the image, the window, and the layout that the window is
 module _ {C T : Type 0} (cells : C → List T) (with_cells : C → Stretch → List T → C) (roomy : Bool) (i : Img C) (w : Window) (m : Layout T) where
@@ -14,7 +14,7 @@ module _ {C T : Type 0} (cells : C → List T) (with_cells : C → Stretch → L
 
   -- the grid patched with what the window then shows
   abbrev pub WindowPatchesGrid : Type 0
-  WindowPatchesGrid = (left : List T) → SameOutside m (left_with left) → grid_of (layout_by cells (with_window cells with_cells roomy i w left)) ≡ patch (grid_of (layout_by cells i)) w.left w.top (grid_of (left_with left))
+  WindowPatchesGrid = (left : List T) → SameOutside m (left_with left) → grid_by cells (with_window cells with_cells roomy i w left) ≡ patch (grid_by cells i) w.left w.top (grid_of (left_with left))
 
   -- the same outside
   abbrev pub WindowKeepsOutside : Type 0

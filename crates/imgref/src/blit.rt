@@ -3,10 +3,10 @@
 
 ghost use Rattle.std.specs.Prelude.{◌≡◌, ◌<◌};
 ghost use Rattle.image_model.specs.Layout.{Fits, SameOutside};
-ghost use Rattle.image_model.specs.Grid.{grid_of, view, patch};
+ghost use Rattle.image_model.specs.Grid.{view, patch};
 ghost use Rattle.image_model.specs.Swaps.{rows_swapped};
 ghost use Rattle.image_model.specs.Windows.{IsInside, window};
-ghost use Rattle.imgref.specs.Image.{buf_of, width_of, height_of, layout_by, with_all, ref_layout};
+ghost use Rattle.imgref.specs.Image.{width_of, height_of, grid_by, layout_by, OnlyCellsChange, ref_grid, ref_layout};
 
 use crate::containers::AsMutSlice;
 use crate::img::{Img, ImgRef};
@@ -29,10 +29,10 @@ impl<C: AsMutSlice> Img<C> {
         requires source_fits { Fits (ref_layout source) }
         requires same_width { width_of source ≡ width_of self.old }
         requires same_height { height_of source ≡ height_of self.old }
-        ensures grid { grid_of (layout_by C.AsSlice.cells self.new) ≡ grid_of (ref_layout source.entry) }
+        ensures grid { grid_by C.AsSlice.cells self.new ≡ ref_grid source.entry }
         ensures outside { SameOutside (layout_by C.AsSlice.cells self.old) (layout_by C.AsSlice.cells self.new) }
         ensures fits { Fits (layout_by C.AsSlice.cells self.new) }
-        ensures container { self.new ≡ with_all C.AsSlice.cells C.with_cells self.old (C.AsSlice.cells (buf_of self.new)) }
+        ensures container { OnlyCellsChange C.AsSlice.cells C.with_cells self.old self.new }
     {
         let shape = self.shape();
         let len = self.buf.as_slice().len();
@@ -52,10 +52,10 @@ impl<C: AsMutSlice> Img<C> {
         requires fits { Fits (layout_by C.AsSlice.cells self.old) }
         requires source_fits { Fits (ref_layout source) }
         requires inside { IsInside (width_of self.old) (height_of self.old) (window left top (width_of source) (height_of source)) }
-        ensures grid { grid_of (layout_by C.AsSlice.cells self.new) ≡ patch (grid_of (layout_by C.AsSlice.cells self.old)) left top (grid_of (ref_layout source.entry)) }
+        ensures grid { grid_by C.AsSlice.cells self.new ≡ patch (grid_by C.AsSlice.cells self.old) left top (ref_grid source.entry) }
         ensures outside { SameOutside (layout_by C.AsSlice.cells self.old) (layout_by C.AsSlice.cells self.new) }
         ensures fits { Fits (layout_by C.AsSlice.cells self.new) }
-        ensures container { self.new ≡ with_all C.AsSlice.cells C.with_cells self.old (C.AsSlice.cells (buf_of self.new)) }
+        ensures container { OnlyCellsChange C.AsSlice.cells C.with_cells self.old self.new }
     {
         let (cells, shape) = self.window_parts_mut(left, top, source.width(), source.height());
         copy_pixels(cells, shape, source.buf, source.shape());
@@ -82,10 +82,10 @@ impl<C: AsMutSlice> Img<C> {
         requires fits { Fits (layout_by C.AsSlice.cells self.old) }
         requires source_inside { IsInside (width_of self.old) (height_of self.old) (window from_left from_top width height) }
         requires target_inside { IsInside (width_of self.old) (height_of self.old) (window to_left to_top width height) }
-        ensures grid { grid_of (layout_by C.AsSlice.cells self.new) ≡ patch (grid_of (layout_by C.AsSlice.cells self.old)) to_left to_top (view (grid_of (layout_by C.AsSlice.cells self.old)) from_left from_top width height) }
+        ensures grid { grid_by C.AsSlice.cells self.new ≡ patch (grid_by C.AsSlice.cells self.old) to_left to_top (view (grid_by C.AsSlice.cells self.old) from_left from_top width height) }
         ensures outside { SameOutside (layout_by C.AsSlice.cells self.old) (layout_by C.AsSlice.cells self.new) }
         ensures fits { Fits (layout_by C.AsSlice.cells self.new) }
-        ensures container { self.new ≡ with_all C.AsSlice.cells C.with_cells self.old (C.AsSlice.cells (buf_of self.new)) }
+        ensures container { OnlyCellsChange C.AsSlice.cells C.with_cells self.old self.new }
     {
         let source = Window {
             left: from_left,
@@ -114,10 +114,10 @@ impl<C: AsMutSlice> Img<C> {
         requires fits { Fits (layout_by C.AsSlice.cells self.old) }
         requires first { y < height_of self.old }
         requires second { z < height_of self.old }
-        ensures grid { grid_of (layout_by C.AsSlice.cells self.new) ≡ rows_swapped y z (grid_of (layout_by C.AsSlice.cells self.old)) }
+        ensures grid { grid_by C.AsSlice.cells self.new ≡ rows_swapped y z (grid_by C.AsSlice.cells self.old) }
         ensures outside { SameOutside (layout_by C.AsSlice.cells self.old) (layout_by C.AsSlice.cells self.new) }
         ensures fits { Fits (layout_by C.AsSlice.cells self.new) }
-        ensures container { self.new ≡ with_all C.AsSlice.cells C.with_cells self.old (C.AsSlice.cells (buf_of self.new)) }
+        ensures container { OnlyCellsChange C.AsSlice.cells C.with_cells self.old self.new }
     {
         let shape = self.shape();
         let len = self.buf.as_slice().len();

@@ -9,7 +9,7 @@ ghost use Rattle.image_model.specs.Grid.{grid_of};
 ghost use Rattle.image_model.specs.Rows.{joined_rows};
 ghost use Rattle.image_model.specs.Kept.{IsPacked, packed};
 ghost use Rattle.image_cells.specs.Clones.{ClonesEqual};
-ghost use Rattle.imgref.specs.Image.{buf_of, width_of, height_of, stride_of, vec_layout, ref_layout};
+ghost use Rattle.imgref.specs.Image.{buf_of, width_of, height_of, stride_of, vec_grid, vec_layout, ref_layout};
 ghost use Rattle.imgref.specs.Contiguous.{Rests, IsPackedFrom, vec_image};
 
 use crate::img::{ImgRef, ImgVec};
@@ -34,7 +34,7 @@ impl<T: Copy> ImgVec<T> {
         ensures* after { sem 𝓛 (Rests (vec_image T.row) self.entry (IsPackedFrom self.old)) }
         ensures packed { IsPacked (packed (vec_layout self.old)) }
         ensures fits { Fits (packed (vec_layout self.old)) }
-        ensures grid { grid_of (packed (vec_layout self.old)) ≡ grid_of (vec_layout self.old) }
+        ensures grid { grid_of (packed (vec_layout self.old)) ≡ vec_grid self.old }
         ensures joined { result.0.now ≡ joined_rows (vec_layout self.old) }
         ensures width { result.1 ≡ width_of self.old }
         ensures height { result.2 ≡ height_of self.old }

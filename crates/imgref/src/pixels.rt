@@ -5,11 +5,11 @@ ghost use Rattle.std.specs.Borrow.{sem, follows, Array};
 ghost use Rattle.std.specs.Iterator.{YieldsFirst, YieldsFirstRef};
 ghost use Rattle.std.specs.Iterator.Runs.{YieldsInOrder, YieldsRefsInOrder};
 ghost use Rattle.image_model.specs.Layout.{Fits, SameOutside};
-ghost use Rattle.image_model.specs.Grid.{grid_of, uniform};
+ghost use Rattle.image_model.specs.Grid.{uniform};
 ghost use Rattle.image_model.specs.Mapped.{HasAnswers, IsMapped};
 ghost use Rattle.image_model.specs.Rows.{pixels as pixels_of, grid_pixels};
 ghost use Rattle.image_pixels.specs.Pixels.{refs_left, copies_left};
-ghost use Rattle.imgref.specs.Image.{buf_of, width_of, height_of, layout_by, with_all, ref_layout};
+ghost use Rattle.imgref.specs.Image.{buf_of, width_of, height_of, grid_by, layout_by, OnlyCellsChange, with_all, ref_grid, ref_layout};
 
 use crate::containers::AsMutSlice;
 use crate::img::Img;
@@ -27,7 +27,7 @@ impl<'s, T> Img<&'s [T]> {
     pub fn pixels_ref(&self) -> PixelsRefIter<'s, T>
         requires fits { Fits (ref_layout self.now) }
         ensures pixels { refs_left result ≡ pixels_of (ref_layout self.now) }
-        ensures grid { refs_left result ≡ grid_pixels (grid_of (ref_layout self.now)) }
+        ensures grid { refs_left result ≡ grid_pixels (ref_grid self.now) }
         ensures count { length (refs_left result) ≡ width_of self.now * height_of self.now }
         ensures countable { length (refs_left result) < 2 ^ 64 }
         ensures runs { YieldsRefsInOrder (YieldsFirstRef (refs_left {T = T})) refs_left }
@@ -46,7 +46,7 @@ impl<'s, T: Copy> Img<&'s [T]> {
     pub fn pixels(&self) -> PixelsIter<'s, T>
         requires fits { Fits (ref_layout self.now) }
         ensures pixels { copies_left result ≡ pixels_of (ref_layout self.now) }
-        ensures grid { copies_left result ≡ grid_pixels (grid_of (ref_layout self.now)) }
+        ensures grid { copies_left result ≡ grid_pixels (ref_grid self.now) }
         ensures count { length (copies_left result) ≡ width_of self.now * height_of self.now }
         ensures countable { length (copies_left result) < 2 ^ 64 }
         ensures runs { YieldsInOrder (YieldsFirst (copies_left {T = T})) copies_left }
@@ -68,7 +68,7 @@ where
     pub fn pixels(&self) -> PixelsIter<'_, C::Item>
         requires fits { Fits (layout_by C.AsSlice.cells self.now) }
         ensures pixels { copies_left result ≡ pixels_of (layout_by C.AsSlice.cells self.now) }
-        ensures grid { copies_left result ≡ grid_pixels (grid_of (layout_by C.AsSlice.cells self.now)) }
+        ensures grid { copies_left result ≡ grid_pixels (grid_by C.AsSlice.cells self.now) }
         ensures count { length (copies_left result) ≡ width_of self.now * height_of self.now }
         ensures countable { length (copies_left result) < 2 ^ 64 }
         ensures runs { YieldsInOrder (YieldsFirst (copies_left {T = C.Item})) copies_left }
@@ -87,10 +87,10 @@ impl<C: AsMutSlice> Img<C> {
     where
         C::Item: Copy + 'a,
         requires fits { Fits (layout_by C.AsSlice.cells self.old) }
-        ensures grid { grid_of (layout_by C.AsSlice.cells self.new) ≡ uniform (width_of self.old) (height_of self.old) value }
+        ensures grid { grid_by C.AsSlice.cells self.new ≡ uniform (width_of self.old) (height_of self.old) value }
         ensures outside { SameOutside (layout_by C.AsSlice.cells self.old) (layout_by C.AsSlice.cells self.new) }
         ensures fits { Fits (layout_by C.AsSlice.cells self.new) }
-        ensures container { self.new ≡ with_all C.AsSlice.cells C.with_cells self.old (C.AsSlice.cells (buf_of self.new)) }
+        ensures container { OnlyCellsChange C.AsSlice.cells C.with_cells self.old self.new }
     {
         let shape = self.shape();
         let len = self.buf.as_slice().len();
@@ -112,7 +112,7 @@ impl<C: AsMutSlice> Img<C> {
         ensures grid { IsMapped (F.post f) (layout_by C.AsSlice.cells self.old) (layout_by C.AsSlice.cells self.new) }
         ensures outside { SameOutside (layout_by C.AsSlice.cells self.old) (layout_by C.AsSlice.cells self.new) }
         ensures fits { Fits (layout_by C.AsSlice.cells self.new) }
-        ensures container { self.new ≡ with_all C.AsSlice.cells C.with_cells self.old (C.AsSlice.cells (buf_of self.new)) }
+        ensures container { OnlyCellsChange C.AsSlice.cells C.with_cells self.old self.new }
     {
         let shape = self.shape();
         let len = self.buf.as_slice().len();
@@ -155,7 +155,7 @@ impl<C: AsMutSlice> Img<C> {
         ensures cells { cells_left result ≡ C.AsSlice.cells (buf_of self.old) }
         ensures marks { marks_left result ≡ marks_of (width_of self.old) (height_of self.old) (stride_of self.old) }
         ensures pixels { muts_left result ≡ pixels_of (layout_by C.AsSlice.cells self.old) }
-        ensures grid { muts_left result ≡ grid_pixels (grid_of (layout_by C.AsSlice.cells self.old)) }
+        ensures grid { muts_left result ≡ grid_pixels (grid_by C.AsSlice.cells self.old) }
         ensures count { length (muts_left result) ≡ width_of self.old * height_of self.old }
         ensures countable { length (muts_left result) < 2 ^ 64 }
     {
@@ -175,7 +175,7 @@ impl<C: AsMutSlice> Img<C> {
         ensures cells { cells_left result ≡ C.AsSlice.cells (buf_of self.old) }
         ensures marks { marks_left result ≡ marks_of (width_of self.old) (height_of self.old) (stride_of self.old) }
         ensures pixels { muts_left result ≡ pixels_of (layout_by C.AsSlice.cells self.old) }
-        ensures grid { muts_left result ≡ grid_pixels (grid_of (layout_by C.AsSlice.cells self.old)) }
+        ensures grid { muts_left result ≡ grid_pixels (grid_by C.AsSlice.cells self.old) }
         ensures count { length (muts_left result) ≡ width_of self.old * height_of self.old }
         ensures countable { length (muts_left result) < 2 ^ 64 }
     {

@@ -4,7 +4,7 @@ ghost use Rattle.std.specs.Prelude.{◌≡◌, ◌<◌};
 ghost use Rattle.image_model.specs.Layout.{Fits, SameOutside};
 ghost use Rattle.image_model.specs.Grid.{grid_of, patch, uniform};
 ghost use Rattle.image_model.specs.Windows.{IsInside, window};
-ghost use Rattle.imgref.specs.Image.{buf_of, width_of, height_of, layout_by, with_all};
+ghost use Rattle.imgref.specs.Image.{width_of, height_of, grid_by, layout_by, OnlyCellsChange};
 
 use crate::containers::AsMutSlice;
 use crate::img::Img;
@@ -22,7 +22,7 @@ impl<C: AsSlice> Img<C> {
     where
         C::Item: Copy,
         requires fits { Fits (layout_by C.cells self.now) }
-        ensures { result ≡ (grid_of (layout_by C.cells self.now)).pixel x y }
+        ensures { result ≡ (grid_by C.cells self.now).pixel x y }
     {
         if x < self.width() && y < self.height() {
             Some(self[(x, y)])
@@ -44,10 +44,10 @@ impl<C: AsMutSlice> Img<C> {
         requires fits { Fits (layout_by C.AsSlice.cells self.old) }
         requires column { x < width_of self.old }
         requires line { y < height_of self.old }
-        ensures grid { grid_of (layout_by C.AsSlice.cells self.new) ≡ patch (grid_of (layout_by C.AsSlice.cells self.old)) x y (uniform 1 1 value) }
+        ensures grid { grid_by C.AsSlice.cells self.new ≡ patch (grid_by C.AsSlice.cells self.old) x y (uniform 1 1 value) }
         ensures outside { SameOutside (layout_by C.AsSlice.cells self.old) (layout_by C.AsSlice.cells self.new) }
         ensures fits { Fits (layout_by C.AsSlice.cells self.new) }
-        ensures container { self.new ≡ with_all C.AsSlice.cells C.with_cells self.old (C.AsSlice.cells (buf_of self.new)) }
+        ensures container { OnlyCellsChange C.AsSlice.cells C.with_cells self.old self.new }
     {
         self[(x, y)] = value;
     }
@@ -70,10 +70,10 @@ impl<C: AsMutSlice> Img<C> {
         C::Item: Copy + 'a,
         requires fits { Fits (layout_by C.AsSlice.cells self.old) }
         requires inside { IsInside (width_of self.old) (height_of self.old) (window left top width height) }
-        ensures grid { grid_of (layout_by C.AsSlice.cells self.new) ≡ patch (grid_of (layout_by C.AsSlice.cells self.old)) left top (uniform width height value) }
+        ensures grid { grid_by C.AsSlice.cells self.new ≡ patch (grid_by C.AsSlice.cells self.old) left top (uniform width height value) }
         ensures outside { SameOutside (layout_by C.AsSlice.cells self.old) (layout_by C.AsSlice.cells self.new) }
         ensures fits { Fits (layout_by C.AsSlice.cells self.new) }
-        ensures container { self.new ≡ with_all C.AsSlice.cells C.with_cells self.old (C.AsSlice.cells (buf_of self.new)) }
+        ensures container { OnlyCellsChange C.AsSlice.cells C.with_cells self.old self.new }
     {
         let (cells, shape) = self.window_parts_mut(left, top, width, height);
         fill_pixels(cells, shape, value);
@@ -89,10 +89,10 @@ impl<C: AsMutSlice> Img<C> {
         C::Item: Copy + 'a,
         requires fits { Fits (layout_by C.AsSlice.cells self.old) }
         requires below { y < height_of self.old }
-        ensures grid { grid_of (layout_by C.AsSlice.cells self.new) ≡ patch (grid_of (layout_by C.AsSlice.cells self.old)) 0 y (uniform (width_of self.old) 1 value) }
+        ensures grid { grid_by C.AsSlice.cells self.new ≡ patch (grid_by C.AsSlice.cells self.old) 0 y (uniform (width_of self.old) 1 value) }
         ensures outside { SameOutside (layout_by C.AsSlice.cells self.old) (layout_by C.AsSlice.cells self.new) }
         ensures fits { Fits (layout_by C.AsSlice.cells self.new) }
-        ensures container { self.new ≡ with_all C.AsSlice.cells C.with_cells self.old (C.AsSlice.cells (buf_of self.new)) }
+        ensures container { OnlyCellsChange C.AsSlice.cells C.with_cells self.old self.new }
     {
         let width = self.width();
         self.fill_window(0, y, width, 1, value);

@@ -3,11 +3,10 @@
 ghost use Rattle.std.specs.Prelude.{◌≡◌, ◌^◌, ◌<◌, length, All};
 ghost use Rattle.std.specs.Borrow.{sem, follows, Array};
 ghost use Rattle.image_model.specs.Layout.{Fits};
-ghost use Rattle.image_model.specs.Grid.{grid_of};
 ghost use Rattle.image_model.specs.Rows.{rows as rows_of, row_count, grid_rows};
 ghost use Rattle.image_rows.specs.Rows.{refs_left, muts_left, cells_left, spacing_left, name_of, whole_spacing};
 ghost use Rattle.imgref.specs.contracts.img.Img.{the_row};
-ghost use Rattle.imgref.specs.Image.{buf_of, width_of, height_of, stride_of, layout_by, with_all, ref_layout};
+ghost use Rattle.imgref.specs.Image.{buf_of, width_of, height_of, stride_of, grid_by, layout_by, with_all, ref_grid, ref_layout};
 
 use crate::containers::AsMutSlice;
 use crate::img::Img;
@@ -24,7 +23,7 @@ impl<'s, T> Img<&'s [T]> {
     pub fn rows(&self) -> RowsIter<'s, T>
         requires fits { Fits (ref_layout self.now) }
         ensures rows { refs_left result ≡ rows_of (ref_layout self.now) }
-        ensures grid { refs_left result ≡ grid_rows (grid_of (ref_layout self.now)) }
+        ensures grid { refs_left result ≡ grid_rows (ref_grid self.now) }
         ensures count { length (refs_left result) ≡ row_count (width_of self.now) (height_of self.now) }
         ensures countable { length (refs_left result) < 2 ^ 64 }
         ensures wide { All (λ row. length row ≡ width_of self.now) (refs_left result) }
@@ -43,7 +42,7 @@ impl<C: AsMutSlice> Img<C> {
     pub fn rows(&self) -> RowsIter<'_, C::Item>
         requires fits { Fits (layout_by C.AsSlice.cells self.now) }
         ensures rows { refs_left result ≡ rows_of (layout_by C.AsSlice.cells self.now) }
-        ensures grid { refs_left result ≡ grid_rows (grid_of (layout_by C.AsSlice.cells self.now)) }
+        ensures grid { refs_left result ≡ grid_rows (grid_by C.AsSlice.cells self.now) }
         ensures count { length (refs_left result) ≡ row_count (width_of self.now) (height_of self.now) }
         ensures countable { length (refs_left result) < 2 ^ 64 }
         ensures wide { All (λ row. length row ≡ width_of self.now) (refs_left result) }
@@ -65,7 +64,7 @@ impl<C: AsMutSlice> Img<C> {
         ensures cells { cells_left result ≡ C.AsSlice.cells (buf_of self.old) }
         ensures spacing { spacing_left result ≡ whole_spacing (width_of self.old) (height_of self.old) (stride_of self.old) }
         ensures rows { muts_left result ≡ rows_of (layout_by C.AsSlice.cells self.old) }
-        ensures grid { muts_left result ≡ grid_rows (grid_of (layout_by C.AsSlice.cells self.old)) }
+        ensures grid { muts_left result ≡ grid_rows (grid_by C.AsSlice.cells self.old) }
         ensures count { length (muts_left result) ≡ row_count (width_of self.old) (height_of self.old) }
         ensures countable { length (muts_left result) < 2 ^ 64 }
         ensures wide { All (λ row. length row ≡ width_of self.old) (muts_left result) }

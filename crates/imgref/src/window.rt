@@ -3,13 +3,12 @@
 ghost use Rattle.std.specs.Prelude.{◌≡◌, ◌≤◌, length};
 ghost use Rattle.std.specs.Borrow.{sem, follows, Array};
 ghost use Rattle.image_model.specs.Layout.{Fits};
-ghost use Rattle.image_model.specs.Grid.{grid_of};
 ghost use Rattle.image_model.specs.Windows.{window, window_view, IsInside, IsWithin, roomy_stretch, roomy_window, window_layout, stretch_cells, with_stretch};
-ghost use Rattle.image_shape.specs.Shape.{shape_width, shape_height, shaped};
+ghost use Rattle.image_shape.specs.Shape.{shape_width, shape_height, shaped_grid, shaped};
 ghost use Rattle.image_shape.specs.Window.{as_stretch};
 ghost use Rattle.imgref.specs.contracts.img.Img.{the_row};
 ghost use Rattle.imgref.specs.Written.{WindowPatchesGrid, WindowKeepsOutside, WindowKeepsFit, WindowKeepsContainer};
-ghost use Rattle.imgref.specs.Image.{buf_of, width_of, height_of, stride_of, layout_by, with_all, with_window, ref_layout, mut_layout};
+ghost use Rattle.imgref.specs.Image.{buf_of, width_of, height_of, stride_of, grid_by, layout_by, with_all, with_window, ref_grid, ref_layout, mut_grid, mut_layout};
 
 use crate::containers::AsMutSlice;
 use crate::img::{Img, ImgRef, ImgRefMut};
@@ -32,7 +31,7 @@ impl<'s, T> Img<&'s [T]> {
         requires inside { IsInside (width_of self.now) (height_of self.now) (window left top width height) }
         ensures layout { ref_layout result ≡ roomy_window (ref_layout self.now) (window left top width height) }
         ensures fits { Fits (ref_layout result) }
-        ensures view { grid_of (ref_layout result) ≡ window_view (grid_of (ref_layout self.now)) (window left top width height) }
+        ensures view { ref_grid result ≡ window_view (ref_grid self.now) (window left top width height) }
     {
         let window = Window {
             left,
@@ -83,7 +82,7 @@ impl<'s, T> Img<&'s mut [T]> {
         ensures* hands_on { sem 𝓛 (follows (Array T.row 0) (Array T.row 0) (buf_of self.entry).ghost_name (buf_of result).ghost_name (with_stretch (buf_of self.entry).now (roomy_stretch (length (buf_of self.entry).now) (stride_of self.entry) (window left top width height)))) }
         ensures layout { mut_layout result ≡ roomy_window (mut_layout self.entry) (window left top width height) }
         ensures fits { Fits (mut_layout result) }
-        ensures view { grid_of (mut_layout result) ≡ window_view (grid_of (mut_layout self.entry)) (window left top width height) }
+        ensures view { mut_grid result ≡ window_view (mut_grid self.entry) (window left top width height) }
     {
         let window = Window {
             left,
@@ -116,7 +115,7 @@ impl<C: AsMutSlice> Img<C> {
         requires inside { IsInside (width_of self.now) (height_of self.now) (window left top width height) }
         ensures layout { ref_layout result ≡ roomy_window (layout_by C.AsSlice.cells self.now) (window left top width height) }
         ensures fits { Fits (ref_layout result) }
-        ensures view { grid_of (ref_layout result) ≡ window_view (grid_of (layout_by C.AsSlice.cells self.now)) (window left top width height) }
+        ensures view { ref_grid result ≡ window_view (grid_by C.AsSlice.cells self.now) (window left top width height) }
     {
         let window = Window {
             left,
@@ -169,7 +168,7 @@ impl<C: AsMutSlice> Img<C> {
         ensures* hands_on { sem 𝓛 (follows (the_row C.row) (Array C.Item.row 0) self.entry.ghost_name (buf_of result).ghost_name (with_window C.AsSlice.cells C.with_cells C.roomy_windows self.old (window left top width height))) }
         ensures layout { mut_layout result ≡ window_layout C.roomy_windows (layout_by C.AsSlice.cells self.old) (window left top width height) }
         ensures fits { Fits (mut_layout result) }
-        ensures view { grid_of (mut_layout result) ≡ window_view (grid_of (layout_by C.AsSlice.cells self.old)) (window left top width height) }
+        ensures view { mut_grid result ≡ window_view (grid_by C.AsSlice.cells self.old) (window left top width height) }
         ensures grid { WindowPatchesGrid C.AsSlice.cells C.with_cells C.roomy_windows self.old (window left top width height) (mut_layout result) }
         ensures outside { WindowKeepsOutside C.AsSlice.cells C.with_cells C.roomy_windows self.old (window left top width height) (mut_layout result) }
         ensures still_fits { WindowKeepsFit C.AsSlice.cells C.with_cells C.roomy_windows self.old (window left top width height) (mut_layout result) }
@@ -200,7 +199,7 @@ impl<C: AsMutSlice> Img<C> {
         ensures* hands_on { sem 𝓛 (follows (the_row C.row) (Array C.Item.row 0) self.entry.ghost_name result.0.ghost_name (with_window C.AsSlice.cells C.with_cells C.roomy_windows self.old (window left top width height))) }
         ensures layout { shaped result.0.now result.1 ≡ window_layout C.roomy_windows (layout_by C.AsSlice.cells self.old) (window left top width height) }
         ensures fits { Fits (shaped result.0.now result.1) }
-        ensures view { grid_of (shaped result.0.now result.1) ≡ window_view (grid_of (layout_by C.AsSlice.cells self.old)) (window left top width height) }
+        ensures view { shaped_grid result.0.now result.1 ≡ window_view (grid_by C.AsSlice.cells self.old) (window left top width height) }
         ensures width { shape_width result.1 ≡ width }
         ensures height { shape_height result.1 ≡ height }
         ensures holds_width { width_of self.old ≤ stride_of self.old }

@@ -5,10 +5,10 @@
 
 ghost use Rattle.std.specs.Prelude.{◌≡◌, ◌<◌};
 ghost use Rattle.image_model.specs.Layout.{Fits, SameOutside};
-ghost use Rattle.image_model.specs.Grid.{grid_of, patch, uniform};
+ghost use Rattle.image_model.specs.Grid.{patch, uniform};
 ghost use Rattle.image_model.specs.Windows.{IsInside, window_view};
 ghost use Rattle.image_mosaics.specs.Mosaic.{mosaic};
-ghost use Rattle.image_shape.specs.Shape.{shape_width, shape_height, shaped};
+ghost use Rattle.image_shape.specs.Shape.{shape_width, shape_height, shaped_grid, shaped};
 ghost use Rattle.image_shape.specs.Window.{as_window};
 
 use image_mosaics::mosaic_cells;
@@ -20,7 +20,7 @@ use image_shape::{Shape, Window};
 pub(crate) fn fill_part<T: Copy>(cells: &mut [T], shape: Shape, window: Window, value: T)
     requires fits { Fits (shaped cells.old shape) }
     requires inside { IsInside (shape_width shape) (shape_height shape) (as_window window) }
-    ensures grid { grid_of (shaped cells.new shape) ≡ patch (grid_of (shaped cells.old shape)) window.left window.top (uniform window.width window.height value) }
+    ensures grid { shaped_grid cells.new shape ≡ patch (shaped_grid cells.old shape) window.left window.top (uniform window.width window.height value) }
     ensures outside { SameOutside (shaped cells.old shape) (shaped cells.new shape) }
 {
     let part = shape.stretch(false, cells.len(), window);
@@ -42,7 +42,7 @@ pub(crate) fn copy_part<T: Copy>(
     requires source_fits { Fits (shaped source.now source_shape) }
     requires same_width { window.width ≡ shape_width source_shape }
     requires same_height { window.height ≡ shape_height source_shape }
-    ensures grid { grid_of (shaped cells.new shape) ≡ patch (grid_of (shaped cells.old shape)) window.left window.top (grid_of (shaped source.now source_shape)) }
+    ensures grid { shaped_grid cells.new shape ≡ patch (shaped_grid cells.old shape) window.left window.top (shaped_grid source.now source_shape) }
     ensures outside { SameOutside (shaped cells.old shape) (shaped cells.new shape) }
 {
     let part = shape.stretch(false, cells.len(), window);
@@ -68,7 +68,7 @@ pub(crate) fn mosaic_part<T: Copy>(
     requires inside { IsInside (shape_width shape) (shape_height shape) (as_window window) }
     requires wide { 0 < tile_width }
     requires high { 0 < tile_height }
-    ensures grid { grid_of (shaped cells.new shape) ≡ patch (grid_of (shaped cells.old shape)) window.left window.top (mosaic tile_width tile_height (window_view (grid_of (shaped cells.old shape)) (as_window window))) }
+    ensures grid { shaped_grid cells.new shape ≡ patch (shaped_grid cells.old shape) window.left window.top (mosaic tile_width tile_height (window_view (shaped_grid cells.old shape) (as_window window))) }
     ensures outside { SameOutside (shaped cells.old shape) (shaped cells.new shape) }
 {
     let part = shape.stretch(false, cells.len(), window);

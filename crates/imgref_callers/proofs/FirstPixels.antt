@@ -15,7 +15,7 @@ use Rattle.image_model.proofs.Rows.{length-joined_rows}
 use Rattle.image_pixels.specs.Marks.{pick, marks_of}
 use Rattle.image_pixels.proofs.Layouts.{marked_pixels}
 use Rattle.imgref.specs.declared.img.Img.{Img}
-use Rattle.imgref.specs.Image.{buf_of, width_of, stride_of, with_all, layout_by}
+use Rattle.imgref.specs.Image.{buf_of, width_of, stride_of, with_all, grid_by, layout_by}
 use Rattle.imgref_callers.specs.Pixels.{first_covered, with_first}
 use Rattle.imgref_callers.proofs.Padding.{padding_unmarked}
 use Rattle.imgref_callers.proofs.Replaced.{new_layout, new_container}
@@ -139,7 +139,7 @@ module _ {C T : Type 0} (cells : C → List T) (with_cells : C → Stretch → L
   new : layout_by cells j ≡ record old { cells = ys }
   new = new_layout cells with_cells others_stay i j ys is as_many
 
-  pub image_grid : grid_of (layout_by cells j) ≡ with_first (grid_of old) count value
+  pub image_grid : grid_by cells j ≡ with_first (grid_of old) count value
   image_grid = ap grid_of new ∙ written_grid old narrow fits count value
 
   pub image_outside : SameOutside old (layout_by cells j)

@@ -17,7 +17,7 @@ use Rattle.imgref.specs.Rows.{whole_spacing, let_go, muts_left, cells_left, spac
 use Rattle.image_rows.specs.declared.ends.End.TheVariants.{Last}
 use Rattle.image_rows.specs.declared.writing.RowsIterMut.{RowsIterMut}
 use Rattle.imgref.specs.declared.img.Img.{Img}
-use Rattle.imgref.specs.Image.{buf_of, width_of, stride_of, with_all, layout_by}
+use Rattle.imgref.specs.Image.{buf_of, width_of, stride_of, with_all, grid_by, layout_by}
 use Rattle.imgref_callers.specs.Rows.{with_last_row, with_last_of}
 use Rattle.imgref_callers.proofs.Replaced.{new_layout, new_container}
 
@@ -133,7 +133,7 @@ module _ {C T : Type 0} (cells : C → List T) (with_cells : C → Stretch → L
   new : layout_by cells j ≡ record old { cells = with_last_row old value }
   new = new_layout cells with_cells others_stay i j (with_last_row old value) is as_many
 
-  pub image_grid : grid_of (layout_by cells j) ≡ patch (grid_of old) 0 (old.height - 1) (uniform old.width 1 value)
+  pub image_grid : grid_by cells j ≡ patch (grid_of old) 0 (old.height - 1) (uniform old.width 1 value)
   image_grid = ap grid_of new ∙ last_row_grid old narrow fits value
 
   pub image_outside : SameOutside old (layout_by cells j)

@@ -8,12 +8,12 @@ use Rattle.std.proofs.lemmas.Bool.Decides.{nat_tests}
 use Rattle.std.proofs.lemmas.Option.{same_Some, none-some}
 use Rattle.image_model.specs.Layout.{IsPadding}
 use Rattle.image_model.proofs.Cells.{slice_get-append_right}
-use Rattle.image_pixels.specs.Marks.{marks, marks_of, rows_from, first_line, lines_after}
+use Rattle.image_pixels.specs.Marks.{marks, marks_of, rows_from, first_row, rows_after}
 
-some_first : (w h : ℕ) → first_line w (suc h) ≡ w
+some_first : (w h : ℕ) → first_row w (suc h) ≡ w
 some_first w h = let some : (suc h == 0) ≡ false = grind (arith, nat_tests) in ap (λ b. cond b 0 w) some
 
-some_after : (w h : ℕ) → lines_after (suc w) h ≡ h - 1
+some_after : (w h : ℕ) → rows_after (suc w) h ≡ h - 1
 some_after w h = let some : (suc w == 0) ≡ false = grind (arith, nat_tests) in ap (λ b. cond b 0 (h - 1)) some
 
 repeated : (b : Bool) (n : ℕ) (ms : List Bool) (k : ℕ) → k < n → slice_get (replicate n b ++ ms) k ≡ Some b

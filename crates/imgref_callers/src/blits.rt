@@ -2,11 +2,11 @@
 
 ghost use Rattle.std.specs.Prelude.{◌≡◌, ◌-◌, ◌<◌, ◌≤◌};
 ghost use Rattle.image_model.specs.Layout.{Fits, SameOutside};
-ghost use Rattle.image_model.specs.Grid.{grid_of, view, patch, uniform};
+ghost use Rattle.image_model.specs.Grid.{view, patch, uniform};
 ghost use Rattle.image_model.specs.Windows.{IsInside, window, window_view};
-ghost use Rattle.imgref.specs.Shape.{shape_width, shape_height, shaped};
+ghost use Rattle.imgref.specs.Shape.{shape_width, shape_height, shaped_grid, shaped};
 ghost use Rattle.imgref.specs.Window.{as_window};
-ghost use Rattle.imgref.specs.Image.{width_of, height_of, vec_layout, ref_layout};
+ghost use Rattle.imgref.specs.Image.{width_of, height_of, vec_grid, vec_layout, ref_grid, ref_layout};
 
 use imgref::{ImgRef, ImgRefMut, ImgVec, Shape, Window};
 
@@ -24,7 +24,7 @@ pub fn copy_but_one<T: Copy>(
     requires same_height { height_of source ≡ height_of image.old }
     requires column { x < width_of source }
     requires line { y < height_of source }
-    ensures grid { grid_of (vec_layout image.new) ≡ patch (grid_of (ref_layout source.entry)) x y (uniform 1 1 value) }
+    ensures grid { vec_grid image.new ≡ patch (ref_grid source.entry) x y (uniform 1 1 value) }
     ensures outside { SameOutside (vec_layout image.old) (vec_layout image.new) }
 {
     image.copy_from(source);
@@ -35,7 +35,7 @@ pub fn copy_but_one<T: Copy>(
 pub fn scroll_up<T: Copy>(image: &mut ImgVec<T>)
     requires fits { Fits (vec_layout image.old) }
     requires high { 1 ≤ height_of image.old }
-    ensures grid { grid_of (vec_layout image.new) ≡ patch (grid_of (vec_layout image.old)) 0 0 (view (grid_of (vec_layout image.old)) 0 1 (width_of image.old) (height_of image.old - 1)) }
+    ensures grid { vec_grid image.new ≡ patch (vec_grid image.old) 0 0 (view (vec_grid image.old) 0 1 (width_of image.old) (height_of image.old - 1)) }
     ensures outside { SameOutside (vec_layout image.old) (vec_layout image.new) }
 {
     let width = image.width();
@@ -49,7 +49,7 @@ pub fn copy_over_cells<T: Copy>(cells: &mut [T], shape: Shape, source: ImgRef<'_
     requires source_fits { Fits (ref_layout source) }
     requires same_width { width_of source ≡ shape_width shape }
     requires same_height { height_of source ≡ shape_height shape }
-    ensures grid { grid_of (shaped cells.new shape) ≡ grid_of (ref_layout source.entry) }
+    ensures grid { shaped_grid cells.new shape ≡ ref_grid source.entry }
     ensures outside { SameOutside (shaped cells.old shape) (shaped cells.new shape) }
 {
     let mut image = ImgRefMut::from_parts(cells, shape);
@@ -68,7 +68,7 @@ pub fn copy_across<T: Copy>(
     requires source_fits { Fits (vec_layout source.now) }
     requires from_inside { IsInside (width_of source.now) (height_of source.now) (as_window from) }
     requires inside { IsInside (width_of image.old) (height_of image.old) (window left top from.width from.height) }
-    ensures grid { grid_of (vec_layout image.new) ≡ patch (grid_of (vec_layout image.old)) left top (window_view (grid_of (vec_layout source.now)) (as_window from)) }
+    ensures grid { vec_grid image.new ≡ patch (vec_grid image.old) left top (window_view (vec_grid source.now) (as_window from)) }
     ensures outside { SameOutside (vec_layout image.old) (vec_layout image.new) }
 {
     let seen = source.sub_image(from.left, from.top, from.width, from.height);

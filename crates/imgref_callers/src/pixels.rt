@@ -3,9 +3,8 @@
 ghost use Rattle.std.specs.Prelude.{◌≡◌};
 ghost use Rattle.std.specs.Borrow.{sem};
 ghost use Rattle.image_model.specs.Layout.{Fits, SameOutside};
-ghost use Rattle.image_model.specs.Grid.{grid_of};
 ghost use Rattle.image_pixels.specs.Marks.{marks_of};
-ghost use Rattle.imgref.specs.Image.{buf_of, width_of, height_of, stride_of, layout_by, with_all, vec_layout, mut_layout};
+ghost use Rattle.imgref.specs.Image.{buf_of, width_of, height_of, stride_of, grid_by, layout_by, OnlyCellsChange, with_all, vec_layout, mut_layout};
 ghost use Rattle.imgref_callers.specs.Pixels.{with_first, first_covered, writes_first};
 
 use image_pixels::PixelsIterMut;
@@ -68,9 +67,9 @@ pub fn write_first<'a, C: AsMutSlice>(image: &'a mut Img<C>, count: usize, value
 where
     C::Item: Copy + 'a,
     requires fits { Fits (layout_by C.AsSlice.cells image.old) }
-    ensures grid { grid_of (layout_by C.AsSlice.cells image.new) ≡ with_first (grid_of (layout_by C.AsSlice.cells image.old)) count value }
+    ensures grid { grid_by C.AsSlice.cells image.new ≡ with_first (grid_by C.AsSlice.cells image.old) count value }
     ensures outside { SameOutside (layout_by C.AsSlice.cells image.old) (layout_by C.AsSlice.cells image.new) }
-    ensures container { image.new ≡ with_all C.AsSlice.cells C.with_cells image.old (C.AsSlice.cells (buf_of image.new)) }
+    ensures container { OnlyCellsChange C.AsSlice.cells C.with_cells image.old image.new }
 {
     let _width = image.width();
     cover_first(image, count, value);

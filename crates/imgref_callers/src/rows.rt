@@ -2,8 +2,8 @@
 
 ghost use Rattle.std.specs.Prelude.{◌≡◌, ◌-◌, ◌<◌, length, replicate};
 ghost use Rattle.image_model.specs.Layout.{Fits, SameOutside};
-ghost use Rattle.image_model.specs.Grid.{grid_of, patch, uniform};
-ghost use Rattle.imgref.specs.Image.{buf_of, width_of, height_of, layout_by, with_all};
+ghost use Rattle.image_model.specs.Grid.{patch, uniform};
+ghost use Rattle.imgref.specs.Image.{width_of, height_of, grid_by, layout_by, OnlyCellsChange, with_all};
 ghost use Rattle.imgref_callers.specs.Rows.{with_last_row};
 
 use imgref::{AsMutSlice, Img};
@@ -25,7 +25,7 @@ where
     C::Item: Copy + 'a,
     requires fits { Fits (layout_by C.AsSlice.cells image.old) }
     requires below { y < height_of image.old }
-    ensures grid { grid_of (layout_by C.AsSlice.cells image.new) ≡ patch (grid_of (layout_by C.AsSlice.cells image.old)) 0 y (uniform (width_of image.old) 1 value) }
+    ensures grid { grid_by C.AsSlice.cells image.new ≡ patch (grid_by C.AsSlice.cells image.old) 0 y (uniform (width_of image.old) 1 value) }
     ensures outside { SameOutside (layout_by C.AsSlice.cells image.old) (layout_by C.AsSlice.cells image.new) }
 {
     let _width = image.width();
@@ -52,9 +52,9 @@ pub fn fill_last_row<'a, C: AsMutSlice>(image: &'a mut Img<C>, value: C::Item)
 where
     C::Item: Copy + 'a,
     requires fits { Fits (layout_by C.AsSlice.cells image.old) }
-    ensures grid { grid_of (layout_by C.AsSlice.cells image.new) ≡ patch (grid_of (layout_by C.AsSlice.cells image.old)) 0 (height_of image.old - 1) (uniform (width_of image.old) 1 value) }
+    ensures grid { grid_by C.AsSlice.cells image.new ≡ patch (grid_by C.AsSlice.cells image.old) 0 (height_of image.old - 1) (uniform (width_of image.old) 1 value) }
     ensures outside { SameOutside (layout_by C.AsSlice.cells image.old) (layout_by C.AsSlice.cells image.new) }
-    ensures container { image.new ≡ with_all C.AsSlice.cells C.with_cells image.old (C.AsSlice.cells (buf_of image.new)) }
+    ensures container { OnlyCellsChange C.AsSlice.cells C.with_cells image.old image.new }
 {
     let _width = image.width();
     cover_last(image, value);

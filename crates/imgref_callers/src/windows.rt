@@ -3,11 +3,11 @@
 
 ghost use Rattle.std.specs.Prelude.{◌≡◌, ◌+◌, ◌<◌};
 ghost use Rattle.image_model.specs.Layout.{Fits, SameOutside};
-ghost use Rattle.image_model.specs.Grid.{grid_of, patch, uniform};
+ghost use Rattle.image_model.specs.Grid.{patch, uniform};
 ghost use Rattle.image_model.specs.Windows.{IsInside};
-ghost use Rattle.imgref.specs.Shape.{shape_width, shape_height, shaped};
+ghost use Rattle.imgref.specs.Shape.{shape_width, shape_height, shaped_grid, shaped};
 ghost use Rattle.imgref.specs.Window.{as_window};
-ghost use Rattle.imgref.specs.Image.{buf_of, width_of, height_of, vec_layout, mut_layout};
+ghost use Rattle.imgref.specs.Image.{buf_of, width_of, height_of, vec_grid, vec_layout, mut_grid, mut_layout};
 
 use imgref::{ImgRefMut, ImgVec, Shape, Window};
 
@@ -16,7 +16,7 @@ fn put<T: Copy>(cells: &mut [T], shape: Shape, x: usize, y: usize, value: T)
     requires fits { Fits (shaped cells.old shape) }
     requires column { x < shape_width shape }
     requires line { y < shape_height shape }
-    ensures grid { grid_of (shaped cells.new shape) ≡ patch (grid_of (shaped cells.old shape)) x y (uniform 1 1 value) }
+    ensures grid { shaped_grid cells.new shape ≡ patch (shaped_grid cells.old shape) x y (uniform 1 1 value) }
     ensures outside { SameOutside (shaped cells.old shape) (shaped cells.new shape) }
 {
     let mut image = ImgRefMut::from_parts(cells, shape);
@@ -30,7 +30,7 @@ fn put_inside<T: Copy>(cells: &mut [T], shape: Shape, window: Window, x: usize, 
     requires inside { IsInside (shape_width shape) (shape_height shape) (as_window window) }
     requires column { x < window.width }
     requires line { y < window.height }
-    ensures grid { grid_of (shaped cells.new shape) ≡ patch (grid_of (shaped cells.old shape)) (window.left + x) (window.top + y) (uniform 1 1 value) }
+    ensures grid { shaped_grid cells.new shape ≡ patch (shaped_grid cells.old shape) (window.left + x) (window.top + y) (uniform 1 1 value) }
     ensures outside { SameOutside (shaped cells.old shape) (shaped cells.new shape) }
 {
     let mut image = ImgRefMut::from_parts(cells, shape);
@@ -58,7 +58,7 @@ pub fn put_in_owner<T: Copy>(
     requires second_inside { IsInside first.width first.height (as_window second) }
     requires column { x < second.width }
     requires line { y < second.height }
-    ensures grid { grid_of (vec_layout image.new) ≡ patch (grid_of (vec_layout image.old)) (first.left + (second.left + x)) (first.top + (second.top + y)) (uniform 1 1 value) }
+    ensures grid { vec_grid image.new ≡ patch (vec_grid image.old) (first.left + (second.left + x)) (first.top + (second.top + y)) (uniform 1 1 value) }
     ensures outside { SameOutside (vec_layout image.old) (vec_layout image.new) }
 {
     let (owned, shape) = image.window_parts_mut(first.left, first.top, first.width, first.height);
@@ -80,7 +80,7 @@ pub fn put_in_lent<T: Copy>(
     requires second_inside { IsInside first.width first.height (as_window second) }
     requires column { x < second.width }
     requires line { y < second.height }
-    ensures grid { grid_of (mut_layout image.new) ≡ patch (grid_of (mut_layout image.old)) (first.left + (second.left + x)) (first.top + (second.top + y)) (uniform 1 1 value) }
+    ensures grid { mut_grid image.new ≡ patch (mut_grid image.old) (first.left + (second.left + x)) (first.top + (second.top + y)) (uniform 1 1 value) }
     ensures outside { SameOutside (mut_layout image.old) (mut_layout image.new) }
     ensures same_reference { (buf_of image.new).ghost_name ≡ (buf_of image.old).ghost_name }
 {
@@ -104,7 +104,7 @@ pub fn put_in_cells<T: Copy>(
     requires second_inside { IsInside first.width first.height (as_window second) }
     requires column { x < second.width }
     requires line { y < second.height }
-    ensures grid { grid_of (shaped cells.new shape) ≡ patch (grid_of (shaped cells.old shape)) (first.left + (second.left + x)) (first.top + (second.top + y)) (uniform 1 1 value) }
+    ensures grid { shaped_grid cells.new shape ≡ patch (shaped_grid cells.old shape) (first.left + (second.left + x)) (first.top + (second.top + y)) (uniform 1 1 value) }
     ensures outside { SameOutside (shaped cells.old shape) (shaped cells.new shape) }
 {
     let mut image = ImgRefMut::from_parts(cells, shape);

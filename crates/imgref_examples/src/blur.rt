@@ -1,7 +1,7 @@
 //! A mean of neighbours.
 
 ghost use Rattle.std.specs.Prelude.{◌≡◌, ◌<◌, ◌≤◌, ◌+◌, ◌*◌};
-ghost use Rattle.imgref.specs.Words.{Fits, SameOutside, grid_of, width_of, height_of, ref_layout, vec_layout};
+ghost use Rattle.imgref.specs.Words.{Fits, SameOutside, width_of, height_of, ref_grid, ref_layout, vec_grid, vec_layout};
 ghost use Rattle.imgref_examples.specs.Blur.{sum_of_three, mean_of_nine, blurred};
 
 use imgref::{ImgRef, ImgVec};
@@ -11,7 +11,7 @@ fn three_from(src: ImgRef<'_, u8>, x: usize, y: usize) -> u16
     requires fits { Fits (ref_layout src) }
     requires column { x + 2 < width_of src }
     requires line { y < height_of src }
-    ensures value { result ≡ sum_of_three (grid_of (ref_layout src.entry)) x y }
+    ensures value { result ≡ sum_of_three (ref_grid src.entry) x y }
     ensures small { result ≤ 3 * 255 }
 {
     u16::from(src[(x, y)]) + u16::from(src[(x + 1, y)]) + u16::from(src[(x + 2, y)])
@@ -24,7 +24,7 @@ fn mean_around(src: ImgRef<'_, u8>, x: usize, y: usize) -> u8
     requires right { x + 1 < width_of src }
     requires above { 0 < y }
     requires below { y + 1 < height_of src }
-    ensures { result ≡ mean_of_nine (grid_of (ref_layout src.entry)) x y }
+    ensures { result ≡ mean_of_nine (ref_grid src.entry) x y }
 {
     let above = three_from(src, x - 1, y - 1);
     let beside = three_from(src, x - 1, y);
@@ -39,7 +39,7 @@ pub fn box_blur_3x3(src: ImgRef<'_, u8>, dst: &mut ImgVec<u8>)
     requires dst_fits { Fits (vec_layout dst.old) }
     requires same_width { width_of src ≡ width_of dst.old }
     requires same_height { height_of src ≡ height_of dst.old }
-    ensures grid { grid_of (vec_layout dst.new) ≡ blurred (grid_of (ref_layout src.entry)) (grid_of (vec_layout dst.old)) }
+    ensures grid { vec_grid dst.new ≡ blurred (ref_grid src.entry) (vec_grid dst.old) }
     ensures outside { SameOutside (vec_layout dst.old) (vec_layout dst.new) }
     ensures fits { Fits (vec_layout dst.new) }
 {

@@ -1,7 +1,7 @@
 //! A frame along the inner edge of a window.
 
 ghost use Rattle.std.specs.Prelude.{◌≡◌, ◌<◌, ◌+◌, ◌-◌};
-ghost use Rattle.imgref.specs.Words.{Fits, SameOutside, IsInside, grid_of, patch, uniform, as_window, width_of, height_of, vec_layout};
+ghost use Rattle.imgref.specs.Words.{Fits, SameOutside, IsInside, patch, uniform, as_window, width_of, height_of, vec_grid, vec_layout};
 
 use imgref::{ImgVec, Window};
 
@@ -12,7 +12,7 @@ pub fn draw_border(image: &mut ImgVec<u8>, w: Window, value: u8)
     requires inside { IsInside (width_of image.old) (height_of image.old) (as_window w) }
     requires wide { 0 < w.width }
     requires high { 0 < w.height }
-    ensures grid { grid_of (vec_layout image.new) ≡ patch (patch (patch (patch (grid_of (vec_layout image.old)) w.left w.top (uniform w.width 1 value)) w.left (w.top + w.height - 1) (uniform w.width 1 value)) w.left w.top (uniform 1 w.height value)) (w.left + w.width - 1) w.top (uniform 1 w.height value) }
+    ensures grid { vec_grid image.new ≡ patch (patch (patch (patch (vec_grid image.old) w.left w.top (uniform w.width 1 value)) w.left (w.top + w.height - 1) (uniform w.width 1 value)) w.left w.top (uniform 1 w.height value)) (w.left + w.width - 1) w.top (uniform 1 w.height value) }
     ensures outside { SameOutside (vec_layout image.old) (vec_layout image.new) }
 {
     image.fill_window(w.left, w.top, w.width, 1, value);

@@ -1,7 +1,7 @@
 //! Every pixel brighter: by lent rows, by places and row by row.
 
 ghost use Rattle.std.specs.Prelude.{◌≡◌, ◌<◌, map, length};
-ghost use Rattle.imgref.specs.Words.{Fits, SameOutside, grid_of, patch, one_row, row, width_of, height_of, vec_layout};
+ghost use Rattle.imgref.specs.Words.{Fits, SameOutside, patch, one_row, row, width_of, height_of, vec_grid, vec_layout};
 ghost use Rattle.imgref_examples.specs.Brightness.{brighter, brightened};
 
 use imgref::ImgVec;
@@ -24,7 +24,7 @@ pub fn brighten(image: &mut ImgVec<u8>, by: u8)
 /// The same place by place: every pixel is brighter, and the padding stays.
 pub fn brighten_places(image: &mut ImgVec<u8>, by: u8)
     requires { Fits (vec_layout image.old) }
-    ensures grid { grid_of (vec_layout image.new) ≡ brightened by (grid_of (vec_layout image.old)) }
+    ensures grid { vec_grid image.new ≡ brightened by (vec_grid image.old) }
     ensures outside { SameOutside (vec_layout image.old) (vec_layout image.new) }
 {
     for y in 0..image.height() {
@@ -48,7 +48,7 @@ fn brighten_row(row: &mut [u8], by: u8)
 fn brighten_line(image: &mut ImgVec<u8>, y: usize, by: u8)
     requires fits { Fits (vec_layout image.old) }
     requires below { y < height_of image.old }
-    ensures grid { grid_of (vec_layout image.new) ≡ patch (grid_of (vec_layout image.old)) 0 y (one_row (map (brighter by) (row (vec_layout image.old) y))) }
+    ensures grid { vec_grid image.new ≡ patch (vec_grid image.old) 0 y (one_row (map (brighter by) (row (vec_layout image.old) y))) }
     ensures outside { SameOutside (vec_layout image.old) (vec_layout image.new) }
     ensures fits { Fits (vec_layout image.new) }
     ensures long { length (row (vec_layout image.old) y) ≡ width_of image.old }
@@ -60,7 +60,7 @@ fn brighten_line(image: &mut ImgVec<u8>, y: usize, by: u8)
 #[tactic(auto, using(image_model::proofs::MappedRows::mapped_rows))]
 pub fn brighten_rows(image: &mut ImgVec<u8>, by: u8)
     requires fits { Fits (vec_layout image.old) }
-    ensures grid { grid_of (vec_layout image.new) ≡ brightened by (grid_of (vec_layout image.old)) }
+    ensures grid { vec_grid image.new ≡ brightened by (vec_grid image.old) }
     ensures outside { SameOutside (vec_layout image.old) (vec_layout image.new) }
 {
     for y in 0..image.height() {

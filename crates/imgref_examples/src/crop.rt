@@ -1,7 +1,7 @@
 //! The pixels of a window, copied: as an image of their own, or as a list.
 
 ghost use Rattle.std.specs.Prelude.{◌≡◌, ◌↔◌, ◌*◌, max, length, IsSome, IfOk, IfSome};
-ghost use Rattle.imgref.specs.Words.{Fits, IsInside, grid_of, grid_pixels, window, window_view, width_of, height_of, stride_of, ref_layout, vec_layout};
+ghost use Rattle.imgref.specs.Words.{Fits, IsInside, grid_pixels, window, window_view, width_of, height_of, stride_of, ref_grid, ref_layout, vec_grid, vec_layout};
 
 use imgref::{ImgRef, ImgVec};
 use std::alloc::{AllocError, Global};
@@ -17,7 +17,7 @@ pub fn crop_packed(
 ) -> Result<ImgVec<u8>, AllocError>
     requires fits { Fits (ref_layout image) }
     requires inside { IsInside (width_of image) (height_of image) (window left top width height) }
-    ensures grid { IfOk result (λ copy. grid_of (vec_layout copy) ≡ window_view (grid_of (ref_layout image.entry)) (window left top width height)) }
+    ensures grid { IfOk result (λ copy. vec_grid copy ≡ window_view (ref_grid image.entry) (window left top width height)) }
     ensures stride { IfOk result (λ copy. stride_of copy ≡ max width 1) }
     ensures packed { IfOk result (λ copy. length (vec_layout copy).cells ≡ width * height) }
 {
@@ -38,7 +38,7 @@ pub fn crop_copy(
 ) -> Result<Option<Vec<u8>>, AllocError>
     requires { Fits (ref_layout image) }
     ensures inside { IfOk result (λ copy. IsSome copy ↔ IsInside (width_of image.entry) (height_of image.entry) (window left top width height)) }
-    ensures pixels { IfOk result (λ copy. IfSome copy (λ cells. cells.items ≡ grid_pixels (window_view (grid_of (ref_layout image.entry)) (window left top width height)))) }
+    ensures pixels { IfOk result (λ copy. IfSome copy (λ cells. cells.items ≡ grid_pixels (window_view (ref_grid image.entry) (window left top width height)))) }
 {
     if !image.has_window(left, top, width, height) {
         return Ok(None);

@@ -1,9 +1,9 @@
 //! Writes at places, one after the other: what the image shows afterwards is one patch on another.
 
 ghost use Rattle.std.specs.Prelude.{◌≡◌, ◌<◌, ◌≤◌, Some};
-ghost use Rattle.image_model.specs.Grid.{grid_of, patch, uniform};
+ghost use Rattle.image_model.specs.Grid.{patch, uniform};
 ghost use Rattle.image_model.specs.Layout.{Fits, SameOutside};
-ghost use Rattle.imgref.specs.Image.{width_of, height_of, vec_layout, mut_layout};
+ghost use Rattle.imgref.specs.Image.{width_of, height_of, vec_grid, vec_layout, mut_grid, mut_layout};
 ghost use Rattle.imgref_examples.specs.Stripes.{striped};
 
 use imgref::{ImgRefMut, ImgVec};
@@ -13,7 +13,7 @@ pub fn dot(image: &mut ImgRefMut<'_, u8>, x: usize, y: usize)
     requires fits { Fits (mut_layout image.old) }
     requires column { x < width_of image.old }
     requires line { y < height_of image.old }
-    ensures grid { grid_of (mut_layout image.new) ≡ patch (grid_of (mut_layout image.old)) x y (uniform 1 1 7) }
+    ensures grid { mut_grid image.new ≡ patch (mut_grid image.old) x y (uniform 1 1 7) }
     ensures outside { SameOutside (mut_layout image.old) (mut_layout image.new) }
 {
     image.put(x, y, 7);
@@ -24,7 +24,7 @@ pub fn three_places(image: &mut ImgVec<u8>, value: u8)
     requires fits { Fits (vec_layout image.old) }
     requires wide { 3 ≤ width_of image.old }
     requires high { 2 ≤ height_of image.old }
-    ensures grid { grid_of (vec_layout image.new) ≡ patch (patch (patch (grid_of (vec_layout image.old)) 0 0 (uniform 1 1 1)) 1 0 (uniform 1 1 2)) 1 1 (uniform 2 1 value) }
+    ensures grid { vec_grid image.new ≡ patch (patch (patch (vec_grid image.old) 0 0 (uniform 1 1 1)) 1 0 (uniform 1 1 2)) 1 1 (uniform 2 1 value) }
     ensures outside { SameOutside (vec_layout image.old) (vec_layout image.new) }
 {
     image.put(0, 0, 1);
@@ -37,7 +37,7 @@ pub fn three_by_index(image: &mut ImgVec<u8>, value: u8)
     requires fits { Fits (vec_layout image.old) }
     requires wide { 3 ≤ width_of image.old }
     requires high { 2 ≤ height_of image.old }
-    ensures grid { grid_of (vec_layout image.new) ≡ patch (patch (patch (grid_of (vec_layout image.old)) 0 0 (uniform 1 1 1)) 1 0 (uniform 1 1 2)) 1 1 (uniform 2 1 value) }
+    ensures grid { vec_grid image.new ≡ patch (patch (patch (vec_grid image.old) 0 0 (uniform 1 1 1)) 1 0 (uniform 1 1 2)) 1 1 (uniform 2 1 value) }
     ensures outside { SameOutside (vec_layout image.old) (vec_layout image.new) }
 {
     image[(0usize, 0usize)] = 1;
@@ -48,7 +48,7 @@ pub fn three_by_index(image: &mut ImgVec<u8>, value: u8)
 /// Each row in turn: its pixels become 0 or 1.
 pub fn stripes(image: &mut ImgVec<u8>)
     requires { Fits (vec_layout image.old) }
-    ensures grid { grid_of (vec_layout image.new) ≡ striped (width_of image.old) (height_of image.old) }
+    ensures grid { vec_grid image.new ≡ striped (width_of image.old) (height_of image.old) }
     ensures outside { SameOutside (vec_layout image.old) (vec_layout image.new) }
 {
     for y in 0..image.height() {
@@ -63,7 +63,7 @@ pub fn put_then_get(image: &mut ImgVec<u8>, x: usize, y: usize, value: u8) -> Op
     requires column { x < width_of image.old }
     requires line { y < height_of image.old }
     ensures value { result ≡ Some value }
-    ensures grid { grid_of (vec_layout image.new) ≡ patch (grid_of (vec_layout image.old)) x y (uniform 1 1 value) }
+    ensures grid { vec_grid image.new ≡ patch (vec_grid image.old) x y (uniform 1 1 value) }
     ensures outside { SameOutside (vec_layout image.old) (vec_layout image.new) }
 {
     image.put(x, y, value);

@@ -1,7 +1,7 @@
 //! A smaller image pasted into a larger one, cut at its edges.
 
 ghost use Rattle.std.specs.Prelude.{◌≡◌, ◌-◌};
-ghost use Rattle.imgref.specs.Words.{Fits, SameOutside, grid_of, patch, view, width_of, height_of, ref_layout, vec_layout};
+ghost use Rattle.imgref.specs.Words.{Fits, SameOutside, patch, view, width_of, height_of, ref_grid, ref_layout, vec_grid, vec_layout};
 ghost use Rattle.imgref_examples.specs.Signed.{start, skipped};
 
 use imgref::{ImgRef, ImgVec};
@@ -11,7 +11,7 @@ use imgref::{ImgRef, ImgVec};
 pub fn paste_sprite(image: &mut ImgVec<u8>, sprite: ImgRef<'_, u8>, x: usize, y: usize)
     requires fits { Fits (vec_layout image.old) }
     requires sprite_fits { Fits (ref_layout sprite) }
-    ensures grid { grid_of (vec_layout image.new) ≡ patch (grid_of (vec_layout image.old)) x y (grid_of (ref_layout sprite.entry)) }
+    ensures grid { vec_grid image.new ≡ patch (vec_grid image.old) x y (ref_grid sprite.entry) }
     ensures outside { SameOutside (vec_layout image.old) (vec_layout image.new) }
 {
     if x >= image.width() || y >= image.height() {
@@ -39,7 +39,7 @@ fn split(at: i32) -> (usize, usize)
 pub fn paste_at(image: &mut ImgVec<u8>, sprite: ImgRef<'_, u8>, x: i32, y: i32)
     requires fits { Fits (vec_layout image.old) }
     requires sprite_fits { Fits (ref_layout sprite) }
-    ensures grid { grid_of (vec_layout image.new) ≡ patch (grid_of (vec_layout image.old)) (start x) (start y) (view (grid_of (ref_layout sprite.entry)) (skipped x) (skipped y) (width_of sprite.entry - skipped x) (height_of sprite.entry - skipped y)) }
+    ensures grid { vec_grid image.new ≡ patch (vec_grid image.old) (start x) (start y) (view (ref_grid sprite.entry) (skipped x) (skipped y) (width_of sprite.entry - skipped x) (height_of sprite.entry - skipped y)) }
     ensures outside { SameOutside (vec_layout image.old) (vec_layout image.new) }
 {
     let (left, skip_x) = split(x);

@@ -1,7 +1,7 @@
 //! A rectangle that is cut at the image's edge.
 
 ghost use Rattle.std.specs.Prelude.{◌≡◌};
-ghost use Rattle.imgref.specs.Words.{Fits, SameOutside, grid_of, patch, uniform, vec_layout};
+ghost use Rattle.imgref.specs.Words.{Fits, SameOutside, patch, uniform, vec_grid, vec_layout};
 
 use imgref::ImgVec;
 
@@ -9,7 +9,7 @@ use imgref::ImgVec;
 #[tactic(auto, using(image_model::proofs::Patches::patches))]
 pub fn draw_rect(image: &mut ImgVec<u8>, x: usize, y: usize, width: usize, height: usize, value: u8)
     requires { Fits (vec_layout image.old) }
-    ensures grid { grid_of (vec_layout image.new) ≡ patch (grid_of (vec_layout image.old)) x y (uniform width height value) }
+    ensures grid { vec_grid image.new ≡ patch (vec_grid image.old) x y (uniform width height value) }
     ensures outside { SameOutside (vec_layout image.old) (vec_layout image.new) }
 {
     if x >= image.width() || y >= image.height() {

@@ -1,14 +1,14 @@
 //! Sums of the pixels.
 
 ghost use Rattle.std.specs.Prelude.{◌≡◌, ◌%◌, ◌*◌, ◌^◌, ◌<◌, ◌+◌, sum};
-ghost use Rattle.imgref.specs.Words.{Fits, grid_of, grid_pixels, width_of, height_of, ref_layout};
+ghost use Rattle.imgref.specs.Words.{Fits, grid_pixels, width_of, height_of, ref_grid, ref_layout};
 
 use imgref::ImgRef;
 
 /// The sum of the pixels, modulo 2 to the 64; the padding isn't counted.
 pub fn checksum(image: ImgRef<'_, u8>) -> u64
     requires { Fits (ref_layout image) }
-    ensures { result ≡ sum (grid_pixels (grid_of (ref_layout image.entry))) % 2 ^ 64 }
+    ensures { result ≡ sum (grid_pixels (ref_grid image.entry)) % 2 ^ 64 }
 {
     let mut sum = 0u64;
     for pixel in image.pixels() {
@@ -31,7 +31,7 @@ fn with_row(before: u64, row: &[u8]) -> u64
 /// The same sum row by row, which is faster on wide rows: a row is a slice.
 pub fn checksum_by_rows(image: ImgRef<'_, u8>) -> u64
     requires { Fits (ref_layout image) }
-    ensures { result ≡ sum (grid_pixels (grid_of (ref_layout image.entry))) % 2 ^ 64 }
+    ensures { result ≡ sum (grid_pixels (ref_grid image.entry)) % 2 ^ 64 }
 {
     let mut sum = 0u64;
     for row in image.rows() {
@@ -44,7 +44,7 @@ pub fn checksum_by_rows(image: ImgRef<'_, u8>) -> u64
 pub fn exact_checksum(image: ImgRef<'_, u8>) -> u64
     requires fits { Fits (ref_layout image) }
     requires small { width_of image * height_of image < 2 ^ 56 }
-    ensures { result ≡ sum (grid_pixels (grid_of (ref_layout image.entry))) }
+    ensures { result ≡ sum (grid_pixels (ref_grid image.entry)) }
 {
     let mut sum = 0;
     for pixel in image.pixels() {

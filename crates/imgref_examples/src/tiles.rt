@@ -1,7 +1,7 @@
 //! Tiles filled with the pixel at their corner.
 
 ghost use Rattle.std.specs.Prelude.{◌≡◌, fold};
-ghost use Rattle.imgref.specs.Words.{Fits, SameOutside, IsInside, grid_of, tiles, as_window, width_of, height_of, vec_layout};
+ghost use Rattle.imgref.specs.Words.{Fits, SameOutside, IsInside, tiles, as_window, width_of, height_of, vec_grid, vec_layout};
 ghost use Rattle.imgref_examples.specs.Darkened.{darkened};
 
 use image_tiles::{TilesMut, Tiling};
@@ -30,7 +30,7 @@ pub fn darken_lent_tiles(image: &mut ImgVec<u8>)
 fn darken(image: &mut ImgVec<u8>, window: Window)
     requires fits { Fits (vec_layout image.old) }
     requires inside { IsInside (width_of image.old) (height_of image.old) (as_window window) }
-    ensures grid { grid_of (vec_layout image.new) ≡ darkened (grid_of (vec_layout image.old)) (as_window window) }
+    ensures grid { vec_grid image.new ≡ darkened (vec_grid image.old) (as_window window) }
     ensures outside { SameOutside (vec_layout image.old) (vec_layout image.new) }
     ensures fits { Fits (vec_layout image.new) }
 {
@@ -45,7 +45,7 @@ fn darken(image: &mut ImgVec<u8>, window: Window)
 #[tactic(auto, using(image_model::proofs::Tiles::all_inside))]
 pub fn darken_tiles(image: &mut ImgVec<u8>)
     requires { Fits (vec_layout image.old) }
-    ensures grid { grid_of (vec_layout image.new) ≡ fold darkened (grid_of (vec_layout image.old)) (tiles (width_of image.old) (height_of image.old) 8 8) }
+    ensures grid { vec_grid image.new ≡ fold darkened (vec_grid image.old) (tiles (width_of image.old) (height_of image.old) 8 8) }
     ensures outside { SameOutside (vec_layout image.old) (vec_layout image.new) }
 {
     for window in Tiling::new(image.width(), image.height(), 8, 8) {

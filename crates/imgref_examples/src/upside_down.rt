@@ -1,7 +1,7 @@
 //! An image turned upside down.
 
 ghost use Rattle.std.specs.Prelude.{◌≡◌};
-ghost use Rattle.imgref.specs.Words.{Fits, SameOutside, grid_of, flipped, vec_layout};
+ghost use Rattle.imgref.specs.Words.{Fits, SameOutside, flipped, vec_grid, vec_layout};
 
 use imgref::ImgVec;
 
@@ -9,7 +9,7 @@ use imgref::ImgVec;
 #[tactic(auto, using(image_model::proofs::Flips::flips))]
 pub fn flip(image: &mut ImgVec<u8>)
     requires fits { Fits (vec_layout image.old) }
-    ensures grid { grid_of (vec_layout image.new) ≡ flipped (grid_of (vec_layout image.old)) }
+    ensures grid { vec_grid image.new ≡ flipped (vec_grid image.old) }
     ensures outside { SameOutside (vec_layout image.old) (vec_layout image.new) }
 {
     let height = image.height();

@@ -3,8 +3,8 @@
 ghost use Rattle.std.specs.Prelude.{◌≡◌, ◌<◌, min};
 ghost use Rattle.std.specs.Borrow.{sem, follows, Array};
 ghost use Rattle.image_model.specs.Layout.{Fits, SameOutside};
-ghost use Rattle.image_model.specs.Grid.{grid_of, patch, uniform};
-ghost use Rattle.imgref.specs.Image.{buf_of, width_of, height_of, stride_of, layout_by, with_all};
+ghost use Rattle.image_model.specs.Grid.{patch, uniform};
+ghost use Rattle.imgref.specs.Image.{buf_of, width_of, height_of, stride_of, grid_by, layout_by, with_all};
 ghost use Rattle.imgref.specs.contracts.img.Img.{the_row};
 ghost use Rattle.image_tiles.specs.Bands.{bands, bands_left, cells_left, lines_left, all_lines, name_of};
 ghost use Rattle.part_callers.specs.Bands.{HasFirstBand};
@@ -51,7 +51,7 @@ where
     C::Item: Copy + 'a,
     requires fits { Fits (layout_by C.AsSlice.cells image.old) }
     requires high { 0 < band_height }
-    ensures grid { grid_of (layout_by C.AsSlice.cells image.new) ≡ patch (grid_of (layout_by C.AsSlice.cells image.old)) 0 0 (uniform (width_of image.old) (min band_height (height_of image.old)) value) }
+    ensures grid { grid_by C.AsSlice.cells image.new ≡ patch (grid_by C.AsSlice.cells image.old) 0 0 (uniform (width_of image.old) (min band_height (height_of image.old)) value) }
     ensures outside { SameOutside (layout_by C.AsSlice.cells image.old) (layout_by C.AsSlice.cells image.new) }
 {
     cover_band(image, band_height, value);

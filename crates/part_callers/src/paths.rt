@@ -3,11 +3,11 @@
 ghost use Rattle.std.specs.Prelude.{◌≡◌, ◌+◌, ◌<◌, None};
 ghost use Rattle.std.specs.Borrow.{sem, follows, Array};
 ghost use Rattle.image_model.specs.Layout.{Fits, SameOutside};
-ghost use Rattle.image_model.specs.Grid.{grid_of, patch, uniform};
+ghost use Rattle.image_model.specs.Grid.{patch, uniform};
 ghost use Rattle.image_model.specs.Windows.{first_outside, corner_left, corner_top, path_width, path_height};
-ghost use Rattle.imgref.specs.Shape.{shape_width, shape_height, shaped};
+ghost use Rattle.imgref.specs.Shape.{shape_width, shape_height, shaped_grid, shaped};
 ghost use Rattle.imgref.specs.Window.{as_path};
-ghost use Rattle.imgref.specs.Image.{width_of, height_of, layout_by};
+ghost use Rattle.imgref.specs.Image.{width_of, height_of, grid_by, layout_by};
 ghost use Rattle.imgref.specs.contracts.img.Img.{the_row};
 ghost use Rattle.part_callers.specs.Paths.{with_path, IsNested};
 
@@ -33,7 +33,7 @@ fn put<T: Copy>(cells: &mut [T], shape: Shape, x: usize, y: usize, value: T)
     requires fits { Fits (shaped cells.old shape) }
     requires column { x < shape_width shape }
     requires line { y < shape_height shape }
-    ensures grid { grid_of (shaped cells.new shape) ≡ patch (grid_of (shaped cells.old shape)) x y (uniform 1 1 value) }
+    ensures grid { shaped_grid cells.new shape ≡ patch (shaped_grid cells.old shape) x y (uniform 1 1 value) }
     ensures outside { SameOutside (shaped cells.old shape) (shaped cells.new shape) }
 {
     let mut image = ImgRefMut::from_parts(cells, shape);
@@ -59,7 +59,7 @@ where
     requires inside { first_outside (width_of image.old) (height_of image.old) (as_path path.now) ≡ None }
     requires column { x < path_width (width_of image.old) (as_path path.now) }
     requires line { y < path_height (height_of image.old) (as_path path.now) }
-    ensures grid { grid_of (layout_by C.AsSlice.cells image.new) ≡ patch (grid_of (layout_by C.AsSlice.cells image.old)) (corner_left (as_path path.now) + x) (corner_top (as_path path.now) + y) (uniform 1 1 value) }
+    ensures grid { grid_by C.AsSlice.cells image.new ≡ patch (grid_by C.AsSlice.cells image.old) (corner_left (as_path path.now) + x) (corner_top (as_path path.now) + y) (uniform 1 1 value) }
     ensures outside { SameOutside (layout_by C.AsSlice.cells image.old) (layout_by C.AsSlice.cells image.new) }
 {
     let (cells, shape) = parts_at(image, path);
@@ -78,7 +78,7 @@ where
     C::Item: Copy + 'a,
     requires fits { Fits (layout_by C.AsSlice.cells image.old) }
     requires inside { first_outside (width_of image.old) (height_of image.old) (as_path path.now) ≡ None }
-    ensures grid { grid_of (layout_by C.AsSlice.cells image.new) ≡ patch (grid_of (layout_by C.AsSlice.cells image.old)) (corner_left (as_path path.now)) (corner_top (as_path path.now)) (uniform (path_width (width_of image.old) (as_path path.now)) (path_height (height_of image.old) (as_path path.now)) value) }
+    ensures grid { grid_by C.AsSlice.cells image.new ≡ patch (grid_by C.AsSlice.cells image.old) (corner_left (as_path path.now)) (corner_top (as_path path.now)) (uniform (path_width (width_of image.old) (as_path path.now)) (path_height (height_of image.old) (as_path path.now)) value) }
     ensures outside { SameOutside (layout_by C.AsSlice.cells image.old) (layout_by C.AsSlice.cells image.new) }
 {
     let (cells, shape) = parts_at(image, path);

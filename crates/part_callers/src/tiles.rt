@@ -3,9 +3,9 @@
 ghost use Rattle.std.specs.Prelude.{◌≡◌, ◌<◌, length};
 ghost use Rattle.std.specs.Borrow.{sem, follows, Array};
 ghost use Rattle.image_model.specs.Layout.{Fits, SameOutside};
-ghost use Rattle.image_model.specs.Grid.{grid_of, patch, uniform};
+ghost use Rattle.image_model.specs.Grid.{patch, uniform};
 ghost use Rattle.imgref.specs.Shape.{shaped};
-ghost use Rattle.imgref.specs.Image.{layout_by};
+ghost use Rattle.imgref.specs.Image.{grid_by, layout_by};
 ghost use Rattle.image_tiles.specs.Tiling.{tile_now};
 ghost use Rattle.image_tiles.specs.Lending.{image_of, tiling_of, after_tile, tiles_left};
 ghost use Rattle.image_tiles.specs.contracts.tiles.TileCursor.{the_row};
@@ -37,7 +37,7 @@ pub fn fill_next_tile<'a, C: AsMutSlice>(tiles: &'a mut TileCursor<C>, value: C:
 where
     C::Item: Copy + 'a,
     requires more { 0 < length (tiles_left C.AsSlice.cells tiles.old) }
-    ensures grid { grid_of (layout_by C.AsSlice.cells (image_of tiles.new)) ≡ patch (grid_of (layout_by C.AsSlice.cells (image_of tiles.old))) (tile_now (tiling_of tiles.old)).left (tile_now (tiling_of tiles.old)).top (uniform (tile_now (tiling_of tiles.old)).width (tile_now (tiling_of tiles.old)).height value) }
+    ensures grid { grid_by C.AsSlice.cells (image_of tiles.new) ≡ patch (grid_by C.AsSlice.cells (image_of tiles.old)) (tile_now (tiling_of tiles.old)).left (tile_now (tiling_of tiles.old)).top (uniform (tile_now (tiling_of tiles.old)).width (tile_now (tiling_of tiles.old)).height value) }
     ensures outside { SameOutside (layout_by C.AsSlice.cells (image_of tiles.old)) (layout_by C.AsSlice.cells (image_of tiles.new)) }
 {
     let (cells, shape) = tile_parts(tiles);

@@ -1,8 +1,7 @@
 -- One row more, and all rows.
 use Rattle.std.proofs.Common.{◌≡◌, sym, ap, ◌∙◌, arith}
-use Rattle.image_model.specs.Grid.{grid_of}
 use Rattle.image_model.proofs.Places.{outside_trans, outside_refl}
-use Rattle.imgref.specs.Image.{height_of, vec_layout}
+use Rattle.imgref.specs.Image.{height_of, vec_grid, vec_layout}
 use Rattle.imgref_examples.specs.Stripes.{striped_upto}
 use Rattle.imgref_examples.proofs.StripedRows.{striped_none, striped_more, striped_all}
 use Rattle.imgref_examples.proofs.drawing.stripes.Goals as goal
@@ -22,4 +21,4 @@ loop-y-preserved c =
 pub returns-clause-grid : goal.returns-clause-grid
 returns-clause-grid c =
     let done : c.loop-y.y ≡ height_of c.args.image.now = omega arith in
-    c.loop-y.invariant.2 ∙ ap (λ n. striped_upto n (grid_of (vec_layout c.args.image.now))) done ∙ striped_all (vec_layout c.args.image.now)
+    c.loop-y.invariant.2 ∙ ap (λ n. striped_upto n (vec_grid c.args.image.now)) done ∙ striped_all (vec_layout c.args.image.now)

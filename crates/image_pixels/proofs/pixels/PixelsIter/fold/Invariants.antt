@@ -4,11 +4,11 @@ use Rattle.image_pixels.specs.Pixels.{copies_left}
 use Rattle.image_pixels.proofs.Folds.{Folded, copies_after}
 use Rattle.image_pixels.proofs.pixels.PixelsIter.fold.Given as goal
 
-abbrev pub invariant-loop-line : goal.invariant-loop-line
-invariant-loop-line g l = Folded (λ x. x) copies_left copies_after g.F.FnMut l.fn.f l.fn.init l.fn.self (copies_left l.self) l.f l.acc
+abbrev pub invariant-loop-row : goal.invariant-loop-row
+invariant-loop-row g l = Folded (λ x. x) copies_left copies_after g.F.FnMut l.fn.f l.fn.init l.fn.self (copies_left l.self) l.f l.acc
 
-abbrev pub decreases-loop-line : goal.decreases-loop-line
-decreases-loop-line g l = length (copies_left l.self)
+abbrev pub decreases-loop-row : goal.decreases-loop-row
+decreases-loop-row g l = length (copies_left l.self)
 
 abbrev pub invariant-loop-pixel : goal.invariant-loop-pixel
-invariant-loop-pixel g l = Folded (λ x. x) copies_left copies_after g.F.FnMut l.fn.f l.fn.init l.fn.self (drop l.pixel-index l.line ++ copies_left l.self) l.f l.acc
+invariant-loop-pixel g l = Folded (λ x. x) copies_left copies_after g.F.FnMut l.fn.f l.fn.init l.fn.self (drop l.pixel-index l.row ++ copies_left l.self) l.f l.acc

@@ -30,7 +30,7 @@ use mir.Syntax.{Ty}
 use Rattle.image_pixels.specs.Loans.{lent}
 use Rattle.image_pixels.proofs.Cursors.{words, then_runs, then_arm}
 use Rattle.image_pixels.proofs.Writing.{Data, made}
-use Rattle.image_pixels.proofs.Marks.{marks_in_line, marks_new_row, parts, pick_past, skipped_in_line, one_at_least, times_one_less}
+use Rattle.image_pixels.proofs.Marks.{marks_in_row, marks_new_row, parts, pick_past, skipped_in_row, one_at_least, times_one_less}
 use Rattle.image_pixels.proofs.Writing.{Taken, takes}
 use denote.Param.{param, layouts}
 use denote.Param.Laws.{param_laws}
@@ -189,8 +189,8 @@ next_spec 𝓤 𝓛 𝓜 𝓡 wired T' L =
     let marked : marks h.left h.rows_left h.width h.pad ≡ replicate h.pad false ++ true ∷ marks (h.width - 1) (h.rows_left - 1) h.width h.pad = ap (λ (k : ℕ). marks k h.rows_left h.width h.pad) z ∙ marks_new_row h.rows_left h.width h.pad rows wide in
     tail (h.pad * s + o) h.width (h.rows_left - 1) cut.0 cut.1 cut.2 (at_mul o s (length front) ∙ ap (λ (k : ℕ). k * s + o) (cut.3 ∙ at_pad)) wide fw fr' (omega (arith, h.reaches, all, z, at_pad, cut.4)) (λ _. wide)
     (ap (λ ms. chosen ms h.cells) marked ∙ ap (λ zs. chosen (replicate h.pad false ++ true ∷ marks (h.width - 1) (h.rows_left - 1) h.width h.pad) zs) cut.2 ∙ pick_past h.pad (marks (h.width - 1) (h.rows_left - 1) h.width h.pad) front cut.0 cut.1 (cut.3 ∙ at_pad)) cut.3 (marked ∙ ap (λ (k : ℕ). replicate k false ++ true ∷ marks (h.width - 1) (h.rows_left - 1) h.width h.pad) (sym at_pad)) (omega (arith, cut.4))))
-    (λ t. let pos : 1 ≤ h.left = one_at_least h.left t in let at_zero : sk ≡ 0 = skipped_in_line h.left h.pad pos in
+    (λ t. let pos : 1 ≤ h.left = one_at_least h.left t in let at_zero : sk ≡ 0 = skipped_in_row h.left h.pad pos in
     let long : sk < n = omega (arith, h.reaches, at_zero) in let cut = parts sk h.cells long in
     skips ! $ forget_but ! Ev (1 ∷ []) refl $
     tail o h.left h.rows_left cut.0 cut.1 cut.2 (ap (λ (k : ℕ). at o s k) (cut.3 ∙ at_zero)) pos fl fr (omega (arith, h.reaches, at_zero, cut.4)) h.wide
-    (ap (λ ms. chosen ms h.cells) (marks_in_line h.left h.rows_left h.width h.pad pos) ∙ ap (λ zs. chosen (replicate 0 false ++ true ∷ marks (h.left - 1) h.rows_left h.width h.pad) zs) cut.2 ∙ pick_past 0 (marks (h.left - 1) h.rows_left h.width h.pad) front cut.0 cut.1 (cut.3 ∙ at_zero)) cut.3 (marks_in_line h.left h.rows_left h.width h.pad pos ∙ ap (λ (k : ℕ). replicate k false ++ true ∷ marks (h.left - 1) h.rows_left h.width h.pad) (sym at_zero)) (omega (arith, cut.4))))))))))
+    (ap (λ ms. chosen ms h.cells) (marks_in_row h.left h.rows_left h.width h.pad pos) ∙ ap (λ zs. chosen (replicate 0 false ++ true ∷ marks (h.left - 1) h.rows_left h.width h.pad) zs) cut.2 ∙ pick_past 0 (marks (h.left - 1) h.rows_left h.width h.pad) front cut.0 cut.1 (cut.3 ∙ at_zero)) cut.3 (marks_in_row h.left h.rows_left h.width h.pad pos ∙ ap (λ (k : ℕ). replicate k false ++ true ∷ marks (h.left - 1) h.rows_left h.width h.pad) (sym at_zero)) (omega (arith, cut.4))))))))))

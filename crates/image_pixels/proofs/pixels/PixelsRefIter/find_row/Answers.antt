@@ -1,7 +1,7 @@
 use mathlib.Core.Path.{ap₂}
 use Rattle.image_pixels.specs.Marks.{pick, marks}
 use Rattle.image_pixels.specs.Pixels.{refs_left}
-use Rattle.image_pixels.proofs.pixels.PixelsRefIter.find_line.Goals as goal
+use Rattle.image_pixels.proofs.pixels.PixelsRefIter.find_row.Goals as goal
 
 pub returns-then-self-eq0-2-clause-none : goal.returns-then-self-eq0-2-clause-none
 unfolding refs_left

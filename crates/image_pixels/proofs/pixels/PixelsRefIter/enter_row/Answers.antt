@@ -2,7 +2,7 @@ use Rattle.std.proofs.Common.{◌+◌, ◌-◌, ◌*◌, ◌≤◌, length, sym,
 use Rattle.image_pixels.specs.Marks.{pick, marks}
 use Rattle.image_pixels.specs.Pixels.{refs_left}
 use Rattle.image_pixels.proofs.Marks.{pick_entered}
-use Rattle.image_pixels.proofs.pixels.PixelsRefIter.enter_line.Goals as goal
+use Rattle.image_pixels.proofs.pixels.PixelsRefIter.enter_row.Goals as goal
 
 pub returns-clause-stays : goal.returns-clause-stays
 unfolding refs_left
