@@ -26,6 +26,10 @@ module _ {T : Type 0} (cells : List T) (start len target : ℕ) (source : start 
   pub back_closed : (left : ℕ) → start ≤ target → left ≤ len → shifted (back_copied cells start len target left) start left target ≡ shifted cells start len target
   back_closed left up within = same_lists _ _ (grind (arith, places)) (λ k d below. grind (arith, places))
 
+  -- the last n, and then the others
+  pub back_first : (n : ℕ) → start ≤ target → n ≤ len → shifted (shifted cells (start + (len - n)) n (target + (len - n))) start (len - n) target ≡ shifted cells start len target
+  back_first n up enough = same_lists _ _ (grind (arith, places)) (λ k d below. grind (arith, places))
+
   -- towards the front the first cells are copied first, and no cell behind them is written
   pub front_none : cells ≡ shifted cells start 0 target
   front_none = same_lists _ _ (grind (arith, places)) (λ k d below. grind (arith, places))
@@ -35,3 +39,7 @@ module _ {T : Type 0} (cells : List T) (start len target : ℕ) (source : start 
 
   pub front_closed : (done : ℕ) → target ≤ start → done ≤ len → shifted (shifted cells start done target) (start + done) (len - done) (target + done) ≡ shifted cells start len target
   front_closed done down within = same_lists _ _ (grind (arith, places)) (λ k d below. grind (arith, places))
+
+  -- the first n, and then the others
+  pub front_first : (n : ℕ) → target ≤ start → n ≤ len → shifted (shifted cells start n target) (start + n) (len - n) (target + n) ≡ shifted cells start len target
+  front_first n down enough = same_lists _ _ (grind (arith, places)) (λ k d below. grind (arith, places))

@@ -61,36 +61,98 @@ fn copy_few<T: Copy>(cells: &mut [T], start: usize, len: usize, target: usize)
     }
 }
 
+// Copies fewer than 32 cells towards the back, the last 16 first where there are as many.
+fn copy_up_below_32<T: Copy>(cells: &mut [T], start: usize, len: usize, target: usize)
+    requires few { len < 32 }
+    requires up { start ≤ target }
+    requires target { target + len ≤ length cells.old }
+    ensures { cells.new ≡ shifted cells.old start len target }
+{
+    let _count = cells.len();
+    if len >= 16 {
+        copy_block::<T, 16>(cells, start + (len - 16), target + (len - 16));
+        copy_few(cells, start, len - 16, target);
+    } else {
+        copy_few(cells, start, len, target);
+    }
+}
+
+// The same of fewer than 64 cells.
+fn copy_up_below_64<T: Copy>(cells: &mut [T], start: usize, len: usize, target: usize)
+    requires few { len < 64 }
+    requires up { start ≤ target }
+    requires target { target + len ≤ length cells.old }
+    ensures { cells.new ≡ shifted cells.old start len target }
+{
+    let _count = cells.len();
+    if len >= 32 {
+        copy_block::<T, 32>(cells, start + (len - 32), target + (len - 32));
+        copy_up_below_32(cells, start, len - 32, target);
+    } else {
+        copy_up_below_32(cells, start, len, target);
+    }
+}
+
 // Copies a stretch towards the back, by blocks from its end.
 fn copy_up<T: Copy>(cells: &mut [T], start: usize, len: usize, target: usize)
-    requires enough { 16 ≤ len }
     requires up { start ≤ target }
     requires target { target + len ≤ length cells.old }
     ensures { cells.new ≡ shifted cells.old start len target }
 {
     let _count = cells.len();
     let mut left = len;
-    while left >= 32 {
-        left -= 16;
-        copy_block::<T, 16>(cells, start + left, target + left);
+    while left >= 64 {
+        left -= 32;
+        copy_block::<T, 32>(cells, start + left, target + left);
     }
-    copy_ends::<T, 16>(cells, start, left, target);
+    copy_up_below_64(cells, start, left, target);
+}
+
+// Copies fewer than 32 cells towards the front, the first 16 first where there are as many.
+fn copy_down_below_32<T: Copy>(cells: &mut [T], start: usize, len: usize, target: usize)
+    requires few { len < 32 }
+    requires down { target ≤ start }
+    requires source { start + len ≤ length cells.old }
+    ensures { cells.new ≡ shifted cells.old start len target }
+{
+    let _count = cells.len();
+    if len >= 16 {
+        copy_block::<T, 16>(cells, start, target);
+        copy_few(cells, start + 16, len - 16, target + 16);
+    } else {
+        copy_few(cells, start, len, target);
+    }
+}
+
+// The same of fewer than 64 cells.
+fn copy_down_below_64<T: Copy>(cells: &mut [T], start: usize, len: usize, target: usize)
+    requires few { len < 64 }
+    requires down { target ≤ start }
+    requires source { start + len ≤ length cells.old }
+    ensures { cells.new ≡ shifted cells.old start len target }
+{
+    let _count = cells.len();
+    if len >= 32 {
+        copy_block::<T, 32>(cells, start, target);
+        copy_down_below_32(cells, start + 32, len - 32, target + 32);
+    } else {
+        copy_down_below_32(cells, start, len, target);
+    }
 }
 
 // Copies a stretch towards the front, by blocks from its start.
 fn copy_down<T: Copy>(cells: &mut [T], start: usize, len: usize, target: usize)
-    requires enough { 16 ≤ len }
     requires down { target ≤ start }
     requires source { start + len ≤ length cells.old }
     ensures { cells.new ≡ shifted cells.old start len target }
 {
     let _count = cells.len();
     let mut done = 0;
-    while len - done >= 32 {
-        copy_block::<T, 16>(cells, start + done, target + done);
-        done += 16;
+    while len - done >= 64 {
+        copy_block::<T, 32>(cells, start + done, target + done);
+        done += 32;
     }
-    copy_ends::<T, 16>(cells, start + done, len - done, target + done);
+    copy_down_below_64(cells, start + done, len - done, target + done);
 }
 
 /// Copies a stretch to a place that it may overlap.
@@ -99,9 +161,7 @@ pub(crate) fn copy_by_blocks<T: Copy>(cells: &mut [T], start: usize, len: usize,
     requires target { target + len ≤ length cells.old }
     ensures { cells.new ≡ shifted cells.old start len target }
 {
-    if len <= 16 {
-        copy_few(cells, start, len, target);
-    } else if start <= target {
+    if start <= target {
         copy_up(cells, start, len, target);
     } else {
         copy_down(cells, start, len, target);
