@@ -155,3 +155,11 @@ module _ (W H tw th : ℕ) (wide : 0 < tw) (high : 0 < th) where
     mosaic_is f =
         go count 0 (omega arith) f
         ∙ same_grids W H (after 0 f) (λ x y. (shown f).pixel (tile_start tw x) (tile_start th y)) (λ x y column line. cond-true (nat_le 0 (number x y)) _ _ (le-leb 0 (number x y) (omega arith)))
+
+-- a tile of one pixel shows that pixel
+module _ {T : Type 0} (W H : ℕ) (f : ℕ → ℕ → Option T) where
+  own_start : (x : ℕ) → tile_start 1 x ≡ x
+  own_start x = omega arith
+
+  pub of_one_pixel : grid W H f ≡ mosaic 1 1 (grid W H f)
+  of_one_pixel = same_grids W H f _ (λ x y column line. sym (ap₂ (grid W H f).pixel (own_start x) (own_start y) ∙ at_place W H f x y column line))

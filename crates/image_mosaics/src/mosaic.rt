@@ -87,5 +87,9 @@ pub fn mosaic_cells<T: Copy>(cells: &mut [T], shape: Shape, tile_width: usize, t
     ensures grid { grid_of (shaped cells.new shape) ≡ mosaic tile_width tile_height (grid_of (shaped cells.old shape)) }
     ensures outside { SameOutside (shaped cells.old shape) (shaped cells.new shape) }
 {
+    // A tile of one pixel shows that pixel.
+    if tile_width == 1 && tile_height == 1 {
+        return;
+    }
     into_mosaic(cells, shape, tile_width, tile_height);
 }
