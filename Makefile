@@ -6,7 +6,7 @@
 # make frames              proves and builds the program for video: crates/imgref_frames/out/imgref_frames
 # make c                   proves and builds the library for C: out/c/libimgref.a, libimgref.so, imgref.pc
 # make install PREFIX=..   builds it, and installs it with its header
-# make bench [BENCH=..]    times the calls and the program beside plain C; BENCH: options of tools/bench.py
+# make bench [BENCH=..]    times the calls and the program beside plain loops; BENCH: options of tools/bench.py
 #
 # SCRIPT=- takes the script from standard input.
 

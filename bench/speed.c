@@ -1,113 +1,49 @@
-/* Times the calls of imgref.h, and those of bench_exports, beside the loops that a C programmer writes and the plainest call on as
- * many cells without padding: memset, memcpy, memmove or memcmp. tools/bench.py builds it, and makes the table.
+/* Times the calls of imgref.h, and those of bench_exports, beside the loops that a programmer writes in C and in Rust, the plainest
+ * call on as many cells without padding, and the calls of the Rust crate. tools/bench.py builds it, and makes the table.
  *
  *     speed ROUNDS SIDE ..
  *
- * Each line has a call, the bytes of a cell, a side, and the nanoseconds of the call, of the loop and of the plain call (0 where
- * there is none). A call is on a square of that side at a stride of 8 more. All take turns, and the least of all turns counts.
- * The loops are functions out of line, as the calls are. */
-#define _POSIX_C_SOURCE 199309L
+ * Each line has a call, the bytes of a cell, a side, and the nanoseconds of the call, of the loop in C, of the plain call, of the
+ * loop in Rust and of the Rust crate's call (0 where there is none). A call is on a square of that side at a stride of 8 more. All
+ * take turns, and the least of all turns counts. Each is a function out of line, that nothing is known of here. */
+#define _POSIX_C_SOURCE 200112L
 #include "imgref.h"
+#include "speed.h"
 
 #include <stdio.h>
 #include <stdlib.h>
 #include <string.h>
 #include <time.h>
 
-struct job {
-    void *cells, *source;
-    size_t side, stride, source_stride, len, source_len, cell;
-    bool equal;
-};
+/* ---- each call: its name here, and its name in the table */
 
-#define OUT_OF_LINE __attribute__((noinline))
+#define EACH(X)                                                                                                                      \
+    X(fill, "fill_window")                                                                                                           \
+    X(pixels_mut, "fill by pixels_mut")                                                                                              \
+    X(tiles, "fill by tiles, 16 by 16")                                                                                              \
+    X(bands, "fill by bands of 16 rows")                                                                                             \
+    X(copy, "copy_window")                                                                                                           \
+    X(move_down, "move_window down")                                                                                                 \
+    X(move_right, "move_window right")                                                                                               \
+    X(pack, "as_contiguous_buf, pack")                                                                                               \
+    X(to_contiguous_buf, "to_contiguous_buf")                                                                                        \
+    X(equal, "equal, ==")                                                                                                            \
+    X(hash, "hash")                                                                                                                  \
+    X(rows, "sum by rows")                                                                                                           \
+    X(pixels, "sum by pixels")                                                                                                       \
+    X(get, "sum by get")                                                                                                             \
+    X(nested, "sum of a window of a window")                                                                                         \
+    X(map_pixels, "map_pixels")                                                                                                      \
+    X(swap_rows, "swap_rows, all")                                                                                                   \
+    X(mosaic, "mosaic 16 by 16")                                                                                                     \
+    X(small, "mosaic 2 by 2")                                                                                                        \
+    X(single, "mosaic 1 by 1")
 
-/* ---- the loops */
-
-OUT_OF_LINE static void loop_fill_u8(struct job *j) {
-    for (size_t y = 0; y < j->side; y++) memset((uint8_t *)j->cells + y * j->stride, 7, j->side);
-}
-
-OUT_OF_LINE static void loop_fill_u32(struct job *j) {
-    for (size_t y = 0; y < j->side; y++)
-        for (size_t x = 0; x < j->side; x++) ((uint32_t *)j->cells)[y * j->stride + x] = 7;
-}
-
-OUT_OF_LINE static void loop_copy(struct job *j) {
-    for (size_t y = 0; y < j->side; y++)
-        memcpy((char *)j->cells + y * j->stride * j->cell, (char *)j->source + y * j->source_stride * j->cell, j->side * j->cell);
-}
-
-/* The upper rows go down by an eighth, the last one first. */
-OUT_OF_LINE static void loop_move_down(struct job *j) {
-    size_t by = j->side / 8;
-    for (size_t y = j->side - by; y-- > 0;)
-        memmove((char *)j->cells + (y + by) * j->stride * j->cell, (char *)j->cells + y * j->stride * j->cell, j->side * j->cell);
-}
-
-/* All columns but the last go right by one, so that each row overlaps itself. */
-OUT_OF_LINE static void loop_move_right(struct job *j) {
-    for (size_t y = 0; y < j->side; y++) {
-        char *row = (char *)j->cells + y * j->stride * j->cell;
-        memmove(row + j->cell, row, (j->side - 1) * j->cell);
-    }
-}
-
-OUT_OF_LINE static void loop_pack(struct job *j) {
-    for (size_t y = 1; y < j->side; y++)
-        memmove((char *)j->cells + y * j->side * j->cell, (char *)j->cells + y * j->stride * j->cell, j->side * j->cell);
-}
-
-OUT_OF_LINE static void loop_equal(struct job *j) {
-    j->equal = true;
-    for (size_t y = 0; y < j->side && j->equal; y++)
-        j->equal = !memcmp((char *)j->cells + y * j->stride * j->cell, (char *)j->source + y * j->source_stride * j->cell, j->side * j->cell);
-}
-
-OUT_OF_LINE static void loop_map_u8(struct job *j) {
-    for (size_t y = 0; y < j->side; y++)
-        for (size_t x = 0; x < j->side; x++) ((uint8_t *)j->cells)[y * j->stride + x] = (uint8_t)~((uint8_t *)j->cells)[y * j->stride + x];
-}
-
-OUT_OF_LINE static void loop_map_u32(struct job *j) {
-    for (size_t y = 0; y < j->side; y++)
-        for (size_t x = 0; x < j->side; x++) ((uint32_t *)j->cells)[y * j->stride + x] = ~((uint32_t *)j->cells)[y * j->stride + x];
-}
-
-/* Each row of the upper half changes places with one of the lower half, cell by cell. */
-#define LOOPS(NAME, CELL)                                                                                                            \
-    OUT_OF_LINE static void loop_swap_##NAME(struct job *j) {                                                                        \
-        for (size_t y = 0; y < j->side / 2; y++) {                                                                                   \
-            CELL *upper = (CELL *)j->cells + y * j->stride, *lower = (CELL *)j->cells + (j->side - 1 - y) * j->stride;               \
-            for (size_t x = 0; x < j->side; x++) {                                                                                   \
-                CELL kept = upper[x];                                                                                                \
-                upper[x] = lower[x];                                                                                                 \
-                lower[x] = kept;                                                                                                     \
-            }                                                                                                                        \
-        }                                                                                                                            \
-    }                                                                                                                                \
-    /* Each cell of a tile becomes the one at its corner. */                                                                        \
-    static void NAME##_tiles(struct job *j, size_t tile) {                                                                           \
-        for (size_t y = 0; y < j->side; y++)                                                                                         \
-            for (size_t x = 0; x < j->side; x++)                                                                                     \
-                ((CELL *)j->cells)[y * j->stride + x] = ((CELL *)j->cells)[y / tile * tile * j->stride + x / tile * tile];           \
-    }                                                                                                                                \
-    OUT_OF_LINE static void loop_mosaic_##NAME(struct job *j) { NAME##_tiles(j, 16); }                                               \
-    OUT_OF_LINE static void loop_single_##NAME(struct job *j) { NAME##_tiles(j, 1); }
-LOOPS(u8, uint8_t)
-LOOPS(u32, uint32_t)
-
-/* ---- the plain calls on as many cells */
-
-OUT_OF_LINE static void plain_fill(struct job *j) { memset(j->cells, 7, j->side * j->side * j->cell); }
-
-OUT_OF_LINE static void plain_copy(struct job *j) { memcpy(j->cells, j->source, j->side * j->side * j->cell); }
-
-OUT_OF_LINE static void plain_move(struct job *j) { memmove((char *)j->cells + j->cell, j->cells, (j->side * j->side - 1) * j->cell); }
-
-OUT_OF_LINE static void plain_equal(struct job *j) { j->equal = !memcmp(j->cells, j->source, j->side * j->side * j->cell); }
-
-/* ---- the calls */
+/* Where one of these is defined nowhere, its address is null, and its column has a dash. */
+#define DECLARE(NAME, TEXT)                                                                                                          \
+    __attribute__((weak)) work call_u8_##NAME, call_u32_##NAME, loop_u8_##NAME, loop_u32_##NAME, plain_u8_##NAME, plain_u32_##NAME,  \
+        rust_u8_##NAME, rust_u32_##NAME, crate_u8_##NAME, crate_u32_##NAME;
+EACH(DECLARE)
 
 static void done(imgref_status status) {
     if (status != IMGREF_OK) abort();
@@ -117,45 +53,178 @@ static struct imgref_window at(size_t left, size_t top, size_t width, size_t hei
     return (struct imgref_window){left, top, width, height};
 }
 
-#define CALLS(NAME, CELL)                                                                                                            \
-    static void NAME##_fill(struct job *j) {                                                                                         \
-        done(imgref_##NAME##_fill_window(j->cells, j->len, j->side, j->side, j->stride, at(0, 0, j->side, j->side), (CELL)7));       \
-    }                                                                                                                                \
-    static void NAME##_copy(struct job *j) {                                                                                         \
-        done(imgref_##NAME##_copy_window(j->cells, j->len, j->side, j->side, j->stride, at(0, 0, j->side, j->side), j->source,       \
-                                         j->source_len, j->side, j->side, j->source_stride));                                        \
-    }                                                                                                                                \
-    static void NAME##_move_down(struct job *j) {                                                                                    \
-        size_t by = j->side / 8;                                                                                                     \
-        done(imgref_##NAME##_move_window(j->cells, j->len, j->side, j->side, j->stride, at(0, 0, j->side, j->side - by),             \
-                                         at(0, by, j->side, j->side - by)));                                                         \
-    }                                                                                                                                \
-    static void NAME##_move_right(struct job *j) {                                                                                   \
-        done(imgref_##NAME##_move_window(j->cells, j->len, j->side, j->side, j->stride, at(0, 0, j->side - 1, j->side),              \
-                                         at(1, 0, j->side - 1, j->side)));                                                           \
-    }                                                                                                                                \
-    static void NAME##_pack(struct job *j) { done(imgref_##NAME##_pack(j->cells, j->len, j->side, j->side, j->stride)); }            \
+static void *room(size_t bytes) {
+    void *held = malloc(bytes);
+    if (!held) abort();
+    return held;
+}
+
+/* What bench_exports has, with the image as each call takes it. */
+#define IMAGE j->cells, j->len, j->side, j->side, j->stride
+#define EXPORTS(NAME, CELL)                                                                                                          \
+    uint64_t bench_##NAME##_rows(const CELL *cells, size_t len, size_t width, size_t height, size_t stride);                         \
+    uint64_t bench_##NAME##_pixels(const CELL *cells, size_t len, size_t width, size_t height, size_t stride);                       \
+    uint64_t bench_##NAME##_get(const CELL *cells, size_t len, size_t width, size_t height, size_t stride);                          \
+    uint64_t bench_##NAME##_nested(const CELL *cells, size_t len, size_t width, size_t height, size_t stride);                       \
+    uint64_t bench_##NAME##_hash(const CELL *cells, size_t len, size_t width, size_t height, size_t stride);                         \
+    size_t bench_##NAME##_to_contiguous_buf(const CELL *cells, size_t len, size_t width, size_t height, size_t stride);              \
+    void bench_##NAME##_pixels_mut(CELL *cells, size_t len, size_t width, size_t height, size_t stride);                             \
+    void bench_##NAME##_tiles(CELL *cells, size_t len, size_t width, size_t height, size_t stride);                                  \
+    void bench_##NAME##_bands(CELL *cells, size_t len, size_t width, size_t height, size_t stride);                                  \
     void bench_##NAME##_map_pixels(CELL *cells, size_t len, size_t width, size_t height, size_t stride);                             \
-    void bench_##NAME##_swap_rows(CELL *cells, size_t len, size_t width, size_t height, size_t stride, size_t y, size_t z);          \
-    static void NAME##_map(struct job *j) { bench_##NAME##_map_pixels(j->cells, j->len, j->side, j->side, j->stride); }              \
-    static void NAME##_swap(struct job *j) {                                                                                         \
-        for (size_t y = 0; y < j->side / 2; y++)                                                                                     \
-            bench_##NAME##_swap_rows(j->cells, j->len, j->side, j->side, j->stride, y, j->side - 1 - y);                             \
+    void bench_##NAME##_swap_rows(CELL *cells, size_t len, size_t width, size_t height, size_t stride, size_t y, size_t z);
+EXPORTS(u8, uint8_t)
+EXPORTS(u32, uint32_t)
+
+/* ---- the calls */
+
+#define CALLS(NAME, CELL)                                                                                                            \
+    void call_##NAME##_fill(struct job *j) { done(imgref_##NAME##_fill_window(IMAGE, at(0, 0, j->side, j->side), (CELL)7)); }        \
+    void call_##NAME##_copy(struct job *j) {                                                                                         \
+        done(imgref_##NAME##_copy_window(IMAGE, at(0, 0, j->side, j->side), j->source, j->source_len, j->side, j->side,              \
+                                         j->source_stride));                                                                         \
     }                                                                                                                                \
-    static void NAME##_mosaic(struct job *j) {                                                                                       \
-        done(imgref_##NAME##_mosaic(j->cells, j->len, j->side, j->side, j->stride, at(0, 0, j->side, j->side), 16, 16));             \
+    void call_##NAME##_move_down(struct job *j) {                                                                                    \
+        size_t by = j->side / 8;                                                                                                     \
+        done(imgref_##NAME##_move_window(IMAGE, at(0, 0, j->side, j->side - by), at(0, by, j->side, j->side - by)));                 \
     }                                                                                                                                \
-    static void NAME##_single(struct job *j) {                                                                                       \
-        done(imgref_##NAME##_mosaic(j->cells, j->len, j->side, j->side, j->stride, at(0, 0, j->side, j->side), 1, 1));               \
+    void call_##NAME##_move_right(struct job *j) {                                                                                   \
+        done(imgref_##NAME##_move_window(IMAGE, at(0, 0, j->side - 1, j->side), at(1, 0, j->side - 1, j->side)));                    \
     }                                                                                                                                \
-    static void NAME##_equal(struct job *j) {                                                                                        \
-        done(imgref_##NAME##_equal(j->cells, j->len, j->side, j->side, j->stride, j->source, j->source_len, j->side, j->side,        \
-                                   j->source_stride, &j->equal));                                                                    \
+    void call_##NAME##_pack(struct job *j) { done(imgref_##NAME##_pack(IMAGE)); }                                                    \
+    void call_##NAME##_equal(struct job *j) {                                                                                        \
+        bool same;                                                                                                                   \
+        done(imgref_##NAME##_equal(IMAGE, j->source, j->source_len, j->side, j->side, j->source_stride, &same));                     \
+        j->answer = same;                                                                                                            \
+    }                                                                                                                                \
+    void call_##NAME##_mosaic(struct job *j) { done(imgref_##NAME##_mosaic(IMAGE, at(0, 0, j->side, j->side), 16, 16)); }            \
+    void call_##NAME##_small(struct job *j) { done(imgref_##NAME##_mosaic(IMAGE, at(0, 0, j->side, j->side), 2, 2)); }               \
+    void call_##NAME##_single(struct job *j) { done(imgref_##NAME##_mosaic(IMAGE, at(0, 0, j->side, j->side), 1, 1)); }              \
+    void call_##NAME##_to_contiguous_buf(struct job *j) { j->answer = bench_##NAME##_to_contiguous_buf(IMAGE); }                     \
+    void call_##NAME##_hash(struct job *j) { j->answer = bench_##NAME##_hash(IMAGE); }                                               \
+    void call_##NAME##_rows(struct job *j) { j->answer = bench_##NAME##_rows(IMAGE); }                                               \
+    void call_##NAME##_pixels(struct job *j) { j->answer = bench_##NAME##_pixels(IMAGE); }                                           \
+    void call_##NAME##_get(struct job *j) { j->answer = bench_##NAME##_get(IMAGE); }                                                 \
+    void call_##NAME##_nested(struct job *j) { j->answer = bench_##NAME##_nested(IMAGE); }                                           \
+    void call_##NAME##_pixels_mut(struct job *j) { bench_##NAME##_pixels_mut(IMAGE); }                                               \
+    void call_##NAME##_tiles(struct job *j) { bench_##NAME##_tiles(IMAGE); }                                                         \
+    void call_##NAME##_bands(struct job *j) { bench_##NAME##_bands(IMAGE); }                                                         \
+    void call_##NAME##_map_pixels(struct job *j) { bench_##NAME##_map_pixels(IMAGE); }                                               \
+    void call_##NAME##_swap_rows(struct job *j) {                                                                                    \
+        for (size_t y = 0; y < j->side / 2; y++) bench_##NAME##_swap_rows(IMAGE, y, j->side - 1 - y);                                \
     }
 CALLS(u8, uint8_t)
 CALLS(u32, uint32_t)
 
+/* ---- the loops */
+
+#define ROW(CELL, Y) ((CELL *)j->cells + (Y) * j->stride)
+#define SOURCE(CELL, Y) ((CELL *)j->source + (Y) * j->source_stride)
+#define LOOPS(NAME, CELL, SET)                                                                                                       \
+    void loop_##NAME##_fill(struct job *j) {                                                                                         \
+        for (size_t y = 0; y < j->side; y++) SET(ROW(CELL, y), j->side);                                                             \
+    }                                                                                                                                \
+    void loop_##NAME##_pixels_mut(struct job *j) { loop_##NAME##_fill(j); }                                                          \
+    void loop_##NAME##_bands(struct job *j) { loop_##NAME##_fill(j); }                                                               \
+    void loop_##NAME##_tiles(struct job *j) {                                                                                        \
+        for (size_t top = 0; top < j->side; top += 16)                                                                               \
+            for (size_t left = 0; left < j->side; left += 16)                                                                        \
+                for (size_t y = top; y < top + 16 && y < j->side; y++)                                                               \
+                    SET(ROW(CELL, y) + left, left + 16 < j->side ? 16 : j->side - left);                                             \
+    }                                                                                                                                \
+    void loop_##NAME##_copy(struct job *j) {                                                                                         \
+        for (size_t y = 0; y < j->side; y++) memcpy(ROW(CELL, y), SOURCE(CELL, y), j->side * sizeof(CELL));                          \
+    }                                                                                                                                \
+    /* The upper rows go down by an eighth, the last one first. */                                                                   \
+    void loop_##NAME##_move_down(struct job *j) {                                                                                    \
+        size_t by = j->side / 8;                                                                                                     \
+        for (size_t y = j->side - by; y-- > 0;) memmove(ROW(CELL, y + by), ROW(CELL, y), j->side * sizeof(CELL));                    \
+    }                                                                                                                                \
+    /* All columns but the last go right by one, so that each row overlaps itself. */                                                \
+    void loop_##NAME##_move_right(struct job *j) {                                                                                   \
+        for (size_t y = 0; y < j->side; y++) memmove(ROW(CELL, y) + 1, ROW(CELL, y), (j->side - 1) * sizeof(CELL));                  \
+    }                                                                                                                                \
+    void loop_##NAME##_pack(struct job *j) {                                                                                         \
+        for (size_t y = 1; y < j->side; y++) memmove((CELL *)j->cells + y * j->side, ROW(CELL, y), j->side * sizeof(CELL));          \
+    }                                                                                                                                \
+    void loop_##NAME##_to_contiguous_buf(struct job *j) {                                                                            \
+        CELL *joined = room(j->side * j->side * sizeof(CELL));                                                                       \
+        for (size_t y = 0; y < j->side; y++) memcpy(joined + y * j->side, ROW(CELL, y), j->side * sizeof(CELL));                     \
+        j->answer = j->side * j->side;                                                                                               \
+        __asm__ volatile("" ::"r"(joined) : "memory");                                                                               \
+        free(joined);                                                                                                                \
+    }                                                                                                                                \
+    void loop_##NAME##_equal(struct job *j) {                                                                                        \
+        j->answer = 1;                                                                                                               \
+        for (size_t y = 0; y < j->side && j->answer; y++)                                                                            \
+            j->answer = !memcmp(ROW(CELL, y), SOURCE(CELL, y), j->side * sizeof(CELL));                                              \
+    }                                                                                                                                \
+    void loop_##NAME##_rows(struct job *j) {                                                                                         \
+        uint64_t sum = 0;                                                                                                            \
+        for (size_t y = 0; y < j->side; y++)                                                                                         \
+            for (size_t x = 0; x < j->side; x++) sum += ROW(CELL, y)[x];                                                             \
+        j->answer = sum;                                                                                                             \
+    }                                                                                                                                \
+    void loop_##NAME##_pixels(struct job *j) { loop_##NAME##_rows(j); }                                                              \
+    void loop_##NAME##_get(struct job *j) { loop_##NAME##_rows(j); }                                                                 \
+    void loop_##NAME##_nested(struct job *j) {                                                                                       \
+        uint64_t sum = 0;                                                                                                            \
+        for (size_t y = 1; y < j->side - 1; y++)                                                                                     \
+            for (size_t x = 1; x < j->side - 1; x++) sum += ROW(CELL, y)[x];                                                         \
+        j->answer = sum;                                                                                                             \
+    }                                                                                                                                \
+    void loop_##NAME##_map_pixels(struct job *j) {                                                                                   \
+        for (size_t y = 0; y < j->side; y++)                                                                                         \
+            for (size_t x = 0; x < j->side; x++) ROW(CELL, y)[x] = (CELL)~ROW(CELL, y)[x];                                           \
+    }                                                                                                                                \
+    /* Each row of the upper half changes places with one of the lower half, cell by cell. */                                        \
+    void loop_##NAME##_swap_rows(struct job *j) {                                                                                    \
+        for (size_t y = 0; y < j->side / 2; y++) {                                                                                   \
+            CELL *upper = ROW(CELL, y), *lower = ROW(CELL, j->side - 1 - y);                                                         \
+            for (size_t x = 0; x < j->side; x++) {                                                                                   \
+                CELL kept = upper[x];                                                                                                \
+                upper[x] = lower[x];                                                                                                 \
+                lower[x] = kept;                                                                                                     \
+            }                                                                                                                        \
+        }                                                                                                                            \
+    }                                                                                                                                \
+    /* Each cell of a tile becomes the one at its corner. */                                                                         \
+    static void NAME##_tiles(struct job *j, size_t tile) {                                                                           \
+        for (size_t y = 0; y < j->side; y++)                                                                                         \
+            for (size_t x = 0; x < j->side; x++) ROW(CELL, y)[x] = ROW(CELL, y / tile * tile)[x / tile * tile];                      \
+    }                                                                                                                                \
+    void loop_##NAME##_mosaic(struct job *j) { NAME##_tiles(j, 16); }                                                                \
+    void loop_##NAME##_small(struct job *j) { NAME##_tiles(j, 2); }                                                                  \
+    void loop_##NAME##_single(struct job *j) { NAME##_tiles(j, 1); }
+#define SET_BYTES(ROW, COUNT) memset(ROW, 7, COUNT)
+#define SET_WORDS(ROW, COUNT) for (size_t x = 0, count = COUNT; x < count; x++) (ROW)[x] = 7
+LOOPS(u8, uint8_t, SET_BYTES)
+LOOPS(u32, uint32_t, SET_WORDS)
+
+/* ---- the plain calls on as many cells */
+
+#define PLAIN(NAME, CELL)                                                                                                            \
+    static size_t NAME##_bytes(struct job *j) { return j->side * j->side * sizeof(CELL); }                                           \
+    void plain_##NAME##_fill(struct job *j) { memset(j->cells, 7, NAME##_bytes(j)); }                                                \
+    void plain_##NAME##_copy(struct job *j) { memcpy(j->cells, j->source, NAME##_bytes(j)); }                                        \
+    void plain_##NAME##_move_right(struct job *j) { memmove((CELL *)j->cells + 1, j->cells, NAME##_bytes(j) - sizeof(CELL)); }       \
+    void plain_##NAME##_to_contiguous_buf(struct job *j) {                                                                           \
+        void *joined = room(NAME##_bytes(j));                                                                                        \
+        memcpy(joined, j->cells, NAME##_bytes(j));                                                                                   \
+        j->answer = j->side * j->side;                                                                                               \
+        __asm__ volatile("" ::"r"(joined) : "memory");                                                                               \
+        free(joined);                                                                                                                \
+    }                                                                                                                                \
+    void plain_##NAME##_equal(struct job *j) { j->answer = !memcmp(j->cells, j->source, NAME##_bytes(j)); }
+PLAIN(u8, uint8_t)
+PLAIN(u32, uint32_t)
+
 /* ---- timing */
+
+enum { COLUMNS = 5 };
+
+static int rounds, sides;
+static size_t side_of[16];
 
 static double now(void) {
     struct timespec time;
@@ -164,7 +233,7 @@ static double now(void) {
 }
 
 /* The nanoseconds of one call, over so many. */
-static double timed(void (*call)(struct job *), struct job *j, int times) {
+static double timed(work *call, struct job *j, int times) {
     double began = now();
     for (int k = 0; k < times; k++) {
         call(j);
@@ -173,54 +242,53 @@ static double timed(void (*call)(struct job *), struct job *j, int times) {
     return (now() - began) / times;
 }
 
-typedef void work(struct job *);
-
-static int rounds, sides;
-static size_t side_of[16];
-
-static void compare(const char *name, size_t cell, work *call, work *loop, work *plain) {
-    work *all[3] = {call, loop, plain};
-    for (int k = 0; k < sides; k++) {
-        size_t side = side_of[k];
-        struct job j = {.side = side, .stride = side + 8, .source_stride = side + 16, .cell = cell};
-        j.len = j.stride * side, j.source_len = j.source_stride * side;
-        j.cells = aligned_alloc(64, (j.len * cell + 63) / 64 * 64);
-        j.source = aligned_alloc(64, (j.source_len * cell + 63) / 64 * 64);
-        if (!j.cells || !j.source) abort();
-        memset(j.cells, 5, j.len * cell);
-        memset(j.source, 5, j.source_len * cell);
-        int times = side < 100 ? 200 : side < 1000 ? 5 : 1, turns = side < 1000 ? rounds : rounds / 8 + 1;
-        double best[3] = {1e30, 1e30, 1e30};
-        for (int turn = 0; turn < turns; turn++)
-            for (int which = 0; which < 3; which++)
-                if (all[which]) {
-                    double took = timed(all[which], &j, times);
-                    best[which] = took < best[which] ? took : best[which];
-                }
-        printf("%s\t%zu\t%zu\t%.1f\t%.1f\t%.1f\n", name, cell, side, best[0], best[1], plain ? best[2] : 0.0);
-        fflush(stdout);
-        free(j.cells);
-        free(j.source);
-    }
+static struct job made(size_t side, size_t cell) {
+    struct job j = {.side = side, .stride = side + 8, .source_stride = side + 16};
+    j.len = j.stride * side, j.source_len = j.source_stride * side;
+    if (posix_memalign(&j.cells, 64, j.len * cell) || posix_memalign(&j.source, 64, j.source_len * cell)) abort();
+    memset(j.cells, 5, j.len * cell);
+    memset(j.source, 5, j.source_len * cell);
+    return j;
 }
 
-#define BOTH(NAME, CALL, LOOP8, LOOP32, PLAIN)        \
-    compare(NAME, 1, u8_##CALL, LOOP8, PLAIN);        \
-    compare(NAME, 4, u32_##CALL, LOOP32, PLAIN)
+/* All columns of one call on one size. They have to answer the same. */
+static void compare(const char *name, size_t cell, size_t side, work *const all[COLUMNS]) {
+    struct job j = made(side, cell);
+    double best[COLUMNS] = {0};
+    for (int k = 0; k < COLUMNS; k++)
+        if (all[k]) {
+            uint64_t answer = j.answer;
+            all[k](&j);
+            if (k && j.answer != answer) fprintf(stderr, "%s, side %zu: column %d answers otherwise\n", name, side, k), abort();
+        }
+    int times = side < 100 ? 100 : side < 1000 ? 4 : 1;
+    /* A slow call gets fewer turns: about a third of a second for all columns. */
+    double began = now();
+    for (int turn = 0; turn < rounds && (turn < 5 || now() - began < 3e8); turn++)
+        for (int k = 0; k < COLUMNS; k++)
+            if (all[k]) {
+                double took = timed(all[k], &j, times);
+                best[k] = turn && best[k] < took ? best[k] : took;
+            }
+    printf("%s\t%zu\t%zu", name, cell, side);
+    for (int k = 0; k < COLUMNS; k++) printf("\t%.1f", best[k]);
+    printf("\n");
+    fflush(stdout);
+    free(j.cells);
+    free(j.source);
+}
+
+#define COLUMNS_OF(CELL, NAME) call_##CELL##_##NAME, loop_##CELL##_##NAME, plain_##CELL##_##NAME, rust_##CELL##_##NAME, crate_##CELL##_##NAME
+#define COMPARE(NAME, TEXT)                                                                                \
+    for (int k = 0; k < sides; k++) compare(TEXT, 1, side_of[k], (work *const[]){COLUMNS_OF(u8, NAME)});   \
+    for (int k = 0; k < sides; k++) compare(TEXT, 4, side_of[k], (work *const[]){COLUMNS_OF(u32, NAME)});
 
 int main(int count, char **words) {
     rounds = count > 1 ? atoi(words[1]) : 400;
     for (int k = 2; k < count && sides < 16; k++) side_of[sides++] = (size_t)strtoul(words[k], NULL, 10);
+    for (int k = 0; k < sides; k++)
+        if (side_of[k] < 8) return 2;
     if (!sides || rounds < 1) return 2;
-    BOTH("fill_window", fill, loop_fill_u8, loop_fill_u32, plain_fill);
-    BOTH("copy_window", copy, loop_copy, loop_copy, plain_copy);
-    BOTH("move_window down", move_down, loop_move_down, loop_move_down, plain_move);
-    BOTH("move_window right", move_right, loop_move_right, loop_move_right, plain_move);
-    BOTH("pack", pack, loop_pack, loop_pack, plain_move);
-    BOTH("equal", equal, loop_equal, loop_equal, plain_equal);
-    BOTH("map_pixels", map, loop_map_u8, loop_map_u32, NULL);
-    BOTH("swap_rows", swap, loop_swap_u8, loop_swap_u32, NULL);
-    BOTH("mosaic 16 by 16", mosaic, loop_mosaic_u8, loop_mosaic_u32, NULL);
-    BOTH("mosaic 1 by 1", single, loop_single_u8, loop_single_u32, NULL);
+    EACH(COMPARE)
     return 0;
 }

@@ -1,18 +1,19 @@
 #!/usr/bin/env python3
-"""Times the calls and the script program beside plain loops and calls in C, and draws the quotients.
+"""Times the calls and the script program beside plain loops and calls, and draws the quotients.
 
-    bench.py [--rounds N] [--sides N,..] [--pixels N] [--write]
+    bench.py [--rounds N] [--sides N,..] [--pixels N] [--commands N] [--beside PROGRAM] [--crate FOLDER] [--write]
 
 First it proves and builds what has changed: the program, the library for C, and the crate bench_exports. All that is
-compared takes turns, and the least time of each counts. With --write the table goes into docs/PERFORMANCE.md, and the plot
-into docs/speed.svg: do that on a machine at rest. CC names the compiler (cc).
+compared takes turns, and the least time of each counts. With --write the tables go into docs/PERFORMANCE.md, and the plot
+into docs/speed.svg: do that on a machine at rest. CC names the compiler for C (cc). Where there is a rustc, the loops in Rust
+are timed too, and, where a folder has the sources of the Rust crate, its calls. PROGRAM is another script program, as one
+that was built of an earlier state: it takes turns with this one.
 """
 import argparse
 import os
 import pathlib
 import random
 import re
-import resource
 import shutil
 import subprocess
 import sys
@@ -20,16 +21,45 @@ import tempfile
 import time
 
 import c_library
-from c_library import Failure, archive_of, command, compiler
+from c_library import Failure, archive_of, command, compiler, toolchain
 from program import built, program_of, say
 from workspace import ROOT
 
 OUT = ROOT / "out/bench"
 PAGE, PLOT = ROOT / "docs/PERFORMANCE.md", ROOT / "docs/speed.svg"
 BEGIN, END = "<!-- table of make bench -->", "<!-- end of the table -->"
+# The processor that rt builds for, which rustc is told too.
+RUST = ["rustc", "--edition", "2021", "-C", "opt-level=3", "-C", "target-cpu=x86-64-v2", "-C", "panic=abort", "-C", "codegen-units=1"]
+# How often each program runs on each script.
+RUNS = 7
 
 
-def made():
+def sources_of(folder):
+    """The files of the Rust crate in a folder by their names, as src/lib.rs or as src--lib.rs.txt."""
+    found = {it.name: it for it in folder.glob("src/*.rs")}
+    return found or {it.name.removeprefix("src--").removesuffix(".txt"): it for it in folder.glob("src--*.rs.txt")}
+
+
+def rust(crate):
+    """The archive of the loops in Rust, and of the crate's calls where its sources are there; none where there is no rustc."""
+    if not shutil.which("rustc"):
+        say("no rustc: the columns of Rust stay empty")
+        return []
+    beside, sources = [], sources_of(crate)
+    if "lib.rs" in sources:
+        (OUT / "crate").mkdir(exist_ok=True)
+        for name, source in sources.items():
+            shutil.copyfile(source, OUT / "crate" / name)
+        command(*RUST, "--cap-lints", "allow", "--crate-type", "rlib", "--crate-name", "imgref", "--cfg", 'feature="deprecated"', "-o", OUT / "libimgref.rlib", OUT / "crate/lib.rs")
+        beside = ["--cfg", "beside_crate", "--extern", f"imgref={OUT / 'libimgref.rlib'}"]
+    else:
+        say(f"no sources of the Rust crate in {crate}: its column stays empty")
+    command(*RUST, "--crate-type", "staticlib", *beside, "-o", OUT / "libspeed.a", ROOT / "bench/speed.rs")
+    # (named nowhere else but weakly, so the linker is told that one of them is needed)
+    return ["-Wl,-u,rust_u8_fill", OUT / "libspeed.a"]
+
+
+def made(crate):
     """Builds all that is timed."""
     OUT.mkdir(parents=True, exist_ok=True)
     if built("imgref_run"):
@@ -37,68 +67,107 @@ def made():
     c_library.build()
     exports = archive_of("bench_exports")
     speed, numbers = OUT / "speed", OUT / "numbers"
-    command(*compiler(), "-O2", f"-I{ROOT / 'include'}", "-o", speed, ROOT / "bench/speed.c", exports, ROOT / "out/c/libimgref.a")
+    ours = [exports, ROOT / "out/c/libimgref.a", *toolchain()]
+    command(*compiler(), "-O2", f"-I{ROOT / 'include'}", "-o", speed, ROOT / "bench/speed.c", *rust(crate), *ours, "-lpthread", "-ldl", "-lm")
     command(*compiler(), "-O2", "-o", numbers, ROOT / "bench/numbers.c")
     return speed, numbers
 
 
 def calls(speed, rounds, sides):
-    """The lines that the C side writes, each as it comes."""
-    rows, wanted = [], 20 * len(sides)
+    """The lines that the C side writes, each as it comes: the call, the cell, the side, its time and those beside it."""
+    rows = []
     with subprocess.Popen([speed, str(rounds), *map(str, sides)], stdout=subprocess.PIPE, text=True) as ran:
         for line in ran.stdout:
             name, cell, side, *times = line.rstrip("\n").split("\t")
             rows.append((name, {"1": "u8", "4": "u32"}[cell], int(side), *map(float, times)))
-            say(f"\r{len(rows)} of {wanted} calls", end="" if sys.stderr.isatty() else "\n")
+            say(f"\r{len(rows)} calls: {name:40}", end="" if sys.stderr.isatty() else "\n")
     say("")
     if ran.returncode:
-        sys.exit("the C side of the benchmark failed")
+        raise Failure("the C side of the benchmark failed")
     return rows
 
 
-def script(pixels):
+def pixels(count):
     """The text of an image of random bytes, 1000 pixels wide at a stride of 1003."""
-    height = max(1, (pixels - 1000) // 1003 + 1)
+    height = max(1, (count - 1000) // 1003 + 1)
     made = random.Random(7)
     return f"image 1000 {height} 1003 " + " ".join(map(str, made.randbytes(1003 * (height - 1) + 1000))) + "\n"
 
 
-def seconds(program, source):
-    """The processor time of one run, from a file to a file."""
+def commands(count):
+    """The text of four small images, and of as many commands: half of them get a pixel and half put one, through two windows."""
+    chance = random.Random(7)
+    lines = [f"image 8 8 9 {' '.join(map(str, chance.randbytes(71)))}" for _ in range(4)]
+    for _ in range(count // 2):
+        lines.append(f"get {chance.randrange(4)} {chance.randrange(3)},1,5,6/1,{chance.randrange(3)},3,4 {chance.randrange(3)} {chance.randrange(4)}")
+        lines.append(f"put {chance.randrange(4)} {chance.randrange(3)},1,5,6/1,{chance.randrange(3)},3,4 {chance.randrange(3)} {chance.randrange(4)} {chance.randrange(256)}")
+    return "\n".join([*lines, ""])
+
+
+def written(source, text, count):
+    """Writes the text of a script, and answers its bytes. A process of its own does it: a program's most memory begins with that of
+    the process that starts it, which stays small so."""
+    maker = os.fork()
+    if not maker:
+        source.write_text(text(count))
+        os._exit(0)
+    if os.waitpid(maker, 0)[1]:
+        raise Failure(f"{source} can't be written")
+    return source.stat().st_size
+
+
+def run(program, source):
+    """The processor time of one run in seconds, from a file to a file, and its most memory in bytes."""
     with open(source) as given, tempfile.TemporaryFile(dir=OUT) as taken:
-        before = resource.getrusage(resource.RUSAGE_CHILDREN)
-        subprocess.run([program], stdin=given, stdout=taken, check=True)
-        after = resource.getrusage(resource.RUSAGE_CHILDREN)
-    return after.ru_utime + after.ru_stime - before.ru_utime - before.ru_stime
+        process = subprocess.Popen([program], stdin=given, stdout=taken)
+        _, status, used = os.wait4(process.pid, 0)
+        process.returncode = os.waitstatus_to_exitcode(status)
+    if process.returncode:
+        raise Failure(f"{program} ended with status {process.returncode}")
+    return used.ru_utime + used.ru_stime, 1024 * used.ru_maxrss
 
 
-def program(numbers, pixels):
-    """The least times of the script program and of the plain one, and the bytes of the script."""
-    source = OUT / "pixels.script"
-    source.write_text(script(pixels))
-    both = [program_of("imgref_run"), numbers]
-    least = [min(times) for times in zip(*([seconds(it, source) for it in both] for _ in range(9)))]
-    return source.stat().st_size, *least
+def scripts(numbers, beside, asked):
+    """A line of each script: its name and its bytes, the time and the memory of the program, and the times beside it: of the plain
+    one in C, which knows no commands, and of another script program."""
+    for name, text, count, plain in (("pixels", pixels, asked.pixels, [numbers]), ("commands", commands, asked.commands, [])):
+        source = OUT / f"{name}.script"
+        size = written(source, text, count)
+        each = [program_of("imgref_run"), *plain, *([beside] if beside else [])]
+        runs = [[run(it, source) for it in each] for _ in range(RUNS)]
+        least = [min(times[k][0] for times in runs) for k in range(len(each))]
+        memory = [min(times[k][1] for times in runs) for k in range(len(each))]
+        yield name, size, least[0], memory[0], least[1] if plain else 0, least[-1] if beside else 0
 
 
 def quotient(a, b):
     return f"{a / b:.2f}" if b else "–"
 
 
-def table(rows, sides, script_bytes, ours, plain):
-    """The table in Markdown: of each call the time, and the quotients to the loop and to the plain call."""
+def table(rows, sides):
+    """The calls in Markdown: of each the time, and the quotients to what is beside it."""
     lines = ["| Call | " + " | ".join(f"{it}" for it in sides) + " |", "|---|" + "---|" * len(sides)]
     for name, cell in dict.fromkeys(it[:2] for it in rows):
         cells = [it for it in rows if it[:2] == (name, cell)]
-        lines.append(f"| `{cell}` {name} | " + " | ".join(f"{it[3]:.0f} ns, {quotient(it[3], it[4])}, {quotient(it[3], it[5])}" for it in cells) + " |")
-    lines += ["", f"The program takes {ours:.2f} s for a script of {script_bytes / 1e6:.1f} MB with one image, and the plain C program {plain:.2f} s: {quotient(ours, plain)}."]
+        lines.append(f"| `{cell}` {name} | " + " | ".join(f"{it[3]:.0f} ns: " + ", ".join(quotient(it[3], other) for other in it[4:]) for it in cells) + " |")
     return "\n".join(lines)
 
 
+def script_table(lines, is_beside):
+    """The scripts in Markdown. The time beside another program says how many times as long that one takes."""
+    head = ["Script", "Bytes", "Time", "a second", "Memory a byte", "to plain C", *["the other program"] * is_beside]
+    found = ["| " + " | ".join(head) + " |", "|---|" + "---|" * (len(head) - 1)]
+    for name, count, seconds, memory, plain, other in lines:
+        cells = [name, f"{count / 1e6:.1f} MB", f"{seconds:.3f} s", f"{count / seconds / 1e6:.0f} MB", f"{memory / count:.1f}", quotient(seconds, plain), *[quotient(other, seconds)] * is_beside]
+        found.append("| " + " | ".join(cells) + " |")
+    return "\n".join(found)
+
+
 def plot(rows, sides):
-    """The quotients to the loop as an SVG: a line for each call, a dot for each side."""
+    """The quotients to the loop in C as an SVG: a line for each call that has one, a dot for each side."""
+    rows = [it for it in rows if it[4]]
     names = list(dict.fromkeys(it[:2] for it in rows))
-    left, wide, high, top = 190, 420, 18, 40
+    left, wide, high, top = 220, 420, 18, 40
     at = lambda value: left + wide * min(value, 4.0) / 4.0
     colours = ["#1b6ca8", "#d1495b", "#5a9a3c", "#8a5fa8", "#c98a1b", "#4b4b4b"]
     drawn = [f'<svg xmlns="http://www.w3.org/2000/svg" width="{left + wide + 30}" height="{top + high * len(names) + 20}" font-family="sans-serif" font-size="11">']
@@ -121,16 +190,20 @@ def main():
     options.add_argument("--rounds", type=int, default=400)
     options.add_argument("--sides", default="16,64,512,2048")
     options.add_argument("--pixels", type=int, default=3_000_000)
+    options.add_argument("--commands", type=int, default=400_000)
+    options.add_argument("--beside", metavar="PROGRAM")
+    options.add_argument("--crate", metavar="FOLDER", type=pathlib.Path, default=ROOT.parent / "shared/upstream")
     options.add_argument("--write", action="store_true")
     asked = options.parse_args()
     sides = [int(it) for it in asked.sides.split(",")]
     began = time.time()
-    speed, numbers = made()
+    speed, numbers = made(asked.crate)
+    began_timing = time.time()
     rows = calls(speed, asked.rounds, sides)
-    found = table(rows, sides, *program(numbers, asked.pixels))
+    found = f"{table(rows, sides)}\n\n{script_table([*scripts(numbers, asked.beside, asked)], bool(asked.beside))}"
     print(found)
     (OUT / "speed.svg").write_text(plot(rows, sides))
-    say(f"{time.time() - began:.0f} s; the plot is in {(OUT / 'speed.svg').relative_to(ROOT)}")
+    say(f"{time.time() - began:.0f} s, {time.time() - began_timing:.0f} of them timing; the plot is in {(OUT / 'speed.svg').relative_to(ROOT)}")
     if asked.write:
         page = PAGE.read_text()
         PAGE.write_text(re.sub(f"{BEGIN}.*{END}", lambda _: f"{BEGIN}\n{found}\n{END}", page, flags=re.DOTALL))
@@ -143,3 +216,5 @@ if __name__ == "__main__":
         main()
     except Failure as why:
         sys.exit(str(why))
+    except KeyboardInterrupt:
+        sys.exit("interrupted")
