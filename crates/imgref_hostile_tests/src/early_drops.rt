@@ -1,7 +1,7 @@
 //! Iterators for writing that are dropped before their end: what was written stands, all else stays.
 
 use crate::fixtures::{cells_of, numbered};
-use imgref::{Img, ImgRefMut, PixelsIterMut, Window};
+use imgref::{AsMutSlice, AsSlice, Img, ImgRefMut, PixelsIterMut, Window};
 use imgref_fixtures::{PADDED, padded};
 use std::process::Abort;
 use std::test::Fail;
@@ -109,8 +109,29 @@ fn rows_of_an_inner_column_from_each_mix_of_ends(rt: HostRuntime) -> Result<(), 
     Ok(())
 }
 
+// Takes rows of a window of the image of nine cells.
+fn check_window_rows<C: AsMutSlice<Item = u8>>(
+    rt: &impl Abort,
+    image: &mut Img<C>,
+    window: Window,
+    mix: u32,
+    steps: u32,
+) {
+    let Window {
+        left,
+        top,
+        width,
+        height,
+    } = window;
+    assert!(rt; image.is_valid() && image.has_window(left, top, width, height));
+    let mut inner = image.sub_image_mut(left, top, width, height);
+    let taken = take_rows(rt, &mut inner, mix, steps);
+    let cells = image.buf().as_slice();
+    check_rows(rt, cells, PADDED.as_slice(), 4, window, taken);
+}
+
 #[test]
-fn rows_of_each_window_of_an_owner(rt: HostRuntime) -> Result<(), Fail> {
+fn rows_of_each_window(rt: HostRuntime) -> Result<(), Fail> {
     for number in 0..256usize {
         let window = numbered(number);
         if cells_of(window).exact == 0 {
@@ -118,26 +139,10 @@ fn rows_of_each_window_of_an_owner(rt: HostRuntime) -> Result<(), Fail> {
         }
         for mix in 0..4u32 {
             for steps in 0..4u32 {
-                let mut owner = padded(rt.alloc())?;
-                assert!(rt;
-                    owner.is_valid()
-                        && owner.has_window(window.left, window.top, window.width, window.height)
-                );
-                let mut inner = owner.sub_image_mut(
-                    window.left,
-                    window.top,
-                    window.width,
-                    window.height,
-                );
-                let taken = take_rows(&rt, &mut inner, mix, steps);
-                check_rows(
-                    &rt,
-                    owner.buf().as_slice(),
-                    PADDED.as_slice(),
-                    4,
-                    window,
-                    taken,
-                );
+                check_window_rows(&rt, &mut padded(rt.alloc())?, window, mix, steps);
+                let mut cells = PADDED;
+                let mut lent = Img::new_stride(cells.as_mut_slice(), 3, 2, 4);
+                check_window_rows(&rt, &mut lent, window, mix, steps);
             }
         }
     }
@@ -180,54 +185,38 @@ fn check_pixels(rt: &impl Abort, cells: &[u8], window: Window, steps: usize) {
     }
 }
 
-#[test]
-fn pixels_of_each_window_of_lent_cells(rt: HostRuntime) -> Result<(), Fail> {
-    for number in 0..256usize {
-        let window = numbered(number);
-        if cells_of(window).exact == 0 {
-            continue;
-        }
-        for steps in 0..8usize {
-            let mut cells = PADDED;
-            let mut lent = ImgRefMut::new_stride(cells.as_mut_slice(), 3, 2, 4);
-            assert!(rt;
-                lent.is_valid()
-                    && lent.has_window(window.left, window.top, window.width, window.height)
-            );
-            let mut inner = lent.sub_image_mut(
-                window.left,
-                window.top,
-                window.width,
-                window.height,
-            );
-            take_pixels(&rt, inner.pixels_mut(), steps);
-            check_pixels(&rt, cells.as_slice(), window, steps);
-        }
-    }
-    Ok(())
+// Takes pixels of a window of the image of nine cells.
+fn check_window_pixels<C: AsMutSlice<Item = u8>>(
+    rt: &impl Abort,
+    image: &mut Img<C>,
+    window: Window,
+    steps: usize,
+) {
+    let Window {
+        left,
+        top,
+        width,
+        height,
+    } = window;
+    assert!(rt; image.is_valid() && image.has_window(left, top, width, height));
+    let mut inner = image.sub_image_mut(left, top, width, height);
+    assert!(rt; inner.is_valid());
+    take_pixels(rt, inner.pixels_mut(), steps);
+    check_pixels(rt, image.buf().as_slice(), window, steps);
 }
 
 #[test]
-fn pixels_of_each_window_of_an_owner(rt: HostRuntime) -> Result<(), Fail> {
+fn pixels_of_each_window(rt: HostRuntime) -> Result<(), Fail> {
     for number in 0..256usize {
         let window = numbered(number);
         if cells_of(window).exact == 0 {
             continue;
         }
         for steps in 0..8usize {
-            let mut owner = padded(rt.alloc())?;
-            assert!(rt;
-                owner.is_valid()
-                    && owner.has_window(window.left, window.top, window.width, window.height)
-            );
-            let mut inner = owner.sub_image_mut(
-                window.left,
-                window.top,
-                window.width,
-                window.height,
-            );
-            take_pixels(&rt, inner.pixels_mut(), steps);
-            check_pixels(&rt, owner.buf().as_slice(), window, steps);
+            check_window_pixels(&rt, &mut padded(rt.alloc())?, window, steps);
+            let mut cells = PADDED;
+            let mut lent = Img::new_stride(cells.as_mut_slice(), 3, 2, 4);
+            check_window_pixels(&rt, &mut lent, window, steps);
         }
     }
     Ok(())

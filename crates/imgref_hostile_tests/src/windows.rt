@@ -1,9 +1,8 @@
 //! Each window of the image of nine cells, by every call of each kind.
 
-use crate::fixtures::{cells_of, numbered, pixel_at};
-use imgref::{AsMutSlice, Img, ImgRef, ImgRefMut, Window};
+use crate::fixtures::{Cells, cells_of, numbered, pixel_at};
+use imgref::{AsMutSlice, AsSlice, Img, ImgRef, ImgRefMut, Window};
 use imgref_fixtures::{PADDED, padded};
-use std::alloc::{AllocError, Global};
 use std::process::Abort;
 use std::test::Fail;
 
@@ -76,7 +75,7 @@ fn check_filled(rt: &impl Abort, cells: &[u8], window: Window) {
     }
 }
 
-// Whether a window is inside, and what is read through it.
+// Whether a window is inside a view, and what is read through it.
 fn is_in_view(rt: &impl Abort, image: ImgRef<'_, u8>, window: Window) -> bool {
     let Window {
         left,
@@ -85,29 +84,25 @@ fn is_in_view(rt: &impl Abort, image: ImgRef<'_, u8>, window: Window) -> bool {
         height,
     } = window;
     assert!(rt; image.is_valid());
-    if !image.has_window(left, top, width, height) {
-        return false;
+    let is_inside = image.has_window(left, top, width, height);
+    if is_inside {
+        let found = image.sub_image(left, top, width, height);
+        check_view(rt, found, window, cells_of(window).roomy);
     }
-    let found = image.sub_image(left, top, width, height);
-    check_view(rt, found, window, cells_of(window).roomy);
-    true
+    is_inside
 }
 
-// The same of an image that can be written, whatever it holds its cells in.
+// The same of an image that can be written, which has another `sub_image`.
 fn is_in_image<C: AsMutSlice<Item = u8>>(rt: &impl Abort, image: &Img<C>, window: Window) -> bool {
-    let Window {
-        left,
-        top,
-        width,
-        height,
-    } = window;
+    let (left, top) = (window.left, window.top);
+    let (width, height) = (window.width, window.height);
     assert!(rt; image.is_valid());
-    if !image.has_window(left, top, width, height) {
-        return false;
+    let is_inside = image.has_window(left, top, width, height);
+    if is_inside {
+        let found = image.sub_image(left, top, width, height);
+        check_view(rt, found, window, cells_of(window).roomy);
     }
-    let found = image.sub_image(left, top, width, height);
-    check_view(rt, found, window, cells_of(window).roomy);
-    true
+    is_inside
 }
 
 #[test]
@@ -141,74 +136,48 @@ fn sixty_windows_for_reading(rt: HostRuntime) -> Result<(), Fail> {
     Ok(())
 }
 
-// A window of an owner for writing: what it shows, and what all its cells and all its pixels that
-// are written through it leave.
-fn check_owner(rt: &impl Abort, alloc: Global, window: Window) -> Result<(), AllocError> {
+// A window for writing shows its pixels, and has so many cells. Its pixels are written.
+fn check_pixels<C: AsMutSlice<Item = u8>>(
+    rt: &impl Abort,
+    image: &mut Img<C>,
+    window: Window,
+    count: usize,
+) {
     let Window {
         left,
         top,
         width,
         height,
     } = window;
-    let cells = cells_of(window);
-    let mut image = padded(alloc)?;
     assert!(rt; image.is_valid() && image.has_window(left, top, width, height));
-    let found = image.sub_image_mut(left, top, width, height);
-    check_view(rt, found.as_ref(), window, cells.exact);
-    assert!(rt; image.is_valid() && image.has_window(left, top, width, height));
-    image.sub_image_mut(left, top, width, height).fill(0);
+    let mut found = image.sub_image_mut(left, top, width, height);
+    check_view(rt, found.as_ref(), window, count);
+    assert!(rt; found.is_valid());
+    found.fill(0);
     check_filled(rt, image.buf().as_slice(), window);
-    let mut image = padded(alloc)?;
-    assert!(rt; image.is_valid() && image.has_window(left, top, width, height));
-    let (parts, shape) = image.window_parts_mut(left, top, width, height);
-    assert!(rt; (shape.width(), shape.height(), shape.stride()) == (width, height, 4));
-    parts.fill(0);
-    check_cleared(rt, image.buf().as_slice(), cells.first, cells.exact);
-    Ok(())
 }
 
-#[test]
-fn sixty_windows_of_an_owner_for_writing(rt: HostRuntime) -> Result<(), Fail> {
-    let view = ImgRef::new_stride(PADDED.as_slice(), 3, 2, 4);
-    let mut inside = 0u32;
-    for number in 0..256usize {
-        let window = numbered(number);
-        if view.has_window(window.left, window.top, window.width, window.height) {
-            check_owner(&rt, rt.alloc(), window)?;
-            inside = inside.saturating_add(1);
-        }
-    }
-    assert!(rt; inside == 60);
-    Ok(())
-}
-
-// The same of an image whose cells are lent.
-fn check_lent(rt: &impl Abort, window: Window) {
+// All cells of a window for writing are written.
+fn check_cells<C: AsMutSlice<Item = u8>>(
+    rt: &impl Abort,
+    image: &mut Img<C>,
+    window: Window,
+    count: usize,
+) {
     let Window {
         left,
         top,
         width,
         height,
     } = window;
-    let cells = cells_of(window);
-    let mut buf = PADDED;
-    let mut image = ImgRefMut::new_stride(buf.as_mut_slice(), 3, 2, 4);
-    assert!(rt; image.is_valid() && image.has_window(left, top, width, height));
-    let found = image.sub_image_mut(left, top, width, height);
-    check_view(rt, found.as_ref(), window, cells.roomy);
-    assert!(rt; image.is_valid() && image.has_window(left, top, width, height));
-    image.sub_image_mut(left, top, width, height).fill(0);
-    check_filled(rt, buf.as_slice(), window);
-    let mut buf = PADDED;
-    let mut image = ImgRefMut::new_stride(buf.as_mut_slice(), 3, 2, 4);
     assert!(rt; image.is_valid() && image.has_window(left, top, width, height));
     let (parts, shape) = image.window_parts_mut(left, top, width, height);
     assert!(rt; (shape.width(), shape.height(), shape.stride()) == (width, height, 4));
     parts.fill(0);
-    check_cleared(rt, buf.as_slice(), cells.first, cells.roomy);
+    check_cleared(rt, image.buf().as_slice(), cells_of(window).first, count);
 }
 
-// An image that is cut down to its window.
+// Cells that are lent are cut down to a window, which is written in the same two ways.
 fn check_cut(rt: &impl Abort, window: Window) {
     let Window {
         left,
@@ -235,14 +204,23 @@ fn check_cut(rt: &impl Abort, window: Window) {
     check_cleared(rt, buf.as_slice(), cells.first, cells.roomy);
 }
 
+// A window of an owner ends at its last pixel, and one of lent cells has whole strides.
 #[test]
-fn sixty_windows_of_lent_cells_for_writing(rt: HostRuntime) -> Result<(), Fail> {
+fn sixty_windows_for_writing(rt: HostRuntime) -> Result<(), Fail> {
     let view = ImgRef::new_stride(PADDED.as_slice(), 3, 2, 4);
     let mut inside = 0u32;
     for number in 0..256usize {
         let window = numbered(number);
         if view.has_window(window.left, window.top, window.width, window.height) {
-            check_lent(&rt, window);
+            let Cells { exact, roomy, .. } = cells_of(window);
+            check_pixels(&rt, &mut padded(rt.alloc())?, window, exact);
+            check_cells(&rt, &mut padded(rt.alloc())?, window, exact);
+            let mut cells = PADDED;
+            let mut lent = Img::new_stride(cells.as_mut_slice(), 3, 2, 4);
+            check_pixels(&rt, &mut lent, window, roomy);
+            let mut cells = PADDED;
+            let mut lent = Img::new_stride(cells.as_mut_slice(), 3, 2, 4);
+            check_cells(&rt, &mut lent, window, roomy);
             check_cut(&rt, window);
             inside = inside.saturating_add(1);
         }
