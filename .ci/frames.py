@@ -120,6 +120,12 @@ def edits_of(words):
     return edits
 
 
+def line_end(data, at):
+    """Where the line of the frame that begins here ends, or 0: it has at most 256 bytes."""
+    end = data.find(b"\n", at, at + 256) + 1
+    return end if data[at:end] == b"FRAME\n" or data[at:end].startswith(b"FRAME ") else 0
+
+
 def answer(data, edits):
     """What is written for these bytes; a fault tells what was written before it. An edit has the numbers of its first frame and
     of the first behind its last, its word, its window and what follows that."""
@@ -139,9 +145,10 @@ def answer(data, edits):
     out = (resized(line, *sizes[0]) if sizes else line) + b"\n"
     size, frames = sum(wide * high for wide, high, _, _ in planes), 0
     while at < len(data):
-        if data[at:at + 6] != b"FRAME\n" or len(data) < at + 6 + size:
+        end = line_end(data, at)
+        if not end or len(data) < end + size:
             raise Fault(f"frame {frames}", out)
-        at, out = at + 6, out + b"FRAME\n"
+        at, out = end, out + data[at:end]
         for number, plane in enumerate(planes):
             count = plane[0] * plane[1]
             cells, at = data[at:at + count], at + count

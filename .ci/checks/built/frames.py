@@ -21,6 +21,7 @@ EDITS = ("fill 4,2,6,4 126", "mosaic 2,2,10,6 4,2", "mosaic 0,0,12,8 64,64", "mo
 # These end at the right or the lower edge of 13 by 9.
 ODD = ("fill 10,6,3,3 7", "mosaic 2,2,11,7 4,2", "move 8,0,5,3 8,6", "move 8,6,5,3 0,0", "crop 4,2,9,7", "crop 4,2,7,7", "fill 12,8,1,1 3", "fill 13,0,0,1 3")
 FILL = "fill 4,2,6,4 126"
+PARAMETERS = (b"", b" Ip", b" ", b" XLABEL=a b  Ib")
 LISTS = (
     "fill 0,0,4,4 9 mosaic 2,2,8,6 4,2",
     "1..2 fill 0,0,4,4 9",
@@ -31,12 +32,12 @@ LISTS = (
 )
 
 
-def video(sampling, width=12, height=8, frames=3):
-    """A small video with pixels by chance, the same in each run."""
+def video(sampling, width=12, height=8, frames=3, parameters=(b"",)):
+    """A small video with pixels by chance, the same in each run. The frames have these parameters in turn."""
     chance = random.Random(f"{sampling} {width} {height}")
     chroma = {"mono": 0, "422": 2 * (-(-width // 2)) * height, "444": 2 * width * height}.get(sampling, 2 * (-(-width // 2)) * (-(-height // 2)))
     line = f"YUV4MPEG2 W{width} H{height} F25:1 Ip A1:1 C{sampling} XLABEL=a\n".encode()
-    return line + b"".join(b"FRAME\n" + chance.randbytes(width * height + chroma) for _ in range(frames))
+    return line + b"".join(b"FRAME" + parameters[it % len(parameters)] + b"\n" + chance.randbytes(width * height + chroma) for it in range(frames))
 
 
 def ends(program, words, data):
@@ -87,6 +88,16 @@ def by_model(cases, program):
     end = small.index(b"\n")
     changed = [("fill 0,0,2,2 9".split(), small[:at] + bytes([byte]) + small[at + 1:]) for at in range(end + 1) for byte in (10, 32, 48, 49, 67, 87, 255)]
     count_tries(cases, "each byte of the line changed", program, changed)
+    with_parameters = [(edit.split(), video(it, parameters=PARAMETERS)) for it in SAMPLINGS for edit in EDITS[:3] + EDITS[5:8] + LISTS]
+    count_tries(cases, "parameters of frames are passed on", program, with_parameters)
+    small = video("420", 4, 2, 2, parameters=(b" Ip X=1",))
+    beginnings = [("fill 0,0,2,2 9".split(), small[:end]) for end in range(len(small) + 1)]
+    count_tries(cases, "each beginning of a stream with parameters", program, beginnings)
+    start = small.index(b"FRAME")
+    changed = [("fill 0,0,2,2 9".split(), small[:at] + bytes([byte]) + small[at + 1:]) for at in range(start, start + 13) for byte in (0, 10, 32, 69, 70, 255)]
+    count_tries(cases, "each byte of a frame's line changed", program, changed)
+    longest = [("fill 0,0,2,2 9".split(), video("420", 4, 2, 2, parameters=(b"", b" " + b"x" * count))) for count in (0, 1, 248, 249, 250, 300)]
+    count_tries(cases, "a frame's line has at most 256 bytes", program, longest)
     outside = [(it.split(), video("420")) for it in ("fill 1,0,2,2 9", "fill 0,0,2,10 9", "mosaic 0,0,4,4 1,2", "mosaic 0,0,4,4 0,2", "move 0,0,4,4 10,0", "crop 0,0,0,4", "crop 0,0,3,4", "pad 1,0,0,0 9", "pad 0,0,4294967284,0 9", "pad 0,0,0,18446744073709551615 9")]
     count_tries(cases, "an edit that is none of the video is refused", program, outside)
     hidden = video("mono"), exchanged(video("mono"), (4, 2, 6, 4))
@@ -101,6 +112,13 @@ def by_words(cases, program):
         listed.write(LISTS[2].replace(" 1..3", "\n1..3").replace(" crop", "\ncrop") + "\n")
         listed.flush()
         cases.count("a file of edits is the same as its words", ends(program, ["--edits", listed.name], video("420")) == ends(program, LISTS[2].split(), video("420")))
+        for text, status in (("", 0), ("\n\nfill 0,0,2,2 9\n\n", 0), ("fill 0,0,2,2 9 fill 0,0,2,2 9", 1), ("fill 0,0,2,2\n9", 1), ("fill  0,0,2,2 9", 1), ("crop 0,0,2,2\nfill 0,0,2,2 9", 1), ("crop 0,0,2,2\n", 0), (" \n", 1)):
+            listed.seek(0)
+            listed.truncate()
+            listed.write(text)
+            listed.flush()
+            said = ends(program, ["--edits", listed.name], video("mono"))
+            cases.count(f"a file {text!r} of edits ends with status {status}", said[2] == status and (status == 0 or said[:2] == (b"", "fault words")), str(said))
     said = ends(program, "move 0,0,2,2 2,2 fill 0,0,2,2 9".split(), video("mono"))
     cases.count("a move before a fill is noted", said[1].startswith("note: ") and said[2] == 0, str(said))
     said = ends(program, ["--help"], b"")

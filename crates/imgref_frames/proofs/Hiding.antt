@@ -1,5 +1,5 @@
 -- Inputs that differ only in what is hidden get the same answer and the same output, and each input one output.
-use Rattle.std.proofs.Common.{◌≡◌, ◌≢◌, ℕ, ◌+◌, List, [], ◌∷◌, ◌++◌, Option, Some, None, option_and_then, Result, Ok, Err, length, refl, sym, ap, ◌∙◌, subst, arith, append_assoc, inl, inr, length-append}
+use Rattle.std.proofs.Common.{◌≡◌, ◌≢◌, ℕ, ◌+◌, List, [], ◌∷◌, ◌++◌, Option, Some, None, option_and_then, Result, Ok, Err, length, refl, sym, ap, ◌∙◌, subst, arith, append_assoc, inl, inr}
 use Rattle.std.specs.Prelude.{All}
 use Rattle.std.specs.Option.{option_map}
 use Rattle.std.specs.List.{AllByRecursion}
@@ -16,42 +16,26 @@ use Rattle.frame_formats.specs.declared.framing.Framing.{Framing}
 use Rattle.imgref_frames.specs.Alike.{Alike, FramesAlike, Hides, OneOutput}
 use Rattle.imgref_frames.specs.Passing.{IsNoFrame}
 use Rattle.imgref_frames.specs.Program.{Carries, CarriesSome, Writes}
-use Rattle.imgref_frames.specs.Video.{frame_head, frame_text, frames_text, video_text, numbered}
+use Rattle.imgref_frames.specs.Video.{VideoFrame, video_frame, IsFrameOf, frame_text, frames_text, video_text, numbered}
 use Rattle.imgref_frames.specs.declared.fault.RunFault.{RunFault}
 use Rattle.imgref_frames.specs.declared.fault.RunFault.TheVariants.{Header, Outside, Frame, Memory, Input, Output, Endless}
-use Rattle.imgref_frames.proofs.Videos.{one_front}
+use Rattle.imgref_frames.proofs.FrameLines.{one_front, one_frame}
 
 -- ---- beginnings
 
-fronts : (xs ys a b : List ℕ) → length xs ≡ length ys → xs ++ a ≡ ys ++ b → (xs ≡ ys) × (a ≡ b)
-fronts [] [] a b long e = (refl, e)
-fronts [] (y ∷ ys) a b long e = absurd (omega (arith, long))
-fronts (x ∷ xs) [] a b long e = absurd (omega (arith, long))
-fronts (x ∷ xs) (y ∷ ys) a b long e =
-    let heads : x ≡ y = cc in
-    let tails : xs ++ a ≡ ys ++ b = cc in
-    let rest = fronts xs ys a b (omega (arith, long)) tails in
-    ((λ i. heads i ∷ rest.0 i), rest.1)
-
-one_frame : (size : ℕ) (x p a b : List ℕ) → length x ≡ size → length p ≡ size → frame_text x ++ a ≡ frame_text p ++ b → (x ≡ p) × (a ≡ b)
-one_frame size x p a b long as_long e =
-    let lengths : length (frame_text x) ≡ length (frame_text p) = omega (arith, length-append frame_head x, length-append frame_head p, long, as_long) in
-    let both = fronts (frame_text x) (frame_text p) a b lengths e in
-    (append_cancel_left frame_head x p both.0, both.1)
-
-behind_line : (line : List ℕ) (frames : List (List ℕ)) (rest : List ℕ) → video_text line frames ++ rest ≡ (line ++ 10 ∷ []) ++ (frames_text frames ++ rest)
+behind_line : (line : List ℕ) (frames : List VideoFrame) (rest : List ℕ) → video_text line frames ++ rest ≡ (line ++ 10 ∷ []) ++ (frames_text frames ++ rest)
 behind_line line frames rest = append_assoc (line ++ 10 ∷ []) (frames_text frames) rest
 
-after_feed : (line : List ℕ) (frames : List (List ℕ)) (rest : List ℕ) → video_text line frames ++ rest ≡ line ++ 10 ∷ (frames_text frames ++ rest)
+after_feed : (line : List ℕ) (frames : List VideoFrame) (rest : List ℕ) → video_text line frames ++ rest ≡ line ++ 10 ∷ (frames_text frames ++ rest)
 after_feed line frames rest = behind_line line frames rest ∙ append_assoc line (10 ∷ []) (frames_text frames ++ rest)
 
 -- ---- frames
 
 -- as many frames of another input, which become the same, and what is behind them
-record Carried (size : ℕ) (f : ℕ → List ℕ → List ℕ) (n : ℕ) (mine : List (List ℕ)) (behind input : List ℕ) : Type 0 where
-  frames : List (List ℕ)
+record Carried (size : ℕ) (f : ℕ → List ℕ → List ℕ) (n : ℕ) (mine : List VideoFrame) (behind input : List ℕ) : Type 0 where
+  frames : List VideoFrame
   rest : List ℕ
-  sized : AllByRecursion (λ cells. length cells ≡ size) frames
+  sized : AllByRecursion (IsFrameOf size) frames
   count : length frames ≡ length mine
   same : numbered f n mine ≡ numbered f n frames
   read : input ≡ frames_text frames ++ rest
@@ -59,7 +43,7 @@ record Carried (size : ℕ) (f : ℕ → List ℕ → List ℕ) (n : ℕ) (mine 
   none : IsNoFrame size behind → IsNoFrame size rest
 
 carried : (size : ℕ) (jobs : List Job) (f : ℕ → List ℕ → List ℕ) → ((n : ℕ) (p q : List ℕ) → PlanesAlike n jobs p q → f n p ≡ f n q)
-    → (n : ℕ) (mine : List (List ℕ)) (behind : List ℕ) (ps qs : List (List ℕ)) (rest : List ℕ) → AllByRecursion (λ cells. length cells ≡ size) mine → FramesAlike size jobs n ps qs
+    → (n : ℕ) (mine : List VideoFrame) (behind : List ℕ) (ps qs : List VideoFrame) (rest : List ℕ) → AllByRecursion (IsFrameOf size) mine → FramesAlike size jobs n ps qs
     → frames_text mine ++ behind ≡ frames_text ps ++ rest → Carried size f n mine behind (frames_text qs ++ rest)
 carried size jobs f law n [] behind [] [] rest sized alike e = record {
   frames = [];
@@ -98,13 +82,14 @@ carried size jobs f law n (x ∷ mine) behind (p ∷ ps) [] rest sized alike e =
 carried size jobs f law n (x ∷ mine) behind (p ∷ ps) (q ∷ qs) rest sized alike e =
     let one = one_frame size x p (frames_text mine ++ behind) (frames_text ps ++ rest) sized.0 alike.0
     (sym (append_assoc (frame_text x) (frames_text mine) behind) ∙ e ∙ append_assoc (frame_text p) (frames_text ps) rest) in
-    let more = carried size jobs f law (n + 1) mine behind ps qs rest sized.1 alike.3 one.1 in
+    let more = carried size jobs f law (n + 1) mine behind ps qs rest sized.1 alike.4 one.1 in
+    let made : video_frame x.parameters (f n x.cells) ≡ video_frame q.parameters (f n q.cells) = λ i. video_frame ((ap (λ (v : VideoFrame). v.parameters) one.0 ∙ alike.2) i) ((ap (λ (v : VideoFrame). f n v.cells) one.0 ∙ law n p.cells q.cells alike.3) i) in
     record {
       frames = q ∷ more.frames;
       rest = more.rest;
       sized = (alike.1, more.sized);
       count = omega (arith, more.count);
-      same = λ i. (ap (f n) one.0 ∙ law n p q alike.2) i ∷ more.same i;
+      same = λ i. made i ∷ more.same i;
       read = append_assoc (frame_text q) (frames_text qs) rest ∙ ap (λ l. frame_text q ++ l) more.read ∙ sym (append_assoc (frame_text q) (frames_text more.frames) more.rest);
       end = more.end;
       none = more.none;
@@ -136,11 +121,11 @@ recipe_hides law edit line recipe e =
 module _ (law : ChangesHide) (edit : Edits) (mine theirs : List ℕ) (a : Alike edit mine theirs) where
   my_line : (line more : List ℕ) → All (λ b. b ≢ 10) line → mine ≡ line ++ 10 ∷ more → line ≡ a.line
   my_line line more one is =
-      one_front line a.line more (frames_text a.frames ++ a.rest) (recursion_from_All _ line one) (recursion_from_All _ a.line a.one_line) (sym is ∙ a.mine_is ∙ after_feed a.line a.frames a.rest)
+      (one_front line a.line more (frames_text a.frames ++ a.rest) (recursion_from_All _ line one) (recursion_from_All _ a.line a.one_line) (sym is ∙ a.mine_is ∙ after_feed a.line a.frames a.rest)).0
 
   their_line : (line more : List ℕ) → All (λ b. b ≢ 10) line → theirs ≡ line ++ 10 ∷ more → line ≡ a.line
   their_line line more one is =
-      one_front line a.line more (frames_text a.others ++ a.rest) (recursion_from_All _ line one) (recursion_from_All _ a.line a.one_line) (sym is ∙ a.theirs_is ∙ after_feed a.line a.others a.rest)
+      (one_front line a.line more (frames_text a.others ++ a.rest) (recursion_from_All _ line one) (recursion_from_All _ a.line a.one_line) (sym is ∙ a.theirs_is ∙ after_feed a.line a.others a.rest)).0
 
   -- as many frames of the other input make the same text
   record Transferred (count : ℕ) (size : ℕ) (rest text : List ℕ) : Type 0 where
@@ -203,7 +188,7 @@ hides law r edit (Some mine) old new w = λ theirs a. writes_too law edit mine t
 
 -- ---- one output
 
-one_list : (size : ℕ) (fs gs : List (List ℕ)) → AllByRecursion (λ cells. length cells ≡ size) fs → AllByRecursion (λ cells. length cells ≡ size) gs → frames_text fs ++ [] ≡ frames_text gs ++ [] → fs ≡ gs
+one_list : (size : ℕ) (fs gs : List VideoFrame) → AllByRecursion (IsFrameOf size) fs → AllByRecursion (IsFrameOf size) gs → frames_text fs ++ [] ≡ frames_text gs ++ [] → fs ≡ gs
 one_list size [] [] p q e = refl
 one_list size [] (g ∷ gs) p q e = absurd cc
 one_list size (f ∷ fs) [] p q e = absurd cc
@@ -214,12 +199,12 @@ one_list size (f ∷ fs) (g ∷ gs) p q e =
 
 one_text : (edit : Edits) (input : List ℕ) (n m : ℕ) (s t : List ℕ) → Carries edit n input [] s → Carries edit m input [] t → (n ≡ m) × (s ≡ t)
 one_text edit input n m s t c d =
-    let line : c.line ≡ d.line = one_front c.line d.line (frames_text c.frames ++ []) (frames_text d.frames ++ []) (recursion_from_All _ c.line c.one_line) (recursion_from_All _ d.line d.one_line)
-    (sym (after_feed c.line c.frames []) ∙ sym c.read ∙ d.read ∙ after_feed d.line d.frames []) in
+    let line : c.line ≡ d.line = (one_front c.line d.line (frames_text c.frames ++ []) (frames_text d.frames ++ []) (recursion_from_All _ c.line c.one_line) (recursion_from_All _ d.line d.one_line)
+    (sym (after_feed c.line c.frames []) ∙ sym c.read ∙ d.read ∙ after_feed d.line d.frames [])).0 in
     let recipe : c.recipe ≡ d.recipe = some_is c.recipe d.recipe (sym c.edited ∙ ap (recipe_for edit) line ∙ d.edited) in
     let tails : frames_text c.frames ++ [] ≡ frames_text d.frames ++ [] = append_cancel_left (d.line ++ 10 ∷ []) _ _
     (ap (λ (l : List ℕ). (l ++ 10 ∷ []) ++ (frames_text c.frames ++ [])) (sym line) ∙ sym (behind_line c.line c.frames []) ∙ sym c.read ∙ d.read ∙ behind_line d.line d.frames []) in
-    let sized : AllByRecursion (λ cells. length cells ≡ d.recipe.size) c.frames = subst (λ (r : Recipe). AllByRecursion (λ cells. length cells ≡ r.size) c.frames) recipe c.sized in
+    let sized : AllByRecursion (IsFrameOf d.recipe.size) c.frames = subst (λ (r : Recipe). AllByRecursion (IsFrameOf r.size) c.frames) recipe c.sized in
     let frames : c.frames ≡ d.frames = one_list d.recipe.size c.frames d.frames sized d.sized tails in
     (sym c.count_is ∙ ap length frames ∙ d.count_is, c.made ∙ (λ i. video_text (recipe i).line (numbered (recipe i).frame 0 (frames i))) ∙ sym d.made)
 

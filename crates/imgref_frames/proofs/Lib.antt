@@ -1,3 +1,4 @@
+pub mod FrameLines
 pub mod OneMore
 pub mod Videos
 pub mod Outcomes

@@ -1,34 +1,25 @@
 -- A video that was carried: its line, and the frames behind it.
-use Rattle.std.proofs.Common.{◌≡◌, ◌≢◌, ℕ, ◌+◌, List, [], ◌∷◌, ◌++◌, Option, Some, None, Result, Ok, Err, length, take, refl, sym, ap, ◌∙◌, subst, arith, append_assoc, inr, length-append}
+use Rattle.std.proofs.Common.{◌≡◌, ◌≢◌, ℕ, ◌+◌, List, [], ◌∷◌, ◌++◌, Option, Some, None, Result, Ok, Err, refl, sym, ap, ◌∙◌, subst, arith, append_assoc, inr}
 use Rattle.std.specs.Prelude.{IfSome, All}
 use Rattle.std.specs.Io.KnownBytes.{Consumes, Appends, IsAtEnd}
 use Rattle.std.proofs.KnownBytes.{Consumes-trans, Appends-trans}
 use Rattle.devices.specs.Whole.{AppendsBeginning, IsNoLine}
 use Rattle.frame_formats.specs.Plan.{Tells}
-use Rattle.std.specs.List.{AllByRecursion}
 use Rattle.std.proofs.lemmas.List.Elements.{recursion_from_All}
 use Rattle.frame_formats.specs.Format.{format_of}
 use Rattle.frame_formats.specs.Recipe.{Edits, Recipe, recipe_for}
 use Rattle.frame_formats.specs.declared.header.Format.{Format}
 use Rattle.imgref_frames.specs.Passing.{Passed, PassesFrames, IsNoFrame}
 use Rattle.imgref_frames.specs.Program.{Carries, CarriesSome, Writes, Follows, fault_of_plan}
-use Rattle.imgref_frames.specs.Video.{video_text, frame_text, frames_text, numbered}
+use Rattle.imgref_frames.specs.Video.{VideoFrame, video_frame, IsFrameOf, video_text, frame_text, frames_text, numbered}
 use Rattle.frame_formats.specs.declared.plans.PlanFault.{PlanFault}
 use Rattle.frame_formats.specs.declared.plans.PlanFault.TheVariants.{Outside as NoPlan, Memory as NoMemory}
 use Rattle.imgref_frames.specs.declared.fault.RunFault.{RunFault}
 use Rattle.imgref_frames.specs.declared.fault.RunFault.TheVariants.{Header, Outside, Frame, Memory, Input, Output, Endless}
 use Rattle.std.proofs.lemmas.List.{append-nil}
 use Rattle.std.proofs.KnownBytes.{Keeps-refl}
-use lib.Seq.{take-append-add}
+use Rattle.imgref_frames.proofs.FrameLines.{one_front, begun}
 use Rattle.imgref_frames.proofs.OneMore.{all_snoc, length_snoc, text_snoc, numbered_snoc}
-
--- a beginning behind what was written
-begun : (a b c : Option (List ℕ)) (front back : List ℕ) → Appends a b front → AppendsBeginning b c back → AppendsBeginning a c (front ++ back)
-begun a b c front back wrote part = (
-  length front + part.0,
-  omega (arith, length-append front back, part.1),
-  subst (Appends a c) (sym (take-append-add front back part.0)) (Appends-trans a b c front (take part.0 back) wrote part.2),
-)
 
 module _ (edit : Edits) (line : List ℕ) (one : All (λ b. b ≢ 10) line) (recipe : Recipe) (edited : recipe_for edit line ≡ Some recipe)
     (r1 w0 w1 : Option (List ℕ)) (wrote : Appends w0 w1 (recipe.line ++ 10 ∷ [])) where
@@ -68,18 +59,19 @@ module _ (edit : Edits) (line : List ℕ) (one : All (λ b. b ≢ 10) line) (rec
     up_to n None new p none = lost n new p
     up_to n (Some rest) new p none = (rest, video_text recipe.line (numbered recipe.frame 0 p.frames), carries n rest new p, none, written n (Some rest) new p)
 
-    part_of : (count : ℕ) (left held after new : Option (List ℕ)) (cells : List ℕ) (p : Passed recipe.size recipe.frame count r1 left w1 held) → length cells ≡ recipe.size → Consumes left after (frame_text cells)
-        → AppendsBeginning held new (frame_text (recipe.frame count cells)) → (n : ℕ) × (rest : List ℕ) × (text : List ℕ) × Carries edit n bytes rest text × AppendsBeginning w0 new text
-    part_of count left held None new cells p sized more begins =
+    part_of : (count : ℕ) (left held after new : Option (List ℕ)) (frame : VideoFrame) (p : Passed recipe.size recipe.frame count r1 left w1 held) → IsFrameOf recipe.size frame → Consumes left after (frame_text frame)
+        → AppendsBeginning held new (frame_text (video_frame frame.parameters (recipe.frame count frame.cells))) → (n : ℕ) × (rest : List ℕ) × (text : List ℕ) × Carries edit n bytes rest text × AppendsBeginning w0 new text
+    part_of count left held None new frame p sized more begins =
         absurd (Consumes-trans (Some bytes) left None _ _ (Consumes-trans (Some bytes) r1 left (line ++ 10 ∷ []) _ read p.read) more)
-    part_of count left held (Some rest) new cells p sized more begins =
+    part_of count left held (Some rest) new frame p sized more begins =
         let f : ℕ → List ℕ → List ℕ = recipe.frame in
         let out : List ℕ = recipe.line ++ 10 ∷ [] in
         let head : List ℕ = line ++ 10 ∷ [] in
-        let frames : List (List ℕ) = p.frames ++ cells ∷ [] in
+        let frames : List VideoFrame = p.frames ++ frame ∷ [] in
+        let made : VideoFrame = video_frame frame.parameters (f count frame.cells) in
         let text : List ℕ = video_text recipe.line (numbered f 0 frames) in
-        let joined : video_text recipe.line (numbered f 0 p.frames) ++ frame_text (f count cells) ≡ text =
-        append_assoc out (frames_text (numbered f 0 p.frames)) (frame_text (f count cells)) ∙ ap (λ l. out ++ l) (text_snoc (numbered f 0 p.frames) (f count cells) ∙ ap frames_text (sym (numbered_snoc f 0 count p.frames cells (omega (arith, p.count_is))))) in (
+        let joined : video_text recipe.line (numbered f 0 p.frames) ++ frame_text made ≡ text =
+        append_assoc out (frames_text (numbered f 0 p.frames)) (frame_text made) ∙ ap (λ l. out ++ l) (text_snoc (numbered f 0 p.frames) made ∙ ap frames_text (sym (numbered_snoc f 0 count p.frames frame (omega (arith, p.count_is))))) in (
           count + 1,
           rest,
           text,
@@ -89,10 +81,10 @@ module _ (edit : Edits) (line : List ℕ) (one : All (λ b. b ≢ 10) line) (rec
             recipe = recipe;
             edited = edited;
             frames = frames;
-            sized = all_snoc (λ c. length c ≡ recipe.size) p.frames cells p.sized sized;
-            count_is = length_snoc p.frames cells ∙ ap (λ k. k + 1) p.count_is;
+            sized = all_snoc (IsFrameOf recipe.size) p.frames frame p.sized sized;
+            count_is = length_snoc p.frames frame ∙ ap (λ k. k + 1) p.count_is;
             read = Consumes-trans (Some bytes) r1 (Some rest) head (frames_text frames) read
-                (subst (Consumes r1 (Some rest)) (text_snoc p.frames cells) (Consumes-trans r1 left (Some rest) _ _ p.read more));
+                (subst (Consumes r1 (Some rest)) (text_snoc p.frames frame) (Consumes-trans r1 left (Some rest) _ _ p.read more));
             made = refl;
           },
           subst (AppendsBeginning w0 new) joined (begun w0 held new _ _ (written count left held p) begins),
@@ -108,7 +100,7 @@ module _ (edit : Edits) (line : List ℕ) (one : All (λ b. b ≢ 10) line) (rec
   writes_of (Err Endless) None left new read passes = tt
   writes_of (Err Endless) (Some bytes) left new read passes = some bytes read passes.count passes.left new passes.passed
   writes_of (Err Output) None left new read passes = tt
-  writes_of (Err Output) (Some bytes) left new read passes = part_of bytes read passes.count passes.left passes.held passes.after new passes.cells passes.passed passes.sized passes.read passes.written
+  writes_of (Err Output) (Some bytes) left new read passes = part_of bytes read passes.count passes.left passes.held passes.after new passes.frame passes.passed passes.sized passes.read passes.written
   writes_of (Err Header) input left new read passes = absurd passes
   writes_of (Err Outside) input left new read passes = absurd passes
   writes_of (Err Memory) input left new read passes = absurd passes
@@ -138,16 +130,6 @@ begun_line edit line one recipe edited (Some bytes) (Some rest) old new read beg
 
 -- ---- the line
 
--- bytes begin with one line at most
-pub one_front : (xs ys more others : List ℕ) → AllByRecursion (λ b. b ≢ 10) xs → AllByRecursion (λ b. b ≢ 10) ys → xs ++ 10 ∷ more ≡ ys ++ 10 ∷ others → xs ≡ ys
-one_front [] [] more others free clear e = refl
-one_front [] (y ∷ ys) more others free clear e = absurd (clear.0 (cc))
-one_front (x ∷ xs) [] more others free clear e = absurd (free.0 (cc))
-one_front (x ∷ xs) (y ∷ ys) more others free clear e =
-    let heads : x ≡ y = cc in
-    let rest : xs ≡ ys = one_front xs ys more others free.1 clear.1 (cc) in
-    cc
-
 joined : (line rest : List ℕ) → (line ++ 10 ∷ []) ++ rest ≡ line ++ 10 ∷ rest
 joined line rest = append_assoc line (10 ∷ []) rest
 
@@ -162,7 +144,7 @@ no_format edit line None old one none (Some bytes) read = absurd read
 no_format edit line (Some rest) old one none (Some bytes) read = (
   Keeps-refl old,
   λ other more no short is.
-      let same : other ≡ line = one_front other line more rest (recursion_from_All _ other no) (recursion_from_All _ line one) (sym is ∙ read ∙ joined line rest) in
+      let same : other ≡ line = (one_front other line more rest (recursion_from_All _ other no) (recursion_from_All _ line one) (sym is ∙ read ∙ joined line rest)).0 in
       ap format_of same ∙ none,
 )
 

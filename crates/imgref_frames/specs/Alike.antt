@@ -1,16 +1,16 @@
 -- Inputs that differ only in what an edit hides, and runs that can't tell them apart.
-use Rattle.std.specs.Prelude.{◌≡◌, ◌≢◌, ℕ, ◌+◌, List, [], ◌∷◌, ◌++◌, Option, Some, length, All, IfSome, Result, Ok}
+use Rattle.std.specs.Prelude.{◌≡◌, ◌≢◌, ℕ, ◌+◌, List, [], ◌∷◌, ◌++◌, Option, Some, All, IfSome, Result, Ok}
 use Rattle.image_planes.specs.Changes.{Job}
 use Rattle.image_planes.specs.Unseen.{PlanesAlike}
 use Rattle.frame_formats.specs.Recipe.{Edits, Recipe, recipe_for}
 use Rattle.imgref_frames.specs.Program.{Writes}
-use Rattle.imgref_frames.specs.Video.{video_text}
+use Rattle.imgref_frames.specs.Video.{VideoFrame, IsFrameOf, video_text}
 use Rattle.imgref_frames.specs.declared.fault.RunFault.{RunFault}
 
--- frames of one size from this number on, pair by pair: each two differ only in what the steps of their number hide
-abbrev pub FramesAlike : ℕ → List Job → ℕ → List (List ℕ) → List (List ℕ) → Type 0
+-- frames of one size from this number on, pair by pair: each two have the same line, and differ only in what the steps of their number hide
+abbrev pub FramesAlike : ℕ → List Job → ℕ → List VideoFrame → List VideoFrame → Type 0
 FramesAlike size jobs number [] [] = Unit {0}
-FramesAlike size jobs number (p ∷ ps) (q ∷ qs) = (length p ≡ size) × (length q ≡ size) × PlanesAlike number jobs p q × FramesAlike size jobs (number + 1) ps qs
+FramesAlike size jobs number (p ∷ ps) (q ∷ qs) = IsFrameOf size p × IsFrameOf size q × (p.parameters ≡ q.parameters) × PlanesAlike number jobs p.cells q.cells × FramesAlike size jobs (number + 1) ps qs
 FramesAlike size jobs number _ _ = ⊥
 
 -- two inputs have the same line, frames that differ only in what the edits hide, and the same rest behind them
@@ -19,8 +19,8 @@ pub record Alike (edit : Edits) (mine theirs : List ℕ) : Type 0 where
   pub one_line : All (λ b. b ≢ 10) line
   pub recipe : Recipe
   pub edited : recipe_for edit line ≡ Some recipe
-  pub frames : List (List ℕ)
-  pub others : List (List ℕ)
+  pub frames : List VideoFrame
+  pub others : List VideoFrame
   pub alike : FramesAlike recipe.size recipe.jobs 0 frames others
   pub rest : List ℕ
   pub mine_is : mine ≡ video_text line frames ++ rest

@@ -4,7 +4,7 @@ use Rattle.std.specs.List.{AllByRecursion}
 use Rattle.std.specs.Io.KnownBytes.{Appends, Consumes, Keeps}
 use Rattle.devices.specs.Whole.{AppendsBeginning}
 use Rattle.imgref_frames.specs.Passing.{IsNoFrame}
-use Rattle.imgref_frames.specs.Video.{video_text, numbered}
+use Rattle.imgref_frames.specs.Video.{VideoFrame, IsFrameOf, video_text, numbered}
 use Rattle.frame_formats.specs.Format.{format_of}
 use Rattle.frame_formats.specs.Recipe.{Edits, Recipe, recipe_for}
 use Rattle.frame_formats.specs.declared.header.Format.{Format}
@@ -19,8 +19,8 @@ pub record Carries (edit : Edits) (count : ℕ) (input rest text : List ℕ) : T
   pub one_line : All (λ b. b ≢ 10) line
   pub recipe : Recipe
   pub edited : recipe_for edit line ≡ Some recipe
-  pub frames : List (List ℕ)
-  pub sized : AllByRecursion (λ cells. length cells ≡ recipe.size) frames
+  pub frames : List VideoFrame
+  pub sized : AllByRecursion (IsFrameOf recipe.size) frames
   pub count_is : length frames ≡ count
   pub read : input ≡ video_text line frames ++ rest
   pub made : text ≡ video_text recipe.line (numbered recipe.frame 0 frames)

@@ -1,6 +1,6 @@
 //! The program on any reader and writer: a video in, a video out.
 
-ghost use Rattle.std.specs.Prelude.{◌≡◌, ◌≢◌, ◌≤◌, ◌<◌, ◌+◌, ◌++◌, ◌∷◌, [], All, length, map, take, Some, None, IfOk, IfErr};
+ghost use Rattle.std.specs.Prelude.{◌≡◌, ◌≢◌, ◌≤◌, ◌<◌, ◌+◌, ◌++◌, ◌∷◌, [], All, length, map, Some, None, IfOk, IfErr};
 ghost use Rattle.image_planes.specs.Changes.{jobs_len};
 ghost use Rattle.image_planes.specs.Resized.{targets_len};
 ghost use Rattle.image_planes.specs.Planes.{job_of};
@@ -10,7 +10,6 @@ ghost use Rattle.imgref_frames.specs.Fault.{reader_failures, writer_failures};
 ghost use Rattle.frame_formats.specs.Recipe.{edits};
 ghost use Rattle.imgref_frames.specs.Alike.{Hides, OneOutput};
 ghost use Rattle.imgref_frames.specs.Program.{Follows, Writes};
-ghost use Rattle.imgref_frames.specs.Video.{frame_head};
 
 use crate::fault::RunFault;
 use crate::frames::{pass_frames, resize_frames};
@@ -22,52 +21,35 @@ use image_planes::{changes_hide, planes_len, targets_len};
 use std::alloc::Global;
 use std::io::{Read, Write};
 
-// How many bytes the line of a video may have, its line feed among them.
+// How many bytes the line of a video or of a frame may have, its line feed among them.
 const LONGEST: usize = 256;
 
-// Room for one frame with its head.
+// Room for the cells of one frame.
 fn frame_buffer(alloc: Global, planes: &[Plane]) -> Result<Vec<u8>, RunFault>
-    ensures length { IfOk result (λ frame. length frame.items ≡ 6 + jobs_len (map job_of planes.now)) }
+    ensures length { IfOk result (λ cells. length cells.items ≡ jobs_len (map job_of planes.now)) }
     ensures fault { IfErr result (λ e. e ≡ RunFault.Memory) }
 {
-    let Some(cells) = planes_len(planes) else {
-        return Err(RunFault::Memory);
-    };
-    let Some(len) = cells.checked_add(6) else {
+    let Some(len) = planes_len(planes) else {
         return Err(RunFault::Memory);
     };
     match vec![in alloc; 0u8; len] {
-        Ok(frame) => Ok(frame),
+        Ok(cells) => Ok(cells),
         Err(_) => Err(RunFault::Memory),
     }
 }
 
-// Writes the head of a frame.
-fn put_head(frame: &mut [u8])
-    requires { 6 ≤ length frame.old }
-    ensures { take 6 frame.new ≡ frame_head }
-{
-    frame[..6].copy_from_slice(b"FRAME\n");
-}
-
-// Room for one frame in its other size, with its head.
+// Room for the cells of one frame in its other size.
 fn other_buffer(alloc: Global, targets: &[Target]) -> Result<Vec<u8>, RunFault>
-    ensures length { IfOk result (λ frame. length frame.items ≡ 6 + targets_len (map resizing_of targets.now)) }
-    ensures head { IfOk result (λ frame. take 6 frame.items ≡ frame_head) }
+    ensures length { IfOk result (λ cells. length cells.items ≡ targets_len (map resizing_of targets.now)) }
     ensures fault { IfErr result (λ e. e ≡ RunFault.Memory) }
 {
-    let Some(cells) = targets_len(targets) else {
+    let Some(len) = targets_len(targets) else {
         return Err(RunFault::Memory);
     };
-    let Some(len) = cells.checked_add(6) else {
-        return Err(RunFault::Memory);
-    };
-    let mut frame = match vec![in alloc; 0u8; len] {
-        Ok(frame) => frame,
-        Err(_) => return Err(RunFault::Memory),
-    };
-    put_head(&mut frame);
-    Ok(frame)
+    match vec![in alloc; 0u8; len] {
+        Ok(cells) => Ok(cells),
+        Err(_) => Err(RunFault::Memory),
+    }
 }
 
 // Writes the line, and then the frames behind it with their planes changed.
@@ -94,14 +76,15 @@ fn run_change<R: Read, W: Write>(
         Ok(planes) => planes,
         Err(fault) => return Err(RunFault::from(fault)),
     };
-    let mut frame = match frame_buffer(alloc, &planes) {
-        Ok(frame) => frame,
+    let mut cells = match frame_buffer(alloc, &planes) {
+        Ok(cells) => cells,
         Err(fault) => return Err(fault),
     };
     if write_all(writer, ended_line).is_err() {
         return Err(RunFault::Output);
     }
-    pass_frames(reader, writer, &planes, &mut frame)
+    let mut frame_line = [0u8; LONGEST];
+    pass_frames(reader, writer, &planes, &mut frame_line, &mut cells)
 }
 
 // Writes the line with the new size, and then the frames behind it in that size.
@@ -134,8 +117,8 @@ fn run_resize<R: Read, W: Write>(
         Ok(targets) => targets,
         Err(fault) => return Err(RunFault::from(fault)),
     };
-    let mut frame = match frame_buffer(alloc, &planes) {
-        Ok(frame) => frame,
+    let mut cells = match frame_buffer(alloc, &planes) {
+        Ok(cells) => cells,
         Err(fault) => return Err(fault),
     };
     let mut other = match other_buffer(alloc, &targets) {
@@ -149,7 +132,16 @@ fn run_resize<R: Read, W: Write>(
     if write_all(writer, &head).is_err() {
         return Err(RunFault::Output);
     }
-    resize_frames(reader, writer, &planes, &targets, &mut frame, &mut other)
+    let mut frame_line = [0u8; LONGEST];
+    resize_frames(
+        reader,
+        writer,
+        &planes,
+        &targets,
+        &mut frame_line,
+        &mut cells,
+        &mut other,
+    )
 }
 
 // The run, without what it hides.

@@ -1,5 +1,5 @@
 -- Each frame that was read is written with its planes changed.
-use Rattle.std.proofs.Common.{◌≡◌, ◌+◌, List, length, map, arith, sym, ◌∙◌}
+use Rattle.std.proofs.Common.{◌≡◌, List, map, take, arith, sym, ap, ◌∙◌, ◌++◌, length}
 use Rattle.image_planes.specs.Changes.{Job, jobs_len, changed_planes}
 use Rattle.image_planes.specs.Planes.{job_of}
 use Rattle.std.proofs.lemmas.Grind.{common_steps}
@@ -10,17 +10,19 @@ use Rattle.imgref_frames.proofs.frames.pass_frames.Goals as goal
 pub returns-then-is_err-clause-passes : goal.returns-then-is_err-clause-passes
 returns-then-is_err-clause-passes g c =
     let jobs : List Job = map job_of c.args.planes.now in
-    let long : length c.loop-number.frame ≡ 6 + jobs_len jobs = omega arith in
-    part_more (jobs_len jobs) (λ number. changed_planes number jobs) c.loop-number.number (length c.loop-number.frame) _ _ _ _ _ _ c.read_frame.new.frame c.change_frame.new.frame c.loop-number.invariant.passed (rw c.in-Ok-Frame.field-0-is at c.in-Ok-Frame.ensures.found) long c.change_frame.ensures
-    (at_err c.write_all.result (sym c.is_err.ensures.value ∙ c.if-is_err.true) c.write_all.ensures.beginning)
+    let found = rw c.in-Ok-Frame.field-0-is at c.in-Ok-Frame.ensures.found in
+    let long : length c.read_frame.new.cells ≡ jobs_len jobs = omega arith in
+    part_more (jobs_len jobs) (λ number. changed_planes number jobs) c.loop-number.number c.in-Ok-Frame.len _ _ _ _ _ _ c.read_frame.new.line c.read_frame.new.cells _ c.loop-number.invariant.passed found long (ap (λ l. take c.in-Ok-Frame.len c.read_frame.new.line ++ l) c.change_planes.ensures)
+    (at_err c.write_frame.result (sym c.is_err.ensures.value ∙ c.if-is_err.true) c.write_frame.ensures.beginning)
 
 pub loop-number-preserved : goal.loop-number-preserved
 loop-number-preserved g c =
     let jobs : List Job = map job_of c.args.planes.now in
-    let long : length c.loop-number.frame ≡ 6 + jobs_len jobs = omega arith in
+    let found = rw c.in-Ok-Frame.field-0-is at c.in-Ok-Frame.ensures.found in
+    let long : length c.read_frame.new.cells ≡ jobs_len jobs = omega arith in
     record {
-      passed = one_more (jobs_len jobs) (λ number. changed_planes number jobs) c.loop-number.number (length c.loop-number.frame) _ _ _ _ _ _ c.read_frame.new.frame c.change_frame.new.frame c.loop-number.invariant.passed (rw c.in-Ok-Frame.field-0-is at c.in-Ok-Frame.ensures.found) long c.change_frame.ensures
-          (at_ok c.write_all.result (sym c.is_err.ensures.value ∙ c.if-is_err.false) c.write_all.ensures.whole);
+      passed = one_more (jobs_len jobs) (λ number. changed_planes number jobs) c.loop-number.number c.in-Ok-Frame.len _ _ _ _ _ _ c.read_frame.new.line c.read_frame.new.cells _ c.loop-number.invariant.passed found long (ap (λ l. take c.in-Ok-Frame.len c.read_frame.new.line ++ l) c.change_planes.ensures)
+          (at_ok c.write_frame.result (sym c.is_err.ensures.value ∙ c.if-is_err.false) c.write_frame.ensures.whole);
       read = grind (arith, common_steps);
       written = grind (arith, common_steps);
     }
