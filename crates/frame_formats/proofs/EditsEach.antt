@@ -1,13 +1,17 @@
 -- Edits that are taken from words one after the other.
-use Rattle.std.proofs.Common.{◌≡◌, ℕ, ◌<◌, List, [], ◌∷◌, ◌++◌, Option, Some, None, length, drop, refl, sym, ap, ◌∙◌, subst, arith, append_assoc}
+use Rattle.std.proofs.Common.{◌≡◌, ℕ, ◌<◌, List, [], ◌∷◌, ◌++◌, Option, Some, None, true, false, eqb, length, drop, refl, sym, ap, ◌∙◌, subst, arith, append_assoc, inl, inr}
 use Rattle.std.specs.List.{flat_map}
 use Rattle.std.specs.Option.{option_map}
 use Rattle.std.proofs.lemmas.List.{append-nil}
+use Rattle.std.proofs.lemmas.Bool.Decides.{eqb_tells}
 use Rattle.text_model.proofs.Options.{some_is, map_some}
 use Rattle.image_planes.specs.declared.change.Step.{Step}
 use Rattle.frame_formats.specs.declared.framing.Framing.{Framing}
 use Rattle.frame_formats.specs.declared.words.Edits.{Edits}
-use Rattle.frame_formats.specs.Lists.{AreEdits, Adds, framing_after}
+use Rattle.frame_formats.specs.Lists.{AreEdits, Adds, framing_after, with_one, with_line, with_lines, plain}
+use Rattle.frame_formats.specs.Recipe.{edits, Edits as Plain}
+use Rattle.text_model.specs.Parts.{parts_of}
+use Rattle.text_model.specs.Reading.{◌>>=◌}
 use Rattle.frame_formats.specs.Words.{Named, edit_at, with_edit}
 
 -- what is known of edits before and after one was taken from words
@@ -47,3 +51,52 @@ edits_left words old mid n (e ∷ es) taken some are =
 pub none_at : (words : List (List ℕ)) (old : Edits) (es : List Named) → (old.framing ≡ None → edit_at words ≡ None) → 0 < length words → AreEdits es old.framing words → ⊥
 none_at words old [] none some are = let empty : length words ≡ 0 = ap length are in absurd (omega (arith, empty, some))
 none_at words old (e ∷ es) none some are = let bad : Some e ≡ None = sym are.1 ∙ none are.0 in absurd cc
+
+-- ---- words that are one edit
+
+same_eqb : (a b : ℕ) → a ≡ b → eqb a b ≡ true
+same_eqb a b e = elim (eqb_tells a b) [ inl t ↦ t.0 | inr t ↦ absurd (t.1 e) ]
+
+other_eqb : (a b : ℕ) → (a ≡ b → ⊥) → eqb a b ≡ false
+other_eqb a b e = elim (eqb_tells a b) [ inl t ↦ absurd (e t.1) | inr t ↦ t.0 ]
+
+-- the edit at the front was taken, and it has all words
+pub one_taken : (words : List (List ℕ)) (old new : Edits) (n : ℕ) → Taken words old new n → old.framing ≡ None → n ≡ length words → with_one (plain old) words ≡ Some (plain new)
+one_taken words old new n taken first all =
+    let m = map_some (edit_at words) (with_edit old.steps.items) (new.steps.items, (new.framing, n)) taken in
+    let e : Named = m.0 in
+    let count : e.count ≡ length words = ap (λ (t : List Step × (Option Framing × ℕ)). t.1.1) m.2 ∙ all in
+    let tested : eqb e.count (length words) ≡ true = same_eqb e.count (length words) count in
+    rw (first, m.1, tested) (λ i. Some (edits (m.2 i).0 (m.2 i).1.0))
+
+-- it has fewer
+pub fewer_taken : (words : List (List ℕ)) (old new : Edits) (n : ℕ) → Taken words old new n → old.framing ≡ None → (n ≡ length words → ⊥) → with_one (plain old) words ≡ None
+fewer_taken words old new n taken first fewer =
+    let m = map_some (edit_at words) (with_edit old.steps.items) (new.steps.items, (new.framing, n)) taken in
+    let e : Named = m.0 in
+    let count : e.count ≡ n = ap (λ (t : List Step × (Option Framing × ℕ)). t.1.1) m.2 in
+    let tested : eqb e.count (length words) ≡ false = other_eqb e.count (length words) (λ same. fewer (sym count ∙ same)) in
+    rw (first, m.1, tested) refl
+
+-- there is none, or one would stand behind a crop or a pad
+pub none_taken : (words : List (List ℕ)) (old : Edits) → (old.framing ≡ None → edit_at words ≡ None) → with_one (plain old) words ≡ None
+none_taken words old none = by_framing old.framing refl where
+  by_framing : (f : Option Framing) → old.framing ≡ f → with_one (plain old) words ≡ None
+  by_framing None e = rw (e, none e) refl
+  by_framing (Some f) e = rw e refl
+
+-- ---- lines
+
+pub some_line : (old : Plain) (line : List ℕ) → (length line ≡ 0 → ⊥) → with_line old line ≡ with_one old (parts_of 32 line)
+some_line old [] some = absurd (some refl)
+some_line old (b ∷ line) some = refl
+
+pub no_line : (old : Plain) (line : List ℕ) → length line ≡ 0 → with_line old line ≡ Some old
+no_line old [] none = refl
+no_line old (b ∷ line) none = absurd (omega (arith, none))
+
+pub one_line_more : (old mid : Plain) (line : List ℕ) (left lines : List (List ℕ)) → left ≡ line ∷ lines → with_line old line ≡ Some mid → with_lines mid lines ≡ with_lines old left
+one_line_more old mid line left lines is taken = sym (ap (with_lines old) is ∙ ap (λ (o : Option Plain). o >>= λ new. with_lines new lines) taken)
+
+pub bad_line : (old : Plain) (line : List ℕ) (left lines : List (List ℕ)) → left ≡ line ∷ lines → with_line old line ≡ None → with_lines old left ≡ None
+bad_line old line left lines is none = ap (with_lines old) is ∙ ap (λ (o : Option Plain). o >>= λ new. with_lines new lines) none

@@ -1,6 +1,10 @@
--- Which edits a list of words is.
-use Rattle.std.specs.Prelude.{◌≡◌, ℕ, List, [], ◌∷◌, ◌++◌, Option, Some, None, drop}
+-- Which edits a list of words is, and which the lines of a file are.
+use Rattle.std.specs.Prelude.{◌≡◌, ◌==◌, ℕ, List, [], ◌∷◌, ◌++◌, Option, Some, None, drop, length, if◌then◌else◌}
 use Rattle.std.specs.List.{flat_map}
+use Rattle.std.specs.Option.{is_none, option_map}
+use Rattle.text_model.specs.Parts.{parts_of}
+use Rattle.text_model.specs.Reading.{◌>>=◌, is_nil}
+use Rattle.frame_formats.specs.Recipe.{edits, Edits as Plain}
 use Rattle.frame_formats.specs.Words.{Named, edit_at}
 use Rattle.frame_formats.specs.declared.framing.Framing.{Framing}
 use Rattle.frame_formats.specs.declared.words.Edits.{Edits}
@@ -25,3 +29,26 @@ pub record Adds (words : List (List ℕ)) (old new : Edits) : Type 0 where
 -- words are no edits
 abbrev pub AddsNone : List (List ℕ) → Edits → Type 0
 AddsNone words old = (edits : List Named) → AreEdits edits old.framing words → ⊥
+
+-- ---- lines
+
+-- the edit that words are, all of them
+abbrev pub edit_of : List (List ℕ) → Option Named
+edit_of words = edit_at words >>= λ e. if e.count == length words then Some e else None
+
+-- edits with one more, where there is no crop or pad yet
+abbrev pub with_one : Plain → List (List ℕ) → Option Plain
+with_one old words = if is_none old.framing then option_map (λ e. edits (old.steps ++ e.steps) e.framing) (edit_of words) else None
+
+-- edits with the one that a line is, its words with one space between two; an empty line is none
+abbrev pub with_line : Plain → List ℕ → Option Plain
+with_line old line = if is_nil line then Some old else with_one old (parts_of 32 line)
+
+-- edits with those that lines are, one after the other
+abbrev pub with_lines : Plain → List (List ℕ) → Option Plain
+with_lines old [] = Some old
+with_lines old (line ∷ lines) = with_line old line >>= λ new. with_lines new lines
+
+-- edits of the code as the definitions see them
+abbrev pub plain : Edits → Plain
+plain e = edits e.steps.items e.framing

@@ -2,12 +2,13 @@
 
 ghost use Rattle.std.specs.Prelude.{◌≡◌, ◌<◌, ◌≤◌, ◌++◌, map, [], Some, None, IfOk, IfErr, OnOk, IfSome, length};
 ghost use Rattle.std.specs.Option.{option_map};
-ghost use Rattle.frame_formats.specs.Lists.{Adds, AddsNone};
+ghost use Rattle.text_model.specs.Parts.{parts_of};
+ghost use Rattle.frame_formats.specs.Lists.{Adds, AddsNone, with_one, with_line, with_lines, plain};
 ghost use Rattle.frame_formats.specs.Words.{pair_of, change_of, pad_of, span_of, framing_at, step_at, ranged_at, edit_at, with_edit};
 
 use crate::framing::Framing;
 use image_planes::{Change, Step, Window};
-use std::alloc::Global;
+use std::alloc::{AllocError, Global};
 use texts::{Field, Parts, next};
 
 // Two numbers with a comma between them.
@@ -121,6 +122,18 @@ fn read_ranged(words: &[&[u8]]) -> Option<(Step, usize)>
     }
 }
 
+// The words of a line, with one space between two.
+fn words_of<'a>(alloc: Global, line: &'a [u8]) -> Result<Vec<&'a [u8]>, AllocError>
+    ensures { IfOk result (λ words. map (λ w. w.now) words.items ≡ parts_of 32 line.now) }
+{
+    let mut words = Vec::new(alloc);
+    let mut parts = Parts::new(line, b' ');
+    while let Some(word) = parts.next_part() {
+        words.push(word)?;
+    }
+    Ok(words)
+}
+
 /// What words say is done to a video: steps in their order, and then what becomes of the size.
 #[derive(Drop)]
 pub struct Edits {
@@ -194,6 +207,57 @@ impl Edits {
         while at < words.len() {
             match self.take(&words[at..]) {
                 Ok(count) => at += count,
+                Err(fault) => return Err(fault),
+            }
+        }
+        Ok(())
+    }
+
+    // Adds the one edit that all of the words are.
+    fn take_one(&mut self, words: &[&[u8]]) -> Result<(), WordsFault>
+        ensures taken { OnOk result (with_one (plain self.old) (map (λ w. w.now) words.now) ≡ Some (plain self.new)) }
+        ensures none { IfErr result (λ e. e ≡ WordsFault.NoEdit → with_one (plain self.old) (map (λ w. w.now) words.now) ≡ None) }
+    {
+        match self.take(words) {
+            Ok(count) => {
+                if count == words.len() {
+                    Ok(())
+                } else {
+                    Err(WordsFault::NoEdit)
+                }
+            }
+            Err(fault) => Err(fault),
+        }
+    }
+
+    // Adds the edit that a line is.
+    fn take_line(&mut self, alloc: Global, line: &[u8]) -> Result<(), WordsFault>
+        ensures taken { OnOk result (with_line (plain self.old) line.now ≡ Some (plain self.new)) }
+        ensures none { IfErr result (λ e. e ≡ WordsFault.NoEdit → with_line (plain self.old) line.now ≡ None) }
+    {
+        if line.is_empty() {
+            return Ok(());
+        }
+        match words_of(alloc, line) {
+            Ok(words) => self.take_one(&words),
+            Err(_) => Err(WordsFault::Memory),
+        }
+    }
+
+    /// Adds the edits that the lines of a text are, one a line, with one space between two words.
+    /// An empty line is none.
+    ///
+    /// # Errors
+    ///
+    /// `NoEdit` where a line isn't one edit, or would stand behind a crop or a pad.
+    pub fn take_lines(&mut self, alloc: Global, text: &[u8]) -> Result<(), WordsFault>
+        ensures taken { OnOk result (with_lines (plain self.old) (parts_of 10 text.now) ≡ Some (plain self.new)) }
+        ensures none { IfErr result (λ e. e ≡ WordsFault.NoEdit → with_lines (plain self.old) (parts_of 10 text.now) ≡ None) }
+    {
+        let mut lines = Parts::new(text, b'\n');
+        while let Some(line) = lines.next_part() {
+            match self.take_line(alloc, line) {
+                Ok(()) => {}
                 Err(fault) => return Err(fault),
             }
         }
