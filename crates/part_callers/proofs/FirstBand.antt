@@ -21,7 +21,7 @@ use Rattle.imgref.specs.Image.{buf_of, width_of, height_of, layout_by, mut_layou
 use Rattle.image_tiles.specs.declared.bands.Lines.{Lines}
 use Rattle.image_tiles.specs.declared.bands.BandsMut.{BandsMut}
 use Rattle.image_tiles.specs.Bands.{bands, band_count, band_window, bands_left, cells_left, lines_left, all_lines, put_back, Moves}
-use Rattle.part_callers.proofs.Whole.{all_replaced}
+use Rattle.imgref_callers.proofs.Replaced.{new_layout}
 use Rattle.part_callers.specs.Bands.{HasFirstBand}
 
 -- the first item, or this one
@@ -129,4 +129,4 @@ module _ {C T : Type 0} (cells : C → List T) (with_cells : C → Stretch → L
     (others_stay : (c : C) (s : Stretch) (ws : List T) → s.start + s.len ≤ length (cells c) → length ws ≡ s.len → cells (with_cells c s ws) ≡ with_stretch (cells c) s ws)
     (i : Img C) (bh : ℕ) (value : T) (zs : List T) (has : HasFirstBand (layout_by cells i) bh value (record (layout_by cells i) { cells = zs })) where
   pub in_image : HasFirstBand (layout_by cells i) bh value (layout_by cells (with_all cells with_cells i zs))
-  in_image = subst (HasFirstBand (layout_by cells i) bh value) (sym (all_replaced cells with_cells others_stay i zs has.outside.length_stays)) has
+  in_image = subst (HasFirstBand (layout_by cells i) bh value) (sym (new_layout cells with_cells others_stay i (with_all cells with_cells i zs) zs refl has.outside.length_stays)) has

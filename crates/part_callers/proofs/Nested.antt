@@ -1,5 +1,5 @@
 -- The window that a path comes to: what is written in its cells is in the image at the path's corner.
-use Rattle.std.proofs.Common.{◌≡◌, ◌+◌, ◌≤◌, List, length, sym, ap, ◌∙◌, subst}
+use Rattle.std.proofs.Common.{◌≡◌, ◌+◌, ◌≤◌, List, length, refl, sym, ap, ◌∙◌, subst}
 use Rattle.std.specs.Prelude.{None}
 use Rattle.image_model.specs.Grid.{grid_of}
 use Rattle.image_model.specs.Layout.{Layout, Fits, SameOutside}
@@ -9,7 +9,7 @@ use Rattle.image_model.proofs.Stretches.{length-stretch_cells, length-with_stret
 use Rattle.image_model.proofs.Windows.{HasWindow, stretch_window, handed_on, handed_on_grid, handed_on_outside}
 use Rattle.imgref.specs.declared.img.Img.{Img}
 use Rattle.imgref.specs.Image.{width_of, height_of, stride_of, layout_by}
-use Rattle.part_callers.proofs.Whole.{all_replaced}
+use Rattle.imgref_callers.proofs.Replaced.{new_layout}
 use Rattle.part_callers.specs.Paths.{with_path, IsNested}
 
 module _ {C T : Type 0} (cells : C → List T) (with_cells : C → Stretch → List T → C)
@@ -41,7 +41,8 @@ module _ {C T : Type 0} (cells : C → List T) (with_cells : C → Stretch → L
     as_many = same.length_stays ∙ length-stretch_cells l.cells s has.within
 
     handed : layout_by cells (with_path cells with_cells i path left) ≡ handed_on l s left
-    handed = all_replaced cells with_cells others_stay i (with_stretch l.cells s left) (length-with_stretch l.cells s left has.within as_many)
+    handed =
+        new_layout cells with_cells others_stay i (with_path cells with_cells i path left) (with_stretch l.cells s left) refl (length-with_stretch l.cells s left has.within as_many)
 
   pub nested : IsNested cells with_cells i path m
   nested = record {
