@@ -46,7 +46,8 @@ pub struct Step {
     pub change: Change,
 }
 
-fn fill_window(cells: &mut [u8], shape: Shape, window: Window, value: u8)
+/// Every place of the window gets the value.
+pub(crate) fn fill_window(cells: &mut [u8], shape: Shape, window: Window, value: u8)
     requires fits { Fits (shaped cells.old shape) }
     requires inside { IsInside (shape_width shape) (shape_height shape) (as_window window) }
     ensures grid { grid_of (shaped cells.new shape) ≡ patch (grid_of (shaped cells.old shape)) window.left window.top (uniform window.width window.height value) }

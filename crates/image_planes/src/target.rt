@@ -9,9 +9,11 @@ ghost use Rattle.image_model.specs.Windows.{IsInside, is_inside, window_view};
 ghost use Rattle.imgref.specs.Image.{ref_layout, width_of, height_of};
 ghost use Rattle.imgref.specs.Shape.{shaped, shape_width, shape_height};
 ghost use Rattle.imgref.specs.Window.{as_window};
+ghost use Rattle.image_planes.specs.Surrounds.{bordered};
 ghost use Rattle.image_planes.specs.Resized.{is_resize_of, resizing_for, resized_plane, source_len, target_len};
 
-use imgref::{ImgRef, ImgRefMut, Shape, Window, fill_pixels};
+use crate::change::fill_window;
+use imgref::{ImgRef, ImgRefMut, Shape, Window};
 
 /// What becomes of the size of a plane.
 #[derive(Clone, Copy, PartialEq, Eq)]
@@ -86,6 +88,45 @@ fn crop_image(source: ImgRef<'_, u8>, window: Window, target: &mut [u8])
     );
 }
 
+// Every place beside the window gets the value: above it, below it, on its left and on its right.
+fn fill_border(cells: &mut [u8], shape: Shape, place: Window, value: u8)
+    requires fits { Fits (shaped cells.old shape) }
+    requires inside { IsInside (shape_width shape) (shape_height shape) (as_window place) }
+    ensures grid { grid_of (shaped cells.new shape) ≡ bordered (grid_of (shaped cells.old shape)) place.left place.top place.width place.height value }
+    ensures outside { SameOutside (shaped cells.old shape) (shaped cells.new shape) }
+{
+    let (width, height) = (shape.width(), shape.height());
+    let (right, bottom) = (place.left + place.width, place.top + place.height);
+    let above = Window {
+        left: 0,
+        top: 0,
+        width,
+        height: place.top,
+    };
+    fill_window(cells, shape, above, value);
+    let below = Window {
+        left: 0,
+        top: bottom,
+        width,
+        height: height - bottom,
+    };
+    fill_window(cells, shape, below, value);
+    let before = Window {
+        left: 0,
+        top: place.top,
+        width: place.left,
+        height: place.height,
+    };
+    fill_window(cells, shape, before, value);
+    let behind = Window {
+        left: right,
+        top: place.top,
+        width: width - right,
+        height: place.height,
+    };
+    fill_window(cells, shape, behind, value);
+}
+
 // The cells become the pixels of a grid of this size and value with the image at a corner.
 fn pad_image(
     source: ImgRef<'_, u8>,
@@ -106,7 +147,7 @@ fn pad_image(
     ensures { target.new ≡ grid_pixels (patch (uniform width height value) place.left place.top (grid_of (ref_layout source.entry))) }
 {
     let shape = Shape::new(width, height, width);
-    fill_pixels(target, shape, value);
+    fill_border(target, shape, place, value);
     put_image(target, shape, place, source);
 }
 
