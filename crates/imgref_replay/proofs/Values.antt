@@ -3,10 +3,9 @@ use mathlib.Core.Path.{◌≡◌, refl, ◌∙◌}
 use mathlib.Core.Logic.{◌⊎◌, inl, inr}
 use Prim.Native.Nat.{ℕ, ◌^◌, ◌<◌}
 use mathlib.Core.List.{List, [], ◌∷◌, ◌++◌}
-use mathlib.Core.Option.{some, none}
 use seplogic.Ra.Ura.{Ura}
-use base.Fml.{GName, fsep, feq, fex}
-use base.Logic.{ent, emp, id⊢}
+use base.Fml.{fsep, feq, fex}
+use base.Logic.{ent, emp}
 use mir.Syntax.{w64}
 use mir.Val.{Val, vint, vstruct, vcons, vnil, of_list}
 use types.Logic.{Logic, sem}
@@ -14,7 +13,6 @@ use types.Kit.{‵, ◌$◌, ◌∵◌, !, qed, move, fjoin, fpack, feq_i, done}
 use types.Match.{live}
 use denote.Builtin.{usize}
 use denote.Enum.Enum.{in_a_row}
-use denote.Follow.{follows, follows_by, follows_if}
 use denote.Laws.{Is}
 use denote.Plain.{uint_Makes}
 use denote.RattleType.{RattleType, Valss, owns}
@@ -55,17 +53,6 @@ answer_told (Err k) vs s =
     inr (k, (refl, s.1.0 ∙ (λ i. live 1 (of_list ((s.1.1.1.0 ∙ (λ j. s.1.1.1.1.0.0 j ++ [])) i)) ∷ []), s.1.1.1.1.0.1))
 
 module _ {M : Type 1} {𝓤 : Ura M} (𝓛 : Logic 𝓤) where
-  open 𝓛 use {A}
-
-  module _ (R T : RattleType) (γ : GName) (F : T.Denot → R.Denot) (v : R.Denot) where
-    pub if_some : (γ' : GName) → ent 𝓤 (sem 𝓛 (follows R T γ γ' F)) (sem 𝓛 (follows_if R T γ (some γ') F v))
-    unfolding follows_by
-    if_some γ' = id⊢ 𝓤 _
-
-    pub if_none : ent 𝓤 (A.res γ (R.coded.code v)) (sem 𝓛 (follows_if R T γ none F v))
-    unfolding follows_by
-    if_none = id⊢ 𝓤 _
-
   module _ (Row : RattleType) where
     pub ok_made : (y : Row.Denot) (w : Val) → ent 𝓤 (sem 𝓛 (Row.own_val y (w ∷ []))) (sem 𝓛 ((result.the_row Row usize).own_val (Ok y) (live 0 (vcons w vnil) ∷ [])))
     ok_made y w = qed 𝓛 (‵ (Row.own_val y (w ∷ [])) ∷ []) ∵ nothing ! $ move ! (1 ∷ 0 ∷ []) $ fjoin ! $
