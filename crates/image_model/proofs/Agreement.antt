@@ -4,7 +4,7 @@ use Rattle.std.specs.Prelude.{IsTrue}
 use Rattle.std.specs.List.{slice_get, AllZip, filter_map, flat_map, range_with_len, cons_option}
 use Rattle.std.specs.Cmp.{IsEquivalence, IsPartialEquivalence}
 use Rattle.image_model.specs.Layout.{Layout, Fits, pixel}
-use Rattle.image_model.specs.Grid.{Grid, grid, grid_of, is_place, covers, view, patch, uniform, Agree, AlikePixels}
+use Rattle.image_model.specs.Grid.{Grid, grid, grid_of, is_place, covers, view, patch, Agree, AlikePixels}
 use Rattle.image_model.specs.Rows.{row_count, rows, joined_rows, grid_row, grid_rows, grid_joined_rows}
 use Rattle.image_model.specs.Windows.{Window, path_window, path_view, window_view}
 use Rattle.image_model.proofs.Grids.{is_place_decides}
@@ -164,8 +164,3 @@ module _ {T : Type 0} (eq : T → T → Bool) where
       subst (λ o. AlikePixels eq o (pixel l x y)) one
       (subst (λ p. AlikePixels eq (slice_get (joined_rows k) (y * l.width + x)) p) (joined_pixel l.cells l.width l.height l.stride x y l_fits column line)
       (alike_at (joined_rows k) (joined_rows l) same (y * l.width + x))))
-
--- one value everywhere agrees with an equal one
-pub agree_uniform : {T : Type 0} (eq : T → T → Bool) (width height : ℕ) (a b : T) → IsTrue (eq a b) → Agree eq (uniform width height a) (uniform width height b)
-unfolding uniform
-agree_uniform eq width height a b same = agree_grid eq width width height height (λ _ _. Some a) (λ _ _. Some b) refl refl (λ _ _ _ _. same)
