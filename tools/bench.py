@@ -1,9 +1,9 @@
 #!/usr/bin/env python3
-"""Times the calls and the script program beside plain loops and calls, and draws the quotients.
+"""Times the calls and the script program beside plain loops and calls, the video program beside cat, and draws the quotients.
 
-    bench.py [--rounds N] [--sides N,..] [--pixels N] [--commands N] [--beside PROGRAM] [--crate FOLDER] [--write]
+    bench.py [--rounds N] [--sides N,..] [--pixels N] [--commands N] [--frames N] [--beside PROGRAM] [--crate FOLDER] [--write]
 
-First it proves and builds what has changed: the program, the library for C, and the crate bench_exports. All that is
+First it proves and builds what has changed: the programs, the library for C, and the crate bench_exports. All that is
 compared takes turns, and the least time of each counts. With --write the tables go into docs/PERFORMANCE.md, and the plot
 into docs/speed.svg: do that on a machine at rest. CC names the compiler for C (cc). Where there is a rustc, the loops in Rust
 are timed too, and, where a folder has the sources of the Rust crate, its calls. PROGRAM is another script program, as one
@@ -30,14 +30,11 @@ PAGE, PLOT = ROOT / "docs/PERFORMANCE.md", ROOT / "docs/speed.svg"
 BEGIN, END = "<!-- table of make bench -->", "<!-- end of the table -->"
 # The processor that rt builds for, which rustc is told too.
 RUST = ["rustc", "--edition", "2021", "-C", "opt-level=3", "-C", "target-cpu=x86-64-v2", "-C", "panic=abort", "-C", "codegen-units=1"]
-# How often each program runs on each script.
+# How often each program runs on each script and each video.
 RUNS = 7
-
-
-def sources_of(folder):
-    """The files of the Rust crate in a folder by their names, as src/lib.rs or as src--lib.rs.txt."""
-    found = {it.name: it for it in folder.glob("src/*.rs")}
-    return found or {it.name.removeprefix("src--").removesuffix(".txt"): it for it in folder.glob("src--*.rs.txt")}
+# How many bytes the planes of a frame have: 1920 by 1080 of brightness, and half as many of chroma.
+CELLS = 1920 * 1080 * 3 // 2
+EDITS = ("fill 64,48,320,160 16", "mosaic 64,48,320,160 16,16", "move 64,48,320,160 800,400", "crop 320,180,1280,720", "pad 0,60,0,60 16")
 
 
 def rust(crate):
@@ -45,15 +42,12 @@ def rust(crate):
     if not shutil.which("rustc"):
         say("no rustc: the columns of Rust stay empty")
         return []
-    beside, sources = [], sources_of(crate)
-    if "lib.rs" in sources:
-        (OUT / "crate").mkdir(exist_ok=True)
-        for name, source in sources.items():
-            shutil.copyfile(source, OUT / "crate" / name)
-        command(*RUST, "--cap-lints", "allow", "--crate-type", "rlib", "--crate-name", "imgref", "--cfg", 'feature="deprecated"', "-o", OUT / "libimgref.rlib", OUT / "crate/lib.rs")
+    beside = []
+    if crate:
+        command(*RUST, "--cap-lints", "allow", "--crate-type", "rlib", "--crate-name", "imgref", "--cfg", 'feature="deprecated"', "-o", OUT / "libimgref.rlib", crate / "src/lib.rs")
         beside = ["--cfg", "beside_crate", "--extern", f"imgref={OUT / 'libimgref.rlib'}"]
     else:
-        say(f"no sources of the Rust crate in {crate}: its column stays empty")
+        say("no --crate with the sources of the Rust crate: its column stays empty")
     command(*RUST, "--crate-type", "staticlib", *beside, "-o", OUT / "libspeed.a", ROOT / "bench/speed.rs")
     # (named nowhere else but weakly, so the linker is told that one of them is needed)
     return ["-Wl,-u,rust_u8_fill", OUT / "libspeed.a"]
@@ -62,8 +56,9 @@ def rust(crate):
 def made(crate):
     """Builds all that is timed."""
     OUT.mkdir(parents=True, exist_ok=True)
-    if built("imgref_run"):
-        raise Failure("imgref_run is not proved")
+    for program in ("imgref_run", "imgref_frames"):
+        if built(program):
+            raise Failure(f"{program} is not proved")
     c_library.build()
     exports = archive_of("bench_exports")
     speed, numbers = OUT / "speed", OUT / "numbers"
@@ -104,12 +99,19 @@ def commands(count):
     return "\n".join([*lines, ""])
 
 
+def video(count):
+    """A video of so many frames of 1920 by 1080, all of the same random bytes."""
+    frame = b"FRAME\n" + random.Random(7).randbytes(CELLS)
+    return b"YUV4MPEG2 W1920 H1080 F25:1 C420\n" + frame * count
+
+
 def written(source, text, count):
-    """Writes the text of a script, and answers its bytes. A process of its own does it: a program's most memory begins with that of
+    """Writes the text of a script or a video, and answers its bytes. A process of its own does it: a program's most memory begins with that of
     the process that starts it, which stays small so."""
     maker = os.fork()
     if not maker:
-        source.write_text(text(count))
+        made = text(count)
+        source.write_bytes(made if isinstance(made, bytes) else made.encode())
         os._exit(0)
     if os.waitpid(maker, 0)[1]:
         raise Failure(f"{source} can't be written")
@@ -138,6 +140,33 @@ def scripts(numbers, beside, asked):
         least = [min(times[k][0] for times in runs) for k in range(len(each))]
         memory = [min(times[k][1] for times in runs) for k in range(len(each))]
         yield name, size, least[0], memory[0], least[1] if plain else 0, least[-1] if beside else 0
+
+
+def passed(source, words):
+    """The wall time in seconds that a video takes through a pipe from `cat` to `cat`, with a command between them."""
+    began = time.monotonic()
+    with subprocess.Popen(["cat", source], stdout=subprocess.PIPE) as first:
+        with subprocess.Popen(words, stdin=first.stdout, stdout=subprocess.PIPE) as between:
+            with subprocess.Popen(["cat"], stdin=between.stdout, stdout=subprocess.DEVNULL) as last:
+                first.stdout.close()
+                between.stdout.close()
+                last.wait()
+    if between.returncode:
+        raise Failure(f"{words[0]} ended with status {between.returncode}")
+    return time.monotonic() - began
+
+
+def video_table(count):
+    """The edits of the video program in Markdown: frames a second, and the shares of those that pass in its place through `cat`,
+    and through `dd`, which reads a whole frame before it writes it."""
+    source = OUT / "video.y4m"
+    written(source, video, count)
+    each = [["cat"], ["dd", f"bs={CELLS + 6}", "iflag=fullblock", "status=none"], *([program_of("imgref_frames"), *edit.split()] for edit in EDITS)]
+    runs = [[passed(source, it) for it in each] for _ in range(RUNS)]
+    source.unlink()
+    cat, dd, *least = (min(times[k] for times in runs) for k in range(len(each)))
+    lines = ["| Edit of a video of 1920 by 1080 | Frames a second | of `cat` | of `dd` by frames |", "|---|---|---|---|"]
+    return "\n".join([*lines, *(f"| `{edit}` | {count / seconds:.0f} | {cat / seconds:.2f} | {dd / seconds:.2f} |" for edit, seconds in zip(EDITS, least))])
 
 
 def quotient(a, b):
@@ -191,8 +220,9 @@ def main():
     options.add_argument("--sides", default="16,64,512,2048")
     options.add_argument("--pixels", type=int, default=3_000_000)
     options.add_argument("--commands", type=int, default=400_000)
+    options.add_argument("--frames", type=int, default=100)
     options.add_argument("--beside", metavar="PROGRAM")
-    options.add_argument("--crate", metavar="FOLDER", type=pathlib.Path, default=ROOT.parent / "shared/upstream")
+    options.add_argument("--crate", metavar="FOLDER", type=pathlib.Path)
     options.add_argument("--write", action="store_true")
     asked = options.parse_args()
     sides = [int(it) for it in asked.sides.split(",")]
@@ -200,7 +230,7 @@ def main():
     speed, numbers = made(asked.crate)
     began_timing = time.time()
     rows = calls(speed, asked.rounds, sides)
-    found = f"{table(rows, sides)}\n\n{script_table([*scripts(numbers, asked.beside, asked)], bool(asked.beside))}"
+    found = "\n\n".join([table(rows, sides), script_table([*scripts(numbers, asked.beside, asked)], bool(asked.beside)), video_table(asked.frames)])
     print(found)
     (OUT / "speed.svg").write_text(plot(rows, sides))
     say(f"{time.time() - began:.0f} s, {time.time() - began_timing:.0f} of them timing; the plot is in {(OUT / 'speed.svg').relative_to(ROOT)}")
