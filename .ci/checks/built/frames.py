@@ -146,6 +146,22 @@ def by_ffmpeg(cases, program):
             count_tries(cases, f"{words} is the model's on {pixels}", program, [(words.split(), made)])
 
 
+def by_h264(cases, program):
+    """The pipe of docs/FRAMES.md, from H.264 to H.264 with no loss in either."""
+    lossless = "-c:v libx264 -qp 0 -pix_fmt yuv420p"
+
+    def decoded(file):
+        made = subprocess.run(["ffmpeg", "-v", "error", "-i", file, "-f", "yuv4mpegpipe", "-"], capture_output=True, check=True, timeout=120).stdout
+        return made, made.index(b"\n")
+
+    with tempfile.TemporaryDirectory() as folder:
+        first, last = f"{folder}/in.mp4", f"{folder}/out.mp4"
+        subprocess.run(["sh", "-c", f"ffmpeg -v error -f lavfi -i testsrc2=size=128x96:rate=5:duration=1 {lossless} {first}"], check=True, timeout=120)
+        subprocess.run(["sh", "-c", f"ffmpeg -v error -i {first} -f yuv4mpegpipe - | {program} {FILL} | ffmpeg -v error -i - {lossless} {last}"], check=True, timeout=120)
+        (given, line), (found, found_line) = decoded(first), decoded(last)
+    cases.count("H.264 goes through the pipe", found[found_line:] == wanted(given, FILL.split())[0][line:])
+
+
 def by_netpbm(cases, program):
     """Edits of one frame without chroma, beside the tools for pictures of that name."""
     made = video("mono", frames=1)
@@ -187,6 +203,7 @@ def main():
         by_words(cases, str(program))
         if shutil.which("ffmpeg"):
             by_ffmpeg(cases, str(program))
+            by_h264(cases, str(program))
         if shutil.which("pamcut"):
             by_netpbm(cases, str(program))
         if shutil.which("parallel"):
