@@ -1,21 +1,15 @@
--- Machine values that the walk of `split_end` handles: of a declared type, and of an iterator for writing. Assumes `Logic`.
-use mathlib.Core.Path.{refl, subst}
+-- Machine values of an iterator for writing: its slice, and it made again. Assumes `Logic`.
 use mathlib.Core.List.{List, [], ◌∷◌}
 use seplogic.Ra.Ura.{Ura}
 use base.Logic.{ent}
 use mir.Val.{Val}
 use types.Logic.{Logic, sem}
-use types.Kit.{‵, ◌$◌, ◌∵◌, !, qed, move, keep, drop, fjoin, fpack, fpick, fsplit, feq_i, rewrite, done}
-use denote.Laws.{Is, Typed, shows}
-use denote.Lowered.{Lowered}
-use denote.Model.Fixed.{row_Makes}
+use denote.Laws.{Is}
 use denote.Param.Laws.{Laws}
-use denote.RattleType.{RattleType, Valss}
+use denote.RattleType.{RattleType}
 use denote.Ref.{NamedLft}
 use denote.Slice.{MutSlice}
-use denote.Steps.{nothing, owned, peeks}
-use denote.Struct.Declared.{shape}
-use denote.Struct.Struct.{within}
+use Rattle.lending.proofs.Declared.{plain_made, held_cells, held_again}
 use Rattle.lending.proofs.Options.{lent_val}
 use Rattle.image_rows.specs.declared.writing.RowsIterMut.{RowsIterMut}
 use Rattle.image_rows.specs.contracts.spacing.Spacing as sp
@@ -23,28 +17,9 @@ use Rattle.image_rows.specs.contracts.writing.RowsIterMut.{the_row, the_type}
 use Rattle.image_rows.proofs.spacing.Spacing.TheLaws as sp_laws
 use Rattle.image_rows.proofs.writing.RowsIterMut.TheLaws as it
 
--- of a declared type: what is related to x is its one machine value, and that has the type
-module _ (R : RattleType) (L : Laws R) (low : Lowered R) {M : Type 1} {𝓤 : Ura M} (𝓛 : Logic 𝓤) (x : R.Denot) (vs : List Val) (is : Is R x vs) where
-  pub is_low : Is R x (low.lowered x ∷ [])
-  is_low = subst (Is R x) (low.val_is x vs is) is
-
-  pub typed : Typed R.mir (low.lowered x ∷ [])
-  typed = (L.lawful 𝓛).typed x (low.lowered x ∷ []) is_low
-
--- an iterator: its slice, and it made of a slice and a spacing
 module _ (a : NamedLft) (R : RattleType) (L : Laws R) {M : Type 1} {𝓤 : Ura M} (𝓛 : Logic 𝓤) (s : RowsIterMut R.Denot) where
-  abbrev Slice : RattleType
-  Slice = MutSlice a.mir a.lft R
+  pub cells_out : (vs : List Val) → ent 𝓤 (sem 𝓛 ((the_row a R).own_val s vs)) (sem 𝓛 ((MutSlice a.mir a.lft R).own_val s.cells (lent_val s.cells ∷ [])))
+  cells_out vs = held_cells (the_type a R).name (a.mir ∷ []) (R ∷ []) a.mir a.lft R sp.the_field.row 𝓛 s.cells (sp.the_field.into s.spacing) vs
 
-  abbrev val : Val
-  val = (it.lowers a R L).lowered s
-
-  pub cells_out : (vs : List Val) → ent 𝓤 (sem 𝓛 ((the_row a R).own_val s vs)) (sem 𝓛 (Slice.own_val s.cells (lent_val s.cells ∷ [])))
-  cells_out vs = qed 𝓛 (‵ ((the_row a R).own_val s vs) ∷ []) ∵ fpick ! (λ us. fsplit ! $ drop ! $ fsplit ! $
-      peeks ! Slice (Is Slice) (shows 𝓛 Slice) s.cells us.0 (λ is. rewrite ! 0 (λ (ws : List Val). ‵ (Slice.own_val s.cells ws)) is.0.0 refl $ keep ! (0 ∷ []) $ done !))
-
-  pub cells_in : Is sp.the_row s.spacing (sp_laws.lowered s.spacing ∷ []) → ent 𝓤 (sem 𝓛 (Slice.own_val s.cells (lent_val s.cells ∷ []))) (sem 𝓛 ((the_row a R).own_val s (val ∷ [])))
-  cells_in is = qed 𝓛 (‵ (Slice.own_val s.cells (lent_val s.cells ∷ [])) ∷ []) ∵
-      nothing ! $ owned ! sp.the_row (Is sp.the_row) (row_Makes sp.the_row sp_laws.the_row_plain 𝓛) s.spacing (sp_laws.lowered s.spacing ∷ []) is $ fjoin ! $
-      move ! (1 ∷ 0 ∷ []) $ fjoin ! $ feq_i ! (List Val) (val ∷ []) (val ∷ []) refl $ fjoin ! $
-      fpack ! (Valss (Slice ∷ sp.the_field.row ∷ [])) (within (shape (the_type a R)) (s.cells, (sp.the_field.into s.spacing, tt)) (val ∷ [])) (lent_val s.cells ∷ [], (sp_laws.lowered s.spacing ∷ [], tt)) $ done !
+  pub cells_in : Is sp.the_row s.spacing (sp_laws.lowered s.spacing ∷ []) → ent 𝓤 (sem 𝓛 ((MutSlice a.mir a.lft R).own_val s.cells (lent_val s.cells ∷ []))) (sem 𝓛 ((the_row a R).own_val s ((it.lowers a R L).lowered s ∷ [])))
+  cells_in is = held_again (the_type a R).name (a.mir ∷ []) (R ∷ []) a.mir a.lft R sp.the_field.row 𝓛 s.cells (sp.the_field.into s.spacing) _ (plain_made 𝓛 sp.the_row sp_laws.the_row_plain s.spacing _ is)

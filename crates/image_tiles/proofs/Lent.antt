@@ -1,24 +1,21 @@
--- What the proof by hand of `next_tile` passes on, as machine values: a reference with a number, and what follows its answer. Assumes `Logic`.
+-- What the proof by hand of `next_tile` passes on: a reference with a number, as machine values. Assumes `Logic`.
 use mathlib.Core.Path.{◌≡◌, refl, ◌∙◌}
 use Prim.Native.Nat.{ℕ, ◌^◌, ◌<◌}
 use mathlib.Core.List.{List, [], ◌∷◌, ◌++◌}
-use mathlib.Core.Option.{some, none}
 use seplogic.Ra.Ura.{Ura}
-use base.Fml.{Lft, GName}
-use base.Logic.{ent, id⊢}
+use base.Fml.{Lft}
+use base.Logic.{ent}
 use mir.Syntax.{Lifetime, w64}
 use mir.Val.{Val, vint, vptr, vstruct, vcons, vnil, of_list}
 use types.Logic.{Logic, sem}
 use types.Kit.{‵, ◌$◌, ◌∵◌, !, qed, keep, drop, fsplit, fpick, rewrite, done}
 use denote.Builtin.{usize}
-use denote.Follow.{follows, follows_by, follows_if}
 use denote.Laws.{Is, shows}
 use denote.RattleType.{RattleType}
 use denote.Ref.{MutBor, MutRef, mut_Tells}
 use denote.Steps.{peeks}
 use denote.Struct.Tuple.{Tuple}
 
--- ---- a reference with a number
 abbrev pub counted_val : ℕ × ℕ → ℕ → Val
 counted_val p n = vstruct (vcons (vptr p.0 p.1) (vcons (vint w64 n) vnil))
 
@@ -38,15 +35,3 @@ module _ (ℓ : Lifetime) (κ : Lft) (R : RattleType) where
     pub counted_out : (x : MutBor R.Denot × ℕ) (vs : List Val) → ent 𝓤 (sem 𝓛 (Counted.own_val x vs)) (sem 𝓛 (Ref.own_val x.0 (vptr x.0.ref_ptr.0 x.0.ref_ptr.1 ∷ [])))
     counted_out x vs = qed 𝓛 (‵ (Counted.own_val x vs) ∷ []) ∵ fpick ! (λ us. fsplit ! $ drop ! $ fsplit ! $
         peeks ! Ref (Is Ref) (shows 𝓛 Ref) x.0 us.0 (λ is. rewrite ! 0 (λ (ws : List Val). ‵ (Ref.own_val x.0 ws)) (mut_Tells ℓ κ R x.0 us.0 is) refl $ keep ! (0 ∷ []) $ done !))
-
--- ---- what follows an answer
-module _ {M : Type 1} {𝓤 : Ura M} (𝓛 : Logic 𝓤) (R T : RattleType) (γ : GName) (F : T.Denot → R.Denot) (v : R.Denot) where
-  open 𝓛 use {A}
-
-  pub if_some : (γ' : GName) → ent 𝓤 (sem 𝓛 (follows R T γ γ' F)) (sem 𝓛 (follows_if R T γ (some γ') F v))
-  unfolding follows_by
-  if_some γ' = id⊢ 𝓤 _
-
-  pub if_none : ent 𝓤 (A.res γ (R.coded.code v)) (sem 𝓛 (follows_if R T γ none F v))
-  unfolding follows_by
-  if_none = id⊢ 𝓤 _

@@ -1,5 +1,5 @@
--- Machine values that the walks of bands handle: of a declared type, of an iterator, and of a band. Assumes `Logic`.
-use mathlib.Core.Path.{◌≡◌, refl, subst, ap, ◌∙◌}
+-- Machine values that the walks of bands handle: of an iterator, and of a band. Assumes `Logic`.
+use mathlib.Core.Path.{◌≡◌, ap, ◌∙◌}
 use mathlib.Core.List.{List, [], ◌∷◌, ◌++◌}
 use lib.ListN.{length}
 use base.Fml.{Lft}
@@ -9,19 +9,14 @@ use base.Logic.{ent}
 use mir.Val.{Val, WT, of_list}
 use types.Logic.{Logic, sem}
 use types.Match.{live}
-use types.Kit.{‵, ◌$◌, ◌∵◌, !, qed, move, keep, drop, fjoin, fpack, fpick, fsplit, feq_i, rewrite, done}
-use denote.Laws.{Is, Typed, shows}
-use denote.Lowered.{Lowered}
-use denote.Model.Fixed.{row_Makes}
+use denote.Laws.{Is}
 use denote.Param.Laws.{Laws}
-use denote.RattleType.{RattleType, Valss}
+use denote.RattleType.{RattleType}
 use denote.Ref.{NamedLft, MutBor}
 use denote.Slice.{MutSlice}
-use denote.Steps.{nothing, owned, peeks}
-use denote.Struct.Declared.{shape}
-use denote.Struct.Struct.{within}
 use Rattle.std.specs.Prelude.{Some}
 use Rattle.std.specs.contracts.option.Option as opt
+use Rattle.lending.proofs.Declared.{plain_made, held_cells, held_again}
 use Rattle.lending.proofs.Options.{lent_val}
 use Rattle.imgref.specs.declared.img.Img.{Img}
 use Rattle.imgref.specs.Image.{shape_of}
@@ -32,31 +27,13 @@ use Rattle.image_tiles.specs.contracts.bands.BandsMut.{the_row, the_type}
 use Rattle.image_tiles.proofs.bands.Lines.TheLaws as sp_laws
 use Rattle.image_tiles.proofs.bands.BandsMut.TheLaws as it
 
--- of a declared type: what is related to x is its one machine value, and that has the type
-module _ (R : RattleType) (L : Laws R) (low : Lowered R) {M : Type 1} {𝓤 : Ura M} (𝓛 : Logic 𝓤) (x : R.Denot) (vs : List Val) (is : Is R x vs) where
-  pub is_low : Is R x (low.lowered x ∷ [])
-  is_low = subst (Is R x) (low.val_is x vs is) is
-
-  pub typed : Typed R.mir (low.lowered x ∷ [])
-  typed = (L.lawful 𝓛).typed x (low.lowered x ∷ []) is_low
-
--- an iterator: its slice, and it made of a slice and its lines
+-- an iterator: its slice, and it made again
 module _ (a : NamedLft) (R : RattleType) (L : Laws R) {M : Type 1} {𝓤 : Ura M} (𝓛 : Logic 𝓤) (s : BandsMut R.Denot) where
-  abbrev Slice : RattleType
-  Slice = MutSlice a.mir a.lft R
+  pub cells_out : (vs : List Val) → ent 𝓤 (sem 𝓛 ((the_row a R).own_val s vs)) (sem 𝓛 ((MutSlice a.mir a.lft R).own_val s.cells (lent_val s.cells ∷ [])))
+  cells_out vs = held_cells (the_type a R).name (a.mir ∷ []) (R ∷ []) a.mir a.lft R sp.the_field.row 𝓛 s.cells (sp.the_field.into s.lines) vs
 
-  abbrev val : Val
-  val = (it.lowers a R L).lowered s
-
-  pub cells_out : (vs : List Val) → ent 𝓤 (sem 𝓛 ((the_row a R).own_val s vs)) (sem 𝓛 (Slice.own_val s.cells (lent_val s.cells ∷ [])))
-  cells_out vs = qed 𝓛 (‵ ((the_row a R).own_val s vs) ∷ []) ∵ fpick ! (λ us. fsplit ! $ drop ! $ fsplit ! $
-      peeks ! Slice (Is Slice) (shows 𝓛 Slice) s.cells us.0 (λ is. rewrite ! 0 (λ (ws : List Val). ‵ (Slice.own_val s.cells ws)) is.0.0 refl $ keep ! (0 ∷ []) $ done !))
-
-  pub cells_in : Is sp.the_row s.lines (sp_laws.lowered s.lines ∷ []) → ent 𝓤 (sem 𝓛 (Slice.own_val s.cells (lent_val s.cells ∷ []))) (sem 𝓛 ((the_row a R).own_val s (val ∷ [])))
-  cells_in is = qed 𝓛 (‵ (Slice.own_val s.cells (lent_val s.cells ∷ [])) ∷ []) ∵
-      nothing ! $ owned ! sp.the_row (Is sp.the_row) (row_Makes sp.the_row sp_laws.the_row_plain 𝓛) s.lines (sp_laws.lowered s.lines ∷ []) is $ fjoin ! $
-      move ! (1 ∷ 0 ∷ []) $ fjoin ! $ feq_i ! (List Val) (val ∷ []) (val ∷ []) refl $ fjoin ! $
-      fpack ! (Valss (Slice ∷ sp.the_field.row ∷ [])) (within (shape (the_type a R)) (s.cells, (sp.the_field.into s.lines, tt)) (val ∷ [])) (lent_val s.cells ∷ [], (sp_laws.lowered s.lines ∷ [], tt)) $ done !
+  pub cells_in : Is sp.the_row s.lines (sp_laws.lowered s.lines ∷ []) → ent 𝓤 (sem 𝓛 ((MutSlice a.mir a.lft R).own_val s.cells (lent_val s.cells ∷ []))) (sem 𝓛 ((the_row a R).own_val s ((it.lowers a R L).lowered s ∷ [])))
+  cells_in is = held_again (the_type a R).name (a.mir ∷ []) (R ∷ []) a.mir a.lft R sp.the_field.row 𝓛 s.cells (sp.the_field.into s.lines) _ (plain_made 𝓛 sp.the_row sp_laws.the_row_plain s.lines _ is)
 
 -- ---- a band: an image of lent cells
 abbrev pub band_val : {T : Type 0} → Img (MutBor (List T)) → Val

@@ -1,19 +1,12 @@
 -- The final value of one name by that of another. Assumes `Logic`.
-use mathlib.Core.Path.{refl, ap, ◌∙◌}
-use mathlib.Core.List.{List, [], ◌∷◌, ◌++◌}
+use mathlib.Core.List.{[], ◌∷◌}
 use seplogic.Ra.Ura.{Ura}
-use mir.Syntax.{Lifetime}
-use mir.Val.{Val, vptr, of_list}
 use base.Logic.{SProp, ent, emp, sep, wand, all, all_e, apply∗}
-use base.Fml.{Lft, GName, fres, feq}
-use denote.Ref.{MutRef, MutBor}
+use base.Fml.{GName, fres}
 use types.Logic.{Logic, sem}
-use types.Match.{live}
-use types.Kit.{‵, raw, ◌$◌, ◌∵◌, !, qed, by, move, drop, use1, use2, join, each, assume, fsplit, fsplit3, fjoin3, fpick, feq_l, feq_i, done}
+use types.Kit.{‵, raw, ◌$◌, ◌∵◌, !, qed, by, move, use1, use2, join, each, assume, done}
 use denote.RattleType.{RattleType}
 use denote.Follow.{follows_both, both_by}
-use Rattle.std.specs.Prelude.{Some, None}
-use Rattle.std.specs.contracts.option.Option as OP
 use Rattle.lending.specs.Endings.{ends_as}
 
 module _ {M : Type 1} {𝓤 : Ura M} (𝓛 : Logic 𝓤) where

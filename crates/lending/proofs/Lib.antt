@@ -4,3 +4,6 @@ pub mod Options
 pub mod Pairs
 pub mod Parts
 pub mod Stretches
+pub mod Bodies
+pub mod Declared
+pub mod Followed

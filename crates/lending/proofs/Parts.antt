@@ -1,8 +1,6 @@
 -- Lent cells that are cut in two, and one part again, where a piece is let go: the final cells of the whole. Assumes `Logic`.
-use mathlib.Core.Path.{◌≡◌, refl, sym, ap, ap₂, ◌∙◌}
-use Prim.Native.Nat.{ℕ}
-use lib.ListN.{take, drop as drop_list, take-append-drop}
-use mathlib.Core.List.{List, [], ◌∷◌, ◌++◌}
+use mathlib.Core.Path.{refl}
+use mathlib.Core.List.{List, [], ◌∷◌}
 use seplogic.Ra.Ura.{Ura}
 use mir.Syntax.{Lifetime}
 use mir.Val.{Val}

@@ -1,19 +1,17 @@
--- Machine values of an image that was lent in an option or a result; and what follows such an answer. Assumes `Logic`.
+-- Machine values of an image that was lent in an option or a result. Assumes `Logic`.
 use mathlib.Core.Path.{◌≡◌, refl, ap, ◌∙◌}
 use mathlib.Core.List.{List, [], ◌∷◌, ◌++◌}
 use mathlib.Core.Logic.{◌⊎◌, inl, inr}
-use mathlib.Core.Option as maybe
 use seplogic.Ra.Ura.{Ura}
 use Prim.Native.Nat.{ℕ}
-use base.Fml.{Lft, GName}
-use base.Logic.{ent, id⊢}
+use base.Fml.{Lft}
+use base.Logic.{ent}
 use mir.Syntax.{Lifetime}
 use mir.Val.{Val, of_list}
 use types.Kit.{‵, ◌$◌, ◌∵◌, !, qed, move, keep, drop, fsplit, fpick, rewrite, done}
 use types.Logic.{Logic, sem}
 use types.Match.{live}
 use denote.Builtin.{usize}
-use denote.Follow.{follows, follows_by, follows_if}
 use denote.Laws.{Is, shows}
 use denote.RattleType.{RattleType}
 use denote.Ref.{MutBor}
@@ -47,9 +45,3 @@ module _ (ℓ : Lifetime) (κ : Lft) (R : RattleType) (b : Img (MutBor (List R.D
     pub ok_image : ent 𝓤 (sem 𝓛 ((result.the_row Row usize).own_val (Ok b) (v ∷ []))) (sem 𝓛 (Row.own_val b (band_val b ∷ [])))
     ok_image = qed 𝓛 (‵ ((result.the_row Row usize).own_val (Ok b) (v ∷ [])) ∷ []) ∵ fpick ! (λ us. fsplit ! $ drop ! $ fpick ! (λ vss. fsplit ! $ drop ! $ fsplit ! $ move ! (1 ∷ []) $ drop ! $
         peeks ! Row (Is Row) (shows 𝓛 Row) b vss.0 (λ is. rewrite ! 0 (λ (ws : List Val). ‵ (Row.own_val b ws)) (img_told ℓ κ R b vss.0 is).0 refl $ keep ! (0 ∷ []) $ done !)))
-
--- what a part's lender follows, where the part was given
-module _ {M : Type 1} {𝓤 : Ura M} (𝓛 : Logic 𝓤) (R T : RattleType) (γ γ' : GName) (F : T.Denot → R.Denot) (v : R.Denot) where
-  pub if_given : ent 𝓤 (sem 𝓛 (follows_if R T γ (maybe.some γ') F v)) (sem 𝓛 (follows R T γ γ' F))
-  unfolding follows_by
-  if_given = id⊢ 𝓤 _

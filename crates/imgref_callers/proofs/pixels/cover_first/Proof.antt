@@ -8,7 +8,7 @@ use base.Fraction.{full_share}
 use base.Share
 use base.Logic.{SProp, emp, id⊢, apply∗}
 use base.Stored.{coded_list}
-use mir.Syntax.{Args, Dict, Fn, Ty, named, w64, a_type, dcons, dnil, tcons, tnil, impl}
+use mir.Syntax.{Args, Dict, Fn, Ty, named, w64, dnil, tcons, tnil, impl}
 use mir.MapTy.{inst_fn}
 use mir.Val.{Val, vint, vptr, vunit}
 use contract.BorrowLft.{◌⊑◌, ⊑_trans, meet_⊑_right}
@@ -27,7 +27,7 @@ use denote.Follow.{follows, followed}
 use denote.Laws.{shows, Is}
 use denote.Lend.{LentAgain, lends_again, comes_back, lends_ref, ref_back}
 use denote.Memory.{part_at, mem}
-use denote.Param.{param, copied, layout, bounded}
+use denote.Param.{param, copied, layout}
 use denote.Param.Laws.{param_laws, copied_laws, copied_copy}
 use denote.Param.NoDrop.{glues}
 use denote.RattleType.{RattleType, owns}
@@ -43,6 +43,7 @@ use Rattle.std.proofs.raw_atomic.Walks.{proved, leaves}
 use Rattle.image_model.specs.Layout.{Layout, Fits}
 use Rattle.image_model.specs.Grid.{grid_of}
 use Rattle.image_model.specs.Rows.{pixels, grid_pixels}
+use Rattle.lending.proofs.Bodies.{of_copied}
 use Rattle.lending.proofs.Endings.{ends_said}
 use Rattle.lending.proofs.Lifetimes.{Ends, begins}
 use Rattle.image_pixels.specs.Marks.{marks_of}
@@ -69,19 +70,10 @@ use Rattle.imgref_callers.proofs.Destruct++none.drop.Code.{code as let_go_code}
 pub cover_first_spec : {M : Type 1} → statement M
 unfolding let_go_code
 cover_first_spec 𝓤 𝓛 𝓜 𝓡 wired X Y LX LY CY gh d gs ds gc dc bm bs bc =
-    let H = 𝓛.H in
-    let En = ended X Y gh d gs ds gc dc in
-    let c = clauses X Y gh d gs ds gc dc 𝓛 𝓜.mem 𝓡.returns in
-    let args : Args = bounded (a_type ∷ a_type ∷ []) (X, (Y, tt)) (dcons d (dcons ds (dcons dc dnil))) in
-    let fn : Fn = inst_fn args compiled.function in
-    let R : RattleType = copied 1 Y in
-    let Whole : RattleType = the_row (param 0 X) in
-    let w = (copied_copy 1 Y CY).val in
-    let hs : Stays En.signature.params En.kept = (stay_ref (0 ∷ []) tt (plain (λ _. Whole)), (stay_dropped (plain (λ _. usize)) yes, (stay_dropped (plain (λ _. R)) no, tt))) in
-    let 𝓣 = tables 𝓤 H 𝓜 𝓡 𝓡.env in
-    let fm = framed 𝓤 H 𝓜 𝓣 in
-    proved 𝓛 En hs c 𝓜 𝓡 (Goes-ref 𝓛 3 0 tt (plain (λ _. Whole)), (Goes-dropped 𝓛 3 (plain (λ _. usize)) yes (λ κs x f. refl), (Goes-dropped 𝓛 3 (plain (λ _. R)) no (λ κs x f. refl), tt)))
-    (#self args) fn (compiled.unfolded 𝓤 H 𝓜 𝓡 wired (X, (Y, tt)) d ds dc)
+    let H = 𝓛.H in let 𝓣 = tables 𝓤 H 𝓜 𝓡 𝓡.env in let fm = framed 𝓤 H 𝓜 𝓣 in
+    let args : Args = of_copied X Y d ds dc in let fn : Fn = inst_fn args compiled.function in let R : RattleType = copied 1 Y in let Whole : RattleType = the_row (param 0 X) in let w = (copied_copy 1 Y CY).val in
+    let En = ended X Y gh d gs ds gc dc in let c = clauses X Y gh d gs ds gc dc 𝓛 𝓜.mem 𝓡.returns in let hs : Stays En.signature.params En.kept = (stay_ref (0 ∷ []) tt (plain (λ _. Whole)), (stay_dropped (plain (λ _. usize)) yes, (stay_dropped (plain (λ _. R)) no, tt))) in
+    proved 𝓛 En hs c 𝓜 𝓡 (Goes-ref 𝓛 3 0 tt (plain (λ _. Whole)), (Goes-dropped 𝓛 3 (plain (λ _. usize)) yes (λ κs x f. refl), (Goes-dropped 𝓛 3 (plain (λ _. R)) no (λ κs x f. refl), tt))) (#self args) fn (compiled.unfolded 𝓤 H 𝓜 𝓡 wired (X, (Y, tt)) d ds dc)
     (λ κs. (mut_vals, (uint_vals w64, ((λ x. w x ∷ []), tt)))) (λ κs. (mut_Tells (named 0) κs.0 Whole, (uint_Tells w64, ((copied_copy 1 Y CY).tells, tt)))) (λ κs qs bounds a gg are.
     let κ₀ : Lft = κs.0 in let κ₁ : Lft = κs.1.0 in let κ₂ : Lft = κs.1.1.0 in let q₀ : Share = qs.0 in let q₁ : Share = qs.1.0 in let q₂ : Share = qs.1.1.0 in
     let x : MutBor (Img X.Denot) = a.0 in let count : ℕ = a.1.0 in let low_count : count < 2 ^ 64 = are.1.0.1 in let value : Y.Denot = a.1.1.0 in let v : Val = w value in

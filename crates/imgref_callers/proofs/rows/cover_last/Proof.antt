@@ -1,6 +1,6 @@
 -- `cover_last` lends the image to an iterator and the iterator to `next_back`, fills the last row and lets the others go: the image ends as its cells do. Assumes `Logic`.
 use mathlib.Core.Path.{◌≡◌, refl, sym, ap, subst}
-use Prim.Native.Nat.{ℕ, zero, suc, ◌^◌, ◌<◌}
+use Prim.Native.Nat.{ℕ, ◌^◌, ◌<◌}
 use mathlib.Core.List.{List, [], ◌∷◌}
 use lib.ListN.{length, replicate}
 use lib.Dec.{T, lit<}
@@ -9,7 +9,7 @@ use base.Fml.{Lft, GName, Share, feq, ftrue, fdead, fres, fat, flft, flent}
 use base.Share
 use base.Logic.{SProp, ent, emp, id⊢, apply∗}
 use types.Logic.{sem}
-use mir.Syntax.{Args, Body, Fn, Local, Ty, local, named, ty_unit, a_type, dcons, dnil, skip, seq, switch, arm}
+use mir.Syntax.{Args, Body, Fn, Ty, named, ty_unit, skip}
 use mir.MapTy.{inst_fn}
 use mir.Val.{Val, WT, has_ty, vptr, vunit, of_list}
 use prog.Wp.{Wp, after_seq, at_return}
@@ -31,7 +31,7 @@ use denote.Lend.{LentAgain, lends_again, comes_back, lends_ref, ref_back}
 use denote.Memory.{part_at, mem}
 use borrow.Table.OneValue.{part_in_at, part_out_at}
 use types.SemTy.{Body as BorBody}
-use denote.Param.{param, copied, bounded}
+use denote.Param.{param, copied}
 use denote.Param.Laws.{param_laws, copied_laws, copied_copy}
 use denote.RattleType.{RattleType, owns}
 use denote.Ref.{MutBor, MutRef, mut_vals, mut_Tells}
@@ -52,6 +52,8 @@ use Rattle.image_model.specs.Layout.{Layout, Fits}
 use Rattle.image_model.specs.Grid.{grid_of}
 use Rattle.image_model.specs.Rows.{rows, row_count, grid_rows}
 use Rattle.imgref.specs.Image.{with_all, layout_by}
+use Rattle.lending.proofs.Bodies.{of_copied, first_arm, type_of}
+use Rattle.lending.proofs.Declared.{typed}
 use Rattle.lending.specs.Endings.{ends_as}
 use Rattle.lending.proofs.Endings.{ends_beside, ends_said}
 use Rattle.lending.proofs.Lifetimes.{Ends, begins}
@@ -61,7 +63,7 @@ use Rattle.image_rows.specs.declared.ends.End.TheVariants.{Last}
 use Rattle.image_rows.specs.declared.writing.RowsIterMut.{RowsIterMut}
 use Rattle.image_rows.specs.contracts.writing.RowsIterMut as P
 use Rattle.image_rows.proofs.writing.RowsIterMut.TheLaws as laws
-use Rattle.image_rows.proofs.Values.{typed, cells_out}
+use Rattle.image_rows.proofs.Values.{cells_out}
 use Rattle.image_rows.specs.contracts.writing.RowsIterMut.next_back as N
 use Rattle.image_rows.proofs.writing.RowsIterMut.next_back.Met as stepping
 use Rattle.imgref.specs.Rows.{whole_spacing, cells_left, spacing_left, muts_left, name_of, put_back, hands_on, Yields, Moves}
@@ -78,32 +80,12 @@ use Rattle.imgref_callers.specs.contracts.rows.cover_last.Key.{name as #self}
 use Rattle.imgref_callers.proofs.rows.cover_last.Statement.{statement}
 use Rattle.imgref_callers.proofs.rows.cover_last.Code as compiled
 
--- the first arm of a switch
-abbrev first_arm : Body → Body
-first_arm (seq (switch c (arm ks b others)) rest) = b
-first_arm _ = skip
-
--- the type of a local
-abbrev type_of : ℕ → List Local → Ty
-type_of n [] = ty_unit
-type_of zero (local ty kind ∷ others) = ty
-type_of (suc n) (one ∷ others) = type_of n others
-
 pub cover_last_spec : {M : Type 1} → statement M
 cover_last_spec 𝓤 𝓛 𝓜 𝓡 wired X Y LX LY CY gh d gs ds gc dc bm bs bc =
-    let H = 𝓛.H in
-    let En = ended X Y gh d gs ds gc dc in
-    let c = clauses X Y gh d gs ds gc dc 𝓛 𝓜.mem 𝓡.returns in
-    let args : Args = bounded (a_type ∷ a_type ∷ []) (X, (Y, tt)) (dcons d (dcons ds (dcons dc dnil))) in
-    let fn : Fn = inst_fn args compiled.function in
-    let R : RattleType = copied 1 Y in
-    let Whole : RattleType = the_row (param 0 X) in
-    let w = (copied_copy 1 Y CY).val in
-    let hs : Stays En.signature.params En.kept = (stay_ref (0 ∷ []) tt (plain (λ _. Whole)), (stay_dropped (plain (λ _. R)) no, tt)) in
-    let 𝓣 = tables 𝓤 H 𝓜 𝓡 𝓡.env in
-    let fm = framed 𝓤 H 𝓜 𝓣 in
-    proved 𝓛 En hs c 𝓜 𝓡 (Goes-ref 𝓛 3 0 tt (plain (λ _. Whole)), (Goes-dropped 𝓛 3 (plain (λ _. R)) no (λ κs x f. refl), tt))
-    (#self args) fn (compiled.unfolded 𝓤 H 𝓜 𝓡 wired (X, (Y, tt)) d ds dc)
+    let H = 𝓛.H in let 𝓣 = tables 𝓤 H 𝓜 𝓡 𝓡.env in let fm = framed 𝓤 H 𝓜 𝓣 in
+    let args : Args = of_copied X Y d ds dc in let fn : Fn = inst_fn args compiled.function in let R : RattleType = copied 1 Y in let Whole : RattleType = the_row (param 0 X) in let w = (copied_copy 1 Y CY).val in
+    let En = ended X Y gh d gs ds gc dc in let c = clauses X Y gh d gs ds gc dc 𝓛 𝓜.mem 𝓡.returns in let hs : Stays En.signature.params En.kept = (stay_ref (0 ∷ []) tt (plain (λ _. Whole)), (stay_dropped (plain (λ _. R)) no, tt)) in
+    proved 𝓛 En hs c 𝓜 𝓡 (Goes-ref 𝓛 3 0 tt (plain (λ _. Whole)), (Goes-dropped 𝓛 3 (plain (λ _. R)) no (λ κs x f. refl), tt)) (#self args) fn (compiled.unfolded 𝓤 H 𝓜 𝓡 wired (X, (Y, tt)) d ds dc)
     (λ κs. (mut_vals, ((λ x. w x ∷ []), tt))) (λ κs. (mut_Tells (named 0) κs.0 Whole, ((copied_copy 1 Y CY).tells, tt))) (λ κs qs bounds a gg are.
     let κ₀ : Lft = κs.0 in let κ₁ : Lft = κs.1.0 in let κ₂ : Lft = κs.1.1.0 in let q₀ : Share = qs.0 in let q₁ : Share = qs.1.0 in let q₂ : Share = qs.1.1.0 in
     let x : MutBor (Img X.Denot) = a.0 in let value : Y.Denot = a.1.0 in let v : Val = w value in

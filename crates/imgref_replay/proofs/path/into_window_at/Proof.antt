@@ -10,7 +10,7 @@ use lib.ListN.{length}
 use base.Logic.{SProp, emp, id⊢}
 use base.Fml.{Lft, GName, ftrue, flft, fobs}
 use base.Stored.{coded_list}
-use mir.Syntax.{Args, Fn, named, w64, a_type}
+use mir.Syntax.{Args, Fn, named, w64}
 use mir.MapTy.{inst_fn}
 use mir.Val.{Val, vint, vcons, vnil}
 use prog.Wp.{Env, WpFn}
@@ -28,7 +28,7 @@ use denote.Builtin.{usize}
 use denote.Follow.{follows, follows_if}
 use denote.FollowSlice.{heres_id}
 use denote.Laws.{shows, Is}
-use denote.Param.{param, layouts}
+use denote.Param.{param}
 use denote.Plain.{uint_Makes}
 use denote.RattleType.{RattleType, owns}
 use denote.Ref.{MutBor, Bor}
@@ -47,6 +47,8 @@ use Rattle.std.specs.Prelude.{Option, None}
 use Rattle.std.specs.contracts.result.Result as result
 use Rattle.std.specs.declared.result.Result.{Result}
 use Rattle.std.specs.declared.result.Result.TheVariants.{Ok, Err}
+use Rattle.lending.proofs.Bodies.{of_one}
+use Rattle.lending.proofs.Followed.{if_some, if_none}
 use Rattle.image_model.specs.Grid.{grid_of}
 use Rattle.image_model.specs.Layout.{Layout, Fits, layout}
 use Rattle.image_model.specs.Windows as model
@@ -70,7 +72,6 @@ use Rattle.imgref_replay.proofs.path.region_at.Met as find
 use Rattle.imgref.specs.contracts.window.Img+mut+slice+T.from_stretch as g
 use Rattle.imgref.proofs.window.Img+mut+slice+T.from_stretch.Met as part
 use Rattle.imgref.proofs.Values.{stretch_val, stretch_made, shape_val, shape_made, img_val, img_row, img_told, LentCells, lent_cells_laws, ImgParts, img_parts_told}
-use Rattle.image_tiles.proofs.Lent.{if_some, if_none}
 use Rattle.imgref_replay.proofs.Values.{Answer, answer_told, ok_made, err_made}
 use Rattle.imgref_replay.specs.contracts.path.into_window_at.{ended, clauses}
 use Rattle.imgref_replay.specs.contracts.path.into_window_at.Key.{name as #self}
@@ -79,26 +80,11 @@ use Rattle.imgref_replay.proofs.path.into_window_at.Code as compiled
 
 pub into_window_at_spec : {M : Type 1} → statement M
 into_window_at_spec 𝓤 𝓛 𝓜 𝓡 wired T L =
-    let H = 𝓛.H in
-    let En = ended T in
-    let c = clauses T 𝓛 𝓜.mem 𝓡.returns in
-    let args : Args = layouts (a_type ∷ []) (T, tt) in
-    let fn : Fn = inst_fn args compiled.function in
-    let R : RattleType = param 0 T in
-    let ps = En.signature.params in
-    let stays : Stays En.signature.params En.kept = (stay_dropped _ En.kept.0, (stay_dropped _ En.kept.1.0, tt)) in
-    let 𝓣 = tables 𝓤 H 𝓜 𝓡 𝓡.env in
-    let fm = framed 𝓤 H 𝓜 𝓣 in
-    proved_at 𝓛 En stays c 𝓜 𝓡 ((λ κs x f vs ok. qed 𝓛 (‵ ftrue ∷ []) ∵ updating ! $ nothing ! $ fjoin ! $ now ! $ done !), ((λ κs x f vs ok. qed 𝓛 (‵ ftrue ∷ []) ∵ updating ! $ now ! $ done !), tt))
-    (#self args) fn (compiled.unfolded 𝓤 H 𝓜 𝓡 wired (T, tt)) (λ z are.
-    let Post : Val → SProp 𝓤 = (walk_of 𝓛 En stays c).post z in
-    let a = z.0.3 in
-    let vss = z.0.4 in
-    let κs = z.0.0 in
-    let qs = z.0.1 in
-    let κ : Lft = κs.0 in
-    let κp : Lft = κs.1.0 in
-    let κT : Lft = κs.1.1.0 in
+    let H = 𝓛.H in let 𝓣 = tables 𝓤 H 𝓜 𝓡 𝓡.env in let fm = framed 𝓤 H 𝓜 𝓣 in
+    let args : Args = of_one T in let fn : Fn = inst_fn args compiled.function in let R : RattleType = param 0 T in
+    let En = ended T in let c = clauses T 𝓛 𝓜.mem 𝓡.returns in let ps = En.signature.params in let stays : Stays En.signature.params En.kept = (stay_dropped _ En.kept.0, (stay_dropped _ En.kept.1.0, tt)) in
+    proved_at 𝓛 En stays c 𝓜 𝓡 ((λ κs x f vs ok. qed 𝓛 (‵ ftrue ∷ []) ∵ updating ! $ nothing ! $ fjoin ! $ now ! $ done !), ((λ κs x f vs ok. qed 𝓛 (‵ ftrue ∷ []) ∵ updating ! $ now ! $ done !), tt)) (#self args) fn (compiled.unfolded 𝓤 H 𝓜 𝓡 wired (T, tt)) (λ z are.
+    let Post : Val → SProp 𝓤 = (walk_of 𝓛 En stays c).post z in let a = z.0.3 in let vss = z.0.4 in let κs = z.0.0 in let qs = z.0.1 in let κ : Lft = κs.0 in let κp : Lft = κs.1.0 in let κT : Lft = κs.1.1.0 in
     let img : Img (MutBor (List T.Denot)) = a.0 in
     let path : Bor (List Window) = a.1.0 in
     let ws : List model.Window = as_path path.now in

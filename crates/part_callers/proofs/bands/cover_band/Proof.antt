@@ -1,6 +1,6 @@
 -- `cover_band` makes the bands of an image, takes the first, fills it and lets the others go: what the image shows then. Assumes `Logic`.
 use mathlib.Core.Path.{◌≡◌, refl, sym, ap, subst, ◌∙◌}
-use Prim.Native.Nat.{ℕ, zero, suc, ◌^◌, ◌<◌}
+use Prim.Native.Nat.{ℕ, ◌^◌, ◌<◌}
 use mathlib.Core.List.{List, [], ◌∷◌}
 use lib.ListN.{length}
 use lib.Dec.{T, lit<}
@@ -9,7 +9,7 @@ use base.Fml.{Lft, GName, Share, ftrue, fdead, fres, fat, flft, flent}
 use base.Share
 use base.Logic.{SProp, ent, emp, id⊢, apply∗}
 use types.Logic.{sem}
-use mir.Syntax.{w64, Args, Body, Fn, Local, Ty, local, named, ty_unit, a_type, dcons, dnil, skip, seq, switch, arm}
+use mir.Syntax.{w64, Args, Body, Fn, Ty, named, ty_unit, skip}
 use mir.MapTy.{inst_fn}
 use mir.Val.{vint, Val, WT, has_ty, vptr, vunit, of_list}
 use prog.Wp.{Wp, after_seq, at_return}
@@ -32,7 +32,7 @@ use denote.Lend.{LentAgain, lends_again, comes_back, lends_ref, ref_back}
 use denote.Memory.{part_at, mem}
 use borrow.Table.OneValue.{part_in_at, part_out_at}
 use types.SemTy.{Body as BorBody}
-use denote.Param.{param, copied, bounded}
+use denote.Param.{param, copied}
 use denote.Param.Laws.{param_laws, copied_laws, copied_copy}
 use denote.RattleType.{RattleType, owns}
 use denote.Ref.{MutBor, MutRef, mut_vals, mut_Tells}
@@ -56,6 +56,8 @@ use Rattle.image_shape.specs.declared.shape.Shape.{Shape}
 use Rattle.image_shape.specs.contracts.shape.Shape as shape
 use Rattle.imgref.specs.Image.{with_all, layout_by, mut_layout, shape_of}
 use Rattle.imgref.proofs.Values.{shape_val, shape_made, img_row, LentCells, lent_cells_laws, ImgParts, img_parts_told}
+use Rattle.lending.proofs.Bodies.{of_copied, first_arm, type_of}
+use Rattle.lending.proofs.Declared.{typed}
 use Rattle.lending.specs.Endings.{ends_as}
 use Rattle.lending.proofs.Endings.{ends_beside, ends_said}
 use Rattle.lending.proofs.Lifetimes.{Ends, begins}
@@ -64,7 +66,7 @@ use Rattle.lending.proofs.Parts.{given_up}
 use Rattle.image_tiles.specs.declared.bands.BandsMut.{BandsMut}
 use Rattle.image_tiles.specs.contracts.bands.BandsMut as P
 use Rattle.image_tiles.proofs.bands.BandsMut.TheLaws as laws
-use Rattle.image_tiles.proofs.Values.{typed, cells_out, band_val, band_ok, band_told}
+use Rattle.image_tiles.proofs.Values.{cells_out, band_val, band_ok, band_told}
 use Rattle.image_tiles.specs.contracts.bands.BandsMut.next as N
 use Rattle.image_tiles.proofs.bands.BandsMut.next.Met as stepping
 use Rattle.image_tiles.specs.Bands.{bands, bands_left, cells_left, lines_left, all_lines, name_of, put_back, hands_on, Moves}
@@ -84,32 +86,12 @@ use Rattle.part_callers.specs.contracts.bands.cover_band.Key.{name as #self}
 use Rattle.part_callers.proofs.bands.cover_band.Statement.{statement}
 use Rattle.part_callers.proofs.bands.cover_band.Code as compiled
 
--- the first arm of a switch
-abbrev first_arm : Body → Body
-first_arm (seq (switch c (arm ks b others)) rest) = b
-first_arm _ = skip
-
--- the type of a local
-abbrev type_of : ℕ → List Local → Ty
-type_of n [] = ty_unit
-type_of zero (local ty kind ∷ others) = ty
-type_of (suc n) (one ∷ others) = type_of n others
-
 pub cover_band_spec : {M : Type 1} → statement M
 cover_band_spec 𝓤 𝓛 𝓜 𝓡 wired X Y LX LY CY gh d gs ds gc dc bm bs bc =
-    let H = 𝓛.H in
-    let En = ended X Y gh d gs ds gc dc in
-    let c = clauses X Y gh d gs ds gc dc 𝓛 𝓜.mem 𝓡.returns in
-    let args : Args = bounded (a_type ∷ a_type ∷ []) (X, (Y, tt)) (dcons d (dcons ds (dcons dc dnil))) in
-    let fn : Fn = inst_fn args compiled.function in
-    let R : RattleType = copied 1 Y in
-    let Whole : RattleType = the_row (param 0 X) in
-    let w = (copied_copy 1 Y CY).val in
-    let hs : Stays En.signature.params En.kept = (stay_ref (0 ∷ []) tt (plain (λ _. Whole)), (stay_dropped (plain (λ _. usize)) yes, (stay_dropped (plain (λ _. R)) no, tt))) in
-    let 𝓣 = tables 𝓤 H 𝓜 𝓡 𝓡.env in
-    let fm = framed 𝓤 H 𝓜 𝓣 in
-    proved 𝓛 En hs c 𝓜 𝓡 (Goes-ref 𝓛 3 0 tt (plain (λ _. Whole)), (Goes-dropped 𝓛 3 (plain (λ _. usize)) yes (λ κs x f. refl), (Goes-dropped 𝓛 3 (plain (λ _. R)) no (λ κs x f. refl), tt)))
-    (#self args) fn (compiled.unfolded 𝓤 H 𝓜 𝓡 wired (X, (Y, tt)) d ds dc)
+    let H = 𝓛.H in let 𝓣 = tables 𝓤 H 𝓜 𝓡 𝓡.env in let fm = framed 𝓤 H 𝓜 𝓣 in
+    let args : Args = of_copied X Y d ds dc in let fn : Fn = inst_fn args compiled.function in let R : RattleType = copied 1 Y in let Whole : RattleType = the_row (param 0 X) in let w = (copied_copy 1 Y CY).val in
+    let En = ended X Y gh d gs ds gc dc in let c = clauses X Y gh d gs ds gc dc 𝓛 𝓜.mem 𝓡.returns in let hs : Stays En.signature.params En.kept = (stay_ref (0 ∷ []) tt (plain (λ _. Whole)), (stay_dropped (plain (λ _. usize)) yes, (stay_dropped (plain (λ _. R)) no, tt))) in
+    proved 𝓛 En hs c 𝓜 𝓡 (Goes-ref 𝓛 3 0 tt (plain (λ _. Whole)), (Goes-dropped 𝓛 3 (plain (λ _. usize)) yes (λ κs x f. refl), (Goes-dropped 𝓛 3 (plain (λ _. R)) no (λ κs x f. refl), tt))) (#self args) fn (compiled.unfolded 𝓤 H 𝓜 𝓡 wired (X, (Y, tt)) d ds dc)
     (λ κs. (mut_vals, (uint_vals w64, ((λ x. w x ∷ []), tt)))) (λ κs. (mut_Tells (named 0) κs.0 Whole, (uint_Tells w64, ((copied_copy 1 Y CY).tells, tt)))) (λ κs qs bounds a gg are.
     let κ₀ : Lft = κs.0 in let κ₁ : Lft = κs.1.0 in let κ₂ : Lft = κs.1.1.0 in let q₀ : Share = qs.0 in let q₁ : Share = qs.1.0 in let q₂ : Share = qs.1.1.0 in
     let x : MutBor (Img X.Denot) = a.0 in let bh : ℕ = a.1.0 in let low : bh < 2 ^ 64 = are.1.0.1 in let value : Y.Denot = a.1.1.0 in let v : Val = w value in let narrow = x.now.width_within in

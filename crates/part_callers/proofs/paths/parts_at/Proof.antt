@@ -1,12 +1,12 @@
 -- `parts_at` lends the whole image, takes the window of the path from it, and parts that: its MIR, proved by hand. Assumes `Logic`.
 use mathlib.Core.Path.{◌≡◌, refl, sym, ap, subst, ◌∙◌}
-use Prim.Native.Nat.{ℕ, zero, suc}
+use Prim.Native.Nat.{ℕ}
 use mathlib.Core.List.{List, [], ◌∷◌, ◌++◌}
 use lib.Dec.{T, lit<}
 use lib.ListN.{length}
 use base.Logic.{SProp, emp, id⊢}
 use base.Fml.{Lft, GName, ftrue, flft}
-use mir.Syntax.{Args, Body, Fn, Local, Ty, local, named, ty_unit, a_type, dcons, dnil, skip, seq, switch, arm}
+use mir.Syntax.{Args, Body, Fn, named}
 use mir.MapTy.{inst_fn}
 use mir.Val.{Val, WT, has_ty, vptr, of_list}
 use prog.Wp.{Env, Wp, WpFn, after_seq, at_return}
@@ -22,7 +22,7 @@ use denote.Array.{Array}
 use denote.Builtin.{usize}
 use denote.Follow.{follows, follows_if, follows_then}
 use denote.Laws.{shows, Is}
-use denote.Param.{param, bounded}
+use denote.Param.{param}
 use denote.RattleType.{RattleType, owns}
 use denote.Ref.{Bor, MutBor, MutRef, mut_vals, mut_Tells}
 use denote.Signature.{plain, types_at}
@@ -42,6 +42,8 @@ use Rattle.std.specs.Result.{IfOk, result_err}
 use Rattle.std.specs.contracts.result.Result as result
 use Rattle.std.specs.declared.result.Result.{Result}
 use Rattle.std.specs.declared.result.Result.TheVariants.{Ok, Err}
+use Rattle.lending.proofs.Bodies.{of_container, first_arm, type_of}
+use Rattle.lending.proofs.Followed.{if_given}
 use Rattle.image_model.specs.Layout.{Layout, Fits}
 use Rattle.image_model.specs.Grid.{grid_of}
 use Rattle.image_model.specs.Windows as model
@@ -64,47 +66,19 @@ use Rattle.imgref_replay.specs.contracts.into_window_at as f
 use Rattle.imgref_replay.proofs.into_window_at.Met as finding
 use Rattle.part_callers.specs.Paths.{IsNested}
 use Rattle.part_callers.proofs.Nested.{nested}
-use Rattle.part_callers.proofs.Lent.{ok_or_err, ok_told, ok_image, if_given}
+use Rattle.part_callers.proofs.Lent.{ok_or_err, ok_told, ok_image}
 use Rattle.part_callers.specs.contracts.paths.parts_at.{ended, clauses}
 use Rattle.part_callers.specs.contracts.paths.parts_at.Key.{name as #self}
 use Rattle.part_callers.proofs.paths.parts_at.Statement.{statement}
 use Rattle.part_callers.proofs.paths.parts_at.Code as compiled
 
--- the first arm of a switch
-abbrev first_arm : Body → Body
-first_arm (seq (switch c (arm ks b others)) rest) = b
-first_arm _ = skip
-
--- the type of a local
-abbrev type_of : ℕ → List Local → Ty
-type_of n [] = ty_unit
-type_of zero (local ty kind ∷ others) = ty
-type_of (suc n) (one ∷ others) = type_of n others
-
 pub parts_at_spec : {M : Type 1} → statement M
 parts_at_spec 𝓤 𝓛 𝓜 𝓡 wired X Y LX LY gh d gs ds bm bs =
-    let H = 𝓛.H in
-    let En = ended X Y gh d gs ds in
-    let c = clauses X Y gh d gs ds 𝓛 𝓜.mem 𝓡.returns in
-    let args : Args = bounded (a_type ∷ a_type ∷ []) (X, (Y, tt)) (dcons d (dcons ds dnil)) in
-    let fn : Fn = inst_fn args compiled.function in
-    let R : RattleType = param 1 Y in
-    let Whole : RattleType = the_row (param 0 X) in
-    let ps = En.signature.params in
-    let stays : Stays En.signature.params En.kept = (stay_dropped _ En.kept.0, (stay_dropped _ En.kept.1.0, tt)) in
-    let 𝓣 = tables 𝓤 H 𝓜 𝓡 𝓡.env in
-    let fm = framed 𝓤 H 𝓜 𝓣 in
-    proved_at 𝓛 En stays c 𝓜 𝓡 (Goes-spent_ref 𝓛 4 (0 ∷ []) tt (plain (λ _. Whole)), ((λ κs x f vs ok. qed 𝓛 (‵ ftrue ∷ []) ∵ updating ! $ now ! $ done !), tt))
-    (#self args) fn (compiled.unfolded 𝓤 H 𝓜 𝓡 wired (X, (Y, tt)) d ds) (λ z are.
-    let Post : Val → SProp 𝓤 = (walk_of 𝓛 En stays c).post z in
-    let a = z.0.3 in
-    let vss = z.0.4 in
-    let κs = z.0.0 in
-    let qs = z.0.1 in
-    let κ : Lft = κs.0 in
-    let κp : Lft = κs.1.0 in
-    let κX : Lft = κs.1.1.0 in
-    let κY : Lft = κs.1.1.1.0 in
+    let H = 𝓛.H in let 𝓣 = tables 𝓤 H 𝓜 𝓡 𝓡.env in let fm = framed 𝓤 H 𝓜 𝓣 in
+    let args : Args = of_container X Y d ds in let fn : Fn = inst_fn args compiled.function in let R : RattleType = param 1 Y in let Whole : RattleType = the_row (param 0 X) in
+    let En = ended X Y gh d gs ds in let c = clauses X Y gh d gs ds 𝓛 𝓜.mem 𝓡.returns in let ps = En.signature.params in let stays : Stays En.signature.params En.kept = (stay_dropped _ En.kept.0, (stay_dropped _ En.kept.1.0, tt)) in
+    proved_at 𝓛 En stays c 𝓜 𝓡 (Goes-spent_ref 𝓛 4 (0 ∷ []) tt (plain (λ _. Whole)), ((λ κs x f vs ok. qed 𝓛 (‵ ftrue ∷ []) ∵ updating ! $ now ! $ done !), tt)) (#self args) fn (compiled.unfolded 𝓤 H 𝓜 𝓡 wired (X, (Y, tt)) d ds) (λ z are.
+    let Post : Val → SProp 𝓤 = (walk_of 𝓛 En stays c).post z in let a = z.0.3 in let vss = z.0.4 in let κs = z.0.0 in let qs = z.0.1 in let κ : Lft = κs.0 in let κp : Lft = κs.1.0 in let κX : Lft = κs.1.1.0 in let κY : Lft = κs.1.1.1.0 in
     let x : MutBor (Img X.Denot) = a.0 in
     let path : Bor (List Window) = a.1.0 in
     let ws : List model.Window = as_path path.now in

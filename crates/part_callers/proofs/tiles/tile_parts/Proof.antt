@@ -1,12 +1,12 @@
 -- `tile_parts` takes the next tile and parts it: its MIR, proved by hand. Assumes `Logic`.
 use mathlib.Core.Path.{◌≡◌, refl, sym, ap, subst, ◌∙◌}
-use Prim.Native.Nat.{ℕ, zero, suc, ◌<◌}
+use Prim.Native.Nat.{◌<◌}
 use mathlib.Core.List.{List, [], ◌∷◌, ◌++◌}
 use lib.Dec.{T, lit<}
 use lib.ListN.{length}
 use base.Logic.{SProp, emp, id⊢}
 use base.Fml.{Lft, GName, ftrue, flft}
-use mir.Syntax.{Args, Body, Fn, Local, Ty, local, named, ty_unit, a_type, dcons, dnil, skip, seq, switch, arm}
+use mir.Syntax.{Args, Body, Fn, named}
 use mir.MapTy.{inst_fn}
 use mir.Val.{Val, WT, has_ty, vptr, of_list}
 use prog.Wp.{Env, Wp, WpFn, after_seq, at_return}
@@ -21,7 +21,7 @@ use types.ByLocal.{alloc_all, pass_all, free_all, look_at, get, get_in, get_tag,
 use denote.Array.{Array}
 use denote.Follow.{follows, follows_if}
 use denote.Laws.{shows, Is}
-use denote.Param.{param, bounded}
+use denote.Param.{param}
 use denote.RattleType.{RattleType, owns}
 use denote.Ref.{MutBor, MutRef, mut_vals, mut_Tells}
 use denote.Signature.{plain, types_at}
@@ -36,6 +36,8 @@ use Rattle.std.proofs.Common.{⊎_elim, arith}
 use Rattle.std.proofs.alloc.Shapes.{after}
 use Rattle.std.specs.Prelude.{Option, Some, None}
 use Rattle.std.specs.contracts.option.Option as OP
+use Rattle.lending.proofs.Bodies.{of_container, first_arm, type_of}
+use Rattle.lending.proofs.Followed.{if_given}
 use Rattle.lending.proofs.Options.{none_or_some}
 use Rattle.image_model.specs.Layout.{Layout}
 use Rattle.image_model.specs.Windows.{Window}
@@ -54,46 +56,19 @@ use Rattle.image_tiles.proofs.tiles.TileCursor.next_tile.Met as stepping
 use Rattle.image_tiles.proofs.Values.{band_val, band_ok, band_told}
 use Rattle.part_callers.specs.Tiles.{IsTile}
 use Rattle.part_callers.proofs.Sizes.{window_width, window_height}
-use Rattle.part_callers.proofs.Lent.{some_image, if_given}
+use Rattle.part_callers.proofs.Lent.{some_image}
 use Rattle.part_callers.specs.contracts.tiles.tile_parts.{ended, clauses}
 use Rattle.part_callers.specs.contracts.tiles.tile_parts.Key.{name as #self}
 use Rattle.part_callers.proofs.tiles.tile_parts.Statement.{statement}
 use Rattle.part_callers.proofs.tiles.tile_parts.Code as compiled
 
--- the first arm of a switch
-abbrev first_arm : Body → Body
-first_arm (seq (switch c (arm ks b others)) rest) = b
-first_arm _ = skip
-
--- the type of a local
-abbrev type_of : ℕ → List Local → Ty
-type_of n [] = ty_unit
-type_of zero (local ty kind ∷ others) = ty
-type_of (suc n) (one ∷ others) = type_of n others
-
 pub tile_parts_spec : {M : Type 1} → statement M
 tile_parts_spec 𝓤 𝓛 𝓜 𝓡 wired X Y LX LY gh d gs ds bm bs =
-    let H = 𝓛.H in
-    let En = ended X Y gh d gs ds in
-    let c = clauses X Y gh d gs ds 𝓛 𝓜.mem 𝓡.returns in
-    let args : Args = bounded (a_type ∷ a_type ∷ []) (X, (Y, tt)) (dcons d (dcons ds dnil)) in
-    let fn : Fn = inst_fn args compiled.function in
-    let R : RattleType = param 1 Y in
-    let Whole : RattleType = the_row (param 0 X) in
-    let ps = En.signature.params in
-    let stays : Stays En.signature.params En.kept = (stay_dropped _ En.kept.0, tt) in
-    let 𝓣 = tables 𝓤 H 𝓜 𝓡 𝓡.env in
-    let fm = framed 𝓤 H 𝓜 𝓣 in
-    proved_at 𝓛 En stays c 𝓜 𝓡 (Goes-spent_ref 𝓛 3 (0 ∷ []) tt (plain (λ _. Whole)), tt)
-    (#self args) fn (compiled.unfolded 𝓤 H 𝓜 𝓡 wired (X, (Y, tt)) d ds) (λ z are.
-    let Post : Val → SProp 𝓤 = (walk_of 𝓛 En stays c).post z in
-    let a = z.0.3 in
-    let vss = z.0.4 in
-    let κs = z.0.0 in
-    let qs = z.0.1 in
-    let κ : Lft = κs.0 in
-    let κX : Lft = κs.1.0 in
-    let κY : Lft = κs.1.1.0 in
+    let H = 𝓛.H in let 𝓣 = tables 𝓤 H 𝓜 𝓡 𝓡.env in let fm = framed 𝓤 H 𝓜 𝓣 in
+    let args : Args = of_container X Y d ds in let fn : Fn = inst_fn args compiled.function in let R : RattleType = param 1 Y in let Whole : RattleType = the_row (param 0 X) in
+    let En = ended X Y gh d gs ds in let c = clauses X Y gh d gs ds 𝓛 𝓜.mem 𝓡.returns in let ps = En.signature.params in let stays : Stays En.signature.params En.kept = (stay_dropped _ En.kept.0, tt) in
+    proved_at 𝓛 En stays c 𝓜 𝓡 (Goes-spent_ref 𝓛 3 (0 ∷ []) tt (plain (λ _. Whole)), tt) (#self args) fn (compiled.unfolded 𝓤 H 𝓜 𝓡 wired (X, (Y, tt)) d ds) (λ z are.
+    let Post : Val → SProp 𝓤 = (walk_of 𝓛 En stays c).post z in let a = z.0.3 in let vss = z.0.4 in let κs = z.0.0 in let qs = z.0.1 in let κ : Lft = κs.0 in let κX : Lft = κs.1.0 in let κY : Lft = κs.1.1.0 in
     let x : MutBor (TileCursor X.Denot) = a.0 in
     let h : TileCursor X.Denot = x.now in
     let γ : GName = x.ghost_name in

@@ -8,14 +8,14 @@ use contract.BorrowLft.{◌⊑◌}
 use contract.Monad.{fact, fact_i}
 use contract.Running.{tables}
 use mir.MapTy.{inst_fn}
-use mir.Syntax.{Args, Fn, named, a_type}
+use mir.Syntax.{Args, Fn, named}
 use mir.Val.{Val, vptr}
 use types.ByLocal.{alloc_all, pass_all, free_all, look_at, get, through, sets, lands_as}
 use types.Kit.{‵, ◌⊛◌, raw, later, some, given, ◌$◌, ◌∵◌, !, qed, by, move, keep, drop, split, split3, join, fsplit, fjoin, use0, use1, group, learn, await, pick}
 use types.Part.{agg}
 use types.Run.{stop, lit, addr, and_then, no_more, returns, enter}
 use denote.Laws.{shows, Is}
-use denote.Param.{param, layouts}
+use denote.Param.{param}
 use denote.RattleType.{RattleType, owns}
 use denote.Ref.{MutBor, MutRef, mut_vals, mut_Tells}
 use denote.Signature.{plain, named_lft, types_at}
@@ -25,6 +25,7 @@ use denote.Triple.Table.{framed}
 use denote.Triple.Walked.{Stays, stay_ref, walk_of, Goes-ref}
 use Rattle.std.proofs.raw_atomic.Walks.{proved, leaves}
 use Rattle.std.specs.Prelude.{Option}
+use Rattle.lending.proofs.Bodies.{of_one}
 use Rattle.image_rows.specs.Rows.{hands_on, Yields, Moves}
 use Rattle.image_rows.specs.declared.ends.End.TheVariants.{First}
 use Rattle.image_rows.specs.declared.writing.RowsIterMut.{RowsIterMut}
@@ -38,14 +39,9 @@ use Rattle.image_rows.proofs.writing.RowsIterMut.next.Code as compiled
 
 pub next_spec : {M : Type 1} → statement M
 next_spec 𝓤 𝓛 𝓜 𝓡 wired T L =
-    let H = 𝓛.H in
-    let En = ended T in
-    let c = clauses T 𝓛 𝓜.mem 𝓡.returns in
-    let args : Args = layouts (a_type ∷ []) (T, tt) in
-    let fn : Fn = inst_fn args compiled.function in
-    let R : RattleType = param 0 T in
-    let hs : Stays En.signature.params En.kept = (stay_ref (0 ∷ []) tt (plain (λ κs. the_row (named_lft 3 1 tt κs) R)), tt) in
-    let 𝓣 = tables 𝓤 H 𝓜 𝓡 𝓡.env in
+    let H = 𝓛.H in let 𝓣 = tables 𝓤 H 𝓜 𝓡 𝓡.env in
+    let args : Args = of_one T in let fn : Fn = inst_fn args compiled.function in let R : RattleType = param 0 T in
+    let En = ended T in let c = clauses T 𝓛 𝓜.mem 𝓡.returns in let hs : Stays En.signature.params En.kept = (stay_ref (0 ∷ []) tt (plain (λ κs. the_row (named_lft 3 1 tt κs) R)), tt) in
     proved 𝓛 En hs c 𝓜 𝓡 (Goes-ref 𝓛 3 0 tt (plain (λ κs. the_row (named_lft 3 1 tt κs) R)), tt) (#self args) fn (compiled.unfolded 𝓤 H 𝓜 𝓡 wired (T, tt))
     (λ κs. (mut_vals, tt)) (λ κs. (mut_Tells (named 0) κs.0 (the_row (named_lft 3 1 tt κs) R), tt)) (λ κs qs bounds a gg are.
     let κ₀ : Lft = κs.0 in let κ₁ : Lft = κs.1.0 in let κ₂ : Lft = κs.1.1.0 in let q₀ : Share = qs.0 in let q₁ : Share = qs.1.0 in let q₂ : Share = qs.1.1.0 in

@@ -8,7 +8,7 @@ use lib.ListN.{length}
 use base.Logic.{SProp, ent, sep, emp, id⊢}
 use base.Fml.{Lft, Share, ftrue, flft, fres}
 use base.Stored.{coded_list}
-use mir.Syntax.{Args, Fn, named, w64, a_type}
+use mir.Syntax.{Args, Fn, named, w64}
 use mir.MapTy.{inst_fn}
 use mir.Val.{Val, WT, vint, of_list}
 use prog.Wp.{WpFn}
@@ -26,7 +26,7 @@ use denote.Builtin.{usize}
 use denote.Follow.{follows_both}
 use denote.Laws.{shows, Is}
 use denote.Model.Fixed.{row_Makes}
-use denote.Param.{param, layouts}
+use denote.Param.{param}
 use denote.Param.Laws.{param_laws}
 use denote.Plain.{uint_Makes}
 use denote.RattleType.{RattleType, owns}
@@ -45,6 +45,8 @@ use Rattle.std.proofs.option.Made.{Some-of, none_of}
 use Rattle.std.proofs.raw_atomic.Walks.{proved_at, leaves}
 use Rattle.std.specs.Prelude.{None, Some}
 use Rattle.std.specs.contracts.option.Option as opt
+use Rattle.lending.proofs.Bodies.{of_one}
+use Rattle.lending.proofs.Declared.{is_low, typed}
 use Rattle.lending.proofs.Options.{lent_val}
 use Rattle.lending.proofs.Pairs.{pair_val, pair_made, pair_told, pair_out}
 use Rattle.lending.proofs.Parts.{given_up, cut_within}
@@ -63,7 +65,7 @@ use Rattle.image_rows.proofs.spacing.Cuts.TheLaws as cuts_laws
 use Rattle.image_rows.proofs.writing.RowsIterMut.TheLaws as iter_laws
 use Rattle.image_rows.proofs.Cuts.{Lies, outer_within, inner_within, last_reaches, gone_is, rest_lies, whole_is, given_at, none_at}
 use Rattle.image_rows.proofs.Rows.{one_at_least}
-use Rattle.image_rows.proofs.Values.{is_low, typed, cells_out, cells_in}
+use Rattle.image_rows.proofs.Values.{cells_out, cells_in}
 use Rattle.image_rows.specs.contracts.parts.part as f
 use Rattle.image_rows.proofs.parts.part.Met as parting
 use Rattle.image_rows.specs.contracts.spacing.Spacing.cuts as g
@@ -75,26 +77,11 @@ use Rattle.image_rows.proofs.writing.RowsIterMut.split_end.Code as compiled
 
 pub split_end_spec : {M : Type 1} → statement M
 split_end_spec 𝓤 𝓛 𝓜 𝓡 wired T L =
-    let H = 𝓛.H in
-    let En = ended T in
-    let c = clauses T 𝓛 𝓜.mem 𝓡.returns in
-    let args : Args = layouts (a_type ∷ []) (T, tt) in
-    let fn : Fn = inst_fn args compiled.function in
-    let R : RattleType = param 0 T in
-    let ps = En.signature.params in
-    let EndRow : RattleType = end_type.the_row in
-    let stays : Stays En.signature.params En.kept = (stay_dropped _ En.kept.0, (stay_dropped _ En.kept.1.0, tt)) in
-    let 𝓣 = tables 𝓤 H 𝓜 𝓡 𝓡.env in
-    let fm = framed 𝓤 H 𝓜 𝓣 in
-    proved_at 𝓛 En stays c 𝓜 𝓡 ((λ κs x f vs ok. qed 𝓛 (‵ ftrue ∷ []) ∵ updating ! $ nothing ! $ fjoin ! $ now ! $ done !), (Goes-dropped 𝓛 2 (plain (λ _. EndRow)) En.kept.1.0 (λ κs x f. refl), tt))
-    (#self args) fn (compiled.unfolded 𝓤 H 𝓜 𝓡 wired (T, tt)) (λ z are.
-    let Post : Val → SProp 𝓤 = (walk_of 𝓛 En stays c).post z in
-    let a = z.0.3 in
-    let vss = z.0.4 in
-    let κ : Lft = z.0.0.0 in
-    let q : Share = z.0.1.0 in
-    let κT : Lft = z.0.0.1.0 in
-    let qT : Share = z.0.1.1.0 in
+    let H = 𝓛.H in let 𝓣 = tables 𝓤 H 𝓜 𝓡 𝓡.env in let fm = framed 𝓤 H 𝓜 𝓣 in
+    let args : Args = of_one T in let fn : Fn = inst_fn args compiled.function in let R : RattleType = param 0 T in let EndRow : RattleType = end_type.the_row in
+    let En = ended T in let c = clauses T 𝓛 𝓜.mem 𝓡.returns in let ps = En.signature.params in let stays : Stays En.signature.params En.kept = (stay_dropped _ En.kept.0, (stay_dropped _ En.kept.1.0, tt)) in
+    proved_at 𝓛 En stays c 𝓜 𝓡 ((λ κs x f vs ok. qed 𝓛 (‵ ftrue ∷ []) ∵ updating ! $ nothing ! $ fjoin ! $ now ! $ done !), (Goes-dropped 𝓛 2 (plain (λ _. EndRow)) En.kept.1.0 (λ κs x f. refl), tt)) (#self args) fn (compiled.unfolded 𝓤 H 𝓜 𝓡 wired (T, tt)) (λ z are.
+    let Post : Val → SProp 𝓤 = (walk_of 𝓛 En stays c).post z in let a = z.0.3 in let vss = z.0.4 in let κ : Lft = z.0.0.0 in let q : Share = z.0.1.0 in let κT : Lft = z.0.0.1.0 in let qT : Share = z.0.1.1.0 in
     let α = named_lft 2 0 tt z.0.0 in
     let LR = param_laws 0 T L in
     let s : RowsIterMut T.Denot = a.0 in

@@ -11,7 +11,7 @@ use contract.BorrowLft.{◌⊑◌, ⊑_trans, meet_⊑_right}
 use contract.Monad.{fact, fact_i}
 use contract.Running.{tables}
 use mir.MapTy.{inst_fn}
-use mir.Syntax.{Args, Fn, named, a_type}
+use mir.Syntax.{Args, Fn, named}
 use mir.Val.{Val, WT, vptr, of_list}
 use types.ByLocal.{alloc_all, pass_all, free_all, look_at, get, get_in, through, sets, lands_as, env, holding, forget_but}
 use types.Kit.{Sq, ‵, ◌⊛◌, raw, later, some, at_ret, runs, ◌$◌, ◌∵◌, !, qed, by, move, keep, drop, split, split3, join, fsplit, fsplit3, fjoin, fjoin3, feq_i, rewrite, use0, use1, use2, use3, await, pick}
@@ -22,7 +22,7 @@ use denote.Laws.{shows, Is, Typed}
 use denote.Lend.{LentAgain, lends_again, comes_back}
 use denote.Memory.{cell_at}
 use denote.Model.Fixed.{row_Makes}
-use denote.Param.{param, layouts}
+use denote.Param.{param}
 use denote.Param.Laws.{param_laws}
 use denote.RattleType.{RattleType, owns}
 use denote.Ref.{MutBor, MutRef, mut_vals, mut_Tells}
@@ -40,6 +40,8 @@ use Rattle.std.proofs.alloc.Shapes.{after}
 use Rattle.std.proofs.raw_atomic.Walks.{proved, leaves}
 use Rattle.std.specs.Prelude.{Option, Some, None}
 use Rattle.std.specs.contracts.option.Option as opt
+use Rattle.lending.proofs.Bodies.{of_one}
+use Rattle.lending.proofs.Declared.{typed}
 use Rattle.lending.proofs.Lifetimes.{Ends, begins}
 use Rattle.lending.proofs.Options.{none_or_some, none_told, some_told, lent_val}
 use Rattle.lending.proofs.Pairs.{pair_told, pair_out}
@@ -50,7 +52,6 @@ use Rattle.image_rows.specs.contracts.ends.End as end_type
 use Rattle.image_rows.specs.contracts.writing.RowsIterMut.{the_row}
 use Rattle.image_rows.proofs.ends.End.TheLaws as end_laws
 use Rattle.image_rows.proofs.writing.RowsIterMut.TheLaws as laws
-use Rattle.image_rows.proofs.Values.{typed}
 use Rattle.image_rows.specs.contracts.writing.RowsIterMut.take as K
 use Rattle.image_rows.proofs.writing.RowsIterMut.take.Met as taking
 use Rattle.image_rows.specs.contracts.writing.RowsIterMut.split_end as N
@@ -62,18 +63,10 @@ use Rattle.image_rows.proofs.writing.RowsIterMut.step.Code as compiled
 
 pub step_spec : {M : Type 1} → statement M
 step_spec 𝓤 𝓛 𝓜 𝓡 wired T' L =
-    let H = 𝓛.H in
-    let En = ended T' in
-    let c = clauses T' 𝓛 𝓜.mem 𝓡.returns in
-    let args : Args = layouts (a_type ∷ []) (T', tt) in
-    let fn : Fn = inst_fn args compiled.function in
-    let R : RattleType = param 0 T' in
-    let EndRow : RattleType = end_type.the_row in
-    let hs : Stays En.signature.params En.kept = (stay_ref (0 ∷ []) tt (plain (λ κs. the_row (named_lft 3 1 tt κs) R)), (stay_dropped _ En.kept.1.0, tt)) in
-    let 𝓣 = tables 𝓤 H 𝓜 𝓡 𝓡.env in
-    let fm = framed 𝓤 H 𝓜 𝓣 in
-    proved 𝓛 En hs c 𝓜 𝓡 (Goes-ref 𝓛 3 0 tt (plain (λ κs. the_row (named_lft 3 1 tt κs) R)), (Goes-dropped 𝓛 3 (plain (λ _. EndRow)) En.kept.1.0 (λ κs x f. refl), tt))
-    (#self args) fn (compiled.unfolded 𝓤 H 𝓜 𝓡 wired (T', tt))
+    let H = 𝓛.H in let 𝓣 = tables 𝓤 H 𝓜 𝓡 𝓡.env in let fm = framed 𝓤 H 𝓜 𝓣 in
+    let args : Args = of_one T' in let fn : Fn = inst_fn args compiled.function in let R : RattleType = param 0 T' in let EndRow : RattleType = end_type.the_row in
+    let En = ended T' in let c = clauses T' 𝓛 𝓜.mem 𝓡.returns in let hs : Stays En.signature.params En.kept = (stay_ref (0 ∷ []) tt (plain (λ κs. the_row (named_lft 3 1 tt κs) R)), (stay_dropped _ En.kept.1.0, tt)) in
+    proved 𝓛 En hs c 𝓜 𝓡 (Goes-ref 𝓛 3 0 tt (plain (λ κs. the_row (named_lft 3 1 tt κs) R)), (Goes-dropped 𝓛 3 (plain (λ _. EndRow)) En.kept.1.0 (λ κs x f. refl), tt)) (#self args) fn (compiled.unfolded 𝓤 H 𝓜 𝓡 wired (T', tt))
     (λ κs. (mut_vals, ((λ x. end_laws.lowered x ∷ []), tt))) (λ κs. (mut_Tells (named 0) κs.0 (the_row (named_lft 3 1 tt κs) R), (end_laws.lowers.val_is, tt))) (λ κs qs bounds a gg are.
     let κ₀ : Lft = κs.0 in let κ₁ : Lft = κs.1.0 in let κ₂ : Lft = κs.1.1.0 in let q₀ : Share = qs.0 in let q₁ : Share = qs.1.0 in let q₂ : Share = qs.1.1.0 in
     let x : MutBor (RowsIterMut T'.Denot) = a.0 in let end : End = a.1.0 in let h : RowsIterMut T'.Denot = x.now in

@@ -6,7 +6,7 @@ use lib.Dec.{eqb→eq, lit<}
 use lib.ListN.{length}
 use base.Logic.{SProp, emp, id⊢}
 use base.Fml.{Lft, GName, ftrue, flft}
-use mir.Syntax.{Args, Fn, named, a_type, dcons, dnil}
+use mir.Syntax.{Args, Fn, named}
 use mir.MapTy.{inst_fn}
 use mir.Val.{Val, vptr, of_list}
 use prog.Wp.{Env, WpFn}
@@ -22,7 +22,7 @@ use types.Tokens.{name_done}
 use denote.Array.{Array}
 use denote.Follow.{follows, follows_if}
 use denote.Laws.{shows, Is}
-use denote.Param.{param, bounded}
+use denote.Param.{param}
 use denote.RattleType.{RattleType, owns}
 use denote.Ref.{MutBor, MutRef, mut_vals, mut_Tells}
 use denote.Signature.{plain, types_at}
@@ -37,22 +37,23 @@ use Rattle.std.proofs.alloc.Shapes.{after}
 use Rattle.std.proofs.option.Made.{Some-of, none_of}
 use Rattle.std.specs.Prelude.{Option, Some, None}
 use Rattle.std.specs.contracts.option.Option as OP
-use Rattle.image_model.specs.Grid.{grid_of}
+use Rattle.lending.proofs.Bodies.{of_container}
+use Rattle.lending.proofs.Followed.{if_some, if_none}
 use Rattle.image_model.specs.Layout.{Layout, Fits}
-use Rattle.image_model.specs.Windows.{Window, IsInside, window_view, window_layout}
-use Rattle.imgref.specs.Image.{layout_by, mut_layout, shape_of}
+use Rattle.image_model.specs.Windows.{Window}
+use Rattle.imgref.specs.Image.{layout_by, shape_of}
 use Rattle.imgref.proofs.Values.{img_val, img_row, img_told}
 use Rattle.imgref.specs.declared.img.Img.{Img}
 use Rattle.std.specs.Prelude.{IsTrue}
 use Rattle.image_tiles.specs.Lending.{image_of, tiling_of, after_tile, name_of, IsNext, NextTile, tiles_left}
-use Rattle.image_tiles.specs.Tiling.{tile_now, windows_left, has_tile, stepped}
+use Rattle.image_tiles.specs.Tiling.{tile_now, windows_left, has_tile}
 use Rattle.image_tiles.specs.declared.tiles.TileCursor.{TileCursor}
 use Rattle.image_tiles.specs.contracts.tiles.TileCursor.{the_row}
 use Rattle.image_tiles.specs.contracts.tiles.TileCursor.counted as f
 use Rattle.image_tiles.proofs.tiles.TileCursor.counted.Met as counting
 use Rattle.image_tiles.specs.contracts.tiles.TileCursor.tile as g
 use Rattle.image_tiles.proofs.tiles.TileCursor.tile.Met as lending
-use Rattle.image_tiles.proofs.Lent.{Counted, counted_told, counted_out, if_some, if_none}
+use Rattle.image_tiles.proofs.Lent.{Counted, counted_told, counted_out}
 use Rattle.image_tiles.proofs.Left.{tiles_all_left, none_of_length}
 use Rattle.image_tiles.proofs.Tilings.{one_at_least}
 use Rattle.image_tiles.specs.contracts.tiles.TileCursor.next_tile.{ended, clauses}
@@ -62,27 +63,11 @@ use Rattle.image_tiles.proofs.tiles.TileCursor.next_tile.Code as compiled
 
 pub next_tile_spec : {M : Type 1} → statement M
 next_tile_spec 𝓤 𝓛 𝓜 𝓡 wired X Y LX LY gh d gs ds bm bs =
-    let H = 𝓛.H in
-    let En = ended X Y gh d gs ds in
-    let c = clauses X Y gh d gs ds 𝓛 𝓜.mem 𝓡.returns in
-    let args : Args = bounded (a_type ∷ a_type ∷ []) (X, (Y, tt)) (dcons d (dcons ds dnil)) in
-    let fn : Fn = inst_fn args compiled.function in
-    let R : RattleType = param 1 Y in
-    let Whole : RattleType = the_row (param 0 X) in
-    let ps = En.signature.params in
-    let stays : Stays En.signature.params En.kept = (stay_dropped _ En.kept.0, tt) in
-    let 𝓣 = tables 𝓤 H 𝓜 𝓡 𝓡.env in
-    let fm = framed 𝓤 H 𝓜 𝓣 in
-    proved_at 𝓛 En stays c 𝓜 𝓡 (Goes-spent_ref 𝓛 3 (0 ∷ []) tt (plain (λ _. Whole)), tt)
-    (#self args) fn (compiled.unfolded 𝓤 H 𝓜 𝓡 wired (X, (Y, tt)) d ds) (λ z are.
-    let Post : Val → SProp 𝓤 = (walk_of 𝓛 En stays c).post z in
-    let a = z.0.3 in
-    let vss = z.0.4 in
-    let κs = z.0.0 in
-    let qs = z.0.1 in
-    let κ : Lft = κs.0 in
-    let κX : Lft = κs.1.0 in
-    let κY : Lft = κs.1.1.0 in
+    let H = 𝓛.H in let 𝓣 = tables 𝓤 H 𝓜 𝓡 𝓡.env in let fm = framed 𝓤 H 𝓜 𝓣 in
+    let args : Args = of_container X Y d ds in let fn : Fn = inst_fn args compiled.function in let R : RattleType = param 1 Y in let Whole : RattleType = the_row (param 0 X) in
+    let En = ended X Y gh d gs ds in let c = clauses X Y gh d gs ds 𝓛 𝓜.mem 𝓡.returns in let ps = En.signature.params in let stays : Stays En.signature.params En.kept = (stay_dropped _ En.kept.0, tt) in
+    proved_at 𝓛 En stays c 𝓜 𝓡 (Goes-spent_ref 𝓛 3 (0 ∷ []) tt (plain (λ _. Whole)), tt) (#self args) fn (compiled.unfolded 𝓤 H 𝓜 𝓡 wired (X, (Y, tt)) d ds) (λ z are.
+    let Post : Val → SProp 𝓤 = (walk_of 𝓛 En stays c).post z in let a = z.0.3 in let vss = z.0.4 in let κs = z.0.0 in let qs = z.0.1 in let κ : Lft = κs.0 in let κX : Lft = κs.1.0 in let κY : Lft = κs.1.1.0 in
     let x : MutBor (TileCursor X.Denot) = a.0 in
     let h : TileCursor X.Denot = x.now in
     let γ : GName = x.ghost_name in

@@ -5,7 +5,7 @@ use mathlib.Core.List.{List, [], ◌∷◌, ◌++◌}
 use lib.ListN.{length}
 use base.Fml.{Lft, GName, ftrue, flft}
 use base.Logic.{SProp, emp, id⊢}
-use mir.Syntax.{Args, Fn, named, a_type, dcons, dnil}
+use mir.Syntax.{Args, Fn, named}
 use mir.MapTy.{inst_fn}
 use mir.Val.{Val, vptr, vstruct, vcons, vnil, of_list}
 use prog.Wp.{WpFn}
@@ -19,7 +19,7 @@ use types.ByLocal.{alloc_all, pass_all, free_all, look_at, look_in_at, get, get_
 use denote.Array.{Array}
 use denote.Follow.{follows}
 use denote.Laws.{shows, Is}
-use denote.Param.{param, bounded}
+use denote.Param.{param}
 use denote.Param.Laws.{param_laws}
 use denote.RattleType.{RattleType, owns}
 use denote.Ref.{MutBor, MutRef, mut_vals, mut_Tells}
@@ -33,6 +33,7 @@ use denote.Triple.Spec.{triple_of}
 use denote.Triple.Table.{framed}
 use denote.Triple.Walked.{Stays, stay_dropped, walk_of, Goes-spent_ref}
 use Rattle.std.proofs.raw_atomic.Walks.{proved_at, leaves}
+use Rattle.lending.proofs.Bodies.{of_container}
 use Rattle.image_model.specs.Layout.{Layout, Fits}
 use Rattle.image_model.specs.Grid.{grid_of}
 use Rattle.image_model.specs.Rows.{pixels, grid_pixels}
@@ -67,26 +68,11 @@ Both κ R = Tuple (MutSlice (named 0) κ R ∷ shape.the_row ∷ [])
 pub exact_pixels_mut_spec : {M : Type 1} → statement M
 unfolding muts_left
 exact_pixels_mut_spec 𝓤 𝓛 𝓜 𝓡 wired X Y LX LY gh d gs ds bm bs =
-    let H = 𝓛.H in
-    let En = ended X Y gh d gs ds in
-    let c = clauses X Y gh d gs ds 𝓛 𝓜.mem 𝓡.returns in
-    let args : Args = bounded (a_type ∷ a_type ∷ []) (X, (Y, tt)) (dcons d (dcons ds dnil)) in
-    let fn : Fn = inst_fn args compiled.function in
-    let R : RattleType = param 1 Y in
-    let Whole : RattleType = the_row (param 0 X) in
-    let ps = En.signature.params in
-    let stays : Stays En.signature.params En.kept = (stay_dropped _ En.kept.0, tt) in
-    let 𝓣 = tables 𝓤 H 𝓜 𝓡 𝓡.env in
-    let fm = framed 𝓤 H 𝓜 𝓣 in
-    proved_at 𝓛 En stays c 𝓜 𝓡 (Goes-spent_ref 𝓛 3 (0 ∷ []) tt (plain (λ _. Whole)), tt)
-    (#self args) fn (compiled.unfolded 𝓤 H 𝓜 𝓡 wired (X, (Y, tt)) d ds) (λ z are.
-    let Post : Val → SProp 𝓤 = (walk_of 𝓛 En stays c).post z in
-    let vss = z.0.4 in
-    let κs = z.0.0 in
-    let qs = z.0.1 in
-    let κ : Lft = κs.0 in
-    let κX : Lft = κs.1.0 in
-    let κY : Lft = κs.1.1.0 in
+    let H = 𝓛.H in let 𝓣 = tables 𝓤 H 𝓜 𝓡 𝓡.env in let fm = framed 𝓤 H 𝓜 𝓣 in
+    let args : Args = of_container X Y d ds in let fn : Fn = inst_fn args compiled.function in let R : RattleType = param 1 Y in let Whole : RattleType = the_row (param 0 X) in
+    let En = ended X Y gh d gs ds in let c = clauses X Y gh d gs ds 𝓛 𝓜.mem 𝓡.returns in let ps = En.signature.params in let stays : Stays En.signature.params En.kept = (stay_dropped _ En.kept.0, tt) in
+    proved_at 𝓛 En stays c 𝓜 𝓡 (Goes-spent_ref 𝓛 3 (0 ∷ []) tt (plain (λ _. Whole)), tt) (#self args) fn (compiled.unfolded 𝓤 H 𝓜 𝓡 wired (X, (Y, tt)) d ds) (λ z are.
+    let Post : Val → SProp 𝓤 = (walk_of 𝓛 En stays c).post z in let vss = z.0.4 in let κs = z.0.0 in let qs = z.0.1 in let κ : Lft = κs.0 in let κX : Lft = κs.1.0 in let κY : Lft = κs.1.1.0 in
     let x : MutBor (Img X.Denot) = z.0.3.0 in
     let old : Layout Y.Denot = layout_by gs.cells x.now in
     let Fit : Type 0 = Fits old in

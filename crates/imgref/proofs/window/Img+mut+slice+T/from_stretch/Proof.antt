@@ -7,7 +7,7 @@ use mathlib.Core.List.{List, [], ◌∷◌, ◌++◌}
 use lib.ListN.{length, take, drop as drop_list, length-drop}
 use base.Logic.{SProp, emp, id⊢}
 use base.Fml.{Lft, GName, Share, ftrue, flft}
-use mir.Syntax.{Args, Fn, named, w64, a_type}
+use mir.Syntax.{Args, Fn, named, w64}
 use mir.MapTy.{inst_fn}
 use mir.Val.{Val, vint}
 use prog.Memory.{size}
@@ -22,7 +22,7 @@ use types.ByLocal.{alloc_all, pass_all, free_all, look_at, get, get_in, through,
 use denote.Array.{Array}
 use denote.Follow.{follows}
 use denote.Laws.{shows, Is}
-use denote.Param.{param, layout, layouts}
+use denote.Param.{param, layout}
 use denote.RattleType.{RattleType, owns}
 use denote.Ref.{MutBor}
 use denote.Slice.{MutSlice, Room, slice_val}
@@ -35,6 +35,7 @@ use denote.Triple.Table.{framed}
 use denote.Triple.Walked.{Stays, stay_dropped, walk_of}
 use borrow.Table.Elements.{at, at_mul, length-take-le}
 use Rattle.std.proofs.raw_atomic.Walks.{proved_at, leaves}
+use Rattle.lending.proofs.Bodies.{of_one}
 use Rattle.lending.proofs.Stretches.{uncapped, cut_at, part_lent, lends_part}
 use Rattle.image_shape.specs.declared.window.Stretch.{Stretch}
 use Rattle.image_shape.specs.declared.shape.Shape.{Shape}
@@ -54,25 +55,11 @@ use Rattle.imgref.proofs.window.Img+mut+slice+T.from_stretch.Code as compiled
 
 pub from_stretch_spec : {M : Type 1} → statement M
 from_stretch_spec 𝓤 𝓛 𝓜 𝓡 wired T L =
-    let H = 𝓛.H in
-    let En = ended T in
-    let c = clauses T 𝓛 𝓜.mem 𝓡.returns in
-    let args : Args = layouts (a_type ∷ []) (T, tt) in
-    let fn : Fn = inst_fn args compiled.function in
-    let R : RattleType = param 0 T in
-    let ps = En.signature.params in
-    let stays : Stays En.signature.params En.kept = (stay_dropped _ En.kept.0, (stay_dropped _ En.kept.1.0, (stay_dropped _ En.kept.1.1.0, tt))) in
-    let 𝓣 = tables 𝓤 H 𝓜 𝓡 𝓡.env in
-    let fm = framed 𝓤 H 𝓜 𝓣 in
-    proved_at 𝓛 En stays c 𝓜 𝓡 ((λ κs x f vs ok. qed 𝓛 (‵ ftrue ∷ []) ∵ updating ! $ now ! $ done !), ((λ κs x f vs ok. qed 𝓛 (‵ ftrue ∷ []) ∵ updating ! $ now ! $ done !), ((λ κs x f vs ok. qed 𝓛 (‵ ftrue ∷ []) ∵ updating ! $ now ! $ done !), tt)))
-    (#self args) fn (compiled.unfolded 𝓤 H 𝓜 𝓡 wired (T, tt)) (λ z are.
-    let Post : Val → SProp 𝓤 = (walk_of 𝓛 En stays c).post z in
-    let a = z.0.3 in
-    let vss = z.0.4 in
-    let κ : Lft = z.0.0.0 in
-    let q : Share = z.0.1.0 in
-    let κT : Lft = z.0.0.1.0 in
-    let qT : Share = z.0.1.1.0 in
+    let H = 𝓛.H in let 𝓣 = tables 𝓤 H 𝓜 𝓡 𝓡.env in let fm = framed 𝓤 H 𝓜 𝓣 in
+    let args : Args = of_one T in let fn : Fn = inst_fn args compiled.function in let R : RattleType = param 0 T in
+    let En = ended T in let c = clauses T 𝓛 𝓜.mem 𝓡.returns in let ps = En.signature.params in let stays : Stays En.signature.params En.kept = (stay_dropped _ En.kept.0, (stay_dropped _ En.kept.1.0, (stay_dropped _ En.kept.1.1.0, tt))) in
+    proved_at 𝓛 En stays c 𝓜 𝓡 ((λ κs x f vs ok. qed 𝓛 (‵ ftrue ∷ []) ∵ updating ! $ now ! $ done !), ((λ κs x f vs ok. qed 𝓛 (‵ ftrue ∷ []) ∵ updating ! $ now ! $ done !), ((λ κs x f vs ok. qed 𝓛 (‵ ftrue ∷ []) ∵ updating ! $ now ! $ done !), tt))) (#self args) fn (compiled.unfolded 𝓤 H 𝓜 𝓡 wired (T, tt)) (λ z are.
+    let Post : Val → SProp 𝓤 = (walk_of 𝓛 En stays c).post z in let a = z.0.3 in let vss = z.0.4 in let κ : Lft = z.0.0.0 in let q : Share = z.0.1.0 in let κT : Lft = z.0.0.1.0 in let qT : Share = z.0.1.1.0 in
     let cells : MutBor (List T.Denot) = a.0 in
     let stretch : Stretch = a.1.0 in
     let shape : Shape = a.1.1.0 in

@@ -5,7 +5,7 @@ use mathlib.Core.List.{List, [], ◌∷◌, ◌++◌}
 use lib.ListN.{length}
 use base.Logic.{SProp, emp, id⊢}
 use base.Fml.{Lft, GName, Share, ftrue, flft}
-use mir.Syntax.{Args, Fn, named, w64, a_type}
+use mir.Syntax.{Args, Fn, named, w64}
 use mir.MapTy.{inst_fn}
 use mir.Val.{Val, vint}
 use prog.Wp.{WpFn}
@@ -20,7 +20,7 @@ use denote.Array.{Array}
 use denote.Builtin.{usize}
 use denote.Follow.{follows}
 use denote.Laws.{shows, Is}
-use denote.Param.{param, layouts}
+use denote.Param.{param}
 use denote.RattleType.{RattleType, owns}
 use denote.Ref.{MutBor}
 use denote.Slice.{MutSlice, slice_val}
@@ -32,6 +32,7 @@ use denote.Triple.Spec.{triple_of}
 use denote.Triple.Table.{framed}
 use denote.Triple.Walked.{Stays, stay_dropped, walk_of, Goes-dropped}
 use Rattle.std.proofs.raw_atomic.Walks.{proved_at, leaves}
+use Rattle.lending.proofs.Bodies.{of_one}
 use Rattle.image_model.specs.Layout.{Fits}
 use Rattle.image_model.specs.Grid.{grid_of}
 use Rattle.image_model.specs.Windows.{Window as Pane, window, window_view, IsInside, IsWithin, Stretch as Part, roomy_stretch, roomy_window, stretch_cells, with_stretch}
@@ -59,25 +60,11 @@ use Rattle.imgref.proofs.window.Img+mut+slice+T.into_sub_image_mut.Code as compi
 
 pub into_sub_image_mut_spec : {M : Type 1} → statement M
 into_sub_image_mut_spec 𝓤 𝓛 𝓜 𝓡 wired T L =
-    let H = 𝓛.H in
-    let En = ended T in
-    let c = clauses T 𝓛 𝓜.mem 𝓡.returns in
-    let args : Args = layouts (a_type ∷ []) (T, tt) in
-    let fn : Fn = inst_fn args compiled.function in
-    let R : RattleType = param 0 T in
-    let ps = En.signature.params in
-    let stays : Stays En.signature.params En.kept = (stay_dropped _ En.kept.0, (stay_dropped _ En.kept.1.0, (stay_dropped _ En.kept.1.1.0, (stay_dropped _ En.kept.1.1.1.0, (stay_dropped _ En.kept.1.1.1.1.0, tt))))) in
-    let 𝓣 = tables 𝓤 H 𝓜 𝓡 𝓡.env in
-    let fm = framed 𝓤 H 𝓜 𝓣 in
-    proved_at 𝓛 En stays c 𝓜 𝓡 ((λ κs x f vs ok. qed 𝓛 (‵ ftrue ∷ []) ∵ updating ! $ nothing ! $ fjoin ! $ now ! $ done !), (Goes-dropped 𝓛 2 (plain (λ _. usize)) En.kept.1.0 (λ κs x f. refl), (Goes-dropped 𝓛 2 (plain (λ _. usize)) En.kept.1.1.0 (λ κs x f. refl), (Goes-dropped 𝓛 2 (plain (λ _. usize)) En.kept.1.1.1.0 (λ κs x f. refl), (Goes-dropped 𝓛 2 (plain (λ _. usize)) En.kept.1.1.1.1.0 (λ κs x f. refl), tt)))))
-    (#self args) fn (compiled.unfolded 𝓤 H 𝓜 𝓡 wired (T, tt)) (λ z are.
-    let Post : Val → SProp 𝓤 = (walk_of 𝓛 En stays c).post z in
-    let a = z.0.3 in
-    let vss = z.0.4 in
-    let κ : Lft = z.0.0.0 in
-    let q : Share = z.0.1.0 in
-    let κT : Lft = z.0.0.1.0 in
-    let qT : Share = z.0.1.1.0 in
+    let H = 𝓛.H in let 𝓣 = tables 𝓤 H 𝓜 𝓡 𝓡.env in let fm = framed 𝓤 H 𝓜 𝓣 in
+    let args : Args = of_one T in let fn : Fn = inst_fn args compiled.function in let R : RattleType = param 0 T in
+    let En = ended T in let c = clauses T 𝓛 𝓜.mem 𝓡.returns in let ps = En.signature.params in let stays : Stays En.signature.params En.kept = (stay_dropped _ En.kept.0, (stay_dropped _ En.kept.1.0, (stay_dropped _ En.kept.1.1.0, (stay_dropped _ En.kept.1.1.1.0, (stay_dropped _ En.kept.1.1.1.1.0, tt))))) in
+    proved_at 𝓛 En stays c 𝓜 𝓡 ((λ κs x f vs ok. qed 𝓛 (‵ ftrue ∷ []) ∵ updating ! $ nothing ! $ fjoin ! $ now ! $ done !), (Goes-dropped 𝓛 2 (plain (λ _. usize)) En.kept.1.0 (λ κs x f. refl), (Goes-dropped 𝓛 2 (plain (λ _. usize)) En.kept.1.1.0 (λ κs x f. refl), (Goes-dropped 𝓛 2 (plain (λ _. usize)) En.kept.1.1.1.0 (λ κs x f. refl), (Goes-dropped 𝓛 2 (plain (λ _. usize)) En.kept.1.1.1.1.0 (λ κs x f. refl), tt))))) (#self args) fn (compiled.unfolded 𝓤 H 𝓜 𝓡 wired (T, tt)) (λ z are.
+    let Post : Val → SProp 𝓤 = (walk_of 𝓛 En stays c).post z in let a = z.0.3 in let vss = z.0.4 in let κ : Lft = z.0.0.0 in let q : Share = z.0.1.0 in let κT : Lft = z.0.0.1.0 in let qT : Share = z.0.1.1.0 in
     let img : Img (MutBor (List T.Denot)) = a.0 in
     let win : Window = record { left = a.1.0; top = a.1.1.0; width = a.1.1.1.0; height = a.1.1.1.1.0 } in
     let cells : MutBor (List T.Denot) = img.buf in
