@@ -2,9 +2,10 @@
 
 #![tactic(auto, using(crate::proofs::Runs::copies_run), unfolding(crate::specs::Pixels::copies_left))]
 
-ghost use Rattle.std.specs.Prelude.{◌≡◌, ◌+◌, ◌*◌, ◌^◌, ◌<◌, ◌≤◌, length, List};
+ghost use Rattle.std.specs.Prelude.{◌≡◌, ◌+◌, ◌*◌, ◌^◌, ◌<◌, ◌≤◌, length, List, ◌++◌, true, false, [], Some, IfSome};
 ghost use Rattle.std.specs.Borrow.{Bor, ftrue};
-ghost use Rattle.std.specs.Iterator.{YieldsFirst, YieldsFirstRef};
+ghost use Rattle.std.specs.Iterator.{YieldsFirst, YieldsFirstRef, item_count, UpTo, CallableInFold, FoldsItems, ActsAsOnTwo};
+ghost use Rattle.std.specs.Iterator.SizeHint.{IsWithinCount};
 ghost use Rattle.std.specs.Iterator.Runs.{YieldsInOrder, YieldsRefsInOrder};
 ghost use Rattle.image_model.specs.Layout.{Fits};
 ghost use Rattle.image_model.specs.Rows.{pixels as pixels_of, grid_pixels};
@@ -35,7 +36,6 @@ pub struct PixelsRefIter<'a, T> {
 }
 
 impl<'a, T> PixelsRefIter<'a, T> {
-    ghost use Rattle.std.specs.Prelude.{◌≡◌, ◌+◌, ◌*◌, ◌<◌, ◌≤◌, ◌++◌, length, true, false, []};
     ghost use Rattle.image_pixels.specs.Marks.{pick, marks};
     ghost use Rattle.image_pixels.specs.Pixels.{refs_left, TakesRow};
 
@@ -122,9 +122,6 @@ impl<'a, T> PixelsRefIter<'a, T> {
 impl<'a, T> Iterator for PixelsRefIter<'a, T> {
     type Item = &'a T;
 
-    ghost use Rattle.std.specs.Prelude.{◌≡◌, length, Some, IfSome};
-    ghost use Rattle.std.specs.Iterator.{YieldsFirstRef, item_count, UpTo};
-    ghost use Rattle.std.specs.Iterator.SizeHint.{IsWithinCount};
     ghost use Rattle.image_pixels.specs.Pixels.{refs_left};
 
     ghost next_gives = { YieldsFirstRef refs_left };
@@ -149,9 +146,7 @@ impl<'a, T> Iterator for PixelsRefIter<'a, T> {
 }
 
 impl<'a, T> PixelsRefIter<'a, T> {
-    ghost use Rattle.std.specs.Prelude.{◌≡◌};
     ghost use Rattle.std.specs.List.{fold};
-    ghost use Rattle.std.specs.Iterator.{CallableInFold, FoldsItems, ActsAsOnTwo};
     ghost use Rattle.std.specs.Iterator.Runs.{WholeRun};
     ghost use Rattle.image_pixels.specs.Pixels.{refs_left};
 
@@ -213,9 +208,6 @@ impl<'a, T: Copy> PixelsIter<'a, T> {
 impl<T: Copy> Iterator for PixelsIter<'_, T> {
     type Item = T;
 
-    ghost use Rattle.std.specs.Prelude.{◌≡◌, length, Some, IfSome};
-    ghost use Rattle.std.specs.Iterator.{YieldsFirst, item_count, UpTo};
-    ghost use Rattle.std.specs.Iterator.SizeHint.{IsWithinCount};
     ghost use Rattle.image_pixels.specs.Pixels.{copies_left};
 
     ghost next_gives = { YieldsFirst copies_left };
@@ -239,9 +231,7 @@ impl<T: Copy> Iterator for PixelsIter<'_, T> {
 }
 
 impl<T: Copy> PixelsIter<'_, T> {
-    ghost use Rattle.std.specs.Prelude.{◌≡◌};
     ghost use Rattle.std.specs.List.{fold};
-    ghost use Rattle.std.specs.Iterator.{CallableInFold, FoldsItems, ActsAsOnTwo};
     ghost use Rattle.std.specs.Iterator.Runs.{WholeRun};
     ghost use Rattle.image_pixels.specs.Pixels.{copies_left};
 

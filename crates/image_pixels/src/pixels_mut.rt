@@ -1,7 +1,9 @@
 //! The pixels for writing.
 
-ghost use Rattle.std.specs.Prelude.{◌≡◌, ◌+◌, ◌*◌, ◌^◌, ◌<◌, ◌≤◌, length, List};
-ghost use Rattle.std.specs.Borrow.{GName, ftrue};
+ghost use Rattle.std.specs.Prelude.{◌≡◌, ◌+◌, ◌*◌, ◌^◌, ◌<◌, ◌≤◌, length, List, Some, IfSome};
+ghost use Rattle.std.specs.Borrow.{GName, ftrue, sem};
+ghost use Rattle.std.specs.Iterator.{YieldsFirstMut, item_count, MakesProgress, UpTo};
+ghost use Rattle.std.specs.Iterator.SizeHint.{IsWithinCount};
 ghost use Rattle.image_model.specs.Layout.{Fits};
 ghost use Rattle.image_model.specs.Rows.{pixels as pixels_of, grid_pixels};
 ghost use Rattle.image_shape.specs.Shape.{shape_width, shape_height, shape_stride, shaped_grid, shaped};
@@ -39,8 +41,6 @@ impl<'a, T> Model for PixelsIterMut<'a, T> {
 }
 
 impl<'a, T> PixelsIterMut<'a, T> {
-    ghost use Rattle.std.specs.Borrow.{sem};
-    ghost use Rattle.std.specs.Iterator.{YieldsFirstMut, item_count, MakesProgress};
     ghost use Rattle.image_pixels.specs.Marks.{pick, marks, marks_of};
     ghost use Rattle.image_pixels.specs.Pixels.{muts_left, cells_left, marks_left, name_of, hands_on, Moves};
 
@@ -120,9 +120,6 @@ impl<'a, T> PixelsIterMut<'a, T> {
 impl<'a, T> Iterator for PixelsIterMut<'a, T> {
     type Item = &'a mut T;
 
-    ghost use Rattle.std.specs.Prelude.{◌≡◌, length, Some, IfSome};
-    ghost use Rattle.std.specs.Iterator.{YieldsFirstMut, item_count, UpTo};
-    ghost use Rattle.std.specs.Iterator.SizeHint.{IsWithinCount};
     ghost use Rattle.image_pixels.specs.Pixels.{muts_left};
 
     ghost next_gives = { YieldsFirstMut muts_left };
@@ -153,7 +150,6 @@ impl<T: Copy> ExactSizeIterator for PixelsIterMut<'_, T> {
 impl<T> FusedIterator for PixelsIterMut<'_, T> {}
 
 impl<T> Drop for PixelsIterMut<'_, T> {
-    ghost use Rattle.std.specs.Borrow.{sem};
     ghost use Rattle.image_pixels.specs.Pixels.{leaves_as};
 
     fn drop(self)

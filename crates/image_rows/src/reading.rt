@@ -1,6 +1,8 @@
 //! Rows for reading.
 
-ghost use Rattle.std.specs.Prelude.{◌≡◌, ◌^◌, ◌<◌, ◌≤◌, length, All};
+ghost use Rattle.std.specs.Prelude.{◌≡◌, ◌^◌, ◌<◌, ◌≤◌, length, All, Some, IfSome};
+ghost use Rattle.std.specs.Iterator.{YieldsFirstRef, item_count, UpTo, YieldsLastRef};
+ghost use Rattle.std.specs.Iterator.SizeHint.{IsWithinCount};
 ghost use Rattle.image_model.specs.Layout.{Fits, layout};
 ghost use Rattle.image_model.specs.Rows.{rows as rows_of, row_count, grid_rows};
 ghost use Rattle.image_shape.specs.Shape.{shape_width, shape_height, shape_stride, shaped_grid, shaped};
@@ -48,9 +50,6 @@ impl<'a, T> RowsIter<'a, T> {
 impl<'a, T> Iterator for RowsIter<'a, T> {
     type Item = &'a [T];
 
-    ghost use Rattle.std.specs.Prelude.{◌≡◌, length, Some, IfSome};
-    ghost use Rattle.std.specs.Iterator.{YieldsFirstRef, item_count, UpTo};
-    ghost use Rattle.std.specs.Iterator.SizeHint.{IsWithinCount};
     ghost use Rattle.image_rows.specs.Rows.{refs_left};
 
     ghost next_gives = { YieldsFirstRef refs_left };
@@ -81,7 +80,6 @@ impl<'a, T> Iterator for RowsIter<'a, T> {
 }
 
 impl<'a, T> DoubleEndedIterator for RowsIter<'a, T> {
-    ghost use Rattle.std.specs.Iterator.{YieldsLastRef};
     ghost use Rattle.image_rows.specs.Rows.{refs_left};
 
     ghost next_back_gives = { YieldsLastRef refs_left };

@@ -1,6 +1,9 @@
 //! Rows for writing.
 
-ghost use Rattle.std.specs.Prelude.{◌≡◌, ◌+◌, ◌-◌, ◌*◌, ◌^◌, ◌<◌, ◌≤◌, length, All};
+ghost use Rattle.std.specs.Prelude.{◌≡◌, ◌+◌, ◌-◌, ◌*◌, ◌^◌, ◌<◌, ◌≤◌, length, All, Some, IfSome};
+ghost use Rattle.std.specs.Borrow.{sem};
+ghost use Rattle.std.specs.Iterator.{YieldsFirstMut, YieldsLastMut, item_count, UpTo};
+ghost use Rattle.std.specs.Iterator.SizeHint.{IsWithinCount};
 ghost use Rattle.image_model.specs.Layout.{Fits};
 ghost use Rattle.image_model.specs.Rows.{rows as rows_of, row_count, grid_rows};
 ghost use Rattle.image_shape.specs.Shape.{shape_width, shape_height, shape_stride, shaped_grid, shaped};
@@ -24,8 +27,6 @@ pub struct RowsIterMut<'a, T> {
 }
 
 impl<'a, T> RowsIterMut<'a, T> {
-    ghost use Rattle.std.specs.Borrow.{sem};
-    ghost use Rattle.std.specs.Iterator.{YieldsFirstMut, YieldsLastMut};
     ghost use Rattle.image_rows.specs.Rows.{muts_left, cells_left, name_of, spacing_left, whole_spacing, Yields, Moves, hands_on};
 
     /// The rows of cells in a shape that they fit, for writing.
@@ -121,9 +122,6 @@ impl<'a, T> RowsIterMut<'a, T> {
 impl<'a, T> Iterator for RowsIterMut<'a, T> {
     type Item = &'a mut [T];
 
-    ghost use Rattle.std.specs.Prelude.{◌≡◌, length, Some, IfSome};
-    ghost use Rattle.std.specs.Iterator.{YieldsFirstMut, item_count, UpTo};
-    ghost use Rattle.std.specs.Iterator.SizeHint.{IsWithinCount};
     ghost use Rattle.image_rows.specs.Rows.{muts_left};
 
     ghost next_gives = { YieldsFirstMut muts_left };
@@ -146,7 +144,6 @@ impl<'a, T> Iterator for RowsIterMut<'a, T> {
 }
 
 impl<'a, T> DoubleEndedIterator for RowsIterMut<'a, T> {
-    ghost use Rattle.std.specs.Iterator.{YieldsLastMut};
     ghost use Rattle.image_rows.specs.Rows.{muts_left};
 
     ghost next_back_gives = { YieldsLastMut muts_left };

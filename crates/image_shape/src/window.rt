@@ -1,7 +1,7 @@
 //! Windows, and the stretch of cells that each has.
 
 ghost use Rattle.std.specs.Prelude.{◌≡◌, ◌≤◌};
-ghost use Rattle.image_model.specs.Windows.{exact_stretch, window_stretch, is_inside, IsWithin};
+ghost use Rattle.image_model.specs.Windows.{exact_stretch, window, window_stretch, is_inside, IsWithin};
 
 /// A window of an image or of another window: its corner and its size, in pixels.
 #[derive(Clone, Copy, PartialEq, Eq)]
@@ -27,6 +27,18 @@ pub struct Stretch {
 
 impl Window {
     ghost use Rattle.image_shape.specs.Window.{as_window, as_stretch};
+
+    /// The window of `width` by `height` pixels with its corner at column `left` of row `top`.
+    pub fn new(left: usize, top: usize, width: usize, height: usize) -> Window
+        ensures { as_window result ≡ window left top width height }
+    {
+        Window {
+            left,
+            top,
+            width,
+            height,
+        }
+    }
 
     /// Whether it lies inside this size. Empty windows at the right and the lower edge do.
     pub fn is_inside(&self, width: usize, height: usize) -> bool

@@ -1,7 +1,9 @@
 //! Bands of an image for writing: full width, side by side.
 
-ghost use Rattle.std.specs.Prelude.{◌≡◌, ◌+◌, ◌-◌, ◌*◌, ◌^◌, ◌≤◌, ◌<◌, ◌++◌, length, take, drop, map, Some, All};
+ghost use Rattle.std.specs.Prelude.{◌≡◌, ◌+◌, ◌-◌, ◌*◌, ◌^◌, ◌≤◌, ◌<◌, ◌++◌, length, take, drop, map, Some, All, IfSome};
 ghost use Rattle.std.specs.Borrow.{sem, follows_both, Array};
+ghost use Rattle.std.specs.Iterator.{YieldsFirstBy, item_count, UpTo};
+ghost use Rattle.std.specs.Iterator.SizeHint.{IsWithinCount};
 ghost use Rattle.image_model.specs.Layout.{Fits};
 ghost use Rattle.image_model.specs.Grid.{grid_of};
 ghost use Rattle.image_model.specs.Rows.{row_count};
@@ -118,8 +120,6 @@ pub struct BandsMut<'a, T> {
 }
 
 impl<'a, T> BandsMut<'a, T> {
-    ghost use Rattle.std.specs.Borrow.{sem};
-    ghost use Rattle.std.specs.Iterator.{YieldsFirstBy};
     ghost use Rattle.image_tiles.specs.Bands.{bands, band_windows, bands_left, name_of, cells_left, lines_left, all_lines, hands_on, Moves};
 
     /// The bands of an image, of `band_height` rows each. An image with no pixel has none.
@@ -204,9 +204,6 @@ impl<'a, T> BandsMut<'a, T> {
 impl<'a, T> Iterator for BandsMut<'a, T> {
     type Item = ImgRefMut<'a, T>;
 
-    ghost use Rattle.std.specs.Prelude.{◌≡◌, length, Some, IfSome};
-    ghost use Rattle.std.specs.Iterator.{YieldsFirstBy, item_count, UpTo};
-    ghost use Rattle.std.specs.Iterator.SizeHint.{IsWithinCount};
     ghost use Rattle.image_tiles.specs.Bands.{bands_left};
 
     ghost next_gives = { YieldsFirstBy mut_layout bands_left };
