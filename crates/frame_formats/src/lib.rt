@@ -1,10 +1,11 @@
-//! Formats of raw video: the line that names one, the planes of its frames, and what an edit of the
-//! pixels is on each of them. Nothing here reads or writes.
+//! Formats of raw video: the line that names one, the head of a picture, the planes of a frame, and
+//! what an edit of the pixels is on each of them. Nothing here reads or writes.
 #![tactic(auto)]
 
 mod framing;
 mod header;
 mod line;
+mod picture;
 mod plans;
 mod words;
 
@@ -12,5 +13,6 @@ pub use framing::{Framing, resize_of};
 pub use header::{Chroma, Format, read_format};
 pub use image_planes::{Change, Plane, Resize, Step, Target, Window};
 pub use line::resized_line;
+pub use picture::{Head, Picture, Scan, heads_end_themselves, picture_head};
 pub use plans::{PlanFault, plan, plan_resize};
 pub use words::{Edits, WordsFault};

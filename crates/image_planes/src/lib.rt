@@ -4,6 +4,7 @@
 
 mod change;
 mod hiding;
+mod interleaved;
 mod plane;
 mod planes;
 mod steps;
@@ -13,6 +14,7 @@ mod targets;
 pub use change::{Change, Step};
 pub use hiding::changes_hide;
 pub use imgref::Window;
+pub use interleaved::{join_pixels, part_pixels, parts_join};
 pub use plane::Plane;
 pub use planes::{change_planes, planes_len};
 pub use target::{Resize, Target};

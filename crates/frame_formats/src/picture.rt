@@ -1,0 +1,276 @@
+//! The head of a picture: its kind, its size and the greatest value of a pixel.
+
+ghost use Rattle.std.specs.Prelude.{◌≡◌, IfOk};
+ghost use Rattle.frame_formats.specs.Picture.{is_white, with_digit, after_white, after_digit, at_byte, pushed, start, head_text, ApartHeads, OneByteMore, BadStays, BeginsWithLetter, ReadsBack};
+
+use std::alloc::{AllocError, Global};
+
+/// The size of a picture, and whether its pixels are of three bytes, red, green and blue, or of one.
+#[derive(Clone, Copy, PartialEq, Eq)]
+pub struct Picture {
+    pub width: usize,
+    pub height: usize,
+    pub colour: bool,
+}
+
+/// What a head that goes on has been read as. A number is `None` before its first digit.
+#[derive(Clone, Copy, PartialEq, Eq)]
+pub enum Head {
+    /// Nothing.
+    Start,
+    /// The letter `P`.
+    Letter,
+    /// The two bytes of the kind. White space is due.
+    Kind {
+        colour: bool,
+    },
+    /// Digits of the width, or white space before it.
+    Width {
+        colour: bool,
+        width: Option<usize>,
+    },
+    /// The same of the height.
+    Height {
+        colour: bool,
+        width: usize,
+        height: Option<usize>,
+    },
+    /// The same of the greatest value.
+    Greatest {
+        colour: bool,
+        width: usize,
+        height: usize,
+        greatest: Option<usize>,
+    },
+}
+
+/// What bytes are, read as the head of a picture one after the other.
+#[derive(Clone, Copy, PartialEq, Eq)]
+pub enum Scan {
+    /// The head goes on, perhaps in a comment.
+    More { head: Head, comment: bool },
+    /// They are the head of this picture.
+    Done(Picture),
+    /// They are no head, and none begins with them.
+    Bad,
+}
+
+fn is_white(byte: u8) -> bool
+    ensures { result ≡ is_white byte }
+{
+    byte == b' ' || (byte >= 9 && byte <= 13)
+}
+
+// The number with one more digit, below 2^32.
+fn with_digit(number: Option<usize>, digit: usize) -> Option<usize>
+    ensures { result ≡ with_digit number digit }
+{
+    match number {
+        None => Some(digit),
+        Some(number) => {
+            let number = number.checked_mul(10)?.checked_add(digit)?;
+            (number <= u32::MAX as usize).then_some(number)
+        }
+    }
+}
+
+impl Head {
+    // What it is after white space, or after a comment.
+    fn after_white(self) -> Scan
+        ensures { result ≡ after_white self }
+    {
+        let head = match self {
+            Head::Start | Head::Letter => return Scan::Bad,
+            Head::Kind { colour } => Head::Width {
+                colour,
+                width: None,
+            },
+            Head::Width {
+                colour,
+                width: Some(width),
+            } => {
+                if width == 0 {
+                    return Scan::Bad;
+                }
+                Head::Height {
+                    colour,
+                    width,
+                    height: None,
+                }
+            }
+            Head::Height {
+                colour,
+                width,
+                height: Some(height),
+            } => {
+                if height == 0 {
+                    return Scan::Bad;
+                }
+                Head::Greatest {
+                    colour,
+                    width,
+                    height,
+                    greatest: None,
+                }
+            }
+            Head::Greatest {
+                colour,
+                width,
+                height,
+                greatest: Some(greatest),
+            } => {
+                if greatest != 255 {
+                    return Scan::Bad;
+                }
+                return Scan::Done(Picture {
+                    width,
+                    height,
+                    colour,
+                });
+            }
+            _ => self,
+        };
+        Scan::More {
+            head,
+            comment: false,
+        }
+    }
+}
+
+impl Head {
+    // What it is after a digit.
+    fn after_digit(self, digit: usize) -> Scan
+        ensures { result ≡ after_digit self digit }
+    {
+        let head = match self {
+            Head::Start | Head::Letter | Head::Kind { .. } => return Scan::Bad,
+            Head::Width { colour, width } => match with_digit(width, digit) {
+                None => return Scan::Bad,
+                width => Head::Width { colour, width },
+            },
+            Head::Height {
+                colour,
+                width,
+                height,
+            } => match with_digit(height, digit) {
+                None => return Scan::Bad,
+                height => Head::Height {
+                    colour,
+                    width,
+                    height,
+                },
+            },
+            Head::Greatest {
+                colour,
+                width,
+                height,
+                greatest,
+            } => match with_digit(greatest, digit) {
+                None => return Scan::Bad,
+                greatest => Head::Greatest {
+                    colour,
+                    width,
+                    height,
+                    greatest,
+                },
+            },
+        };
+        Scan::More {
+            head,
+            comment: false,
+        }
+    }
+
+    // What it is after a byte outside a comment.
+    fn at_byte(self, byte: u8) -> Scan
+        ensures { result ≡ at_byte self byte }
+    {
+        match (self, byte) {
+            (Head::Start, b'P') => Scan::More {
+                head: Head::Letter,
+                comment: false,
+            },
+            (Head::Letter, b'5') => Scan::More {
+                head: Head::Kind { colour: false },
+                comment: false,
+            },
+            (Head::Letter, b'6') => Scan::More {
+                head: Head::Kind { colour: true },
+                comment: false,
+            },
+            (Head::Start, _) | (Head::Letter, _) => Scan::Bad,
+            (_, b'#') => Scan::More {
+                head: self,
+                comment: true,
+            },
+            (_, b'0'..=b'9') => self.after_digit((byte - b'0') as usize),
+            _ => {
+                if is_white(byte) {
+                    self.after_white()
+                } else {
+                    Scan::Bad
+                }
+            }
+        }
+    }
+}
+
+impl Scan {
+    /// No byte yet.
+    pub fn new() -> Self
+        ensures { result ≡ start }
+    {
+        Scan::More {
+            head: Head::Start,
+            comment: false,
+        }
+    }
+
+    /// With one byte more: what ends a comment is its white space, and a head has no byte more.
+    pub fn push(self, byte: u8) -> Scan
+        ensures { result ≡ pushed self byte }
+    {
+        match self {
+            Scan::More {
+                head,
+                comment: false,
+            } => head.at_byte(byte),
+            Scan::More {
+                head,
+                comment: true,
+            } => {
+                if byte == b'\n' || byte == b'\r' {
+                    head.after_white()
+                } else {
+                    self
+                }
+            }
+            Scan::Done(_) | Scan::Bad => Scan::Bad,
+        }
+    }
+}
+
+/// The head of a picture: its kind on a line, its size on one, and `255` on one.
+pub fn picture_head(alloc: Global, picture: Picture) -> Result<Vec<u8>, AllocError>
+    ensures { IfOk result (λ text. text.items ≡ head_text picture) }
+{
+    let mut text = Vec::new(alloc);
+    text.extend_from_slice(if picture.colour { b"P6\n" } else { b"P5\n" })?;
+    let width = picture.width.to_string(alloc)?;
+    text.extend_from_slice(width.as_bytes())?;
+    text.push(b' ')?;
+    let height = picture.height.to_string(alloc)?;
+    text.extend_from_slice(height.as_bytes())?;
+    text.extend_from_slice(b"\n255\n")?;
+    Ok(text)
+}
+
+/// No head begins another, so a reader knows where one ends; bytes that are bad begin none; and what
+/// `picture_head` writes is read as its picture. A caller calls it for these laws; it does nothing.
+pub fn heads_end_themselves()
+    ensures apart { ApartHeads }
+    ensures one_byte_more { OneByteMore }
+    ensures bad_stays { BadStays }
+    ensures begins { BeginsWithLetter }
+    ensures reads_back { ReadsBack }
+{}

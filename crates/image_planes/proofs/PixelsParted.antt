@@ -1,0 +1,72 @@
+-- Pixels of three bytes and their planes, place by place.
+use Rattle.std.proofs.Common.{◌≡◌, ℕ, ◌+◌, ◌*◌, ◌/◌, ◌%◌, ◌<◌, List, ◌++◌, length, get_or, sym, ap, ◌∙◌, arith, inl, inr, length-append}
+use Rattle.std.proofs.lemmas.Bool.{cases_lt}
+use Rattle.std.proofs.lemmas.List.{get_or_append_left, get_or-append-add}
+use Rattle.std.proofs.lemmas.List.FromFn.{fill_by_all, length-map-range_with_len, get_or-map-range_with_len}
+use Rattle.image_planes.specs.Interleaved.{channel, channels, parted, interleaved, joined}
+
+-- a cell of one of three planes of so many cells
+in_first : (a b c : List ℕ) (count q : ℕ) → length a ≡ count → q < count → get_or (a ++ (b ++ c)) q 0 ≡ get_or a q 0
+in_first a b c count q first within = get_or_append_left a (b ++ c) 0 q (omega (arith, first, within))
+
+in_second : (a b c : List ℕ) (count q : ℕ) → length a ≡ count → length b ≡ count → q < count → get_or (a ++ (b ++ c)) (1 * count + q) 0 ≡ get_or b q 0
+in_second a b c count q first second within =
+    let at : 1 * count + q ≡ length a + q = omega (arith, first) in
+    ap (λ i. get_or (a ++ (b ++ c)) i 0) at ∙ get_or-append-add a (b ++ c) q 0 ∙ get_or_append_left b c 0 q (omega (arith, second, within))
+
+in_third : (a b c : List ℕ) (count q : ℕ) → length a ≡ count → length b ≡ count → get_or (a ++ (b ++ c)) (2 * count + q) 0 ≡ get_or c q 0
+in_third a b c count q first second =
+    let at : 2 * count + q ≡ length a + (length b + q) = omega (arith, first, second) in
+    ap (λ i. get_or (a ++ (b ++ c)) i 0) at ∙ get_or-append-add a (b ++ c) (length b + q) 0 ∙ get_or-append-add b c q 0
+
+-- bytes that are those of each pixel are the pixels of the planes
+pub pixels_joined : (count : ℕ) (a b c pixels : List ℕ) → length pixels ≡ 3 * count → length a ≡ count → length b ≡ count
+    → ((k : ℕ) → k < count → get_or pixels (3 * k) 0 ≡ get_or a k 0) → ((k : ℕ) → k < count → get_or pixels (3 * k + 1) 0 ≡ get_or b k 0) → ((k : ℕ) → k < count → get_or pixels (3 * k + 2) 0 ≡ get_or c k 0)
+    → pixels ≡ interleaved count (a ++ (b ++ c))
+pixels_joined count a b c pixels long first second reds greens blues =
+    fill_by_all (λ j. get_or (a ++ (b ++ c)) (j % 3 * count + j / 3) 0) pixels (3 * count) 0 long (λ j within.
+    let q = j / 3 in
+    let cell : ℕ → ℕ = λ r. get_or (a ++ (b ++ c)) (r * count + q) 0 in
+    let column : q < count = omega arith in
+    elim (cases_lt (j % 3) 1) [
+      | inl low ↦
+          let at : j ≡ 3 * q = omega arith in
+          let which : j % 3 ≡ 0 = omega arith in
+          ap (λ i. get_or pixels i 0) at ∙ reds q column ∙ sym (in_first a b c count q first column) ∙ sym (ap cell which ∙ ap (λ i. get_or (a ++ (b ++ c)) i 0) (omega arith))
+      | inr some ↦
+          elim (cases_lt (j % 3) 2) [
+            | inl mid ↦
+                let at : j ≡ 3 * q + 1 = omega arith in
+                let which : j % 3 ≡ 1 = omega arith in
+                ap (λ i. get_or pixels i 0) at ∙ greens q column ∙ sym (in_second a b c count q first second column) ∙ sym (ap cell which)
+            | inr high ↦
+                let at : j ≡ 3 * q + 2 = omega arith in
+                let which : j % 3 ≡ 2 = omega arith in
+                ap (λ i. get_or pixels i 0) at ∙ blues q column ∙ sym (in_third a b c count q first second) ∙ sym (ap cell which)
+          ]
+    ])
+
+pub length-channel : (count k : ℕ) (pixels : List ℕ) → length (channel count k pixels) ≡ count
+length-channel count k pixels = length-map-range_with_len (λ i. get_or pixels (3 * i + k) 0) 0 count
+
+cell_of : (count k : ℕ) (pixels : List ℕ) (i : ℕ) → i < count → get_or (channel count k pixels) i 0 ≡ get_or pixels (3 * i + k) 0
+cell_of count k pixels i within = get_or-map-range_with_len (λ j. get_or pixels (3 * j + k) 0) 0 count i i 0 within (omega arith)
+
+pub length-channels : (count : ℕ) (pixels : List ℕ) → length (channels count pixels) ≡ 3 * count
+length-channels count pixels =
+    let a = channel count 0 pixels in
+    let b = channel count 1 pixels in
+    let c = channel count 2 pixels in
+    length-append a (b ++ c)
+    ∙ (let behind : length (b ++ c) ≡ length b + length c = length-append b c in
+    omega (arith, behind, length-channel count 0 pixels, length-channel count 1 pixels, length-channel count 2 pixels))
+
+-- pixels that are parted and joined
+pub parts_joined : (count : ℕ) (pixels : List ℕ) → length pixels ≡ 3 * count → joined (parted pixels) ≡ pixels
+parts_joined count pixels long =
+    let whole : length pixels / 3 ≡ count = omega (arith, long) in
+    let planes : length (channels count pixels) / 3 ≡ count = omega (arith, length-channels count pixels) in
+    let zero : (k : ℕ) → 3 * k + 0 ≡ 3 * k = λ k. omega arith in
+    ap (λ n. joined (channels n pixels)) whole ∙ ap (λ n. interleaved n (channels count pixels)) planes
+    ∙ sym (pixels_joined count (channel count 0 pixels) (channel count 1 pixels) (channel count 2 pixels) pixels long (length-channel count 0 pixels) (length-channel count 1 pixels)
+    (λ k within. sym (cell_of count 0 pixels k within ∙ ap (λ i. get_or pixels i 0) (zero k))) (λ k within. sym (cell_of count 1 pixels k within)) (λ k within. sym (cell_of count 2 pixels k within)))

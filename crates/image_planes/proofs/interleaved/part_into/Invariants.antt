@@ -1,0 +1,10 @@
+use Rattle.std.proofs.Common.{◌≡◌, ℕ, ◌+◌, ◌*◌, ◌<◌, get_or}
+use Rattle.image_planes.proofs.interleaved.part_into.Given as goal
+
+-- the pixels so far are in their planes
+abbrev pub invariant-loop-i : goal.invariant-loop-i
+invariant-loop-i l = record {
+  red : (k : ℕ) → k < l.i → get_or l.red k 0 ≡ get_or l.pixels (3 * k + 0) 0;
+  green : (k : ℕ) → k < l.i → get_or l.green k 0 ≡ get_or l.pixels (3 * k + 1) 0;
+  blue : (k : ℕ) → k < l.i → get_or l.blue k 0 ≡ get_or l.pixels (3 * k + 2) 0;
+}

@@ -1,0 +1,68 @@
+//! Pixels of three bytes, red, green and blue, as three planes of one byte each, and back.
+
+ghost use Rattle.std.specs.Prelude.{◌≡◌, ℕ, ◌*◌, ◌%◌, ◌++◌, length};
+ghost use Rattle.image_planes.specs.Interleaved.{channel, interleaved, parted, joined, PartsJoin};
+
+// Each byte of the pixels into its plane.
+#[inline(never)]
+fn part_into(pixels: &[u8], red: &mut [u8], green: &mut [u8], blue: &mut [u8])
+    requires pixels { length pixels.now ≡ 3 * length red.old }
+    requires green { length green.old ≡ length red.old }
+    requires blue { length blue.old ≡ length red.old }
+    ensures red { red.new ≡ channel (length red.old) 0 pixels.now }
+    ensures green { green.new ≡ channel (length red.old) 1 pixels.now }
+    ensures blue { blue.new ≡ channel (length red.old) 2 pixels.now }
+{
+    for i in 0..red.len() {
+        let at = 3 * i;
+        red[i] = pixels[at];
+        green[i] = pixels[at + 1];
+        blue[i] = pixels[at + 2];
+    }
+}
+
+// Each cell of the planes into its pixel.
+#[inline(never)]
+fn join_from(red: &[u8], green: &[u8], blue: &[u8], pixels: &mut [u8])
+    requires pixels { length pixels.old ≡ 3 * length red.now }
+    requires green { length green.now ≡ length red.now }
+    requires blue { length blue.now ≡ length red.now }
+    ensures { pixels.new ≡ interleaved (length red.now) (red.now ++ (green.now ++ blue.now)) }
+{
+    for i in 0..red.len() {
+        let at = 3 * i;
+        pixels[at] = red[i];
+        pixels[at + 1] = green[i];
+        pixels[at + 2] = blue[i];
+    }
+}
+
+/// Copies the bytes of pixels of three bytes into three planes, which lie one behind the other.
+pub fn part_pixels(pixels: &[u8], planes: &mut [u8])
+    requires whole { length pixels.now % 3 ≡ 0 }
+    requires same { length planes.old ≡ length pixels.now }
+    ensures { planes.new ≡ parted pixels.now }
+{
+    let count = pixels.len() / 3;
+    let (red, others) = planes.split_at_mut(count);
+    let (green, blue) = others.split_at_mut(count);
+    part_into(pixels, red, green, blue);
+}
+
+/// Copies three planes, which lie one behind the other, into the pixels of three bytes that they are.
+pub fn join_pixels(planes: &[u8], pixels: &mut [u8])
+    requires whole { length planes.now % 3 ≡ 0 }
+    requires same { length pixels.old ≡ length planes.now }
+    ensures { pixels.new ≡ joined planes.now }
+{
+    let count = planes.len() / 3;
+    let (red, others) = planes.split_at(count);
+    let (green, blue) = others.split_at(count);
+    join_from(red, green, blue, pixels);
+}
+
+/// Whole pixels that are parted and joined are the same. A caller calls it for this law; it does
+/// nothing.
+pub fn parts_join()
+    ensures { PartsJoin }
+{}
