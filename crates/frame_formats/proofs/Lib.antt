@@ -1,3 +1,5 @@
 pub mod Heads
+pub mod Sizes
+pub mod WrittenHeads
 pub mod StepsEach
 pub mod EditsEach

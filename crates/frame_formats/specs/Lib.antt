@@ -3,5 +3,7 @@ pub mod Line
 pub mod Picture
 pub mod Plan
 pub mod Recipe
+pub mod Recipes
+pub mod Planned
 pub mod Words
 pub mod Lists

@@ -4,15 +4,21 @@
 
 mod framing;
 mod header;
+mod hiding;
 mod line;
 mod picture;
+mod picture_planes;
 mod plans;
+mod samples;
+mod video_planes;
 mod words;
 
 pub use framing::{Framing, resize_of};
 pub use header::{Chroma, Format, read_format};
+pub use hiding::recipes_hide;
 pub use image_planes::{Change, Plane, Resize, Step, Target, Window};
 pub use line::resized_line;
 pub use picture::{Head, Picture, Scan, heads_end_themselves, picture_head};
-pub use plans::{PlanFault, plan, plan_resize};
+pub use plans::{Plan, PlanFault};
+pub use video_planes::{plan, plan_resize};
 pub use words::{Edits, WordsFault};

@@ -76,3 +76,13 @@ pub fn resized_line(
     text.push(b'\n')?;
     Ok(text)
 }
+
+/// The line and its line feed.
+pub(crate) fn ended_line(alloc: Global, line: &[u8]) -> Result<Vec<u8>, AllocError>
+    ensures { IfOk result (λ text. text.items ≡ line.now ++ 10 ∷ []) }
+{
+    let mut text = Vec::new(alloc);
+    text.extend_from_slice(line)?;
+    text.push(b'\n')?;
+    Ok(text)
+}

@@ -1,14 +1,23 @@
-//! The planes of a frame, and what is done to each of them.
+//! What is done to each frame of a video, or to a picture.
 
-ghost use Rattle.std.specs.Prelude.{◌≡◌, ◌<◌, ◌++◌, map, Some, None, IfOk, OnOk, IfErr};
-ghost use Rattle.std.specs.Option.{option_map};
+ghost use Rattle.std.specs.Prelude.{◌≡◌, ◌≤◌, ℕ, true, false, Some, None, IfOk, IfErr, length, map, max, take, if◌then◌else◌};
+ghost use Rattle.image_planes.specs.Changes.{jobs_len};
 ghost use Rattle.image_planes.specs.Planes.{job_of};
-ghost use Rattle.image_planes.specs.Targets.{resizing_of};
+ghost use Rattle.frame_formats.specs.Format.{format_of};
 ghost use Rattle.frame_formats.specs.Plan.{Tells};
-ghost use Rattle.frame_formats.specs.Format.{samples, ends_on_sample, window_under, exact_samples, at_corner, change_under, steps_under, chroma_job, two_planes, chroma_jobs, jobs_for, resize_under, chroma_resizing, two_resizings, chroma_resizings, resizings_for};
+ghost use Rattle.frame_formats.specs.Recipe.{edits};
+ghost use Rattle.frame_formats.specs.Recipes.{recipe, video_recipe, picture_recipe, new_len, resized_len, GoByThree, resizings_of};
 
-use crate::header::{Chroma, Format};
-use image_planes::{Change, Plane, Resize, Step, Target, Window};
+use crate::framing::{Framing, resize_of};
+use crate::header::Format;
+use crate::line::{ended_line, resized_line};
+use crate::picture::{Picture, picture_head};
+use crate::picture_planes::{picture_planes, picture_targets, size_of};
+use crate::video_planes::{plan, plan_resize};
+use image_planes::{
+    Plane, Step, Target, change_planes, join_pixels, part_pixels, planes_len, resize_planes,
+    targets_len,
+};
 use std::alloc::Global;
 
 /// Why there is no plan.
@@ -20,351 +29,238 @@ pub enum PlanFault {
     Memory,
 }
 
-// The number of samples for so many pixels, where it is a whole one.
-fn whole_samples(step: usize, pixels: usize) -> Option<usize>
-    requires { 0 < step }
-    ensures { result ≡ exact_samples step pixels }
-{
-    if pixels % step == 0 {
-        Some(pixels / step)
-    } else {
-        None
-    }
+/// What is done to each frame of a video, or to a picture, and what is written before it.
+#[derive(Drop)]
+pub struct Plan {
+    head: Vec<u8>,
+    planes: Vec<Plane>,
+    targets: Option<Vec<Target>>,
+    // Whether a frame is pixels of three bytes, and no planes.
+    in_pixels: bool,
+    source_len: usize,
+    len: usize,
+    ghost source: { source_len ≡ jobs_len (map job_of planes.items) },
+    ghost target: { len ≡ new_len (map job_of planes.items) (resizings_of targets) },
+    ghost covers: { resized_len (resizings_of targets) ≤ source_len },
+    ghost whole: { GoByThree in_pixels source_len },
+    ghost new_whole: { GoByThree in_pixels len },
 }
 
-fn count_samples(pixels: usize, step: usize) -> usize
-    requires positive { 0 < step }
-    ensures { result ≡ samples pixels step }
-{
-    if pixels % step == 0 {
-        pixels / step
-    } else {
-        pixels / step + 1
-    }
-}
+impl Plan {
+    // These name the type itself.
+    ghost use Rattle.frame_formats.specs.Planned.{recipe_of, plan_len, plan_is_resized, plan_room, plan_other_room};
 
-// Whether so many pixels from a whole sample on go by whole samples, or end where the frame ends.
-fn ends_on_sample(step: usize, pixels: usize, start: usize, count: usize) -> bool
-    requires { 0 < step }
-    ensures { result ≡ ends_on_sample step pixels start count }
-{
-    count % step == 0 || (start <= pixels && pixels - start == count)
-}
-
-// The window of samples under one of a frame of so many pixels.
-#[tactic(auto, unfolding(crate::specs::Format::window_under))]
-fn window_of_samples(
-    x: usize,
-    y: usize,
-    width: usize,
-    height: usize,
-    window: Window,
-) -> Option<Window>
-    requires across { 0 < x }
-    requires down { 0 < y }
-    ensures { result ≡ window_under x y width height window }
-{
-    if window.left % x == 0
-        && window.top % y == 0
-        && ends_on_sample(x, width, window.left, window.width)
-        && ends_on_sample(y, height, window.top, window.height)
+    // A plan with the sizes of its frames.
+    fn new(
+        head: Vec<u8>,
+        in_pixels: bool,
+        planes: Vec<Plane>,
+        targets: Option<Vec<Target>>,
+    ) -> Result<Plan, PlanFault>
+        requires covers { resized_len (resizings_of targets) ≤ jobs_len (map job_of planes.items) }
+        requires whole { GoByThree in_pixels (jobs_len (map job_of planes.items)) }
+        requires new_whole { GoByThree in_pixels (new_len (map job_of planes.items) (resizings_of targets)) }
+        ensures plan { IfOk result (λ plan. recipe_of plan ≡ recipe head.items in_pixels (map job_of planes.items) (resizings_of targets)) }
+        ensures fault { IfErr result (λ fault. fault ≡ PlanFault.Memory) }
     {
-        Some(Window {
-            left: window.left / x,
-            top: window.top / y,
-            width: count_samples(window.width, x),
-            height: count_samples(window.height, y),
+        let Some(source_len) = planes_len(&planes) else {
+            return Err(PlanFault::Memory);
+        };
+        let new_len = match &targets {
+            None => Some(source_len),
+            Some(targets) => targets_len(targets),
+        };
+        let Some(len) = new_len else {
+            return Err(PlanFault::Memory);
+        };
+        Ok(Plan {
+            head,
+            planes,
+            targets,
+            in_pixels,
+            source_len,
+            len,
         })
-    } else {
-        None
     }
-}
 
-#[tactic(auto, unfolding(crate::specs::Format::change_under))]
-fn change_of_samples(
-    x: usize,
-    y: usize,
-    width: usize,
-    height: usize,
-    change: Change,
-) -> Option<Change>
-    requires across { 0 < x }
-    requires down { 0 < y }
-    ensures { result ≡ change_under x y width height change }
-{
-    match change {
-        Change::Fill { window, value: _ } => Some(Change::Fill {
-            window: window_of_samples(x, y, width, height, window)?,
-            value: 128,
-        }),
-        Change::Mosaic {
-            window,
-            tile_width,
-            tile_height,
-        } => Some(Change::Mosaic {
-            window: window_of_samples(x, y, width, height, window)?,
-            tile_width: whole_samples(x, tile_width)?,
-            tile_height: whole_samples(y, tile_height)?,
-        }),
-        Change::Move { window, left, top } => {
-            let under = window_of_samples(x, y, width, height, window)?;
-            let goal = Window {
-                left,
-                top,
-                width: window.width,
-                height: window.height,
+    /// The plan for a video with this line, which names this format.
+    ///
+    /// # Errors
+    ///
+    /// `Outside` where the edits are none of such a video.
+    pub fn for_video(
+        alloc: Global,
+        line: &[u8],
+        format: Format,
+        steps: &[Step],
+        framing: Option<Framing>,
+    ) -> Result<Plan, PlanFault>
+        requires { format_of line.now ≡ Some format }
+        ensures plan { IfOk result (λ plan. video_recipe (edits steps.now framing) line.now ≡ Some (recipe_of plan)) }
+        ensures fault { IfErr result (Tells (video_recipe (edits steps.now framing) line.now ≡ None)) }
+    {
+        let planes = plan(alloc, format, steps)?;
+        let Some(framing) = framing else {
+            let Ok(head) = ended_line(alloc, line) else {
+                return Err(PlanFault::Memory);
             };
-            let goal = window_of_samples(x, y, width, height, goal)?;
-            Some(Change::Move {
-                window: under,
-                left: goal.left,
-                top: goal.top,
-            })
-        }
-    }
-}
-
-// The steps in samples.
-fn steps_of_samples(
-    alloc: Global,
-    x: usize,
-    y: usize,
-    format: Format,
-    steps: &[Step],
-) -> Result<Vec<Step>, PlanFault>
-    requires across { 0 < x }
-    requires down { 0 < y }
-    ensures steps { IfOk result (λ under. steps_under x y format.width format.height steps.now ≡ Some under.items) }
-    ensures fault { IfErr result (Tells (steps_under x y format.width format.height steps.now ≡ None)) }
-{
-    let mut under = Vec::new(alloc);
-    for step in steps {
-        let Some(change) = change_of_samples(x, y, format.width, format.height, step.change) else {
+            return Plan::new(head, false, planes, None);
+        };
+        let Some(resize) = resize_of(format, framing) else {
             return Err(PlanFault::Outside);
         };
-        let step = Step {
-            first: step.first,
-            end: step.end,
-            change,
+        let targets = plan_resize(alloc, format, resize)?;
+        let Ok(head) = resized_line(alloc, line, resize.width(), resize.height()) else {
+            return Err(PlanFault::Memory);
         };
-        match under.push(step) {
-            Ok(()) => {}
-            Err(_) => return Err(PlanFault::Memory),
-        }
+        Plan::new(head, false, planes, Some(targets))
     }
-    Ok(under)
-}
 
-// The plane of chroma samples for so many columns and lines of pixels.
-fn chroma_plane(
-    alloc: Global,
-    x: usize,
-    y: usize,
-    format: Format,
-    steps: &[Step],
-) -> Result<Plane, PlanFault>
-    requires across { 0 < x }
-    requires down { 0 < y }
-    ensures plane { IfOk result (λ plane. chroma_job x y format.width format.height steps.now ≡ Some (job_of plane)) }
-    ensures fault { IfErr result (Tells (chroma_job x y format.width format.height steps.now ≡ None)) }
-{
-    let under = match steps_of_samples(alloc, x, y, format, steps) {
-        Ok(under) => under,
-        Err(fault) => return Err(fault),
-    };
-    match Plane::new(
-        count_samples(format.width, x),
-        count_samples(format.height, y),
-        under,
-    ) {
-        Some(plane) => Ok(plane),
-        None => Err(PlanFault::Outside),
-    }
-}
-
-// Adds both planes of chroma samples.
-#[tactic(auto, unfolding(crate::specs::Format::two_planes))]
-fn push_two(
-    planes: &mut Vec<Plane>,
-    alloc: Global,
-    x: usize,
-    y: usize,
-    format: Format,
-    steps: &[Step],
-) -> Result<(), PlanFault>
-    requires across { 0 < x }
-    requires down { 0 < y }
-    ensures planes { OnOk result (option_map (λ jobs. map job_of planes.old.items ++ jobs) (two_planes x y format.width format.height steps.now) ≡ Some (map job_of planes.new.items)) }
-    ensures fault { IfErr result (Tells (two_planes x y format.width format.height steps.now ≡ None)) }
-{
-    let first = match chroma_plane(alloc, x, y, format, steps) {
-        Ok(plane) => plane,
-        Err(fault) => return Err(fault),
-    };
-    let second = match chroma_plane(alloc, x, y, format, steps) {
-        Ok(plane) => plane,
-        Err(fault) => return Err(fault),
-    };
-    if planes.push(first).is_err() || planes.push(second).is_err() {
-        return Err(PlanFault::Memory);
-    }
-    Ok(())
-}
-
-// Adds the planes of chroma samples that the format has.
-fn push_chroma(
-    planes: &mut Vec<Plane>,
-    alloc: Global,
-    format: Format,
-    steps: &[Step],
-) -> Result<(), PlanFault>
-    ensures planes { OnOk result (option_map (λ jobs. map job_of planes.old.items ++ jobs) (chroma_jobs format.chroma format.width format.height steps.now) ≡ Some (map job_of planes.new.items)) }
-    ensures fault { IfErr result (Tells (chroma_jobs format.chroma format.width format.height steps.now ≡ None)) }
-{
-    match format.chroma {
-        Chroma::Mono => Ok(()),
-        Chroma::Small => push_two(planes, alloc, 2, 2, format, steps),
-        Chroma::Wide => push_two(planes, alloc, 2, 1, format, steps),
-        Chroma::Whole => push_two(planes, alloc, 1, 1, format, steps),
-    }
-}
-
-/// The planes of a frame of this format, with what is done to each under steps in pixels.
-#[tactic(auto, unfolding(crate::specs::Format::jobs_for))]
-pub fn plan(alloc: Global, format: Format, steps: &[Step]) -> Result<Vec<Plane>, PlanFault>
-    ensures planes { IfOk result (λ planes. jobs_for format steps.now ≡ Some (map job_of planes.items)) }
-    ensures fault { IfErr result (Tells (jobs_for format steps.now ≡ None)) }
-{
-    let luma_steps = match steps.to_vec(alloc) {
-        Ok(luma_steps) => luma_steps,
-        Err(_) => return Err(PlanFault::Memory),
-    };
-    let Some(luma) = Plane::new(format.width, format.height, luma_steps) else {
-        return Err(PlanFault::Outside);
-    };
-    let mut planes = Vec::new(alloc);
-    if planes.push(luma).is_err() {
-        return Err(PlanFault::Memory);
-    }
-    match push_chroma(&mut planes, alloc, format, steps) {
-        Ok(()) => Ok(planes),
-        Err(fault) => Err(fault),
-    }
-}
-
-// What becomes of a plane of chroma samples.
-#[tactic(auto, unfolding(crate::specs::Format::resize_under))]
-fn resize_of_samples(
-    x: usize,
-    y: usize,
-    width: usize,
-    height: usize,
-    resize: Resize,
-) -> Option<Resize>
-    requires across { 0 < x }
-    requires down { 0 < y }
-    ensures { result ≡ resize_under x y width height resize }
-{
-    match resize {
-        Resize::Crop(window) => {
-            let under = window_of_samples(x, y, width, height, window)?;
-            Some(Resize::Crop(under))
-        }
-        Resize::Pad {
-            left,
-            top,
-            width: wide,
-            height: high,
-            value: _,
-        } => {
-            let place = Window {
-                left,
-                top,
-                width,
-                height,
+    /// The plan for a picture.
+    ///
+    /// # Errors
+    ///
+    /// `Outside` where the edits are none of such a picture, or no row would be left.
+    pub fn for_picture(
+        alloc: Global,
+        picture: Picture,
+        steps: &[Step],
+        framing: Option<Framing>,
+    ) -> Result<Plan, PlanFault>
+        ensures plan { IfOk result (λ plan. picture_recipe (edits steps.now framing) picture ≡ Some (recipe_of plan)) }
+        ensures fault { IfErr result (Tells (picture_recipe (edits steps.now framing) picture ≡ None)) }
+    {
+        let planes = picture_planes(alloc, picture, steps)?;
+        let Some(framing) = framing else {
+            let Ok(head) = picture_head(alloc, picture) else {
+                return Err(PlanFault::Memory);
             };
-            let under = window_of_samples(x, y, wide, high, place)?;
-            Some(Resize::Pad {
-                left: under.left,
-                top: under.top,
-                width: count_samples(wide, x),
-                height: count_samples(high, y),
-                value: 128,
-            })
+            return Plan::new(head, picture.colour, planes, None);
+        };
+        let Some(resize) = resize_of(size_of(picture), framing) else {
+            return Err(PlanFault::Outside);
+        };
+        if resize.height() == 0 {
+            return Err(PlanFault::Outside);
+        }
+        let targets = picture_targets(alloc, picture, resize)?;
+        let resized = Picture {
+            width: resize.width(),
+            height: resize.height(),
+            colour: picture.colour,
+        };
+        let Ok(head) = picture_head(alloc, resized) else {
+            return Err(PlanFault::Memory);
+        };
+        Plan::new(head, picture.colour, planes, Some(targets))
+    }
+
+    /// What is written before the first frame: a line with its line feed, or the head of a picture.
+    pub fn head(&self) -> &[u8]
+        ensures { result.now ≡ (recipe_of self.now).head }
+    {
+        &self.head
+    }
+
+    /// Whether a frame gets another size.
+    pub fn is_resized(&self) -> bool
+        ensures { result ≡ plan_is_resized self.now }
+    {
+        self.targets.is_some()
+    }
+
+    /// How many bytes a frame has.
+    pub fn source_len(&self) -> usize
+        ensures size { result ≡ (recipe_of self.now).size }
+        ensures within { result ≤ plan_room self.now }
+    {
+        self.source_len
+    }
+
+    /// How many bytes it has then.
+    pub fn len(&self) -> usize
+        ensures len { result ≡ plan_len self.now }
+        ensures within { result ≤ (if plan_is_resized self.now then plan_other_room self.now else plan_room self.now) }
+    {
+        self.len
+    }
+
+    /// How many bytes the buffer of a frame needs.
+    pub fn room(&self) -> usize
+        ensures { result ≡ plan_room self.now }
+    {
+        let own = self.source_len;
+        if self.in_pixels {
+            own.max(self.len)
+        } else {
+            own
         }
     }
-}
 
-// A plane of chroma samples with what becomes of it.
-fn chroma_target(x: usize, y: usize, format: Format, resize: Resize) -> Option<Target>
-    requires across { 0 < x }
-    requires down { 0 < y }
-    ensures { option_map resizing_of result ≡ chroma_resizing x y format.width format.height resize }
-{
-    let under = resize_of_samples(x, y, format.width, format.height, resize)?;
-    Target::new(
-        count_samples(format.width, x),
-        count_samples(format.height, y),
-        under,
-    )
-}
-
-// Adds both planes of chroma samples.
-#[tactic(auto, unfolding(crate::specs::Format::two_resizings))]
-fn push_two_targets(
-    targets: &mut Vec<Target>,
-    x: usize,
-    y: usize,
-    format: Format,
-    resize: Resize,
-) -> Result<(), PlanFault>
-    requires across { 0 < x }
-    requires down { 0 < y }
-    ensures targets { OnOk result (option_map (λ planes. map resizing_of targets.old.items ++ planes) (two_resizings x y format.width format.height resize) ≡ Some (map resizing_of targets.new.items)) }
-    ensures fault { IfErr result (Tells (two_resizings x y format.width format.height resize ≡ None)) }
-{
-    let Some(target) = chroma_target(x, y, format, resize) else {
-        return Err(PlanFault::Outside);
-    };
-    if targets.push(target).is_err() || targets.push(target).is_err() {
-        return Err(PlanFault::Memory);
+    /// How many bytes the other buffer needs.
+    pub fn other_room(&self) -> usize
+        ensures { result ≡ plan_other_room self.now }
+    {
+        if self.in_pixels {
+            self.room()
+        } else if self.is_resized() {
+            self.len
+        } else {
+            0
+        }
     }
-    Ok(())
-}
 
-// Adds the planes of chroma samples that the format has.
-fn push_chroma_targets(
-    targets: &mut Vec<Target>,
-    format: Format,
-    resize: Resize,
-) -> Result<(), PlanFault>
-    ensures targets { OnOk result (option_map (λ planes. map resizing_of targets.old.items ++ planes) (chroma_resizings format.chroma format.width format.height resize) ≡ Some (map resizing_of targets.new.items)) }
-    ensures fault { IfErr result (Tells (chroma_resizings format.chroma format.width format.height resize ≡ None)) }
-{
-    match format.chroma {
-        Chroma::Mono => Ok(()),
-        Chroma::Small => push_two_targets(targets, 2, 2, format, resize),
-        Chroma::Wide => push_two_targets(targets, 2, 1, format, resize),
-        Chroma::Whole => push_two_targets(targets, 1, 1, format, resize),
+    // A frame of planes.
+    fn edit_planes(&self, number: u64, cells: &mut [u8], other: &mut [u8])
+        requires planes { self.now.in_pixels ≡ false }
+        requires room { plan_room self.now ≤ length cells.old }
+        requires other_room { plan_other_room self.now ≤ length other.old }
+        ensures { take (plan_len self.now) (if plan_is_resized self.now then other.new else cells.new) ≡ (recipe_of self.now).frame number (take (recipe_of self.now).size cells.old) }
+    {
+        let (frame, _) = cells.split_at_mut(self.source_len);
+        change_planes(number, frame, &self.planes);
+        if let Some(targets) = &self.targets {
+            let (target, _) = other.split_at_mut(self.len);
+            resize_planes(frame, target, targets);
+        }
     }
-}
 
-/// The planes of a frame of this format with what becomes of the size of each, where that of the
-/// plane of brightness becomes this.
-#[tactic(auto, unfolding(crate::specs::Format::resizings_for))]
-pub fn plan_resize(alloc: Global, format: Format, resize: Resize) -> Result<Vec<Target>, PlanFault>
-    ensures targets { IfOk result (λ targets. resizings_for format resize ≡ Some (map resizing_of targets.items)) }
-    ensures fault { IfErr result (Tells (resizings_for format resize ≡ None)) }
-{
-    let Some(luma) = Target::new(format.width, format.height, resize) else {
-        return Err(PlanFault::Outside);
-    };
-    let mut targets = Vec::new(alloc);
-    if targets.push(luma).is_err() {
-        return Err(PlanFault::Memory);
+    // A frame of pixels.
+    fn edit_pixels(&self, number: u64, cells: &mut [u8], other: &mut [u8])
+        requires pixels { self.now.in_pixels ≡ true }
+        requires room { plan_room self.now ≤ length cells.old }
+        requires other_room { plan_other_room self.now ≤ length other.old }
+        ensures { take (plan_len self.now) (if plan_is_resized self.now then other.new else cells.new) ≡ (recipe_of self.now).frame number (take (recipe_of self.now).size cells.old) }
+    {
+        let (planes, _) = other.split_at_mut(self.source_len);
+        part_pixels(&cells[..self.source_len], planes);
+        change_planes(number, planes, &self.planes);
+        match &self.targets {
+            None => {
+                let (frame, _) = cells.split_at_mut(self.source_len);
+                join_pixels(planes, frame);
+            }
+            Some(targets) => {
+                let (resized, _) = cells.split_at_mut(self.len);
+                resize_planes(planes, resized, targets);
+                let (frame, _) = other.split_at_mut(self.len);
+                join_pixels(resized, frame);
+            }
+        }
     }
-    match push_chroma_targets(&mut targets, format, resize) {
-        Ok(()) => Ok(targets),
-        Err(fault) => Err(fault),
+
+    /// Does to the frame of this number, which stands at the front of the first buffer, what is to be
+    /// done to it. Then it stands at the front of the other buffer where it has another size, and else
+    /// of the first.
+    pub fn edit(&self, number: u64, cells: &mut [u8], other: &mut [u8])
+        requires room { plan_room self.now ≤ length cells.old }
+        requires other_room { plan_other_room self.now ≤ length other.old }
+        ensures { take (plan_len self.now) (if plan_is_resized self.now then other.new else cells.new) ≡ (recipe_of self.now).frame number (take (recipe_of self.now).size cells.old) }
+    {
+        if self.in_pixels {
+            self.edit_pixels(number, cells, other);
+        } else {
+            self.edit_planes(number, cells, other);
+        }
     }
 }

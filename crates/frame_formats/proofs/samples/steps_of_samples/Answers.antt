@@ -1,7 +1,7 @@
 -- One step after the other.
 use Rattle.std.proofs.Common.{arith, sym}
 use Rattle.frame_formats.proofs.StepsEach.{step_more, step_stops, steps_done}
-use Rattle.frame_formats.proofs.plans.steps_of_samples.Goals as goal
+use Rattle.frame_formats.proofs.samples.steps_of_samples.Goals as goal
 
 pub returns-in_default-clause-fault : goal.returns-in_default-clause-fault
 returns-in_default-clause-fault c =

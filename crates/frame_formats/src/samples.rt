@@ -1,0 +1,188 @@
+//! Numbers, windows and edits of pixels as those of chroma samples.
+
+ghost use Rattle.std.specs.Prelude.{◌≡◌, ◌<◌, Some, None, IfOk, IfErr};
+ghost use Rattle.frame_formats.specs.Plan.{Tells};
+ghost use Rattle.frame_formats.specs.Format.{samples, ends_on_sample, window_under, exact_samples, at_corner, change_under, steps_under, resize_under};
+
+use crate::header::Format;
+use crate::plans::PlanFault;
+use image_planes::{Change, Resize, Step, Window};
+use std::alloc::Global;
+
+// The number of samples for so many pixels, where it is a whole one.
+fn whole_samples(step: usize, pixels: usize) -> Option<usize>
+    requires { 0 < step }
+    ensures { result ≡ exact_samples step pixels }
+{
+    if pixels % step == 0 {
+        Some(pixels / step)
+    } else {
+        None
+    }
+}
+
+pub(crate) fn count_samples(pixels: usize, step: usize) -> usize
+    requires positive { 0 < step }
+    ensures { result ≡ samples pixels step }
+{
+    if pixels % step == 0 {
+        pixels / step
+    } else {
+        pixels / step + 1
+    }
+}
+
+// Whether so many pixels from a whole sample on go by whole samples, or end where the frame ends.
+fn ends_on_sample(step: usize, pixels: usize, start: usize, count: usize) -> bool
+    requires { 0 < step }
+    ensures { result ≡ ends_on_sample step pixels start count }
+{
+    count % step == 0 || (start <= pixels && pixels - start == count)
+}
+
+// The window of samples under one of a frame of so many pixels.
+#[tactic(auto, unfolding(crate::specs::Format::window_under))]
+fn window_of_samples(
+    x: usize,
+    y: usize,
+    width: usize,
+    height: usize,
+    window: Window,
+) -> Option<Window>
+    requires across { 0 < x }
+    requires down { 0 < y }
+    ensures { result ≡ window_under x y width height window }
+{
+    if window.left % x == 0
+        && window.top % y == 0
+        && ends_on_sample(x, width, window.left, window.width)
+        && ends_on_sample(y, height, window.top, window.height)
+    {
+        Some(Window {
+            left: window.left / x,
+            top: window.top / y,
+            width: count_samples(window.width, x),
+            height: count_samples(window.height, y),
+        })
+    } else {
+        None
+    }
+}
+
+#[tactic(auto, unfolding(crate::specs::Format::change_under))]
+fn change_of_samples(
+    x: usize,
+    y: usize,
+    width: usize,
+    height: usize,
+    change: Change,
+) -> Option<Change>
+    requires across { 0 < x }
+    requires down { 0 < y }
+    ensures { result ≡ change_under x y width height change }
+{
+    match change {
+        Change::Fill { window, value: _ } => Some(Change::Fill {
+            window: window_of_samples(x, y, width, height, window)?,
+            value: 128,
+        }),
+        Change::Mosaic {
+            window,
+            tile_width,
+            tile_height,
+        } => Some(Change::Mosaic {
+            window: window_of_samples(x, y, width, height, window)?,
+            tile_width: whole_samples(x, tile_width)?,
+            tile_height: whole_samples(y, tile_height)?,
+        }),
+        Change::Move { window, left, top } => {
+            let under = window_of_samples(x, y, width, height, window)?;
+            let goal = Window {
+                left,
+                top,
+                width: window.width,
+                height: window.height,
+            };
+            let goal = window_of_samples(x, y, width, height, goal)?;
+            Some(Change::Move {
+                window: under,
+                left: goal.left,
+                top: goal.top,
+            })
+        }
+    }
+}
+
+// The steps in samples.
+pub(crate) fn steps_of_samples(
+    alloc: Global,
+    x: usize,
+    y: usize,
+    format: Format,
+    steps: &[Step],
+) -> Result<Vec<Step>, PlanFault>
+    requires across { 0 < x }
+    requires down { 0 < y }
+    ensures steps { IfOk result (λ under. steps_under x y format.width format.height steps.now ≡ Some under.items) }
+    ensures fault { IfErr result (Tells (steps_under x y format.width format.height steps.now ≡ None)) }
+{
+    let mut under = Vec::new(alloc);
+    for step in steps {
+        let Some(change) = change_of_samples(x, y, format.width, format.height, step.change) else {
+            return Err(PlanFault::Outside);
+        };
+        let step = Step {
+            first: step.first,
+            end: step.end,
+            change,
+        };
+        match under.push(step) {
+            Ok(()) => {}
+            Err(_) => return Err(PlanFault::Memory),
+        }
+    }
+    Ok(under)
+}
+
+// What becomes of a plane of chroma samples.
+#[tactic(auto, unfolding(crate::specs::Format::resize_under))]
+pub(crate) fn resize_of_samples(
+    x: usize,
+    y: usize,
+    width: usize,
+    height: usize,
+    resize: Resize,
+) -> Option<Resize>
+    requires across { 0 < x }
+    requires down { 0 < y }
+    ensures { result ≡ resize_under x y width height resize }
+{
+    match resize {
+        Resize::Crop(window) => {
+            let under = window_of_samples(x, y, width, height, window)?;
+            Some(Resize::Crop(under))
+        }
+        Resize::Pad {
+            left,
+            top,
+            width: wide,
+            height: high,
+            value: _,
+        } => {
+            let place = Window {
+                left,
+                top,
+                width,
+                height,
+            };
+            let under = window_of_samples(x, y, wide, high, place)?;
+            Some(Resize::Pad {
+                left: under.left,
+                top: under.top,
+                width: count_samples(wide, x),
+                height: count_samples(high, y),
+                value: 128,
+            })
+        }
+    }
+}
