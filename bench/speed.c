@@ -37,6 +37,8 @@
     X(swap_rows, "swap_rows, all")                                                                                                   \
     X(mosaic, "mosaic 16 by 16")                                                                                                     \
     X(small, "mosaic 2 by 2")                                                                                                        \
+    X(low, "mosaic 16 by 1")                                                                                                         \
+    X(narrow, "mosaic 1 by 16")                                                                                                      \
     X(single, "mosaic 1 by 1")
 
 /* Where one of these is defined nowhere, its address is null, and its column has a dash. */
@@ -99,6 +101,8 @@ EXPORTS(u32, uint32_t)
     }                                                                                                                                \
     void call_##NAME##_mosaic(struct job *j) { done(imgref_##NAME##_mosaic(IMAGE, at(0, 0, j->side, j->side), 16, 16)); }            \
     void call_##NAME##_small(struct job *j) { done(imgref_##NAME##_mosaic(IMAGE, at(0, 0, j->side, j->side), 2, 2)); }               \
+    void call_##NAME##_low(struct job *j) { done(imgref_##NAME##_mosaic(IMAGE, at(0, 0, j->side, j->side), 16, 1)); }                \
+    void call_##NAME##_narrow(struct job *j) { done(imgref_##NAME##_mosaic(IMAGE, at(0, 0, j->side, j->side), 1, 16)); }             \
     void call_##NAME##_single(struct job *j) { done(imgref_##NAME##_mosaic(IMAGE, at(0, 0, j->side, j->side), 1, 1)); }              \
     void call_##NAME##_to_contiguous_buf(struct job *j) { j->answer = bench_##NAME##_to_contiguous_buf(IMAGE); }                     \
     void call_##NAME##_hash(struct job *j) { j->answer = bench_##NAME##_hash(IMAGE); }                                               \
@@ -189,13 +193,19 @@ CALLS(u32, uint32_t)
         }                                                                                                                            \
     }                                                                                                                                \
     /* Each cell of a tile becomes the one at its corner. */                                                                         \
-    static void NAME##_tiles(struct job *j, size_t tile) {                                                                           \
-        for (size_t y = 0; y < j->side; y++)                                                                                         \
-            for (size_t x = 0; x < j->side; x++) ROW(CELL, y)[x] = ROW(CELL, y / tile * tile)[x / tile * tile];                      \
+    static void NAME##_tiles(struct job *j, size_t wide, size_t high) {                                                              \
+        for (size_t top = 0; top < j->side; top += high)                                                                             \
+            for (size_t left = 0; left < j->side; left += wide) {                                                                    \
+                CELL corner = ROW(CELL, top)[left];                                                                                  \
+                for (size_t y = top; y < top + high && y < j->side; y++)                                                             \
+                    for (size_t x = left; x < left + wide && x < j->side; x++) ROW(CELL, y)[x] = corner;                             \
+            }                                                                                                                        \
     }                                                                                                                                \
-    void loop_##NAME##_mosaic(struct job *j) { NAME##_tiles(j, 16); }                                                                \
-    void loop_##NAME##_small(struct job *j) { NAME##_tiles(j, 2); }                                                                  \
-    void loop_##NAME##_single(struct job *j) { NAME##_tiles(j, 1); }
+    void loop_##NAME##_mosaic(struct job *j) { NAME##_tiles(j, 16, 16); }                                                            \
+    void loop_##NAME##_small(struct job *j) { NAME##_tiles(j, 2, 2); }                                                               \
+    void loop_##NAME##_low(struct job *j) { NAME##_tiles(j, 16, 1); }                                                                \
+    void loop_##NAME##_narrow(struct job *j) { NAME##_tiles(j, 1, 16); }                                                             \
+    void loop_##NAME##_single(struct job *j) { NAME##_tiles(j, 1, 1); }
 #define SET_BYTES(ROW, COUNT) memset(ROW, 7, COUNT)
 #define SET_WORDS(ROW, COUNT) for (size_t x = 0, count = COUNT; x < count; x++) (ROW)[x] = 7
 LOOPS(u8, uint8_t, SET_BYTES)

@@ -175,25 +175,36 @@ mod loops {
         }
     }
 
-    unsafe fn by_tiles<T: Pixel>(job: &mut Job, tile: usize) {
+    unsafe fn by_tiles<T: Pixel>(job: &mut Job, wide: usize, high: usize) {
         let cells = unsafe { job.cells::<T>() };
-        for y in 0..job.side {
-            for x in 0..job.side {
-                cells[y * job.stride + x] = cells[y / tile * tile * job.stride + x / tile * tile];
+        for top in (0..job.side).step_by(high) {
+            for left in (0..job.side).step_by(wide) {
+                let corner = cells[top * job.stride + left];
+                for y in top..job.side.min(top + high) {
+                    cells[y * job.stride + left..y * job.stride + job.side.min(left + wide)].fill(corner);
+                }
             }
         }
     }
 
     unsafe fn mosaic<T: Pixel>(job: &mut Job) {
-        unsafe { by_tiles::<T>(job, 16) }
+        unsafe { by_tiles::<T>(job, 16, 16) }
     }
 
     unsafe fn small<T: Pixel>(job: &mut Job) {
-        unsafe { by_tiles::<T>(job, 2) }
+        unsafe { by_tiles::<T>(job, 2, 2) }
+    }
+
+    unsafe fn low<T: Pixel>(job: &mut Job) {
+        unsafe { by_tiles::<T>(job, 16, 1) }
+    }
+
+    unsafe fn narrow<T: Pixel>(job: &mut Job) {
+        unsafe { by_tiles::<T>(job, 1, 16) }
     }
 
     unsafe fn single<T: Pixel>(job: &mut Job) {
-        unsafe { by_tiles::<T>(job, 1) }
+        unsafe { by_tiles::<T>(job, 1, 1) }
     }
 
     timed!(rust_u8_fill, rust_u32_fill, fill);
@@ -215,6 +226,8 @@ mod loops {
     timed!(rust_u8_swap_rows, rust_u32_swap_rows, swap_rows);
     timed!(rust_u8_mosaic, rust_u32_mosaic, mosaic);
     timed!(rust_u8_small, rust_u32_small, small);
+    timed!(rust_u8_low, rust_u32_low, low);
+    timed!(rust_u8_narrow, rust_u32_narrow, narrow);
     timed!(rust_u8_single, rust_u32_single, single);
 }
 

@@ -1,2 +1,3 @@
+pub mod Corners
+pub mod Spreading
 pub mod Mosaics
-pub mod Flattening

@@ -1,24 +1,13 @@
 -- A grid of which each tile shows one pixel: that of its corner.
-use Rattle.std.specs.Prelude.{ℕ, List, [], ◌∷◌}
-use Rattle.image_model.specs.Grid.{Grid, grid, patch}
-use Rattle.image_model.specs.Windows.{Window}
+use Rattle.std.specs.Prelude.{◌≡◌, ℕ, ◌<◌, List, length, slice_get}
+use Rattle.image_model.specs.Grid.{Grid, grid}
 use Rattle.image_model.specs.Tiles.{tile_start}
 
 -- each place has the pixel at the corner of its tile
 abbrev pub mosaic : {T : Type 0} → ℕ → ℕ → Grid T → Grid T
 mosaic tile_width tile_height g = grid g.width g.height (λ x y. g.pixel (tile_start tile_width x) (tile_start tile_height y))
 
--- ---- tile by tile
-
--- a grid with its first pixel at every place
-abbrev pub flat : {T : Type 0} → Grid T → Grid T
-flat g = grid g.width g.height (λ _ _. g.pixel 0 0)
-
--- a grid with the pixel at a window's corner at each of the window's places
-abbrev pub flattened : {T : Type 0} → Grid T → Window → Grid T
-flattened g w = patch g w.left w.top (grid w.width w.height (λ _ _. g.pixel w.left w.top))
-
--- the same for each window of a list, one after the other
-abbrev pub all_flattened : {T : Type 0} → Grid T → List Window → Grid T
-all_flattened g [] = g
-all_flattened g (w ∷ windows) = all_flattened (flattened g w) windows
+-- each cell of a row is the old one that its tile begins with
+pub record IsSpread {T : Type 0} (tile : ℕ) (old new : List T) : Type 0 where
+  pub as_many : length new ≡ length old
+  pub each : (x : ℕ) → x < length old → slice_get new x ≡ slice_get old (tile_start tile x)

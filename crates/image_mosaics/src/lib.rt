@@ -1,5 +1,5 @@
-//! Mosaics: each tile of an image shows one pixel, that of its corner. Made from the public calls of
-//! `image_tiles` and `imgref` alone.
+//! Mosaics: each tile of an image shows one pixel, that of its corner. Cells are a slice, and a
+//! [`Shape`](image_shape::Shape) says how an image lies in them.
 #![tactic(auto)]
 
 mod mosaic;

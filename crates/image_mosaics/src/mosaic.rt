@@ -1,81 +1,81 @@
 //! The mosaic of cells in a shape: each tile gets the pixel at its corner.
 
-ghost use Rattle.std.specs.Prelude.{◌≡◌, ◌<◌};
+ghost use Rattle.std.specs.Prelude.{◌≡◌, ◌+◌, ◌≤◌, ◌<◌, length};
 ghost use Rattle.image_model.specs.Layout.{Fits, SameOutside};
 ghost use Rattle.image_model.specs.Grid.{grid_of};
-ghost use Rattle.imgref.specs.Shape.{shaped, shape_width, shape_height};
-ghost use Rattle.imgref.specs.Image.{buf_of, mut_layout};
-ghost use Rattle.image_tiles.specs.Tiling.{windows_left};
-ghost use Rattle.image_tiles.specs.Lending.{image_of, tiling_of};
-ghost use Rattle.image_mosaics.specs.Mosaic.{mosaic, flat, all_flattened};
+ghost use Rattle.image_model.specs.Shifts.{shifted};
+ghost use Rattle.image_shape.specs.Shape.{shaped};
+ghost use Rattle.image_mosaics.specs.Mosaic.{mosaic, IsSpread};
 
-use image_tiles::TilesMut;
-use imgref::{ImgRefMut, Shape};
+use image_pixels::fill_cells;
+use image_shape::Shape;
 
-// Every pixel becomes that of (0, 0).
-fn flatten<T: Copy>(cells: &mut [T], shape: Shape)
-    requires fits { Fits (shaped cells.old shape) }
-    requires wide { 0 < shape_width shape }
-    requires high { 0 < shape_height shape }
-    ensures grid { grid_of (shaped cells.new shape) ≡ flat (grid_of (shaped cells.old shape)) }
-    ensures outside { SameOutside (shaped cells.old shape) (shaped cells.new shape) }
+// From this width on a tile's part of a row is filled by one call.
+const WIDE: usize = 16;
+
+// Each cell becomes the first one of its tile, cell by cell.
+fn spread_by_cells<T: Copy>(row: &mut [T], tile_width: usize)
+    requires wide { 0 < tile_width }
+    ensures { IsSpread tile_width row.old row.new }
 {
-    let mut tile = ImgRefMut::from_parts(cells, shape);
-    let pixel = tile[(0usize, 0usize)];
-    tile.fill(pixel);
-}
-
-// The tiles that are left, one after the other.
-fn flatten_rest<T: Copy>(tiles: &mut TilesMut<'_, T>)
-    requires fits { Fits (mut_layout (image_of tiles.old)) }
-    ensures same_reference { (buf_of (image_of tiles.new)).ghost_name ≡ (buf_of (image_of tiles.old)).ghost_name }
-    ensures grid { grid_of (mut_layout (image_of tiles.new)) ≡ all_flattened (grid_of (mut_layout (image_of tiles.old))) (windows_left (tiling_of tiles.old)) }
-    ensures outside { SameOutside (mut_layout (image_of tiles.old)) (mut_layout (image_of tiles.new)) }
-{
-    while tiles.left() > 0 {
-        let (cells, shape) = tiles.next_parts();
-        flatten(cells, shape);
+    let Some(first) = row.first() else {
+        return;
+    };
+    let mut pixel = *first;
+    let mut corner = 0;
+    for x in 0..row.len() {
+        if x - corner == tile_width {
+            corner = x;
+            pixel = row[x];
+        }
+        row[x] = pixel;
     }
 }
 
-// The image with its mosaic, handed back.
-fn mosaic_of<'a, T: Copy>(
-    img: ImgRefMut<'a, T>,
-    tile_width: usize,
-    tile_height: usize,
-) -> ImgRefMut<'a, T>
-    requires fits { Fits (mut_layout img) }
+// The same, tile by tile.
+fn spread_by_tiles<T: Copy>(row: &mut [T], tile_width: usize)
     requires wide { 0 < tile_width }
-    requires high { 0 < tile_height }
-    ensures same_reference { (buf_of result).ghost_name ≡ (buf_of img.entry).ghost_name }
-    ensures grid { grid_of (mut_layout result) ≡ mosaic tile_width tile_height (grid_of (mut_layout img.entry)) }
-    ensures outside { SameOutside (mut_layout img.entry) (mut_layout result) }
+    ensures { IsSpread tile_width row.old row.new }
 {
-    let mut tiles = TilesMut::new(img, tile_width, tile_height);
-    flatten_rest(&mut tiles);
-    tiles.into_img()
+    let mut corner = 0;
+    while corner < row.len() {
+        let len = tile_width.min(row.len() - corner);
+        let pixel = row[corner];
+        fill_cells(&mut row[corner..corner + len], pixel);
+        corner += len;
+    }
 }
 
-// The same lent cells, with the mosaic of what they show in a shape.
-fn into_mosaic<T: Copy>(
-    cells: &mut [T],
-    shape: Shape,
-    tile_width: usize,
-    tile_height: usize,
-) -> &mut [T]
-    requires fits { Fits (shaped cells.old shape) }
+// The same, by what is faster for such tiles. A tile of one cell shows that cell.
+fn spread<T: Copy>(row: &mut [T], tile_width: usize)
     requires wide { 0 < tile_width }
-    requires high { 0 < tile_height }
-    ensures same_reference { result.ghost_name ≡ cells.entry.ghost_name }
-    ensures grid { grid_of (shaped result.now shape) ≡ mosaic tile_width tile_height (grid_of (shaped cells.old shape)) }
-    ensures outside { SameOutside (shaped cells.old shape) (shaped result.now shape) }
+    ensures { IsSpread tile_width row.old row.new }
 {
-    let image = ImgRefMut::from_parts(cells, shape);
-    mosaic_of(image, tile_width, tile_height).into_buf()
+    if tile_width == 1 {
+        return;
+    }
+    if tile_width < WIDE {
+        spread_by_cells(row, tile_width);
+    } else {
+        spread_by_tiles(row, tile_width);
+    }
+}
+
+// Copies a stretch to a place behind its end.
+fn repeat_row<T: Copy>(cells: &mut [T], start: usize, len: usize, target: usize)
+    requires apart { start + len ≤ target }
+    requires target { target + len ≤ length cells.old }
+    ensures { cells.new ≡ shifted cells.old start len target }
+{
+    let (front, back) = cells.split_at_mut(target);
+    back[..len].copy_from_slice(&front[start..start + len]);
 }
 
 /// Writes at every place that cells have in a shape the pixel, as it was, at the corner of its tile.
 /// The padding stays.
+///
+/// It goes row by row. The first row of a tile is spread, and each other one is a copy of the row
+/// above it.
 ///
 /// # Requires
 ///
@@ -91,5 +91,12 @@ pub fn mosaic_cells<T: Copy>(cells: &mut [T], shape: Shape, tile_width: usize, t
     if tile_width == 1 && tile_height == 1 {
         return;
     }
-    into_mosaic(cells, shape, tile_width, tile_height);
+    for y in 0..shape.row_count() {
+        let row = shape.row(cells.len(), y);
+        if y % tile_height == 0 {
+            spread(&mut cells[row.start..row.start + row.len], tile_width);
+        } else {
+            repeat_row(cells, row.start - shape.stride(), row.len, row.start);
+        }
+    }
 }

@@ -7,8 +7,8 @@ ghost use Rattle.image_shape.specs.Shape.{shape_width, shape_height, shaped_grid
 
 use image_shape::Shape;
 
-// Every cell becomes `value`.
-fn fill_cells<T: Copy>(cells: &mut [T], value: T)
+/// Every cell becomes `value`.
+pub fn fill_cells<T: Copy>(cells: &mut [T], value: T)
     ensures { cells.new ≡ replicate (length cells.old) value }
 {
     for cell in cells.iter_mut() {

@@ -16,7 +16,7 @@ mod pixels;
 mod pixels_mut;
 
 pub use copy::copy_pixels;
-pub use fill::fill_pixels;
+pub use fill::{fill_cells, fill_pixels};
 pub use map::map_pixels;
 pub use pixels::{PixelsIter, PixelsRefIter};
 pub use pixels_mut::PixelsIterMut;

@@ -3,3 +3,5 @@ pub mod Sizes
 pub mod Nested
 pub mod Filled
 pub mod FirstBand
+pub mod TileByTile
+pub mod Flattening

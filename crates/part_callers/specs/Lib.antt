@@ -1,3 +1,4 @@
 pub mod Tiles
 pub mod Paths
 pub mod Bands
+pub mod Flattening

@@ -4,11 +4,13 @@
 
 mod bands;
 mod fills;
+mod mosaics;
 mod paths;
 #[cfg(test)]
 mod tests;
 mod tiles;
 
 pub use bands::fill_first_band;
+pub use mosaics::mosaic_by_tiles;
 pub use paths::{fill_through_path, put_through_path};
 pub use tiles::fill_next_tile;

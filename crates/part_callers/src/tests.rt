@@ -1,6 +1,8 @@
-use crate::{fill_first_band, fill_next_tile, fill_through_path, put_through_path};
+use crate::{
+    fill_first_band, fill_next_tile, fill_through_path, mosaic_by_tiles, put_through_path,
+};
 use image_tiles::TilesMut;
-use imgref::{ImgRefMut, ImgVec, Window};
+use imgref::{ImgRefMut, ImgVec, Shape, Window};
 use imgref_replay::window_at;
 use std::test::Fail;
 
@@ -71,5 +73,15 @@ fn a_band_is_filled(rt: HostRuntime) -> Result<(), Fail> {
     assert!(rt; lent.is_valid());
     fill_first_band(&mut lent, 5, 0);
     assert_eq!(rt; cells, [0, 0, 0, 4, 0, 0, 0, 8, 9]);
+    Ok(())
+}
+
+#[test]
+fn a_mosaic_goes_tile_by_tile(rt: HostRuntime) -> Result<(), Fail> {
+    let mut cells = CELLS;
+    let shape = Shape::new(3, 2, 4);
+    assert!(rt; shape.fits(cells.len()));
+    mosaic_by_tiles(cells.as_mut_slice(), shape, 2, 2);
+    assert_eq!(rt; cells, [1, 1, 3, 4, 1, 1, 3, 8, 9]);
     Ok(())
 }

@@ -7,8 +7,8 @@ use Rattle.imgref.specs.Image.{mut_layout}
 use Rattle.image_tiles.specs.Lending.{image_of, tiling_of}
 use Rattle.image_tiles.specs.Tiling.{tile_now}
 use Rattle.image_tiles.specs.declared.tiles.TileCursor.{TileCursor}
-use Rattle.image_mosaics.proofs.Flattening.{flat_there, one_more}
-use Rattle.image_mosaics.proofs.mosaic.flatten_rest.Goals as goal
+use Rattle.part_callers.proofs.Flattening.{flat_there, one_more}
+use Rattle.part_callers.proofs.mosaics.flatten_rest.Goals as goal
 
 pub loop-tiles-preserved : goal.loop-tiles-preserved
 loop-tiles-preserved g c =

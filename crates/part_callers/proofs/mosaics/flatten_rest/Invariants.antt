@@ -1,8 +1,8 @@
 use Rattle.std.proofs.Common.{length}
 use Rattle.image_tiles.specs.Tiling.{windows_left}
 use Rattle.image_tiles.specs.Lending.{tiling_of}
-use Rattle.image_mosaics.proofs.Flattening.{IsPartly}
-use Rattle.image_mosaics.proofs.mosaic.flatten_rest.Given as goal
+use Rattle.part_callers.proofs.Flattening.{IsPartly}
+use Rattle.part_callers.proofs.mosaics.flatten_rest.Given as goal
 
 abbrev pub invariant-loop-tiles : goal.invariant-loop-tiles
 invariant-loop-tiles g l = IsPartly l.fn.tiles l.tiles

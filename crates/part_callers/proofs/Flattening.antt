@@ -11,7 +11,7 @@ use Rattle.imgref.specs.Image.{buf_of, mut_layout}
 use Rattle.image_tiles.specs.Tiling.{windows_left}
 use Rattle.image_tiles.specs.Lending.{image_of, tiling_of, tiles_left}
 use Rattle.image_tiles.specs.declared.tiles.TileCursor.{TileCursor}
-use Rattle.image_mosaics.specs.Mosaic.{flat, flattened, all_flattened}
+use Rattle.part_callers.specs.Flattening.{flat, flattened, all_flattened}
 
 -- a grid whose first pixel is this value, flattened
 pub one_value : {T : Type 0} (l : Layout T) (width height : ℕ) (value : T) → pixel l 0 0 ≡ Some value → 0 < l.width → 0 < l.height → width ≡ l.width → height ≡ l.height → uniform width height value ≡ flat (grid_of l)

@@ -6,8 +6,8 @@ use Rattle.image_model.specs.Grid.{grid_of}
 use Rattle.imgref.specs.declared.img.Img.{Img}
 use Rattle.imgref.specs.Image.{buf_of, width_of, height_of, stride_of, mut_layout}
 use Rattle.imgref.specs.Shape.{shaped}
-use Rattle.image_mosaics.proofs.Flattening.{one_value}
-use Rattle.image_mosaics.proofs.mosaic.flatten.Goals as goal
+use Rattle.part_callers.proofs.Flattening.{one_value}
+use Rattle.part_callers.proofs.mosaics.flatten.Goals as goal
 
 pub returns-clause-grid : goal.returns-clause-grid
 returns-clause-grid g c =

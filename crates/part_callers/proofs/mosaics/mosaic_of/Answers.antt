@@ -7,10 +7,10 @@ use Rattle.imgref.specs.declared.img.Img.{Img}
 use Rattle.imgref.specs.Image.{mut_layout, width_of, height_of}
 use Rattle.image_tiles.specs.Lending.{image_of, tiling_of}
 use Rattle.image_tiles.specs.Tiling.{windows_left}
-use Rattle.image_mosaics.specs.Mosaic.{all_flattened}
-use Rattle.image_mosaics.proofs.Mosaics.{mosaic_is}
-use Rattle.image_mosaics.proofs.Flattening.{all_left}
-use Rattle.image_mosaics.proofs.mosaic.mosaic_of.Goals as goal
+use Rattle.part_callers.specs.Flattening.{all_flattened}
+use Rattle.part_callers.proofs.TileByTile.{mosaic_is}
+use Rattle.part_callers.proofs.Flattening.{all_left}
+use Rattle.part_callers.proofs.mosaics.mosaic_of.Goals as goal
 
 pub returns-clause-grid : goal.returns-clause-grid
 unfolding grid_of
