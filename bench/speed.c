@@ -32,6 +32,7 @@
     X(rows, "sum by rows")                                                                                                           \
     X(pixels, "sum by pixels")                                                                                                       \
     X(get, "sum by get")                                                                                                             \
+    X(index, "sum by index")                                                                                                         \
     X(nested, "sum of a window of a window")                                                                                         \
     X(map_pixels, "map_pixels")                                                                                                      \
     X(swap_rows, "swap_rows, all")                                                                                                   \
@@ -67,6 +68,7 @@ static void *room(size_t bytes) {
     uint64_t bench_##NAME##_rows(const CELL *cells, size_t len, size_t width, size_t height, size_t stride);                         \
     uint64_t bench_##NAME##_pixels(const CELL *cells, size_t len, size_t width, size_t height, size_t stride);                       \
     uint64_t bench_##NAME##_get(const CELL *cells, size_t len, size_t width, size_t height, size_t stride);                          \
+    uint64_t bench_##NAME##_index(const CELL *cells, size_t len, size_t width, size_t height, size_t stride);                        \
     uint64_t bench_##NAME##_nested(const CELL *cells, size_t len, size_t width, size_t height, size_t stride);                       \
     uint64_t bench_##NAME##_hash(const CELL *cells, size_t len, size_t width, size_t height, size_t stride);                         \
     size_t bench_##NAME##_to_contiguous_buf(const CELL *cells, size_t len, size_t width, size_t height, size_t stride);              \
@@ -109,6 +111,7 @@ EXPORTS(u32, uint32_t)
     void call_##NAME##_rows(struct job *j) { j->answer = bench_##NAME##_rows(IMAGE); }                                               \
     void call_##NAME##_pixels(struct job *j) { j->answer = bench_##NAME##_pixels(IMAGE); }                                           \
     void call_##NAME##_get(struct job *j) { j->answer = bench_##NAME##_get(IMAGE); }                                                 \
+    void call_##NAME##_index(struct job *j) { j->answer = bench_##NAME##_index(IMAGE); }                                             \
     void call_##NAME##_nested(struct job *j) { j->answer = bench_##NAME##_nested(IMAGE); }                                           \
     void call_##NAME##_pixels_mut(struct job *j) { bench_##NAME##_pixels_mut(IMAGE); }                                               \
     void call_##NAME##_tiles(struct job *j) { bench_##NAME##_tiles(IMAGE); }                                                         \
@@ -171,6 +174,7 @@ CALLS(u32, uint32_t)
     }                                                                                                                                \
     void loop_##NAME##_pixels(struct job *j) { loop_##NAME##_rows(j); }                                                              \
     void loop_##NAME##_get(struct job *j) { loop_##NAME##_rows(j); }                                                                 \
+    void loop_##NAME##_index(struct job *j) { loop_##NAME##_rows(j); }                                                               \
     void loop_##NAME##_nested(struct job *j) {                                                                                       \
         uint64_t sum = 0;                                                                                                            \
         for (size_t y = 1; y < j->side - 1; y++)                                                                                     \

@@ -153,6 +153,17 @@ mod loops {
         job.answer = sum;
     }
 
+    unsafe fn index<T: Pixel>(job: &mut Job) {
+        let cells = unsafe { job.cells::<T>() };
+        let mut sum = 0;
+        for y in 0..job.side {
+            for x in 0..job.side {
+                sum += cells[y * job.stride + x].into();
+            }
+        }
+        job.answer = sum;
+    }
+
     unsafe fn nested<T: Pixel>(job: &mut Job) {
         let cells = unsafe { job.cells::<T>() };
         job.answer = (1..job.side - 1).map(|y| sum(&cells[y * job.stride + 1..][..job.side - 2])).sum();
@@ -221,6 +232,7 @@ mod loops {
     timed!(rust_u8_rows, rust_u32_rows, rows);
     timed!(rust_u8_pixels, rust_u32_pixels, rows);
     timed!(rust_u8_get, rust_u32_get, get);
+    timed!(rust_u8_index, rust_u32_index, index);
     timed!(rust_u8_nested, rust_u32_nested, nested);
     timed!(rust_u8_map_pixels, rust_u32_map_pixels, map_pixels);
     timed!(rust_u8_swap_rows, rust_u32_swap_rows, swap_rows);
@@ -297,8 +309,8 @@ mod beside {
         job.answer = sum;
     }
 
-    // By its index, which tests the place too: the crate has no `get`.
-    unsafe fn get<T: Pixel>(job: &mut Job) {
+    // What tests a place too: the crate has no `get`.
+    unsafe fn index<T: Pixel>(job: &mut Job) {
         let image = unsafe { image::<T>(job) };
         let mut sum = 0;
         for y in 0..job.side {
@@ -321,6 +333,7 @@ mod beside {
     timed!(crate_u8_hash, crate_u32_hash, hash);
     timed!(crate_u8_rows, crate_u32_rows, rows);
     timed!(crate_u8_pixels, crate_u32_pixels, pixels);
-    timed!(crate_u8_get, crate_u32_get, get);
+    timed!(crate_u8_get, crate_u32_get, index);
+    timed!(crate_u8_index, crate_u32_index, index);
     timed!(crate_u8_nested, crate_u32_nested, nested);
 }

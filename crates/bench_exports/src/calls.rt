@@ -54,6 +54,22 @@ pub(crate) fn get<T: Copy + Into<u64>>(image: &ImgRef<'_, T>, width: usize, heig
     sum
 }
 
+/// The sum of the pixels by their places, which are tested once.
+pub(crate) fn index<T: Copy + Into<u64>>(image: &ImgRef<'_, T>, width: usize, height: usize) -> u64
+    requires fits { Fits (ref_layout image.now) }
+{
+    let mut sum = 0u64;
+    if width > image.width() || height > image.height() {
+        return sum;
+    }
+    for y in 0..height {
+        for x in 0..width {
+            sum = sum.wrapping_add(image[(x, y)].into());
+        }
+    }
+    sum
+}
+
 /// The sum of a window of a window, which leaves out a column and a row at each side.
 pub(crate) fn nested<T: Copy + Into<u64>>(image: &ImgRef<'_, T>) -> u64
     requires fits { Fits (ref_layout image.now) }

@@ -47,6 +47,22 @@ pub extern "C" fn bench_u32_get(cells: &[u32], width: usize, height: usize, stri
     )
 }
 
+/// The sum of the pixels by their places, which are tested once.
+#[unsafe(no_mangle)]
+pub extern "C" fn bench_u32_index(cells: &[u32], width: usize, height: usize, stride: usize) -> u64
+    requires stride_positive { 1 ≤ stride }
+    requires width_within { width ≤ stride }
+    requires width_fits { width < 2 ^ 32 }
+    requires height_fits { height < 2 ^ 32 }
+    requires fits { Fits (layout cells.now width height stride) }
+{
+    calls::index(
+        &Img::new_stride(cells, width, height, stride),
+        width,
+        height,
+    )
+}
+
 /// The sum of a window of a window.
 #[unsafe(no_mangle)]
 pub extern "C" fn bench_u32_nested(cells: &[u32], width: usize, height: usize, stride: usize) -> u64
