@@ -5,7 +5,7 @@ use Rattle.std.specs.Option.{option_map}
 use Rattle.std.proofs.lemmas.List.{append-nil}
 use Rattle.std.proofs.lemmas.Bool.Decides.{eqb_tells}
 use Rattle.text_model.proofs.Options.{some_is, map_some}
-use Rattle.image_planes.specs.declared.change.Step.{Step}
+use Rattle.frame_formats.specs.declared.steps.Step.{Step}
 use Rattle.frame_formats.specs.declared.framing.Framing.{Framing}
 use Rattle.frame_formats.specs.declared.words.Edits.{Edits}
 use Rattle.frame_formats.specs.Lists.{AreEdits, Adds, framing_after, with_one, with_line, with_lines, plain}

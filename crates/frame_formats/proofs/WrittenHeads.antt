@@ -3,23 +3,20 @@ use Rattle.std.proofs.Common.{◌≡◌, ℕ, ◌<◌, ◌^◌, Bool, true, fals
 use Rattle.std.specs.Option.{option_map}
 use Rattle.std.proofs.lemmas.Bool.Decides.{eqb_tells}
 use Rattle.text_model.proofs.Options.{bind_some, map_some, guard_some}
-use Rattle.image_planes.specs.Changes.{Job, job, job_for, is_job}
+use Rattle.image_planes.specs.Changes.{Job}
 use Rattle.image_planes.specs.Resized.{Resizing, resizing, resizing_for, is_resizing, new_width, new_height}
-use Rattle.image_planes.specs.declared.change.Step.{Step}
 use Rattle.image_planes.specs.declared.target.Resize.{Resize}
 use Rattle.image_planes.specs.declared.target.Resize.TheVariants.{Crop, Pad}
 use Rattle.frame_formats.specs.Format.{resize_for}
 use Rattle.frame_formats.specs.Picture.{picture_of, head_text}
 use Rattle.frame_formats.specs.Recipe.{Edits}
-use Rattle.frame_formats.specs.Recipes.{Recipe, recipe, finished_picture, picture_recipe, each_plane, size_of, resized_picture}
+use Rattle.frame_formats.specs.Recipes.{Recipe, recipe, finished_picture, picture_jobs, picture_recipe, each_plane, size_of, resized_picture}
+use Rattle.frame_formats.proofs.PictureSizes.{picture_size}
 use Rattle.frame_formats.proofs.Heads.{reads_back}
 use Rattle.frame_formats.specs.declared.framing.Framing.{Framing}
 use Rattle.frame_formats.specs.declared.picture.Picture.{Picture}
 
--- the numbers of a plane, and of one in its new size
-job_size : (width height : ℕ) (steps : List Step) → is_job width height steps ≡ true → (0 < width) × (width < 2 ^ 32) × (height < 2 ^ 32)
-job_size width height steps is = (grind arith, grind arith, grind arith)
-
+-- the numbers of a plane in its new size
 new_size : (width height : ℕ) (resize : Resize) → is_resizing width height resize ≡ true → (0 < new_width resize) × (new_width resize < 2 ^ 32) × (new_height resize < 2 ^ 32)
 new_size width height (Crop w) is = (grind arith, grind arith, grind arith)
 new_size width height (Pad left top wide high value) is = (grind arith, grind arith, grind arith)
@@ -52,7 +49,6 @@ finished_head p jobs (Some framing) r columns width_fits rows height_fits made =
 
 pub heads_are_read : (e : Edits) (p : Picture) (r : Recipe) → 0 < p.height → picture_recipe e p ≡ Some r → HasHead r
 heads_are_read e p r rows made =
-    let step = bind_some (job_for p.width p.height e.steps) (λ one. finished_picture p (each_plane p.colour one) e.framing) r made in
-    let tested = guard_some (is_job p.width p.height e.steps) (job p.width p.height e.steps) step.0 step.1 in
-    let size = job_size p.width p.height e.steps tested.0 in
-    finished_head p (each_plane p.colour step.0) e.framing r size.0 size.1 rows size.2 step.2
+    let step = bind_some (picture_jobs p e.steps) (λ jobs. finished_picture p jobs e.framing) r made in
+    let size = (picture_size p e.steps step.0 step.1).1 in
+    finished_head p step.0 e.framing r size.0 size.1 rows size.2 step.2

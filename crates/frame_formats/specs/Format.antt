@@ -5,7 +5,7 @@ use Rattle.std.specs.Str.{bytes_eq}
 use Rattle.image_shape.specs.declared.window.Window.{Window}
 use Rattle.image_planes.specs.declared.change.Change.{Change}
 use Rattle.image_planes.specs.declared.change.Change.TheVariants.{Fill, Mosaic, Move}
-use Rattle.image_planes.specs.declared.change.Step.{Step}
+use Rattle.image_planes.specs.declared.change.Step.{Step as PlaneStep}
 use Rattle.image_planes.specs.Changes.{Job, job_for}
 use Rattle.image_planes.specs.Resized.{Resizing, resizing_for}
 use Rattle.image_planes.specs.declared.target.Resize.{Resize}
@@ -15,6 +15,9 @@ use Rattle.text_model.specs.Reading.{◌>>=◌, number_of}
 use Rattle.frame_formats.specs.declared.header.Chroma.{Chroma}
 use Rattle.frame_formats.specs.declared.header.Chroma.TheVariants.{Mono, Small, Wide, Whole}
 use Rattle.frame_formats.specs.declared.header.Format.{Format}
+use Rattle.frame_formats.specs.Steps.{all_some, steps_in}
+use Rattle.frame_formats.specs.declared.steps.Channel.TheVariants.{Only}
+use Rattle.frame_formats.specs.declared.steps.Step.{Step}
 use Rattle.frame_formats.specs.declared.framing.Framing.{Framing}
 use Rattle.frame_formats.specs.declared.framing.Framing.TheVariants.{Crop as CropPixels, Pad as PadPixels}
 
@@ -98,36 +101,33 @@ change_under x y width height (Move w left top) = do
   Some (Move under goal.left goal.top)
 
 -- a step as one of samples, of the same frames
-abbrev pub step_under : ℕ → ℕ → ℕ → ℕ → Step → Option Step
+abbrev pub step_under : ℕ → ℕ → ℕ → ℕ → PlaneStep → Option PlaneStep
 step_under x y width height s = option_map (λ change. record { first = s.first; end = s.end; change = change }) (change_under x y width height s.change)
 
 -- all steps as steps of samples
-unfoldable pub steps_under : ℕ → ℕ → ℕ → ℕ → List Step → Option (List Step)
-steps_under x y width height [] = Some []
-steps_under x y width height (s ∷ ss) = do
-  under ← step_under x y width height s
-  others ← steps_under x y width height ss
-  Some (under ∷ others)
+abbrev pub steps_under : ℕ → ℕ → ℕ → ℕ → List PlaneStep → Option (List PlaneStep)
+steps_under x y width height steps = all_some (step_under x y width height) steps
 
 -- a plane of chroma samples, one for so many columns and lines of pixels
-abbrev pub chroma_job : ℕ → ℕ → ℕ → ℕ → List Step → Option Job
+abbrev pub chroma_job : ℕ → ℕ → ℕ → ℕ → List PlaneStep → Option Job
 chroma_job x y width height steps = steps_under x y width height steps >>= job_for (samples width x) (samples height y)
 
 -- two of them
-unfoldable pub two_planes : ℕ → ℕ → ℕ → ℕ → List Step → Option (List Job)
+unfoldable pub two_planes : ℕ → ℕ → ℕ → ℕ → List PlaneStep → Option (List Job)
 two_planes x y width height steps = option_map (λ plane. plane ∷ plane ∷ []) (chroma_job x y width height steps)
 
-abbrev pub chroma_jobs : Chroma → ℕ → ℕ → List Step → Option (List Job)
+abbrev pub chroma_jobs : Chroma → ℕ → ℕ → List PlaneStep → Option (List Job)
 chroma_jobs Mono width height steps = Some []
 chroma_jobs Small width height steps = two_planes 2 2 width height steps
 chroma_jobs Wide width height steps = two_planes 2 1 width height steps
 chroma_jobs Whole width height steps = two_planes 1 1 width height steps
 
--- the planes of a frame of this format under steps in pixels, or nothing where one reaches outside a plane or doesn't fall on whole samples
+-- the planes of a frame of this format under steps in pixels, or nothing where one has a colour, reaches outside a plane or doesn't fall on whole samples
 unfoldable pub jobs_for : Format → List Step → Option (List Job)
 jobs_for f steps = do
-  luma ← job_for f.width f.height steps
-  option_map (λ chroma. luma ∷ chroma) (chroma_jobs f.chroma f.width f.height steps)
+  plain ← steps_in Only steps
+  luma ← job_for f.width f.height plain
+  option_map (λ chroma. luma ∷ chroma) (chroma_jobs f.chroma f.width f.height plain)
 
 -- ---- frames of another size
 

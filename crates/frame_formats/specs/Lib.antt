@@ -1,3 +1,4 @@
+pub mod Steps
 pub mod Format
 pub mod Line
 pub mod Picture

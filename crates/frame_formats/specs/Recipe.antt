@@ -4,7 +4,7 @@ use Rattle.std.specs.Option.{option_map}
 use Rattle.image_planes.specs.Changes.{Job, jobs_len, changed_planes}
 use Rattle.image_planes.specs.Resized.{Resizing, resized_planes, new_width, new_height}
 use Rattle.image_planes.specs.declared.target.Resize.{Resize}
-use Rattle.image_planes.specs.declared.change.Step.{Step}
+use Rattle.frame_formats.specs.declared.steps.Step.{Step}
 use Rattle.frame_formats.specs.Format.{format_of, jobs_for, resize_for, resizings_for}
 use Rattle.frame_formats.specs.Line.{resized}
 use Rattle.text_model.specs.Reading.{◌>>=◌}

@@ -12,6 +12,10 @@ use Rattle.frame_formats.specs.Format.{format_of, jobs_for, resize_for, resizing
 use Rattle.frame_formats.specs.Line.{resized}
 use Rattle.frame_formats.specs.Picture.{picture, picture_of, head_text}
 use Rattle.frame_formats.specs.Recipe.{Edits}
+use Rattle.frame_formats.specs.Steps.{steps_in}
+use Rattle.frame_formats.specs.declared.steps.Channel.{Channel}
+use Rattle.frame_formats.specs.declared.steps.Channel.TheVariants.{Only, Red, Green, Blue}
+use Rattle.frame_formats.specs.declared.steps.Step.{Step}
 use Rattle.text_model.specs.Reading.{◌>>=◌}
 use Rattle.frame_formats.specs.declared.framing.Framing.{Framing}
 use Rattle.frame_formats.specs.declared.header.Chroma.TheVariants.{Mono}
@@ -86,9 +90,27 @@ finished_picture p jobs (Some framing) =
     if new_height resize == 0 then None
     else option_map (λ resizing. recipe (head_text (resized_picture p (new_width resize) (new_height resize))) p.colour jobs (Some (each_plane p.colour resizing))) (resizing_for p.width p.height resize)
 
+-- a plane of the picture and what is done to it
+abbrev pub picture_job : Picture → Channel → List Step → Option Job
+picture_job p channel steps = steps_in channel steps >>= job_for p.width p.height
+
+abbrev pub one_job : Picture → List Step → Option (List Job)
+one_job p steps = option_map (λ one. one ∷ []) (picture_job p Only steps)
+
+unfoldable pub three_jobs : Picture → List Step → Option (List Job)
+three_jobs p steps = do
+  red ← picture_job p Red steps
+  green ← picture_job p Green steps
+  blue ← picture_job p Blue steps
+  Some (red ∷ green ∷ blue ∷ [])
+
+-- its planes: a colour is one of a picture of three
+abbrev pub picture_jobs : Picture → List Step → Option (List Job)
+picture_jobs p steps = if p.colour then three_jobs p steps else one_job p steps
+
 -- the recipe of edits of a picture, where they are edits of it
 abbrev pub picture_recipe : Edits → Picture → Option Recipe
-picture_recipe e p = job_for p.width p.height e.steps >>= λ job. finished_picture p (each_plane p.colour job) e.framing
+picture_recipe e p = picture_jobs p e.steps >>= λ jobs. finished_picture p jobs e.framing
 
 -- ---- sizes
 

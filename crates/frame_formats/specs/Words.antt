@@ -3,13 +3,15 @@ use Rattle.std.specs.Prelude.{ℕ, List, [], ◌∷◌, ◌++◌, Option, Some, 
 use Rattle.std.specs.Option.{option_map}
 use Rattle.std.specs.Str.{bytes_eq}
 use Rattle.image_shape.specs.declared.window.Window.{Window}
-use Rattle.image_planes.specs.declared.change.Step.{Step}
-use Rattle.image_planes.specs.declared.change.Change.{Change}
-use Rattle.image_planes.specs.declared.change.Change.TheVariants.{Fill, Mosaic, Move}
+use Rattle.frame_formats.specs.declared.steps.Step.{Step}
+use Rattle.frame_formats.specs.declared.steps.Paint.{Paint}
+use Rattle.frame_formats.specs.declared.steps.Paint.TheVariants.{Grey, Colour}
+use Rattle.frame_formats.specs.declared.steps.Change.{Change}
+use Rattle.frame_formats.specs.declared.steps.Change.TheVariants.{Fill, Mosaic, Move}
 use Rattle.frame_formats.specs.declared.framing.Framing.{Framing}
 use Rattle.frame_formats.specs.declared.framing.Framing.TheVariants.{Crop, Pad}
 use Rattle.text_model.specs.Parts.{parts_of}
-use Rattle.text_model.specs.Reading.{◌>>=◌, number_at, pixel_of, window_of, is_nil}
+use Rattle.text_model.specs.Reading.{◌>>=◌, number_at, pixel_at, pixel_of, window_of, is_nil}
 
 -- two numbers, and no part more
 unfoldable pub pair_in : List (List ℕ) → Option (ℕ × ℕ)
@@ -21,10 +23,26 @@ pair_in parts = do
 abbrev pub pair_of : List ℕ → Option (ℕ × ℕ)
 pair_of part = pair_in (parts_of 44 part)
 
+-- three pixels, and no part more
+unfoldable pub colour_in : List (List ℕ) → Option Paint
+colour_in parts = do
+  red ← pixel_at parts
+  green ← pixel_at red.1
+  blue ← pixel_at green.1
+  if is_nil blue.1 then Some (Colour red.0 green.0 blue.0) else None
+
+-- a value of one byte, or else one of three with commas between them
+abbrev pub paint_by : Option ℕ → List ℕ → Option Paint
+paint_by (Some value) part = Some (Grey value)
+paint_by None part = colour_in (parts_of 44 part)
+
+abbrev pub paint_of : List ℕ → Option Paint
+paint_of part = paint_by (pixel_of part) part
+
 -- a change by its word, its window and what stands behind it
 unfoldable pub change_of : List ℕ → Window → List ℕ → Option Change
 change_of word window last =
-    if bytes_eq word (codes "fill") then option_map (λ value. Fill window value) (pixel_of last)
+    if bytes_eq word (codes "fill") then option_map (λ paint. Fill window paint) (paint_of last)
     else if bytes_eq word (codes "mosaic") then option_map (λ p. Mosaic window p.0 p.1) (pair_of last)
     else if bytes_eq word (codes "move") then option_map (λ p. Move window p.0 p.1) (pair_of last)
     else None

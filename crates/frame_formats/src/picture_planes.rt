@@ -1,18 +1,18 @@
 //! The planes of a picture, and what is done to each of them.
 
-ghost use Rattle.std.specs.Prelude.{◌≡◌, ◌++◌, ◌∷◌, [], map, Some, None, IfOk, OnOk, IfErr};
+ghost use Rattle.std.specs.Prelude.{◌≡◌, map, Some, None, IfOk, IfErr};
 ghost use Rattle.std.specs.Option.{option_map};
-ghost use Rattle.image_planes.specs.Changes.{job_for};
 ghost use Rattle.image_planes.specs.Planes.{job_of};
 ghost use Rattle.image_planes.specs.Resized.{resizing_for};
 ghost use Rattle.image_planes.specs.Targets.{resizing_of};
 ghost use Rattle.frame_formats.specs.Plan.{Tells};
-ghost use Rattle.frame_formats.specs.Recipes.{size_of, each_plane};
+ghost use Rattle.frame_formats.specs.Recipes.{size_of, picture_job, one_job, three_jobs, picture_jobs, each_plane};
 
 use crate::header::{Chroma, Format};
 use crate::picture::Picture;
 use crate::plans::PlanFault;
-use image_planes::{Plane, Resize, Step, Target};
+use crate::steps::{Channel, Step, steps_in};
+use image_planes::{Plane, Resize, Target};
 use std::alloc::Global;
 
 /// Its size, as that of one plane.
@@ -26,45 +26,64 @@ pub(crate) fn size_of(picture: Picture) -> Format
     }
 }
 
-// Adds a plane of the picture.
-fn push_plane(
-    planes: &mut Vec<Plane>,
+// A plane of the picture, with what is done to it.
+fn picture_plane(
     alloc: Global,
     picture: Picture,
+    channel: Channel,
     steps: &[Step],
-) -> Result<(), PlanFault>
-    ensures planes { OnOk result (option_map (λ job. map job_of planes.old.items ++ job ∷ []) (job_for picture.width picture.height steps.now) ≡ Some (map job_of planes.new.items)) }
-    ensures fault { IfErr result (Tells (job_for picture.width picture.height steps.now ≡ None)) }
+) -> Result<Plane, PlanFault>
+    ensures plane { IfOk result (λ plane. picture_job picture channel steps.now ≡ Some (job_of plane)) }
+    ensures fault { IfErr result (Tells (picture_job picture channel steps.now ≡ None)) }
 {
-    let steps = match steps.to_vec(alloc) {
-        Ok(steps) => steps,
-        Err(_) => return Err(PlanFault::Memory),
-    };
-    let Some(plane) = Plane::new(picture.width, picture.height, steps) else {
+    let made = steps_in(alloc, channel, steps)?;
+    let Some(plane) = Plane::new(picture.width, picture.height, made) else {
         return Err(PlanFault::Outside);
     };
-    match planes.push(plane) {
-        Ok(()) => Ok(()),
+    Ok(plane)
+}
+
+// The planes of a picture of three.
+#[tactic(auto, unfolding(crate::specs::Recipes::three_jobs))]
+fn three_planes(alloc: Global, picture: Picture, steps: &[Step]) -> Result<Vec<Plane>, PlanFault>
+    ensures planes { IfOk result (λ planes. three_jobs picture steps.now ≡ Some (map job_of planes.items)) }
+    ensures fault { IfErr result (Tells (three_jobs picture steps.now ≡ None)) }
+{
+    let red = picture_plane(alloc, picture, Channel::Red, steps)?;
+    let green = picture_plane(alloc, picture, Channel::Green, steps)?;
+    let blue = picture_plane(alloc, picture, Channel::Blue, steps)?;
+    match vec![in alloc; red, green, blue] {
+        Ok(planes) => Ok(planes),
         Err(_) => Err(PlanFault::Memory),
     }
 }
 
-/// The planes of the picture with what is done to each: one, or three with the same steps.
+// The plane of a picture of one.
+fn one_plane(alloc: Global, picture: Picture, steps: &[Step]) -> Result<Vec<Plane>, PlanFault>
+    ensures planes { IfOk result (λ planes. one_job picture steps.now ≡ Some (map job_of planes.items)) }
+    ensures fault { IfErr result (Tells (one_job picture steps.now ≡ None)) }
+{
+    let plane = picture_plane(alloc, picture, Channel::Only, steps)?;
+    match vec![in alloc; plane] {
+        Ok(planes) => Ok(planes),
+        Err(_) => Err(PlanFault::Memory),
+    }
+}
+
+/// The planes of the picture with what is done to each.
 pub(crate) fn picture_planes(
     alloc: Global,
     picture: Picture,
     steps: &[Step],
 ) -> Result<Vec<Plane>, PlanFault>
-    ensures planes { IfOk result (λ planes. option_map (each_plane picture.colour) (job_for picture.width picture.height steps.now) ≡ Some (map job_of planes.items)) }
-    ensures fault { IfErr result (Tells (job_for picture.width picture.height steps.now ≡ None)) }
+    ensures planes { IfOk result (λ planes. picture_jobs picture steps.now ≡ Some (map job_of planes.items)) }
+    ensures fault { IfErr result (Tells (picture_jobs picture steps.now ≡ None)) }
 {
-    let mut planes = Vec::new(alloc);
-    push_plane(&mut planes, alloc, picture, steps)?;
     if picture.colour {
-        push_plane(&mut planes, alloc, picture, steps)?;
-        push_plane(&mut planes, alloc, picture, steps)?;
+        three_planes(alloc, picture, steps)
+    } else {
+        one_plane(alloc, picture, steps)
     }
-    Ok(planes)
 }
 
 /// The planes of the picture with what becomes of the size of each.

@@ -13,17 +13,18 @@ use crate::header::Format;
 use crate::line::{ended_line, resized_line};
 use crate::picture::{Picture, picture_head};
 use crate::picture_planes::{picture_planes, picture_targets, size_of};
+use crate::steps::Step;
 use crate::video_planes::{plan, plan_resize};
 use image_planes::{
-    Plane, Step, Target, change_planes, join_pixels, part_pixels, planes_len, resize_planes,
-    targets_len,
+    Plane, Target, change_planes, join_pixels, part_pixels, planes_len, resize_planes, targets_len,
 };
 use std::alloc::Global;
 
 /// Why there is no plan.
 #[derive(Clone, Copy, Debug, PartialEq, Eq)]
 pub enum PlanFault {
-    /// The edit reaches outside a plane, or doesn't fall on whole chroma samples.
+    /// The edit reaches outside a plane, doesn't fall on whole chroma samples, or has a colour that
+    /// there are no planes for.
     Outside,
     /// No memory was found.
     Memory,

@@ -10,7 +10,8 @@ ghost use Rattle.frame_formats.specs.Format.{chroma_job, two_planes, chroma_jobs
 use crate::header::{Chroma, Format};
 use crate::plans::PlanFault;
 use crate::samples::{count_samples, resize_of_samples, steps_of_samples};
-use image_planes::{Plane, Resize, Step, Target};
+use crate::steps::{Channel, Step, steps_in};
+use image_planes::{Plane, Resize, Step as PlaneStep, Target};
 use std::alloc::Global;
 
 // The plane of chroma samples for so many columns and lines of pixels.
@@ -19,7 +20,7 @@ fn chroma_plane(
     x: usize,
     y: usize,
     format: Format,
-    steps: &[Step],
+    steps: &[PlaneStep],
 ) -> Result<Plane, PlanFault>
     requires across { 0 < x }
     requires down { 0 < y }
@@ -48,7 +49,7 @@ fn push_two(
     x: usize,
     y: usize,
     format: Format,
-    steps: &[Step],
+    steps: &[PlaneStep],
 ) -> Result<(), PlanFault>
     requires across { 0 < x }
     requires down { 0 < y }
@@ -74,7 +75,7 @@ fn push_chroma(
     planes: &mut Vec<Plane>,
     alloc: Global,
     format: Format,
-    steps: &[Step],
+    steps: &[PlaneStep],
 ) -> Result<(), PlanFault>
     ensures planes { OnOk result (option_map (λ jobs. map job_of planes.old.items ++ jobs) (chroma_jobs format.chroma format.width format.height steps.now) ≡ Some (map job_of planes.new.items)) }
     ensures fault { IfErr result (Tells (chroma_jobs format.chroma format.width format.height steps.now ≡ None)) }
@@ -93,7 +94,8 @@ pub fn plan(alloc: Global, format: Format, steps: &[Step]) -> Result<Vec<Plane>,
     ensures planes { IfOk result (λ planes. jobs_for format steps.now ≡ Some (map job_of planes.items)) }
     ensures fault { IfErr result (Tells (jobs_for format steps.now ≡ None)) }
 {
-    let luma_steps = match steps.to_vec(alloc) {
+    let plain = steps_in(alloc, Channel::Only, steps)?;
+    let luma_steps = match plain.to_vec(alloc) {
         Ok(luma_steps) => luma_steps,
         Err(_) => return Err(PlanFault::Memory),
     };
@@ -104,7 +106,7 @@ pub fn plan(alloc: Global, format: Format, steps: &[Step]) -> Result<Vec<Plane>,
     if planes.push(luma).is_err() {
         return Err(PlanFault::Memory);
     }
-    match push_chroma(&mut planes, alloc, format, steps) {
+    match push_chroma(&mut planes, alloc, format, &plain) {
         Ok(()) => Ok(planes),
         Err(fault) => Err(fault),
     }

@@ -4,10 +4,11 @@ ghost use Rattle.std.specs.Prelude.{◌≡◌, ◌<◌, ◌≤◌, ◌++◌, map
 ghost use Rattle.std.specs.Option.{option_map};
 ghost use Rattle.text_model.specs.Parts.{parts_of};
 ghost use Rattle.frame_formats.specs.Lists.{Adds, AddsNone, with_one, with_line, with_lines, plain};
-ghost use Rattle.frame_formats.specs.Words.{pair_of, change_of, pad_of, span_of, framing_at, step_at, ranged_at, edit_at, with_edit};
+ghost use Rattle.frame_formats.specs.Words.{pair_of, colour_in, paint_of, change_of, pad_of, span_of, framing_at, step_at, ranged_at, edit_at, with_edit};
 
 use crate::framing::Framing;
-use image_planes::{Change, Step, Window};
+use crate::steps::{Change, Paint, Step};
+use image_planes::Window;
 use std::alloc::{AllocError, Global};
 use texts::{Field, Parts, next};
 
@@ -22,14 +23,38 @@ fn read_pair(piece: &[u8]) -> Option<(usize, usize)>
     numbers.is_done().then_some((first, second))
 }
 
+// A colour: three values with commas between them.
+#[tactic(auto, unfolding(crate::specs::Words::colour_in))]
+fn read_colour(piece: &[u8]) -> Option<Paint>
+    ensures { result ≡ colour_in (parts_of 44 piece.now) }
+{
+    let mut values = Parts::new(piece, b',');
+    let red = next(&mut values)?;
+    let green = next(&mut values)?;
+    let blue = next(&mut values)?;
+    values
+        .is_done()
+        .then_some(Paint::Colour { red, green, blue })
+}
+
+// A value of one byte, or a colour.
+fn read_paint(piece: &[u8]) -> Option<Paint>
+    ensures { result ≡ paint_of piece.now }
+{
+    match u8::read(piece) {
+        Some(value) => Some(Paint::Grey(value)),
+        None => read_colour(piece),
+    }
+}
+
 // A change by its word, its window and what stands behind it.
 #[tactic(auto, unfolding(crate::specs::Words::change_of))]
 fn read_change(word: &[u8], window: Window, last: &[u8]) -> Option<Change>
     ensures { result ≡ change_of word.now window last.now }
 {
     if word == b"fill".as_slice() {
-        let value = u8::read(last)?;
-        Some(Change::Fill { window, value })
+        let paint = read_paint(last)?;
+        Some(Change::Fill { window, paint })
     } else if word == b"mosaic".as_slice() {
         let (tile_width, tile_height) = read_pair(last)?;
         Some(Change::Mosaic {
@@ -163,7 +188,7 @@ impl Edits {
     }
 
     /// Adds the edit at the front of the words, and answers how many words it has: `crop L,T,W,H`,
-    /// `pad L,T,R,B V`, `fill L,T,W,H V`, `mosaic L,T,W,H TW,TH` or `move L,T,W,H X,Y`, and before one
+    /// `pad L,T,R,B V`, `fill L,T,W,H V`, `fill L,T,W,H R,G,B`, `mosaic L,T,W,H TW,TH` or `move L,T,W,H X,Y`, and before one
     /// of the last three a range of frames, as `12..80`.
     ///
     /// # Errors
