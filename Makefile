@@ -3,7 +3,7 @@
 # make check               proves and tests what has changed: what to run while writing
 # make test                the whole gate: every proof from nothing, every test, every planted bug
 #
-# make frames              proves and builds the program for video: crates/imgref_frames/out/imgref_frames
+# make frames              proves and builds the program for video and pictures: crates/imgref_frames/out/imgref_frames
 # make c                   proves and builds the library for C: out/c/libimgref.a, libimgref.so, imgref.pc
 # make install PREFIX=..   builds it, and installs it with its header
 # make bench [BENCH=..]    times the calls and the program beside plain loops; BENCH: options of tools/bench.py

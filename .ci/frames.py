@@ -1,8 +1,14 @@
 """What imgref_frames must answer by docs/FRAMES.md: a model over the raw bytes, written apart from the program."""
+import re
+import subprocess
 
 STATUS = {"words": 1, "header": 2, "memory": 3, "input": 4, "output": 5, "outside": 6, "frame": 7}
 # How many pixels share a chroma sample, across and down.
 SAMPLINGS = {b"mono": None, b"420jpeg": (2, 2), b"420mpeg2": (2, 2), b"420paldv": (2, 2), b"420": (2, 2), b"422": (2, 1), b"444": (1, 1)}
+
+# The head of a picture: its kind and three numbers with white space or comments between them, and one of these at its end.
+GAP = rb"(?:[ \t-\r]|#[^\n\r]*[\n\r])"
+HEAD = re.compile(rb"P([56])" + GAP + rb"+(\d+)" + GAP + rb"+(\d+)" + GAP + rb"+0*255" + GAP)
 
 
 class Fault(Exception):
@@ -126,35 +132,115 @@ def line_end(data, at):
     return end if data[at:end] == b"FRAME\n" or data[at:end].startswith(b"FRAME ") else 0
 
 
+def step_of(planes, size, edit, values):
+    """An edit as one of each plane, with what is written there: these values of a list of one or three, or it isn't an edit here."""
+    first, last, word, window, more = edit
+    found = [windows_of(plane, size, word, window, more) for plane in planes]
+    if word in ("fill", "pad"):
+        if len(more) not in values:
+            raise Fault("outside")
+        found = [(inside, [value]) for (inside, _), value in zip(found, values[len(more)](more))]
+    return first, last, word, found
+
+
+# What a fill writes in each plane. One value leaves no colour in chroma samples.
+VIDEO = {1: lambda more: [more[0], 128, 128]}
+GREY = {1: lambda more: more}
+COLOUR = {1: lambda more: more * 3, 3: lambda more: more}
+
+
+def after(planes, cells, steps, number):
+    """The cells of each plane after the steps that name this frame."""
+    for first, last, word, found in steps:
+        if first <= number < last:
+            cells = [edited(plane, old, word, *it) for plane, old, it in zip(planes, cells, found)]
+    return cells
+
+
+def size_after(size, edits):
+    """The size that a crop or a pad leaves, or none."""
+    return next((edit[3][2:] if edit[2] == "crop" else padded(size, edit[3]) for edit in edits if edit[2] in ("crop", "pad")), None)
+
+
 def answer(data, edits):
     """What is written for these bytes; a fault tells what was written before it. An edit has the numbers of its first frame and
     of the first behind its last, its word, its window and what follows that."""
+    return pictures(data, edits) if data[:1] == b"P" else video(data, edits)
+
+
+def pictures(data, edits):
+    out, at, count = b"", 0, 0
+    while at < len(data):
+        head = HEAD.match(data, at)
+        colours, *size = (int(it) for it in head.groups()) if head else (0, 0, 0)
+        if not head or not all(0 < it < 2**32 for it in size):
+            raise Fault(f"frame {count}" if count else "header", out)
+        width, height = size
+        colours = 3 if colours == 6 else 1
+        planes = [(width, height, 1, 1)] * colours
+        try:
+            if any(edit[2] == "crop" and edit[3][3] == 0 for edit in edits):
+                raise Fault("outside")
+            steps = [step_of(planes, size, edit, COLOUR if colours == 3 else GREY) for edit in edits]
+        except Fault as fault:
+            raise Fault(fault.name, out) from None
+        at, end = head.end(), head.end() + width * height * colours
+        if len(data) < end:
+            raise Fault(f"frame {count}", out)
+        cells = after(planes, [data[at + it:end:colours] for it in range(colours)], steps, count)
+        out += b"P%d\n%d %d\n255\n" % (6 if colours == 3 else 5, *(size_after(size, edits) or size)) + bytes(it for pixel in zip(*cells) for it in pixel)
+        at, count = end, count + 1
+    return out
+
+
+def video(data, edits):
     end = data.find(b"\n", 0, 256)
     if end < 0:
         raise Fault("header")
     line, at = data[:end], end + 1
     width, height, sampling = format_of(line)
     planes = planes_of(width, height, sampling)
-    steps = []
-    for first, last, word, window, more in edits:
-        found = [windows_of(plane, (width, height), word, window, more) for plane in planes]
-        if word in ("fill", "pad"):
-            found = [(inside, more if number == 0 else [128]) for number, (inside, _) in enumerate(found)]
-        steps.append((first, last, word, found))
-    sizes = [edit[3][2:] if edit[2] == "crop" else padded((width, height), edit[3]) for edit in edits if edit[2] in ("crop", "pad")]
-    out = (resized(line, *sizes[0]) if sizes else line) + b"\n"
+    steps = [step_of(planes, (width, height), edit, VIDEO) for edit in edits]
+    resize = size_after((width, height), edits)
+    out = (resized(line, *resize) if resize else line) + b"\n"
     size, frames = sum(wide * high for wide, high, _, _ in planes), 0
     while at < len(data):
         end = line_end(data, at)
         if not end or len(data) < end + size:
             raise Fault(f"frame {frames}", out)
-        at, out = end, out + data[at:end]
-        for number, plane in enumerate(planes):
-            count = plane[0] * plane[1]
-            cells, at = data[at:at + count], at + count
-            for first, last, word, found in steps:
-                if first <= frames < last:
-                    cells = edited(plane, cells, word, *found[number])
-            out += cells
+        out, at = out + data[at:end], end
+        cells = []
+        for wide, high, _, _ in planes:
+            cells.append(data[at:at + wide * high])
+            at += wide * high
+        out += b"".join(after(planes, cells, steps, frames))
         frames += 1
     return out
+
+
+# ---- the program beside the model
+
+
+def ends(program, words, data):
+    """What the program writes, what it says, and its status."""
+    done = subprocess.run([program, *words], input=data, capture_output=True, timeout=120)
+    return done.stdout, done.stderr.decode().split("\n")[0], done.returncode
+
+
+def wanted(data, words):
+    """The same by the model."""
+    try:
+        return answer(data, edits_of(words)), "", 0
+    except Fault as fault:
+        return fault.written, f"fault {fault.name}", STATUS[fault.name.split()[0]]
+
+
+def differing(program, tries):
+    """Those tries of words and bytes at which the program differs from the model."""
+    return [f"{' '.join(words)} on {data[:60]!r}.." for words, data in tries if ends(program, words, data) != wanted(data, words)]
+
+
+def count_tries(cases, label, program, tries):
+    """One case: at each of these tries the program is as the model."""
+    wrong = differing(program, tries)
+    cases.count(label, not wrong, "\n".join(wrong))

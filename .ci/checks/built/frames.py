@@ -1,9 +1,9 @@
 #!/usr/bin/env python3
-"""Shows what imgref_frames answers on real bytes: by a model written apart from it, by ffmpeg and by netpbm.
+"""Shows what imgref_frames answers on real video: by a model written apart from it, and by ffmpeg.
 
 The contract speaks of readers and writers; here stand what `main` prints and its status, small streams of each sampling, each
 beginning of one, each byte of its line changed, and hidden pixels exchanged. Both builds are run that `rt ci` leaves. Where
-the machine has no ffmpeg, no netpbm or no GNU parallel, the cases with it are left out, and a line says 'skipped'.
+the machine has no ffmpeg or no GNU parallel, the cases with it are left out, and a line says 'skipped'.
 """
 import pathlib
 import random
@@ -14,7 +14,7 @@ import tempfile
 
 sys.path.insert(0, str(pathlib.Path(__file__).resolve().parents[2]))
 from checking import Cases, both_builds
-from frames import STATUS, Fault, answer, edits_of
+from frames import count_tries, edits_of, ends, wanted
 
 SAMPLINGS = ("mono", "420jpeg", "420", "422", "444")
 EDITS = ("fill 4,2,6,4 126", "mosaic 2,2,10,6 4,2", "mosaic 0,0,12,8 64,64", "move 0,0,6,4 4,2", "move 4,2,6,4 0,0", "crop 4,2,6,4", "fill 0,0,0,0 1", "pad 2,4,6,8 16", "pad 4,0,1,3 200", "pad 1,0,0,0 9", "pad 0,2,0,0 9")
@@ -38,31 +38,6 @@ def video(sampling, width=12, height=8, frames=3, parameters=(b"",)):
     chroma = {"mono": 0, "422": 2 * (-(-width // 2)) * height, "444": 2 * width * height}.get(sampling, 2 * (-(-width // 2)) * (-(-height // 2)))
     line = f"YUV4MPEG2 W{width} H{height} F25:1 Ip A1:1 C{sampling} XLABEL=a\n".encode()
     return line + b"".join(b"FRAME" + parameters[it % len(parameters)] + b"\n" + chance.randbytes(width * height + chroma) for it in range(frames))
-
-
-def ends(program, words, data):
-    """What the program writes, what it says, and its status."""
-    done = subprocess.run([program, *words], input=data, capture_output=True, timeout=120)
-    return done.stdout, done.stderr.decode().split("\n")[0], done.returncode
-
-
-def wanted(data, words):
-    """The same by the model."""
-    try:
-        return answer(data, edits_of(words)), "", 0
-    except Fault as fault:
-        return fault.written, f"fault {fault.name}", STATUS[fault.name.split()[0]]
-
-
-def differing(program, tries):
-    """Those tries of words and bytes at which the program differs from the model."""
-    return [f"{' '.join(words)} on {data[:60]!r}.." for words, data in tries if ends(program, words, data) != wanted(data, words)]
-
-
-def count_tries(cases, label, program, tries):
-    """One case: at each of these tries the program is as the model."""
-    wrong = differing(program, tries)
-    cases.count(label, not wrong, "\n".join(wrong))
 
 
 def exchanged(data, window):
@@ -105,7 +80,7 @@ def by_model(cases, program):
 
 
 def by_words(cases, program):
-    for words in ("", "fill", "fill 1,2,3,4", "blur 0,0,1,1 2", "fill 0,0,1,1 256", "fill 0,0,01,1 2", "fill 0,0,1 2", "mosaic 0,0,1,1 2", "crop 0,0,1,1 2", "crop 0,0,2,2 fill 0,0,2,2 9", "pad 0,0,2,2", "pad 0,0,2,2 256", "pad 0,0,2,2 9 crop 0,0,2,2", "1..2 pad 0,0,2,2 9", "1..2 crop 0,0,2,2", "1.2 fill 0,0,2,2 9", "--edits /nowhere"):
+    for words in ("", "fill", "fill 1,2,3,4", "blur 0,0,1,1 2", "fill 0,0,1,1 256", "fill 0,0,1,1 1,2", "fill 0,0,1,1 1,2,256", "fill 0,0,1,1 1,2,3,4", "pad 0,0,1,1 1,2,3", "fill 0,0,01,1 2", "fill 0,0,1 2", "mosaic 0,0,1,1 2", "crop 0,0,1,1 2", "crop 0,0,2,2 fill 0,0,2,2 9", "pad 0,0,2,2", "pad 0,0,2,2 256", "pad 0,0,2,2 9 crop 0,0,2,2", "1..2 pad 0,0,2,2 9", "1..2 crop 0,0,2,2", "1.2 fill 0,0,2,2 9", "--edits /nowhere"):
         said = ends(program, words.split(), video("mono"))
         cases.count(f"words '{words}' are refused", said == (b"", "fault words", 1), str(said))
     with tempfile.NamedTemporaryFile("w", suffix=".edits") as listed:
@@ -162,31 +137,6 @@ def by_h264(cases, program):
     cases.count("H.264 goes through the pipe", found[found_line:] == wanted(given, FILL.split())[0][line:])
 
 
-def by_netpbm(cases, program):
-    """Edits of one frame without chroma, beside the tools for pictures of that name."""
-    made = video("mono", frames=1)
-    cells = made[made.index(b"\n") + 7:]
-
-    def picture(cells, width, height):
-        return b"P5\n%d %d\n255\n" % (width, height) + cells
-
-    def said(words, given):
-        return subprocess.run(words.split(), input=given, capture_output=True, check=True, timeout=120).stdout
-
-    def ours(words, width, height):
-        written = ends(program, words.split(), made)[0]
-        return picture(written[written.index(b"\n") + 7:], width, height)
-
-    whole = picture(cells, 12, 8)
-    part = said("pamcut -left 4 -top 2 -width 6 -height 4", whole)
-    cases.count("crop is pamcut", ours("crop 4,2,6,4", 6, 4) == part)
-    cases.count("pad is pnmpad", ours("pad 1,2,3,4 0", 16, 14) == said("pnmpad -black -left=1 -top=2 -right=3 -bottom=4", whole))
-    with tempfile.NamedTemporaryFile(suffix=".pgm") as front:
-        front.write(part)
-        front.flush()
-        cases.count("move is pnmpaste", ours("move 4,2,6,4 1,3", 12, 8) == said(f"pnmpaste {front.name} 1 3", whole))
-
-
 def by_parallel(cases, program):
     with tempfile.TemporaryDirectory() as folder:
         for name in SAMPLINGS:
@@ -208,7 +158,7 @@ def main():
             by_netpbm(cases, str(program))
         if shutil.which("parallel"):
             by_parallel(cases, str(program))
-    for missing in (it for it in ("ffmpeg", "pamcut", "parallel") if not shutil.which(it)):
+    for missing in (it for it in ("ffmpeg", "parallel") if not shutil.which(it)):
         print(f"skipped: this machine has no {missing}")
     return cases.end()
 

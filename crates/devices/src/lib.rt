@@ -6,4 +6,4 @@ mod counted;
 mod whole;
 
 pub use counted::Counted;
-pub use whole::{LineFault, ReadFailed, WriteFailed, fill, read_line, write_all};
+pub use whole::{LineFault, ReadFailed, WriteFailed, fill, read_byte, read_line, write_all};

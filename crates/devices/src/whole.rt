@@ -49,8 +49,12 @@ pub fn fill<R: Read>(reader: &mut Counted<R>, buffer: &mut [u8]) -> Result<usize
     Ok(filled)
 }
 
-// The next byte, or `None` where the reader is at its end.
-fn read_byte<R: Read>(reader: &mut Counted<R>) -> Result<Option<u8>, ReadFailed>
+/// The next byte, or `None` where the reader is at its end.
+///
+/// # Requires
+///
+/// The reader's count has room for one failure more.
+pub fn read_byte<R: Read>(reader: &mut Counted<R>) -> Result<Option<u8>, ReadFailed>
     requires { failures_of reader.old < u64.MAX }
     ensures byte { IfOk result (λ found. IfSome found (λ byte. Consumes (R.remaining (device_of reader.old)) (R.remaining (device_of reader.new)) (byte ∷ []))) }
     ensures end { IfOk result (λ found. IfNone found (Consumes (R.remaining (device_of reader.old)) (R.remaining (device_of reader.new)) [] × IsAtEnd (R.remaining (device_of reader.new)))) }

@@ -1,5 +1,5 @@
 -- The line of a frame is read in one way.
-use Rattle.std.proofs.Common.{◌≡◌, ◌≢◌, ℕ, ◌+◌, ◌<◌, List, [], ◌∷◌, ◌++◌, Option, Some, None, length, take, refl, sym, ap, ◌∙◌, subst, arith, append_assoc, length-append, append-nil}
+use Rattle.std.proofs.Common.{◌≡◌, ◌≢◌, ℕ, ◌+◌, ◌<◌, List, [], ◌∷◌, ◌++◌, Option, Some, None, length, take, refl, sym, ap, ◌∙◌, subst, arith, append_assoc, length-append}
 use Rattle.std.specs.Prelude.{IfSome, codes}
 use Rattle.std.specs.Io.KnownBytes.{Consumes, Appends, IsAtEnd}
 use Rattle.std.specs.List.{AllByRecursion}
@@ -8,8 +8,8 @@ use Rattle.std.proofs.KnownBytes.{Appends-trans}
 use lib.Seq.{take-append-add}
 use Rattle.std.proofs.lemmas.List.Elements.{recursion_from_All}
 use Rattle.devices.specs.Whole.{AppendsBeginning}
-use Rattle.imgref_frames.specs.Video.{VideoFrame, video_frame, AreParameters, IsFrameOf, frame_line, frame_text}
-use Rattle.imgref_frames.specs.Passing.{IsNoFrameLine, IsNoFrame, FrameRead}
+use Rattle.imgref_frames.specs.Video.{AreParameters, frame_line}
+use Rattle.imgref_frames.specs.Passing.{IsNoFrameLine}
 
 -- bytes begin with one line at most
 pub one_front : (xs ys more others : List ℕ) → AllByRecursion (λ b. b ≢ 10) xs → AllByRecursion (λ b. b ≢ 10) ys → xs ++ 10 ∷ more ≡ ys ++ 10 ∷ others → (xs ≡ ys) × (more ≡ others)
@@ -33,23 +33,6 @@ one_line ps qs a b p q e =
     let tails : ps ++ 10 ∷ a ≡ qs ++ 10 ∷ b = append_cancel_left (codes "FRAME") _ _ (sym (behind_word ps a) ∙ e ∙ behind_word qs b) in
     one_front ps qs a b (feedless ps p) (feedless qs q) tails
 
-fronts : (xs ys a b : List ℕ) → length xs ≡ length ys → xs ++ a ≡ ys ++ b → (xs ≡ ys) × (a ≡ b)
-fronts [] [] a b long e = (refl, e)
-fronts [] (y ∷ ys) a b long e = absurd (omega (arith, long))
-fronts (x ∷ xs) [] a b long e = absurd (omega (arith, long))
-fronts (x ∷ xs) (y ∷ ys) a b long e =
-    let heads : x ≡ y = cc in
-    let tails : xs ++ a ≡ ys ++ b = cc in
-    let rest = fronts xs ys a b (omega (arith, long)) tails in
-    ((λ i. heads i ∷ rest.0 i), rest.1)
-
-pub one_frame : (size : ℕ) (x p : VideoFrame) (a b : List ℕ) → IsFrameOf size x → IsFrameOf size p → frame_text x ++ a ≡ frame_text p ++ b → (x ≡ p) × (a ≡ b)
-one_frame size x p a b long as_long e =
-    let lines = one_line x.parameters p.parameters (x.cells ++ a) (p.cells ++ b) long.0 as_long.0
-    (sym (append_assoc (frame_line x.parameters) x.cells a) ∙ e ∙ append_assoc (frame_line p.parameters) p.cells b) in
-    let cells = fronts x.cells p.cells a b (long.1 ∙ sym as_long.1) lines.1 in
-    ((λ i. video_frame (lines.0 i) (cells.0 i)), cells.1)
-
 -- ---- what is no frame
 
 -- bytes that end within six are no line
@@ -70,20 +53,6 @@ pub line_in : (word ys : List ℕ) (len : ℕ) → word ≡ codes "FRAME" ++ 32 
 line_in word ys len front feed within =
     let same : len + 7 ≡ length (codes "FRAME" ++ 32 ∷ []) + (len + 1) = omega arith in
     (λ i. take (same i) (front i ++ ys)) ∙ take-append-add (codes "FRAME" ++ 32 ∷ []) ys (len + 1) ∙ ap (λ l. (codes "FRAME" ++ 32 ∷ []) ++ l) feed
-
--- and fewer cells behind it than a frame has
-pub cut_frame : (len size : ℕ) (line got : List ℕ) (old mid new : Option (List ℕ)) → FrameRead len line [] old mid → Consumes mid new got → length got < size → IsAtEnd new → IfSome old (IsNoFrame size)
-cut_frame len size line got None mid new r read short end = tt
-cut_frame len size line got (Some bytes) None new r read short end = absurd r.read
-cut_frame len size line got (Some bytes) (Some rest) None r read short end = absurd read
-cut_frame len size line got (Some bytes) (Some rest) (Some left) r read short end =
-    let whole : bytes ≡ frame_line r.parameters ++ got = r.read ∙ ap (λ l. l ++ rest) (append-nil (frame_line r.parameters)) ∙ ap (λ l. frame_line r.parameters ++ l) (read ∙ ap (λ l. got ++ l) end ∙ append-nil got) in
-    record {
-      some = λ none. absurd (let bad : [] ≡ frame_line r.parameters ++ got = sym none ∙ whole in cc);
-      other = λ frame more of is.
-          let lines = one_line r.parameters frame.parameters got (frame.cells ++ more) r.are of.0 (sym whole ∙ is ∙ append_assoc (frame_line frame.parameters) frame.cells more) in
-          omega (arith, ap length lines.1, length-append frame.cells more, of.1, short);
-    }
 
 -- ---- a frame that was written
 

@@ -1,6 +1,8 @@
 pub mod FrameLines
+pub mod Pieces
 pub mod OneMore
-pub mod Videos
+pub mod Heads
+pub mod Rounds
+pub mod Carrying
 pub mod Outcomes
 pub mod Hiding
-pub mod Sizes

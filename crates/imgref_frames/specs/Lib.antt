@@ -1,5 +1,7 @@
 pub mod Fault
+pub mod Stream
 pub mod Video
+pub mod Pictures
 pub mod Passing
 pub mod Program
 pub mod Alike

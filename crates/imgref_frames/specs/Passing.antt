@@ -1,33 +1,24 @@
--- What was read and written of frames.
-use Rattle.std.specs.Prelude.{◌≡◌, ◌≢◌, ℕ, ◌≤◌, List, [], ◌∷◌, ◌++◌, length, take, codes, Option, Result, Ok, Err, IfSome}
+-- What was read and written of the pieces of a stream.
+use Rattle.std.specs.Prelude.{◌≡◌, ◌≢◌, ℕ, ◌<◌, ◌≤◌, List, [], ◌∷◌, ◌++◌, length, take, codes, Option, Result, Ok, Err, IfSome}
 use Rattle.std.specs.List.{AllByRecursion}
-use Rattle.std.specs.Io.KnownBytes.{Consumes, Appends, IsAtEnd}
+use Rattle.std.specs.Io.KnownBytes.{Consumes, Appends, Keeps, IsAtEnd}
 use Rattle.devices.specs.Whole.{AppendsBeginning}
-use Rattle.imgref_frames.specs.Video.{VideoFrame, video_frame, AreParameters, IsFrameOf, frame_line, frame_text, frames_text, numbered}
-use Rattle.imgref_frames.specs.declared.fault.RunFault.{RunFault}
-use Rattle.imgref_frames.specs.declared.fault.RunFault.TheVariants.{Header, Outside, Frame as BadFrame, Memory, Input, Output, Endless}
+use Rattle.frame_formats.specs.Recipe.{Edits}
+use Rattle.frame_formats.specs.Recipes.{Recipe}
+use Rattle.imgref_frames.specs.Stream.{Piece, IsPiece, piece_text, pieces_text, made_text, all_made}
+use Rattle.imgref_frames.specs.Video.{AreParameters, frame_line}
+use Rattle.imgref_frames.specs.Pictures.{PictureHead, IsNoPicture, IsPictureNotEdited}
 use Rattle.imgref_frames.specs.declared.frames.Begin.{Begin}
 use Rattle.imgref_frames.specs.declared.frames.Begin.TheVariants.{Whole, Open, End as AtEnd, Other as NoWord}
 use Rattle.imgref_frames.specs.declared.frames.Found.{Found}
 use Rattle.imgref_frames.specs.declared.frames.Found.TheVariants.{Frame, End, Other}
+use Rattle.imgref_frames.specs.declared.fault.RunFault.{RunFault}
+use Rattle.imgref_frames.specs.declared.fault.RunFault.TheVariants.{Header, Outside, Frame as BadFrame, Memory, Input, Output, Endless}
 
 -- the bytes are some, and don't begin with the line of a frame
 pub record IsNoFrameLine (bytes : List ℕ) : Type 0 where
   pub some : bytes ≢ []
   pub other : (parameters more : List ℕ) → AreParameters parameters → bytes ≡ frame_line parameters ++ more → ⊥
-
--- the bytes are some, and don't begin with a frame of so many cells
-pub record IsNoFrame (size : ℕ) (bytes : List ℕ) : Type 0 where
-  pub some : bytes ≢ []
-  pub other : (frame : VideoFrame) (more : List ℕ) → IsFrameOf size frame → bytes ≡ frame_text frame ++ more → ⊥
-
--- the line of a frame was read into the front of a buffer, and cells behind it into another
-pub record FrameRead (len : ℕ) (line cells : List ℕ) (old new : Option (List ℕ)) : Type 0 where
-  pub parameters : List ℕ
-  pub are : AreParameters parameters
-  pub within : len ≤ length line
-  pub line_is : take len line ≡ frame_line parameters
-  pub read : Consumes old new (frame_line parameters ++ cells)
 
 -- what was found in the place of the first six bytes of a frame's line
 abbrev pub IsWord : Begin → List ℕ → Option (List ℕ) → Option (List ℕ) → Type 0
@@ -40,9 +31,17 @@ abbrev pub WordIs : Result Begin RunFault → List ℕ → Option (List ℕ) →
 WordIs (Ok begin) word old new = IsWord begin word old new
 WordIs (Err e) word old new = e ≡ Input
 
+-- the line of a frame was read into the front of a buffer
+pub record LineRead (len : ℕ) (line : List ℕ) (old new : Option (List ℕ)) : Type 0 where
+  pub parameters : List ℕ
+  pub are : AreParameters parameters
+  pub within : len ≤ length line
+  pub line_is : take len line ≡ frame_line parameters
+  pub read : Consumes old new (take len line)
+
 -- what was found in the place of the line of a frame
 abbrev pub IsLineFound : Found → List ℕ → Option (List ℕ) → Option (List ℕ) → Type 0
-IsLineFound (Frame len) line old new = FrameRead len line [] old new
+IsLineFound (Frame len) line old new = LineRead len line old new
 IsLineFound End line old new = Consumes old new [] × IsAtEnd new
 IsLineFound Other line old new = IfSome old IsNoFrameLine
 
@@ -50,55 +49,103 @@ abbrev pub LineIs : Result Found RunFault → List ℕ → Option (List ℕ) →
 LineIs (Ok found) line old new = IsLineFound found line old new
 LineIs (Err e) line old new = e ≡ Input
 
--- what was found in the place of a frame, its cells in a buffer of their number
-abbrev pub IsFound : Found → List ℕ → List ℕ → Option (List ℕ) → Option (List ℕ) → Type 0
-IsFound (Frame len) line cells old new = FrameRead len line cells old new
-IsFound End line cells old new = Consumes old new [] × IsAtEnd new
-IsFound Other line cells old new = IfSome old (IsNoFrame (length cells))
+-- the bytes are some, and don't begin with a piece
+pub record IsNoPiece (heads : List ℕ → Recipe → Type 0) (bytes : List ℕ) : Type 0 where
+  pub some : bytes ≢ []
+  pub other : (p : Piece) (more : List ℕ) → IsPiece heads p → bytes ≡ piece_text p ++ more → ⊥
 
-abbrev pub FrameIs : Result Found RunFault → List ℕ → List ℕ → Option (List ℕ) → Option (List ℕ) → Type 0
-FrameIs (Ok found) line cells old new = IsFound found line cells old new
-FrameIs (Err e) line cells old new = e ≡ Input
+-- so many pieces were read, and what they become was written, and nothing else
+pub record Passed (heads : List ℕ → Recipe → Type 0) (count : ℕ) (input left old new : Option (List ℕ)) : Type 0 where
+  pub pieces : List Piece
+  pub are : AllByRecursion (IsPiece heads) pieces
+  pub count_is : length pieces ≡ count
+  pub read : Consumes input left (pieces_text pieces)
+  pub written : Appends old new (all_made 0 pieces)
 
--- so many frames were read, each of the size, and what they become was written, and nothing else
-pub record Passed (size : ℕ) (f : ℕ → List ℕ → List ℕ) (count : ℕ) (input left old new : Option (List ℕ)) : Type 0 where
-  pub frames : List VideoFrame
-  pub sized : AllByRecursion (IsFrameOf size) frames
-  pub count_is : length frames ≡ count
-  pub read : Consumes input left (frames_text frames)
-  pub written : Appends old new (frames_text (numbered f 0 frames))
-
--- so many frames were read and written, and what is left is no frame
-pub record PassedUpTo (size : ℕ) (f : ℕ → List ℕ → List ℕ) (number : ℕ) (input old new : Option (List ℕ)) : Type 0 where
+-- so many pieces were read and written, and this holds of what is left
+pub record PassedUpTo (heads : List ℕ → Recipe → Type 0) (stop : List ℕ → Type 0) (count : ℕ) (input old new : Option (List ℕ)) : Type 0 where
   pub left : Option (List ℕ)
-  pub passed : Passed size f number input left old new
-  pub none : IfSome left (IsNoFrame size)
+  pub passed : Passed heads count input left old new
+  pub ends : IfSome left stop
 
--- some frames were read and written
-pub record PassedSome (size : ℕ) (f : ℕ → List ℕ → List ℕ) (input old new : Option (List ℕ)) : Type 0 where
+-- some pieces were read and written, and this holds of what is left
+pub record PassedSome (heads : List ℕ → Recipe → Type 0) (stop : List ℕ → Type 0) (input old new : Option (List ℕ)) : Type 0 where
   pub count : ℕ
-  pub left : Option (List ℕ)
-  pub passed : Passed size f count input left old new
+  pub up_to : PassedUpTo heads stop count input old new
 
--- some frames were read and written, and a beginning of the next
-pub record PassedPart (size : ℕ) (f : ℕ → List ℕ → List ℕ) (input old new : Option (List ℕ)) : Type 0 where
+-- some pieces were read and written, and a beginning of what the next becomes
+pub record PassedPart (heads : List ℕ → Recipe → Type 0) (input old new : Option (List ℕ)) : Type 0 where
   pub count : ℕ
   pub left : Option (List ℕ)
   pub held : Option (List ℕ)
-  pub frame : VideoFrame
+  pub piece : Piece
   pub after : Option (List ℕ)
-  pub passed : Passed size f count input left old held
-  pub sized : IsFrameOf size frame
-  pub read : Consumes left after (frame_text frame)
-  pub written : AppendsBeginning held new (frame_text (video_frame frame.parameters (f count frame.cells)))
+  pub passed : Passed heads count input left old held
+  pub is : IsPiece heads piece
+  pub read : Consumes left after (piece_text piece)
+  pub written : AppendsBeginning held new (made_text count piece)
+
+-- ---- the cells behind a head
+
+-- fewer cells than a head has
+pub record CellsCut (size : ℕ) (old new : Option (List ℕ)) : Type 0 where
+  pub cells : List ℕ
+  pub short : length cells < size
+  pub read : Consumes old new cells
+  pub end : IsAtEnd new
+
+-- cells were read, and this happened to the text of what they become with their head
+pub record CellsPassed (sent : List ℕ → Type 0) (recipe : Recipe) (number : ℕ) (old new : Option (List ℕ)) : Type 0 where
+  pub cells : List ℕ
+  pub sized : length cells ≡ recipe.size
+  pub read : Consumes old new cells
+  pub written : sent (recipe.head ++ recipe.frame number cells)
+
+abbrev pub PassesCells : Result (Unit {0}) RunFault → Recipe → ℕ → Option (List ℕ) → Option (List ℕ) → Option (List ℕ) → Option (List ℕ) → Type 0
+PassesCells (Ok x) recipe number input left old new = CellsPassed (Appends old new) recipe number input left
+PassesCells (Err (BadFrame n)) recipe number input left old new = (n ≡ number) × CellsCut recipe.size input left × (new ≡ old)
+PassesCells (Err Output) recipe number input left old new = CellsPassed (AppendsBeginning old new) recipe number input left
+PassesCells (Err Input) recipe number input left old new = new ≡ old
+PassesCells (Err Header) recipe number input left old new = ⊥
+PassesCells (Err Outside) recipe number input left old new = ⊥
+PassesCells (Err Memory) recipe number input left old new = ⊥
+PassesCells (Err Endless) recipe number input left old new = ⊥
+
+-- ---- pieces by the answer of a run
+
+-- nothing is said of what is left
+abbrev pub Anything : List ℕ → Type 0
+Anything bytes = Unit {0}
 
 -- what a run over frames has read and written, by its answer
-abbrev pub PassesFrames : Result ℕ RunFault → ℕ → (ℕ → List ℕ → List ℕ) → Option (List ℕ) → Option (List ℕ) → Option (List ℕ) → Option (List ℕ) → Type 0
-PassesFrames (Ok n) size f input left old new = Passed size f n input left old new × IsAtEnd left
-PassesFrames (Err (BadFrame n)) size f input left old new = PassedUpTo size f n input old new
-PassesFrames (Err Input) size f input left old new = PassedSome size f input old new
-PassesFrames (Err Output) size f input left old new = PassedPart size f input old new
-PassesFrames (Err Endless) size f input left old new = PassedSome size f input old new
-PassesFrames (Err Header) size f input left old new = ⊥
-PassesFrames (Err Outside) size f input left old new = ⊥
-PassesFrames (Err Memory) size f input left old new = ⊥
+abbrev pub PassesFrames : Result ℕ RunFault → (List ℕ → Recipe → Type 0) → Option (List ℕ) → Option (List ℕ) → Option (List ℕ) → Option (List ℕ) → Type 0
+PassesFrames (Ok n) heads input left old new = Passed heads n input left old new × IsAtEnd left
+PassesFrames (Err (BadFrame n)) heads input left old new = PassedUpTo heads (IsNoPiece heads) n input old new
+PassesFrames (Err Input) heads input left old new = PassedSome heads Anything input old new
+PassesFrames (Err Output) heads input left old new = PassedPart heads input old new
+PassesFrames (Err Endless) heads input left old new = PassedSome heads Anything input old new
+PassesFrames (Err Header) heads input left old new = ⊥
+PassesFrames (Err Outside) heads input left old new = ⊥
+PassesFrames (Err Memory) heads input left old new = ⊥
+
+-- what a run over pictures has
+abbrev pub PassesPictures : Result ℕ RunFault → Edits → Option (List ℕ) → Option (List ℕ) → Option (List ℕ) → Option (List ℕ) → Type 0
+PassesPictures (Ok n) edit input left old new = Passed (PictureHead edit) n input left old new × IsAtEnd left
+PassesPictures (Err (BadFrame n)) edit input left old new = PassedUpTo (PictureHead edit) (IsNoPiece (PictureHead edit)) n input old new
+PassesPictures (Err Input) edit input left old new = PassedSome (PictureHead edit) Anything input old new
+PassesPictures (Err Output) edit input left old new = PassedPart (PictureHead edit) input old new
+PassesPictures (Err Endless) edit input left old new = PassedSome (PictureHead edit) Anything input old new
+PassesPictures (Err Header) edit input left old new = Keeps old new × IfSome input IsNoPicture
+PassesPictures (Err Outside) edit input left old new = PassedSome (PictureHead edit) (IsPictureNotEdited edit) input old new
+PassesPictures (Err Memory) edit input left old new = PassedSome (PictureHead edit) Anything input old new
+
+-- what a run over the picture of this number has
+abbrev pub PassesPicture : Result (Unit {0}) RunFault → Edits → ℕ → Option (List ℕ) → Option (List ℕ) → Option (List ℕ) → Option (List ℕ) → Type 0
+PassesPicture (Ok x) edit number input left old new = (p : Piece) × IsPiece (PictureHead edit) p × Consumes input left (piece_text p) × Appends old new (made_text number p)
+PassesPicture (Err (BadFrame n)) edit number input left old new = (n ≡ number) × IfSome input (IsNoPiece (PictureHead edit)) × (new ≡ old)
+PassesPicture (Err Output) edit number input left old new = (p : Piece) × IsPiece (PictureHead edit) p × Consumes input left (piece_text p) × AppendsBeginning old new (made_text number p)
+PassesPicture (Err Header) edit number input left old new = (number ≡ 0) × IfSome input IsNoPicture × (new ≡ old)
+PassesPicture (Err Outside) edit number input left old new = IfSome input (IsPictureNotEdited edit) × (new ≡ old)
+PassesPicture (Err Memory) edit number input left old new = new ≡ old
+PassesPicture (Err Input) edit number input left old new = new ≡ old
+PassesPicture (Err Endless) edit number input left old new = new ≡ old

@@ -1,37 +1,85 @@
 -- What a run has written, by its answer.
-use Rattle.std.specs.Prelude.{◌≡◌, ◌≢◌, ℕ, List, [], ◌∷◌, ◌++◌, ◌⊎◌, ◌<◌, length, Option, Some, None, Result, Ok, Err, IfSome, All}
+use Rattle.std.specs.Prelude.{◌≡◌, ◌≢◌, ◌==◌, ℕ, Bool, true, false, List, [], ◌∷◌, ◌++◌, ◌⊎◌, ◌<◌, length, slice_index, Option, Some, None, Result, Ok, Err, IfSome, All}
 use Rattle.std.specs.List.{AllByRecursion}
 use Rattle.std.specs.Io.KnownBytes.{Appends, Consumes, Keeps}
 use Rattle.devices.specs.Whole.{AppendsBeginning}
-use Rattle.imgref_frames.specs.Passing.{IsNoFrame}
-use Rattle.imgref_frames.specs.Video.{VideoFrame, IsFrameOf, video_text, numbered}
+use Rattle.imgref_frames.specs.Stream.{Piece, IsPiece, pieces_text, all_made}
+use Rattle.imgref_frames.specs.Video.{FrameHead}
+use Rattle.imgref_frames.specs.Pictures.{PictureHead, IsNoPicture, IsPictureNotEdited}
+use Rattle.imgref_frames.specs.Passing.{IsNoPiece}
 use Rattle.frame_formats.specs.Format.{format_of}
-use Rattle.frame_formats.specs.Recipe.{Edits, Recipe, recipe_for}
+use Rattle.frame_formats.specs.Recipe.{Edits}
+use Rattle.frame_formats.specs.Recipes.{Recipe, video_recipe}
 use Rattle.frame_formats.specs.declared.header.Format.{Format}
 use Rattle.frame_formats.specs.declared.plans.PlanFault.{PlanFault}
 use Rattle.frame_formats.specs.declared.plans.PlanFault.TheVariants.{Outside as NoPlan, Memory as NoMemory}
 use Rattle.imgref_frames.specs.declared.fault.RunFault.{RunFault}
 use Rattle.imgref_frames.specs.declared.fault.RunFault.TheVariants.{Header, Outside, Frame, Memory, Input, Output, Endless}
 
--- the input is a video of so many frames, and the rest behind them; the text is what the edit makes of that video
-pub record Carries (edit : Edits) (count : ℕ) (input rest text : List ℕ) : Type 0 where
-  pub line : List ℕ
-  pub one_line : All (λ b. b ≢ 10) line
-  pub recipe : Recipe
-  pub edited : recipe_for edit line ≡ Some recipe
-  pub frames : List VideoFrame
-  pub sized : AllByRecursion (IsFrameOf recipe.size) frames
-  pub count_is : length frames ≡ count
-  pub read : input ≡ video_text line frames ++ rest
-  pub made : text ≡ video_text recipe.line (numbered recipe.frame 0 frames)
+-- what an input is: a video with this line and recipe, or pictures
+pub data Stream : Type 0 where
+  video : List ℕ → Recipe → Stream
+  pictures : Stream
 
--- some frames of the input are carried, and their text is written
+-- by the first byte, which is a P before pictures
+abbrev pub begins_picture : List ℕ → Bool
+begins_picture bytes = slice_index bytes 0 == 80
+
+abbrev pub are_pictures : Stream → Bool
+are_pictures (video line recipe) = false
+are_pictures pictures = true
+
+-- the line is one, and the edits are edits of a video with it
+abbrev pub IsStream : Edits → Stream → Type 0
+IsStream edit (video line recipe) = All (λ b. b ≢ 10) line × (video_recipe edit line ≡ Some recipe)
+IsStream edit pictures = Unit {0}
+
+-- what stands before the first frame, and what is written there
+abbrev pub front : Stream → List ℕ
+front (video line recipe) = line ++ 10 ∷ []
+front pictures = []
+
+abbrev pub made_front : Stream → List ℕ
+made_front (video line recipe) = recipe.head
+made_front pictures = []
+
+-- which heads there are, with the recipe of each
+abbrev pub heads_of : Edits → Stream → List ℕ → Recipe → Type 0
+heads_of edit (video line recipe) = FrameHead recipe
+heads_of edit pictures = PictureHead edit
+
+-- the input is a stream of so many frames or pictures, and the rest behind them; the text is what the edits make of it
+pub record Carries (edit : Edits) (count : ℕ) (input rest text : List ℕ) : Type 0 where
+  pub stream : Stream
+  pub is : IsStream edit stream
+  pub kind : begins_picture input ≡ are_pictures stream
+  pub pieces : List Piece
+  pub are : AllByRecursion (IsPiece (heads_of edit stream)) pieces
+  pub count_is : length pieces ≡ count
+  pub read : input ≡ front stream ++ (pieces_text pieces ++ rest)
+  pub made : text ≡ made_front stream ++ all_made 0 pieces
+
+-- the same with an end of which this holds, and the text is written
+pub record CarriesUpTo (edit : Edits) (stop : List ℕ → Type 0) (input : List ℕ) (old new : Option (List ℕ)) : Type 0 where
+  pub count : ℕ
+  pub rest : List ℕ
+  pub text : List ℕ
+  pub carries : Carries edit count input rest text
+  pub ends : stop rest
+  pub written : Appends old new text
+
+-- some frames or pictures of the input are carried, and their text is written
 abbrev pub CarriesSome : Edits → List ℕ → Option (List ℕ) → Option (List ℕ) → Type 0
-CarriesSome edit input old new = (count : ℕ) × (rest : List ℕ) × (text : List ℕ) × Carries edit count input rest text × Appends old new text
+CarriesSome edit input old new = CarriesUpTo edit (λ rest. Unit {0}) input old new
 
 -- the bytes don't begin with the line of a video that is read here
 abbrev pub IsNoVideo : List ℕ → Type 0
 IsNoVideo bytes = (line more : List ℕ) → All (λ b. b ≢ 10) line → length line < 256 → bytes ≡ line ++ 10 ∷ more → format_of line ≡ None
+
+-- they begin with neither that nor the head of a picture
+abbrev pub IsNoStream : Bool → List ℕ → Type 0
+IsNoStream false bytes = IsNoVideo bytes
+IsNoStream true bytes = IsNoPicture bytes
 
 -- they begin with the line of a video that the edit is none for
 pub record IsNotEdited (edit : Edits) (bytes : List ℕ) : Type 0 where
@@ -41,7 +89,17 @@ pub record IsNotEdited (edit : Edits) (bytes : List ℕ) : Type 0 where
   pub one_line : All (λ b. b ≢ 10) line
   pub read : bytes ≡ line ++ 10 ∷ more
   pub named : format_of line ≡ Some format
-  pub none : recipe_for edit line ≡ None
+  pub none : video_recipe edit line ≡ None
+
+-- before a video nothing is written; before a picture that the edits are none for, those before it are
+abbrev pub StopsOutside : Bool → Edits → List ℕ → Option (List ℕ) → Option (List ℕ) → Type 0
+StopsOutside false edit input old new = Keeps old new × IsNotEdited edit input
+StopsOutside true edit input old new = CarriesUpTo edit (IsPictureNotEdited edit) input old new
+
+-- out of memory before a video nothing is written; before a picture those before it are
+abbrev pub StopsForMemory : Bool → Edits → List ℕ → Option (List ℕ) → Option (List ℕ) → Type 0
+StopsForMemory false edit input old new = Keeps old new
+StopsForMemory true edit input old new = CarriesSome edit input old new
 
 -- a plan's fault as one of the run
 abbrev pub fault_of_plan : PlanFault → RunFault
@@ -51,14 +109,14 @@ fault_of_plan NoMemory = Memory
 -- what a run with this answer wrote, for the input, to a writer that held the old bytes and now holds the new
 abbrev pub Writes : Result ℕ RunFault → Edits → Option (List ℕ) → Option (List ℕ) → Option (List ℕ) → Type 0
 Writes (Ok n) edit input old new = IfSome input (λ bytes. (text : List ℕ) × Carries edit n bytes [] text × Appends old new text)
-Writes (Err (Frame n)) edit input old new = IfSome input (λ bytes. (rest : List ℕ) × (text : List ℕ) × (c : Carries edit n bytes rest text) × IsNoFrame c.recipe.size rest × Appends old new text)
+Writes (Err (Frame n)) edit input old new = IfSome input (λ bytes. (rest : List ℕ) × (text : List ℕ) × (c : Carries edit n bytes rest text) × IsNoPiece (heads_of edit c.stream) rest × Appends old new text)
 Writes (Err Input) edit input old new = Keeps old new ⊎ IfSome input (λ bytes. CarriesSome edit bytes old new)
 Writes (Err Endless) edit input old new = IfSome input (λ bytes. CarriesSome edit bytes old new)
 Writes (Err Output) edit input old new = IfSome input (λ bytes. (count : ℕ) × (rest : List ℕ) × (text : List ℕ) × Carries edit count bytes rest text × AppendsBeginning old new text)
-Writes (Err Header) edit input old new = Keeps old new × IfSome input IsNoVideo
-Writes (Err Outside) edit input old new = Keeps old new × IfSome input (IsNotEdited edit)
-Writes (Err Memory) edit input old new = Keeps old new
+Writes (Err Header) edit input old new = Keeps old new × IfSome input (λ bytes. IsNoStream (begins_picture bytes) bytes)
+Writes (Err Outside) edit input old new = IfSome input (λ bytes. StopsOutside (begins_picture bytes) edit bytes old new)
+Writes (Err Memory) edit input old new = IfSome input (λ bytes. StopsForMemory (begins_picture bytes) edit bytes old new)
 
--- a run that goes on behind the line has done this, for each input that began with it
+-- a run that goes on behind the front of the input has done this, for each input with that front
 abbrev pub Follows : Result ℕ RunFault → Edits → List ℕ → Option (List ℕ) → Option (List ℕ) → Option (List ℕ) → Type 0
-Follows result edit line left old new = (input : Option (List ℕ)) → Consumes input left (line ++ 10 ∷ []) → Writes result edit input old new
+Follows result edit front left old new = (input : Option (List ℕ)) → Consumes input left front → Writes result edit input old new

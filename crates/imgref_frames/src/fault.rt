@@ -5,23 +5,25 @@ ghost use Rattle.std.specs.Prelude.{◌≡◌, Some};
 use frame_formats::PlanFault;
 use std::fmt;
 
-/// Why a run ended before the whole video was written.
+/// Why a run ended before all was written.
 #[derive(Clone, Copy, Debug, PartialEq, Eq)]
 pub enum RunFault {
-    /// The input doesn't begin with the line of a video that is read here. Nothing was written.
+    /// The input begins neither with the line of a video nor with the head of a picture that is read
+    /// here. Nothing was written.
     Header,
-    /// The edit isn't one of this video: it reaches outside a plane, or doesn't fall on whole
-    /// chroma samples. Nothing was written.
+    /// The edit isn't one of this video or picture: it reaches outside a plane, doesn't fall on whole
+    /// chroma samples, or has a colour where there is none. The pictures before are written.
     Outside,
-    /// So many frames were read, and what is behind them is none. They are written.
+    /// So many frames or pictures were read, and what is behind them is none. They are written.
     Frame(u64),
-    /// No memory was found. Nothing was written.
+    /// No memory was found. Nothing of a video was written; the pictures before are.
     Memory,
-    /// The reader failed. The frames before are written.
+    /// The reader failed. The frames or pictures before are written.
     Input,
-    /// The writer failed. A beginning of the video was written.
+    /// The writer failed. A beginning of the output was written.
     Output,
-    /// There are more frames than a number counts. They are written.
+    /// There are more frames or pictures than a number counts, or a head has more bytes. Those before
+    /// are written.
     Endless,
 }
 

@@ -1,8 +1,10 @@
-//! Frames of raw video on standard input, edited one by one, on standard output.
+//! Frames of raw video or pictures on standard input, edited one by one, on standard output.
 #![tactic(auto)]
 
+mod cells;
 mod fault;
 mod frames;
+mod pictures;
 mod program;
 mod words;
 
@@ -17,8 +19,10 @@ use words::{edits_of, words_of};
 // What the words are, as docs/FRAMES.md has it.
 const USAGE: &str = "usage: imgref_frames EDIT.. < video > video
        imgref_frames --edits FILE < video > video
-EDIT is one of these, and is done to each frame, in their order:
+Standard input is a video (YUV4MPEG2), or pictures (PGM, PPM) behind one another.
+EDIT is one of these, and is done to each frame or picture, in their order:
        [A..B] fill L,T,W,H V          brightness V, no colour
+       [A..B] fill L,T,W,H R,G,B      a colour, in PPM alone
        [A..B] mosaic L,T,W,H TW,TH    tiles of TW by TH pixels
        [A..B] move L,T,W,H X,Y        to column X, row Y
        crop L,T,W,H                   the last edit only
@@ -26,8 +30,8 @@ EDIT is one of these, and is done to each frame, in their order:
 A..B: only frames A to B-1, from 0. FILE has an edit a line.
 Cover first: a move before a fill may carry pixels away. See docs/FRAMES.md.";
 
-/// Reads a video from standard input, and writes it to standard output with what the words say done
-/// to its frames. Where the run ends with a fault, the program prints that to standard error and ends
+/// Reads a video or pictures from standard input, and writes them to standard output with what the
+/// words say done to each. Where the run ends with a fault, the program prints that to standard error and ends
 /// with its status.
 fn main(rt: HostRuntime) -> ExitCode {
     let words = match words_of(&rt) {

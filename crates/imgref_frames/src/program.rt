@@ -1,147 +1,94 @@
-//! The program on any reader and writer: a video in, a video out.
+//! The program on any reader and writer: a video or pictures in, the same edited out.
 
-ghost use Rattle.std.specs.Prelude.{◌≡◌, ◌≢◌, ◌≤◌, ◌<◌, ◌+◌, ◌++◌, ◌∷◌, [], All, length, map, Some, None, IfOk, IfErr};
-ghost use Rattle.image_planes.specs.Changes.{jobs_len};
-ghost use Rattle.image_planes.specs.Resized.{targets_len};
-ghost use Rattle.image_planes.specs.Planes.{job_of};
-ghost use Rattle.image_planes.specs.Targets.{resizing_of};
+ghost use Rattle.std.specs.Prelude.{◌≡◌, ◌≢◌, ◌<◌, ◌+◌, ◌++◌, ◌∷◌, [], All, false};
 ghost use Rattle.devices.specs.Device.{device_of, failures_of};
 ghost use Rattle.imgref_frames.specs.Fault.{reader_failures, writer_failures};
 ghost use Rattle.frame_formats.specs.Recipe.{edits};
 ghost use Rattle.imgref_frames.specs.Alike.{Hides, OneOutput};
-ghost use Rattle.imgref_frames.specs.Program.{Follows, Writes};
+ghost use Rattle.imgref_frames.specs.Program.{Follows, Writes, begins_picture};
 
 use crate::fault::RunFault;
-use crate::frames::{pass_frames, resize_frames};
-use devices::{Counted, LineFault, read_line, write_all};
-use frame_formats::{
-    Framing, Plane, Step, Target, plan, plan_resize, read_format, resize_of, resized_line,
-};
-use image_planes::{changes_hide, planes_len, targets_len};
+use crate::frames::pass_frames;
+use crate::pictures::pass_pictures;
+use devices::{Counted, LineFault, read_byte, read_line, write_all};
+use frame_formats::{Framing, Plan, Step, heads_end_themselves, read_format, recipes_hide};
 use std::alloc::Global;
 use std::io::{Read, Write};
 
 // How many bytes the line of a video or of a frame may have, its line feed among them.
 const LONGEST: usize = 256;
 
-// Room for the cells of one frame.
-fn frame_buffer(alloc: Global, planes: &[Plane]) -> Result<Vec<u8>, RunFault>
-    ensures length { IfOk result (λ cells. length cells.items ≡ jobs_len (map job_of planes.now)) }
-    ensures fault { IfErr result (λ e. e ≡ RunFault.Memory) }
-{
-    let Some(len) = planes_len(planes) else {
-        return Err(RunFault::Memory);
-    };
-    match vec![in alloc; 0u8; len] {
-        Ok(cells) => Ok(cells),
-        Err(_) => Err(RunFault::Memory),
-    }
-}
-
-// Room for the cells of one frame in its other size.
-fn other_buffer(alloc: Global, targets: &[Target]) -> Result<Vec<u8>, RunFault>
-    ensures length { IfOk result (λ cells. length cells.items ≡ targets_len (map resizing_of targets.now)) }
-    ensures fault { IfErr result (λ e. e ≡ RunFault.Memory) }
-{
-    let Some(len) = targets_len(targets) else {
-        return Err(RunFault::Memory);
-    };
-    match vec![in alloc; 0u8; len] {
-        Ok(cells) => Ok(cells),
-        Err(_) => Err(RunFault::Memory),
-    }
-}
-
-// Writes the line, and then the frames behind it with their planes changed.
-fn run_change<R: Read, W: Write>(
+// Writes the video's line, and then the frames behind it.
+fn run_video<R: Read, W: Write>(
     alloc: Global,
     steps: &[Step],
+    framing: Option<Framing>,
     line: &[u8],
-    ended_line: &[u8],
     reader: &mut Counted<R>,
     writer: &mut Counted<W>,
 ) -> Result<u64, RunFault>
     requires one_line { All (λ b. b ≢ 10) line.now }
-    requires ended { ended_line.now ≡ line.now ++ 10 ∷ [] }
+    requires kind { begins_picture (line.now ++ 10 ∷ []) ≡ false }
     requires reader_counts { failures_of reader.old < u64.MAX }
     requires writer_counts { failures_of writer.old < u64.MAX }
-    ensures follows { Follows result (edits steps.now None) line.now (R.remaining (device_of reader.old)) (W.contents (device_of writer.old)) (W.contents (device_of writer.new)) }
+    ensures follows { Follows result (edits steps.now framing) (line.now ++ 10 ∷ []) (R.remaining (device_of reader.old)) (W.contents (device_of writer.old)) (W.contents (device_of writer.new)) }
     ensures reader_count { failures_of reader.new ≡ failures_of reader.old + reader_failures result }
     ensures writer_count { failures_of writer.new ≡ failures_of writer.old + writer_failures result }
 {
     let Some(format) = read_format(line) else {
         return Err(RunFault::Header);
     };
-    let planes = match plan(alloc, format, steps) {
-        Ok(planes) => planes,
+    let plan = match Plan::for_video(alloc, line, format, steps, framing) {
+        Ok(plan) => plan,
         Err(fault) => return Err(RunFault::from(fault)),
     };
-    let mut cells = match frame_buffer(alloc, &planes) {
-        Ok(cells) => cells,
-        Err(fault) => return Err(fault),
+    let Ok(mut cells) = vec![in alloc; 0u8; plan.room()] else {
+        return Err(RunFault::Memory);
     };
-    if write_all(writer, ended_line).is_err() {
+    let Ok(mut other) = vec![in alloc; 0u8; plan.other_room()] else {
+        return Err(RunFault::Memory);
+    };
+    if write_all(writer, plan.head()).is_err() {
         return Err(RunFault::Output);
     }
     let mut frame_line = [0u8; LONGEST];
-    pass_frames(reader, writer, &planes, &mut frame_line, &mut cells)
-}
-
-// Writes the line with the new size, and then the frames behind it in that size.
-fn run_resize<R: Read, W: Write>(
-    alloc: Global,
-    steps: &[Step],
-    framing: Framing,
-    line: &[u8],
-    reader: &mut Counted<R>,
-    writer: &mut Counted<W>,
-) -> Result<u64, RunFault>
-    requires one_line { All (λ b. b ≢ 10) line.now }
-    requires reader_counts { failures_of reader.old < u64.MAX }
-    requires writer_counts { failures_of writer.old < u64.MAX }
-    ensures follows { Follows result (edits steps.now (Some framing)) line.now (R.remaining (device_of reader.old)) (W.contents (device_of writer.old)) (W.contents (device_of writer.new)) }
-    ensures reader_count { failures_of reader.new ≡ failures_of reader.old + reader_failures result }
-    ensures writer_count { failures_of writer.new ≡ failures_of writer.old + writer_failures result }
-{
-    let Some(format) = read_format(line) else {
-        return Err(RunFault::Header);
-    };
-    let planes = match plan(alloc, format, steps) {
-        Ok(planes) => planes,
-        Err(fault) => return Err(RunFault::from(fault)),
-    };
-    let Some(resize) = resize_of(format, framing) else {
-        return Err(RunFault::Outside);
-    };
-    let targets = match plan_resize(alloc, format, resize) {
-        Ok(targets) => targets,
-        Err(fault) => return Err(RunFault::from(fault)),
-    };
-    let mut cells = match frame_buffer(alloc, &planes) {
-        Ok(cells) => cells,
-        Err(fault) => return Err(fault),
-    };
-    let mut other = match other_buffer(alloc, &targets) {
-        Ok(other) => other,
-        Err(fault) => return Err(fault),
-    };
-    let head = match resized_line(alloc, line, resize.width(), resize.height()) {
-        Ok(head) => head,
-        Err(_) => return Err(RunFault::Memory),
-    };
-    if write_all(writer, &head).is_err() {
-        return Err(RunFault::Output);
-    }
-    let mut frame_line = [0u8; LONGEST];
-    resize_frames(
+    pass_frames(
         reader,
         writer,
-        &planes,
-        &targets,
+        &plan,
         &mut frame_line,
         &mut cells,
         &mut other,
     )
+}
+
+// The run over a video, of which the first byte was read.
+fn carry_video<R: Read, W: Write>(
+    alloc: Global,
+    steps: &[Step],
+    framing: Option<Framing>,
+    first: u8,
+    reader: &mut Counted<R>,
+    writer: &mut Counted<W>,
+) -> Result<u64, RunFault>
+    requires kind { first ≢ 80 }
+    requires reader_counts { failures_of reader.old < u64.MAX }
+    requires writer_counts { failures_of writer.old < u64.MAX }
+    ensures follows { Follows result (edits steps.now framing) (first ∷ []) (R.remaining (device_of reader.old)) (W.contents (device_of writer.old)) (W.contents (device_of writer.new)) }
+    ensures reader_count { failures_of reader.new ≡ failures_of reader.old + reader_failures result }
+    ensures writer_count { failures_of writer.new ≡ failures_of writer.old + writer_failures result }
+{
+    if first == b'\n' {
+        return Err(RunFault::Header);
+    }
+    let mut line = [0u8; LONGEST];
+    line[0] = first;
+    let len = match read_line(reader, &mut line[1..]) {
+        Ok(len) => len,
+        Err(LineFault::NoLine) => return Err(RunFault::Header),
+        Err(LineFault::Reader) => return Err(RunFault::Input),
+    };
+    run_video(alloc, steps, framing, &line[..len + 1], reader, writer)
 }
 
 // The run, without what it hides.
@@ -158,21 +105,17 @@ fn carry<R: Read, W: Write>(
     ensures reader_count { failures_of reader.new ≡ failures_of reader.old + reader_failures result }
     ensures writer_count { failures_of writer.new ≡ failures_of writer.old + writer_failures result }
 {
-    let mut line = [0u8; LONGEST];
-    let len = match read_line(reader, &mut line) {
-        Ok(len) => len,
-        Err(LineFault::NoLine) => return Err(RunFault::Header),
-        Err(LineFault::Reader) => return Err(RunFault::Input),
-    };
-    match framing {
-        None => run_change(alloc, steps, &line[..len], &line[..len + 1], reader, writer),
-        Some(framing) => run_resize(alloc, steps, framing, &line[..len], reader, writer),
+    match read_byte(reader) {
+        Ok(Some(b'P')) => pass_pictures(alloc, steps, framing, reader, writer),
+        Ok(Some(first)) => carry_video(alloc, steps, framing, first, reader, writer),
+        Ok(None) => Err(RunFault::Header),
+        Err(_) => Err(RunFault::Input),
     }
 }
 
-/// Reads a video, and writes what the steps and then a crop or a border make of it, frame by frame;
-/// answers how many frames there were. All memory is found before the first byte is written: that of
-/// one frame, and of one frame of the new size where there is one.
+/// Reads a video or pictures, and writes what the steps and then a crop or a border make of each frame
+/// or picture; answers how many there were. All memory for a video is found before the first byte is
+/// written, and that for a picture before its first byte.
 pub fn run<R: Read, W: Write>(
     alloc: Global,
     steps: &[Step],
@@ -197,6 +140,7 @@ pub fn run<R: Read, W: Write>(
     // So the output is the only one of its input.
     ensures one_output { OneOutput }
 {
-    changes_hide();
+    recipes_hide();
+    heads_end_themselves();
     carry(alloc, steps, framing, reader, writer)
 }

@@ -1,14 +1,16 @@
-use Rattle.std.proofs.Common.{◌≡◌, map}
-use Rattle.image_planes.specs.Changes.{jobs_len, changed_planes}
-use Rattle.image_planes.specs.Planes.{job_of}
+use Rattle.std.proofs.Common.{◌≡◌, ◌≤◌, length}
+use Rattle.frame_formats.specs.Planned.{recipe_of, plan_room, plan_other_room}
 use Rattle.imgref_frames.specs.Passing.{Passed}
+use Rattle.imgref_frames.specs.Video.{FrameHead}
 use Rattle.devices.specs.Device.{device_of, failures_of}
 use Rattle.imgref_frames.proofs.frames.pass_frames.Given as goal
 
--- so many frames were read, and written with their planes changed
+-- so many frames were read, and written as they become
 abbrev pub invariant-loop-number : goal.invariant-loop-number
 invariant-loop-number g l = record {
-  passed : Passed (jobs_len (map job_of l.planes)) (λ number. changed_planes number (map job_of l.planes)) l.number (g.R.Read.remaining (device_of l.initial.reader)) (g.R.Read.remaining (device_of l.reader)) (g.W.Write.contents (device_of l.initial.writer)) (g.W.Write.contents (device_of l.writer));
+  passed : Passed (FrameHead (recipe_of l.plan)) l.number (g.R.Read.remaining (device_of l.initial.reader)) (g.R.Read.remaining (device_of l.reader)) (g.W.Write.contents (device_of l.initial.writer)) (g.W.Write.contents (device_of l.writer));
+  cells : plan_room l.plan ≤ length l.cells;
+  other : plan_other_room l.plan ≤ length l.other;
   read : failures_of l.reader ≡ failures_of l.initial.reader;
   written : failures_of l.writer ≡ failures_of l.initial.writer;
 }

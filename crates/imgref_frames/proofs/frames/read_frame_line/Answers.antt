@@ -1,9 +1,8 @@
 -- The word is followed by a line feed, or by a space and the rest of a line.
-use Rattle.std.proofs.Common.{◌++◌, ◌∷◌, [], length, take, sym, ap, ◌∙◌, subst, refl, arith, length-append, length-take-le, append-nil}
+use Rattle.std.proofs.Common.{◌++◌, ◌∷◌, [], length, take, sym, ap, ◌∙◌, subst, refl, arith, length-append, length-take-le}
 use Rattle.std.specs.Io.KnownBytes.{Consumes}
 use Rattle.std.proofs.KnownBytes.{Consumes-trans}
 use Rattle.devices.specs.Device.{device_of}
-use Rattle.imgref_frames.specs.Video.{frame_line}
 use Rattle.imgref_frames.proofs.FrameLines.{line_in}
 use Rattle.imgref_frames.proofs.frames.read_frame_line.Goals as goal
 
@@ -22,5 +21,5 @@ returns-in-Ok-clause-found g c =
       are = (refl, c.in-Ok.ensures.one_line, omega (arith, taken, c.in-Ok.ensures.within));
       within = omega (arith, length-append word line, c.in-Ok.ensures.within, ap length found.0);
       line_is = line_in word line len found.0 c.in-Ok.ensures.feed c.in-Ok.ensures.within;
-      read = subst (Consumes r0 r2) (ap (λ l. l ++ (take len line ++ 10 ∷ [])) found.0 ∙ sym (append-nil (frame_line (32 ∷ take len line)))) read;
+      read = subst (Consumes r0 r2) (ap (λ l. l ++ (take len line ++ 10 ∷ [])) found.0 ∙ sym (line_in word line len found.0 c.in-Ok.ensures.feed c.in-Ok.ensures.within)) read;
     }

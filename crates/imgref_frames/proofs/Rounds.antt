@@ -1,0 +1,129 @@
+-- One round of the loop over frames and of the loop over pictures.
+use Rattle.std.proofs.Common.{◌≡◌, ℕ, ◌+◌, List, [], ◌∷◌, Option, Some, None, Result, Ok, Err, length, take, refl, sym, ◌∙◌, subst, arith, append-nil}
+use Rattle.std.specs.Prelude.{IfSome}
+use Rattle.std.specs.Io.KnownBytes.{Consumes, Appends, Keeps}
+use Rattle.std.proofs.KnownBytes.{Consumes-trans}
+use Rattle.devices.specs.Whole.{AppendsBeginning}
+use Rattle.frame_formats.specs.Picture.{picture_of, ApartHeads, BeginsWithLetter}
+use Rattle.frame_formats.specs.Plan.{Tells}
+use Rattle.frame_formats.specs.Recipe.{Edits}
+use Rattle.frame_formats.specs.Recipes.{Recipe, picture_recipe}
+use Rattle.frame_formats.specs.declared.picture.Picture.{Picture}
+use Rattle.frame_formats.specs.declared.plans.PlanFault.{PlanFault}
+use Rattle.frame_formats.specs.declared.plans.PlanFault.TheVariants.{Outside as NoPlan, Memory as NoMemory}
+use Rattle.imgref_frames.specs.Stream.{Piece, piece, IsPiece, piece_text, pieces_text, made_text, all_made}
+use Rattle.imgref_frames.specs.Video.{FrameHead, with_line}
+use Rattle.imgref_frames.specs.Pictures.{PictureHead, IsNoPicture, IsPictureNotEdited, behind_letter}
+use Rattle.imgref_frames.specs.Passing.{LineRead, IsNoPiece, Passed, PassedUpTo, PassedSome, PassedPart, CellsPassed, PassesCells, PassesFrames, PassesPicture, PassesPictures, Anything}
+use Rattle.imgref_frames.specs.Program.{fault_of_plan}
+use Rattle.imgref_frames.specs.declared.fault.RunFault.{RunFault}
+use Rattle.imgref_frames.specs.declared.fault.RunFault.TheVariants.{Header, Outside, Frame, Memory, Input, Output, Endless}
+use Rattle.imgref_frames.proofs.Pieces.{frames_readable, pictures_readable, cut_piece}
+use Rattle.imgref_frames.proofs.OneMore.{one_more, part_more, passed_on}
+
+pub nothing_said : (left : Option (List ℕ)) → IfSome left Anything
+nothing_said None = tt
+nothing_said (Some bytes) = tt
+
+module _ (heads : List ℕ → Recipe → Type 0) (n : ℕ) (r0 r1 w0 w1 : Option (List ℕ)) (p : Passed heads n r0 r1 w0 w1) where
+  same_text : (w2 : Option (List ℕ)) → w2 ≡ w1 → Passed heads n r0 r1 w0 w2
+  same_text w2 same = subst (λ w. Passed heads n r0 r1 w0 w) (sym same) p
+
+  -- it ends here, where this holds of what is left
+  ends_at : (stop : List ℕ → Type 0) → IfSome r1 stop → (k : ℕ) → k ≡ n → (w2 : Option (List ℕ)) → w2 ≡ w1 → PassedUpTo heads stop k r0 w0 w2
+  ends_at stop end k count w2 same = record { left = r1; passed = subst (λ m. Passed heads m r0 r1 w0 w2) (sym count) (same_text w2 same); ends = end }
+
+  ends_some : (stop : List ℕ → Type 0) → IfSome r1 stop → (w2 : Option (List ℕ)) → w2 ≡ w1 → PassedSome heads stop r0 w0 w2
+  ends_some stop end w2 same = record { count = n; up_to = ends_at stop end n refl w2 same }
+
+  -- behind a head that was read
+  module _ (head : List ℕ) (r : Recipe) (is : heads head r) (r2 r3 : Option (List ℕ)) (read : Consumes r1 r2 head) where
+    cells_passed : (w2 : Option (List ℕ)) → CellsPassed (Appends w1 w2) r n r2 r3 → Passed heads (n + 1) r0 r3 w0 w2
+    cells_passed w2 c = one_more heads n (piece head c.cells r) (is, c.sized) r0 r1 r3 w0 w1 w2 p (Consumes-trans r1 r2 r3 head c.cells read c.read) c.written
+
+    cells_begun : (w2 : Option (List ℕ)) → CellsPassed (AppendsBeginning w1 w2) r n r2 r3 → PassedPart heads r0 w0 w2
+    cells_begun w2 c = part_more heads n (piece head c.cells r) (is, c.sized) r0 r1 r3 w0 w1 w2 p (Consumes-trans r1 r2 r3 head c.cells read c.read) c.written
+
+-- ---- frames
+
+module _ (video : Recipe) (n len : ℕ) (line : List ℕ) (r0 r1 r2 r3 w0 w1 w2 : Option (List ℕ)) (p : Passed (FrameHead video) n r0 r1 w0 w1) (found : LineRead len line r1 r2) where
+  frame_head : FrameHead video (take len line) (with_line (take len line) video)
+  frame_head = record { parameters = found.parameters; are = found.are; head_is = found.line_is; recipe_is = refl }
+
+  pub frame_passed : (Unit {0}) → CellsPassed (Appends w1 w2) (with_line (take len line) video) n r2 r3 → Passed (FrameHead video) (n + 1) r0 r3 w0 w2
+  frame_passed x c = cells_passed (FrameHead video) n r0 r1 w0 w1 p (take len line) (with_line (take len line) video) frame_head r2 r3 found.read w2 c
+
+  pub frame_stopped : (e : RunFault) → PassesCells (Err e) (with_line (take len line) video) n r2 r3 w1 w2 → PassesFrames (Err e) (FrameHead video) r0 r3 w0 w2
+  frame_stopped (Frame k) c = ends_at (FrameHead video) n r0 r1 w0 w1 p (IsNoPiece (FrameHead video))
+      (cut_piece (FrameHead video) (frames_readable video) (take len line) c.1.cells (with_line (take len line) video) r1 r2 r3 frame_head found.read c.1.read c.1.short c.1.end) k c.0 w2 c.2
+  frame_stopped Output c = cells_begun (FrameHead video) n r0 r1 w0 w1 p (take len line) (with_line (take len line) video) frame_head r2 r3 found.read w2 c
+  frame_stopped Input c = ends_some (FrameHead video) n r0 r1 w0 w1 p Anything (nothing_said r1) w2 c
+  frame_stopped Header c = absurd c
+  frame_stopped Outside c = absurd c
+  frame_stopped Memory c = absurd c
+  frame_stopped Endless c = absurd c
+
+-- ---- one picture
+
+module _ (apart : ApartHeads) (letter : BeginsWithLetter) (edit : Edits) (n : ℕ) (picture : Picture) (recipe : Recipe) (head : List ℕ) (named : picture_of head ≡ Some picture) (edited : picture_recipe edit picture ≡ Some recipe)
+    (r1 r2 r3 w1 w2 : Option (List ℕ)) (read : Consumes r1 r2 head) where
+  picture_head : PictureHead edit head recipe
+  picture_head = rw named edited
+
+  pub picture_made : (r : Result (Unit {0}) RunFault) → PassesCells r recipe n r2 r3 w1 w2 → PassesPicture r edit n r1 r3 w1 w2
+  picture_made (Ok x) c = (piece head c.cells recipe, (picture_head, c.sized), Consumes-trans r1 r2 r3 head c.cells read c.read, c.written)
+  picture_made (Err (Frame k)) c = (c.0, cut_piece (PictureHead edit) (pictures_readable apart letter edit) head c.1.cells recipe r1 r2 r3 picture_head read c.1.read c.1.short c.1.end, c.2)
+  picture_made (Err Output) c = (piece head c.cells recipe, (picture_head, c.sized), Consumes-trans r1 r2 r3 head c.cells read c.read, c.written)
+  picture_made (Err Input) c = c
+  picture_made (Err Header) c = absurd c
+  picture_made (Err Outside) c = absurd c
+  picture_made (Err Memory) c = absurd c
+  picture_made (Err Endless) c = absurd c
+
+not_edited : (edit : Edits) (picture : Picture) (head : List ℕ) → picture_of head ≡ Some picture → picture_recipe edit picture ≡ None → (old new : Option (List ℕ)) → Consumes old new head → IfSome old (IsPictureNotEdited edit)
+not_edited edit picture head named none None new read = tt
+not_edited edit picture head named none (Some bytes) None read = absurd read
+not_edited edit picture head named none (Some bytes) (Some rest) read = record { head = head; more = rest; picture = picture; read = read; named = named; none = none }
+
+pub picture_not_planned : (e : PlanFault) (edit : Edits) (n : ℕ) (picture : Picture) (head : List ℕ) → picture_of head ≡ Some picture → Tells (picture_recipe edit picture ≡ None) e → (r1 r2 w : Option (List ℕ)) → Consumes r1 r2 head
+    → PassesPicture (Err (fault_of_plan e)) edit n r1 r2 w w
+picture_not_planned NoPlan edit n picture head named none r1 r2 w read = (not_edited edit picture head named none r1 r2 read, refl)
+picture_not_planned NoMemory edit n picture head named none r1 r2 w read = refl
+
+-- ---- pictures
+
+keeps_none : (pieces : List Piece) (w0 w1 : Option (List ℕ)) → length pieces ≡ 0 → Appends w0 w1 (all_made 0 pieces) → Keeps w0 w1
+keeps_none [] None w1 none written = tt
+keeps_none [] (Some old) None none written = absurd written
+keeps_none [] (Some old) (Some new) none written = written ∙ append-nil old
+keeps_none (x ∷ xs) w0 w1 none written = absurd (omega (arith, none))
+
+reads_none : (P : List ℕ → Type 0) (pieces : List Piece) (r0 r1 : Option (List ℕ)) → length pieces ≡ 0 → Consumes r0 r1 (pieces_text pieces) → IfSome r1 P → IfSome r0 P
+reads_none P [] None r1 none read holds = tt
+reads_none P [] (Some bytes) None none read holds = absurd read
+reads_none P [] (Some bytes) (Some rest) none read holds = subst P (sym read) holds
+reads_none P (x ∷ xs) r0 r1 none read holds = absurd (omega (arith, none))
+
+module _ (edit : Edits) (n : ℕ) (r0 r1 r2 w0 w1 w2 : Option (List ℕ)) (p : Passed (PictureHead edit) n r0 r1 w0 w1) where
+  pub picture_passed : (Unit {0}) → ((x : Piece) × IsPiece (PictureHead edit) x × Consumes r1 r2 (piece_text x) × Appends w1 w2 (made_text n x)) → Passed (PictureHead edit) (n + 1) r0 r2 w0 w2
+  picture_passed u c = one_more (PictureHead edit) n c.0 c.1 r0 r1 r2 w0 w1 w2 p c.2 c.3
+
+  pub picture_stopped : (e : RunFault) → PassesPicture (Err e) edit n r1 r2 w1 w2 → PassesPictures (Err e) edit r0 r2 w0 w2
+  picture_stopped (Frame k) c = ends_at (PictureHead edit) n r0 r1 w0 w1 p (IsNoPiece (PictureHead edit)) c.1 k c.0 w2 c.2
+  picture_stopped Output c = part_more (PictureHead edit) n c.0 c.1 r0 r1 r2 w0 w1 w2 p c.2 c.3
+  picture_stopped Header c =
+      let q : Passed (PictureHead edit) 0 r0 r1 w0 w2 = subst (λ m. Passed (PictureHead edit) m r0 r1 w0 w2) c.0 (same_text (PictureHead edit) n r0 r1 w0 w1 p w2 c.2) in
+      (keeps_none q.pieces w0 w2 q.count_is q.written, reads_none IsNoPicture q.pieces r0 r1 q.count_is q.read c.1)
+  picture_stopped Outside c = ends_some (PictureHead edit) n r0 r1 w0 w1 p (IsPictureNotEdited edit) c.0 w2 c.1
+  picture_stopped Memory c = ends_some (PictureHead edit) n r0 r1 w0 w1 p Anything (nothing_said r1) w2 c
+  picture_stopped Input c = ends_some (PictureHead edit) n r0 r1 w0 w1 p Anything (nothing_said r1) w2 c
+  picture_stopped Endless c = ends_some (PictureHead edit) n r0 r1 w0 w1 p Anything (nothing_said r1) w2 c
+
+-- the letter of the next picture
+none_read : (old new : Option (List ℕ)) → Consumes old new (80 ∷ []) → Consumes old (behind_letter new) []
+none_read None new read = tt
+none_read (Some bytes) None read = absurd read
+none_read (Some bytes) (Some rest) read = read
+
+pub next_letter : (edit : Edits) (n : ℕ) (r0 r1 r2 w0 w1 : Option (List ℕ)) → Passed (PictureHead edit) n r0 r1 w0 w1 → Consumes r1 r2 (80 ∷ []) → Passed (PictureHead edit) n r0 (behind_letter r2) w0 w1
+next_letter edit n r0 r1 r2 w0 w1 p read = passed_on (PictureHead edit) n r0 r1 (behind_letter r2) w0 w1 p (none_read r1 r2 read)

@@ -1,0 +1,125 @@
+//! Pictures behind one another, passed on one by one.
+
+ghost use Rattle.std.specs.Prelude.{◌≡◌, ◌+◌, ◌≤◌, ◌<◌, length, OnOk, OnErr, IfErr};
+ghost use Rattle.devices.specs.Device.{device_of, failures_of};
+ghost use Rattle.frame_formats.specs.Recipe.{edits};
+ghost use Rattle.imgref_frames.specs.Fault.{reader_failures, writer_failures};
+ghost use Rattle.imgref_frames.specs.Passing.{PassesPicture, PassesPictures};
+ghost use Rattle.imgref_frames.specs.Pictures.{HeadIs, behind_letter};
+
+use crate::cells::pass_cells;
+use crate::fault::RunFault;
+use devices::{Counted, read_byte};
+use frame_formats::{Framing, Picture, Plan, Scan, Step, heads_end_themselves};
+use std::alloc::{AllocError, Global};
+use std::io::{Read, Write};
+
+// Reads the rest of a head, whose first letter was read; answers `None` where it is none.
+fn read_head<R: Read>(reader: &mut Counted<R>) -> Result<Option<Picture>, RunFault>
+    requires counts { failures_of reader.old < u64.MAX }
+    ensures head { HeadIs result (R.remaining (device_of reader.old)) (R.remaining (device_of reader.new)) }
+    ensures count { failures_of reader.new ≡ failures_of reader.old + reader_failures result }
+{
+    heads_end_themselves();
+    let mut scan = Scan::new().push(b'P');
+    for _ in 0..u64::MAX {
+        match scan {
+            Scan::Done(picture) => return Ok(Some(picture)),
+            Scan::Bad => return Ok(None),
+            Scan::More { .. } => {}
+        }
+        let byte = match read_byte(reader) {
+            Ok(Some(byte)) => byte,
+            Ok(None) => return Ok(None),
+            Err(_) => return Err(RunFault::Input),
+        };
+        scan = scan.push(byte);
+    }
+    Err(RunFault::Endless)
+}
+
+// Makes so much room, where there is less.
+fn make_room(alloc: Global, cells: &mut Vec<u8>, room: usize) -> Result<(), AllocError>
+    ensures room { OnOk result (room ≤ length cells.new.items) }
+{
+    if cells.len() < room {
+        *cells = vec![in alloc; 0u8; room]?;
+    }
+    Ok(())
+}
+
+// Passes on the picture of this number, the first letter of whose head was read.
+fn pass_picture<R: Read, W: Write>(
+    alloc: Global,
+    number: u64,
+    steps: &[Step],
+    framing: Option<Framing>,
+    cells: &mut Vec<u8>,
+    other: &mut Vec<u8>,
+    reader: &mut Counted<R>,
+    writer: &mut Counted<W>,
+) -> Result<(), RunFault>
+    requires reader_counts { failures_of reader.old < u64.MAX }
+    requires writer_counts { failures_of writer.old < u64.MAX }
+    ensures passes { PassesPicture result (edits steps.now framing) number (behind_letter (R.remaining (device_of reader.old))) (R.remaining (device_of reader.new)) (W.contents (device_of writer.old)) (W.contents (device_of writer.new)) }
+    ensures reader_count { failures_of reader.new ≡ failures_of reader.old + reader_failures result }
+    ensures writer_count { failures_of writer.new ≡ failures_of writer.old + writer_failures result }
+{
+    heads_end_themselves();
+    let picture = match read_head(reader) {
+        Ok(Some(picture)) => picture,
+        Ok(None) => {
+            if number == 0 {
+                return Err(RunFault::Header);
+            }
+            return Err(RunFault::Frame(number));
+        }
+        Err(fault) => return Err(fault),
+    };
+    let plan = match Plan::for_picture(alloc, picture, steps, framing) {
+        Ok(plan) => plan,
+        Err(fault) => return Err(RunFault::from(fault)),
+    };
+    if make_room(alloc, cells, plan.room()).is_err() {
+        return Err(RunFault::Memory);
+    }
+    if make_room(alloc, other, plan.other_room()).is_err() {
+        return Err(RunFault::Memory);
+    }
+    pass_cells(reader, writer, &plan, number, plan.head(), cells, other)
+}
+
+/// Reads picture after picture, the first letter of which was read, edits it and writes it; answers
+/// how many there were.
+pub(crate) fn pass_pictures<R: Read, W: Write>(
+    alloc: Global,
+    steps: &[Step],
+    framing: Option<Framing>,
+    reader: &mut Counted<R>,
+    writer: &mut Counted<W>,
+) -> Result<u64, RunFault>
+    requires reader_counts { failures_of reader.old < u64.MAX }
+    requires writer_counts { failures_of writer.old < u64.MAX }
+    ensures passes { PassesPictures result (edits steps.now framing) (behind_letter (R.remaining (device_of reader.old))) (R.remaining (device_of reader.new)) (W.contents (device_of writer.old)) (W.contents (device_of writer.new)) }
+    ensures reader_count { failures_of reader.new ≡ failures_of reader.old + reader_failures result }
+    ensures writer_count { failures_of writer.new ≡ failures_of writer.old + writer_failures result }
+{
+    heads_end_themselves();
+    let mut cells = Vec::new(alloc);
+    let mut other = Vec::new(alloc);
+    for number in 0..u64::MAX {
+        match pass_picture(
+            alloc, number, steps, framing, &mut cells, &mut other, reader, writer,
+        ) {
+            Ok(()) => {}
+            Err(fault) => return Err(fault),
+        }
+        match read_byte(reader) {
+            Ok(Some(b'P')) => {}
+            Ok(Some(_)) => return Err(RunFault::Frame(number + 1)),
+            Ok(None) => return Ok(number + 1),
+            Err(_) => return Err(RunFault::Input),
+        }
+    }
+    Err(RunFault::Endless)
+}
