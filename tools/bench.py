@@ -34,6 +34,8 @@ RUST = ["rustc", "--edition", "2021", "-C", "opt-level=3", "-C", "target-cpu=x86
 RUNS = 7
 # How many bytes the planes of a frame have: 1920 by 1080 of brightness, and half as many of chroma.
 CELLS = 1920 * 1080 * 3 // 2
+# The same of a picture in colour, and the head before it.
+HEAD, COLOURS = b"P6\n1920 1080\n255\n", 1920 * 1080 * 3
 EDITS = ("fill 64,48,320,160 16", "mosaic 64,48,320,160 16,16", "move 64,48,320,160 800,400", "crop 320,180,1280,720", "pad 0,60,0,60 16")
 
 
@@ -105,6 +107,11 @@ def video(count):
     return b"YUV4MPEG2 W1920 H1080 F25:1 C420\n" + frame * count
 
 
+def pictures(count):
+    """So many pictures in colour of 1920 by 1080, all of the same random bytes."""
+    return (HEAD + random.Random(7).randbytes(COLOURS)) * count
+
+
 def written(source, text, count):
     """Writes the text of a script or a video, and answers its bytes. A process of its own does it: a program's most memory begins with that of
     the process that starts it, which stays small so."""
@@ -156,17 +163,19 @@ def passed(source, words):
     return time.monotonic() - began
 
 
-def video_table(count):
-    """The edits of the video program in Markdown: frames a second, and the shares of those that pass in its place through `cat`,
-    and through `dd`, which reads a whole frame before it writes it."""
-    source = OUT / "video.y4m"
-    written(source, video, count)
-    each = [["cat"], ["dd", f"bs={CELLS + 6}", "iflag=fullblock", "status=none"], *([program_of("imgref_frames"), *edit.split()] for edit in EDITS)]
-    runs = [[passed(source, it) for it in each] for _ in range(RUNS)]
-    source.unlink()
-    cat, dd, *least = (min(times[k] for times in runs) for k in range(len(each)))
-    lines = ["| Edit of a video of 1920 by 1080 | Frames a second | of `cat` | of `dd` by frames |", "|---|---|---|---|"]
-    return "\n".join([*lines, *(f"| `{edit}` | {count / seconds:.0f} | {cat / seconds:.2f} | {dd / seconds:.2f} |" for edit, seconds in zip(EDITS, least))])
+def frames_table(count):
+    """The edits of the video program in Markdown: frames or pictures a second, and the shares of those that pass in its place
+    through `cat`, and through `dd`, which reads a whole one before it writes it."""
+    lines = ["| Of 1920 by 1080 | Edit | A second | of `cat` | of `dd` by frames |", "|---|---|---|---|---|"]
+    for name, text, size in (("frames", video, CELLS + len("FRAME\n")), ("pictures in colour", pictures, COLOURS + len(HEAD))):
+        source = OUT / "frames"
+        written(source, text, count)
+        each = [["cat"], ["dd", f"bs={size}", "iflag=fullblock", "status=none"], *([program_of("imgref_frames"), *edit.split()] for edit in EDITS)]
+        runs = [[passed(source, it) for it in each] for _ in range(RUNS)]
+        source.unlink()
+        cat, dd, *least = (min(times[k] for times in runs) for k in range(len(each)))
+        lines += [f"| {name} | `{edit}` | {count / seconds:.0f} | {cat / seconds:.2f} | {dd / seconds:.2f} |" for edit, seconds in zip(EDITS, least)]
+    return "\n".join(lines)
 
 
 def quotient(a, b):
@@ -230,7 +239,7 @@ def main():
     speed, numbers = made(asked.crate)
     began_timing = time.time()
     rows = calls(speed, asked.rounds, sides)
-    found = "\n\n".join([table(rows, sides), script_table([*scripts(numbers, asked.beside, asked)], bool(asked.beside)), video_table(asked.frames)])
+    found = "\n\n".join([table(rows, sides), script_table([*scripts(numbers, asked.beside, asked)], bool(asked.beside)), frames_table(asked.frames)])
     print(found)
     (OUT / "speed.svg").write_text(plot(rows, sides))
     say(f"{time.time() - began:.0f} s, {time.time() - began_timing:.0f} of them timing; the plot is in {(OUT / 'speed.svg').relative_to(ROOT)}")
