@@ -37,6 +37,9 @@ CELLS = 1920 * 1080 * 3 // 2
 # The same of a picture in colour, and the head before it.
 HEAD, COLOURS = b"P6\n1920 1080\n255\n", 1920 * 1080 * 3
 EDITS = ("fill 64,48,320,160 16", "mosaic 64,48,320,160 16,16", "move 64,48,320,160 800,400", "crop 320,180,1280,720", "pad 0,60,0,60 16")
+# ffmpeg's filters that do the same to each frame, and ffmpeg with one of them on one thread.
+FILTERS = {EDITS[0]: "drawbox=x=64:y=48:w=320:h=160:color=black:t=fill", EDITS[3]: "crop=1280:720:320:180", EDITS[4]: "pad=1920:1200:0:60:color=black"}
+FFMPEG = "ffmpeg -v error -nostdin -threads 1 -filter_threads 1 -f yuv4mpegpipe -i - -vf {} -threads 1 -c:v rawvideo -f rawvideo -"
 
 
 def rust(crate):
@@ -165,16 +168,20 @@ def passed(source, words):
 
 def frames_table(count):
     """The edits of the video program in Markdown: frames or pictures a second, and the shares of those that pass in its place
-    through `cat`, and through `dd`, which reads a whole one before it writes it."""
-    lines = ["| Of 1920 by 1080 | Edit | A second | of `cat` | of `dd` by frames |", "|---|---|---|---|---|"]
+    through `cat`, through `dd`, which reads a whole one before it writes it, and through ffmpeg with its own filter."""
+    lines = ["| Of 1920 by 1080 | Edit | A second | of `cat` | of `dd` by frames | of ffmpeg's filter |", "|---|---|---|---|---|---|"]
     for name, text, size in (("frames", video, CELLS + len("FRAME\n")), ("pictures in colour", pictures, COLOURS + len(HEAD))):
         source = OUT / "frames"
         written(source, text, count)
-        each = [["cat"], ["dd", f"bs={size}", "iflag=fullblock", "status=none"], *([program_of("imgref_frames"), *edit.split()] for edit in EDITS)]
-        runs = [[passed(source, it) for it in each] for _ in range(RUNS)]
+        filters = FILTERS if text is video and shutil.which("ffmpeg") else {}
+        each = {it: [program_of("imgref_frames"), *it.split()] for it in EDITS} | {it: FFMPEG.format(it).split() for it in filters.values()}
+        each |= {"cat": ["cat"], "dd": ["dd", f"bs={size}", "iflag=fullblock", "status=none"]}
+        runs = [{it: passed(source, words) for it, words in each.items()} for _ in range(RUNS)]
         source.unlink()
-        cat, dd, *least = (min(times[k] for times in runs) for k in range(len(each)))
-        lines += [f"| {name} | `{edit}` | {count / seconds:.0f} | {cat / seconds:.2f} | {dd / seconds:.2f} |" for edit, seconds in zip(EDITS, least)]
+        least = {it: min(times[it] for times in runs) for it in each}
+        for edit in EDITS:
+            shares = [f"{least[it] / least[edit]:.2f}" if it else "–" for it in ("cat", "dd", filters.get(edit))]
+            lines.append(f"| {name} | `{edit}` | {count / least[edit]:.0f} | {' | '.join(shares)} |")
     return "\n".join(lines)
 
 

@@ -4,8 +4,9 @@
 No clause can say that memory is found, and every contract allows the answer that none was. So the script program is run on each
 example, and the one for video on a small stream with each kind of edits, with the first growth refused, then with the second,
 until a run has none to refuse. Each time but the last it must say `fault memory` alone, on the stream for faults, and end with
-status 3: so all memory is taken before the first byte is written. Each test is run so too, and must pass or return the refusal
-as its result: an assertion that fails shows an answer that changed in the place of the error.
+status 3: so all memory is taken before the first byte is written. Of pictures those before may be written. Each test is run so
+too, and must pass or return the refusal as its result: an assertion that fails shows an answer that changed in the place of the
+error.
 """
 import concurrent.futures
 import os
@@ -25,6 +26,9 @@ SCRIPTS = sorted((ROOT / "examples").glob("*.script"))
 # A video of two frames of 4 by 2 pixels, and words of edits: a list of two, and each that changes the size.
 VIDEO = b"YUV4MPEG2 W4 H2 C420 F25:1\n" + b"FRAME\n0123456789AB" * 2
 EDITS = ("fill 0,0,2,2 16 1..2 move 0,0,2,2 2,0", "mosaic 0,0,4,2 2,2 crop 0,0,2,2", "pad 2,2,2,2 16")
+# A picture in colour and a larger grey one behind it, and words of edits.
+PICTURES = (b"P6 2 2 255 0123456789AB", b"P5 5 3 255 0123456789ABCDE")
+PICTURE_EDITS = ("fill 0,0,2,2 16", "mosaic 0,0,2,2 2,2 crop 0,0,2,1", "pad 2,2,2,2 16")
 # What a test says whose result is the refusal: of a call, of a push to a vector, and of a run.
 HANDED_ON = (b"error: AllocError\n", b"error: AllocFailed { .. }\n", b"error: Memory\n")
 # A crate of tests, a test, the same without its one call that takes memory, and how many growths that call takes.
@@ -54,12 +58,13 @@ def runs(library, command, given=b""):
 
 
 def of_program(library, command, given, told, ends):
-    """How many refused growths were told on this input, and what is wrong. `told` is what a refusal must leave, `ends` what a run must
-    that has none: its output, and its status."""
+    """How many refused growths were told on this input, and what is wrong. `told` is what a refusal must leave, one of some outputs and
+    a status, and `ends` what a run must that has none: its output, and its status."""
     bad = []
     for number, (ran, was_refused) in enumerate(runs(library, command, given), 1):
         says_so = b"fault memory\n" in ran.stdout + ran.stderr
-        if says_so != was_refused or (ran.stdout, ran.returncode) != (told if was_refused else ends):
+        outputs, status = told if was_refused else ([ends[0]], ends[1])
+        if says_so != was_refused or ran.stdout not in outputs or ran.returncode != status:
             bad.append(f"growth {number}: it printed {ran.stdout!r}, said {ran.stderr!r} and ended with status {ran.returncode}")
     return number - 1, bad
 
@@ -85,11 +90,14 @@ def main():
     resource.setrlimit(resource.RLIMIT_CORE, (0, 0))
     with tempfile.TemporaryDirectory(prefix="growths-") as room, concurrent.futures.ThreadPoolExecutor(4) as pool:
         library = made(room)
-        tries = [("imgref_run", [], script.name, script.read_bytes(), (b"fault memory\n", 3), model.answer(script.read_bytes())) for script in SCRIPTS]
+        tries = [("imgref_run", [], script.name, script.read_bytes(), ([b"fault memory\n"], 3), model.answer(script.read_bytes())) for script in SCRIPTS]
         listed = pathlib.Path(room, "edits")
         listed.write_text(f"{EDITS[-1]}\n")
         for label, words, edits in [*((it, it.split(), it) for it in EDITS), ("a file of edits", ["--edits", listed], EDITS[-1])]:
-            tries.append(("imgref_frames", words, label, VIDEO, (b"", 3), (frames.answer(VIDEO, frames.edits_of(edits.split())), 0)))
+            tries.append(("imgref_frames", words, label, VIDEO, ([b""], 3), (frames.answer(VIDEO, frames.edits_of(edits.split())), 0)))
+        for words in PICTURE_EDITS:
+            first, both = (frames.answer(it, frames.edits_of(words.split())) for it in (PICTURES[0], b"".join(PICTURES)))
+            tries.append(("imgref_frames", words.split(), f"pictures, {words}", b"".join(PICTURES), ([b"", first], 3), (both, 0)))
         for name in ("imgref_run", "imgref_frames"):
             for program in both_builds(cases, name):
                 for _, words, label, given, told, ends in (it for it in tries if it[0] == name):
