@@ -33,7 +33,7 @@ fn padded_size(before: usize, pixels: usize, behind: usize) -> Option<usize>
 /// What becomes of the plane of brightness of a frame of this format, or `None` where its new size
 /// is too large.
 #[tactic(auto, unfolding(crate::specs::Format::resize_for))]
-pub fn resize_of(format: Format, framing: Framing) -> Option<Resize>
+pub(crate) fn resize_of(format: Format, framing: Framing) -> Option<Resize>
     ensures { result ≡ resize_for format framing }
 {
     match framing {

@@ -14,13 +14,11 @@ mod steps;
 mod video_planes;
 mod words;
 
-pub use framing::{Framing, resize_of};
+pub use framing::Framing;
 pub use header::{Chroma, Format, read_format};
 pub use hiding::recipes_hide;
-pub use image_planes::{Plane, Resize, Target, Window};
-pub use line::resized_line;
-pub use picture::{Head, Picture, Scan, heads_end_themselves, picture_head};
+pub use image_planes::Window;
+pub use picture::{Head, Picture, Scan, heads_end_themselves};
 pub use plans::{Plan, PlanFault};
 pub use steps::{Change, Channel, Paint, Step};
-pub use video_planes::{plan, plan_resize};
 pub use words::{Edits, WordsFault};

@@ -59,7 +59,7 @@ fn push_fields(
 }
 
 /// The line with another size, and its line feed.
-pub fn resized_line(
+pub(crate) fn resized_line(
     alloc: Global,
     line: &[u8],
     width: usize,

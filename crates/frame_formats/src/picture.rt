@@ -251,7 +251,7 @@ impl Scan {
 }
 
 /// The head of a picture: its kind on a line, its size on one, and `255` on one.
-pub fn picture_head(alloc: Global, picture: Picture) -> Result<Vec<u8>, AllocError>
+pub(crate) fn picture_head(alloc: Global, picture: Picture) -> Result<Vec<u8>, AllocError>
     ensures { IfOk result (λ text. text.items ≡ head_text picture) }
 {
     let mut text = Vec::new(alloc);

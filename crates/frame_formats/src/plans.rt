@@ -14,7 +14,7 @@ use crate::line::{ended_line, resized_line};
 use crate::picture::{Picture, picture_head};
 use crate::picture_planes::{picture_planes, picture_targets, size_of};
 use crate::steps::Step;
-use crate::video_planes::{plan, plan_resize};
+use crate::video_planes::{video_planes, video_targets};
 use image_planes::{
     Plane, Target, change_planes, join_pixels, part_pixels, planes_len, resize_planes, targets_len,
 };
@@ -100,7 +100,7 @@ impl Plan {
         ensures plan { IfOk result (λ plan. video_recipe (edits steps.now framing) line.now ≡ Some (recipe_of plan)) }
         ensures fault { IfErr result (Tells (video_recipe (edits steps.now framing) line.now ≡ None)) }
     {
-        let planes = plan(alloc, format, steps)?;
+        let planes = video_planes(alloc, format, steps)?;
         let Some(framing) = framing else {
             let Ok(head) = ended_line(alloc, line) else {
                 return Err(PlanFault::Memory);
@@ -110,7 +110,7 @@ impl Plan {
         let Some(resize) = resize_of(format, framing) else {
             return Err(PlanFault::Outside);
         };
-        let targets = plan_resize(alloc, format, resize)?;
+        let targets = video_targets(alloc, format, resize)?;
         let Ok(head) = resized_line(alloc, line, resize.width(), resize.height()) else {
             return Err(PlanFault::Memory);
         };

@@ -90,7 +90,11 @@ fn push_chroma(
 
 /// The planes of a frame of this format, with what is done to each under steps in pixels.
 #[tactic(auto, unfolding(crate::specs::Format::jobs_for))]
-pub fn plan(alloc: Global, format: Format, steps: &[Step]) -> Result<Vec<Plane>, PlanFault>
+pub(crate) fn video_planes(
+    alloc: Global,
+    format: Format,
+    steps: &[Step],
+) -> Result<Vec<Plane>, PlanFault>
     ensures planes { IfOk result (λ planes. jobs_for format steps.now ≡ Some (map job_of planes.items)) }
     ensures fault { IfErr result (Tells (jobs_for format steps.now ≡ None)) }
 {
@@ -169,7 +173,11 @@ fn push_chroma_targets(
 /// The planes of a frame of this format with what becomes of the size of each, where that of the
 /// plane of brightness becomes this.
 #[tactic(auto, unfolding(crate::specs::Format::resizings_for))]
-pub fn plan_resize(alloc: Global, format: Format, resize: Resize) -> Result<Vec<Target>, PlanFault>
+pub(crate) fn video_targets(
+    alloc: Global,
+    format: Format,
+    resize: Resize,
+) -> Result<Vec<Target>, PlanFault>
     ensures targets { IfOk result (λ targets. resizings_for format resize ≡ Some (map resizing_of targets.items)) }
     ensures fault { IfErr result (Tells (resizings_for format resize ≡ None)) }
 {
