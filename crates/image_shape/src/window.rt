@@ -29,7 +29,7 @@ impl Window {
     ghost use Rattle.image_shape.specs.Window.{as_window, as_stretch};
 
     /// The window of `width` by `height` pixels with its corner at column `left` of row `top`.
-    pub fn new(left: usize, top: usize, width: usize, height: usize) -> Window
+    pub const fn new(left: usize, top: usize, width: usize, height: usize) -> Window
         ensures { as_window result ≡ window left top width height }
     {
         Window {

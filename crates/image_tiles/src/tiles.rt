@@ -94,8 +94,7 @@ impl<C: AsMutSlice> TileCursor<C> {
         ensures container { WindowKeepsContainer C.AsSlice.cells C.with_cells C.roomy_windows (image_of self.old) (tile_now (tiling_of self.old)) (shaped result.0.now result.1) }
     {
         let window = self.tiling.next_window();
-        self.img
-            .window_parts_mut(window.left, window.top, window.width, window.height)
+        self.img.window_parts_mut(window)
     }
 
     // The next tile, where one is left.
@@ -106,8 +105,7 @@ impl<C: AsMutSlice> TileCursor<C> {
         ensures next { IsNext C.AsSlice.cells C.with_cells C.roomy_windows self.old (windows_left (tiling_of self.old)) result }
     {
         let window = self.tiling.next_window();
-        self.img
-            .sub_image_mut(window.left, window.top, window.width, window.height)
+        self.img.window_mut(window)
     }
 
     // This cursor, and how many tiles are left.

@@ -105,12 +105,9 @@ impl Tiling {
     {
         let left = self.column * self.tile_width;
         let top = self.line * self.tile_height;
-        Window {
-            left,
-            top,
-            width: self.tile_width.min(self.width - left),
-            height: self.tile_height.min(self.height - top),
-        }
+        let width = self.tile_width.min(self.width - left);
+        let height = self.tile_height.min(self.height - top);
+        Window::new(left, top, width, height)
     }
 
     // Goes on to the window behind.

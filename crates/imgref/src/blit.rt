@@ -5,7 +5,8 @@ ghost use Rattle.std.specs.Prelude.{◌≡◌, ◌<◌};
 ghost use Rattle.image_model.specs.Layout.{Fits, SameOutside};
 ghost use Rattle.image_model.specs.Grid.{view, patch};
 ghost use Rattle.image_model.specs.Swaps.{rows_swapped};
-ghost use Rattle.image_model.specs.Windows.{IsInside, window};
+ghost use Rattle.image_model.specs.Windows.{IsInside, window, window_view};
+ghost use Rattle.image_shape.specs.Window.{as_window};
 ghost use Rattle.imgref.specs.Image.{width_of, height_of, grid_by, layout_by, OnlyCellsChange, ref_grid, ref_layout};
 
 use crate::containers::AsMutSlice;
@@ -57,8 +58,33 @@ impl<C: AsMutSlice> Img<C> {
         ensures fits { Fits (layout_by C.AsSlice.cells self.new) }
         ensures container { OnlyCellsChange C.AsSlice.cells C.with_cells self.old self.new }
     {
-        let (cells, shape) = self.window_parts_mut(left, top, source.width(), source.height());
+        let place = Window::new(left, top, source.width(), source.height());
+        let (cells, shape) = self.window_parts_mut(place);
         copy_pixels(cells, shape, source.buf, source.shape());
+    }
+
+    /// The window of its size with its corner at column `left` of row `top` gets the old pixels of
+    /// `source`, overlapping or not; every other cell stays. No memory is taken: the rows are moved
+    /// within the buffer.
+    ///
+    /// # Requires
+    ///
+    /// The image fits (`is_valid`), and both windows are inside it (`has_window`).
+    pub fn move_inside<'a>(&'a mut self, source: Window, left: usize, top: usize)
+    where
+        C::Item: Copy + 'a,
+        requires fits { Fits (layout_by C.AsSlice.cells self.old) }
+        requires source_inside { IsInside (width_of self.old) (height_of self.old) (as_window source) }
+        requires target_inside { IsInside (width_of self.old) (height_of self.old) (window left top source.width source.height) }
+        ensures grid { grid_by C.AsSlice.cells self.new ≡ patch (grid_by C.AsSlice.cells self.old) left top (window_view (grid_by C.AsSlice.cells self.old) (as_window source)) }
+        ensures outside { SameOutside (layout_by C.AsSlice.cells self.old) (layout_by C.AsSlice.cells self.new) }
+        ensures fits { Fits (layout_by C.AsSlice.cells self.new) }
+        ensures container { OnlyCellsChange C.AsSlice.cells C.with_cells self.old self.new }
+    {
+        let target = Window::new(left, top, source.width, source.height);
+        let shape = self.shape();
+        let len = self.buf.as_slice().len();
+        move_pixels(self.buf.stretch_mut(0, len), shape, source, target);
     }
 
     /// The window of `width` by `height` pixels with its corner at column `to_left` of row `to_top`
@@ -87,21 +113,11 @@ impl<C: AsMutSlice> Img<C> {
         ensures fits { Fits (layout_by C.AsSlice.cells self.new) }
         ensures container { OnlyCellsChange C.AsSlice.cells C.with_cells self.old self.new }
     {
-        let source = Window {
-            left: from_left,
-            top: from_top,
-            width,
-            height,
-        };
-        let target = Window {
-            left: to_left,
-            top: to_top,
-            width,
-            height,
-        };
-        let shape = self.shape();
-        let len = self.buf.as_slice().len();
-        move_pixels(self.buf.stretch_mut(0, len), shape, source, target);
+        self.move_inside(
+            Window::new(from_left, from_top, width, height),
+            to_left,
+            to_top,
+        );
     }
 
     /// Rows `y` and `z` change places, and the padding stays. No memory is taken: pixels are swapped

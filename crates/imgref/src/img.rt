@@ -186,12 +186,8 @@ impl<Container> Img<Container> {
         ensures { IsTrue result
             ↔ IsInside (width_of self.now) (height_of self.now) (window left top width height) }
     {
-        self.shape().has_window(Window {
-            left,
-            top,
-            width,
-            height,
-        })
+        self.shape()
+            .has_window(Window::new(left, top, width, height))
     }
 }
 

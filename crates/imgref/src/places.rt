@@ -4,12 +4,14 @@ ghost use Rattle.std.specs.Prelude.{◌≡◌, ◌<◌};
 ghost use Rattle.image_model.specs.Layout.{Fits, SameOutside};
 ghost use Rattle.image_model.specs.Grid.{grid_of, patch, uniform};
 ghost use Rattle.image_model.specs.Windows.{IsInside, window};
+ghost use Rattle.image_shape.specs.Window.{as_window};
 ghost use Rattle.imgref.specs.Image.{width_of, height_of, grid_by, layout_by, OnlyCellsChange};
 
 use crate::containers::AsMutSlice;
 use crate::img::Img;
 use image_cells::AsSlice;
 use image_pixels::fill_pixels;
+use image_shape::Window;
 
 impl<C: AsSlice> Img<C> {
     /// The pixel at column `x` of row `y`, or `None` where that is no place of the image.
@@ -52,6 +54,25 @@ impl<C: AsMutSlice> Img<C> {
         self[(x, y)] = value;
     }
 
+    /// Every pixel inside a window becomes `value`; every other cell stays.
+    ///
+    /// # Requires
+    ///
+    /// The image fits (`is_valid`), and the window is inside it (`has_window`).
+    pub fn fill_inside<'a>(&'a mut self, place: Window, value: C::Item)
+    where
+        C::Item: Copy + 'a,
+        requires fits { Fits (layout_by C.AsSlice.cells self.old) }
+        requires inside { IsInside (width_of self.old) (height_of self.old) (as_window place) }
+        ensures grid { grid_by C.AsSlice.cells self.new ≡ patch (grid_by C.AsSlice.cells self.old) place.left place.top (uniform place.width place.height value) }
+        ensures outside { SameOutside (layout_by C.AsSlice.cells self.old) (layout_by C.AsSlice.cells self.new) }
+        ensures fits { Fits (layout_by C.AsSlice.cells self.new) }
+        ensures container { OnlyCellsChange C.AsSlice.cells C.with_cells self.old self.new }
+    {
+        let (cells, shape) = self.window_parts_mut(place);
+        fill_pixels(cells, shape, value);
+    }
+
     /// Every pixel of the window of `width` by `height` pixels with its corner at column `left` of
     /// row `top` becomes `value`; every other cell stays.
     ///
@@ -75,8 +96,7 @@ impl<C: AsMutSlice> Img<C> {
         ensures fits { Fits (layout_by C.AsSlice.cells self.new) }
         ensures container { OnlyCellsChange C.AsSlice.cells C.with_cells self.old self.new }
     {
-        let (cells, shape) = self.window_parts_mut(left, top, width, height);
-        fill_pixels(cells, shape, value);
+        self.fill_inside(Window::new(left, top, width, height), value);
     }
 
     /// Every pixel of row `y` becomes `value`; every other cell stays.
@@ -95,6 +115,6 @@ impl<C: AsMutSlice> Img<C> {
         ensures container { OnlyCellsChange C.AsSlice.cells C.with_cells self.old self.new }
     {
         let width = self.width();
-        self.fill_window(0, y, width, 1, value);
+        self.fill_inside(Window::new(0, y, width, 1), value);
     }
 }

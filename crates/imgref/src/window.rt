@@ -5,7 +5,7 @@ ghost use Rattle.std.specs.Borrow.{sem, follows, Array};
 ghost use Rattle.image_model.specs.Layout.{Fits};
 ghost use Rattle.image_model.specs.Windows.{window, window_view, IsInside, IsWithin, roomy_stretch, roomy_window, window_layout, stretch_cells, with_stretch};
 ghost use Rattle.image_shape.specs.Shape.{shape_width, shape_height, shaped_grid, shaped};
-ghost use Rattle.image_shape.specs.Window.{as_stretch};
+ghost use Rattle.image_shape.specs.Window.{as_stretch, as_window};
 ghost use Rattle.imgref.specs.contracts.img.Img.{the_row};
 ghost use Rattle.imgref.specs.Written.{WindowPatchesGrid, WindowKeepsOutside, WindowKeepsFit, WindowKeepsContainer};
 ghost use Rattle.imgref.specs.Image.{buf_of, width_of, height_of, stride_of, grid_by, layout_by, with_all, with_window, ref_grid, ref_layout, mut_grid, mut_layout};
@@ -16,12 +16,28 @@ use image_cells::{AsSlice, roomy_part, roomy_stretch_mut};
 use image_shape::{Shape, Stretch, Window};
 
 impl<'s, T> Img<&'s [T]> {
-    /// The window of `width` by `height` pixels with its corner at column `left` of row `top`, over
-    /// the same pixels, at the same stride.
+    /// What is seen through a window: the image over the same pixels, at the same stride.
     ///
     /// Its buffer begins at its first pixel. It has `height` whole strides where the image's cells
     /// reach so far, and else ends at its last pixel (`roomy_window`). That of an empty window is
     /// empty.
+    ///
+    /// # Requires
+    ///
+    /// The image fits (`is_valid`), and the window is inside it (`has_window`).
+    pub fn window(&self, place: Window) -> ImgRef<'s, T>
+        requires fits { Fits (ref_layout self.now) }
+        requires inside { IsInside (width_of self.now) (height_of self.now) (as_window place) }
+        ensures layout { ref_layout result ≡ roomy_window (ref_layout self.now) (as_window place) }
+        ensures fits { Fits (ref_layout result) }
+        ensures view { ref_grid result ≡ window_view (ref_grid self.now) (as_window place) }
+    {
+        let (buf, shape) = roomy_part(self.buf, self.shape(), place);
+        Img::from_parts(buf, shape)
+    }
+
+    /// What `window` shows through that of `width` by `height` pixels with its corner at column
+    /// `left` of row `top`.
     ///
     /// # Requires
     ///
@@ -33,14 +49,7 @@ impl<'s, T> Img<&'s [T]> {
         ensures fits { Fits (ref_layout result) }
         ensures view { ref_grid result ≡ window_view (ref_grid self.now) (window left top width height) }
     {
-        let window = Window {
-            left,
-            top,
-            width,
-            height,
-        };
-        let (buf, shape) = roomy_part(self.buf, self.shape(), window);
-        Img::from_parts(buf, shape)
+        self.window(Window::new(left, top, width, height))
     }
 }
 
@@ -97,9 +106,25 @@ impl<'s, T> Img<&'s mut [T]> {
 }
 
 impl<C: AsMutSlice> Img<C> {
-    /// The window of `width` by `height` pixels with its corner at column `left` of row `top`, for
-    /// reading, as `sub_image` of an image of shared pixels gives it: with whole strides where the
-    /// image has them (`roomy_window`).
+    /// What is seen through a window, as `window` of an image of shared pixels gives it: with whole
+    /// strides where the image has them (`roomy_window`).
+    ///
+    /// # Requires
+    ///
+    /// The image fits (`is_valid`), and the window is inside it (`has_window`).
+    pub fn window(&self, place: Window) -> ImgRef<'_, C::Item>
+        requires fits { Fits (layout_by C.AsSlice.cells self.now) }
+        requires inside { IsInside (width_of self.now) (height_of self.now) (as_window place) }
+        ensures layout { ref_layout result ≡ roomy_window (layout_by C.AsSlice.cells self.now) (as_window place) }
+        ensures fits { Fits (ref_layout result) }
+        ensures view { ref_grid result ≡ window_view (grid_by C.AsSlice.cells self.now) (as_window place) }
+    {
+        let (buf, shape) = roomy_part(self.buf.as_slice(), self.shape(), place);
+        Img::from_parts(buf, shape)
+    }
+
+    /// What `window` shows through that of `width` by `height` pixels with its corner at column
+    /// `left` of row `top`.
     ///
     /// # Requires
     ///
@@ -117,14 +142,7 @@ impl<C: AsMutSlice> Img<C> {
         ensures fits { Fits (ref_layout result) }
         ensures view { ref_grid result ≡ window_view (grid_by C.AsSlice.cells self.now) (window left top width height) }
     {
-        let window = Window {
-            left,
-            top,
-            width,
-            height,
-        };
-        let (buf, shape) = roomy_part(self.buf.as_slice(), self.shape(), window);
-        Img::from_parts(buf, shape)
+        self.window(Window::new(left, top, width, height))
     }
 
     /// The whole image for reading, with its whole buffer. It need not fit.
@@ -144,14 +162,35 @@ impl<C: AsMutSlice> Img<C> {
         Img::from_parts(cells, shape)
     }
 
-    /// The window of `width` by `height` pixels with its corner at column `left` of row `top`, for
-    /// writing, at the same stride.
+    /// The image that a window is, for writing, at the same stride.
     ///
     /// Its buffer begins at its first pixel. For an `ImgVec` it always ends at the last pixel
     /// (`exact_window`); for an `ImgRefMut` it has `height` whole strides where the image's cells
     /// reach so far (`roomy_window`). That of an empty window is empty. Once the borrow ends, the
     /// image's cells are as they were, with that stretch of them as the window left it. So a write
     /// at place (x, y) of the window is a write at place (left + x, top + y) of the image.
+    ///
+    /// # Requires
+    ///
+    /// The image fits (`is_valid`), and the window is inside it (`has_window`).
+    pub fn window_mut(&mut self, place: Window) -> Img<&mut [C::Item]>
+        requires fits { Fits (layout_by C.AsSlice.cells self.old) }
+        requires inside { IsInside (width_of self.old) (height_of self.old) (as_window place) }
+        ensures* hands_on { sem 𝓛 (follows (the_row C.row) (Array C.Item.row 0) self.entry.ghost_name (buf_of result).ghost_name (with_window C.AsSlice.cells C.with_cells C.roomy_windows self.old (as_window place))) }
+        ensures layout { mut_layout result ≡ window_layout C.roomy_windows (layout_by C.AsSlice.cells self.old) (as_window place) }
+        ensures fits { Fits (mut_layout result) }
+        ensures view { mut_grid result ≡ window_view (grid_by C.AsSlice.cells self.old) (as_window place) }
+        ensures grid { WindowPatchesGrid C.AsSlice.cells C.with_cells C.roomy_windows self.old (as_window place) (mut_layout result) }
+        ensures outside { WindowKeepsOutside C.AsSlice.cells C.with_cells C.roomy_windows self.old (as_window place) (mut_layout result) }
+        ensures still_fits { WindowKeepsFit C.AsSlice.cells C.with_cells C.roomy_windows self.old (as_window place) (mut_layout result) }
+        ensures container { WindowKeepsContainer C.AsSlice.cells C.with_cells C.roomy_windows self.old (as_window place) (mut_layout result) }
+    {
+        let (buf, shape) = self.window_parts_mut(place);
+        Img::from_parts(buf, shape)
+    }
+
+    /// The image that `window_mut` gives for the window of `width` by `height` pixels with its corner
+    /// at column `left` of row `top`.
     ///
     /// # Requires
     ///
@@ -174,50 +213,37 @@ impl<C: AsMutSlice> Img<C> {
         ensures still_fits { WindowKeepsFit C.AsSlice.cells C.with_cells C.roomy_windows self.old (window left top width height) (mut_layout result) }
         ensures container { WindowKeepsContainer C.AsSlice.cells C.with_cells C.roomy_windows self.old (window left top width height) (mut_layout result) }
     {
-        let (buf, shape) = self.window_parts_mut(left, top, width, height);
-        Img::from_parts(buf, shape)
+        self.window_mut(Window::new(left, top, width, height))
     }
 
-    /// The window of `sub_image_mut` as its cells and its shape, from which `from_parts` makes it.
+    /// The window of `window_mut` as its cells and its shape, from which `from_parts` makes it.
     ///
     /// For a caller that is itself proved and says what its writes leave: pass the cells to a
     /// function of its own that makes the image from them, and a generated proof follows the borrow.
-    /// It doesn't follow that of a returned image. All else takes `sub_image_mut`.
+    /// It doesn't follow that of a returned image. All else takes `window_mut`.
     ///
     /// # Requires
     ///
     /// The image fits (`is_valid`), and the window is inside it (`has_window`).
-    pub fn window_parts_mut(
-        &mut self,
-        left: usize,
-        top: usize,
-        width: usize,
-        height: usize,
-    ) -> (&mut [C::Item], Shape)
+    pub fn window_parts_mut(&mut self, place: Window) -> (&mut [C::Item], Shape)
         requires fits { Fits (layout_by C.AsSlice.cells self.old) }
-        requires inside { IsInside (width_of self.old) (height_of self.old) (window left top width height) }
-        ensures* hands_on { sem 𝓛 (follows (the_row C.row) (Array C.Item.row 0) self.entry.ghost_name result.0.ghost_name (with_window C.AsSlice.cells C.with_cells C.roomy_windows self.old (window left top width height))) }
-        ensures layout { shaped result.0.now result.1 ≡ window_layout C.roomy_windows (layout_by C.AsSlice.cells self.old) (window left top width height) }
+        requires inside { IsInside (width_of self.old) (height_of self.old) (as_window place) }
+        ensures* hands_on { sem 𝓛 (follows (the_row C.row) (Array C.Item.row 0) self.entry.ghost_name result.0.ghost_name (with_window C.AsSlice.cells C.with_cells C.roomy_windows self.old (as_window place))) }
+        ensures layout { shaped result.0.now result.1 ≡ window_layout C.roomy_windows (layout_by C.AsSlice.cells self.old) (as_window place) }
         ensures fits { Fits (shaped result.0.now result.1) }
-        ensures view { shaped_grid result.0.now result.1 ≡ window_view (grid_by C.AsSlice.cells self.old) (window left top width height) }
-        ensures width { shape_width result.1 ≡ width }
-        ensures height { shape_height result.1 ≡ height }
+        ensures view { shaped_grid result.0.now result.1 ≡ window_view (grid_by C.AsSlice.cells self.old) (as_window place) }
+        ensures width { shape_width result.1 ≡ place.width }
+        ensures height { shape_height result.1 ≡ place.height }
         ensures holds_width { width_of self.old ≤ stride_of self.old }
-        ensures grid { WindowPatchesGrid C.AsSlice.cells C.with_cells C.roomy_windows self.old (window left top width height) (shaped result.0.now result.1) }
-        ensures outside { WindowKeepsOutside C.AsSlice.cells C.with_cells C.roomy_windows self.old (window left top width height) (shaped result.0.now result.1) }
-        ensures still_fits { WindowKeepsFit C.AsSlice.cells C.with_cells C.roomy_windows self.old (window left top width height) (shaped result.0.now result.1) }
-        ensures container { WindowKeepsContainer C.AsSlice.cells C.with_cells C.roomy_windows self.old (window left top width height) (shaped result.0.now result.1) }
+        ensures grid { WindowPatchesGrid C.AsSlice.cells C.with_cells C.roomy_windows self.old (as_window place) (shaped result.0.now result.1) }
+        ensures outside { WindowKeepsOutside C.AsSlice.cells C.with_cells C.roomy_windows self.old (as_window place) (shaped result.0.now result.1) }
+        ensures still_fits { WindowKeepsFit C.AsSlice.cells C.with_cells C.roomy_windows self.old (as_window place) (shaped result.0.now result.1) }
+        ensures container { WindowKeepsContainer C.AsSlice.cells C.with_cells C.roomy_windows self.old (as_window place) (shaped result.0.now result.1) }
     {
-        let window = Window {
-            left,
-            top,
-            width,
-            height,
-        };
         let len = self.buf.as_slice().len();
         let whole = self.shape();
-        let part = whole.stretch(C::has_roomy_windows(), len, window);
-        let shape = whole.window(window);
+        let part = whole.stretch(C::has_roomy_windows(), len, place);
+        let shape = whole.window(place);
         let cells = self.buf.stretch_mut(part.start, part.len);
         (cells, shape)
     }

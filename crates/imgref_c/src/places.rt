@@ -56,12 +56,7 @@ pub(crate) fn put<T: Copy>(
     if x >= width || y >= height {
         return Status::PlaceOutside;
     }
-    let place = Window {
-        left: x,
-        top: y,
-        width: 1,
-        height: 1,
-    };
+    let place = Window::new(x, y, 1, 1);
     fill_part(cells, Shape::new(width, height, stride), place, value);
     Status::Done
 }

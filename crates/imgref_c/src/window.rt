@@ -26,11 +26,6 @@ impl ImgrefWindow {
     pub(crate) fn as_window(self) -> Window
         ensures { model_of result ≡ as_window self }
     {
-        Window {
-            left: self.left,
-            top: self.top,
-            width: self.width,
-            height: self.height,
-        }
+        Window::new(self.left, self.top, self.width, self.height)
     }
 }

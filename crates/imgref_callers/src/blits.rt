@@ -71,6 +71,6 @@ pub fn copy_across<T: Copy>(
     ensures grid { vec_grid image.new ≡ patch (vec_grid image.old) left top (window_view (vec_grid source.now) (as_window from)) }
     ensures outside { SameOutside (vec_layout image.old) (vec_layout image.new) }
 {
-    let seen = source.sub_image(from.left, from.top, from.width, from.height);
+    let seen = source.window(from);
     image.copy_window(left, top, seen);
 }

@@ -34,12 +34,7 @@ fn put_inside<T: Copy>(cells: &mut [T], shape: Shape, window: Window, x: usize, 
     ensures outside { SameOutside (shaped cells.old shape) (shaped cells.new shape) }
 {
     let mut image = ImgRefMut::from_parts(cells, shape);
-    let (inner, shape) = image.window_parts_mut(
-        window.left,
-        window.top,
-        window.width,
-        window.height,
-    );
+    let (inner, shape) = image.window_parts_mut(window);
     put(inner, shape, x, y, value);
 }
 
@@ -61,7 +56,7 @@ pub fn put_in_owner<T: Copy>(
     ensures grid { vec_grid image.new ≡ patch (vec_grid image.old) (first.left + (second.left + x)) (first.top + (second.top + y)) (uniform 1 1 value) }
     ensures outside { SameOutside (vec_layout image.old) (vec_layout image.new) }
 {
-    let (owned, shape) = image.window_parts_mut(first.left, first.top, first.width, first.height);
+    let (owned, shape) = image.window_parts_mut(first);
     put_inside(owned, shape, second, x, y, value);
 }
 
@@ -84,7 +79,7 @@ pub fn put_in_lent<T: Copy>(
     ensures outside { SameOutside (mut_layout image.old) (mut_layout image.new) }
     ensures same_reference { (buf_of image.new).ghost_name ≡ (buf_of image.old).ghost_name }
 {
-    let (lent, shape) = image.window_parts_mut(first.left, first.top, first.width, first.height);
+    let (lent, shape) = image.window_parts_mut(first);
     put_inside(lent, shape, second, x, y, value);
 }
 
@@ -108,6 +103,6 @@ pub fn put_in_cells<T: Copy>(
     ensures outside { SameOutside (shaped cells.old shape) (shaped cells.new shape) }
 {
     let mut image = ImgRefMut::from_parts(cells, shape);
-    let (outer, shape) = image.window_parts_mut(first.left, first.top, first.width, first.height);
+    let (outer, shape) = image.window_parts_mut(first);
     put_inside(outer, shape, second, x, y, value);
 }

@@ -13,8 +13,6 @@ pub fn greatest_in(image: ImgRef<'_, u8>, outer: Window, inner: Window) -> Optio
     requires inner_inside { IsInside outer.width outer.height (as_window inner) }
     ensures { result ≡ reduce max (grid_pixels (window_view (window_view (ref_grid image.entry) (as_window outer)) (as_window inner))) }
 {
-    let part = image
-        .sub_image(outer.left, outer.top, outer.width, outer.height)
-        .sub_image(inner.left, inner.top, inner.width, inner.height);
+    let part = image.window(outer).window(inner);
     part.pixels().max()
 }

@@ -30,15 +30,6 @@ enum Program {
     DarkenLentTiles,
 }
 
-const fn window(left: usize, top: usize, width: usize, height: usize) -> Window {
-    Window {
-        left,
-        top,
-        width,
-        height,
-    }
-}
-
 // Runs a program.
 fn run(program: Program, image: &mut ImgVec<u8>)
     requires { Fits (vec_layout image.old) }
@@ -92,7 +83,7 @@ fn leaves(
 
 #[test]
 fn programs_leave_padding(rt: HostRuntime) -> Result<(), Fail> {
-    let whole = window(0, 0, 4, 3);
+    let whole = Window::new(0, 0, 4, 3);
     for (program, after) in [
         (
             Program::Invert,
@@ -125,11 +116,11 @@ fn programs_leave_padding(rt: HostRuntime) -> Result<(), Fail> {
             [0, 0, 0, 0, 100, 0, 6, 7, 0, 101, 0, 0, 0, 0],
         ),
         (
-            Program::Border(window(1, 0, 2, 2)),
+            Program::Border(Window::new(1, 0, 2, 2)),
             [1, 0, 0, 4, 100, 5, 0, 0, 8, 101, 9, 10, 11, 250],
         ),
         (
-            Program::Border(window(3, 2, 1, 1)),
+            Program::Border(Window::new(3, 2, 1, 1)),
             [1, 2, 3, 4, 100, 5, 6, 7, 8, 101, 9, 10, 11, 0],
         ),
         (
@@ -220,11 +211,11 @@ fn what_is_read_leaves_out_padding(rt: HostRuntime) -> Result<(), Fail> {
     assert!(rt; checksum(image) == 316 && checksum_by_rows(image) == 316);
     assert!(rt; exact_checksum(image) == 316);
     for (outer, inner, pixel) in [
-        (window(0, 0, 4, 3), window(0, 0, 4, 3), Some(250)),
-        (window(1, 1, 3, 2), window(0, 0, 2, 2), Some(11)),
-        (window(0, 0, 3, 3), window(2, 0, 1, 2), Some(7)),
-        (window(4, 3, 0, 0), window(0, 0, 0, 0), None),
-        (window(0, 0, 4, 3), window(1, 1, 0, 2), None),
+        (Window::new(0, 0, 4, 3), Window::new(0, 0, 4, 3), Some(250)),
+        (Window::new(1, 1, 3, 2), Window::new(0, 0, 2, 2), Some(11)),
+        (Window::new(0, 0, 3, 3), Window::new(2, 0, 1, 2), Some(7)),
+        (Window::new(4, 3, 0, 0), Window::new(0, 0, 0, 0), None),
+        (Window::new(0, 0, 4, 3), Window::new(1, 1, 0, 2), None),
     ] {
         assert!(rt; greatest(image, outer, inner) == pixel);
     }

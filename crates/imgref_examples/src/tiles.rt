@@ -37,7 +37,7 @@ fn darken(image: &mut ImgVec<u8>, window: Window)
     if let Some(corner) = image.get(window.left, window.top)
         && corner < 128
     {
-        image.fill_window(window.left, window.top, window.width, window.height, corner);
+        image.fill_inside(window, corner);
     }
 }
 

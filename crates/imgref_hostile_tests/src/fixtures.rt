@@ -17,12 +17,7 @@ pub fn pixel_at(x: usize, y: usize) -> Option<u8> {
 
 // Each of the 256 windows with numbers from 0 to 3.
 pub fn numbered(number: usize) -> Window {
-    Window {
-        left: number % 4,
-        top: number / 4 % 4,
-        width: number / 16 % 4,
-        height: number / 64 % 4,
-    }
+    Window::new(number % 4, number / 4 % 4, number / 16 % 4, number / 64 % 4)
 }
 
 // Which cells a window has.

@@ -77,7 +77,7 @@ fn check_empty(rt: &impl Abort, shape: Shape, window: Window) {
         (seen.width(), seen.height()) == (width, height)
             && (seen.buf().len(), seen.stride()) == (0, usize::MAX)
     );
-    let (parts, part) = image.window_parts_mut(left, top, width, height);
+    let (parts, part) = image.window_parts_mut(Window::new(left, top, width, height));
     assert!(rt;
         (parts.len(), part.width(), part.height()) == (0, width, height)
             && image.is_valid()

@@ -1,7 +1,7 @@
 //! Pixels of no size: each call of each kind.
 
 use imgref::{
-    AsMutSlice, AsSlice, Img, ImgExt, ImgExtMut, ImgRef, ImgRefMut, ImgVec, Shape, Stretch,
+    AsMutSlice, AsSlice, Img, ImgExt, ImgExtMut, ImgRef, ImgRefMut, ImgVec, Shape, Stretch, Window,
     fill_pixels,
 };
 use std::alloc::{AllocError, Global};
@@ -111,7 +111,7 @@ fn windows_of_lent_cells_are_lent_on(rt: HostRuntime) -> Result<(), Fail> {
             && lent.sub_image_mut(1, 1, 2, 1).buf().len() == 4
             && lent.is_valid()
             && lent.has_window(1, 1, 2, 1)
-            && lent.window_parts_mut(1, 1, 2, 1).0.len() == 4
+            && lent.window_parts_mut(Window::new(1, 1, 2, 1)).0.len() == 4
     );
     assert!(rt; lent.is_valid() && lent.has_window(1, 1, 2, 1));
     let cut = lent.into_sub_image_mut(1, 1, 2, 1);
@@ -130,7 +130,7 @@ fn windows_of_owners_are_lent(rt: HostRuntime) -> Result<(), Fail> {
     assert!(rt;
         owner.is_valid()
             && owner.has_window(1, 1, 2, 1)
-            && owner.window_parts_mut(1, 1, 2, 1).0.len() == 2
+            && owner.window_parts_mut(Window::new(1, 1, 2, 1)).0.len() == 2
             && owner.is_valid()
             && owner.has_window(1, 1, 2, 1)
             && owner.sub_image_mut(1, 1, 2, 1).buf().len() == 2

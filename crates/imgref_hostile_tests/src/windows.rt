@@ -171,7 +171,7 @@ fn check_cells<C: AsMutSlice<Item = u8>>(
         height,
     } = window;
     assert!(rt; image.is_valid() && image.has_window(left, top, width, height));
-    let (parts, shape) = image.window_parts_mut(left, top, width, height);
+    let (parts, shape) = image.window_parts_mut(Window::new(left, top, width, height));
     assert!(rt; (shape.width(), shape.height(), shape.stride()) == (width, height, 4));
     parts.fill(0);
     check_cleared(rt, image.buf().as_slice(), cells_of(window).first, count);

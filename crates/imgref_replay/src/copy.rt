@@ -1,12 +1,12 @@
 //! Windows of a list of images, copied one over another.
 
-ghost use Rattle.std.specs.Prelude.{◌≡◌, ◌≢◌, ◌<◌, All, length, map};
+ghost use Rattle.std.specs.Prelude.{◌≡◌, ◌≢◌, ◌<◌, length};
 ghost use Rattle.image_model.specs.Layout.{Fits, SameOutside};
-ghost use Rattle.image_model.specs.Grid.{grid_of, patch};
+ghost use Rattle.image_model.specs.Grid.{patch};
 ghost use Rattle.image_model.specs.Windows.{IsInside, window_view};
-ghost use Rattle.imgref.specs.Image.{vec_layout, width_of, height_of};
+ghost use Rattle.imgref.specs.Image.{vec_grid, vec_layout, width_of, height_of};
 ghost use Rattle.imgref.specs.Window.{as_window};
-ghost use Rattle.imgref_replay.specs.Commands.{grids_of, grid_at};
+ghost use Rattle.imgref_replay.specs.Commands.{AllFit, layouts_of, IsInsideOf, grids_of, grid_at};
 ghost use Rattle.imgref_replay.specs.Step.{ShowsCopy};
 
 use imgref::{ImgVec, Window};
@@ -19,11 +19,11 @@ fn copy_over<T: Copy>(image: &mut ImgVec<T>, to: Window, source: &ImgVec<T>, fro
     requires source_inside { IsInside (width_of source.now) (height_of source.now) (as_window from) }
     requires same_width { from.width ≡ to.width }
     requires same_height { from.height ≡ to.height }
-    ensures grid { grid_of (vec_layout image.new) ≡ patch (grid_of (vec_layout image.old)) to.left to.top (window_view (grid_of (vec_layout source.now)) (as_window from)) }
+    ensures grid { vec_grid image.new ≡ patch (vec_grid image.old) to.left to.top (window_view (vec_grid source.now) (as_window from)) }
     ensures outside { SameOutside (vec_layout image.old) (vec_layout image.new) }
     ensures fits { Fits (vec_layout image.new) }
 {
-    let seen = source.sub_image(from.left, from.top, from.width, from.height);
+    let seen = source.window(from);
     image.copy_window(to.left, to.top, seen);
 }
 
@@ -35,15 +35,15 @@ fn copy_between<T: Copy>(
     source: usize,
     from: Window,
 )
-    requires fit { All Fits (map vec_layout images.old) }
+    requires fit { AllFit images.old }
     requires target { target < length images.old }
     requires source { source < length images.old }
     requires differ { source ≢ target }
-    requires target_inside { let g = grid_at (grids_of images.old) target in IsInside g.width g.height (as_window to) }
-    requires source_inside { let g = grid_at (grids_of images.old) source in IsInside g.width g.height (as_window from) }
+    requires target_inside { IsInsideOf images.old target (as_window to) }
+    requires source_inside { IsInsideOf images.old source (as_window from) }
     requires same_width { from.width ≡ to.width }
     requires same_height { from.height ≡ to.height }
-    ensures { ShowsCopy target to.left to.top (window_view (grid_at (grids_of images.old) source) (as_window from)) (map vec_layout images.old) (map vec_layout images.new) }
+    ensures { ShowsCopy target to.left to.top (window_view (grid_at (grids_of images.old) source) (as_window from)) (layouts_of images.old) (layouts_of images.new) }
 {
     if source < target {
         let (front, back) = images.split_at_mut(target);
@@ -56,22 +56,15 @@ fn copy_between<T: Copy>(
 
 /// Copies a window of an image over another of its size in the same image, overlapping or not.
 fn move_within<T: Copy>(images: &mut [ImgVec<T>], image: usize, to: Window, from: Window)
-    requires fit { All Fits (map vec_layout images.old) }
+    requires fit { AllFit images.old }
     requires image { image < length images.old }
-    requires target_inside { let g = grid_at (grids_of images.old) image in IsInside g.width g.height (as_window to) }
-    requires source_inside { let g = grid_at (grids_of images.old) image in IsInside g.width g.height (as_window from) }
+    requires target_inside { IsInsideOf images.old image (as_window to) }
+    requires source_inside { IsInsideOf images.old image (as_window from) }
     requires same_width { from.width ≡ to.width }
     requires same_height { from.height ≡ to.height }
-    ensures { ShowsCopy image to.left to.top (window_view (grid_at (grids_of images.old) image) (as_window from)) (map vec_layout images.old) (map vec_layout images.new) }
+    ensures { ShowsCopy image to.left to.top (window_view (grid_at (grids_of images.old) image) (as_window from)) (layouts_of images.old) (layouts_of images.new) }
 {
-    images[image].move_window(
-        from.left,
-        from.top,
-        to.left,
-        to.top,
-        from.width,
-        from.height,
-    );
+    images[image].move_inside(from, to.left, to.top);
 }
 
 /// Copies a window of an image of a list over a window of its size in the same or another image.
@@ -82,14 +75,14 @@ pub(crate) fn copy_window<T: Copy>(
     source: usize,
     from: Window,
 )
-    requires fit { All Fits (map vec_layout images.old) }
+    requires fit { AllFit images.old }
     requires target { target < length images.old }
     requires source { source < length images.old }
-    requires target_inside { let g = grid_at (grids_of images.old) target in IsInside g.width g.height (as_window to) }
-    requires source_inside { let g = grid_at (grids_of images.old) source in IsInside g.width g.height (as_window from) }
+    requires target_inside { IsInsideOf images.old target (as_window to) }
+    requires source_inside { IsInsideOf images.old source (as_window from) }
     requires same_width { from.width ≡ to.width }
     requires same_height { from.height ≡ to.height }
-    ensures { ShowsCopy target to.left to.top (window_view (grid_at (grids_of images.old) source) (as_window from)) (map vec_layout images.old) (map vec_layout images.new) }
+    ensures { ShowsCopy target to.left to.top (window_view (grid_at (grids_of images.old) source) (as_window from)) (layouts_of images.old) (layouts_of images.new) }
 {
     if source == target {
         move_within(images, target, to, from);

@@ -4,11 +4,10 @@ ghost use Rattle.std.specs.Prelude.{◌≡◌, ◌+◌, ◌≤◌, ◌<◌, ◌^
 ghost use Rattle.std.specs.Result.{result_err};
 ghost use Rattle.std.specs.Borrow.{sem, follows, follows_if, Array};
 ghost use Rattle.image_model.specs.Layout.{Fits, Reaches};
-ghost use Rattle.image_model.specs.Grid.{grid_of};
 ghost use Rattle.image_model.specs.Windows.{IsInside, IsWithin, first_outside, stretch_within, with_stretch, path_window, path_stretch, path_layout, path_view, whole};
 ghost use Rattle.imgref.specs.Shape.{shape_width, shape_height, shape_stride};
 ghost use Rattle.imgref.specs.Window.{as_window, as_path, as_stretch};
-ghost use Rattle.imgref.specs.Image.{buf_of, width_of, height_of, stride_of, mut_layout, ref_layout};
+ghost use Rattle.imgref.specs.Image.{buf_of, width_of, height_of, stride_of, mut_grid, mut_layout, ref_grid, ref_layout};
 ghost use Rattle.imgref_replay.specs.Path.{BeginsAtCorner, LeadsTo, name_of};
 
 use imgref::{ImgRef, ImgRefMut, Shape, Stretch, Window};
@@ -20,21 +19,14 @@ pub(crate) fn path_window(width: usize, height: usize, path: &[Window]) -> Resul
     ensures window { IfOk result (λ w. as_window w ≡ path_window width height (as_path path.now)) }
     ensures inside { IfOk result (λ w. IsInside width height (as_window w)) }
 {
-    let mut found = Window {
-        left: 0,
-        top: 0,
-        width,
-        height,
-    };
+    let mut found = Window::new(0, 0, width, height);
     for (index, window) in path.iter().enumerate() {
         if !window.is_inside(found.width, found.height) {
             return Err(index);
         }
-        found = Window {
-            left: found.left + window.left,
-            top: found.top + window.top,
-            ..*window
-        };
+        let left = found.left + window.left;
+        let top = found.top + window.top;
+        found = Window::new(left, top, window.width, window.height);
     }
     Ok(found)
 }
@@ -94,7 +86,7 @@ pub fn window_at<'s, T>(img: ImgRef<'s, T>, path: &[Window]) -> Result<ImgRef<'s
     ensures layout { IfOk result (λ w. ref_layout w ≡ path_layout (ref_layout img.entry) (as_path path.now)) }
     ensures corner { IfOk result (λ _. BeginsAtCorner (ref_layout img.entry) (as_path path.now)) }
     ensures fits { IfOk result (λ w. Fits (ref_layout w)) }
-    ensures view { IfOk result (λ w. grid_of (ref_layout w) ≡ path_view (grid_of (ref_layout img.entry)) (as_path path.now)) }
+    ensures view { IfOk result (λ w. ref_grid w ≡ path_view (ref_grid img.entry) (as_path path.now)) }
 {
     let (cells, shape) = img.into_parts();
     let (stretch, inner) = region_at(cells.len(), shape, path)?;
@@ -122,7 +114,7 @@ pub fn into_window_at<'s, T>(
     ensures layout { IfOk result (λ w. mut_layout w ≡ path_layout (mut_layout img.entry) (as_path path.now)) }
     ensures corner { IfOk result (λ _. BeginsAtCorner (mut_layout img.entry) (as_path path.now)) }
     ensures fits { IfOk result (λ w. Fits (mut_layout w)) }
-    ensures view { IfOk result (λ w. grid_of (mut_layout w) ≡ path_view (grid_of (mut_layout img.entry)) (as_path path.now)) }
+    ensures view { IfOk result (λ w. mut_grid w ≡ path_view (mut_grid img.entry) (as_path path.now)) }
 {
     let (cells, shape) = img.into_parts();
     match region_at(cells.len(), shape, path) {

@@ -1,9 +1,7 @@
 //! Lists of commands, carried out over images from the first to the last.
 
-ghost use Rattle.std.specs.Prelude.{◌≡◌, All, IfOk, OnErr, length, map};
-ghost use Rattle.image_model.specs.Layout.{Fits};
-ghost use Rattle.imgref.specs.Image.{vec_layout};
-ghost use Rattle.imgref_replay.specs.Commands.{grids_of};
+ghost use Rattle.std.specs.Prelude.{◌≡◌, IfOk, OnErr, length};
+ghost use Rattle.imgref_replay.specs.Commands.{AllFit, layouts_of, grids_of};
 ghost use Rattle.imgref_replay.specs.Run.{IsRun};
 ghost use Rattle.imgref_replay.specs.Layouts.{GridsAgree, RepliesAgree};
 
@@ -28,9 +26,9 @@ pub fn replay_into<T: Copy + Eq>(
     commands: &[Command<T>],
     replies: &mut [Reply<T>],
 )
-    requires all_fit { All Fits (map vec_layout images.old) }
+    requires all_fit { AllFit images.old }
     requires as_many { length replies.old ≡ length commands.now }
-    ensures { IsRun T.eq commands.now (map vec_layout images.old) (map vec_layout images.new) replies.new }
+    ensures { IsRun T.eq commands.now (layouts_of images.old) (layouts_of images.new) replies.new }
 {
     for (i, command) in commands.iter().enumerate() {
         replies[i] = step(images, command);
@@ -52,8 +50,8 @@ pub fn replay<T: Copy + Eq>(
     images: &mut [ImgVec<T>],
     commands: &[Command<T>],
 ) -> Result<Vec<Reply<T>>, AllocError>
-    requires { All Fits (map vec_layout images.old) }
-    ensures run { IfOk result (λ replies. IsRun T.eq commands.now (map vec_layout images.old) (map vec_layout images.new) replies.items) }
+    requires { AllFit images.old }
+    ensures run { IfOk result (λ replies. IsRun T.eq commands.now (layouts_of images.old) (layouts_of images.new) replies.items) }
     ensures unchanged { OnErr result (images.new ≡ images.old) }
 {
     let mut replies = Vec::new(alloc);
@@ -77,13 +75,13 @@ pub fn two_layouts<T: Copy + Eq>(
     replies_a: &mut [Reply<T>],
     replies_b: &mut [Reply<T>],
 )
-    requires all_fit_a { All Fits (map vec_layout a.old) }
-    requires all_fit_b { All Fits (map vec_layout b.old) }
+    requires all_fit_a { AllFit a.old }
+    requires all_fit_b { AllFit b.old }
     requires agree { GridsAgree T.eq (grids_of a.old) (grids_of b.old) }
     requires as_many_a { length replies_a.old ≡ length commands.now }
     requires as_many_b { length replies_b.old ≡ length commands.now }
-    ensures run_a { IsRun T.eq commands.now (map vec_layout a.old) (map vec_layout a.new) replies_a.new }
-    ensures run_b { IsRun T.eq commands.now (map vec_layout b.old) (map vec_layout b.new) replies_b.new }
+    ensures run_a { IsRun T.eq commands.now (layouts_of a.old) (layouts_of a.new) replies_a.new }
+    ensures run_b { IsRun T.eq commands.now (layouts_of b.old) (layouts_of b.new) replies_b.new }
     ensures replies_agree { RepliesAgree T.eq replies_a.new replies_b.new }
     ensures grids_agree { GridsAgree T.eq (grids_of a.new) (grids_of b.new) }
 {

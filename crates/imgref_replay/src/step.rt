@@ -1,14 +1,12 @@
 //! One command, carried out over images or refused by its first fault.
 
-ghost use Rattle.std.specs.Prelude.{◌≡◌, ◌<◌, ◌+◌, ◌^◌, ◌∷◌, [], All, IfOk, OnOk, length, map, count_by};
+ghost use Rattle.std.specs.Prelude.{◌≡◌, ◌<◌, ◌+◌, ◌^◌, ◌∷◌, [], IfOk, OnOk, length, count_by};
 ghost use Rattle.std.specs.Result.{result_err};
 ghost use Rattle.image_model.specs.Layout.{Fits};
-ghost use Rattle.image_model.specs.Grid.{grid_of};
 ghost use Rattle.image_model.specs.Rows.{pixels};
-ghost use Rattle.image_model.specs.Windows.{IsInside};
-ghost use Rattle.imgref.specs.Image.{vec_layout, ref_layout};
+ghost use Rattle.imgref.specs.Image.{ref_grid, ref_layout};
 ghost use Rattle.imgref.specs.Window.{as_window};
-ghost use Rattle.imgref_replay.specs.Commands.{grids_of, grid_at, sizes_of, window_named, view_named, window_faults, place_faults, pair_faults, IsPlaceNamed};
+ghost use Rattle.imgref_replay.specs.Commands.{AllFit, layouts_of, IsInsideOf, grids_of, sizes_of, window_named, view_named, window_faults, place_faults, pair_faults, IsPlaceNamed};
 ghost use Rattle.imgref_replay.specs.Step.{first_fault, IsStep};
 ghost use Rattle.imgref_replay.specs.Run.{IsRun};
 
@@ -23,7 +21,7 @@ fn locate<T>(images: &[ImgVec<T>], spot: &Place) -> Result<Window, Refusal>
     ensures fault { result_err result ≡ first_fault (window_faults spot.now (sizes_of (grids_of images.now))) }
     ensures image { OnOk result (spot.now.image < length images.now) }
     ensures window { IfOk result (λ w. as_window w ≡ window_named spot.now (sizes_of (grids_of images.now))) }
-    ensures inside { IfOk result (λ w. let g = grid_at (grids_of images.now) spot.now.image in IsInside g.width g.height (as_window w)) }
+    ensures inside { IfOk result (λ w. IsInsideOf images.now spot.now.image (as_window w)) }
     ensures small { IfOk result (λ w. (w.left + w.width < 2 ^ 64) × (w.top + w.height < 2 ^ 64)) }
 {
     let Some(image) = images.get(spot.image) else {
@@ -47,8 +45,8 @@ fn locate_both<T>(
     ensures second_image { OnOk result (second.now.image < length images.now) }
     ensures first_window { IfOk result (λ w. as_window w.0 ≡ window_named first.now (sizes_of (grids_of images.now))) }
     ensures second_window { IfOk result (λ w. as_window w.1 ≡ window_named second.now (sizes_of (grids_of images.now))) }
-    ensures first_inside { IfOk result (λ w. let g = grid_at (grids_of images.now) first.now.image in IsInside g.width g.height (as_window w.0)) }
-    ensures second_inside { IfOk result (λ w. let g = grid_at (grids_of images.now) second.now.image in IsInside g.width g.height (as_window w.1)) }
+    ensures first_inside { IfOk result (λ w. IsInsideOf images.now first.now.image (as_window w.0)) }
+    ensures second_inside { IfOk result (λ w. IsInsideOf images.now second.now.image (as_window w.1)) }
 {
     if first.image >= images.len() || second.image >= images.len() {
         return Err(Refusal::NoImage);
@@ -58,21 +56,21 @@ fn locate_both<T>(
 
 /// What is seen through a window of the image that a place names.
 fn show<'i, T>(images: &'i [ImgVec<T>], spot: &Place, window: Window) -> ImgRef<'i, T>
-    requires fit { All Fits (map vec_layout images.now) }
+    requires fit { AllFit images.now }
     requires image { spot.now.image < length images.now }
     requires named { as_window window ≡ window_named spot.now (sizes_of (grids_of images.now)) }
-    requires inside { let g = grid_at (grids_of images.now) spot.now.image in IsInside g.width g.height (as_window window) }
-    ensures view { grid_of (ref_layout result) ≡ view_named spot.now (grids_of images.now) }
+    requires inside { IsInsideOf images.now spot.now.image (as_window window) }
+    ensures view { ref_grid result ≡ view_named spot.now (grids_of images.now) }
     ensures fits { Fits (ref_layout result) }
 {
-    images[spot.image].sub_image(window.left, window.top, window.width, window.height)
+    images[spot.image].window(window)
 }
 
 /// What is seen through the window that a place names.
 fn view<'i, T>(images: &'i [ImgVec<T>], spot: &Place) -> Result<ImgRef<'i, T>, Refusal>
-    requires { All Fits (map vec_layout images.now) }
+    requires { AllFit images.now }
     ensures fault { result_err result ≡ first_fault (window_faults spot.now (sizes_of (grids_of images.now))) }
-    ensures view { IfOk result (λ seen. grid_of (ref_layout seen) ≡ view_named spot.now (grids_of images.now)) }
+    ensures view { IfOk result (λ seen. ref_grid seen ≡ view_named spot.now (grids_of images.now)) }
     ensures fits { IfOk result (λ seen. Fits (ref_layout seen)) }
 {
     let window = locate(images, spot)?;
@@ -105,8 +103,8 @@ fn get<T: Copy + Eq>(
     x: usize,
     y: usize,
 ) -> Result<Reply<T>, Refusal>
-    requires { All Fits (map vec_layout images.now) }
-    ensures { IsStep T.eq (Command.Get spot.now x y) (map vec_layout images.now) (map vec_layout images.now) result }
+    requires { AllFit images.now }
+    ensures { IsStep T.eq (Command.Get spot.now x y) (layouts_of images.now) (layouts_of images.now) result }
 {
     let place = locate_pixel(images, spot, x, y)?;
     Ok(Reply::Pixel(images[spot.image][place]))
@@ -120,8 +118,8 @@ fn put<T: Copy + Eq>(
     y: usize,
     value: T,
 ) -> Result<Reply<T>, Refusal>
-    requires { All Fits (map vec_layout images.old) }
-    ensures { IsStep T.eq (Command.Put spot.now x y value) (map vec_layout images.old) (map vec_layout images.new) result }
+    requires { AllFit images.old }
+    ensures { IsStep T.eq (Command.Put spot.now x y value) (layouts_of images.old) (layouts_of images.new) result }
 {
     let (column, row) = locate_pixel(images, spot, x, y)?;
     images[spot.image].put(column, row, value);
@@ -130,18 +128,18 @@ fn put<T: Copy + Eq>(
 
 /// Writes the value at every place of a window.
 fn fill<T: Copy + Eq>(images: &mut [ImgVec<T>], spot: &Place, value: T) -> Result<Reply<T>, Refusal>
-    requires { All Fits (map vec_layout images.old) }
-    ensures { IsStep T.eq (Command.Fill spot.now value) (map vec_layout images.old) (map vec_layout images.new) result }
+    requires { AllFit images.old }
+    ensures { IsStep T.eq (Command.Fill spot.now value) (layouts_of images.old) (layouts_of images.new) result }
 {
     let window = locate(images, spot)?;
-    images[spot.image].fill_window(window.left, window.top, window.width, window.height, value);
+    images[spot.image].fill_inside(window, value);
     Ok(Reply::Done)
 }
 
 /// How many pixels of a window are equal to the value.
 fn count<T: Copy + Eq>(images: &[ImgVec<T>], spot: &Place, value: T) -> Result<Reply<T>, Refusal>
-    requires { All Fits (map vec_layout images.now) }
-    ensures { IsStep T.eq (Command.Count spot.now value) (map vec_layout images.now) (map vec_layout images.now) result }
+    requires { AllFit images.now }
+    ensures { IsStep T.eq (Command.Count spot.now value) (layouts_of images.now) (layouts_of images.now) result }
 {
     Ok(Reply::Counted(count_equal(view(images, spot)?, value)))
 }
@@ -166,8 +164,8 @@ fn same<T: Copy + Eq>(
     first: &Place,
     second: &Place,
 ) -> Result<Reply<T>, Refusal>
-    requires { All Fits (map vec_layout images.now) }
-    ensures { IsStep T.eq (Command.Same first.now second.now) (map vec_layout images.now) (map vec_layout images.now) result }
+    requires { AllFit images.now }
+    ensures { IsStep T.eq (Command.Same first.now second.now) (layouts_of images.now) (layouts_of images.now) result }
 {
     let windows = locate_both(images, first, second)?;
     let one = show(images, first, windows.0);
@@ -181,8 +179,8 @@ fn blit<T: Copy + Eq>(
     source: &Place,
     target: &Place,
 ) -> Result<Reply<T>, Refusal>
-    requires { All Fits (map vec_layout images.old) }
-    ensures { IsStep T.eq (Command.Blit source.now target.now) (map vec_layout images.old) (map vec_layout images.new) result }
+    requires { AllFit images.old }
+    ensures { IsStep T.eq (Command.Blit source.now target.now) (layouts_of images.old) (layouts_of images.new) result }
 {
     let (from, to) = locate_both(images, source, target)?;
     if from.width != to.width || from.height != to.height {
@@ -199,8 +197,8 @@ fn mosaic<T: Copy + Eq>(
     tile_width: usize,
     tile_height: usize,
 ) -> Result<Reply<T>, Refusal>
-    requires { All Fits (map vec_layout images.old) }
-    ensures { IsStep T.eq (Command.Mosaic spot.now tile_width tile_height) (map vec_layout images.old) (map vec_layout images.new) result }
+    requires { AllFit images.old }
+    ensures { IsStep T.eq (Command.Mosaic spot.now tile_width tile_height) (layouts_of images.old) (layouts_of images.new) result }
 {
     let window = locate(images, spot)?;
     if tile_width == 0 || tile_height == 0 {
@@ -212,8 +210,8 @@ fn mosaic<T: Copy + Eq>(
 
 /// Leaves the rows of an image alone in its buffer, at the least stride.
 fn compact<T: Copy + Eq>(images: &mut [ImgVec<T>], image: usize) -> Result<Reply<T>, Refusal>
-    requires { All Fits (map vec_layout images.old) }
-    ensures { IsStep T.eq (Command.Compact image) (map vec_layout images.old) (map vec_layout images.new) result }
+    requires { AllFit images.old }
+    ensures { IsStep T.eq (Command.Compact image) (layouts_of images.old) (layouts_of images.new) result }
 {
     if image >= images.len() {
         return Err(Refusal::NoImage);
@@ -224,8 +222,8 @@ fn compact<T: Copy + Eq>(images: &mut [ImgVec<T>], image: usize) -> Result<Reply
 
 /// Carries out one command, or tells its first fault and changes nothing.
 fn accept<T: Copy + Eq>(images: &mut [ImgVec<T>], command: &Command<T>) -> Result<Reply<T>, Refusal>
-    requires { All Fits (map vec_layout images.old) }
-    ensures { IsStep T.eq command.now (map vec_layout images.old) (map vec_layout images.new) result }
+    requires { AllFit images.old }
+    ensures { IsStep T.eq command.now (layouts_of images.old) (layouts_of images.new) result }
 {
     match command {
         Command::Get { spot, x, y } => get(images, spot, *x, *y),
@@ -245,8 +243,8 @@ fn accept<T: Copy + Eq>(images: &mut [ImgVec<T>], command: &Command<T>) -> Resul
 
 /// Carries out one command, or refuses it by its first fault, with nothing changed.
 pub(crate) fn step<T: Copy + Eq>(images: &mut [ImgVec<T>], command: &Command<T>) -> Reply<T>
-    requires { All Fits (map vec_layout images.old) }
-    ensures { IsRun T.eq (command.now ∷ []) (map vec_layout images.old) (map vec_layout images.new) (result ∷ []) }
+    requires { AllFit images.old }
+    ensures { IsRun T.eq (command.now ∷ []) (layouts_of images.old) (layouts_of images.new) (result ∷ []) }
 {
     match accept(images, command) {
         Ok(reply) => reply,

@@ -1,9 +1,8 @@
 //! Commands as values: on pixels of other kinds, over lists of images, and where memory is refused.
 //! What a script can say stands in the folder cases/.
 
-ghost use Rattle.std.specs.Prelude.{All, IfOk, map};
-ghost use Rattle.image_model.specs.Layout.{Fits};
-ghost use Rattle.imgref.specs.Image.{vec_layout};
+ghost use Rattle.std.specs.Prelude.{IfOk};
+ghost use Rattle.imgref_replay.specs.Commands.{AllFit};
 
 use crate::fixtures::{ALL, Line, commands, has, image, window};
 use imgref::ImgVec;
@@ -149,7 +148,7 @@ fn prepared(
     rt: &impl Abort,
     alloc: Global,
 ) -> Result<(Vec<Command<u8>>, [ImgVec<u8>; 1]), AllocError>
-    ensures { IfOk result (λ made. All Fits (map vec_layout made.1)) }
+    ensures { IfOk result (λ made. AllFit made.1) }
 {
     let lines = [
         Line::Put(0, [1, 1, 2, 1], 0, 0, 9u8),

@@ -29,12 +29,7 @@ pub enum Line<T> {
 
 pub fn window(numbers: [usize; 4]) -> Window {
     let [left, top, width, height] = numbers;
-    Window {
-        left,
-        top,
-        width,
-        height,
-    }
+    Window::new(left, top, width, height)
 }
 
 fn spot(alloc: Global, image: usize, numbers: [usize; 4]) -> Result<Place, AllocError> {

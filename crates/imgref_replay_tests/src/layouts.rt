@@ -2,8 +2,8 @@
 
 ghost use Rattle.std.specs.Prelude.{IfSome};
 ghost use Rattle.image_model.specs.Layout.{Fits};
-ghost use Rattle.image_model.specs.Grid.{Agree, grid_of};
-ghost use Rattle.imgref.specs.Image.{vec_layout};
+ghost use Rattle.image_model.specs.Grid.{Agree};
+ghost use Rattle.imgref.specs.Image.{vec_grid, vec_layout};
 
 use crate::fixtures::{ALL, Line, commands, has, image};
 use imgref::ImgVec;
@@ -21,7 +21,7 @@ fn pair<T: Eq + Drop>(one: ImgVec<T>, other: ImgVec<T>) -> Option<(ImgVec<T>, Im
     requires one_fits { Fits (vec_layout one) }
     requires other_fits { Fits (vec_layout other) }
     ensures fit { IfSome result (λ images. Fits (vec_layout images.0) × Fits (vec_layout images.1)) }
-    ensures agree { IfSome result (λ images. Agree T.eq (grid_of (vec_layout images.0)) (grid_of (vec_layout images.1))) }
+    ensures agree { IfSome result (λ images. Agree T.eq (vec_grid images.0) (vec_grid images.1)) }
 {
     if one.same_pixels(other.as_ref()) {
         Some((one, other))

@@ -1,6 +1,6 @@
 //! The output of a run: the text of replies and images, written whole.
 
-ghost use Rattle.std.specs.Prelude.{◌≡◌, ◌<◌, ◌+◌, ◌∷◌, ◌++◌, ◌%◌, [], map, All, OnOk, OnErr, IfOk, IfErr, codes};
+ghost use Rattle.std.specs.Prelude.{◌≡◌, ◌<◌, ◌+◌, ◌∷◌, ◌++◌, ◌%◌, [], All, OnOk, OnErr, IfOk, IfErr, codes};
 ghost use Rattle.std.specs.List.{flat_map};
 ghost use Rattle.std.specs.Fmt.{decimal};
 ghost use Rattle.std.specs.Io.KnownBytes.{Appends};
@@ -12,6 +12,7 @@ ghost use Rattle.text_model.specs.Fields.{IsPixel};
 ghost use Rattle.imgref_run.specs.Line.{line_of, image_text, IsImage};
 ghost use Rattle.devices.specs.Whole.{AppendsBeginning};
 ghost use Rattle.imgref_run.specs.Output.{refusal_number, reply_text, ended_line, output_text};
+ghost use Rattle.imgref_replay.specs.Commands.{AllFit, layouts_of};
 
 use crate::fault::RunFault;
 use devices::Counted;
@@ -138,9 +139,9 @@ pub(crate) fn output(
     replies: &[Reply<u8>],
     images: &[ImgVec<u8>],
 ) -> Result<Vec<u8>, AllocError>
-    requires { All Fits (map vec_layout images.now) }
-    ensures text { IfOk result (λ text. text.items ≡ output_text replies.now (map vec_layout images.now)) }
-    ensures good { OnOk result (All IsImage (map vec_layout images.now)) }
+    requires { AllFit images.now }
+    ensures text { IfOk result (λ text. text.items ≡ output_text replies.now (layouts_of images.now)) }
+    ensures good { OnOk result (All IsImage (layouts_of images.now)) }
 {
     let mut text = Vec::new(alloc);
     for reply in replies {

@@ -5,7 +5,7 @@ ghost use Rattle.image_model.specs.Layout.{Fits};
 ghost use Rattle.image_model.specs.Windows.{IsInside, window};
 ghost use Rattle.imgref.specs.Image.{width_of, height_of, layout_by, buf_of};
 
-use imgref::{AsMutSlice, AsSlice, Img, ImgVec};
+use imgref::{AsMutSlice, AsSlice, Img, ImgVec, Window};
 use imgref_fixtures::PADDED;
 use std::test::Fail;
 
@@ -30,7 +30,7 @@ fn window_len<C: AsMutSlice>(
     requires fits { Fits (layout_by C.AsSlice.cells image.old) }
     requires inside { IsInside (width_of image.old) (height_of image.old) (window left top width height) }
 {
-    let (cells, _) = image.window_parts_mut(left, top, width, height);
+    let (cells, _) = image.window_parts_mut(Window::new(left, top, width, height));
     cells.len()
 }
 

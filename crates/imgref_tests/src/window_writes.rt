@@ -1,6 +1,6 @@
 //! Windows for writing.
 
-use imgref::{AsMutSlice, AsSlice, Img, ImgRefMut, ImgVec};
+use imgref::{AsMutSlice, AsSlice, Img, ImgRefMut, ImgVec, Window};
 use imgref_fixtures::padded;
 use std::test::Fail;
 
@@ -94,7 +94,7 @@ fn the_parts_of_a_window_make_it(rt: HostRuntime) -> Result<(), Fail> {
     let mut owner = padded(rt.alloc())?;
     assert!(rt; owner.is_valid());
     assert!(rt; owner.has_window(1, 0, 2, 1));
-    let (cells, shape) = owner.window_parts_mut(1, 0, 2, 1);
+    let (cells, shape) = owner.window_parts_mut(Window::new(1, 0, 2, 1));
     assert!(rt; &*cells == [2u8, 3].as_slice());
     assert!(rt; (shape.width(), shape.height(), shape.stride()) == (2, 1, 4));
     let mut window: ImgRefMut<'_, u8> = Img::from_parts(cells, shape);
@@ -102,6 +102,6 @@ fn the_parts_of_a_window_make_it(rt: HostRuntime) -> Result<(), Fail> {
     let mut lent = owner.as_mut();
     assert!(rt; lent.is_valid());
     assert!(rt; lent.has_window(1, 0, 2, 1));
-    assert!(rt; &*lent.window_parts_mut(1, 0, 2, 1).0 == [2u8, 9, 4, 5].as_slice());
+    assert!(rt; &*lent.window_parts_mut(Window::new(1, 0, 2, 1)).0 == [2u8, 9, 4, 5].as_slice());
     Ok(())
 }

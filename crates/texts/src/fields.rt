@@ -88,12 +88,8 @@ impl Field for Window {
         let top = next(&mut numbers)?;
         let width = next(&mut numbers)?;
         let height = next(&mut numbers)?;
-        numbers.is_done().then_some(Window {
-            left,
-            top,
-            width,
-            height,
-        })
+        let window = Window::new(left, top, width, height);
+        numbers.is_done().then_some(window)
     }
 }
 

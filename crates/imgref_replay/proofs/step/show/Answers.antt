@@ -7,9 +7,9 @@ use Rattle.imgref.specs.Window.{as_window}
 use Rattle.imgref_replay.proofs.Images.{fits_at, grid_at-images}
 use Rattle.imgref_replay.proofs.step.show.Goals as goal
 
-pub sub_image-requires : goal.sub_image-requires
+pub window-requires : goal.window-requires
 unfolding grid_of
-sub_image-requires g c =
+window-requires g c =
     let images = c.args.images.now in
     let i = c.args.spot.now.image in
     let image = c.index-images-spot.result in
@@ -24,6 +24,6 @@ returns-clause-view g c =
     let images = c.args.images.now in
     let i = c.args.spot.now.image in
     let named = grid_at-images images i c.index-images-spot.result c.requires.image c.index-images-spot.is in
-    c.sub_image.ensures.view
+    c.window.ensures.view
     ∙ ap (λ h. window_view h (as_window c.args.window)) (sym named)
     ∙ ap (window_view (grid_at (grids_of images) i)) c.requires.named

@@ -14,8 +14,8 @@ returns g c =
     let with_cells = g.C.AsMutSlice.with_cells in
     let roomy = g.C.AsMutSlice.roomy_windows in
     let next = c.next_window-window.ensures in
-    let lent = c.sub_image_mut.ensures in
-    let m = mut_layout c.sub_image_mut.result in (
+    let lent = c.window_mut.ensures in
+    let m = mut_layout c.window_mut.result in (
       (refl, λ ws. same_cursor _ _ _ _ (ap (λ (w : Window). with_window cells with_cells roomy i w ws) next.value) next.steps _ _ _ _),
       record {
         hands_on = tt;

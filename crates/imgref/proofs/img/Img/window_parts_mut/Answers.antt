@@ -1,10 +1,10 @@
 -- The window fits and shows the view.
 use Rattle.std.proofs.Common.{◌≡◌, ◌≤◌, length, refl, ap, subst, ◌∙◌}
 use Rattle.image_model.specs.Layout.{Layout}
-use Rattle.image_model.specs.Windows.{Window, window, window_stretch, window_layout}
+use Rattle.image_model.specs.Windows.{Window, window_stretch, window_layout}
 use Rattle.image_model.proofs.Windows.{fits_as, shows_as}
 use Rattle.image_shape.specs.Shape.{shape_width, shape_stride, shaped}
-use Rattle.image_shape.specs.Window.{as_stretch}
+use Rattle.image_shape.specs.Window.{as_stretch, as_window}
 use Rattle.imgref.specs.Image.{layout_by, window_buf}
 use Rattle.imgref.proofs.Numbers.{same_image}
 use Rattle.imgref.proofs.Shapes.{window_is}
@@ -19,7 +19,7 @@ returns g c =
     let with_cells = g.C.AsMutSlice.with_cells in
     let stay = g.met.C.AsMutSlice.others_stay in
     let roomy = g.C.AsMutSlice.roomy_windows in
-    let w : Window = window c.args.left c.args.top c.args.width c.args.height in
+    let w : Window = as_window c.args.place in
     let l : Layout g.row.C-Item.Denot = layout_by cells i in
     let is_shape = c.shape-whole.ensures in
     let narrow = subst (λ s. shape_width s ≤ shape_stride s) is_shape c.stretch-part.ensures.holds_width in

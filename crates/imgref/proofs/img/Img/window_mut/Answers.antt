@@ -2,11 +2,12 @@
 use Rattle.std.proofs.Common.{◌≡◌, refl, sym, ap, subst, ◌∙◌}
 use Rattle.image_model.specs.Layout.{Layout, Fits}
 use Rattle.image_model.specs.Grid.{grid_of}
-use Rattle.image_model.specs.Windows.{Window, window}
+use Rattle.image_model.specs.Windows.{Window}
 use Rattle.image_shape.specs.Shape.{shaped}
+use Rattle.image_shape.specs.Window.{as_window}
 use Rattle.imgref.specs.Image.{mut_layout}
 use Rattle.imgref.specs.Written.{WindowPatchesGrid, WindowKeepsOutside, WindowKeepsFit, WindowKeepsContainer}
-use Rattle.imgref.proofs.img.Img.sub_image_mut.Goals as goal
+use Rattle.imgref.proofs.img.Img.window_mut.Goals as goal
 
 pub returns : goal.returns
 returns g c =
@@ -14,7 +15,7 @@ returns g c =
     let cells = g.C.AsSlice.cells in
     let with_cells = g.C.AsMutSlice.with_cells in
     let roomy = g.C.AsMutSlice.roomy_windows in
-    let w : Window = window c.args.left c.args.top c.args.width c.args.height in
+    let w : Window = as_window c.args.place in
     let parts = c.window_parts_mut-buf in
     let made = c.from_parts.ensures in
     let is : shaped parts.result.0.now parts.result.1 ≡ mut_layout c.from_parts.result = λ k. shaped (sym made.buf k).now (sym made.shape k) in (
