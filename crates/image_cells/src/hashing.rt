@@ -10,7 +10,7 @@ use image_shape::Shape;
 use std::hash::{Hash, Hasher};
 
 /// Feeds the width and the height, and then, where the cells fit the shape, each row.
-pub fn feed<T: Hash, H: Hasher>(cells: &[T], shape: Shape, state: &mut H)
+pub fn hash_pixels<T: Hash, H: Hasher>(cells: &[T], shape: Shape, state: &mut H)
     ensures { state.new ≡ fold H.write state.old (fed_by T.hash_input (shaped cells.now shape)) }
 {
     state.write_u32(shape.width() as u32);

@@ -16,7 +16,7 @@ mod windows;
 pub use clones::{cloned, contiguous, joined_clones};
 pub use containers::AsSlice;
 pub use equality::are_equal;
-pub use hashing::feed;
+pub use hashing::hash_pixels;
 pub use pairs::agree_at_places;
 pub use rows::{row, row_start};
 pub use windows::{roomy_part, roomy_stretch_mut};

@@ -18,7 +18,7 @@ use prog.Wp.{Wp, Env, Calls, Loops, after_seq}
 
 -- the one machine value of a cursor
 abbrev pub words : ℕ → ℕ → ℕ → ℕ → ℕ → ℕ → Val
-words b o left rows width pad = vstruct (vcons (vptr b o) (vcons (vint w64 left) (vcons (vint w64 rows) (vcons (vint w64 width) (vcons (vint w64 pad) (vcons (vstruct vnil) vnil))))))
+words b o remaining rows width pad = vstruct (vcons (vptr b o) (vcons (vint w64 remaining) (vcons (vint w64 rows) (vcons (vint w64 width) (vcons (vint w64 pad) (vcons (vstruct vnil) vnil))))))
 
 -- the continuation of a statement before b, and the first arm of a `cond`
 module _ {M : Type 1} {𝓤 : Ura M} (𝓛 : Logic 𝓤) where

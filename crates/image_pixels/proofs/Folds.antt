@@ -18,7 +18,7 @@ module _ {S A X F B : Type 0} (view : A → X) (rest : S → List X) (after : (s
   -- calls of `next` from s₀ on came to a cursor with the items xs left, and the closure took f₀ and b₀ to f and b
   pub record Folded (xs : List X) (f : F) (b : B) : Type 0 where
     pub state : S
-    pub left : rest state ≡ xs
+    pub remaining : rest state ≡ xs
     pub seen : List A
     pub gave : Yields (YieldsFirstBy view rest) s₀ seen state
     pub folds : FoldsTo {P = F × B} (FoldTurn g) (f₀, b₀) seen (f, b)
@@ -26,14 +26,14 @@ module _ {S A X F B : Type 0} (view : A → X) (rest : S → List X) (after : (s
 
   -- at first none
   pub folded_none : CallableInFold (YieldsFirstBy view rest) g s₀ f₀ b₀ → Folded (rest s₀) f₀ b₀
-  folded_none h = record { state = s₀; left = refl; seen = []; gave = refl; folds = refl; callable = h }
+  folded_none h = record { state = s₀; remaining = refl; seen = []; gave = refl; folds = refl; callable = h }
 
   module _ (x : A) (xs : List X) (f : F) (b : B) (i : Folded (view x ∷ xs) f b) where
     next : (t : S) × (rest t ≡ xs)
-    next = after i.state (view x) xs i.left
+    next = after i.state (view x) xs i.remaining
 
     step : YieldsFirstBy view rest i.state (Some x) next.0
-    step = i.left ∙ ap (λ ys. view x ∷ ys) (sym next.1)
+    step = i.remaining ∙ ap (λ ys. view x ∷ ys) (sym next.1)
 
     -- the closure takes the next item
     pub fold_takes : Takes g f (b, (x, tt))
@@ -43,7 +43,7 @@ module _ {S A X F B : Type 0} (view : A → X) (rest : S → List X) (after : (s
     pub folded_one : (f' : F) (b' : B) → Called g f (b, (x, tt)) b' f' → Folded xs f' b'
     folded_one f' b' called = record {
       state = next.0;
-      left = next.1;
+      remaining = next.1;
       seen = i.seen ++ (x ∷ []);
       gave = Yields-more (YieldsFirstBy view rest) s₀ i.seen i.state x next.0 i.gave step;
       folds = chained_more {P = F × B} (FoldTurn g) _ i.seen _ x _ i.folds called;
@@ -52,7 +52,7 @@ module _ {S A X F B : Type 0} (view : A → X) (rest : S → List X) (after : (s
 
   -- where none is left, all are folded
   pub folded_all : (xs : List X) (f : F) (b : B) → Folded xs f b → xs ≡ [] → FoldsItems (YieldsFirstBy view rest) g s₀ f₀ b₀ b
-  folded_all xs f b i none = (i.seen, f, (i.state, (i.state, i.gave, (i.left ∙ none, i.left ∙ none))), i.folds)
+  folded_all xs f b i none = (i.seen, f, (i.state, (i.state, i.gave, (i.remaining ∙ none, i.remaining ∙ none))), i.folds)
 
 -- the items from the i-th on are that one and those after it
 pub from_item : {X : Type 0} (xs ys : List X) (i : ℕ) (x : X) → i < length xs → x ≡ get_or xs i x → drop i xs ++ ys ≡ x ∷ (drop (i + 1) xs ++ ys)
@@ -79,12 +79,12 @@ module _ {T : Type 0} where
   pub refs_after : (s : PixelsRefIter T) (x : T) (xs : List T) → refs_left s ≡ x ∷ xs → (t : PixelsRefIter T) × (refs_left t ≡ xs)
   unfolding refs_left
   refs_after s x xs e =
-      let count : length (refs_left s) ≡ s.left + s.rows_left * s.width = length-pixels s.left s.rows_left s.width s.pad s.cells.cells s.reaches in
+      let count : length (refs_left s) ≡ s.remaining + s.rows_left * s.width = length-pixels s.remaining s.rows_left s.width s.pad s.cells.cells s.reaches in
       let less : s.rows_left * s.width ≤ s.rows_left * (s.pad + s.width) = mul-le-mul_left s.rows_left (omega arith) in
       let fewer : length xs < 2 ^ 64 = omega (arith, ap length e, count, less, s.reaches, s.cells.small) in (
         record {
           cells = record { current = s.cells.current; marker = s.cells.marker; cells = xs; small = fewer };
-          left = length xs;
+          remaining = length xs;
           rows_left = 0;
           width = s.width;
           pad = s.pad;

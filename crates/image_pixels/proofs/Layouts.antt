@@ -92,15 +92,15 @@ abbrev pub ArePixels : {X : Type 0} → Layout X → List X → Type 0
 ArePixels l xs = (xs ≡ pixels l) × (xs ≡ grid_pixels (grid_of l)) × (length xs ≡ l.width * l.height) × (length xs < 2 ^ 64)
 
 -- the numbers that a cursor over a whole layout begins with
-module _ {X : Type 0} (l : Layout X) (left rows width pad : ℕ) (narrow : l.width ≤ l.stride) (el : left ≡ first_row l.width l.height) (er : rows ≡ rows_after l.width l.height) (ew : width ≡ l.width) (ep : pad ≡ l.stride - l.width) where
-  pub start_marks : marks left rows width pad ≡ marks_of l.width l.height l.stride
+module _ {X : Type 0} (l : Layout X) (remaining rows width pad : ℕ) (narrow : l.width ≤ l.stride) (el : remaining ≡ first_row l.width l.height) (er : rows ≡ rows_after l.width l.height) (ew : width ≡ l.width) (ep : pad ≡ l.stride - l.width) where
+  pub start_marks : marks remaining rows width pad ≡ marks_of l.width l.height l.stride
   start_marks = λ i. marks (el i) (er i) (ew i) (ep i)
 
-  pub start_reaches : Fits l → left + rows * (pad + width) ≤ length l.cells
+  pub start_reaches : Fits l → remaining + rows * (pad + width) ≤ length l.cells
   start_reaches fits = rw (el, er, ew, ep) (marks_reach (length l.cells) l.width l.height l.stride fits narrow)
 
   -- choose its pixels
-  pub start_pixels : (xs : List X) → Fits l → l.width < 2 ^ 32 → l.height < 2 ^ 32 → xs ≡ pick (marks left rows width pad) l.cells → ArePixels l xs
+  pub start_pixels : (xs : List X) → Fits l → l.width < 2 ^ 32 → l.height < 2 ^ 32 → xs ≡ pick (marks remaining rows width pad) l.cells → ArePixels l xs
   start_pixels xs fits small_width small_height e =
       let same : xs ≡ pixels l = e ∙ ap (λ ms. pick ms l.cells) start_marks ∙ marked_pixels l.cells l.width l.height l.stride fits narrow in
       let count : length xs ≡ l.width * l.height = ap length same ∙ length-joined_rows l.cells l.width l.height l.stride fits in

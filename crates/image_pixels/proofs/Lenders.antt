@@ -64,7 +64,7 @@ module _ {M : Type 1} {𝓤 : Ura M} (𝓛 : Logic 𝓤) (W R : RattleType) (cel
 
 -- the cursor with another borrow of the same cells, and what lent it
 abbrev pub relent : {T : Type 0} → PixelsIterMut T → GName → GName → PixelsIterMut T
-relent r lender name = record { current = r.current; left = r.left; rows_left = r.rows_left; width = r.width; pad = r.pad; marker = r.marker; name = name; lender = lender; cells = r.cells; reaches = r.reaches; wide = r.wide; small = r.small }
+relent r lender name = record { current = r.current; remaining = r.remaining; rows_left = r.rows_left; width = r.width; pad = r.pad; marker = r.marker; name = name; lender = lender; cells = r.cells; reaches = r.reaches; wide = r.wide; small = r.small }
 
 module _ {M : Type 1} {𝓤 : Ura M} (𝓛 : Logic 𝓤) (α : NamedLft) (q : Share) (W R : RattleType) (cells_of : W.Denot → List R.Denot) (made : List R.Denot → W.Denot) (r : PixelsIterMut R.Denot)
     (own : (ws : List R.Denot) → length ws ≡ length r.cells → cells_of (made ws) ≡ ws) (i : W.Denot) (has : cells_of i ≡ r.cells) (v : Val) where

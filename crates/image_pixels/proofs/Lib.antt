@@ -5,6 +5,6 @@ pub mod Reading
 pub mod Writing
 pub mod Runs
 pub mod Folds
-pub mod Rows
+pub mod RowsWritten
 pub mod Lenders
 pub mod Mapping

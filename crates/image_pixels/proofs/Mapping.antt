@@ -5,7 +5,7 @@ use Rattle.image_model.proofs.Cells.{slice_get-take, slice_get-drop}
 use Rattle.image_shape.specs.declared.shape.Shape.{Shape}
 use Rattle.image_shape.specs.declared.window.Stretch.{Stretch}
 use Rattle.image_pixels.specs.Mapping.{AreAnswers}
-use Rattle.image_pixels.proofs.Rows.{RowsDone, still}
+use Rattle.image_pixels.proofs.RowsWritten.{RowsDone, still}
 
 -- the first n cells are answers at the old ones, and the others are as before
 pub record AnsweredUpto {T : Type 0} (answers : T → T → Type 0) (old new : List T) (n : ℕ) : Type 0 where

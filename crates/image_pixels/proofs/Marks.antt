@@ -9,7 +9,7 @@ use borrow.Table.Elements.{length-take-le, length_app}
 use Rattle.image_pixels.specs.Marks.{pick, marks, rows_from, skipped}
 
 -- the marks before a step
-pub marks_in_row : (left rows width pad : ℕ) → 0 < left → marks left rows width pad ≡ replicate 0 false ++ true ∷ marks (left - 1) rows width pad
+pub marks_in_row : (remaining rows width pad : ℕ) → 0 < remaining → marks remaining rows width pad ≡ replicate 0 false ++ true ∷ marks (remaining - 1) rows width pad
 marks_in_row zero rows width pad h = absurd (omega (arith, h))
 marks_in_row (suc k) rows width pad h = let e : k ≡ suc k - 1 = omega arith in ap (λ n. true ∷ marks n rows width pad) e
 
@@ -41,7 +41,7 @@ module _ {X : Type 0} where
       let l : length (take k xs) ≡ k = length-take-le k xs (omega (arith, h)) in
       (p.0, p.1, e, l, ap length e ∙ length_app (take k xs) (p.0 ∷ p.1) ∙ ap (λ n. n + suc (length p.1)) l)
 
-pub skipped_in_row : (left pad : ℕ) → 0 < left → skipped left pad ≡ 0
+pub skipped_in_row : (remaining pad : ℕ) → 0 < remaining → skipped remaining pad ≡ 0
 skipped_in_row zero pad h = absurd (omega (arith, h))
 skipped_in_row (suc k) pad h = refl
 
@@ -76,9 +76,9 @@ module _ {X : Type 0} where
       ∙ ap (λ k. width + k) r ∙ add_comm width (n * width) ∙ sym (suc-mul n width)
 
   -- the number of pixels left is the exact count
-  pub length-pixels : (left rows width pad : ℕ) (xs : List X) → left + rows * (pad + width) ≤ length xs → length (pick (marks left rows width pad) xs) ≡ left + rows * width
-  length-pixels left rows width pad xs h = let l : length (drop left xs) ≡ length xs - left = length-drop left xs in
-      all_true left (rows_from rows width pad) xs (omega (arith, h)) ∙ ap (λ k. left + k) (in_rows rows width pad (drop left xs) (omega (arith, h, l)))
+  pub length-pixels : (remaining rows width pad : ℕ) (xs : List X) → remaining + rows * (pad + width) ≤ length xs → length (pick (marks remaining rows width pad) xs) ≡ remaining + rows * width
+  length-pixels remaining rows width pad xs h = let l : length (drop remaining xs) ≡ length xs - remaining = length-drop remaining xs in
+      all_true remaining (rows_from rows width pad) xs (omega (arith, h)) ∙ ap (λ k. remaining + k) (in_rows rows width pad (drop remaining xs) (omega (arith, h, l)))
 
 module _ {X : Type 0} where
   -- past the padding before a further row its marks come
@@ -90,10 +90,10 @@ module _ {X : Type 0} where
       ap (λ k. pick (marks width k width pad) (drop pad xs)) least ∙ sym (all_false pad (replicate width true ++ rows_from n width pad) xs (omega (arith, long)))
 
   -- where the next cells are marked, they come first
-  pub pick_taken : (k left rows width pad : ℕ) (xs : List X) → k ≤ left → pick (marks left rows width pad) xs ≡ take k xs ++ pick (marks (left - k) rows width pad) (drop k xs)
-  pick_taken zero left rows width pad xs within = let all : left ≡ left - 0 = omega arith in ap (λ n. pick (marks n rows width pad) xs) all
+  pub pick_taken : (k remaining rows width pad : ℕ) (xs : List X) → k ≤ remaining → pick (marks remaining rows width pad) xs ≡ take k xs ++ pick (marks (remaining - k) rows width pad) (drop k xs)
+  pick_taken zero remaining rows width pad xs within = let all : remaining ≡ remaining - 0 = omega arith in ap (λ n. pick (marks n rows width pad) xs) all
   pick_taken (suc k) zero rows width pad xs within = absurd (omega (arith, within))
-  pick_taken (suc k) (suc left) rows width pad [] within = sym (pick_none (marks (suc left - suc k) rows width pad))
-  pick_taken (suc k) (suc left) rows width pad (x ∷ xs) within =
-      let same : left - k ≡ suc left - suc k = omega arith in
-      ap (λ ys. x ∷ ys) (pick_taken k left rows width pad xs (omega (arith, within)) ∙ ap (λ n. take k xs ++ pick (marks n rows width pad) (drop k xs)) same)
+  pick_taken (suc k) (suc remaining) rows width pad [] within = sym (pick_none (marks (suc remaining - suc k) rows width pad))
+  pick_taken (suc k) (suc remaining) rows width pad (x ∷ xs) within =
+      let same : remaining - k ≡ suc remaining - suc k = omega arith in
+      ap (λ ys. x ∷ ys) (pick_taken k remaining rows width pad xs (omega (arith, within)) ∙ ap (λ n. take k xs ++ pick (marks n rows width pad) (drop k xs)) same)

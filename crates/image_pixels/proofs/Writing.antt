@@ -37,11 +37,11 @@ module _ (a : NamedLft) (R : RattleType) where
   abbrev pub Data : RattleType
   Data = Struct (shape (P.the_type a R))
 
-  pub made : {M : Type 1} {𝓤 : Ura M} (𝓛 : Logic 𝓤) (d : PixelsIterMut R.Denot) (b o : ℕ) → d.current ≡ block_ptr b o → d.left < 2 ^ 64 → d.rows_left < 2 ^ 64 → d.width < 2 ^ 64 → d.pad < 2 ^ 64
-      → ent 𝓤 (emp 𝓤) (sem 𝓛 (Data.own_val (to (P.the_type a R) d) (words b o d.left d.rows_left d.width d.pad ∷ [])))
-  made 𝓛 d b o e fl fr fw fp = makes_shadow 𝓛 (Data.own_val (to (P.the_type a R) d) (words b o d.left d.rows_left d.width d.pad ∷ []))
+  pub made : {M : Type 1} {𝓤 : Ura M} (𝓛 : Logic 𝓤) (d : PixelsIterMut R.Denot) (b o : ℕ) → d.current ≡ block_ptr b o → d.remaining < 2 ^ 64 → d.rows_left < 2 ^ 64 → d.width < 2 ^ 64 → d.pad < 2 ^ 64
+      → ent 𝓤 (emp 𝓤) (sem 𝓛 (Data.own_val (to (P.the_type a R) d) (words b o d.remaining d.rows_left d.width d.pad ∷ [])))
+  made 𝓛 d b o e fl fr fw fp = makes_shadow 𝓛 (Data.own_val (to (P.the_type a R) d) (words b o d.remaining d.rows_left d.width d.pad ∷ []))
       (λ vss. (tt, (tt, ((tt, tt), ((tt, tt), ((tt, tt), ((tt, tt), ((λ uss. (tt, tt)), tt)))))))) (
-        (vptr b o ∷ [], (vint w64 d.left ∷ [], (vint w64 d.rows_left ∷ [], (vint w64 d.width ∷ [], (vint w64 d.pad ∷ [], (vstruct vnil ∷ [], tt)))))),
+        (vptr b o ∷ [], (vint w64 d.remaining ∷ [], (vint w64 d.rows_left ∷ [], (vint w64 d.width ∷ [], (vint w64 d.pad ∷ [], (vstruct vnil ∷ [], tt)))))),
         (refl, (ap (λ p. ptr_val p ∷ []) (sym e), ((refl, fl), ((refl, fr), ((refl, fw), ((refl, fp), ((tt, (refl, tt)), tt))))))),
       )
 
@@ -96,7 +96,7 @@ module _ {M : Type 1} {𝓤 : Ura M} (𝓛 : Logic 𝓤) (R : RattleType) (γ : 
 -- the counts of a cursor behind a `&`
 module _ (a : NamedLft) (R : RattleType) {M : Type 1} {𝓤 : Ura M} (𝓛 : Logic 𝓤) (κ : Lft) where
   pub shown : (d : PixelsIterMut R.Denot) (b o : ℕ) → ent 𝓤 (sem 𝓛 (hidden_shr (P.the_row a R) κ d b o))
-      (sep 𝓤 (sem 𝓛 (hidden_shr usize κ d.left b (o + 8))) (sep 𝓤 (sem 𝓛 (hidden_shr usize κ d.rows_left b (o + 16))) (sem 𝓛 (hidden_shr usize κ d.width b (o + 24)))))
+      (sep 𝓤 (sem 𝓛 (hidden_shr usize κ d.remaining b (o + 8))) (sep 𝓤 (sem 𝓛 (hidden_shr usize κ d.rows_left b (o + 16))) (sem 𝓛 (hidden_shr usize κ d.width b (o + 24)))))
   shown d b o = qed 𝓛 (‵ (hidden_shr (P.the_row a R) κ d b o) ∷ []) ∵
       use1 𝓛 (‵ (hidden_shr (Data a R) κ (to (P.the_type a R) d) b o) ⊛ ‵ (fhide (P.the_lent a.lft R d d.current κ))) (lent_out 𝓛 (P.struct a R) (P.the_codes R.Denot R.coded (marker.the_row (MutSlice a.mir a.lft R)).coded) (P.the_heap a.lft R) (P.the_lent a.lft R) κ d b o) $ split ! $
       unhide ! $ fsplit ! $ fsplit ! $ drop ! $ fsplit ! $ move ! (1 ∷ []) $ fsplit ! $ move ! (1 ∷ []) $ fsplit ! $ keep ! (3 ∷ 2 ∷ 0 ∷ []) $ done !

@@ -8,7 +8,7 @@ rows_from (suc n) width pad = replicate pad false ++ (replicate width true ++ ro
 
 -- the pixels that are left in a row, and then the further rows
 abbrev pub marks : ℕ → ℕ → ℕ → ℕ → List Bool
-marks left rows width pad = replicate left true ++ rows_from rows width pad
+marks remaining rows width pad = replicate remaining true ++ rows_from rows width pad
 
 -- how many pixels the first row of a size has
 abbrev pub first_row : ℕ → ℕ → ℕ

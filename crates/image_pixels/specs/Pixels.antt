@@ -11,7 +11,7 @@ use Rattle.image_pixels.specs.declared.pixels_mut.PixelsIterMut.{PixelsIterMut}
 module _ {T : Type 0} where
   -- the pixels that a cursor still gives, for reading
   unfoldable pub refs_left : PixelsRefIter T → List T
-  refs_left s = pick (marks s.left s.rows_left s.width s.pad) s.cells.cells
+  refs_left s = pick (marks s.remaining s.rows_left s.width s.pad) s.cells.cells
 
   -- the next of some pixels are taken as one row, or there is none
   abbrev pub TakesRow : List T → Option (Bor (List T)) → List T → Type 0
@@ -28,7 +28,7 @@ module _ {T : Type 0} where
 
   -- which of these are pixels
   abbrev pub marks_left : PixelsIterMut T → List Bool
-  marks_left s = marks s.left s.rows_left s.width s.pad
+  marks_left s = marks s.remaining s.rows_left s.width s.pad
 
   -- the pixels that a cursor still gives, for writing
   unfoldable pub muts_left : PixelsIterMut T → List T
@@ -44,7 +44,7 @@ module _ {T : Type 0} where
 
   -- how many cells a cursor passes over before the next pixel
   abbrev pub gap : PixelsIterMut T → ℕ
-  gap s = skipped s.left s.pad
+  gap s = skipped s.remaining s.pad
 
   -- these cells
   abbrev pub passed : PixelsIterMut T → List T

@@ -35,7 +35,7 @@ impl<'a, T> Cells<'a, T> {
     pub(crate) fn take(&mut self, count: usize) -> &'a [T]
         requires { count ≤ length self.old.cells }
         ensures taken { result.now ≡ take count self.old.cells }
-        ensures left { self.new.cells ≡ drop count self.old.cells }
+        ensures rest { self.new.cells ≡ drop count self.old.cells }
     {
         let first = self.current;
         self.current = unsafe { first.add(count) };

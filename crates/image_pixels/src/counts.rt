@@ -10,7 +10,7 @@ use image_shape::Shape;
 // padding lie before it.
 #[derive(Clone, Copy)]
 pub(crate) struct Counts {
-    pub(crate) left: usize,
+    pub(crate) remaining: usize,
     pub(crate) rows_left: usize,
     pub(crate) width: usize,
     pub(crate) pad: usize,
@@ -19,7 +19,7 @@ pub(crate) struct Counts {
 impl Counts {
     // Those of a whole shape.
     pub(crate) fn of_shape(shape: Shape) -> Counts
-        ensures left { result.left ≡ first_row (shape_width shape) (shape_height shape) }
+        ensures remaining { result.remaining ≡ first_row (shape_width shape) (shape_height shape) }
         ensures rows_left { result.rows_left ≡ rows_after (shape_width shape) (shape_height shape) }
         ensures width { result.width ≡ shape_width shape }
         ensures pad { result.pad ≡ shape_stride shape - shape_width shape }
@@ -29,7 +29,7 @@ impl Counts {
     {
         let width = shape.width();
         Counts {
-            left: if shape.height() == 0 { 0 } else { width },
+            remaining: if shape.height() == 0 { 0 } else { width },
             rows_left: shape.row_count().saturating_sub(1),
             width,
             pad: shape.padding(),

@@ -6,11 +6,11 @@
 //! `Shape::fits` tells.
 #![tactic(auto)]
 
-mod call;
 mod cells;
 mod copy;
 mod counts;
 mod fill;
+mod folding;
 mod map;
 mod pixels;
 mod pixels_mut;

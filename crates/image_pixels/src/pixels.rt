@@ -11,9 +11,9 @@ ghost use Rattle.image_model.specs.Layout.{Fits};
 ghost use Rattle.image_model.specs.Rows.{pixels as pixels_of, grid_pixels};
 ghost use Rattle.image_shape.specs.Shape.{shape_width, shape_height, shaped_grid, shaped};
 
-use crate::call::call;
 use crate::cells::Cells;
 use crate::counts::Counts;
+use crate::folding::fold_one;
 use image_shape::Shape;
 use std::iter::{ExactSizeIterator, FusedIterator};
 
@@ -27,11 +27,11 @@ const NARROW: usize = 8;
 #[derive(Drop)]
 pub struct PixelsRefIter<'a, T> {
     cells: Cells<'a, T>,
-    left: usize,
+    remaining: usize,
     rows_left: usize,
     width: usize,
     pad: usize,
-    ghost reaches: { left + rows_left * (pad + width) ≤ length cells.cells },
+    ghost reaches: { remaining + rows_left * (pad + width) ≤ length cells.cells },
     ghost wide: { 0 < rows_left → 0 < width },
 }
 
@@ -49,19 +49,19 @@ impl<'a, T> PixelsRefIter<'a, T> {
         ensures countable { length (refs_left result) < 2 ^ 64 }
         ensures runs { YieldsRefsInOrder (YieldsFirstRef (refs_left {T = T})) refs_left }
     {
-        PixelsRefIter::over(Cells::new(cells), Counts::of_shape(shape))
+        PixelsRefIter::from_counts(Cells::new(cells), Counts::of_shape(shape))
     }
 
     // The pixels left in a row and the rows after it, as they lie in these cells.
     #[tactic(auto, unfolding(crate::specs::Pixels::refs_left))]
-    fn over(cells: Cells<'a, T>, counts: Counts) -> PixelsRefIter<'a, T>
-        requires reaches { counts.left + counts.rows_left * (counts.pad + counts.width) ≤ length cells.cells }
+    fn from_counts(cells: Cells<'a, T>, counts: Counts) -> PixelsRefIter<'a, T>
+        requires reaches { counts.remaining + counts.rows_left * (counts.pad + counts.width) ≤ length cells.cells }
         requires wide { 0 < counts.rows_left → 0 < counts.width }
-        ensures pixels { refs_left result ≡ pick (marks counts.left counts.rows_left counts.width counts.pad) cells.entry.cells }
+        ensures pixels { refs_left result ≡ pick (marks counts.remaining counts.rows_left counts.width counts.pad) cells.entry.cells }
     {
         PixelsRefIter {
             cells,
-            left: counts.left,
+            remaining: counts.remaining,
             rows_left: counts.rows_left,
             width: counts.width,
             pad: counts.pad,
@@ -70,14 +70,14 @@ impl<'a, T> PixelsRefIter<'a, T> {
 
     // Goes on to the next row, past the padding before it.
     fn enter_row(&mut self)
-        requires over { self.old.left ≡ 0 }
+        requires over { self.old.remaining ≡ 0 }
         requires some { 0 < self.old.rows_left }
         ensures stays { refs_left self.new ≡ refs_left self.old }
-        ensures left { 0 < self.new.left }
+        ensures remaining { 0 < self.new.remaining }
     {
         self.cells.take(self.pad);
         self.rows_left -= 1;
-        self.left = self.width;
+        self.remaining = self.width;
     }
 
     // Whether there is a pixel, going on to its row where none is left in this one.
@@ -85,25 +85,25 @@ impl<'a, T> PixelsRefIter<'a, T> {
     // The count is tested after that too: so the compiler sees that a row has a pixel.
     fn find_row(&mut self) -> bool
         ensures stays { refs_left self.new ≡ refs_left self.old }
-        ensures some { result ≡ true → 0 < self.new.left }
+        ensures some { result ≡ true → 0 < self.new.remaining }
         ensures none { result ≡ false → refs_left self.old ≡ [] }
     {
-        if self.left == 0 {
+        if self.remaining == 0 {
             if self.rows_left == 0 {
                 return false;
             }
             self.enter_row();
         }
-        self.left > 0
+        self.remaining > 0
     }
 
     // The next `count` pixels of this row.
     fn take(&mut self, count: usize) -> &'a [T]
-        requires { count ≤ self.old.left }
+        requires { count ≤ self.old.remaining }
         ensures taken { refs_left self.old ≡ result.now ++ refs_left self.new }
         ensures count { length result.now ≡ count }
     {
-        self.left -= count;
+        self.remaining -= count;
         self.cells.take(count)
     }
 
@@ -114,7 +114,7 @@ impl<'a, T> PixelsRefIter<'a, T> {
         if !self.find_row() {
             return None;
         }
-        let count = self.left;
+        let count = self.remaining;
         Some(self.take(count))
     }
 }
@@ -140,7 +140,7 @@ impl<'a, T> Iterator for PixelsRefIter<'a, T> {
         ensures upper { IfSome result.1 (UpTo (item_count refs_left self.now)) }
         ensures exact { (result.0 ≡ length (refs_left self.now)) × (result.1 ≡ Some (length (refs_left self.now))) }
     {
-        let count = self.left + self.rows_left * self.width;
+        let count = self.remaining + self.rows_left * self.width;
         (count, Some(count))
     }
 }
@@ -165,7 +165,7 @@ impl<'a, T> PixelsRefIter<'a, T> {
         let mut acc = init;
         while let Some(row) = self.take_row() {
             for pixel in row {
-                acc = call(&mut f, acc, pixel);
+                acc = fold_one(&mut f, acc, pixel);
             }
         }
         acc

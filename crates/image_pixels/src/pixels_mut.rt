@@ -20,7 +20,7 @@ use std::marker::{Model, PhantomData};
 /// the items that it gave leave theirs, and all others as they were.
 pub struct PixelsIterMut<'a, T> {
     current: *mut T,
-    left: usize,
+    remaining: usize,
     rows_left: usize,
     width: usize,
     pad: usize,
@@ -29,7 +29,7 @@ pub struct PixelsIterMut<'a, T> {
     ghost name: { GName },
     ghost lender: { GName },
     ghost cells: { List T },
-    ghost reaches: { left + rows_left * (pad + width) ≤ length cells },
+    ghost reaches: { remaining + rows_left * (pad + width) ≤ length cells },
     ghost wide: { 0 < rows_left → 0 < width },
     ghost small: { length cells < 2 ^ 64 },
 }
@@ -44,24 +44,24 @@ impl<'a, T> PixelsIterMut<'a, T> {
     ghost use Rattle.image_pixels.specs.Marks.{pick, marks, marks_of};
     ghost use Rattle.image_pixels.specs.Pixels.{muts_left, cells_left, marks_left, name_of, hands_on, Moves};
 
-    // The first `left` cells, and then `rows_left` rows of `width` cells with `pad` before each.
-    fn over(
+    // The first `remaining` cells, and then `rows_left` rows of `width` cells with `pad` before each.
+    fn from_counts(
         cells: &'a mut [T],
-        left: usize,
+        remaining: usize,
         rows_left: usize,
         width: usize,
         pad: usize,
     ) -> PixelsIterMut<'a, T>
-        requires reaches { left + rows_left * (pad + width) ≤ length cells.old }
+        requires reaches { remaining + rows_left * (pad + width) ≤ length cells.old }
         requires wide { 0 < rows_left → 0 < width }
         ensures name { name_of result ≡ cells.entry.ghost_name }
         ensures cells { cells_left result ≡ cells.old }
-        ensures marks { marks_left result ≡ marks left rows_left width pad }
-        ensures pixels { muts_left result ≡ pick (marks left rows_left width pad) cells.old }
+        ensures marks { marks_left result ≡ marks remaining rows_left width pad }
+        ensures pixels { muts_left result ≡ pick (marks remaining rows_left width pad) cells.old }
     {
         PixelsIterMut {
             current: cells.as_mut_ptr(),
-            left,
+            remaining,
             rows_left,
             width,
             pad,
@@ -84,9 +84,9 @@ impl<'a, T> PixelsIterMut<'a, T> {
         ensures countable { length (muts_left result) < 2 ^ 64 }
     {
         let counts = Counts::of_shape(shape);
-        PixelsIterMut::over(
+        PixelsIterMut::from_counts(
             cells,
-            counts.left,
+            counts.remaining,
             counts.rows_left,
             counts.width,
             counts.pad,
@@ -102,17 +102,17 @@ impl<'a, T> PixelsIterMut<'a, T> {
         ensures moves { Moves self.old result self.new }
         ensures* hands_on { sem 𝓛 (hands_on T.row self.old result self.new) }
     {
-        if self.left == 0 {
+        if self.remaining == 0 {
             if self.rows_left == 0 {
                 return None;
             }
             unsafe { self.current = self.current.add(self.pad) };
             self.rows_left -= 1;
-            self.left = self.width;
+            self.remaining = self.width;
         }
         let pixel = self.current;
         unsafe { self.current = pixel.add(1) };
-        self.left -= 1;
+        self.remaining -= 1;
         Some(unsafe { &mut *pixel })
     }
 }
@@ -135,7 +135,7 @@ impl<'a, T> Iterator for PixelsIterMut<'a, T> {
         ensures upper { IfSome result.1 (UpTo (item_count muts_left self.now)) }
         ensures exact { (result.0 ≡ length (muts_left self.now)) × (result.1 ≡ Some (length (muts_left self.now))) }
     {
-        let items = self.left + self.rows_left * self.width;
+        let items = self.remaining + self.rows_left * self.width;
         (items, Some(items))
     }
 }
@@ -157,7 +157,7 @@ impl<T> Drop for PixelsIterMut<'_, T> {
     {
         let PixelsIterMut {
             current: _,
-            left: _,
+            remaining: _,
             rows_left: _,
             width: _,
             pad: _,

@@ -10,7 +10,7 @@ use Rattle.image_rows.specs.declared.ends.End.TheVariants.{First, Last}
 use Rattle.image_rows.specs.declared.spacing.Spacing.{Spacing}
 use Rattle.image_rows.specs.declared.writing.RowsIterMut.{RowsIterMut}
 use Rattle.image_rows.specs.Rows.{without, outer_cut, inner_cut, near, far, beside, let_go, muts_left, Yields}
-use Rattle.image_rows.proofs.Rows.{rows_none, suc_times, first_off, last_off}
+use Rattle.image_rows.proofs.RowsLeft.{rows_none, suc_times, first_off, last_off}
 
 -- rows that are so spaced have a column, lie apart, and lie within so many cells
 abbrev pub Lies : Spacing → ℕ → Type 0

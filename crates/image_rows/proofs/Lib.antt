@@ -1,4 +1,4 @@
-pub mod Rows
+pub mod RowsLeft
 pub mod Cuts
-pub mod Values
+pub mod IterValues
 pub mod Stepping

@@ -170,9 +170,9 @@ bands_fit l bh fits high =
     ]
 
 -- an iterator gives as many bands as tiles stand along its rows
-pub counted_left : {T : Type 0} (s : BandsMut T) → length (bands_left s) ≡ tile_count s.lines.band_height s.lines.rows
+pub counted_left : {T : Type 0} (s : BandsMut T) → length (bands_left s) ≡ tile_count s.spacing.band_height s.spacing.rows
 unfolding bands_left
-counted_left s = length-bands (drop s.lines.skip s.cells.now) s.lines.width s.lines.rows s.lines.stride s.lines.band_height s.some s.high
+counted_left s = length-bands (drop s.spacing.skip s.cells.now) s.spacing.width s.spacing.rows s.spacing.stride s.spacing.band_height s.some s.high
 
 -- more rows reach further
 pub taller : (stride k n : ℕ) → k ≤ n → stride * (k - 1) ≤ stride * (n - 1)

@@ -2,7 +2,7 @@ pub mod Tilings
 pub mod BandsLeft
 pub mod BandsCut
 pub mod BandsCover
-pub mod Values
+pub mod BandValues
 pub mod Left
-pub mod Lent
+pub mod CountedValues
 mod Cursors

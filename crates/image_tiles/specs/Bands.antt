@@ -9,7 +9,7 @@ use Rattle.image_model.specs.Windows.{Window, window, exact_window}
 use Rattle.imgref.specs.declared.img.Img.{Img}
 use Rattle.imgref.specs.Image.{buf_of}
 use Rattle.image_tiles.specs.declared.bands.BandsMut.{BandsMut}
-use Rattle.image_tiles.specs.declared.bands.Lines.{Lines}
+use Rattle.image_tiles.specs.declared.bands.BandSpacing.{BandSpacing}
 
 -- how many bands a size has: with no column there is none
 abbrev pub band_count : ℕ → ℕ → ℕ → ℕ
@@ -30,19 +30,19 @@ bands l band_height = map (λ j. exact_window l (band_window l.width l.height ba
 -- ---- how bands lie in a list of cells
 
 -- all rows of a size, as bands of so many rows: without a column there is none
-abbrev pub all_lines : ℕ → ℕ → ℕ → ℕ → Lines
-all_lines width height stride band_height = record { skip = 0; rows = row_count width height; width = width; stride = stride; band_height = band_height }
+abbrev pub whole_spacing : ℕ → ℕ → ℕ → ℕ → BandSpacing
+whole_spacing width height stride band_height = record { skip = 0; rows = row_count width height; width = width; stride = stride; band_height = band_height }
 
 -- how many rows the first band has
-abbrev pub band_rows : Lines → ℕ
+abbrev pub band_rows : BandSpacing → ℕ
 band_rows s = min s.band_height s.rows
 
 -- and how many cells
-abbrev pub band_len : Lines → ℕ
+abbrev pub band_len : BandSpacing → ℕ
 band_len s = s.stride * (band_rows s - 1) + s.width
 
 -- without the first band: the padding behind it is skipped
-abbrev pub behind : Lines → Lines
+abbrev pub behind : BandSpacing → BandSpacing
 behind s = record s { skip = s.stride - s.width; rows = s.rows - band_rows s }
 
 module _ {T : Type 0} where
@@ -55,21 +55,21 @@ module _ {T : Type 0} where
   name_of s = s.cells.ghost_name
 
   -- how the bands lie in these cells
-  abbrev pub lines_left : BandsMut T → Lines
-  lines_left s = s.lines
+  abbrev pub spacing_left : BandsMut T → BandSpacing
+  spacing_left s = s.spacing
 
   -- the bands that an iterator still gives
   unfoldable pub bands_left : BandsMut T → List (Layout T)
-  bands_left s = bands (layout (drop s.lines.skip (cells_left s)) s.lines.width s.lines.rows s.lines.stride) s.lines.band_height
+  bands_left s = bands (layout (drop s.spacing.skip (cells_left s)) s.spacing.width s.spacing.rows s.spacing.stride) s.spacing.band_height
 
   -- the cells of s, of which the first band and those behind it may have changed
   abbrev pub put_back : BandsMut T → List T → List T → List T
-  put_back s band kept = (take s.lines.skip (cells_left s) ++ band) ++ kept
+  put_back s band kept = (take s.spacing.skip (cells_left s) ++ band) ++ kept
 
   -- the cells are those before the band, the band's, and those kept; where there is no band nothing changes
   abbrev pub Moves : BandsMut T → Option (Img (MutBor (List T))) → BandsMut T → Type 0
   Moves s None t = t ≡ s
-  Moves s (Some band) t = (cells_left s ≡ put_back s (buf_of band).now (cells_left t)) × (lines_left t ≡ behind (lines_left s))
+  Moves s (Some band) t = (cells_left s ≡ put_back s (buf_of band).now (cells_left t)) × (spacing_left t ≡ behind (spacing_left s))
 
 -- the final cells of s: those before the band, the band's final cells, and the final cells of t
 abbrev pub hands_on : (R : RattleType) → BandsMut R.Denot → Option (Img (MutBor (List R.Denot))) → BandsMut R.Denot → Fml

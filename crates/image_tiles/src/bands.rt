@@ -28,7 +28,7 @@ fn part<T>(cells: &mut [T], mid: usize) -> (&mut [T], &mut [T])
 
 // How bands lie in a list of cells.
 #[derive(Clone, Copy)]
-struct Lines {
+struct BandSpacing {
     // How many cells lie before the next band.
     skip: usize,
     // How many rows are left.
@@ -44,14 +44,14 @@ struct Cut {
     skip: usize,
     end: usize,
     shape: Shape,
-    rest: Lines,
+    rest: BandSpacing,
 }
 
-impl Lines {
+impl BandSpacing {
     ghost use Rattle.image_tiles.specs.Bands.{band_rows, band_len, behind};
 
     // The rows of a shape, as bands of so many rows: without a column there is none.
-    fn whole(shape: Shape, band_height: usize) -> Lines
+    fn whole(shape: Shape, band_height: usize) -> BandSpacing
         ensures skip { result.skip ≡ 0 }
         ensures rows { result.rows ≡ row_count (shape_width shape) (shape_height shape) }
         ensures width { result.width ≡ shape_width shape }
@@ -62,7 +62,7 @@ impl Lines {
         ensures width_fits { shape_width shape < 2 ^ 32 }
         ensures rows_fit { result.rows < 2 ^ 32 }
     {
-        Lines {
+        BandSpacing {
             skip: 0,
             rows: shape.row_count(),
             width: shape.width(),
@@ -93,7 +93,7 @@ impl Lines {
             skip: self.skip,
             end: self.skip + shape.reach(),
             shape,
-            rest: Lines {
+            rest: BandSpacing {
                 skip: shape.padding(),
                 rows: self.rows - rows,
                 ..self
@@ -109,18 +109,18 @@ impl Lines {
 #[derive(Drop)]
 pub struct BandsMut<'a, T> {
     cells: &'a mut [T],
-    lines: Lines,
-    ghost some: { 0 < lines.rows → 0 < lines.width },
-    ghost stride_positive: { 1 ≤ lines.stride },
-    ghost holds_width: { lines.width ≤ lines.stride },
-    ghost width_fits: { lines.width < 2 ^ 32 },
-    ghost rows_fit: { lines.rows < 2 ^ 32 },
-    ghost high: { 0 < lines.band_height },
-    ghost fits: { 0 < lines.rows → lines.skip + (lines.stride * (lines.rows - 1) + lines.width) ≤ length cells.now },
+    spacing: BandSpacing,
+    ghost some: { 0 < spacing.rows → 0 < spacing.width },
+    ghost stride_positive: { 1 ≤ spacing.stride },
+    ghost holds_width: { spacing.width ≤ spacing.stride },
+    ghost width_fits: { spacing.width < 2 ^ 32 },
+    ghost rows_fit: { spacing.rows < 2 ^ 32 },
+    ghost high: { 0 < spacing.band_height },
+    ghost fits: { 0 < spacing.rows → spacing.skip + (spacing.stride * (spacing.rows - 1) + spacing.width) ≤ length cells.now },
 }
 
 impl<'a, T> BandsMut<'a, T> {
-    ghost use Rattle.image_tiles.specs.Bands.{bands, band_windows, bands_left, name_of, cells_left, lines_left, all_lines, hands_on, Moves};
+    ghost use Rattle.image_tiles.specs.Bands.{bands, band_windows, bands_left, name_of, cells_left, spacing_left, whole_spacing, hands_on, Moves};
 
     /// The bands of an image, of `band_height` rows each. An image with no pixel has none.
     ///
@@ -133,7 +133,7 @@ impl<'a, T> BandsMut<'a, T> {
         requires high { 0 < band_height }
         ensures name { name_of result ≡ (buf_of img.entry).ghost_name }
         ensures cells { cells_left result ≡ (buf_of img.entry).now }
-        ensures lines { lines_left result ≡ all_lines (width_of img.entry) (height_of img.entry) (stride_of img.entry) band_height }
+        ensures spacing { spacing_left result ≡ whole_spacing (width_of img.entry) (height_of img.entry) (stride_of img.entry) band_height }
         ensures bands { bands_left result ≡ bands (mut_layout img.entry) band_height }
         ensures fit { All Fits (bands_left result) }
         ensures views { map grid_of (bands_left result) ≡ map (window_view (mut_grid img.entry)) (band_windows (width_of img.entry) (height_of img.entry) band_height) }
@@ -143,7 +143,7 @@ impl<'a, T> BandsMut<'a, T> {
         let (cells, shape) = img.into_parts();
         BandsMut {
             cells,
-            lines: Lines::whole(shape, band_height),
+            spacing: BandSpacing::whole(shape, band_height),
         }
     }
 
@@ -156,16 +156,16 @@ impl<'a, T> BandsMut<'a, T> {
         ensures steps { YieldsFirstBy mut_layout bands_left self.entry result.0 result.1 }
         ensures moves { Moves self.entry result.0 result.1 }
     {
-        if self.lines.rows == 0 {
+        if self.spacing.rows == 0 {
             return (None, self);
         }
-        let cut = self.lines.cut();
+        let cut = self.spacing.cut();
         let (piece, kept) = part(self.cells, cut.end);
         let (_, cells) = part(piece, cut.skip);
         let band = ImgRefMut::from_parts(cells, cut.shape);
         let left = BandsMut {
             cells: kept,
-            lines: cut.rest,
+            spacing: cut.rest,
         };
         (Some(band), left)
     }
@@ -189,7 +189,7 @@ impl<'a, T> BandsMut<'a, T> {
     {
         let none = BandsMut {
             cells: &mut [],
-            lines: Lines {
+            spacing: BandSpacing {
                 skip: 0,
                 rows: 0,
                 width: 0,
@@ -220,7 +220,7 @@ impl<'a, T> Iterator for BandsMut<'a, T> {
         ensures upper { IfSome result.1 (UpTo (item_count bands_left self.now)) }
         ensures exact { (result.0 ≡ length (bands_left self.now)) × (result.1 ≡ Some (length (bands_left self.now))) }
     {
-        let left = tiles_along(self.lines.rows, self.lines.band_height);
+        let left = tiles_along(self.spacing.rows, self.spacing.band_height);
         (left, Some(left))
     }
 }

@@ -1,5 +1,5 @@
 pub mod AsMany
-pub mod Numbers
-pub mod Shapes
-pub mod Values
+pub mod SameImages
+pub mod WindowShapes
+pub mod ImageValues
 pub mod Writes

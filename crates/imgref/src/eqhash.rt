@@ -6,7 +6,7 @@ ghost use Rattle.imgref.specs.Image.{layout_by, ref_layout};
 ghost use Rattle.imgref.specs.Eqhash.{equal_by, equal_per, equal_equiv, equal_fed, fed_image};
 
 use crate::img::{Img, ImgRef};
-use image_cells::{AsSlice, are_equal, feed};
+use image_cells::{AsSlice, are_equal, hash_pixels};
 use std::hash::{Hash, Hasher};
 
 impl<C: AsSlice> Img<C> {
@@ -62,6 +62,6 @@ where
     ghost respects_eq = { λ x y. (equal_fed C.cells (record { fed = C.Item.respects_eq })).fed x y };
 
     fn hash<H: Hasher>(&self, state: &mut H) {
-        feed(self.buf.as_slice(), self.shape(), state);
+        hash_pixels(self.buf.as_slice(), self.shape(), state);
     }
 }

@@ -5,7 +5,7 @@ use Rattle.std.specs.Cmp.{IsEquivalence}
 use Rattle.image_model.specs.Grid.{Grid, Agree, AlikePixels}
 use Rattle.image_model.specs.Windows.{window_view}
 use Rattle.image_model.proofs.Agreement.{agree_grid, agree_view, agree_patch}
-use Rattle.imgref_replay.specs.Agreement.{are_alike_pixels}
+use Rattle.imgref_replay.specs.PlaceTests.{are_alike_pixels}
 use Rattle.imgref_replay.specs.Commands.{grid_at, sizes_of, window_named, view_named, Source, given, old, pixel_from, scene_of, Answer, shown, told, reply_of, Change, changed, meaning}
 use Rattle.imgref_replay.specs.Step.{first_fault, fault_of, answer_to, effect_of, reply_to, after}
 use Rattle.imgref_replay.specs.Run.{replies_to, after_all}

@@ -10,7 +10,7 @@ use Rattle.image_model.specs.Windows.{Window, window, window_view, IsInside, fir
 use Rattle.imgref.specs.Image.{vec_layout}
 use Rattle.imgref.specs.declared.img.Img.{Img}
 use Rattle.imgref.specs.Window.{as_path}
-use Rattle.imgref_replay.specs.Agreement.{are_alike_pixels, agree_at_places}
+use Rattle.imgref_replay.specs.PlaceTests.{are_alike_pixels, agree_at_places}
 use Rattle.imgref_replay.specs.declared.commands.Place.{Place}
 use Rattle.imgref_replay.specs.declared.commands.Command.{Command}
 use Rattle.imgref_replay.specs.declared.commands.Command.TheVariants.{Get, Put, Fill, Count, Same, Blit, Mosaic, Compact}

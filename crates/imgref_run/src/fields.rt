@@ -13,7 +13,7 @@ use texts::{Field, Parts};
 
 /// The values that all parts that are left are the texts of. There is room for this many from the
 /// start.
-pub(crate) fn each<T: Field>(
+pub(crate) fn read_each<T: Field>(
     alloc: Global,
     parts: &mut Parts<'_>,
     room: usize,
@@ -47,7 +47,7 @@ fn path(alloc: Global, field: &[u8]) -> Result<Vec<Window>, LineFault>
     }
     // A path is kept as long as its command: it takes the room of its windows and no more.
     let slashes = field.iter().filter(|byte| **byte == b'/').count();
-    each(alloc, &mut Parts::new(field, b'/'), slashes + 1)
+    read_each(alloc, &mut Parts::new(field, b'/'), slashes + 1)
 }
 
 /// The path that the next field is the text of.

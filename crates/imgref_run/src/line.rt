@@ -8,7 +8,7 @@ ghost use Rattle.texts.specs.Parts.{parts_left};
 ghost use Rattle.imgref_run.specs.Reading.{Gives, order_at, order_in, image_in, line_in};
 
 use crate::fault::LineFault;
-use crate::fields::{each, next_place, next_value};
+use crate::fields::{next_place, next_value, read_each};
 use imgref::{Img, ImgVec};
 use imgref_replay::Command;
 use std::alloc::Global;
@@ -30,7 +30,7 @@ fn read_image(alloc: Global, fields: &mut Parts<'_>) -> Result<ImgVec<u8>, LineF
     let width = next_value(fields)?;
     let height = next_value(fields)?;
     let stride = next_value(fields)?;
-    let cells = each(alloc, fields, 0)?;
+    let cells = read_each(alloc, fields, 0)?;
     let greatest = u32::MAX as usize;
     if width > greatest || height > greatest || stride < 1 || stride < width {
         return Err(LineFault::Bad);

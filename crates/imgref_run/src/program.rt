@@ -17,8 +17,8 @@ use std::alloc::Global;
 use std::io::{Read, Write};
 
 // The output of a script.
-fn answer(alloc: Global, input: Vec<u8>) -> Result<Vec<u8>, RunFault>
-    ensures answer { IfOk result (λ text. IsOutputOf input.items text.items) }
+fn output_of(alloc: Global, input: Vec<u8>) -> Result<Vec<u8>, RunFault>
+    ensures output { IfOk result (λ text. IsOutputOf input.items text.items) }
     ensures fault { IfErr result (ExplainsBad (lines_of input.items)) }
 {
     let mut script = read_script(alloc, &input)?;
@@ -51,6 +51,6 @@ pub fn run<R: Read, W: Write>(
     ensures one_value { EachTextHasOneValue }
 {
     let input = read_all(alloc, reader)?;
-    let text = answer(alloc, input)?;
+    let text = output_of(alloc, input)?;
     write_all(writer, &text)
 }

@@ -1,4 +1,4 @@
-pub mod Lent
+pub mod LentImages
 pub mod Sizes
 pub mod Nested
 pub mod Filled

@@ -7,7 +7,7 @@ use Rattle.image_model.specs.Rows.{row, row_count}
 use Rattle.image_model.specs.Windows.{with_stretch}
 use Rattle.image_model.proofs.Rows.{row_pixel, row_stretch, length-row}
 use Rattle.image_shape.specs.Shape.{shaped}
-use Rattle.image_pixels.proofs.Rows.{RowsDone, no_row, one_row_more, shows_table, outside_stays}
+use Rattle.image_pixels.proofs.RowsWritten.{RowsDone, no_row, one_row_more, shows_table, outside_stays}
 use Rattle.image_pixels.proofs.copy.copy_pixels.Goals as goal
 
 pub loop-y-init : goal.loop-y-init

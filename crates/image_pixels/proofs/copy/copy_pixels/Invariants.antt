@@ -1,7 +1,7 @@
 use Rattle.std.proofs.Common.{◌≡◌}
 use Rattle.image_model.specs.Layout.{pixel}
 use Rattle.image_shape.specs.Shape.{shaped}
-use Rattle.image_pixels.proofs.Rows.{RowsDone}
+use Rattle.image_pixels.proofs.RowsWritten.{RowsDone}
 use Rattle.image_pixels.proofs.copy.copy_pixels.Given as goal
 
 abbrev pub invariant-loop-y : goal.invariant-loop-y

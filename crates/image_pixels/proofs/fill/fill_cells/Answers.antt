@@ -1,5 +1,5 @@
 use Rattle.std.proofs.Common.{◌<◌, length, set, ap, ◌∙◌, arith}
-use Rattle.image_pixels.proofs.Rows.{filled_more}
+use Rattle.image_pixels.proofs.RowsWritten.{filled_more}
 use Rattle.image_pixels.proofs.fill.fill_cells.Goals as goal
 
 pub loop-cell-preserved : goal.loop-cell-preserved

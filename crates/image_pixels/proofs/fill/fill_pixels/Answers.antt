@@ -4,7 +4,7 @@ use Rattle.std.proofs.lemmas.List.{length-replicate}
 use Rattle.image_model.specs.Grid.{uniform}
 use Rattle.image_model.specs.Rows.{row_count}
 use Rattle.image_model.proofs.Cells.{slice_get-replicate}
-use Rattle.image_pixels.proofs.Rows.{no_row, row_written, row_length, shows_table, outside_stays}
+use Rattle.image_pixels.proofs.RowsWritten.{no_row, row_written, row_length, shows_table, outside_stays}
 use Rattle.image_pixels.proofs.fill.fill_pixels.Goals as goal
 
 pub loop-y-init : goal.loop-y-init

@@ -1,5 +1,5 @@
 use Rattle.std.proofs.Common.{◌≡◌, Some}
-use Rattle.image_pixels.proofs.Rows.{RowsDone}
+use Rattle.image_pixels.proofs.RowsWritten.{RowsDone}
 use Rattle.image_pixels.proofs.fill.fill_pixels.Given as goal
 
 abbrev pub invariant-loop-y : goal.invariant-loop-y

@@ -4,7 +4,7 @@ use Rattle.image_model.specs.Rows.{row_count}
 use Rattle.image_shape.specs.Shape.{shaped}
 use Rattle.image_model.proofs.Mapped.{is_mapped}
 use Rattle.image_pixels.proofs.Mapping.{row_answers}
-use Rattle.image_pixels.proofs.Rows.{no_row, row_written, row_length, all_right, outside_stays}
+use Rattle.image_pixels.proofs.RowsWritten.{no_row, row_written, row_length, all_right, outside_stays}
 use Rattle.image_pixels.proofs.map.map_pixels.Goals as goal
 
 pub loop-y-init : goal.loop-y-init

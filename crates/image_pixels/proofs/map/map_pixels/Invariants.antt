@@ -1,6 +1,6 @@
 use Rattle.image_shape.specs.Shape.{shape_stride}
 use Rattle.image_pixels.proofs.Mapping.{IsAnswer}
-use Rattle.image_pixels.proofs.Rows.{RowsDone}
+use Rattle.image_pixels.proofs.RowsWritten.{RowsDone}
 use Rattle.image_pixels.proofs.map.map_pixels.Given as goal
 
 abbrev pub invariant-loop-y : goal.invariant-loop-y

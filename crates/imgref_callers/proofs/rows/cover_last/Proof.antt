@@ -63,7 +63,7 @@ use Rattle.image_rows.specs.declared.ends.End.TheVariants.{Last}
 use Rattle.image_rows.specs.declared.writing.RowsIterMut.{RowsIterMut}
 use Rattle.image_rows.specs.contracts.writing.RowsIterMut as P
 use Rattle.image_rows.proofs.writing.RowsIterMut.TheLaws as laws
-use Rattle.image_rows.proofs.Values.{cells_out}
+use Rattle.image_rows.proofs.IterValues.{cells_out}
 use Rattle.image_rows.specs.contracts.writing.RowsIterMut.next_back as N
 use Rattle.image_rows.proofs.writing.RowsIterMut.next_back.Met as stepping
 use Rattle.imgref.specs.Rows.{whole_spacing, cells_left, spacing_left, muts_left, name_of, put_back, hands_on, Yields, Moves}

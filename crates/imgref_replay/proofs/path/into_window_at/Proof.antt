@@ -71,8 +71,8 @@ use Rattle.imgref_replay.specs.contracts.path.region_at as f
 use Rattle.imgref_replay.proofs.path.region_at.Met as find
 use Rattle.imgref.specs.contracts.window.Img+mut+slice+T.from_stretch as g
 use Rattle.imgref.proofs.window.Img+mut+slice+T.from_stretch.Met as part
-use Rattle.imgref.proofs.Values.{stretch_val, stretch_made, shape_val, shape_made, img_val, img_row, img_told, LentCells, lent_cells_laws, ImgParts, img_parts_told}
-use Rattle.imgref_replay.proofs.Values.{Answer, answer_told, ok_made, err_made}
+use Rattle.imgref.proofs.ImageValues.{stretch_val, stretch_made, shape_val, shape_made, img_val, img_row, img_told, LentCells, lent_cells_laws, ImgParts, img_parts_told}
+use Rattle.imgref_replay.proofs.AnswerValues.{Answer, answer_told, ok_made, err_made}
 use Rattle.imgref_replay.specs.contracts.path.into_window_at.{ended, clauses}
 use Rattle.imgref_replay.specs.contracts.path.into_window_at.Key.{name as #self}
 use Rattle.imgref_replay.proofs.path.into_window_at.Statement.{statement}

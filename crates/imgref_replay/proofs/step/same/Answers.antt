@@ -3,7 +3,7 @@ use Rattle.image_model.specs.Grid.{view}
 use Rattle.imgref.specs.Image.{ref_layout}
 use Rattle.imgref_replay.specs.Commands.{grids_of, view_named}
 use Rattle.imgref_replay.specs.declared.commands.Reply.TheVariants.{Truth}
-use Rattle.imgref_replay.proofs.Agreement.{views_tested}
+use Rattle.imgref_replay.proofs.PlaceTests.{views_tested}
 use Rattle.imgref_replay.proofs.Steps.{asked}
 use Rattle.imgref_replay.proofs.step.same.Goals as goal
 

@@ -55,7 +55,7 @@ use Rattle.image_model.specs.Grid.{grid_of, uniform}
 use Rattle.image_shape.specs.declared.shape.Shape.{Shape}
 use Rattle.image_shape.specs.contracts.shape.Shape as shape
 use Rattle.imgref.specs.Image.{with_all, layout_by, mut_layout, shape_of}
-use Rattle.imgref.proofs.Values.{shape_val, shape_made, img_row, LentCells, lent_cells_laws, ImgParts, img_parts_told}
+use Rattle.imgref.proofs.ImageValues.{shape_val, shape_made, img_row, LentCells, lent_cells_laws, ImgParts, img_parts_told}
 use Rattle.lending.proofs.Bodies.{of_copied, first_arm, type_of}
 use Rattle.lending.proofs.Declared.{typed}
 use Rattle.lending.specs.Endings.{ends_as}
@@ -66,10 +66,10 @@ use Rattle.lending.proofs.Parts.{given_up}
 use Rattle.image_tiles.specs.declared.bands.BandsMut.{BandsMut}
 use Rattle.image_tiles.specs.contracts.bands.BandsMut as P
 use Rattle.image_tiles.proofs.bands.BandsMut.TheLaws as laws
-use Rattle.image_tiles.proofs.Values.{cells_out, band_val, band_ok, band_told}
+use Rattle.image_tiles.proofs.BandValues.{cells_out, band_val, band_ok, band_told}
 use Rattle.image_tiles.specs.contracts.bands.BandsMut.next as N
 use Rattle.image_tiles.proofs.bands.BandsMut.next.Met as stepping
-use Rattle.image_tiles.specs.Bands.{bands, bands_left, cells_left, lines_left, all_lines, name_of, put_back, hands_on, Moves}
+use Rattle.image_tiles.specs.Bands.{bands, bands_left, cells_left, spacing_left, whole_spacing, name_of, put_back, hands_on, Moves}
 use Rattle.imgref.specs.declared.img.Img.{Img}
 use Rattle.imgref.specs.contracts.img.Img.{the_row}
 use Rattle.imgref.specs.contracts.img.Img.into_parts as parts
@@ -77,7 +77,7 @@ use Rattle.imgref.proofs.img.Img.into_parts.Met as apart
 use Rattle.part_callers.specs.contracts.bands.bands_of as M
 use Rattle.part_callers.proofs.bands.bands_of.Met as making
 use Rattle.part_callers.specs.Bands.{HasFirstBand}
-use Rattle.part_callers.proofs.Lent.{some_image}
+use Rattle.part_callers.proofs.LentImages.{some_image}
 use Rattle.part_callers.proofs.FirstBand.{no_band, first_band, first_fits, in_image}
 use Rattle.part_callers.specs.contracts.fills.fill as W
 use Rattle.part_callers.proofs.fills.fill.Met as writing
@@ -125,11 +125,11 @@ cover_band_spec 𝓤 𝓛 𝓜 𝓡 wired X Y LX LY CY gh d gs ds gc dc bm bs bc
     let Rows : RattleType = P.the_row named_α (param 1 Y) in
     let Sort : Type 0 = BandsMut Y.Denot in
     let F : List Y.Denot → Img X.Denot = with_all gs.cells gh.with_cells x.now in
-    let Lined : Sort → Type 0 = λ r. lines_left r ≡ all_lines old.width old.height old.stride bh in
+    let Spaced : Sort → Type 0 = λ r. spacing_left r ≡ whole_spacing old.width old.height old.stride bh in
     let Lists : Sort → Type 0 = λ r. bands_left r ≡ bands old bh in
     use1 𝓛 (later (some (λ (r : Sort). ((‵ (flft α qα) ⊛ ‵ (flft κ₁ q₁) ⊛ ‵ (flft κ₂ q₂) ⊛ ‵ ftrue) ⊛ ‵ (Rows.own_val r (v₁ ∷ []))) ⊛ some (λ (ws : Unit {0} × (Unit {0} × Unit {0})). ‵ (lasts (M.ended X Y gh d gs ds) z₁.0.0 z₁.0.3 ws)
-    ⊛ (‵ (follows Whole (Array (param 1 Y) 0) δ (name_of r) F) ⊛ raw (fact 𝓤 (cells_left r ≡ old.cells)) ⊛ raw (fact 𝓤 (Lined r)) ⊛ raw (fact 𝓤 (Lists r))))))) (id⊢ 𝓤 _) $
-    await ! tt $ pick ! (λ r. split ! $ split ! $ move ! (2 ∷ []) $ pick ! (λ ws₁. split ! $ drop ! $ split ! $ move ! (1 ∷ []) $ split ! $ heard ! (cells_left r ≡ old.cells) (λ cells. split ! $ heard ! (Lined r) (λ lines. heard ! (Lists r) (λ lists.
+    ⊛ (‵ (follows Whole (Array (param 1 Y) 0) δ (name_of r) F) ⊛ raw (fact 𝓤 (cells_left r ≡ old.cells)) ⊛ raw (fact 𝓤 (Spaced r)) ⊛ raw (fact 𝓤 (Lists r))))))) (id⊢ 𝓤 _) $
+    await ! tt $ pick ! (λ r. split ! $ split ! $ move ! (2 ∷ []) $ pick ! (λ ws₁. split ! $ drop ! $ split ! $ move ! (1 ∷ []) $ split ! $ heard ! (cells_left r ≡ old.cells) (λ cells. split ! $ heard ! (Spaced r) (λ spacing. heard ! (Lists r) (λ lists.
     -- [what follows; the tokens; the iterator; what is kept; the end of α; the value]
     let LY₁ = param_laws 1 Y LY in
     let lowers = laws.lowers named_α (param 1 Y) LY₁ in
@@ -262,7 +262,7 @@ cover_band_spec 𝓤 𝓛 𝓜 𝓡 wired X Y LX LY CY gh d gs ds gc dc bm bs bc
     sets ! (of_opd ! (get_in ! (fld ! refl (stop !)) (sub ! 1 refl (all_of !)))) refl (tt, shape_ok) $
     sets ! (addr ! (from ! (fld ! refl (hop ! (look_in_at ! 6 (sub ! 0 refl (all_of !))) (stop !))))) refl (tt, tt) $
     sets ! (agg ! (and_then ! (get ! refl) (and_then ! (get_in ! (fld ! refl (stop !)) (sub ! 1 refl (all_of !))) (no_more !)))) refl (tt, slice_ok) $
-    let Fit_y : Type 0 = Fits (mut_layout y) in let fit_y : Fit_y = first_fits old bh value high narrow fits r t cells lines lists y yields moves in
+    let Fit_y : Type 0 = Fits (mut_layout y) in let fit_y : Fit_y = first_fits old bh value high narrow fits r t cells spacing lists y yields moves in
     let G₄ = triple_of 𝓛 (W.signature Y) (W.spec Y gc dc 𝓛 𝓜.mem 𝓡.returns) in
     let z₄ : G₄.Ghost = (((α, (κ₂, tt)), (qα, (q₂, tt)), (in₂, tt), (y.buf, (inner, (value, tt))), (sv ∷ [], (shape_val inner ∷ [], (v ∷ [], tt)))), tt) in
     nothing ! $ move ! (10 ∷ 0 ∷ []) $ fjoin ! $ use0 𝓛 (‵ (shape.the_row.own_val inner (shape_val inner ∷ []))) (shape_made 𝓛 inner pt.2 pt.3 pt.4) $ fjoin ! $ move ! (1 ∷ 0 ∷ []) $ fjoin ! $
@@ -284,5 +284,5 @@ cover_band_spec 𝓤 𝓛 𝓜 𝓡 wired X Y LX LY CY gh d gs ds gc dc bm bs bc
     move ! (0 ∷ 5 ∷ []) $ use2 𝓛 (Res (name_of r) (put_back r ws₄.0 (cells_left t))) (ends_said 𝓛 A₀ A₀ (name_of r) (name_of t) (put_back r ws₄.0) (cells_left t)) $
     -- [how the cells end; the number; the borrow; the rest; the tokens; κ₁; what follows; what is kept; the end of α]
     move ! (1 ∷ 2 ∷ 3 ∷ []) $ drop ! $ drop ! $ drop ! $ move ! (1 ∷ []) $ split3 ! $ move ! (2 ∷ []) $ drop ! $ forget_but ! E (1 ∷ 2 ∷ 3 ∷ []) refl $ move ! (2 ∷ 0 ∷ 1 ∷ []) $
-    tail (put_back r ws₄.0 (cells_left t)) (first_band old bh value high narrow fits r t cells lines lists y yields moves ws₄.0 stays one)))))))))))))))))
+    tail (put_back r ws₄.0 (cells_left t)) (first_band old bh value high narrow fits r t cells spacing lists y yields moves ws₄.0 stays one)))))))))))))))))
     (none_or_some m)))))))))))))))))))))))))

@@ -50,7 +50,7 @@ use Rattle.image_model.specs.Windows as model
 use Rattle.image_model.specs.Windows.{first_outside, path_stretch, path_layout, path_view, whole, with_stretch}
 use Rattle.image_shape.specs.declared.shape.Shape.{Shape}
 use Rattle.imgref.specs.Image.{with_all, layout_by, mut_layout, shape_of}
-use Rattle.imgref.proofs.Values.{img_row, img_told, LentCells, lent_cells_laws, ImgParts, img_parts_told}
+use Rattle.imgref.proofs.ImageValues.{img_row, img_told, LentCells, lent_cells_laws, ImgParts, img_parts_told}
 use Rattle.imgref.specs.declared.img.Img.{Img}
 use Rattle.imgref.specs.contracts.img.Img.into_parts as parts
 use Rattle.imgref.proofs.img.Img.into_parts.Met as apart
@@ -60,13 +60,13 @@ use Rattle.imgref.proofs.img.Img.as_mut.Met as lending
 use Rattle.imgref.specs.Window.{as_path}
 use Rattle.image_shape.specs.declared.window.Window.{Window}
 use Rattle.image_shape.specs.contracts.window.Window as window
-use Rattle.image_tiles.proofs.Values.{band_val, band_ok}
+use Rattle.image_tiles.proofs.BandValues.{band_val, band_ok}
 use Rattle.imgref_replay.specs.Path.{BeginsAtCorner, name_of}
 use Rattle.imgref_replay.specs.contracts.into_window_at as f
 use Rattle.imgref_replay.proofs.into_window_at.Met as finding
 use Rattle.part_callers.specs.Paths.{IsNested}
 use Rattle.part_callers.proofs.Nested.{nested}
-use Rattle.part_callers.proofs.Lent.{ok_or_err, ok_told, ok_image}
+use Rattle.part_callers.proofs.LentImages.{ok_or_err, ok_told, ok_image}
 use Rattle.part_callers.specs.contracts.paths.parts_at.{ended, clauses}
 use Rattle.part_callers.specs.contracts.paths.parts_at.Key.{name as #self}
 use Rattle.part_callers.proofs.paths.parts_at.Statement.{statement}

@@ -43,7 +43,7 @@ use Rattle.image_model.specs.Layout.{Layout}
 use Rattle.image_model.specs.Windows.{Window}
 use Rattle.image_shape.specs.declared.shape.Shape.{Shape}
 use Rattle.imgref.specs.Image.{layout_by, mut_layout, shape_of}
-use Rattle.imgref.proofs.Values.{img_row, LentCells, lent_cells_laws, ImgParts, img_parts_told}
+use Rattle.imgref.proofs.ImageValues.{img_row, LentCells, lent_cells_laws, ImgParts, img_parts_told}
 use Rattle.imgref.specs.declared.img.Img.{Img}
 use Rattle.imgref.specs.contracts.img.Img.into_parts as parts
 use Rattle.imgref.proofs.img.Img.into_parts.Met as apart
@@ -53,10 +53,10 @@ use Rattle.image_tiles.specs.declared.tiles.TileCursor.{TileCursor}
 use Rattle.image_tiles.specs.contracts.tiles.TileCursor.{the_row}
 use Rattle.image_tiles.specs.contracts.tiles.TileCursor.next_tile as f
 use Rattle.image_tiles.proofs.tiles.TileCursor.next_tile.Met as stepping
-use Rattle.image_tiles.proofs.Values.{band_val, band_ok, band_told}
+use Rattle.image_tiles.proofs.BandValues.{band_val, band_ok, band_told}
 use Rattle.part_callers.specs.Tiles.{IsTile}
 use Rattle.part_callers.proofs.Sizes.{window_width, window_height}
-use Rattle.part_callers.proofs.Lent.{some_image}
+use Rattle.part_callers.proofs.LentImages.{some_image}
 use Rattle.part_callers.specs.contracts.tiles.tile_parts.{ended, clauses}
 use Rattle.part_callers.specs.contracts.tiles.tile_parts.Key.{name as #self}
 use Rattle.part_callers.proofs.tiles.tile_parts.Statement.{statement}

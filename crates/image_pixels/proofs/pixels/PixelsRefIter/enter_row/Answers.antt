@@ -9,6 +9,6 @@ unfolding refs_left
 returns-clause-stays g c =
     let s = c.args.self.now in
     let reaches : s.rows_left * (s.pad + s.width) ≤ length s.cells.cells = omega (arith, s.reaches, c.requires.over) in
-    ap (λ xs. pick (marks s.width (s.rows_left - 1) s.width s.pad) xs) c.take.ensures.left
+    ap (λ xs. pick (marks s.width (s.rows_left - 1) s.width s.pad) xs) c.take.ensures.rest
     ∙ pick_entered s.rows_left s.width s.pad s.cells.cells c.requires.some reaches
     ∙ ap (λ n. pick (marks n s.rows_left s.width s.pad) s.cells.cells) (sym c.requires.over)

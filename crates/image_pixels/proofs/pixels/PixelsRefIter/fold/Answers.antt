@@ -14,8 +14,8 @@ pub loop-row-preserved : goal.loop-row-preserved
 loop-row-preserved g c =
     subst (λ xs. Folded (λ x. x.now) refs_left refs_after g.F.FnMut c.args.f c.args.init c.args.self xs c.loop-pixel.f c.loop-pixel.acc) (from_end c.in-Some.row.now _ c.loop-pixel.pixel-index c.loop-pixel-test.false) c.loop-pixel.invariant
 
-pub call-acc-requires : goal.call-acc-requires
-call-acc-requires g c =
+pub fold_one-acc-requires : goal.fold_one-acc-requires
+fold_one-acc-requires g c =
     let next = from_item c.in-Some.row.now _ c.loop-pixel.pixel-index c.pixel-item.result c.loop-pixel-test.true c.pixel-item.is in
     let i = subst (λ xs. Folded (λ x. x.now) refs_left refs_after g.F.FnMut c.args.f c.args.init c.args.self xs c.loop-pixel.f c.loop-pixel.acc) next c.loop-pixel.invariant in
     record { takes = fold_takes (λ x. x.now) refs_left refs_after g.F.FnMut c.args.f c.args.init c.args.self _ _ c.loop-pixel.f c.loop-pixel.acc i }
@@ -24,7 +24,7 @@ pub loop-pixel-preserved : goal.loop-pixel-preserved
 loop-pixel-preserved g c =
     let next = from_item c.in-Some.row.now _ c.loop-pixel.pixel-index c.pixel-item.result c.loop-pixel-test.true c.pixel-item.is in
     let i = subst (λ xs. Folded (λ x. x.now) refs_left refs_after g.F.FnMut c.args.f c.args.init c.args.self xs c.loop-pixel.f c.loop-pixel.acc) next c.loop-pixel.invariant in
-    folded_one (λ x. x.now) refs_left refs_after g.F.FnMut c.args.f c.args.init c.args.self _ _ c.loop-pixel.f c.loop-pixel.acc i _ _ (record { met = c.call-acc.ensures.called.met })
+    folded_one (λ x. x.now) refs_left refs_after g.F.FnMut c.args.f c.args.init c.args.self _ _ c.loop-pixel.f c.loop-pixel.acc i _ _ (record { met = c.fold_one-acc.ensures.called.met })
 
 pub returns-clause-ran : goal.returns-clause-ran
 returns-clause-ran g c = folded_all (λ x. x.now) refs_left refs_after g.F.FnMut c.args.f c.args.init c.args.self _ c.loop-row.f c.loop-row.acc c.loop-row.invariant c.in_default.ensures.0

@@ -5,19 +5,19 @@ use Rattle.image_pixels.specs.Pixels.{refs_left}
 use Rattle.image_pixels.proofs.Layouts.{ArePixels, start_reaches, start_pixels}
 use Rattle.image_pixels.proofs.Runs.{refs_run}
 use Rattle.image_pixels.proofs.pixels.PixelsRefIter.new.Goals as goal
-use Rattle.image_pixels.proofs.pixels.PixelsRefIter.new.Goals.{After-over}
+use Rattle.image_pixels.proofs.pixels.PixelsRefIter.new.Goals.{After-from_counts}
 
-pub over-requires-clause-reaches : goal.over-requires-clause-reaches
-over-requires-clause-reaches g c =
+pub from_counts-requires-clause-reaches : goal.from_counts-requires-clause-reaches
+from_counts-requires-clause-reaches g c =
     let n = c.of_shape in
-    subst (λ xs. n.result.left + n.result.rows_left * (n.result.pad + n.result.width) ≤ length xs) (sym c.new.ensures)
-    (start_reaches (shaped c.args.cells.now c.args.shape) n.result.left n.result.rows_left n.result.width n.result.pad n.ensures.narrow n.ensures.left n.ensures.rows_left n.ensures.width n.ensures.pad c.requires.fits)
+    subst (λ xs. n.result.remaining + n.result.rows_left * (n.result.pad + n.result.width) ≤ length xs) (sym c.new.ensures)
+    (start_reaches (shaped c.args.cells.now c.args.shape) n.result.remaining n.result.rows_left n.result.width n.result.pad n.ensures.narrow n.ensures.remaining n.ensures.rows_left n.ensures.width n.ensures.pad c.requires.fits)
 
-all : (g : _) (c : After-over g) → ArePixels (shaped c.args.cells.now c.args.shape) (refs_left c.over.result)
+all : (g : _) (c : After-from_counts g) → ArePixels (shaped c.args.cells.now c.args.shape) (refs_left c.from_counts.result)
 all g c =
     let n = c.of_shape in
-    start_pixels (shaped c.args.cells.now c.args.shape) n.result.left n.result.rows_left n.result.width n.result.pad n.ensures.narrow n.ensures.left n.ensures.rows_left n.ensures.width n.ensures.pad
-    (refs_left c.over.result) c.requires.fits n.ensures.width_fits n.ensures.height_fits (c.over.ensures.pixels ∙ ap (pick (marks n.result.left n.result.rows_left n.result.width n.result.pad)) c.new.ensures)
+    start_pixels (shaped c.args.cells.now c.args.shape) n.result.remaining n.result.rows_left n.result.width n.result.pad n.ensures.narrow n.ensures.remaining n.ensures.rows_left n.ensures.width n.ensures.pad
+    (refs_left c.from_counts.result) c.requires.fits n.ensures.width_fits n.ensures.height_fits (c.from_counts.ensures.pixels ∙ ap (pick (marks n.result.remaining n.result.rows_left n.result.width n.result.pad)) c.new.ensures)
 
 pub returns-clause-pixels : goal.returns-clause-pixels
 returns-clause-pixels g c = (all g c).0

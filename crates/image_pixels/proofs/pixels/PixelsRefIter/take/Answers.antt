@@ -10,5 +10,5 @@ unfolding refs_left
 returns-clause-taken g c =
     let s = c.args.self.now in
     let k = c.args.count in
-    pick_taken k s.left s.rows_left s.width s.pad s.cells.cells c.requires
-    ∙ ap₂ (λ xs ys. xs ++ pick (marks (s.left - k) s.rows_left s.width s.pad) ys) (sym c.take.ensures.taken) (sym c.take.ensures.left)
+    pick_taken k s.remaining s.rows_left s.width s.pad s.cells.cells c.requires
+    ∙ ap₂ (λ xs ys. xs ++ pick (marks (s.remaining - k) s.rows_left s.width s.pad) ys) (sym c.take.ensures.taken) (sym c.take.ensures.rest)

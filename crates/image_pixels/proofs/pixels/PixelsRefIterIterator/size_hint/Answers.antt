@@ -4,9 +4,9 @@ use Rattle.image_pixels.proofs.Marks.{length-pixels}
 use Rattle.image_pixels.proofs.pixels.PixelsRefIterIterator.size_hint.Goals as goal
 use Rattle.image_pixels.proofs.pixels.PixelsRefIterIterator.size_hint.Goals.{Start}
 
-count : (g : _) (c : Start g) → length (refs_left c.args.self.now) ≡ c.args.self.now.left + c.args.self.now.rows_left * c.args.self.now.width
+count : (g : _) (c : Start g) → length (refs_left c.args.self.now) ≡ c.args.self.now.remaining + c.args.self.now.rows_left * c.args.self.now.width
 unfolding refs_left
-count g c = let s = c.args.self.now in length-pixels s.left s.rows_left s.width s.pad s.cells.cells s.reaches
+count g c = let s = c.args.self.now in length-pixels s.remaining s.rows_left s.width s.pad s.cells.cells s.reaches
 
 pub returns-clause-lower : goal.returns-clause-lower
 returns-clause-lower g c = λ _. omega (arith, count g c)

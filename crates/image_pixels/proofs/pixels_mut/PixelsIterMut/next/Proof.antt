@@ -93,24 +93,24 @@ next_spec 𝓤 𝓛 𝓜 𝓡 wired T' L =
     -- [the heap; the cell; the open borrow; obs; auth; the tokens of 'a and of T]
     in_a_block ! h.current (λ p. lent κ₁ R δ h.cells p) (id⊢ 𝓤 _) (λ b o e. fsplit3 ! $ pure_l ! (room R n) (λ rm. move ! (2 ∷ []) $
     let written : Ty = (laws.lowers α R (param_laws 0 T' L)).mir in
-    let word : us ≡ words b o h.left h.rows_left h.width h.pad ∷ [] = (laws.lowers α R (param_laws 0 T' L)).val_is h us is ∙ ap (λ (p : Ptr). laws.lowered α R (param_laws 0 T' L) (record h { current = p }) ∷ []) e in
+    let word : us ≡ words b o h.remaining h.rows_left h.width h.pad ∷ [] = (laws.lowers α R (param_laws 0 T' L)).val_is h us is ∙ ap (λ (p : Ptr). laws.lowered α R (param_laws 0 T' L) (record h { current = p }) ∷ []) e in
     rewrite ! 0 (λ (ws : List Val). ‵ (cell_at full_share It.mir ws rb ro)) word refl $
-    use1 𝓛 (‵ (fat full_share written rb ro (words b o h.left h.rows_left h.width h.pad))) (𝓛.laws.raw_at full_share written rb ro (words b o h.left h.rows_left h.width h.pad)) $
+    use1 𝓛 (‵ (fat full_share written rb ro (words b o h.remaining h.rows_left h.width h.pad))) (𝓛.laws.raw_at full_share written rb ro (words b o h.remaining h.rows_left h.width h.pad)) $
     well_typed ! (λ ok.
-    let fl : h.left < 2 ^ 64 = ok.1.1.0.fits in let fr : h.rows_left < 2 ^ 64 = ok.1.1.1.0.fits in let fw : h.width < 2 ^ 64 = ok.1.1.1.1.0.fits in let fp : h.pad < 2 ^ 64 = ok.1.1.1.1.1.0.fits in
+    let fl : h.remaining < 2 ^ 64 = ok.1.1.0.fits in let fr : h.rows_left < 2 ^ 64 = ok.1.1.1.0.fits in let fw : h.width < 2 ^ 64 = ok.1.1.1.1.0.fits in let fp : h.pad < 2 ^ 64 = ok.1.1.1.1.1.0.fits in
     -- [the cell; obs δ; its borrow; the open borrow; obs; auth; the tokens]
-    let X : Type 0 = T'.Denot in let sk : ℕ = skipped h.left h.pad in let front : List X = take sk h.cells in
-    let tail : (p left rows : ℕ) (x : X) (back : List X) → h.cells ≡ front ++ x ∷ back → at o s (length front) ≡ p → 1 ≤ left → left < 2 ^ 64 → rows < 2 ^ 64 → (left - 1) + rows * (h.pad + h.width) ≤ length back → (0 < rows → 0 < h.width)
-    → muts_left h ≡ x ∷ chosen (marks (left - 1) rows h.width h.pad) back → length front ≡ sk → marks h.left h.rows_left h.width h.pad ≡ replicate sk false ++ true ∷ marks (left - 1) rows h.width h.pad → length back < n
-    → Sq 𝓛 (‵ (fat full_share written rb ro (words b p left rows h.width h.pad)) ∷ ‵ (fobs δ ((coded_list R.coded).code h.cells)) ∷ ‵ (fbor κ₁ (Body (Arr (mem R) n) b o δ)) ∷ ‵ (fobor κ₀ q₀ (Body (mem It) rb ro γ)) ∷ ‵ (fobs γ (It.coded.code h)) ∷ ‵ (fauth γ (It.coded.code h))
-    ∷ (‵ (flft κ₁ q₁) ⊛ ‵ (flft κ₂ q₂) ⊛ ‵ ftrue) ∷ holding 𝓛 Ev ((1, vptr rb ro) ∷ [])) (prop (Wp 𝓤 𝓛.H 𝓣.C 𝓣.Λ Ev (after 3 fn.body) (post 𝓤 𝓛.H (at_ret Ev Post)))) = λ p left rows x back cut at_p pos fl' fr' reaches' wide' px lf mk less.
+    let X : Type 0 = T'.Denot in let sk : ℕ = skipped h.remaining h.pad in let front : List X = take sk h.cells in
+    let tail : (p remaining rows : ℕ) (x : X) (back : List X) → h.cells ≡ front ++ x ∷ back → at o s (length front) ≡ p → 1 ≤ remaining → remaining < 2 ^ 64 → rows < 2 ^ 64 → (remaining - 1) + rows * (h.pad + h.width) ≤ length back → (0 < rows → 0 < h.width)
+    → muts_left h ≡ x ∷ chosen (marks (remaining - 1) rows h.width h.pad) back → length front ≡ sk → marks h.remaining h.rows_left h.width h.pad ≡ replicate sk false ++ true ∷ marks (remaining - 1) rows h.width h.pad → length back < n
+    → Sq 𝓛 (‵ (fat full_share written rb ro (words b p remaining rows h.width h.pad)) ∷ ‵ (fobs δ ((coded_list R.coded).code h.cells)) ∷ ‵ (fbor κ₁ (Body (Arr (mem R) n) b o δ)) ∷ ‵ (fobor κ₀ q₀ (Body (mem It) rb ro γ)) ∷ ‵ (fobs γ (It.coded.code h)) ∷ ‵ (fauth γ (It.coded.code h))
+    ∷ (‵ (flft κ₁ q₁) ⊛ ‵ (flft κ₂ q₂) ⊛ ‵ ftrue) ∷ holding 𝓛 Ev ((1, vptr rb ro) ∷ [])) (prop (Wp 𝓤 𝓛.H 𝓣.C 𝓣.Λ Ev (after 3 fn.body) (post 𝓤 𝓛.H (at_ret Ev Post)))) = λ p remaining rows x back cut at_p pos fl' fr' reaches' wide' px lf mk less.
     let one : 1 ≤ n = omega arith in let first' : 1 * s ≤ n * s = mul-le-mul_right s one in let once : 1 * s ≡ s = one-mul s in let below : length back * s ≤ n * s = mul-le-mul_right s (omega arith) in
     let fn' : n < 2 ^ 64 = rm.0 in let fit : n * s < 2 ^ 63 = rm.1 in
-    let tiny : s < 2 ^ 64 = omega arith in let f₁ : 1 * s < 2 ^ 64 = omega arith in let fm : left - 1 < 2 ^ 64 = omega arith in
+    let tiny : s < 2 ^ 64 = omega arith in let f₁ : 1 * s < 2 ^ 64 = omega arith in let fm : remaining - 1 < 2 ^ 64 = omega arith in
     let on : at o s (length front) + s ≡ 1 * s + p = omega (arith, at_p) in
     let r : GName → MutBor X = λ ν. record { ref_ptr = (b, p); ghost_name = ν; now = x } in
-    let new : GName → PixelsIterMut X = λ ν. record { current = block_ptr b (1 * s + p); left = left - 1; rows_left = rows; width = h.width; pad = h.pad; marker = h.marker; name = ν; lender = h.lender; cells = back; reaches = reaches'; wide = wide'; small = omega (arith, less, rm.0) } in
-    let shorter : length (chosen (marks (left - 1) rows h.width h.pad) back) < length (muts_left h) = omega (arith, ap length px) in
+    let new : GName → PixelsIterMut X = λ ν. record { current = block_ptr b (1 * s + p); remaining = remaining - 1; rows_left = rows; width = h.width; pad = h.pad; marker = h.marker; name = ν; lender = h.lender; cells = back; reaches = reaches'; wide = wide'; small = omega (arith, less, rm.0) } in
+    let shorter : length (chosen (marks (remaining - 1) rows h.width h.pad) back) < length (muts_left h) = omega (arith, ap length px) in
     exec ! 𝓣.C 𝓣.Λ Ev (after 3 fn.body) (at_ret Ev Post) $
     sets ! (of_opd ! (load ! (through ! refl (fld ! refl (stop !))) (look_in ! 0 (sub ! 0 refl (whole !))))) refl (tt, tt) $
     first ! $ blocks ! $ sets ! (of_opd ! (get ! refl)) refl (tt, tt) $
@@ -125,7 +125,7 @@ next_spec 𝓤 𝓛 𝓜 𝓡 wired T' L =
     exec ! 𝓣.C 𝓣.Λ Ev (after 9 fn.body) (at_ret Ev Post) $
     sets ! (of_opd ! (get ! refl)) refl (tt, tt) $
     sets ! (agg ! (and_then ! (lit ! tt) (and_then ! (get ! refl) (no_more !)))) refl (tt, (record { fits = lit< tt }, (tt, tt))) $
-    use1 𝓛 (‵ (fat full_share (bare written) rb ro (words b (1 * s + p) (left - 1) rows h.width h.pad))) (𝓛.laws.at_raw full_share written rb ro (words b (1 * s + p) (left - 1) rows h.width h.pad)) $
+    use1 𝓛 (‵ (fat full_share (bare written) rb ro (words b (1 * s + p) (remaining - 1) rows h.width h.pad))) (𝓛.laws.at_raw full_share written rb ro (words b (1 * s + p) (remaining - 1) rows h.width h.pad)) $
     -- the pixel is cut out of the cells
     move ! (6 ∷ []) $ split ! $ move ! (3 ∷ 4 ∷ 0 ∷ []) $
     rewrite ! 0 (λ (zs : List X). ‵ (fobs δ ((coded_list R.coded).code zs))) cut refl $ rewrite ! 1 (λ (zs : List X). ‵ (fbor κ₁ (Body (Arr (mem R) (length zs)) b o δ))) cut refl $ group ! 3 $
@@ -134,8 +134,8 @@ next_spec 𝓤 𝓛 𝓜 𝓡 wired T' L =
     rewrite ! 0 (λ (k : ℕ). ‵ ((MutRef (named 1) κ₁ R).own_val (record { ref_ptr = (b, k); ghost_name = νs.0; now = x }) (vptr b k ∷ []))) at_p refl $ move ! (1 ∷ []) $ split ! $
     -- [obs; its borrow; the pixel; the token and what follows; the token of T; the cell; the open borrow; obs; auth]
     rewrite ! 1 (λ (k : ℕ). ‵ (fbor κ₁ (Body (Arr (mem R) (length back)) b k νs.1))) on refl $ fjoin ! $ pure_i ! (room R (length back)) (tt, tt) (omega arith, omega arith) $ fjoin ! $
-    use0 𝓛 (‵ ((Data α R).own_val (to (P.the_type α R) (new νs.1)) (words b (1 * s + p) (left - 1) rows h.width h.pad ∷ []))) (made α R 𝓛 (new νs.1) b (1 * s + p) refl fm fr' fw fp) $ fjoin ! $
-    move ! (4 ∷ 0 ∷ 5 ∷ 6 ∷ 7 ∷ []) $ closes ! tt It (new νs.1) (words b (1 * s + p) (left - 1) rows h.width h.pad ∷ []) rb ro $
+    use0 𝓛 (‵ ((Data α R).own_val (to (P.the_type α R) (new νs.1)) (words b (1 * s + p) (remaining - 1) rows h.width h.pad ∷ []))) (made α R 𝓛 (new νs.1) b (1 * s + p) refl fm fr' fw fp) $ fjoin ! $
+    move ! (4 ∷ 0 ∷ 5 ∷ 6 ∷ 7 ∷ []) $ closes ! tt It (new νs.1) (words b (1 * s + p) (remaining - 1) rows h.width h.pad ∷ []) rb ro $
     returns ! (look_at ! 0 refl) $ free_all ! refl $
     -- [obs; the borrow of self; its token; the pixel; the token of 'a and what follows; the token of T]
     move ! (4 ∷ []) $ split ! $ move ! (0 ∷ 6 ∷ []) $ join ! $ move ! (4 ∷ 0 ∷ []) $ join ! $
@@ -149,7 +149,7 @@ next_spec 𝓤 𝓛 𝓜 𝓡 wired T' L =
     sets ! (of_opd ! (load ! (through ! refl (fld ! refl (stop !))) (look_in ! 0 (sub ! 1 refl (whole !))))) refl (tt, record { fits = fl }) $
     sets ! (bin ! (get ! refl) (lit ! tt) tt) refl (tt, tt) $
     first ! $ branches ! (get ! refl)
-    (λ t. let z : h.left ≡ 0 = eqb→eq h.left 0 t in
+    (λ t. let z : h.remaining ≡ 0 = eqb→eq h.remaining 0 t in
     sets ! (of_opd ! (load ! (through ! refl (fld ! refl (stop !))) (look_in ! 0 (sub ! 2 refl (whole !))))) refl (tt, record { fits = fr }) $
     sets ! (bin ! (get ! refl) (lit ! tt) tt) refl (tt, tt) $
     first ! $ branches ! (get ! refl)
@@ -157,10 +157,10 @@ next_spec 𝓤 𝓛 𝓜 𝓡 wired T' L =
     sets ! (agg ! (and_then ! (lit ! tt) (no_more !))) refl (tt, (record { fits = lit< tt }, tt)) $
     let none : muts_left h ≡ [] = ap (λ (k : ℕ). chosen (marks k h.rows_left h.width h.pad) h.cells) z ∙ ap (λ (k : ℕ). chosen (marks 0 k h.width h.pad) h.cells) z' in
     let Ref : RattleType = MutRef (named 1) κ₁ R in let Steps : Type 0 = YieldsFirstMut muts_left h None h in let Goes : Type 0 = MakesProgress {A = MutBor X} (λ _. Unit {0}) (item_count muts_left) h None h in let Moved : Type 0 = Moves h None h in
-    use1 𝓛 (‵ (fat full_share (bare written) rb ro (words b o h.left h.rows_left h.width h.pad))) (𝓛.laws.at_raw full_share written rb ro (words b o h.left h.rows_left h.width h.pad)) $
+    use1 𝓛 (‵ (fat full_share (bare written) rb ro (words b o h.remaining h.rows_left h.width h.pad))) (𝓛.laws.at_raw full_share written rb ro (words b o h.remaining h.rows_left h.width h.pad)) $
     move ! (1 ∷ 2 ∷ []) $ fjoin ! $ pure_i ! (room R n) (tt, tt) rm $ fjoin ! $ rewrite ! 0 (λ (p : Ptr). ‵ (lent κ₁ R δ h.cells p)) (sym e) refl $
-    use0 𝓛 (‵ ((Data α R).own_val (to (P.the_type α R) h) (words b o h.left h.rows_left h.width h.pad ∷ []))) (made α R 𝓛 h b o e fl fr fw fp) $ fjoin ! $
-    move ! (1 ∷ 0 ∷ 2 ∷ 3 ∷ 4 ∷ []) $ closes ! tt It h (words b o h.left h.rows_left h.width h.pad ∷ []) rb ro $
+    use0 𝓛 (‵ ((Data α R).own_val (to (P.the_type α R) h) (words b o h.remaining h.rows_left h.width h.pad ∷ []))) (made α R 𝓛 h b o e fl fr fw fp) $ fjoin ! $
+    move ! (1 ∷ 0 ∷ 2 ∷ 3 ∷ 4 ∷ []) $ closes ! tt It h (words b o h.remaining h.rows_left h.width h.pad ∷ []) rb ro $
     returns_within ! Post refl (look_at ! 0 refl) $ free_all ! refl $
     move ! (2 ∷ 3 ∷ []) $ join ! $ move ! (1 ∷ 2 ∷ []) $ feq_i ! (List Val) (vptr rb ro ∷ []) (vptr rb ro ∷ []) refl $ fjoin3 ! $ nothing ! $ move ! (1 ∷ 0 ∷ []) $ fjoin ! $
     use0 𝓛 (‵ ((OP.the_row Ref).own_val None (live 0 (of_list []) ∷ []))) (none_of 𝓛 Ref) $
@@ -186,11 +186,11 @@ next_spec 𝓤 𝓛 𝓜 𝓡 wired T' L =
     sets ! (of_opd ! (load ! (through ! refl (fld ! refl (stop !))) (look_in ! 0 (sub ! 3 refl (whole !))))) refl (tt, record { fits = fw }) $
     assigns_last ! (of_opd ! (get ! refl)) (through ! refl (fld ! refl (stop !))) (store_in ! 0 (sub ! 1 refl (whole !)) (tt, record { fits = fw })) $
     forget_but ! Ev (1 ∷ []) refl $
-    let marked : marks h.left h.rows_left h.width h.pad ≡ replicate h.pad false ++ true ∷ marks (h.width - 1) (h.rows_left - 1) h.width h.pad = ap (λ (k : ℕ). marks k h.rows_left h.width h.pad) z ∙ marks_new_row h.rows_left h.width h.pad rows wide in
+    let marked : marks h.remaining h.rows_left h.width h.pad ≡ replicate h.pad false ++ true ∷ marks (h.width - 1) (h.rows_left - 1) h.width h.pad = ap (λ (k : ℕ). marks k h.rows_left h.width h.pad) z ∙ marks_new_row h.rows_left h.width h.pad rows wide in
     tail (h.pad * s + o) h.width (h.rows_left - 1) cut.0 cut.1 cut.2 (at_mul o s (length front) ∙ ap (λ (k : ℕ). k * s + o) (cut.3 ∙ at_pad)) wide fw fr' (omega (arith, h.reaches, all, z, at_pad, cut.4)) (λ _. wide)
     (ap (λ ms. chosen ms h.cells) marked ∙ ap (λ zs. chosen (replicate h.pad false ++ true ∷ marks (h.width - 1) (h.rows_left - 1) h.width h.pad) zs) cut.2 ∙ pick_past h.pad (marks (h.width - 1) (h.rows_left - 1) h.width h.pad) front cut.0 cut.1 (cut.3 ∙ at_pad)) cut.3 (marked ∙ ap (λ (k : ℕ). replicate k false ++ true ∷ marks (h.width - 1) (h.rows_left - 1) h.width h.pad) (sym at_pad)) (omega (arith, cut.4))))
-    (λ t. let pos : 1 ≤ h.left = one_at_least h.left t in let at_zero : sk ≡ 0 = skipped_in_row h.left h.pad pos in
+    (λ t. let pos : 1 ≤ h.remaining = one_at_least h.remaining t in let at_zero : sk ≡ 0 = skipped_in_row h.remaining h.pad pos in
     let long : sk < n = omega (arith, h.reaches, at_zero) in let cut = parts sk h.cells long in
     skips ! $ forget_but ! Ev (1 ∷ []) refl $
-    tail o h.left h.rows_left cut.0 cut.1 cut.2 (ap (λ (k : ℕ). at o s k) (cut.3 ∙ at_zero)) pos fl fr (omega (arith, h.reaches, at_zero, cut.4)) h.wide
-    (ap (λ ms. chosen ms h.cells) (marks_in_row h.left h.rows_left h.width h.pad pos) ∙ ap (λ zs. chosen (replicate 0 false ++ true ∷ marks (h.left - 1) h.rows_left h.width h.pad) zs) cut.2 ∙ pick_past 0 (marks (h.left - 1) h.rows_left h.width h.pad) front cut.0 cut.1 (cut.3 ∙ at_zero)) cut.3 (marks_in_row h.left h.rows_left h.width h.pad pos ∙ ap (λ (k : ℕ). replicate k false ++ true ∷ marks (h.left - 1) h.rows_left h.width h.pad) (sym at_zero)) (omega (arith, cut.4))))))))))
+    tail o h.remaining h.rows_left cut.0 cut.1 cut.2 (ap (λ (k : ℕ). at o s k) (cut.3 ∙ at_zero)) pos fl fr (omega (arith, h.reaches, at_zero, cut.4)) h.wide
+    (ap (λ ms. chosen ms h.cells) (marks_in_row h.remaining h.rows_left h.width h.pad pos) ∙ ap (λ zs. chosen (replicate 0 false ++ true ∷ marks (h.remaining - 1) h.rows_left h.width h.pad) zs) cut.2 ∙ pick_past 0 (marks (h.remaining - 1) h.rows_left h.width h.pad) front cut.0 cut.1 (cut.3 ∙ at_zero)) cut.3 (marks_in_row h.remaining h.rows_left h.width h.pad pos ∙ ap (λ (k : ℕ). replicate k false ++ true ∷ marks (h.remaining - 1) h.rows_left h.width h.pad) (sym at_zero)) (omega (arith, cut.4))))))))))

@@ -59,13 +59,13 @@ size_hint_spec 𝓤 𝓛 𝓜 𝓡 wired T' L =
     let κ₀ : Lft = κs.0 in let κ₁ : Lft = κs.1.0 in let κ₂ : Lft = κs.1.1.0 in let q₀ : Share = qs.0 in let q₁ : Share = qs.1.0 in let q₂ : Share = qs.1.1.0 in let α = named_lft 3 1 tt κs in
     let b : ℕ = a.0.ref_ptr.0 in let o : ℕ = a.0.ref_ptr.1 in let h : PixelsIterMut T'.Denot = a.0.now in
     let W = walk_of 𝓛 En hs c in let y : W.Ghost = ((κs, qs, bounds, a, (shr_vals a.0, tt)), g) in
-    let n : ℕ = h.left + h.rows_left * h.width in let is : length (muts_left h) ≡ n = length-pixels h.left h.rows_left h.width h.pad h.cells h.reaches in
+    let n : ℕ = h.remaining + h.rows_left * h.width in let is : length (muts_left h) ≡ n = length-pixels h.remaining h.rows_left h.width h.pad h.cells h.reaches in
     qed 𝓛 (((‵ (flft κ₀ q₀) ⊛ ‵ (flft κ₁ q₁) ⊛ ‵ (flft κ₂ q₂) ⊛ ‵ ftrue) ⊛ ‵ (owns (types_at En.signature.params κs) a y.0.4)) ∷ raw ((c κs a).requires g) ∷ []) ∵
-    split ! $ split ! $ move ! (2 ∷ []) $ fsplit ! $ fsplit ! $ drop ! $ use1 𝓛 (‵ (hidden_shr usize κ₀ h.left b (o + 8)) ⊛ ‵ (hidden_shr usize κ₀ h.rows_left b (o + 16)) ⊛ ‵ (hidden_shr usize κ₀ h.width b (o + 24))) (shown α R 𝓛 κ₀ h b o) $ split3 ! $
+    split ! $ split ! $ move ! (2 ∷ []) $ fsplit ! $ fsplit ! $ drop ! $ use1 𝓛 (‵ (hidden_shr usize κ₀ h.remaining b (o + 8)) ⊛ ‵ (hidden_shr usize κ₀ h.rows_left b (o + 16)) ⊛ ‵ (hidden_shr usize κ₀ h.width b (o + 24))) (shown α R 𝓛 κ₀ h b o) $ split3 ! $
     -- [left; rows; width; nothing; the token; the others; the requires]
     keep ! (0 ∷ 4 ∷ 1 ∷ 2 ∷ 5 ∷ []) $
     enter ! 𝓣.C 𝓣.Λ fn (vptr b o ∷ []) (W.post y) $ alloc_all ! (λ l. pass_all ! refl ((tt, tt), tt) $
-    word_in ! tt h.left b (o + 8) (λ q fl. sets ! (of_opd ! (load ! (through ! refl (fld ! refl (stop !))) (look ! 0 refl))) refl (tt, record { fits = fl }) $ word_out ! tt h.left b (o + 8) fl $ move ! (1 ∷ 0 ∷ []) $
+    word_in ! tt h.remaining b (o + 8) (λ q fl. sets ! (of_opd ! (load ! (through ! refl (fld ! refl (stop !))) (look ! 0 refl))) refl (tt, record { fits = fl }) $ word_out ! tt h.remaining b (o + 8) fl $ move ! (1 ∷ 0 ∷ []) $
     word_in ! tt h.rows_left b (o + 16) (λ q' fr. sets ! (of_opd ! (load ! (through ! refl (fld ! refl (stop !))) (look ! 0 refl))) refl (tt, record { fits = fr }) $ word_out ! tt h.rows_left b (o + 16) fr $ move ! (1 ∷ 0 ∷ []) $
     word_in ! tt h.width b (o + 24) (λ q'' fw. sets ! (of_opd ! (load ! (through ! refl (fld ! refl (stop !))) (look ! 0 refl))) refl (tt, record { fits = fw }) $ word_out ! tt h.width b (o + 24) fw $
     -- [the token; nothing; the others; the requires]

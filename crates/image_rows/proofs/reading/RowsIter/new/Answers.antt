@@ -3,7 +3,7 @@ use Rattle.image_model.specs.Layout.{layout}
 use Rattle.image_model.specs.Rows.{rows}
 use Rattle.image_shape.specs.Shape.{shape_width, shape_height, shape_stride, shaped}
 use Rattle.image_rows.specs.Rows.{refs_left}
-use Rattle.image_rows.proofs.Rows.{rows_counted, rows_by_grid, rows_number, rows_countable, rows_as_wide}
+use Rattle.image_rows.proofs.RowsLeft.{rows_counted, rows_by_grid, rows_number, rows_countable, rows_as_wide}
 use Rattle.image_rows.proofs.reading.RowsIter.new.Goals as goal
 
 pub returns-clause-rows : goal.returns-clause-rows

@@ -3,7 +3,7 @@ use Rattle.std.proofs.iter.Next.{firm}
 use Rattle.image_model.specs.Layout.{layout}
 use Rattle.image_model.specs.Rows.{rows}
 use Rattle.image_rows.specs.Rows.{refs_left}
-use Rattle.image_rows.proofs.Rows.{rows_last, length-rows_left}
+use Rattle.image_rows.proofs.RowsLeft.{rows_last, length-rows_left}
 use Rattle.image_rows.proofs.reading.RowsIterDoubleEndedIterator.next_back.Goals as goal
 
 pub returns-clause-steps : goal.returns-clause-steps

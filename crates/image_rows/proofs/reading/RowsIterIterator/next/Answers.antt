@@ -2,7 +2,7 @@ use Rattle.std.proofs.Common.{◌<◌, ◌-◌, ◌∷◌, length, take, drop, s
 use Rattle.std.proofs.lemmas.List.{length-drop, take_all}
 use Rattle.std.proofs.iter.Next.{firm}
 use Rattle.image_rows.specs.Rows.{refs_left}
-use Rattle.image_rows.proofs.Rows.{rows_first}
+use Rattle.image_rows.proofs.RowsLeft.{rows_first}
 use Rattle.image_rows.proofs.reading.RowsIterIterator.next.Goals as goal
 use Rattle.image_rows.proofs.reading.RowsIterIterator.next.Goals.{then-self-gt0, else-self-gt0}
 

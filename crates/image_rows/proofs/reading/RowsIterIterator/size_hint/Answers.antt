@@ -1,6 +1,6 @@
 use Rattle.std.proofs.Common.{sym, ap, Some, arith}
 use Rattle.image_rows.specs.Rows.{refs_left}
-use Rattle.image_rows.proofs.Rows.{length-rows_left}
+use Rattle.image_rows.proofs.RowsLeft.{length-rows_left}
 use Rattle.image_rows.proofs.reading.RowsIterIterator.size_hint.Goals as goal
 
 pub returns-clause-lower : goal.returns-clause-lower

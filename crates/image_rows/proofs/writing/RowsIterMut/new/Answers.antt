@@ -4,7 +4,7 @@ use Rattle.image_model.specs.Rows.{rows}
 use Rattle.image_model.proofs.Rows.{some_column}
 use Rattle.image_shape.specs.Shape.{shape_width, shape_height, shape_stride, shaped}
 use Rattle.image_rows.specs.Rows.{muts_left}
-use Rattle.image_rows.proofs.Rows.{rows_counted, rows_by_grid, rows_number, rows_countable, rows_as_wide, rows_reach}
+use Rattle.image_rows.proofs.RowsLeft.{rows_counted, rows_by_grid, rows_number, rows_countable, rows_as_wide, rows_reach}
 use Rattle.image_rows.proofs.writing.RowsIterMut.new.Goals as goal
 
 pub invariant_of-result : goal.invariant_of-result

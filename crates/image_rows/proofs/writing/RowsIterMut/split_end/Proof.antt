@@ -64,8 +64,8 @@ use Rattle.image_rows.proofs.spacing.Spacing.TheLaws as spacing_laws
 use Rattle.image_rows.proofs.spacing.Cuts.TheLaws as cuts_laws
 use Rattle.image_rows.proofs.writing.RowsIterMut.TheLaws as iter_laws
 use Rattle.image_rows.proofs.Cuts.{Lies, outer_within, inner_within, last_reaches, gone_is, rest_lies, whole_is, given_at, none_at}
-use Rattle.image_rows.proofs.Rows.{one_at_least}
-use Rattle.image_rows.proofs.Values.{cells_out, cells_in}
+use Rattle.image_rows.proofs.RowsLeft.{one_at_least}
+use Rattle.image_rows.proofs.IterValues.{cells_out, cells_in}
 use Rattle.image_rows.specs.contracts.parts.part as f
 use Rattle.image_rows.proofs.parts.part.Met as parting
 use Rattle.image_rows.specs.contracts.spacing.Spacing.cuts as g

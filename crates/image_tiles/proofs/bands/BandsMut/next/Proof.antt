@@ -47,11 +47,11 @@ use Rattle.lending.proofs.Pairs.{pair_told, pair_out}
 use Rattle.image_tiles.specs.Bands.{bands_left, hands_on, Moves}
 use Rattle.imgref.specs.declared.img.Img.{Img}
 use Rattle.imgref.specs.Image.{mut_layout}
-use Rattle.imgref.proofs.Values.{img_row}
+use Rattle.imgref.proofs.ImageValues.{img_row}
 use Rattle.image_tiles.specs.declared.bands.BandsMut.{BandsMut}
 use Rattle.image_tiles.specs.contracts.bands.BandsMut.{the_row}
 use Rattle.image_tiles.proofs.bands.BandsMut.TheLaws as laws
-use Rattle.image_tiles.proofs.Values.{band_val, band_ok, band_told}
+use Rattle.image_tiles.proofs.BandValues.{band_val, band_ok, band_told}
 use Rattle.image_tiles.specs.contracts.bands.BandsMut.take as K
 use Rattle.image_tiles.proofs.bands.BandsMut.take.Met as taking
 use Rattle.image_tiles.specs.contracts.bands.BandsMut.split_first as N

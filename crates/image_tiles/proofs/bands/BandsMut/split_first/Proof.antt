@@ -55,26 +55,26 @@ use Rattle.image_shape.specs.contracts.shape.Shape as shape_type
 use Rattle.image_shape.proofs.shape.Shape.TheLaws as shape_laws
 use Rattle.imgref.specs.declared.img.Img.{Img}
 use Rattle.imgref.specs.Image.{mut_layout, shape_of}
-use Rattle.imgref.proofs.Values.{img_val, img_row, img_told, LentCells, lent_cells_laws}
+use Rattle.imgref.proofs.ImageValues.{img_val, img_row, img_told, LentCells, lent_cells_laws}
 use Rattle.imgref.specs.contracts.img.Img.from_parts as h
 use Rattle.imgref.proofs.img.Img.from_parts.Met as making
 use Rattle.image_tiles.specs.Bands.{bands_left, band_rows, behind, put_back, Moves}
-use Rattle.image_tiles.specs.declared.bands.Lines.{Lines}
+use Rattle.image_tiles.specs.declared.bands.BandSpacing.{BandSpacing}
 use Rattle.image_tiles.specs.declared.bands.Cut.{Cut}
 use Rattle.image_tiles.specs.declared.bands.BandsMut.{BandsMut}
-use Rattle.image_tiles.specs.contracts.bands.Lines as lines_type
+use Rattle.image_tiles.specs.contracts.bands.BandSpacing as spacing_type
 use Rattle.image_tiles.specs.contracts.bands.Cut as cut_type
 use Rattle.image_tiles.specs.contracts.bands.BandsMut.{the_row}
-use Rattle.image_tiles.proofs.bands.Lines.TheLaws as lines_laws
+use Rattle.image_tiles.proofs.bands.BandSpacing.TheLaws as spacing_laws
 use Rattle.image_tiles.proofs.bands.Cut.TheLaws as cut_laws
 use Rattle.image_tiles.proofs.bands.BandsMut.TheLaws as iter_laws
 use Rattle.image_tiles.proofs.BandsCut.{Lies, cut_end, end_within, skip_within, gone_is, rest_lies, whole_is, given, none_at}
 use Rattle.image_tiles.proofs.Tilings.{one_at_least}
-use Rattle.image_tiles.proofs.Values.{cells_out, cells_in}
+use Rattle.image_tiles.proofs.BandValues.{cells_out, cells_in}
 use Rattle.image_tiles.specs.contracts.bands.part as f
 use Rattle.image_tiles.proofs.bands.part.Met as parting
-use Rattle.image_tiles.specs.contracts.bands.Lines.cut as g
-use Rattle.image_tiles.proofs.bands.Lines.cut.Met as counting
+use Rattle.image_tiles.specs.contracts.bands.BandSpacing.cut as g
+use Rattle.image_tiles.proofs.bands.BandSpacing.cut.Met as counting
 use Rattle.image_tiles.specs.contracts.bands.BandsMut.split_first.{ended, clauses}
 use Rattle.image_tiles.specs.contracts.bands.BandsMut.split_first.Key.{name as #self}
 use Rattle.image_tiles.proofs.bands.BandsMut.split_first.Statement.{statement}
@@ -90,13 +90,13 @@ split_first_spec 𝓤 𝓛 𝓜 𝓡 wired T L =
     let α = named_lft 2 0 tt z.0.0 in
     let LR = param_laws 0 T L in
     let s : BandsMut T.Denot = a.0 in
-    let p : Lines = s.lines in
+    let p : BandSpacing = s.spacing in
     let xs : List T.Denot = s.cells.now in
     let It : RattleType = the_row α R in
     let Slice : RattleType = MutSlice (named 0) κ R in
     let Image : RattleType = img_row (named 0) κ R in
     let Row : RattleType = opt.the_row Image in
-    let Li : RattleType = lines_type.the_row in
+    let Li : RattleType = spacing_type.the_row in
     let Sh : RattleType = shape_type.the_row in
     let low : BandsMut T.Denot → Val = (iter_laws.lowers α R LR).lowered in
     let ok = (typed It (iter_laws.the_row_laws α R LR) (iter_laws.lowers α R LR) 𝓛 s vss.0 are.0).0 in
@@ -140,10 +140,10 @@ split_first_spec 𝓤 𝓛 𝓜 𝓡 wired T L =
     let High : Type 0 = 0 < p.band_height in
     let Reach : Type 0 = p.skip + (p.stride * (p.rows - 1) + p.width) < 2 ^ 64 in
     let fit : length xs < 2 ^ 64 = ok.1.0.1.0.fits in
-    let is_li = is_low Li lines_laws.the_row_laws lines_laws.lowers 𝓛 p _ are.0.1.1.1.0 in
+    let is_li = is_low Li spacing_laws.the_row_laws spacing_laws.lowers 𝓛 p _ are.0.1.1.1.0 in
     let GC = triple_of 𝓛 g.signature (g.spec 𝓛 𝓜.mem 𝓡.returns) in
-    let zc : GC.Ghost = ((tt, tt, tt, (p, tt), (lines_laws.lowered p ∷ [], tt)), tt) in
-    nothing ! $ owned ! Li (Is Li) (row_Makes Li lines_laws.the_row_plain 𝓛) p (lines_laws.lowered p ∷ []) is_li $ join ! $ nothing ! $ join ! $
+    let zc : GC.Ghost = ((tt, tt, tt, (p, tt), (spacing_laws.lowered p ∷ [], tt)), tt) in
+    nothing ! $ owned ! Li (Is Li) (row_Makes Li spacing_laws.the_row_plain 𝓛) p (spacing_laws.lowered p ∷ []) is_li $ join ! $ nothing ! $ join ! $
     use0 𝓛 (raw (fact 𝓤 Reach)) (fact_i 𝓤 Reach (emp 𝓤) (omega (arith, s.fits one, fit))) $
     use0 𝓛 (raw (fact 𝓤 High)) (fact_i 𝓤 High (emp 𝓤) s.high) $ join ! $
     use0 𝓛 (raw (fact 𝓤 Tall)) (fact_i 𝓤 Tall (emp 𝓤) s.rows_fit) $ join ! $
@@ -151,7 +151,7 @@ split_first_spec 𝓤 𝓛 𝓜 𝓡 wired T L =
     use0 𝓛 (raw (fact 𝓤 Holds)) (fact_i 𝓤 Holds (emp 𝓤) s.holds_width) $ join ! $
     use0 𝓛 (raw (fact 𝓤 Positive)) (fact_i 𝓤 Positive (emp 𝓤) s.stride_positive) $ join ! $
     use0 𝓛 (raw (fact 𝓤 Some₀)) (fact_i 𝓤 Some₀ (emp 𝓤) one) $ join ! $ move ! (1 ∷ 0 ∷ []) $ use2 𝓛 (raw (GC.pre zc)) (id⊢ 𝓤 _) $
-    calls_at ! fm GC (counting.met 𝓤 𝓛 𝓜 𝓡 (compiled.calls-image_tiles::bands::Lines::cut 𝓡.env wired)) zc (and_then ! (get ! refl) (no_more !)) (λ vc.
+    calls_at ! fm GC (counting.met 𝓤 𝓛 𝓜 𝓡 (compiled.calls-image_tiles::bands::BandSpacing::cut 𝓡.env wired)) zc (and_then ! (get ! refl) (no_more !)) (λ vc.
     let CutRow : RattleType = cut_type.the_row in
     let Skip : Cut → Type 0 = λ n. n.skip ≡ p.skip in
     let End : Cut → Type 0 = λ n. n.end ≡ cut_end p in
@@ -256,7 +256,7 @@ split_first_spec 𝓤 𝓛 𝓜 𝓡 wired T L =
     sets ! (agg ! (and_then ! (get ! refl) (and_then ! (get ! refl) (no_more !)))) refl (tt, ((record { fits = lit< tt }, (band_ok, tt)), ((kept_ok, (okr, tt)), tt))) $
     returns ! (look_at ! 0 refl) $ free_all ! refl $
     let rest : Lies n.rest (length r.1.now) = rw (is_rest, is_kept, is_end) (rest_lies p xs lies one) in
-    let left : BandsMut T.Denot = record { cells = r.1; lines = n.rest; some = rest.0; stride_positive = rest.1; holds_width = rest.2; width_fits = rest.3; rows_fit = rest.4; high = rest.5; fits = rest.6 } in
+    let left : BandsMut T.Denot = record { cells = r.1; spacing = n.rest; some = rest.0; stride_positive = rest.1; holds_width = rest.2; width_fits = rest.3; rows_fit = rest.4; high = rest.5; fits = rest.6 } in
     let some_band : Val = live 1 (of_list (band_word ∷ [])) in
     let word : Val = pair_val some_band (low left) in
     let band_is : b.buf.now ≡ drop_list p.skip (take (cut_end p) xs) = ap (λ (u : MutBor (List T.Denot)). u.now) same ∙ rw (is_band, is_piece, is_end, is_skip) refl in
@@ -269,7 +269,7 @@ split_first_spec 𝓤 𝓛 𝓜 𝓡 wired T L =
     move ! (4 ∷ []) $ rewrite ! 0 (λ (m : GName). ‵ (follows_both (Array R 0) (Array R 0) (Array R 0) s.cells.ghost_name m r.1.ghost_name (put_back s))) (ap (λ (u : MutBor (List T.Denot)). u.ghost_name) (sym same)) refl $
     move ! (1 ∷ []) $ use1 𝓛 (‵ (Row.own_val (Some b) (some_band ∷ []))) (Some-of 𝓛 Image b band_word) $
     -- [the answer; what follows; the token of κ with nothing; the token of κT; nothing; what is kept]
-    move ! (5 ∷ []) $ use1 𝓛 (‵ (It.own_val left (low left ∷ []))) (cells_in α R LR 𝓛 left (is_low Li lines_laws.the_row_laws lines_laws.lowers 𝓛 n.rest _ isc.1.1.1.1.1.0)) $
+    move ! (5 ∷ []) $ use1 𝓛 (‵ (It.own_val left (low left ∷ []))) (cells_in α R LR 𝓛 left (is_low Li spacing_laws.the_row_laws spacing_laws.lowers 𝓛 n.rest _ isc.1.1.1.1.1.0)) $
     move ! (1 ∷ 0 ∷ []) $ use2 𝓛 (‵ ((Tuple (Row ∷ It ∷ [])).own_val (Some b, left) (word ∷ []))) (pair_made Row It (Some b) left some_band (low left) 𝓛) $
     -- [the result; what follows; the token of κ with nothing; the token of κT; nothing]
     use0 𝓛 (raw (fact 𝓤 Moved)) (fact_i 𝓤 Moved (emp 𝓤) moved) $ use0 𝓛 (raw (fact 𝓤 Steps)) (fact_i 𝓤 Steps (emp 𝓤) steps) $ join ! $ move ! (2 ∷ 0 ∷ []) $ join ! $

@@ -42,7 +42,7 @@ use Rattle.lending.proofs.Followed.{if_some, if_none}
 use Rattle.image_model.specs.Layout.{Layout, Fits}
 use Rattle.image_model.specs.Windows.{Window}
 use Rattle.imgref.specs.Image.{layout_by, shape_of}
-use Rattle.imgref.proofs.Values.{img_val, img_row, img_told}
+use Rattle.imgref.proofs.ImageValues.{img_val, img_row, img_told}
 use Rattle.imgref.specs.declared.img.Img.{Img}
 use Rattle.std.specs.Prelude.{IsTrue}
 use Rattle.image_tiles.specs.Lending.{image_of, tiling_of, after_tile, name_of, IsNext, NextTile, tiles_left}
@@ -53,7 +53,7 @@ use Rattle.image_tiles.specs.contracts.tiles.TileCursor.counted as f
 use Rattle.image_tiles.proofs.tiles.TileCursor.counted.Met as counting
 use Rattle.image_tiles.specs.contracts.tiles.TileCursor.tile as g
 use Rattle.image_tiles.proofs.tiles.TileCursor.tile.Met as lending
-use Rattle.image_tiles.proofs.Lent.{Counted, counted_told, counted_out}
+use Rattle.image_tiles.proofs.CountedValues.{Counted, counted_told, counted_out}
 use Rattle.image_tiles.proofs.Left.{tiles_all_left, none_of_length}
 use Rattle.image_tiles.proofs.Tilings.{one_at_least}
 use Rattle.image_tiles.specs.contracts.tiles.TileCursor.next_tile.{ended, clauses}

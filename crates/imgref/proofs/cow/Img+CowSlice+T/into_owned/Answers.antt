@@ -4,7 +4,7 @@ use Rattle.std.specs.Cow.{IsBorrowedSlice, cow_slice_items}
 use Rattle.image_model.specs.Rows.{joined_rows}
 use Rattle.image_shape.specs.Shape.{shaped}
 use Rattle.image_cells.specs.Clones.{ClonesEqual}
-use Rattle.imgref.proofs.Numbers.{image_is}
+use Rattle.imgref.proofs.SameImages.{image_is}
 use Rattle.imgref.proofs.cow.Img+CowSlice+T.into_owned.Goals as goal
 
 pub joined_clones-requires-clause-clones_equal : goal.joined_clones-requires-clause-clones_equal

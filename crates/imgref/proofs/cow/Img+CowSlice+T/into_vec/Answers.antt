@@ -1,6 +1,6 @@
 -- The image that is handed back has the container and the shape of the one given.
 use Rattle.std.proofs.Common.{sym, ◌∙◌}
-use Rattle.imgref.proofs.Numbers.{image_is}
+use Rattle.imgref.proofs.SameImages.{image_is}
 use Rattle.imgref.proofs.cow.Img+CowSlice+T.into_vec.Goals as goal
 
 pub returns-in-Err-clause-handed_back : goal.returns-in-Err-clause-handed_back

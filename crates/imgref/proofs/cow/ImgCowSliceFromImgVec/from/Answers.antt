@@ -1,7 +1,7 @@
 -- The image has the buffer and the shape of the one given.
 use Rattle.std.proofs.Common.{refl, ap}
 use Rattle.imgref.specs.Image.{shape_of}
-use Rattle.imgref.proofs.Numbers.{same_image}
+use Rattle.imgref.proofs.SameImages.{same_image}
 use Rattle.imgref.proofs.cow.ImgCowSliceFromImgVec.from.Goals as goal
 
 pub returns : goal.returns

@@ -50,7 +50,7 @@ use Rattle.image_pixels.proofs.pixels_mut.PixelsIterMut.new.Met as making
 use Rattle.imgref.specs.Image.{layout_by, with_all, shape_of}
 use Rattle.imgref.specs.declared.img.Img.{Img}
 use Rattle.imgref.specs.contracts.img.Img.{the_row}
-use Rattle.imgref.proofs.Values.{shape_val, shape_told, shape_made}
+use Rattle.imgref.proofs.ImageValues.{shape_val, shape_told, shape_made}
 use Rattle.imgref.specs.contracts.img.Img.all_parts_mut as a
 use Rattle.imgref.proofs.img.Img.all_parts_mut.Met as taking
 use Rattle.imgref.specs.contracts.img.Img.exact_pixels_mut.{ended, clauses}

@@ -3,7 +3,7 @@ use Rattle.std.proofs.Common.{rules, length, refl, ap, ◌∙◌, arith}
 use Rattle.image_model.proofs.Stretches.{length-stretch_cells}
 use Rattle.image_shape.specs.Shape.{shape_width}
 use Rattle.imgref.specs.Index.{with_row}
-use Rattle.imgref.proofs.Numbers.{same_image}
+use Rattle.imgref.proofs.SameImages.{same_image}
 use Rattle.imgref.proofs.Writes.{row_patches, row_keeps, row_fits}
 use Rattle.imgref.proofs.img.Img.row_mut.Goals as goal
 

@@ -6,7 +6,7 @@ use Rattle.image_model.specs.Rows.{rows, row_count, grid_rows}
 use Rattle.image_model.specs.Windows.{stretch_cells}
 use Rattle.image_rows.specs.Rows.{muts_left, whole_spacing}
 use Rattle.image_shape.specs.Shape.{shape_width, shape_height, shape_stride, shaped}
-use Rattle.imgref.proofs.Numbers.{same_image}
+use Rattle.imgref.proofs.SameImages.{same_image}
 use Rattle.imgref.proofs.img.Img.rows_mut.Goals as goal
 
 -- a stretch from the first cell on, as long as all cells are, is all of them

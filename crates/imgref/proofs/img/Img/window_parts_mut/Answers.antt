@@ -6,8 +6,8 @@ use Rattle.image_model.proofs.Windows.{fits_as, shows_as}
 use Rattle.image_shape.specs.Shape.{shape_width, shape_stride, shaped}
 use Rattle.image_shape.specs.Window.{as_stretch, as_window}
 use Rattle.imgref.specs.Image.{layout_by, window_buf}
-use Rattle.imgref.proofs.Numbers.{same_image}
-use Rattle.imgref.proofs.Shapes.{window_is}
+use Rattle.imgref.proofs.SameImages.{same_image}
+use Rattle.imgref.proofs.WindowShapes.{window_is}
 use Rattle.imgref.proofs.Writes.{window_patches, window_keeps, window_fits, window_contains}
 use Rattle.imgref.proofs.img.Img.window_parts_mut.Goals as goal
 

@@ -2,7 +2,7 @@
 use Rattle.std.proofs.Common.{◌≡◌, ◌+◌, ◌*◌, refl, ap, ◌∙◌}
 use Rattle.image_shape.specs.Shape.{shape_stride}
 use Rattle.imgref.specs.Image.{stride_of}
-use Rattle.imgref.proofs.Numbers.{same_image}
+use Rattle.imgref.proofs.SameImages.{same_image}
 use Rattle.imgref.proofs.Writes.{cell_grid, cell_outside, cell_fits}
 use Rattle.imgref.proofs.index.ImgIndexMutTuple2UsizeUsize.index_mut.Goals as goal
 

@@ -45,7 +45,7 @@ use Rattle.image_shape.specs.Shape.{shaped}
 use Rattle.image_shape.specs.Window.{as_stretch}
 use Rattle.imgref.specs.Image.{mut_layout, shape_of}
 use Rattle.imgref.specs.declared.img.Img.{Img}
-use Rattle.imgref.proofs.Values.{stretch_val, stretch_told, shape_val, shape_told, shape_made, img_val, img_row, img_told, LentCells, lent_cells_laws}
+use Rattle.imgref.proofs.ImageValues.{stretch_val, stretch_told, shape_val, shape_told, shape_made, img_val, img_row, img_told, LentCells, lent_cells_laws}
 use Rattle.imgref.specs.contracts.img.Img.from_parts as f
 use Rattle.imgref.proofs.img.Img.from_parts.Met as made
 use Rattle.imgref.specs.contracts.window.Img+mut+slice+T.from_stretch.{ended, clauses}

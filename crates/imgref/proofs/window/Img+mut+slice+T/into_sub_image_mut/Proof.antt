@@ -46,7 +46,7 @@ use Rattle.image_shape.specs.Shape.{shaped}
 use Rattle.image_shape.specs.Window.{as_stretch}
 use Rattle.imgref.specs.Image.{mut_layout, shape_of}
 use Rattle.imgref.specs.declared.img.Img.{Img}
-use Rattle.imgref.proofs.Values.{window_val, window_made, stretch_val, stretch_made, shape_val, shape_made, img_val, img_row, img_told, ImgParts, img_parts_told, Parts, parts_told, LentCells, lent_cells_laws}
+use Rattle.imgref.proofs.ImageValues.{window_val, window_made, stretch_val, stretch_made, shape_val, shape_made, img_val, img_row, img_told, ImgParts, img_parts_told, Parts, parts_told, LentCells, lent_cells_laws}
 use Rattle.image_cells.specs.contracts.roomy_stretch_mut as f
 use Rattle.image_cells.proofs.roomy_stretch_mut.Met as found
 use Rattle.imgref.specs.contracts.img.Img.into_parts as parts

@@ -1,7 +1,7 @@
 -- One row more is fed.
 use Rattle.image_shape.specs.Shape.{shaped}
 use Rattle.image_cells.proofs.FirstRows.{one_fed}
-use Rattle.image_cells.proofs.hashing.feed.Goals as goal
+use Rattle.image_cells.proofs.hashing.hash_pixels.Goals as goal
 
 pub loop-y-preserved : goal.loop-y-preserved
 loop-y-preserved g c =

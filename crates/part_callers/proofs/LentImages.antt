@@ -22,8 +22,8 @@ use Rattle.std.specs.contracts.result.Result as result
 use Rattle.std.specs.declared.result.Result.{Result}
 use Rattle.std.specs.declared.result.Result.TheVariants.{Ok, Err}
 use Rattle.imgref.specs.declared.img.Img.{Img}
-use Rattle.imgref.proofs.Values.{img_row, img_told}
-use Rattle.image_tiles.proofs.Values.{band_val}
+use Rattle.imgref.proofs.ImageValues.{img_row, img_told}
+use Rattle.image_tiles.proofs.BandValues.{band_val}
 
 pub ok_or_err : {X : Type 0} (m : Result X ℕ) → ((x : X) × (m ≡ Ok x)) ⊎ ((n : ℕ) × (m ≡ Err n))
 ok_or_err (Ok x) = inl (x, refl)

@@ -6,7 +6,7 @@ ghost use Rattle.std.specs.Fn.{Called, Takes};
 //
 // A generated proof follows a closure that takes references only through a function for which
 // their type is a parameter.
-pub(crate) fn call<A, B, F: FnMut(B, A) -> B>(f: &mut F, acc: B, item: A) -> B
+pub(crate) fn fold_one<A, B, F: FnMut(B, A) -> B>(f: &mut F, acc: B, item: A) -> B
     requires takes { Takes F.FnMut f.old (acc, (item, tt)) }
     ensures called { Called F.FnMut f.old (acc, (item, tt)) result f.new }
 {

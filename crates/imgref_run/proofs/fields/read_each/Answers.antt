@@ -3,7 +3,7 @@ use Rattle.std.proofs.Common.{sym}
 use Rattle.text_model.specs.Reading.{each_of}
 use Rattle.texts.specs.Parts.{parts_left}
 use Rattle.imgref_run.proofs.FieldsEach.{each_of-more, each_of-stops, each_of-done}
-use Rattle.imgref_run.proofs.fields.each.Goals as goal
+use Rattle.imgref_run.proofs.fields.read_each.Goals as goal
 
 pub returns-in_default-read : goal.returns-in_default-read
 returns-in_default-read g c =

@@ -4,7 +4,7 @@ use Rattle.imgref.specs.Image.{vec_layout}
 use Rattle.imgref_run.specs.Script.{images_of}
 use Rattle.imgref_run.proofs.ProgramWrites.{All-fit}
 use Rattle.imgref_run.proofs.ScriptGood.{own_script}
-use Rattle.imgref_run.proofs.program.answer.Goals as goal
+use Rattle.imgref_run.proofs.program.output_of.Goals as goal
 
 pub replay-requires : goal.replay-requires
 replay-requires c = rw c.deref_mut.ensures.value (All-fit (images_of c.in_ok-script.script) c.in_ok-script.ensures.script.images_in_range)
@@ -14,8 +14,8 @@ output-requires c =
     let same : c.deref-4.result.now ≡ c.replay.new.images = grind (arith, common_steps) in
     rw same c.in_ok-replies.ensures.run.all_fit
 
-pub returns-clause-answer : goal.returns-clause-answer
-returns-clause-answer c =
+pub returns-clause-output : goal.returns-clause-output
+returns-clause-output c =
     let old = c.in_ok-script.script in
     let same : c.deref-4.result.now ≡ c.replay.new.images = grind (arith, common_steps) in
     record {

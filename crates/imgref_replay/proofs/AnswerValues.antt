@@ -25,7 +25,7 @@ use Rattle.image_shape.specs.declared.window.Stretch.{Stretch}
 use Rattle.image_shape.specs.contracts.window.Stretch as stretch
 use Rattle.image_shape.specs.declared.shape.Shape.{Shape}
 use Rattle.image_shape.specs.contracts.shape.Shape as shape
-use Rattle.imgref.proofs.Values.{stretch_val, stretch_told, shape_val, shape_told}
+use Rattle.imgref.proofs.ImageValues.{stretch_val, stretch_told, shape_val, shape_told}
 
 -- ---- a stretch and a shape, or a number
 abbrev pub Found : RattleType

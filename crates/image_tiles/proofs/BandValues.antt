@@ -20,20 +20,20 @@ use Rattle.lending.proofs.Declared.{plain_made, held_cells, held_again}
 use Rattle.lending.proofs.Options.{lent_val}
 use Rattle.imgref.specs.declared.img.Img.{Img}
 use Rattle.imgref.specs.Image.{shape_of}
-use Rattle.imgref.proofs.Values.{img_val, img_row, img_told}
+use Rattle.imgref.proofs.ImageValues.{img_val, img_row, img_told}
 use Rattle.image_tiles.specs.declared.bands.BandsMut.{BandsMut}
-use Rattle.image_tiles.specs.contracts.bands.Lines as sp
+use Rattle.image_tiles.specs.contracts.bands.BandSpacing as sp
 use Rattle.image_tiles.specs.contracts.bands.BandsMut.{the_row, the_type}
-use Rattle.image_tiles.proofs.bands.Lines.TheLaws as sp_laws
+use Rattle.image_tiles.proofs.bands.BandSpacing.TheLaws as sp_laws
 use Rattle.image_tiles.proofs.bands.BandsMut.TheLaws as it
 
 -- an iterator: its slice, and it made again
 module _ (a : NamedLft) (R : RattleType) (L : Laws R) {M : Type 1} {𝓤 : Ura M} (𝓛 : Logic 𝓤) (s : BandsMut R.Denot) where
   pub cells_out : (vs : List Val) → ent 𝓤 (sem 𝓛 ((the_row a R).own_val s vs)) (sem 𝓛 ((MutSlice a.mir a.lft R).own_val s.cells (lent_val s.cells ∷ [])))
-  cells_out vs = held_cells (the_type a R).name (a.mir ∷ []) (R ∷ []) a.mir a.lft R sp.the_field.row 𝓛 s.cells (sp.the_field.into s.lines) vs
+  cells_out vs = held_cells (the_type a R).name (a.mir ∷ []) (R ∷ []) a.mir a.lft R sp.the_field.row 𝓛 s.cells (sp.the_field.into s.spacing) vs
 
-  pub cells_in : Is sp.the_row s.lines (sp_laws.lowered s.lines ∷ []) → ent 𝓤 (sem 𝓛 ((MutSlice a.mir a.lft R).own_val s.cells (lent_val s.cells ∷ []))) (sem 𝓛 ((the_row a R).own_val s ((it.lowers a R L).lowered s ∷ [])))
-  cells_in is = held_again (the_type a R).name (a.mir ∷ []) (R ∷ []) a.mir a.lft R sp.the_field.row 𝓛 s.cells (sp.the_field.into s.lines) _ (plain_made 𝓛 sp.the_row sp_laws.the_row_plain s.lines _ is)
+  pub cells_in : Is sp.the_row s.spacing (sp_laws.lowered s.spacing ∷ []) → ent 𝓤 (sem 𝓛 ((MutSlice a.mir a.lft R).own_val s.cells (lent_val s.cells ∷ []))) (sem 𝓛 ((the_row a R).own_val s ((it.lowers a R L).lowered s ∷ [])))
+  cells_in is = held_again (the_type a R).name (a.mir ∷ []) (R ∷ []) a.mir a.lft R sp.the_field.row 𝓛 s.cells (sp.the_field.into s.spacing) _ (plain_made 𝓛 sp.the_row sp_laws.the_row_plain s.spacing _ is)
 
 -- ---- a band: an image of lent cells
 abbrev pub band_val : {T : Type 0} → Img (MutBor (List T)) → Val

@@ -2,7 +2,7 @@ use Rattle.std.proofs.Common.{◌≡◌, length}
 use Rattle.text_model.specs.Reading.{each_of}
 use Rattle.texts.specs.Parts.{parts_left}
 use Rattle.imgref_run.proofs.FieldsEach.{with_front}
-use Rattle.imgref_run.proofs.fields.each.Given as goal
+use Rattle.imgref_run.proofs.fields.read_each.Given as goal
 
 abbrev pub invariant-loop-part : goal.invariant-loop-part
 invariant-loop-part g l = with_front l.values.items (each_of g.T.Field.reading (parts_left l.parts)) ≡ each_of g.T.Field.reading (parts_left l.initial.parts)
