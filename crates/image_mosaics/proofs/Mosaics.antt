@@ -14,7 +14,7 @@ use Rattle.image_shape.specs.declared.window.Stretch as part
 use Rattle.image_model.proofs.Cells.{slice_get-take, slice_get-drop}
 use Rattle.image_model.proofs.Grids.{same_grids, at_place, pixel_at}
 use Rattle.image_model.proofs.Rows.{row_reached}
-use Rattle.image_pixels.proofs.Rows.{RowsDone, still, one_row_more, row_cells, row_length, row_written, shows_table}
+use Rattle.image_pixels.proofs.RowsWritten.{RowsDone, still, one_row_more, row_cells, row_length, row_written, shows_table}
 use Rattle.image_mosaics.specs.Mosaic.{mosaic, IsSpread}
 use Rattle.image_mosaics.proofs.Corners.{own_start, start_before}
 

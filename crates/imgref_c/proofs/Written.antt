@@ -8,11 +8,18 @@ use Rattle.image_model.proofs.Windows.{HasWindow, stretch_window, exact_has, han
 use Rattle.image_shape.specs.declared.shape.Shape.{Shape}
 use Rattle.image_shape.specs.Shape.{shape_width, shape_height, shape_stride, shaped}
 
--- the stretch of a window, in the window's shape
-module _ {T : Type 0} (cells : List T) (outer inner : Shape) (w : Window)
-    (narrow : shape_width outer ≤ shape_stride outer) (fits : Fits (shaped cells outer)) (inside : IsInside (shape_width outer) (shape_height outer) w)
-    (wide : shape_width inner ≡ w.width) (high : shape_height inner ≡ w.height) (same_stride : shape_stride inner ≡ shape_stride outer)
-    (s : Stretch) (is : s ≡ exact_stretch (shape_stride outer) w) where
+-- a window that is inside, its shape and its stretch
+pub record IsPart {T : Type 0} (cells : List T) (outer inner : Shape) (w : Window) (s : Stretch) : Type 0 where
+  pub narrow : shape_width outer ≤ shape_stride outer
+  pub fits : Fits (shaped cells outer)
+  pub inside : IsInside (shape_width outer) (shape_height outer) w
+  pub wide : shape_width inner ≡ w.width
+  pub high : shape_height inner ≡ w.height
+  pub same_stride : shape_stride inner ≡ shape_stride outer
+  pub is : s ≡ exact_stretch (shape_stride outer) w
+
+-- that stretch, in the window's shape
+module _ {T : Type 0} (cells : List T) (outer inner : Shape) (w : Window) (s : Stretch) (p : IsPart cells outer inner w s) where
   abbrev l : Layout T
   l = shaped cells outer
 
@@ -24,19 +31,19 @@ module _ {T : Type 0} (cells : List T) (outer inner : Shape) (w : Window)
   part = shaped (mid_of s.start (s.start + s.len - s.start) cells) inner
 
   sized : (n : List T) → shaped n inner ≡ layout n w.width w.height l.stride
-  sized n = λ i. layout n (wide i) (high i) (same_stride i)
+  sized n = λ i. layout n (p.wide i) (p.high i) (p.same_stride i)
 
   part_is : part ≡ exact_window l w
   part_is =
       sized (mid_of s.start (s.start + s.len - s.start) cells)
       ∙ ap (λ n. layout (take n (drop s.start cells)) w.width w.height l.stride) count
-      ∙ ap (stretch_window l w) is
+      ∙ ap (stretch_window l w) p.is
 
   pub part_fits : Fits part
-  part_fits = subst (λ (m : Layout T). Fits m) (sym part_is) (exact_fits l w fits inside)
+  part_fits = subst (λ (m : Layout T). Fits m) (sym part_is) (exact_fits l w p.fits p.inside)
 
   pub part_shows : grid_of part ≡ window_view (grid_of l) w
-  part_shows = ap (λ (m : Layout T). grid_of m) part_is ∙ exact_grid l w fits inside
+  part_shows = ap (λ (m : Layout T). grid_of m) part_is ∙ exact_grid l w p.fits p.inside
 
   -- other cells in their place
   module _ (n : List T) (same : SameOutside part (shaped n inner)) where
@@ -44,7 +51,7 @@ module _ {T : Type 0} (cells : List T) (outer inner : Shape) (w : Window)
     left = put_mid s.start (s.start + s.len - s.start) cells n
 
     has : HasWindow (length cells) l.stride w s
-    has = subst (HasWindow (length cells) l.stride w) (sym is) (exact_has (length cells) l.stride l.width l.height w fits inside)
+    has = subst (HasWindow (length cells) l.stride w) (sym p.is) (exact_has (length cells) l.stride l.width l.height w p.fits p.inside)
 
     left_is : shaped left outer ≡ handed_on l s n
     left_is =
@@ -52,10 +59,10 @@ module _ {T : Type 0} (cells : List T) (outer inner : Shape) (w : Window)
         ap (λ m. shaped (take s.start cells ++ (n ++ m)) outer) behind
 
     stays : SameOutside (stretch_window l w s) (shaped n inner)
-    stays = subst (λ (m : Layout T). SameOutside m (shaped n inner)) (part_is ∙ sym (ap (stretch_window l w) is)) same
+    stays = subst (λ (m : Layout T). SameOutside m (shaped n inner)) (part_is ∙ sym (ap (stretch_window l w) p.is)) same
 
     pub part_grid : grid_of (shaped left outer) ≡ patch (grid_of l) w.left w.top (grid_of (shaped n inner))
-    part_grid = ap (λ (m : Layout T). grid_of m) left_is ∙ handed_on_grid l w s has (shaped n inner) stays narrow inside
+    part_grid = ap (λ (m : Layout T). grid_of m) left_is ∙ handed_on_grid l w s has (shaped n inner) stays p.narrow p.inside
 
     pub part_outside : SameOutside l (shaped left outer)
-    part_outside = subst (λ (m : Layout T). SameOutside l m) (sym left_is) (handed_on_outside l w s has (shaped n inner) stays inside)
+    part_outside = subst (λ (m : Layout T). SameOutside l m) (sym left_is) (handed_on_outside l w s has (shaped n inner) stays p.inside)
