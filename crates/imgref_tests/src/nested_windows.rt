@@ -7,9 +7,19 @@ use std::test::Fail;
 const CELLS: [u8; 9] = [1, 2, 3, 4, 5, 6, 7, 8, 9];
 
 // The place (0, 1) of the inner window is the place (2, 1) of the image, cell 6.
-const FIRST: Window = Window::new(1, 0, 2, 2);
+const FIRST: Window = Window {
+    left: 1,
+    top: 0,
+    width: 2,
+    height: 2,
+};
 
-const SECOND: Window = Window::new(1, 0, 1, 2);
+const SECOND: Window = Window {
+    left: 1,
+    top: 0,
+    width: 1,
+    height: 2,
+};
 
 const AFTER: [u8; 9] = [1, 2, 3, 4, 5, 6, 0, 8, 9];
 

@@ -10,7 +10,20 @@ use std::test::Fail;
 const CELLS: [u8; 9] = [1, 2, 3, 4, 5, 6, 7, 8, 9];
 
 // The second window lies at the place (2, 0) of the image, and is one column wide.
-const PATH: [Window; 2] = [Window::new(1, 0, 2, 2), Window::new(1, 0, 1, 2)];
+const PATH: [Window; 2] = [
+    Window {
+        left: 1,
+        top: 0,
+        width: 2,
+        height: 2,
+    },
+    Window {
+        left: 1,
+        top: 0,
+        width: 1,
+        height: 2,
+    },
+];
 
 #[test]
 fn tiles_are_filled_one_by_one(rt: HostRuntime) -> Result<(), Fail> {
