@@ -1,7 +1,7 @@
 #!/usr/bin/env python3
 """Shows that each layer rests on the one below: without a clause of the lower call, the upper call is no longer accepted.
 
-A body of `as_contiguous_buf` that moves pixel by pixel, or one of `move_window` that uses no mover, could meet every
+A body of `as_contiguous_buf` that moves pixel by pixel, or one of `move_inside` that uses no mover, could meet every
 contract. So each case takes a clause out of the contract of a lower function, in a room (tools/workspace.py), and asks
 `rt check` about the crate of the upper one: the lower crate must still be proved, and the upper function must not be. Nor
 may the crate's entry be, which stands on it: `replay_into` is what users call. A body that bypasses the layer needs none of
@@ -33,7 +33,7 @@ CASES = [
     ("imgref", "contiguous", "as_contiguous_buf", ["after", "grid"], "imgref_replay", "step::compact", ["into_contiguous_buf"]),
     ("row_mover", "moves", "move_rows", ["cells"], "image_moves", "moving::with_moved_window", []),
     ("image_moves", "moving", "with_moved_window", ["grid"], "image_moves", "moving::move_pixels", []),
-    ("image_moves", "moving", "move_pixels", ["grid"], "imgref", "img::Img::move_window", []),
+    ("image_moves", "moving", "move_pixels", ["grid"], "imgref", "img::Img::move_inside", []),
     ("imgref", "blit", "move_window", ["grid"], "imgref_replay", "copy::move_within", []),
     ("imgref", "blit", "copy_window", ["grid"], "imgref_replay", "copy::copy_over", []),
 ]
