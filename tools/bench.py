@@ -22,8 +22,9 @@ import time
 
 import c_library
 from c_library import Failure, archive_of, command, compiler, toolchain
-from program import built, program_of, say
-from workspace import ROOT
+from program import built, program_of, say, shown
+from proving import Progress, prove_changed, weights_of
+from workspace import ROOT, is_fresh, with_those_below
 
 OUT = ROOT / "out/bench"
 PAGE, PLOT = ROOT / "docs/PERFORMANCE.md", ROOT / "docs/speed.svg"
@@ -58,10 +59,26 @@ def rust(crate):
     return ["-Wl,-u,rust_u8_fill", OUT / "libspeed.a"]
 
 
+def prove_side_by_side(products):
+    """Proves what these are made of, each by its crate, where something has changed: all at once, which building one after the
+    other doesn't do."""
+    names = [*dict.fromkeys(it for name, product in products.items() if not is_fresh(product, name) for it in with_those_below(name))]
+    if names:
+        say(f"First {len(names)} crates are proved where something has changed.")
+        progress = Progress(*weights_of(names))
+        with shown(progress):
+            said = prove_changed(names, progress)
+        if said is not None:
+            raise Failure(f"{said}NOT PROVED")
+
+
 def made(crate):
     """Builds all that is timed."""
     OUT.mkdir(parents=True, exist_ok=True)
-    for program in ("imgref_run", "imgref_frames"):
+    programs = {it: program_of(it) for it in ("imgref_run", "imgref_frames")}
+    libraries = {it: ROOT / "crates" / it / "out" / f"lib{it}.a" for it in (c_library.NAME, "bench_exports")}
+    prove_side_by_side(programs | libraries)
+    for program in programs:
         if built(program):
             raise Failure(f"{program} is not proved")
     c_library.build()

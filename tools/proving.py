@@ -10,7 +10,7 @@ import subprocess
 import threading
 import time
 
-from workspace import ROOT, crates, is_library, keep, own_sources, room, with_those_below
+from workspace import ROOT, crates, is_library, is_proved, keep, own_sources, room, with_those_below
 
 # What the prover says of how far it is in a crate.
 SO_FAR = re.compile(r"so far: (\d+) of (\d+) functions checked")
@@ -149,12 +149,22 @@ def weights_of(names):
     return {it: weight(it) for it in names}, {it: all_of_them[it] for it in names}
 
 
-def prove_and_make(name, command, progress):
-    """Proves the crates below one, and then has a command prove and build that one. Answers what was said where that failed, or nothing."""
+def prove_changed(names, progress):
+    """Proves these crates but for libraries of which the kept work is fresh. Answers what was said where that failed, or nothing."""
+    left = [it for it in names if not (is_library(it) and is_proved(it))]
+    progress.done |= {it for it in names if it not in left}
     try:
-        prove([it for it in with_those_below(name) if is_library(it)], progress)
+        prove(left, progress)
     except Failed as failed:
         return f"{failed.name} is not proved\n{failed.said}"
+    return None
+
+
+def prove_and_make(name, command, progress):
+    """Proves the crates below one, and then has a command prove and build that one. Answers what was said where that failed, or nothing."""
+    said = prove_changed([it for it in with_those_below(name) if is_library(it)], progress)
+    if said is not None:
+        return said
     progress.begin(name)
     said = run(command, ROOT / "crates" / name, lambda line: progress.hear(name, line))
     if said is None:

@@ -73,6 +73,11 @@ def is_fresh(program, name):
     return program.is_file() and all(it.stat().st_mtime <= program.stat().st_mtime for it in sources(name))
 
 
+def is_proved(name):
+    """Whether what was kept of a library is newer than all that it is made of."""
+    return is_fresh(ROOT / "crates" / name / "out/rlib/stamp", name)
+
+
 def linked(source, target):
     """A hard link where both folders are on one disk, else a copy. The prover replaces a kept file and doesn't write into it."""
     try:
