@@ -1,11 +1,12 @@
 #!/usr/bin/env python3
 """Times the calls and the script program beside plain loops and calls, the video program beside cat, and draws the quotients.
 
-    bench.py [--rounds N] [--sides N,..] [--pixels N] [--commands N] [--frames N] [--beside PROGRAM] [--crate FOLDER] [--write]
+    bench.py [--rounds N] [--sides N,..] [--pixels N] [--commands N] [--frames N] [--beside PROGRAM] [--crate FOLDER] [--video] [--write]
 
-First it proves and builds what has changed: the programs, the library for C, and the crate bench_exports. All that is
-compared takes turns, and the least time of each counts. With --write the tables go into docs/PERFORMANCE.md, and the plot
-into docs/speed.svg: do that on a machine at rest. CC names the compiler for C (cc). Where there is a rustc, the loops in Rust
+First it proves and builds what has changed: the script program, the library for C, and the crate bench_exports. All that is
+compared takes turns, and the least time of each counts. The video program is timed where it is built (`make frames`), and
+built with --video. With --write it is too, the tables go into docs/PERFORMANCE.md, and the plot into docs/speed.svg: do that
+on a machine at rest. CC names the compiler for C (cc). Where there is a rustc, the loops in Rust
 are timed too, and, where a folder has the sources of the Rust crate, its calls. PROGRAM is another script program, as one
 that was built of an earlier state: it takes turns with this one.
 """
@@ -19,6 +20,7 @@ import subprocess
 import sys
 import tempfile
 import time
+import traceback
 
 import c_library
 from c_library import Failure, archive_of, command, compiler, toolchain
@@ -41,6 +43,25 @@ EDITS = ("fill 64,48,320,160 16", "mosaic 64,48,320,160 16,16", "move 64,48,320,
 # ffmpeg's filters that do the same to each frame, and ffmpeg with one of them on one thread.
 FILTERS = {EDITS[0]: "drawbox=x=64:y=48:w=320:h=160:color=black:t=fill", EDITS[3]: "crop=1280:720:320:180", EDITS[4]: "pad=1920:1200:0:60:color=black"}
 FFMPEG = "ffmpeg -v error -nostdin -threads 1 -filter_threads 1 -f yuv4mpegpipe -i - -vf {} -threads 1 -c:v rawvideo -f rawvideo -"
+
+
+def apart(failing, task):
+    """Runs a task in a process of its own. A program's most memory begins with that of the process that starts it, which stays
+    small so."""
+    child = os.fork()
+    if not child:
+        status = 1
+        try:
+            task()
+            status = 0
+        except Failure as why:
+            say(str(why))
+        except BaseException:
+            traceback.print_exc()
+        finally:
+            os._exit(status)
+    if os.waitpid(child, 0)[1]:
+        raise Failure(failing)
 
 
 def rust(crate):
@@ -72,10 +93,10 @@ def prove_side_by_side(products):
             raise Failure(f"{said}NOT PROVED")
 
 
-def made(crate):
-    """Builds all that is timed."""
+def make(crate, speed, numbers, with_video):
+    """Builds all that is timed: the C side, the plain program, and what both stand beside."""
     OUT.mkdir(parents=True, exist_ok=True)
-    programs = {it: program_of(it) for it in ("imgref_run", "imgref_frames")}
+    programs = {it: program_of(it) for it in ("imgref_run", *["imgref_frames"] * with_video)}
     libraries = {it: ROOT / "crates" / it / "out" / f"lib{it}.a" for it in (c_library.NAME, "bench_exports")}
     prove_side_by_side(programs | libraries)
     for program in programs:
@@ -83,11 +104,9 @@ def made(crate):
             raise Failure(f"{program} is not proved")
     c_library.build()
     exports = archive_of("bench_exports")
-    speed, numbers = OUT / "speed", OUT / "numbers"
     ours = [exports, ROOT / "out/c/libimgref.a", *toolchain()]
     command(*compiler(), "-O2", f"-I{ROOT / 'include'}", "-o", speed, ROOT / "bench/speed.c", *rust(crate), *ours, "-lpthread", "-ldl", "-lm")
     command(*compiler(), "-O2", "-o", numbers, ROOT / "bench/numbers.c")
-    return speed, numbers
 
 
 def calls(speed, rounds, sides):
@@ -133,15 +152,13 @@ def pictures(count):
 
 
 def written(source, text, count):
-    """Writes the text of a script or a video, and answers its bytes. A process of its own does it: a program's most memory begins with that of
-    the process that starts it, which stays small so."""
-    maker = os.fork()
-    if not maker:
+    """Writes the text of a script or a video in a process of its own, and answers its bytes."""
+
+    def write():
         made = text(count)
         source.write_bytes(made if isinstance(made, bytes) else made.encode())
-        os._exit(0)
-    if os.waitpid(maker, 0)[1]:
-        raise Failure(f"{source} can't be written")
+
+    apart(f"{source} can't be written", write)
     return source.stat().st_size
 
 
@@ -251,19 +268,27 @@ def main():
     options = argparse.ArgumentParser(description=__doc__.split("\n")[0])
     options.add_argument("--rounds", type=int, default=400)
     options.add_argument("--sides", default="16,64,512,2048")
-    options.add_argument("--pixels", type=int, default=3_000_000)
+    options.add_argument("--pixels", type=int, default=4_000_000)
     options.add_argument("--commands", type=int, default=400_000)
     options.add_argument("--frames", type=int, default=100)
     options.add_argument("--beside", metavar="PROGRAM")
     options.add_argument("--crate", metavar="FOLDER", type=pathlib.Path)
+    options.add_argument("--video", action="store_true")
     options.add_argument("--write", action="store_true")
     asked = options.parse_args()
     sides = [int(it) for it in asked.sides.split(",")]
     began = time.time()
-    speed, numbers = made(asked.crate)
+    with_video = asked.video or asked.write or is_fresh(program_of("imgref_frames"), "imgref_frames")
+    speed, numbers = OUT / "speed", OUT / "numbers"
+    apart("what is timed can't be built", lambda: make(asked.crate, speed, numbers, with_video))
     began_timing = time.time()
     rows = calls(speed, asked.rounds, sides)
-    found = "\n\n".join([table(rows, sides), script_table([*scripts(numbers, asked.beside, asked)], bool(asked.beside)), frames_table(asked.frames)])
+    tables = [table(rows, sides), script_table([*scripts(numbers, asked.beside, asked)], bool(asked.beside))]
+    if with_video:
+        tables.append(frames_table(asked.frames))
+    else:
+        say("the video program isn't built: `make frames` or --video times it too")
+    found = "\n\n".join(tables)
     print(found)
     (OUT / "speed.svg").write_text(plot(rows, sides))
     say(f"{time.time() - began:.0f} s, {time.time() - began_timing:.0f} of them timing; the plot is in {(OUT / 'speed.svg').relative_to(ROOT)}")
