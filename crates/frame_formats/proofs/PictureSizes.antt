@@ -7,7 +7,7 @@ use Rattle.image_planes.specs.Changes.{Job, job, job_len, job_for, is_job, jobs_
 use Rattle.image_planes.specs.Resized.{Resizing, resizing, resizing_for, is_resizing, sources_len}
 use Rattle.image_planes.specs.declared.change.Step.{Step as PlaneStep}
 use Rattle.image_planes.specs.declared.target.Resize.{Resize}
-use Rattle.frame_formats.specs.Recipes.{picture_job, one_job, three_jobs, picture_jobs, each_plane}
+use Rattle.frame_formats.specs.Recipe.{picture_job, one_job, three_jobs, picture_jobs, each_plane}
 use Rattle.frame_formats.specs.Steps.{steps_in}
 use Rattle.frame_formats.specs.declared.picture.Picture.{Picture}
 use Rattle.frame_formats.specs.declared.steps.Channel.{Channel}

@@ -9,8 +9,8 @@ use Rattle.image_planes.specs.declared.target.Resize.{Resize}
 use Rattle.image_planes.specs.declared.target.Resize.TheVariants.{Crop, Pad}
 use Rattle.frame_formats.specs.Format.{resize_for}
 use Rattle.frame_formats.specs.Picture.{picture_of, head_text}
-use Rattle.frame_formats.specs.Recipe.{Edits}
-use Rattle.frame_formats.specs.Recipes.{Recipe, recipe, finished_picture, picture_jobs, picture_recipe, each_plane, size_of, resized_picture}
+use Rattle.frame_formats.specs.Edits.{Edits}
+use Rattle.frame_formats.specs.Recipe.{Recipe, recipe, finished_picture, picture_jobs, picture_recipe, each_plane, size_of, resized_picture}
 use Rattle.frame_formats.proofs.PictureSizes.{picture_size}
 use Rattle.frame_formats.proofs.Heads.{reads_back}
 use Rattle.frame_formats.specs.declared.framing.Framing.{Framing}

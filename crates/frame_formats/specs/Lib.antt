@@ -3,8 +3,8 @@ pub mod Format
 pub mod Line
 pub mod Picture
 pub mod Plan
+pub mod Edits
 pub mod Recipe
-pub mod Recipes
 pub mod Planned
 pub mod Words
 pub mod Lists

@@ -4,7 +4,7 @@ use Rattle.std.specs.List.{flat_map}
 use Rattle.std.specs.Option.{is_none, option_map}
 use Rattle.text_model.specs.Parts.{parts_of}
 use Rattle.text_model.specs.Reading.{◌>>=◌, is_nil}
-use Rattle.frame_formats.specs.Recipe.{edits, Edits as Plain}
+use Rattle.frame_formats.specs.Edits.{edits, Edits as Plain}
 use Rattle.frame_formats.specs.Words.{Named, edit_at}
 use Rattle.frame_formats.specs.declared.framing.Framing.{Framing}
 use Rattle.frame_formats.specs.declared.words.Edits.{Edits}

@@ -2,7 +2,7 @@
 use Rattle.std.specs.Prelude.{ℕ, Bool, map, max, if◌then◌else◌}
 use Rattle.std.specs.Option.{is_some}
 use Rattle.image_planes.specs.Planes.{job_of}
-use Rattle.frame_formats.specs.Recipes.{Recipe, recipe, resizings_of}
+use Rattle.frame_formats.specs.Recipe.{Recipe, recipe, resizings_of}
 use Rattle.frame_formats.specs.declared.plans.Plan.{Plan}
 
 abbrev pub recipe_of : Plan → Recipe

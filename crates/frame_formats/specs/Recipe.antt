@@ -1,12 +1,148 @@
--- Edits of a video or of a picture.
-use Rattle.std.specs.Prelude.{List, Option}
-use Rattle.frame_formats.specs.declared.framing.Framing.{Framing}
+-- What is done to a video, and to a picture.
+use Rattle.std.specs.Prelude.{◌≡◌, ◌==◌, ℕ, ◌<◌, ◌%◌, Bool, true, false, List, [], ◌∷◌, ◌++◌, map, Option, Some, None, if◌then◌else◌}
+use Rattle.std.specs.Option.{option_map}
+use Rattle.std.specs.declared.vec.Vec.{Vec}
+use Rattle.image_planes.specs.Changes.{Job, job_for, jobs_len, changed_planes}
+use Rattle.image_planes.specs.Interleaved.{parted, joined}
+use Rattle.image_planes.specs.Resized.{Resizing, resizing_for, resized_planes, sources_len, targets_len, new_width, new_height}
+use Rattle.image_planes.specs.Targets.{resizing_of}
+use Rattle.image_planes.specs.Unseen.{PlanesAlike}
+use Rattle.image_planes.specs.declared.target.Target.{Target}
+use Rattle.frame_formats.specs.Format.{format_of, jobs_for, resize_for, resizings_for}
+use Rattle.frame_formats.specs.Line.{resized}
+use Rattle.frame_formats.specs.Picture.{picture, picture_of, head_text}
+use Rattle.frame_formats.specs.Edits.{Edits}
+use Rattle.frame_formats.specs.Steps.{steps_in}
+use Rattle.frame_formats.specs.declared.steps.Channel.{Channel}
+use Rattle.frame_formats.specs.declared.steps.Channel.TheVariants.{Only, Red, Green, Blue}
 use Rattle.frame_formats.specs.declared.steps.Step.{Step}
+use Rattle.text_model.specs.Reading.{◌>>=◌}
+use Rattle.frame_formats.specs.declared.framing.Framing.{Framing}
+use Rattle.frame_formats.specs.declared.header.Chroma.TheVariants.{Mono}
+use Rattle.frame_formats.specs.declared.header.Format.{Format}
+use Rattle.frame_formats.specs.declared.picture.Picture.{Picture}
 
--- steps in their order, and then a window that is kept or a border, or neither
-pub record Edits : Type 0 where
-  pub steps : List Step
-  pub framing : Option Framing
+-- what is written before the first frame, how many bytes a frame has, which planes these are, one behind the other, what is done to each plane, and what the bytes of a frame become, by its number from 0
+pub record Recipe : Type 0 where
+  pub head : List ℕ
+  pub size : ℕ
+  pub parts : List ℕ → List ℕ
+  pub jobs : List Job
+  pub frame : ℕ → List ℕ → List ℕ
 
-abbrev pub edits : List Step → Option Framing → Edits
-edits steps framing = record { steps = steps; framing = framing }
+-- the planes of a frame: its bytes as they are, or those of pixels of three bytes
+abbrev pub planes_in : Bool → List ℕ → List ℕ
+planes_in false cells = cells
+planes_in true cells = parted cells
+
+-- the bytes of a frame with these planes
+abbrev pub cells_of : Bool → List ℕ → List ℕ
+cells_of false planes = planes
+cells_of true planes = joined planes
+
+-- the planes in their other size, where they get one
+abbrev pub resized_by : Option (List Resizing) → List ℕ → List ℕ
+resized_by None planes = planes
+resized_by (Some resizings) planes = resized_planes resizings planes
+
+-- each plane is changed, and then made one of its other size
+abbrev pub recipe : List ℕ → Bool → List Job → Option (List Resizing) → Recipe
+recipe head in_pixels jobs resizings = record {
+  head = head;
+  size = jobs_len jobs;
+  parts = planes_in in_pixels;
+  jobs = jobs;
+  frame = λ number cells. cells_of in_pixels (resized_by resizings (changed_planes number jobs (planes_in in_pixels cells)));
+}
+
+-- ---- a video
+
+-- by what becomes of the size: the line names it
+abbrev pub finished_video : List ℕ → Format → List Job → Option Framing → Option Recipe
+finished_video line format jobs None = Some (recipe (line ++ 10 ∷ []) false jobs None)
+finished_video line format jobs (Some framing) =
+    resize_for format framing >>= λ resize. option_map (λ resizings. recipe (resized (new_width resize) (new_height resize) line ++ 10 ∷ []) false jobs (Some resizings)) (resizings_for format resize)
+
+-- the recipe of edits of a video with this line, where they are edits of it
+abbrev pub video_recipe : Edits → List ℕ → Option Recipe
+video_recipe e line = format_of line >>= λ format. jobs_for format e.steps >>= λ jobs. finished_video line format jobs e.framing
+
+-- ---- a picture
+
+-- its size, as that of one plane
+abbrev pub size_of : Picture → Format
+size_of p = record { width = p.width; height = p.height; chroma = Mono }
+
+-- what is one for each plane: there is one plane, or there are three
+abbrev pub each_plane : {A : Type 0} → Bool → A → List A
+each_plane false x = x ∷ []
+each_plane true x = x ∷ x ∷ x ∷ []
+
+-- a picture of the same kind in its new size
+abbrev pub resized_picture : Picture → ℕ → ℕ → Picture
+resized_picture p width height = picture width height p.colour
+
+-- by what becomes of the size, which leaves a row
+abbrev pub finished_picture : Picture → List Job → Option Framing → Option Recipe
+finished_picture p jobs None = Some (recipe (head_text p) p.colour jobs None)
+finished_picture p jobs (Some framing) =
+    resize_for (size_of p) framing >>= λ resize.
+    if new_height resize == 0 then None
+    else option_map (λ resizing. recipe (head_text (resized_picture p (new_width resize) (new_height resize))) p.colour jobs (Some (each_plane p.colour resizing))) (resizing_for p.width p.height resize)
+
+-- a plane of the picture and what is done to it
+abbrev pub picture_job : Picture → Channel → List Step → Option Job
+picture_job p channel steps = steps_in channel steps >>= job_for p.width p.height
+
+abbrev pub one_job : Picture → List Step → Option (List Job)
+one_job p steps = option_map (λ one. one ∷ []) (picture_job p Only steps)
+
+unfoldable pub three_jobs : Picture → List Step → Option (List Job)
+three_jobs p steps = do
+  red ← picture_job p Red steps
+  green ← picture_job p Green steps
+  blue ← picture_job p Blue steps
+  Some (red ∷ green ∷ blue ∷ [])
+
+-- its planes: a colour is one of a picture of three
+abbrev pub picture_jobs : Picture → List Step → Option (List Job)
+picture_jobs p steps = if p.colour then three_jobs p steps else one_job p steps
+
+-- the recipe of edits of a picture, where they are edits of it
+abbrev pub picture_recipe : Edits → Picture → Option Recipe
+picture_recipe e p = picture_jobs p e.steps >>= λ jobs. finished_picture p jobs e.framing
+
+-- ---- sizes
+
+-- how many bytes a frame has then
+abbrev pub new_len : List Job → Option (List Resizing) → ℕ
+new_len jobs None = jobs_len jobs
+new_len jobs (Some resizings) = targets_len resizings
+
+-- how many bytes the planes have that get another size
+abbrev pub resized_len : Option (List Resizing) → ℕ
+resized_len None = 0
+resized_len (Some resizings) = sources_len resizings
+
+-- pixels have three bytes
+abbrev pub GoByThree : Bool → ℕ → Type 0
+GoByThree in_pixels size = in_pixels ≡ true → size % 3 ≡ 0
+
+abbrev pub resizings_of : {Z : Type 0} → Option (Vec Target Z) → Option (List Resizing)
+resizings_of targets = option_map (λ ts. map resizing_of ts.items) targets
+
+-- ---- what is known of recipes
+
+-- frames that differ only in what the steps hide become one
+abbrev pub HidesAlike : Recipe → Type 0
+HidesAlike r = (number : ℕ) (p q : List ℕ) → PlanesAlike number r.jobs (r.parts p) (r.parts q) → r.frame number p ≡ r.frame number q
+
+abbrev pub VideosHide : Type 0
+VideosHide = (e : Edits) (line : List ℕ) (r : Recipe) → video_recipe e line ≡ Some r → HidesAlike r
+
+abbrev pub PicturesHide : Type 0
+PicturesHide = (e : Edits) (p : Picture) (r : Recipe) → picture_recipe e p ≡ Some r → HidesAlike r
+
+-- what is written before a picture is the head of one
+abbrev pub HeadsAreRead : Type 0
+HeadsAreRead = (e : Edits) (p : Picture) (r : Recipe) → 0 < p.height → picture_recipe e p ≡ Some r → (q : Picture) × (picture_of r.head ≡ Some q)

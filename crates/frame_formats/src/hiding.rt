@@ -1,6 +1,6 @@
 //! What is known of recipes.
 
-ghost use Rattle.frame_formats.specs.Recipes.{VideosHide, PicturesHide, HeadsAreRead};
+ghost use Rattle.frame_formats.specs.Recipe.{VideosHide, PicturesHide, HeadsAreRead};
 
 use crate::picture::heads_end_themselves;
 use image_planes::changes_hide;

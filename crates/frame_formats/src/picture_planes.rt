@@ -6,7 +6,7 @@ ghost use Rattle.image_planes.specs.Planes.{job_of};
 ghost use Rattle.image_planes.specs.Resized.{resizing_for};
 ghost use Rattle.image_planes.specs.Targets.{resizing_of};
 ghost use Rattle.frame_formats.specs.Plan.{Tells};
-ghost use Rattle.frame_formats.specs.Recipes.{size_of, picture_job, one_job, three_jobs, picture_jobs, each_plane};
+ghost use Rattle.frame_formats.specs.Recipe.{size_of, picture_job, one_job, three_jobs, picture_jobs, each_plane};
 
 use crate::header::{Chroma, Format};
 use crate::picture::Picture;
@@ -44,7 +44,7 @@ fn picture_plane(
 }
 
 // The planes of a picture of three.
-#[tactic(auto, unfolding(crate::specs::Recipes::three_jobs))]
+#[tactic(auto, unfolding(crate::specs::Recipe::three_jobs))]
 fn three_planes(alloc: Global, picture: Picture, steps: &[Step]) -> Result<Vec<Plane>, PlanFault>
     ensures planes { IfOk result (λ planes. three_jobs picture steps.now ≡ Some (map job_of planes.items)) }
     ensures fault { IfErr result (Tells (three_jobs picture steps.now ≡ None)) }

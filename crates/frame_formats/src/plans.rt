@@ -5,8 +5,8 @@ ghost use Rattle.image_planes.specs.Changes.{jobs_len};
 ghost use Rattle.image_planes.specs.Planes.{job_of};
 ghost use Rattle.frame_formats.specs.Format.{format_of};
 ghost use Rattle.frame_formats.specs.Plan.{Tells};
-ghost use Rattle.frame_formats.specs.Recipe.{edits};
-ghost use Rattle.frame_formats.specs.Recipes.{recipe, video_recipe, picture_recipe, new_len, resized_len, GoByThree, resizings_of};
+ghost use Rattle.frame_formats.specs.Edits.{edits};
+ghost use Rattle.frame_formats.specs.Recipe.{recipe, video_recipe, picture_recipe, new_len, resized_len, GoByThree, resizings_of};
 
 use crate::framing::{Framing, resize_of};
 use crate::header::Format;

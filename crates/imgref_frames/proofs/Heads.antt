@@ -5,8 +5,8 @@ use Rattle.std.specs.Io.KnownBytes.{Consumes, IsAtEnd}
 use Rattle.std.proofs.KnownBytes.{Consumes-trans}
 use Rattle.text_model.proofs.Options.{bind_some}
 use Rattle.frame_formats.specs.Picture.{picture_of, scanned, pushed, start, done_as, OneByteMore, BadStays, BeginsWithLetter}
-use Rattle.frame_formats.specs.Recipe.{Edits}
-use Rattle.frame_formats.specs.Recipes.{picture_recipe}
+use Rattle.frame_formats.specs.Edits.{Edits}
+use Rattle.frame_formats.specs.Recipe.{picture_recipe}
 use Rattle.frame_formats.specs.declared.picture.Picture.{Picture}
 use Rattle.frame_formats.specs.declared.picture.Scan.{Scan}
 use Rattle.frame_formats.specs.declared.picture.Scan.TheVariants.{Done, Bad}

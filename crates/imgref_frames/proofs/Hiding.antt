@@ -4,8 +4,8 @@ use Rattle.std.specs.List.{AllByRecursion}
 use Rattle.std.proofs.lemmas.List.Elements.{recursion_from_All}
 use Rattle.text_model.proofs.Options.{some_is, bind_some}
 use Rattle.frame_formats.specs.Picture.{picture_of, ApartHeads, BeginsWithLetter}
-use Rattle.frame_formats.specs.Recipe.{Edits}
-use Rattle.frame_formats.specs.Recipes.{Recipe, HidesAlike, VideosHide, PicturesHide, video_recipe, picture_recipe}
+use Rattle.frame_formats.specs.Edits.{Edits}
+use Rattle.frame_formats.specs.Recipe.{Recipe, HidesAlike, VideosHide, PicturesHide, video_recipe, picture_recipe}
 use Rattle.imgref_frames.specs.Alike.{Alike, PieceAlike, PiecesAlike, Hides, OneOutput}
 use Rattle.imgref_frames.specs.Passing.{IsNoPiece}
 use Rattle.imgref_frames.specs.Pictures.{PictureHead, IsPictureNotEdited, IsNoPicture}

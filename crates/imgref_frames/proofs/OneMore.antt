@@ -4,7 +4,7 @@ use Rattle.std.specs.List.{AllByRecursion}
 use Rattle.std.specs.Io.KnownBytes.{Consumes, Appends}
 use Rattle.std.proofs.KnownBytes.{Consumes-nil, Consumes-trans, Appends-nil, Appends-trans}
 use Rattle.std.proofs.lemmas.List.{flat_map_more, append-nil}
-use Rattle.frame_formats.specs.Recipes.{Recipe}
+use Rattle.frame_formats.specs.Recipe.{Recipe}
 use Rattle.imgref_frames.specs.Stream.{Piece, IsPiece, piece_text, pieces_text, made_text, all_made}
 use Rattle.devices.specs.Whole.{AppendsBeginning}
 use Rattle.imgref_frames.specs.Passing.{Passed, PassedPart}

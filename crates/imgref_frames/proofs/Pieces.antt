@@ -4,10 +4,10 @@ use Rattle.std.specs.Prelude.{IfSome}
 use Rattle.std.specs.Io.KnownBytes.{Consumes, IsAtEnd}
 use Rattle.text_model.proofs.Options.{some_is, bind_some}
 use Rattle.frame_formats.specs.Picture.{picture_of, ApartHeads, BeginsWithLetter}
-use Rattle.frame_formats.specs.Recipe.{Edits}
-use Rattle.frame_formats.specs.Recipes.{Recipe, picture_recipe}
+use Rattle.frame_formats.specs.Edits.{Edits}
+use Rattle.frame_formats.specs.Recipe.{Recipe, picture_recipe}
 use Rattle.imgref_frames.specs.Stream.{Piece, piece, IsPiece, piece_text}
-use Rattle.imgref_frames.specs.Video.{FrameHead, frame_line, with_line}
+use Rattle.imgref_frames.specs.Video.{FrameHead, frame_line, with_head}
 use Rattle.imgref_frames.specs.Pictures.{PictureHead, IsPictureNotEdited}
 use Rattle.imgref_frames.specs.Passing.{IsNoPiece, IsNoFrameLine}
 use Rattle.imgref_frames.proofs.FrameLines.{one_line}
@@ -22,7 +22,7 @@ frames_readable video = record {
   apart = λ h k a b r s p q e.
       let one = one_line p.parameters q.parameters a b p.are q.are (ap (λ l. l ++ a) (sym p.head_is) ∙ e ∙ ap (λ l. l ++ b) q.head_is) in
       let same : h ≡ k = p.head_is ∙ ap frame_line one.0 ∙ sym q.head_is in
-      (same, p.recipe_is ∙ ap (λ l. with_line l video) same ∙ sym q.recipe_is, one.1);
+      (same, p.recipe_is ∙ ap (λ l. with_head l video) same ∙ sym q.recipe_is, one.1);
   some = λ h r p. omega (arith, ap length p.head_is);
 }
 

@@ -6,13 +6,13 @@ use Rattle.std.proofs.KnownBytes.{Consumes-trans}
 use Rattle.devices.specs.Whole.{AppendsBeginning}
 use Rattle.frame_formats.specs.Picture.{picture_of, ApartHeads, BeginsWithLetter}
 use Rattle.frame_formats.specs.Plan.{Tells}
-use Rattle.frame_formats.specs.Recipe.{Edits}
-use Rattle.frame_formats.specs.Recipes.{Recipe, picture_recipe}
+use Rattle.frame_formats.specs.Edits.{Edits}
+use Rattle.frame_formats.specs.Recipe.{Recipe, picture_recipe}
 use Rattle.frame_formats.specs.declared.picture.Picture.{Picture}
 use Rattle.frame_formats.specs.declared.plans.PlanFault.{PlanFault}
 use Rattle.frame_formats.specs.declared.plans.PlanFault.TheVariants.{Outside as NoPlan, Memory as NoMemory}
 use Rattle.imgref_frames.specs.Stream.{Piece, piece, IsPiece, piece_text, pieces_text, made_text, all_made}
-use Rattle.imgref_frames.specs.Video.{FrameHead, with_line}
+use Rattle.imgref_frames.specs.Video.{FrameHead, with_head}
 use Rattle.imgref_frames.specs.Pictures.{PictureHead, IsNoPicture, IsPictureNotEdited, behind_letter}
 use Rattle.imgref_frames.specs.Passing.{LineRead, IsNoPiece, Passed, PassedUpTo, PassedSome, PassedPart, CellsPassed, PassesCells, PassesFrames, PassesPicture, PassesPictures, Anything}
 use Rattle.imgref_frames.specs.Program.{fault_of_plan}
@@ -47,16 +47,16 @@ module _ (heads : List ℕ → Recipe → Type 0) (n : ℕ) (r0 r1 w0 w1 : Optio
 -- ---- frames
 
 module _ (video : Recipe) (n len : ℕ) (line : List ℕ) (r0 r1 r2 r3 w0 w1 w2 : Option (List ℕ)) (p : Passed (FrameHead video) n r0 r1 w0 w1) (found : LineRead len line r1 r2) where
-  frame_head : FrameHead video (take len line) (with_line (take len line) video)
+  frame_head : FrameHead video (take len line) (with_head (take len line) video)
   frame_head = record { parameters = found.parameters; are = found.are; head_is = found.line_is; recipe_is = refl }
 
-  pub frame_passed : (Unit {0}) → CellsPassed (Appends w1 w2) (with_line (take len line) video) n r2 r3 → Passed (FrameHead video) (n + 1) r0 r3 w0 w2
-  frame_passed x c = cells_passed (FrameHead video) n r0 r1 w0 w1 p (take len line) (with_line (take len line) video) frame_head r2 r3 found.read w2 c
+  pub frame_passed : (Unit {0}) → CellsPassed (Appends w1 w2) (with_head (take len line) video) n r2 r3 → Passed (FrameHead video) (n + 1) r0 r3 w0 w2
+  frame_passed x c = cells_passed (FrameHead video) n r0 r1 w0 w1 p (take len line) (with_head (take len line) video) frame_head r2 r3 found.read w2 c
 
-  pub frame_stopped : (e : RunFault) → PassesCells (Err e) (with_line (take len line) video) n r2 r3 w1 w2 → PassesFrames (Err e) (FrameHead video) r0 r3 w0 w2
+  pub frame_stopped : (e : RunFault) → PassesCells (Err e) (with_head (take len line) video) n r2 r3 w1 w2 → PassesFrames (Err e) (FrameHead video) r0 r3 w0 w2
   frame_stopped (Frame k) c = ends_at (FrameHead video) n r0 r1 w0 w1 p (IsNoPiece (FrameHead video))
-      (cut_piece (FrameHead video) (frames_readable video) (take len line) c.1.cells (with_line (take len line) video) r1 r2 r3 frame_head found.read c.1.read c.1.short c.1.end) k c.0 w2 c.2
-  frame_stopped Output c = cells_begun (FrameHead video) n r0 r1 w0 w1 p (take len line) (with_line (take len line) video) frame_head r2 r3 found.read w2 c
+      (cut_piece (FrameHead video) (frames_readable video) (take len line) c.1.cells (with_head (take len line) video) r1 r2 r3 frame_head found.read c.1.read c.1.short c.1.end) k c.0 w2 c.2
+  frame_stopped Output c = cells_begun (FrameHead video) n r0 r1 w0 w1 p (take len line) (with_head (take len line) video) frame_head r2 r3 found.read w2 c
   frame_stopped Input c = ends_some (FrameHead video) n r0 r1 w0 w1 p Anything (nothing_said r1) w2 c
   frame_stopped Header c = absurd c
   frame_stopped Outside c = absurd c

@@ -1,8 +1,8 @@
 -- Inputs that differ only in what an edit hides, and runs that can't tell them apart.
 use Rattle.std.specs.Prelude.{◌≡◌, ℕ, ◌+◌, List, [], ◌∷◌, ◌++◌, Option, Some, IfSome, Result, Ok}
 use Rattle.image_planes.specs.Unseen.{PlanesAlike}
-use Rattle.frame_formats.specs.Recipe.{Edits}
-use Rattle.frame_formats.specs.Recipes.{Recipe}
+use Rattle.frame_formats.specs.Edits.{Edits}
+use Rattle.frame_formats.specs.Recipe.{Recipe}
 use Rattle.imgref_frames.specs.Program.{Stream, IsStream, begins_picture, are_pictures, front, heads_of, Writes}
 use Rattle.imgref_frames.specs.Stream.{Piece, IsPiece, pieces_text}
 use Rattle.imgref_frames.specs.declared.fault.RunFault.{RunFault}

@@ -1,7 +1,7 @@
 -- Pieces behind one another, as the frames of a video or pictures: each has a head, and cells behind it.
 use Rattle.std.specs.Prelude.{◌≡◌, ℕ, ◌+◌, List, [], ◌∷◌, ◌++◌, length}
 use Rattle.std.specs.List.{flat_map}
-use Rattle.frame_formats.specs.Recipes.{Recipe}
+use Rattle.frame_formats.specs.Recipe.{Recipe}
 
 -- a head, the cells behind it, and what is done to both
 pub record Piece : Type 0 where

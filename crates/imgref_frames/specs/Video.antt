@@ -1,6 +1,6 @@
 -- The lines that stand before the frames of a video.
 use Rattle.std.specs.Prelude.{◌≡◌, ◌≢◌, ℕ, ◌<◌, List, [], ◌∷◌, ◌++◌, All, length, codes}
-use Rattle.frame_formats.specs.Recipes.{Recipe}
+use Rattle.frame_formats.specs.Recipe.{Recipe}
 
 -- what may stand behind FRAME: nothing, or a space and fewer than 250 bytes, none of them a line feed
 abbrev pub AreParameters : List ℕ → Type 0
@@ -11,13 +11,13 @@ AreParameters (b ∷ bs) = (b ≡ 32) × All (λ c. c ≢ 10) bs × (length bs <
 abbrev pub frame_line : List ℕ → List ℕ
 frame_line parameters = codes "FRAME" ++ (parameters ++ 10 ∷ [])
 
--- a recipe with another line
-abbrev pub with_line : List ℕ → Recipe → Recipe
-with_line line r = record { head = line; size = r.size; frame = r.frame; parts = r.parts; jobs = r.jobs }
+-- a recipe with another head
+abbrev pub with_head : List ℕ → Recipe → Recipe
+with_head head r = record { head = head; size = r.size; frame = r.frame; parts = r.parts; jobs = r.jobs }
 
 -- a head is the line of a frame: it stays, and the cells become what they do in this video
 pub record FrameHead (video : Recipe) (head : List ℕ) (recipe : Recipe) : Type 0 where
   pub parameters : List ℕ
   pub are : AreParameters parameters
   pub head_is : head ≡ frame_line parameters
-  pub recipe_is : recipe ≡ with_line head video
+  pub recipe_is : recipe ≡ with_head head video

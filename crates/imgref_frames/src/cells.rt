@@ -7,7 +7,7 @@ ghost use Rattle.devices.specs.Whole.{AppendsBeginning};
 ghost use Rattle.frame_formats.specs.Planned.{recipe_of, plan_room, plan_other_room, plan_len, plan_is_resized};
 ghost use Rattle.imgref_frames.specs.Fault.{reader_failures, writer_failures};
 ghost use Rattle.imgref_frames.specs.Passing.{PassesCells};
-ghost use Rattle.imgref_frames.specs.Video.{with_line};
+ghost use Rattle.imgref_frames.specs.Video.{with_head};
 
 use crate::fault::RunFault;
 use devices::{Counted, WriteFailed, fill, write_all};
@@ -69,7 +69,7 @@ pub(crate) fn pass_cells<R: Read, W: Write>(
     requires other_room { plan_other_room plan.now ≤ length other.old }
     requires reader_counts { failures_of reader.old < u64.MAX }
     requires writer_counts { failures_of writer.old < u64.MAX }
-    ensures passes { PassesCells result (with_line head.now (recipe_of plan.now)) number (R.remaining (device_of reader.old)) (R.remaining (device_of reader.new)) (W.contents (device_of writer.old)) (W.contents (device_of writer.new)) }
+    ensures passes { PassesCells result (with_head head.now (recipe_of plan.now)) number (R.remaining (device_of reader.old)) (R.remaining (device_of reader.new)) (W.contents (device_of writer.old)) (W.contents (device_of writer.new)) }
     ensures reader_count { failures_of reader.new ≡ failures_of reader.old + reader_failures result }
     ensures writer_count { failures_of writer.new ≡ failures_of writer.old + writer_failures result }
 {

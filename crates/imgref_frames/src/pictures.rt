@@ -2,7 +2,7 @@
 
 ghost use Rattle.std.specs.Prelude.{◌≡◌, ◌+◌, ◌≤◌, ◌<◌, length, OnOk, OnErr, IfErr};
 ghost use Rattle.devices.specs.Device.{device_of, failures_of};
-ghost use Rattle.frame_formats.specs.Recipe.{edits};
+ghost use Rattle.frame_formats.specs.Edits.{edits};
 ghost use Rattle.imgref_frames.specs.Fault.{reader_failures, writer_failures};
 ghost use Rattle.imgref_frames.specs.Passing.{PassesPicture, PassesPictures};
 ghost use Rattle.imgref_frames.specs.Pictures.{HeadIs, behind_letter};

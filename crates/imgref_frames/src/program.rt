@@ -3,7 +3,7 @@
 ghost use Rattle.std.specs.Prelude.{◌≡◌, ◌≢◌, ◌<◌, ◌+◌, ◌++◌, ◌∷◌, [], All, false};
 ghost use Rattle.devices.specs.Device.{device_of, failures_of};
 ghost use Rattle.imgref_frames.specs.Fault.{reader_failures, writer_failures};
-ghost use Rattle.frame_formats.specs.Recipe.{edits};
+ghost use Rattle.frame_formats.specs.Edits.{edits};
 ghost use Rattle.imgref_frames.specs.Alike.{Hides, OneOutput};
 ghost use Rattle.imgref_frames.specs.Program.{Follows, Writes, begins_picture};
 

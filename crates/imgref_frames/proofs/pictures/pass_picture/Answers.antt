@@ -2,10 +2,10 @@
 use Rattle.std.proofs.Common.{subst, refl}
 use Rattle.devices.specs.Device.{device_of}
 use Rattle.frame_formats.specs.Planned.{recipe_of}
-use Rattle.frame_formats.specs.Recipe.{edits}
+use Rattle.frame_formats.specs.Edits.{edits}
 use Rattle.imgref_frames.specs.Passing.{PassesCells}
 use Rattle.imgref_frames.specs.Pictures.{behind_letter}
-use Rattle.imgref_frames.specs.Video.{with_line}
+use Rattle.imgref_frames.specs.Video.{with_head}
 use Rattle.imgref_frames.proofs.Heads.{no_picture_behind}
 use Rattle.imgref_frames.proofs.Rounds.{picture_made}
 use Rattle.imgref_frames.proofs.pictures.pass_picture.Goals as goal
@@ -22,4 +22,4 @@ returns-clause-passes g c =
     let w2 = g.W.Write.contents (device_of c.pass_cells.new.writer) in
     picture_made c.heads_end_themselves.ensures.apart c.heads_end_themselves.ensures.begins (edits c.args.steps.now c.args.framing) c.args.number c.in-Ok-Some.picture (recipe_of c.in-Ok.plan) found.0 found.1 c.in-Ok.ensures.plan
     (behind_letter (g.R.Read.remaining (device_of c.args.reader.now))) r2 r3 w1 w2 found.2 c.pass_cells.result
-    (subst (λ h. PassesCells c.pass_cells.result (with_line h (recipe_of c.in-Ok.plan)) c.args.number r2 r3 w1 w2) c.head.ensures c.pass_cells.ensures.passes)
+    (subst (λ h. PassesCells c.pass_cells.result (with_head h (recipe_of c.in-Ok.plan)) c.args.number r2 r3 w1 w2) c.head.ensures c.pass_cells.ensures.passes)

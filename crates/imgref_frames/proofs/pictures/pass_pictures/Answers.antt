@@ -3,7 +3,7 @@ use Rattle.std.proofs.Common.{arith, ◌+◌, ◌∷◌, [], subst}
 use Rattle.std.specs.Io.KnownBytes.{Consumes}
 use Rattle.std.proofs.lemmas.Grind.{common_steps}
 use Rattle.devices.specs.Device.{device_of}
-use Rattle.frame_formats.specs.Recipe.{edits}
+use Rattle.frame_formats.specs.Edits.{edits}
 use Rattle.imgref_frames.specs.Pictures.{PictureHead}
 use Rattle.imgref_frames.proofs.Heads.{other_letter}
 use Rattle.imgref_frames.proofs.OneMore.{passed_on}

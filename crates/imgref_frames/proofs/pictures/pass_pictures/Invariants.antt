@@ -1,5 +1,5 @@
 use Rattle.std.proofs.Common.{◌≡◌}
-use Rattle.frame_formats.specs.Recipe.{edits}
+use Rattle.frame_formats.specs.Edits.{edits}
 use Rattle.imgref_frames.specs.Passing.{Passed}
 use Rattle.imgref_frames.specs.Pictures.{PictureHead, behind_letter}
 use Rattle.devices.specs.Device.{device_of, failures_of}

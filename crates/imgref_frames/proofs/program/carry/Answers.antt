@@ -2,7 +2,7 @@
 use Rattle.std.proofs.Common.{◌∷◌, [], subst}
 use Rattle.std.specs.Io.KnownBytes.{Consumes}
 use Rattle.devices.specs.Device.{device_of}
-use Rattle.frame_formats.specs.Recipe.{edits}
+use Rattle.frame_formats.specs.Edits.{edits}
 use Rattle.imgref_frames.proofs.Carrying.{behind_first}
 use Rattle.imgref_frames.proofs.program.carry.Goals as goal
 

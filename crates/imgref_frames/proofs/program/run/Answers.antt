@@ -1,6 +1,6 @@
 -- What is hidden, and that the output is one.
 use Rattle.devices.specs.Device.{device_of}
-use Rattle.frame_formats.specs.Recipe.{edits}
+use Rattle.frame_formats.specs.Edits.{edits}
 use Rattle.imgref_frames.proofs.Hiding.{Laws, hides, one_output}
 use Rattle.imgref_frames.proofs.program.run.Goals as goal
 

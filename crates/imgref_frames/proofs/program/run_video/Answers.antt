@@ -4,8 +4,8 @@ use Rattle.std.specs.Io.KnownBytes.{Appends}
 use Rattle.devices.specs.Whole.{AppendsBeginning}
 use Rattle.devices.specs.Device.{device_of}
 use Rattle.frame_formats.specs.Planned.{recipe_of}
-use Rattle.frame_formats.specs.Recipe.{edits}
-use Rattle.frame_formats.specs.Recipes.{Recipe}
+use Rattle.frame_formats.specs.Edits.{edits}
+use Rattle.frame_formats.specs.Recipe.{Recipe}
 use Rattle.imgref_frames.specs.Program.{Writes}
 use Rattle.imgref_frames.specs.declared.fault.RunFault.{RunFault}
 use Rattle.std.proofs.Common.{Err}

@@ -4,7 +4,7 @@ use Rattle.std.specs.Prelude.{OnOk, IfErr}
 use Rattle.std.specs.Borrow.{Bor}
 use Rattle.std.proofs.lemmas.Grind.{common_steps}
 use Rattle.frame_formats.specs.Lists.{with_one, with_line, plain}
-use Rattle.frame_formats.specs.Recipe.{Edits}
+use Rattle.frame_formats.specs.Edits.{Edits}
 use Rattle.frame_formats.specs.declared.words.WordsFault.TheVariants.{NoEdit}
 use Rattle.frame_formats.proofs.EditsEach.{some_line, no_line}
 use Rattle.frame_formats.proofs.words.Edits.take_line.Goals as goal
