@@ -3,7 +3,9 @@
 #![tactic(auto)]
 
 mod counted;
+mod fault;
 mod whole;
 
 pub use counted::Counted;
+pub use fault::CommonFault;
 pub use whole::{LineFault, ReadFailed, WriteFailed, fill, read_byte, read_line, write_all};

@@ -1,6 +1,8 @@
 -- Why a run ended, what is printed then, and which device's count shows it.
 use Rattle.std.specs.Prelude.{ℕ, List, ◌++◌, codes, Result, Ok, Err}
 use Rattle.std.specs.Fmt.{decimal}
+use Rattle.devices.specs.Fault.{common_text}
+use Rattle.devices.specs.declared.fault.CommonFault.TheVariants.{Memory as CommonMemory, Input as CommonInput, Output as CommonOutput}
 use Rattle.imgref_frames.specs.declared.fault.RunFault.{RunFault}
 use Rattle.imgref_frames.specs.declared.fault.RunFault.TheVariants.{Header, Outside, Frame, Memory, Input, Output, Endless}
 
@@ -19,9 +21,9 @@ abbrev pub fault_text : RunFault → List ℕ
 fault_text Header = codes "fault header"
 fault_text Outside = codes "fault outside"
 fault_text (Frame n) = codes "fault frame " ++ decimal n
-fault_text Memory = codes "fault memory"
-fault_text Input = codes "fault input"
-fault_text Output = codes "fault output"
+fault_text Memory = common_text CommonMemory
+fault_text Input = common_text CommonInput
+fault_text Output = common_text CommonOutput
 fault_text Endless = codes "fault endless"
 
 -- by how much a fault raised the reader's count

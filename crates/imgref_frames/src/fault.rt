@@ -2,6 +2,7 @@
 
 ghost use Rattle.std.specs.Prelude.{◌≡◌, Some};
 
+use devices::CommonFault;
 use frame_formats::PlanFault;
 use std::fmt;
 
@@ -56,9 +57,9 @@ impl fmt::Display for RunFault {
             RunFault::Header => write!(f, "fault header"),
             RunFault::Outside => write!(f, "fault outside"),
             RunFault::Frame(number) => write!(f, "fault frame {number}"),
-            RunFault::Memory => write!(f, "fault memory"),
-            RunFault::Input => write!(f, "fault input"),
-            RunFault::Output => write!(f, "fault output"),
+            RunFault::Memory => write!(f, "{}", CommonFault::Memory),
+            RunFault::Input => write!(f, "{}", CommonFault::Input),
+            RunFault::Output => write!(f, "{}", CommonFault::Output),
             RunFault::Endless => write!(f, "fault endless"),
         }
     }

@@ -1,6 +1,8 @@
 -- Why a run ended, what it prints then, and which device's count that shows in.
 use Rattle.std.specs.Prelude.{ℕ, List, ◌++◌, codes, Result, Ok, Err}
 use Rattle.std.specs.Fmt.{decimal}
+use Rattle.devices.specs.Fault.{common_text}
+use Rattle.devices.specs.declared.fault.CommonFault.TheVariants.{Memory as CommonMemory, Input as CommonInput, Output as CommonOutput}
 use Rattle.imgref_run.specs.declared.fault.RunFault.{RunFault}
 use Rattle.imgref_run.specs.declared.fault.RunFault.TheVariants.{Line, Memory, Input, Output}
 use Rattle.imgref_run.specs.Script.{IsFirstBad}
@@ -15,9 +17,9 @@ status_of Output = 4
 -- what the program prints
 abbrev pub fault_text : RunFault → List ℕ
 fault_text (Line n) = codes "fault line " ++ decimal n
-fault_text Memory = codes "fault memory"
-fault_text Input = codes "fault input"
-fault_text Output = codes "fault output"
+fault_text Memory = common_text CommonMemory
+fault_text Input = common_text CommonInput
+fault_text Output = common_text CommonOutput
 
 -- by how much a run with this answer raised the reader's count
 abbrev pub reader_failures : {T : Type 0} → Result T RunFault → ℕ

@@ -2,6 +2,7 @@
 
 ghost use Rattle.std.specs.Prelude.{◌≡◌, Some};
 
+use devices::CommonFault;
 use std::alloc::{AllocError, AllocFailed};
 use std::fmt;
 
@@ -71,9 +72,9 @@ impl fmt::Display for RunFault {
     fn fmt<W: fmt::Write>(&self, f: &mut fmt::Formatter<W>) -> fmt::Result {
         match self {
             RunFault::Line(number) => write!(f, "fault line {number}"),
-            RunFault::Memory => write!(f, "fault memory"),
-            RunFault::Input => write!(f, "fault input"),
-            RunFault::Output => write!(f, "fault output"),
+            RunFault::Memory => write!(f, "{}", CommonFault::Memory),
+            RunFault::Input => write!(f, "{}", CommonFault::Input),
+            RunFault::Output => write!(f, "{}", CommonFault::Output),
         }
     }
 }
