@@ -13,6 +13,8 @@ import tempfile
 ROOT = pathlib.Path(__file__).resolve().parent.parent
 # The folders of a crate that its proofs are made of.
 PARTS = ("src", "specs", "proofs")
+# The file of a crate's folder that is made last where a library is proved.
+STAMP = "out/rlib/stamp"
 
 
 def entries():
@@ -75,7 +77,7 @@ def is_fresh(program, name):
 
 def is_proved(name):
     """Whether what was kept of a library is newer than all that it is made of."""
-    return is_fresh(ROOT / "crates" / name / "out/rlib/stamp", name)
+    return is_fresh(ROOT / "crates" / name / STAMP, name)
 
 
 def linked(source, target):
@@ -125,3 +127,6 @@ def keep(made, name):
             if (made / "out" / kept).is_dir():
                 shutil.rmtree(target / "out" / kept, ignore_errors=True)
                 shutil.move(made / "out" / kept, target / "out" / kept)
+        # (rt leaves the stamp of a library whose text has not changed as it was)
+        if (target / STAMP).is_file():
+            (target / STAMP).touch()
