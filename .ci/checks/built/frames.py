@@ -154,8 +154,6 @@ def main():
         if shutil.which("ffmpeg"):
             by_ffmpeg(cases, str(program))
             by_h264(cases, str(program))
-        if shutil.which("pamcut"):
-            by_netpbm(cases, str(program))
         if shutil.which("parallel"):
             by_parallel(cases, str(program))
     for missing in (it for it in ("ffmpeg", "parallel") if not shutil.which(it)):
