@@ -240,6 +240,15 @@ def differing(program, tries):
     return [f"{' '.join(words)} on {data[:60]!r}.." for words, data in tries if ends(program, words, data) != wanted(data, words)]
 
 
+def exchanged(data, start, row, window):
+    """Other bytes in a window of a plane whose rows have so many bytes, the first of which stands at `start`."""
+    out, (left, top, width, height) = bytearray(data), window
+    for y in range(top, top + height):
+        for at in range(start + y * row + left, start + y * row + left + width):
+            out[at] ^= 0x55
+    return bytes(out)
+
+
 def count_tries(cases, label, program, tries):
     """One case: at each of these tries the program is as the model."""
     wrong = differing(program, tries)

@@ -14,7 +14,7 @@ import tempfile
 
 sys.path.insert(0, str(pathlib.Path(__file__).resolve().parents[2]))
 from checking import Cases, both_builds
-from frames import count_tries, edits_of, ends, wanted
+from frames import count_tries, edits_of, ends, exchanged, wanted
 
 SAMPLINGS = ("mono", "420jpeg", "420", "422", "444")
 EDITS = ("fill 4,2,6,4 126", "mosaic 2,2,10,6 4,2", "mosaic 0,0,12,8 64,64", "move 0,0,6,4 4,2", "move 4,2,6,4 0,0", "crop 4,2,6,4", "fill 0,0,0,0 1", "pad 2,4,6,8 16", "pad 4,0,1,3 200", "pad 1,0,0,0 9", "pad 0,2,0,0 9")
@@ -38,16 +38,6 @@ def video(sampling, width=12, height=8, frames=3, parameters=(b"",)):
     chroma = {"mono": 0, "422": 2 * (-(-width // 2)) * height, "444": 2 * width * height}.get(sampling, 2 * (-(-width // 2)) * (-(-height // 2)))
     line = f"YUV4MPEG2 W{width} H{height} F25:1 Ip A1:1 C{sampling} XLABEL=a\n".encode()
     return line + b"".join(b"FRAME" + parameters[it % len(parameters)] + b"\n" + chance.randbytes(width * height + chroma) for it in range(frames))
-
-
-def exchanged(data, window):
-    """Other brightness in a window of each frame of a mono video of 12 by 8."""
-    out, start = bytearray(data), data.index(b"\n") + 1
-    for frame in range((len(data) - start) // 102):
-        for y in range(window[1], window[1] + window[3]):
-            for x in range(window[0], window[0] + window[2]):
-                out[start + frame * 102 + 6 + y * 12 + x] ^= 0x55
-    return bytes(out)
 
 
 def by_model(cases, program):
@@ -75,8 +65,10 @@ def by_model(cases, program):
     count_tries(cases, "a frame's line has at most 256 bytes", program, longest)
     outside = [(it.split(), video("420")) for it in ("fill 1,0,2,2 9", "fill 0,0,2,10 9", "mosaic 0,0,4,4 1,2", "mosaic 0,0,4,4 0,2", "move 0,0,4,4 10,0", "crop 0,0,0,4", "crop 0,0,3,4", "pad 1,0,0,0 9", "pad 0,0,4294967284,0 9", "pad 0,0,0,18446744073709551615 9")]
     count_tries(cases, "an edit that is none of the video is refused", program, outside)
-    hidden = video("mono"), exchanged(video("mono"), (4, 2, 6, 4))
-    cases.count("hidden pixels can't be told from the output", hidden[0] != hidden[1] and ends(program, FILL.split(), hidden[0]) == ends(program, FILL.split(), hidden[1]))
+    shown = hidden = video("mono")
+    for frame in range(3):
+        hidden = exchanged(hidden, shown.index(b"\n") + 1 + frame * (6 + 12 * 8) + 6, 12, (4, 2, 6, 4))
+    cases.count("hidden pixels can't be told from the output", hidden != shown and ends(program, FILL.split(), hidden) == ends(program, FILL.split(), shown))
 
 
 def by_words(cases, program):

@@ -14,7 +14,7 @@ import tempfile
 
 sys.path.insert(0, str(pathlib.Path(__file__).resolve().parents[2]))
 from checking import Cases, both_builds
-from frames import count_tries, ends
+from frames import count_tries, ends, exchanged
 
 EDITS = ("fill 4,2,6,4 126", "fill 1,1,3,3 7", "mosaic 2,2,9,5 4,2", "mosaic 0,0,12,8 64,64", "mosaic 1,0,5,5 1,1", "move 0,0,6,4 4,2", "move 5,3,7,5 0,1", "crop 4,2,6,4", "crop 11,7,1,1", "fill 0,0,0,0 1", "pad 1,2,3,4 16", "pad 0,0,0,0 9")
 LISTS = (
@@ -33,15 +33,6 @@ def picture(kind, width=12, height=8, head=HEADS[0]):
     return head.format(kind, width, height).encode() + chance.randbytes(width * height * (3 if kind == 6 else 1))
 
 
-def exchanged(data, window):
-    """Other bytes in a window of a picture of 12 columns in colour."""
-    out, start = bytearray(data), len(b"P6\n12 8\n255\n")
-    for y in range(window[1], window[1] + window[3]):
-        for at in range(3 * window[0], 3 * (window[0] + window[2])):
-            out[start + 36 * y + at] ^= 0x55
-    return bytes(out)
-
-
 def by_model(cases, program):
     both = [picture(5), picture(6)]
     count_tries(cases, "each edit of a picture is the model's", program, [(it.split(), data) for it in EDITS + LISTS for data in both])
@@ -50,8 +41,8 @@ def by_model(cases, program):
     count_tries(cases, "heads with comments and white space", program, [("fill 1,1,2,2 9".split(), picture(kind, 4, 3, head) * 2) for head in HEADS for kind in (5, 6)])
     small = picture(6, 2, 2, HEADS[3]) + picture(5, 3, 1)
     count_tries(cases, "each beginning of two pictures", program, [("fill 0,0,2,1 9".split(), small[:end]) for end in range(len(small) + 1)])
-    ends_of_heads = (small.index(b"255\n") + 4, small.index(b"P5"))
-    places = [*range(ends_of_heads[0]), *range(ends_of_heads[1], len(small) - 3)]
+    cells, second = small.index(b"255\n") + 4, small.index(b"P5")
+    places = [*range(cells), *range(second, len(small) - 3)]
     count_tries(cases, "each byte of a head changed", program, [("fill 0,0,1,1 9".split(), small[:at] + bytes([byte]) + small[at + 1:]) for at in places for byte in (0, 10, 13, 32, 35, 48, 49, 53, 54, 80, 255)])
     painted = ("fill 1,1,3,3 10,20,30", "fill 0,0,12,8 255,0,128", "0..1 fill 2,2,2,2 1,2,3 mosaic 2,2,4,4 3,3")
     count_tries(cases, "a colour is written in pictures in colour, and is none of grey ones or of video", program, [(it.split(), data) for it in painted for data in (*both, both[1] * 2, both[1] + both[0], b"YUV4MPEG2 W12 H8 C444\n")])
@@ -59,7 +50,7 @@ def by_model(cases, program):
     count_tries(cases, "heads with numbers out of range", program, numbers)
     outside = [(it.split(), both[0] + picture(6, 4, 4)) for it in ("fill 3,0,2,2 9", "mosaic 0,0,4,5 2,2", "mosaic 0,0,4,4 0,2", "move 0,0,2,2 3,3", "crop 0,0,5,4", "crop 0,0,0,4", "crop 0,0,4,0", "1..2 fill 4,0,1,1 9", "0..1 fill 4,0,1,1 9")]
     count_tries(cases, "an edit that is none of the second picture ends behind the first", program, outside)
-    hidden = exchanged(both[1], (4, 2, 6, 4))
+    hidden = exchanged(both[1], len("P6\n12 8\n255\n"), 3 * 12, (3 * 4, 2, 3 * 6, 4))
     cases.count("hidden pixels can't be told from the output", hidden != both[1] and ends(program, "fill 4,2,6,4 126".split(), hidden) == ends(program, "fill 4,2,6,4 126".split(), both[1]))
 
 
