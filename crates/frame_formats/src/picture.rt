@@ -135,9 +135,7 @@ impl Head {
             comment: false,
         }
     }
-}
 
-impl Head {
     // What it is after a digit.
     fn after_digit(self, digit: usize) -> Scan
         ensures { result ≡ after_digit self digit }
