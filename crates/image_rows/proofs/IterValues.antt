@@ -9,8 +9,8 @@ use denote.Param.Laws.{Laws}
 use denote.RattleType.{RattleType}
 use denote.Ref.{NamedLft}
 use denote.Slice.{MutSlice}
-use Rattle.lending.proofs.Declared.{plain_made, held_cells, held_again}
-use Rattle.lending.proofs.Options.{lent_val}
+use Rattle.borrow_laws.proofs.Declared.{plain_made, held_cells, held_again}
+use Rattle.borrow_laws.proofs.Options.{lent_val}
 use Rattle.image_rows.specs.declared.writing.RowsIterMut.{RowsIterMut}
 use Rattle.image_rows.specs.contracts.spacing.Spacing as sp
 use Rattle.image_rows.specs.contracts.writing.RowsIterMut.{the_row, the_type}

@@ -30,8 +30,8 @@ use denote.Triple.Spec.{triple_of}
 use denote.Triple.Statement.{Contract}
 use Rattle.std.specs.Prelude.{Option, Some, None}
 use Rattle.std.specs.contracts.option.Option as opt
-use Rattle.lending.proofs.Lifetimes.{Ends, begins}
-use Rattle.lending.proofs.Options.{none_told, some_told}
+use Rattle.borrow_laws.proofs.Lifetimes.{Ends, begins}
+use Rattle.borrow_laws.proofs.Options.{none_told, some_told}
 use Rattle.image_rows.specs.Rows.{hands_on, Yields, Moves}
 use Rattle.image_rows.specs.declared.ends.End.{End}
 use Rattle.image_rows.specs.declared.writing.RowsIterMut.{RowsIterMut}

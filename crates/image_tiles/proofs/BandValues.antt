@@ -16,8 +16,8 @@ use denote.Ref.{NamedLft, MutBor}
 use denote.Slice.{MutSlice}
 use Rattle.std.specs.Prelude.{Some}
 use Rattle.std.specs.contracts.option.Option as opt
-use Rattle.lending.proofs.Declared.{plain_made, held_cells, held_again}
-use Rattle.lending.proofs.Options.{lent_val}
+use Rattle.borrow_laws.proofs.Declared.{plain_made, held_cells, held_again}
+use Rattle.borrow_laws.proofs.Options.{lent_val}
 use Rattle.imgref.specs.declared.img.Img.{Img}
 use Rattle.imgref.specs.Image.{shape_of}
 use Rattle.imgref.proofs.ImageValues.{img_val, img_row, img_told}

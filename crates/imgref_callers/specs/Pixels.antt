@@ -2,7 +2,7 @@
 use Rattle.std.specs.Prelude.{ℕ, zero, suc, ◌+◌, ◌*◌, nat_lt, if◌then◌else◌, Bool, true, false, List, [], ◌∷◌, ◌++◌, Some}
 use Rattle.std.specs.Borrow.{Fml, RattleType, Array}
 use base.Fml.{fex, fsep, feq}
-use Rattle.lending.specs.Endings.{ends_as}
+use Rattle.borrow_laws.specs.Endings.{ends_as}
 use Rattle.image_model.specs.Grid.{Grid, grid}
 use Rattle.image_pixels.specs.Pixels.{cells_left, marks_left, name_of}
 use Rattle.image_pixels.specs.declared.pixels_mut.PixelsIterMut.{PixelsIterMut}

@@ -43,9 +43,9 @@ use Rattle.std.proofs.raw_atomic.Walks.{proved, leaves}
 use Rattle.image_model.specs.Layout.{Layout, Fits}
 use Rattle.image_model.specs.Grid.{grid_of}
 use Rattle.image_model.specs.Rows.{pixels, grid_pixels}
-use Rattle.lending.proofs.Bodies.{of_copied}
-use Rattle.lending.proofs.Endings.{ends_said}
-use Rattle.lending.proofs.Lifetimes.{Ends, begins}
+use Rattle.borrow_laws.proofs.Bodies.{of_copied}
+use Rattle.borrow_laws.proofs.Endings.{ends_said}
+use Rattle.borrow_laws.proofs.Lifetimes.{Ends, begins}
 use Rattle.image_pixels.specs.Marks.{marks_of}
 use Rattle.image_pixels.specs.Pixels.{cells_left, marks_left, muts_left, name_of}
 use Rattle.image_pixels.specs.declared.pixels_mut.PixelsIterMut.{PixelsIterMut}

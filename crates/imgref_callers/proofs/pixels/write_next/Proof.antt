@@ -57,10 +57,10 @@ use Rattle.std.specs.Prelude.{Option, Some, None}
 use Rattle.std.specs.Iterator.{MakesProgress, item_count, YieldsFirstMut}
 use Rattle.std.specs.contracts.option.Option as OP
 use Rattle.std.specs.declared.clone.Clone.{Ghosts}
-use Rattle.lending.specs.Endings.{ends_as}
-use Rattle.lending.proofs.Endings.{ends_beside, ends_then, ends_itself}
-use Rattle.lending.proofs.Lifetimes.{Ends, begins}
-use Rattle.lending.proofs.Options.{some_out, none_out}
+use Rattle.borrow_laws.specs.Endings.{ends_as}
+use Rattle.borrow_laws.proofs.Endings.{ends_beside, ends_then, ends_itself}
+use Rattle.borrow_laws.proofs.Lifetimes.{Ends, begins}
+use Rattle.borrow_laws.proofs.Options.{some_out, none_out}
 use Rattle.image_pixels.specs.Pixels.{muts_left, cells_left, marks_left, gap, passed, hands_on, Moves}
 use Rattle.image_pixels.specs.contracts.pixels_mut.PixelsIterMut as P
 use Rattle.image_pixels.specs.declared.pixels_mut.PixelsIterMut.{PixelsIterMut}

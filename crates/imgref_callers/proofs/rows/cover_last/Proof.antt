@@ -52,13 +52,13 @@ use Rattle.image_model.specs.Layout.{Layout, Fits}
 use Rattle.image_model.specs.Grid.{grid_of}
 use Rattle.image_model.specs.Rows.{rows, row_count, grid_rows}
 use Rattle.imgref.specs.Image.{with_all, layout_by}
-use Rattle.lending.proofs.Bodies.{of_copied, first_arm, type_of}
-use Rattle.lending.proofs.Declared.{typed}
-use Rattle.lending.specs.Endings.{ends_as}
-use Rattle.lending.proofs.Endings.{ends_beside, ends_said}
-use Rattle.lending.proofs.Lifetimes.{Ends, begins}
-use Rattle.lending.proofs.Options.{none_or_some, none_told, some_told, some_slice, lent_val}
-use Rattle.lending.proofs.Parts.{given_up}
+use Rattle.borrow_laws.proofs.Bodies.{of_copied, first_arm, type_of}
+use Rattle.borrow_laws.proofs.Declared.{typed}
+use Rattle.borrow_laws.specs.Endings.{ends_as}
+use Rattle.borrow_laws.proofs.Endings.{ends_beside, ends_said}
+use Rattle.borrow_laws.proofs.Lifetimes.{Ends, begins}
+use Rattle.borrow_laws.proofs.Options.{none_or_some, none_told, some_told, some_slice, lent_val}
+use Rattle.borrow_laws.proofs.Parts.{given_up}
 use Rattle.image_rows.specs.declared.ends.End.TheVariants.{Last}
 use Rattle.image_rows.specs.declared.writing.RowsIterMut.{RowsIterMut}
 use Rattle.image_rows.specs.contracts.writing.RowsIterMut as P

@@ -47,8 +47,8 @@ use Rattle.std.specs.Prelude.{Option, None}
 use Rattle.std.specs.contracts.result.Result as result
 use Rattle.std.specs.declared.result.Result.{Result}
 use Rattle.std.specs.declared.result.Result.TheVariants.{Ok, Err}
-use Rattle.lending.proofs.Bodies.{of_one}
-use Rattle.lending.proofs.Followed.{if_some, if_none}
+use Rattle.borrow_laws.proofs.Bodies.{of_one}
+use Rattle.borrow_laws.proofs.Followed.{if_some, if_none}
 use Rattle.image_model.specs.Grid.{grid_of}
 use Rattle.image_model.specs.Layout.{Layout, Fits, layout}
 use Rattle.image_model.specs.Windows as model

@@ -56,13 +56,13 @@ use Rattle.image_shape.specs.declared.shape.Shape.{Shape}
 use Rattle.image_shape.specs.contracts.shape.Shape as shape
 use Rattle.imgref.specs.Image.{with_all, layout_by, mut_layout, shape_of}
 use Rattle.imgref.proofs.ImageValues.{shape_val, shape_made, img_row, LentCells, lent_cells_laws, ImgParts, img_parts_told}
-use Rattle.lending.proofs.Bodies.{of_copied, first_arm, type_of}
-use Rattle.lending.proofs.Declared.{typed}
-use Rattle.lending.specs.Endings.{ends_as}
-use Rattle.lending.proofs.Endings.{ends_beside, ends_said}
-use Rattle.lending.proofs.Lifetimes.{Ends, begins}
-use Rattle.lending.proofs.Options.{none_or_some, none_told, lent_val}
-use Rattle.lending.proofs.Parts.{given_up}
+use Rattle.borrow_laws.proofs.Bodies.{of_copied, first_arm, type_of}
+use Rattle.borrow_laws.proofs.Declared.{typed}
+use Rattle.borrow_laws.specs.Endings.{ends_as}
+use Rattle.borrow_laws.proofs.Endings.{ends_beside, ends_said}
+use Rattle.borrow_laws.proofs.Lifetimes.{Ends, begins}
+use Rattle.borrow_laws.proofs.Options.{none_or_some, none_told, lent_val}
+use Rattle.borrow_laws.proofs.Parts.{given_up}
 use Rattle.image_tiles.specs.declared.bands.BandsMut.{BandsMut}
 use Rattle.image_tiles.specs.contracts.bands.BandsMut as P
 use Rattle.image_tiles.proofs.bands.BandsMut.TheLaws as laws

@@ -42,8 +42,8 @@ use Rattle.std.specs.Result.{IfOk, result_err}
 use Rattle.std.specs.contracts.result.Result as result
 use Rattle.std.specs.declared.result.Result.{Result}
 use Rattle.std.specs.declared.result.Result.TheVariants.{Ok, Err}
-use Rattle.lending.proofs.Bodies.{of_container, first_arm, type_of}
-use Rattle.lending.proofs.Followed.{if_given}
+use Rattle.borrow_laws.proofs.Bodies.{of_container, first_arm, type_of}
+use Rattle.borrow_laws.proofs.Followed.{if_given}
 use Rattle.image_model.specs.Layout.{Layout, Fits}
 use Rattle.image_model.specs.Grid.{grid_of}
 use Rattle.image_model.specs.Windows as model

@@ -36,9 +36,9 @@ use Rattle.std.proofs.Common.{⊎_elim, arith}
 use Rattle.std.proofs.alloc.Shapes.{after}
 use Rattle.std.specs.Prelude.{Option, Some, None}
 use Rattle.std.specs.contracts.option.Option as OP
-use Rattle.lending.proofs.Bodies.{of_container, first_arm, type_of}
-use Rattle.lending.proofs.Followed.{if_given}
-use Rattle.lending.proofs.Options.{none_or_some}
+use Rattle.borrow_laws.proofs.Bodies.{of_container, first_arm, type_of}
+use Rattle.borrow_laws.proofs.Followed.{if_given}
+use Rattle.borrow_laws.proofs.Options.{none_or_some}
 use Rattle.image_model.specs.Layout.{Layout}
 use Rattle.image_model.specs.Windows.{Window}
 use Rattle.image_shape.specs.declared.shape.Shape.{Shape}

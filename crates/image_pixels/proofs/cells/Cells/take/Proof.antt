@@ -39,7 +39,7 @@ use denote.Triple.Walked.{Stays, walk_of, stay_ref, stay_dropped, Goes-ref, Goes
 use borrow.Table.Elements.{at, at_mul, length-take-le}
 use Rattle.std.proofs.alloc.Shapes.{after}
 use Rattle.std.proofs.raw_atomic.Walks.{proved, leaves}
-use Rattle.lending.proofs.Stretches.{uncapped}
+use Rattle.borrow_laws.proofs.Stretches.{uncapped}
 use Rattle.image_pixels.specs.Loans.{seen}
 use Rattle.image_pixels.proofs.Reading.{Data, made, parts, place}
 use Rattle.image_pixels.specs.contracts.cells.Cells as P

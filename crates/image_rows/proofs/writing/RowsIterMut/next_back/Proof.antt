@@ -25,7 +25,7 @@ use denote.Triple.Table.{framed}
 use denote.Triple.Walked.{Stays, stay_ref, walk_of, Goes-ref}
 use Rattle.std.proofs.raw_atomic.Walks.{proved, leaves}
 use Rattle.std.specs.Prelude.{Option}
-use Rattle.lending.proofs.Bodies.{of_one}
+use Rattle.borrow_laws.proofs.Bodies.{of_one}
 use Rattle.image_rows.specs.Rows.{hands_on, Yields, Moves}
 use Rattle.image_rows.specs.declared.ends.End.TheVariants.{Last}
 use Rattle.image_rows.specs.declared.writing.RowsIterMut.{RowsIterMut}

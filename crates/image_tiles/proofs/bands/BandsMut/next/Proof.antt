@@ -39,11 +39,11 @@ use Rattle.std.proofs.raw_atomic.Walks.{proved, leaves}
 use Rattle.std.specs.Iterator.{YieldsFirstBy}
 use Rattle.std.specs.Prelude.{Option, Some, None}
 use Rattle.std.specs.contracts.option.Option as opt
-use Rattle.lending.proofs.Bodies.{of_one}
-use Rattle.lending.proofs.Declared.{typed}
-use Rattle.lending.proofs.Lifetimes.{Ends, begins}
-use Rattle.lending.proofs.Options.{none_or_some, none_told}
-use Rattle.lending.proofs.Pairs.{pair_told, pair_out}
+use Rattle.borrow_laws.proofs.Bodies.{of_one}
+use Rattle.borrow_laws.proofs.Declared.{typed}
+use Rattle.borrow_laws.proofs.Lifetimes.{Ends, begins}
+use Rattle.borrow_laws.proofs.Options.{none_or_some, none_told}
+use Rattle.borrow_laws.proofs.Pairs.{pair_told, pair_out}
 use Rattle.image_tiles.specs.Bands.{bands_left, hands_on, Moves}
 use Rattle.imgref.specs.declared.img.Img.{Img}
 use Rattle.imgref.specs.Image.{mut_layout}

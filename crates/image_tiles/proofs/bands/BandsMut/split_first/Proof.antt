@@ -45,11 +45,11 @@ use Rattle.std.proofs.option.Made.{Some-of, none_of}
 use Rattle.std.proofs.raw_atomic.Walks.{proved_at, leaves}
 use Rattle.std.specs.Prelude.{None, Some}
 use Rattle.std.specs.contracts.option.Option as opt
-use Rattle.lending.proofs.Bodies.{of_one}
-use Rattle.lending.proofs.Declared.{is_low, typed}
-use Rattle.lending.proofs.Options.{lent_val}
-use Rattle.lending.proofs.Pairs.{pair_val, pair_made, pair_told, pair_out}
-use Rattle.lending.proofs.Parts.{given_up, cut_within}
+use Rattle.borrow_laws.proofs.Bodies.{of_one}
+use Rattle.borrow_laws.proofs.Declared.{is_low, typed}
+use Rattle.borrow_laws.proofs.Options.{lent_val}
+use Rattle.borrow_laws.proofs.Pairs.{pair_val, pair_made, pair_told, pair_out}
+use Rattle.borrow_laws.proofs.Parts.{given_up, cut_within}
 use Rattle.std.specs.Iterator.{YieldsFirstBy}
 use Rattle.image_shape.specs.contracts.shape.Shape as shape_type
 use Rattle.image_shape.proofs.shape.Shape.TheLaws as shape_laws

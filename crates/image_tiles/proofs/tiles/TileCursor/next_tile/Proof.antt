@@ -37,8 +37,8 @@ use Rattle.std.proofs.alloc.Shapes.{after}
 use Rattle.std.proofs.option.Made.{Some-of, none_of}
 use Rattle.std.specs.Prelude.{Option, Some, None}
 use Rattle.std.specs.contracts.option.Option as OP
-use Rattle.lending.proofs.Bodies.{of_container}
-use Rattle.lending.proofs.Followed.{if_some, if_none}
+use Rattle.borrow_laws.proofs.Bodies.{of_container}
+use Rattle.borrow_laws.proofs.Followed.{if_some, if_none}
 use Rattle.image_model.specs.Layout.{Layout, Fits}
 use Rattle.image_model.specs.Windows.{Window}
 use Rattle.imgref.specs.Image.{layout_by, shape_of}

@@ -55,7 +55,7 @@ use denote.Triple.Walked.{says, Stays, stay_dropped, walk_of, ends_at, walked, G
 use borrow.Table.Elements.{at, at_mul}
 use borrow.Table.OneValue.{part_out_at, part_in_at}
 use Rattle.std.proofs.lemmas.Option.{slice_get-get_or}
-use Rattle.lending.proofs.Stretches.{uncapped}
+use Rattle.borrow_laws.proofs.Stretches.{uncapped}
 use Rattle.imgref.specs.contracts.containers.RefMutSliceAsMutSlice.cell_mut as F
 use Rattle.imgref.specs.contracts.containers.RefMutSliceAsMutSlice.cell_mut.Key.{name as #self}
 use Rattle.imgref.proofs.containers.RefMutSliceAsMutSlice.cell_mut.Statement as stated

@@ -46,7 +46,7 @@ use denote.Triple.Table.{entered}
 use denote.Triple.Walked.{says, Stays, stay_dropped, walk_of, ends_at, walked, Goes-dropped, Goes-spent_ref, walk_Meets}
 use borrow.Table.Elements.{at, at_mul, length-take-le}
 use borrow.Table.OneValue.{part_out_at, part_in_at}
-use Rattle.lending.proofs.Stretches.{uncapped, cut_at, part_lent, lends_part}
+use Rattle.borrow_laws.proofs.Stretches.{uncapped, cut_at, part_lent, lends_part}
 use Rattle.imgref.specs.contracts.containers.RefMutSliceAsMutSlice.stretch_mut as F
 use Rattle.imgref.specs.contracts.containers.RefMutSliceAsMutSlice.stretch_mut.Key.{name as #self}
 use Rattle.imgref.proofs.containers.RefMutSliceAsMutSlice.stretch_mut.Statement as stated

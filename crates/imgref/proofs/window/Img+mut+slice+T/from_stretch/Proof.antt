@@ -35,8 +35,8 @@ use denote.Triple.Table.{framed}
 use denote.Triple.Walked.{Stays, stay_dropped, walk_of}
 use borrow.Table.Elements.{at, at_mul, length-take-le}
 use Rattle.std.proofs.raw_atomic.Walks.{proved_at, leaves}
-use Rattle.lending.proofs.Bodies.{of_one}
-use Rattle.lending.proofs.Stretches.{uncapped, cut_at, part_lent, lends_part}
+use Rattle.borrow_laws.proofs.Bodies.{of_one}
+use Rattle.borrow_laws.proofs.Stretches.{uncapped, cut_at, part_lent, lends_part}
 use Rattle.image_shape.specs.declared.window.Stretch.{Stretch}
 use Rattle.image_shape.specs.declared.shape.Shape.{Shape}
 use Rattle.image_model.specs.Windows.{stretch_cells, with_stretch}

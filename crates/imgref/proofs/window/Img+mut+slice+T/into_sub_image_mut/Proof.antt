@@ -32,7 +32,7 @@ use denote.Triple.Spec.{triple_of}
 use denote.Triple.Table.{framed}
 use denote.Triple.Walked.{Stays, stay_dropped, walk_of, Goes-dropped}
 use Rattle.std.proofs.raw_atomic.Walks.{proved_at, leaves}
-use Rattle.lending.proofs.Bodies.{of_one}
+use Rattle.borrow_laws.proofs.Bodies.{of_one}
 use Rattle.image_model.specs.Layout.{Fits}
 use Rattle.image_model.specs.Grid.{grid_of}
 use Rattle.image_model.specs.Windows.{Window as Pane, window, window_view, IsInside, IsWithin, Stretch as Part, roomy_stretch, roomy_window, stretch_cells, with_stretch}

@@ -7,7 +7,7 @@ use types.Logic.{Logic, sem}
 use types.Kit.{‵, raw, ◌$◌, ◌∵◌, !, qed, by, move, use1, use2, join, each, assume, done}
 use denote.RattleType.{RattleType}
 use denote.Follow.{follows_both, both_by}
-use Rattle.lending.specs.Endings.{ends_as}
+use Rattle.borrow_laws.specs.Endings.{ends_as}
 
 module _ {M : Type 1} {𝓤 : Ura M} (𝓛 : Logic 𝓤) where
   open 𝓛 use {A}

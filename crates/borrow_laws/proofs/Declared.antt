@@ -18,7 +18,7 @@ use denote.Ref.{MutBor}
 use denote.Slice.{MutSlice}
 use denote.Steps.{nothing, owned, peeks}
 use denote.Struct.Struct.{Shape, Struct, within}
-use Rattle.lending.proofs.Options.{lent_val}
+use Rattle.borrow_laws.proofs.Options.{lent_val}
 
 -- of a declared type: what is related to x is its one machine value, and that has the type
 module _ (R : RattleType) (L : Laws R) (low : Lowered R) {M : Type 1} {𝓤 : Ura M} (𝓛 : Logic 𝓤) (x : R.Denot) (vs : List Val) (is : Is R x vs) where
