@@ -1,22 +1,23 @@
-//! The calls, for pixels of any size.
+//! Each call for pixels of any size, and its exports for pixels of one byte and of four.
 
-ghost use Rattle.std.specs.Prelude.{◌<◌, ◌≤◌};
+ghost use Rattle.std.specs.Prelude.{◌<◌};
 ghost use Rattle.image_model.specs.Layout.{Fits};
 ghost use Rattle.image_model.specs.Rows.{joined_rows};
 ghost use Rattle.imgref.specs.Clones.{ClonesEqual};
 ghost use Rattle.imgref.specs.Image.{ref_layout};
 ghost use Rattle.imgref.specs.Shape.{shaped};
+ghost use Rattle.bench_exports.specs.Cells.{IsImage};
 
 use image_tiles::{BandsMut, TilesMut};
-use imgref::{ImgRef, ImgRefMut, Shape};
+use imgref::{Img, ImgRef, ImgRefMut, Shape};
 use std::alloc::Global;
 use std::hash::{DefaultHasher, Hash, Hasher};
 
 // The side of a tile and the height of a band.
 const TILE: usize = 16;
 
-/// The sum of the pixels, row by row.
-pub(crate) fn rows<T: Copy + Into<u64>>(image: &ImgRef<'_, T>) -> u64
+// The sum of the pixels, row by row.
+fn rows<T: Copy + Into<u64>>(image: &ImgRef<'_, T>) -> u64
     requires fits { Fits (ref_layout image.now) }
 {
     let mut sum = 0u64;
@@ -28,8 +29,24 @@ pub(crate) fn rows<T: Copy + Into<u64>>(image: &ImgRef<'_, T>) -> u64
     sum
 }
 
-/// The sum of the pixels, by one loop over all.
-pub(crate) fn pixels<T: Copy + Into<u64>>(image: &ImgRef<'_, T>) -> u64
+/// The sum of the pixels, row by row.
+#[unsafe(no_mangle)]
+pub extern "C" fn bench_u8_rows(cells: &[u8], width: usize, height: usize, stride: usize) -> u64
+    requires image { IsImage cells.now width height stride }
+{
+    rows(&Img::new_stride(cells, width, height, stride))
+}
+
+/// The sum of the pixels, row by row.
+#[unsafe(no_mangle)]
+pub extern "C" fn bench_u32_rows(cells: &[u32], width: usize, height: usize, stride: usize) -> u64
+    requires image { IsImage cells.now width height stride }
+{
+    rows(&Img::new_stride(cells, width, height, stride))
+}
+
+// The sum of the pixels, by one loop over all.
+fn pixels<T: Copy + Into<u64>>(image: &ImgRef<'_, T>) -> u64
     requires fits { Fits (ref_layout image.now) }
 {
     let mut sum = 0u64;
@@ -39,8 +56,24 @@ pub(crate) fn pixels<T: Copy + Into<u64>>(image: &ImgRef<'_, T>) -> u64
     sum
 }
 
-/// The sum of the pixels by their places, in a loop over the caller's own width and height.
-pub(crate) fn get<T: Copy + Into<u64>>(image: &ImgRef<'_, T>, width: usize, height: usize) -> u64
+/// The sum of the pixels, by one loop over all.
+#[unsafe(no_mangle)]
+pub extern "C" fn bench_u8_pixels(cells: &[u8], width: usize, height: usize, stride: usize) -> u64
+    requires image { IsImage cells.now width height stride }
+{
+    pixels(&Img::new_stride(cells, width, height, stride))
+}
+
+/// The sum of the pixels, by one loop over all.
+#[unsafe(no_mangle)]
+pub extern "C" fn bench_u32_pixels(cells: &[u32], width: usize, height: usize, stride: usize) -> u64
+    requires image { IsImage cells.now width height stride }
+{
+    pixels(&Img::new_stride(cells, width, height, stride))
+}
+
+// The sum of the pixels by their places, in a loop over the caller's own width and height.
+fn get<T: Copy + Into<u64>>(image: &ImgRef<'_, T>, width: usize, height: usize) -> u64
     requires fits { Fits (ref_layout image.now) }
 {
     let mut sum = 0u64;
@@ -54,8 +87,32 @@ pub(crate) fn get<T: Copy + Into<u64>>(image: &ImgRef<'_, T>, width: usize, heig
     sum
 }
 
-/// The sum of the pixels by their places, which are tested once.
-pub(crate) fn index<T: Copy + Into<u64>>(image: &ImgRef<'_, T>, width: usize, height: usize) -> u64
+/// The sum of the pixels by their places.
+#[unsafe(no_mangle)]
+pub extern "C" fn bench_u8_get(cells: &[u8], width: usize, height: usize, stride: usize) -> u64
+    requires image { IsImage cells.now width height stride }
+{
+    get(
+        &Img::new_stride(cells, width, height, stride),
+        width,
+        height,
+    )
+}
+
+/// The sum of the pixels by their places.
+#[unsafe(no_mangle)]
+pub extern "C" fn bench_u32_get(cells: &[u32], width: usize, height: usize, stride: usize) -> u64
+    requires image { IsImage cells.now width height stride }
+{
+    get(
+        &Img::new_stride(cells, width, height, stride),
+        width,
+        height,
+    )
+}
+
+// The sum of the pixels by their places, which are tested once.
+fn index<T: Copy + Into<u64>>(image: &ImgRef<'_, T>, width: usize, height: usize) -> u64
     requires fits { Fits (ref_layout image.now) }
 {
     let mut sum = 0u64;
@@ -70,8 +127,32 @@ pub(crate) fn index<T: Copy + Into<u64>>(image: &ImgRef<'_, T>, width: usize, he
     sum
 }
 
-/// The sum of a window of a window, which leaves out a column and a row at each side.
-pub(crate) fn nested<T: Copy + Into<u64>>(image: &ImgRef<'_, T>) -> u64
+/// The sum of the pixels by their places, which are tested once.
+#[unsafe(no_mangle)]
+pub extern "C" fn bench_u8_index(cells: &[u8], width: usize, height: usize, stride: usize) -> u64
+    requires image { IsImage cells.now width height stride }
+{
+    index(
+        &Img::new_stride(cells, width, height, stride),
+        width,
+        height,
+    )
+}
+
+/// The sum of the pixels by their places, which are tested once.
+#[unsafe(no_mangle)]
+pub extern "C" fn bench_u32_index(cells: &[u32], width: usize, height: usize, stride: usize) -> u64
+    requires image { IsImage cells.now width height stride }
+{
+    index(
+        &Img::new_stride(cells, width, height, stride),
+        width,
+        height,
+    )
+}
+
+// The sum of a window of a window, which leaves out a column and a row at each side.
+fn nested<T: Copy + Into<u64>>(image: &ImgRef<'_, T>) -> u64
     requires fits { Fits (ref_layout image.now) }
 {
     let width = image.width();
@@ -83,15 +164,47 @@ pub(crate) fn nested<T: Copy + Into<u64>>(image: &ImgRef<'_, T>) -> u64
     rows(&outer.sub_image(0, 0, width - 2, height - 2))
 }
 
-/// The hash of the image.
-pub(crate) fn hash<T: Hash>(image: &ImgRef<'_, T>) -> u64 {
+/// The sum of a window of a window.
+#[unsafe(no_mangle)]
+pub extern "C" fn bench_u8_nested(cells: &[u8], width: usize, height: usize, stride: usize) -> u64
+    requires image { IsImage cells.now width height stride }
+{
+    nested(&Img::new_stride(cells, width, height, stride))
+}
+
+/// The sum of a window of a window.
+#[unsafe(no_mangle)]
+pub extern "C" fn bench_u32_nested(cells: &[u32], width: usize, height: usize, stride: usize) -> u64
+    requires image { IsImage cells.now width height stride }
+{
+    nested(&Img::new_stride(cells, width, height, stride))
+}
+
+// The hash of the image.
+fn hash<T: Hash>(image: &ImgRef<'_, T>) -> u64 {
     let mut hasher = DefaultHasher::new();
     image.hash(&mut hasher);
     hasher.finish()
 }
 
-/// The joined rows in a buffer of their own, which is given back. The answer is how many cells it had.
-pub(crate) fn to_contiguous_buf<T: Copy>(alloc: Global, image: &ImgRef<'_, T>) -> usize
+/// The hash of the image.
+#[unsafe(no_mangle)]
+pub extern "C" fn bench_u8_hash(cells: &[u8], width: usize, height: usize, stride: usize) -> u64
+    requires image { IsImage cells.now width height stride }
+{
+    hash(&Img::new_stride(cells, width, height, stride))
+}
+
+/// The hash of the image.
+#[unsafe(no_mangle)]
+pub extern "C" fn bench_u32_hash(cells: &[u32], width: usize, height: usize, stride: usize) -> u64
+    requires image { IsImage cells.now width height stride }
+{
+    hash(&Img::new_stride(cells, width, height, stride))
+}
+
+// The joined rows in a buffer of their own, which is given back. The answer is how many cells it had.
+fn to_contiguous_buf<T: Copy>(alloc: Global, image: &ImgRef<'_, T>) -> usize
     requires fits { Fits (ref_layout image.now) }
     requires clones_equal { ClonesEqual T.is_clone (joined_rows (ref_layout image.now)) }
 {
@@ -101,8 +214,36 @@ pub(crate) fn to_contiguous_buf<T: Copy>(alloc: Global, image: &ImgRef<'_, T>) -
     }
 }
 
-/// Every pixel becomes this one, by one loop over all.
-pub(crate) fn pixels_mut<T: Copy>(cells: &mut [T], shape: Shape, value: T)
+/// The joined rows, which are given back at once: how many cells they had.
+#[unsafe(no_mangle)]
+pub extern "C" fn bench_u8_to_contiguous_buf(
+    alloc: Global,
+    cells: &[u8],
+    width: usize,
+    height: usize,
+    stride: usize,
+) -> usize
+    requires image { IsImage cells.now width height stride }
+{
+    to_contiguous_buf(alloc, &Img::new_stride(cells, width, height, stride))
+}
+
+/// The joined rows, which are given back at once: how many cells they had.
+#[unsafe(no_mangle)]
+pub extern "C" fn bench_u32_to_contiguous_buf(
+    alloc: Global,
+    cells: &[u32],
+    width: usize,
+    height: usize,
+    stride: usize,
+) -> usize
+    requires image { IsImage cells.now width height stride }
+{
+    to_contiguous_buf(alloc, &Img::new_stride(cells, width, height, stride))
+}
+
+// Every pixel becomes this one, by one loop over all.
+fn pixels_mut<T: Copy>(cells: &mut [T], shape: Shape, value: T)
     requires fits { Fits (shaped cells.old shape) }
 {
     let mut image = ImgRefMut::from_parts(cells, shape);
@@ -111,8 +252,29 @@ pub(crate) fn pixels_mut<T: Copy>(cells: &mut [T], shape: Shape, value: T)
     }
 }
 
-/// Every pixel becomes this one, tile by tile.
-pub(crate) fn tiles<T: Copy>(cells: &mut [T], shape: Shape, value: T)
+/// Every pixel becomes 7, by one loop over all.
+#[unsafe(no_mangle)]
+pub extern "C" fn bench_u8_pixels_mut(cells: &mut [u8], width: usize, height: usize, stride: usize)
+    requires image { IsImage cells.old width height stride }
+{
+    pixels_mut(cells, Shape::new(width, height, stride), 7);
+}
+
+/// Every pixel becomes 7, by one loop over all.
+#[unsafe(no_mangle)]
+pub extern "C" fn bench_u32_pixels_mut(
+    cells: &mut [u32],
+    width: usize,
+    height: usize,
+    stride: usize,
+)
+    requires image { IsImage cells.old width height stride }
+{
+    pixels_mut(cells, Shape::new(width, height, stride), 7);
+}
+
+// Every pixel becomes this one, tile by tile.
+fn tiles<T: Copy>(cells: &mut [T], shape: Shape, value: T)
     requires fits { Fits (shaped cells.old shape) }
 {
     let mut tiles = TilesMut::new(ImgRefMut::from_parts(cells, shape), TILE, TILE);
@@ -128,8 +290,24 @@ pub(crate) fn tiles<T: Copy>(cells: &mut [T], shape: Shape, value: T)
     }
 }
 
-/// Every pixel becomes this one, band by band.
-pub(crate) fn bands<T: Copy>(cells: &mut [T], shape: Shape, value: T)
+/// Every pixel becomes 7, tile by tile.
+#[unsafe(no_mangle)]
+pub extern "C" fn bench_u8_tiles(cells: &mut [u8], width: usize, height: usize, stride: usize)
+    requires image { IsImage cells.old width height stride }
+{
+    tiles(cells, Shape::new(width, height, stride), 7);
+}
+
+/// Every pixel becomes 7, tile by tile.
+#[unsafe(no_mangle)]
+pub extern "C" fn bench_u32_tiles(cells: &mut [u32], width: usize, height: usize, stride: usize)
+    requires image { IsImage cells.old width height stride }
+{
+    tiles(cells, Shape::new(width, height, stride), 7);
+}
+
+// Every pixel becomes this one, band by band.
+fn bands<T: Copy>(cells: &mut [T], shape: Shape, value: T)
     requires fits { Fits (shaped cells.old shape) }
 {
     let mut bands = BandsMut::new(ImgRefMut::from_parts(cells, shape), TILE);
@@ -143,4 +321,79 @@ pub(crate) fn bands<T: Copy>(cells: &mut [T], shape: Shape, value: T)
             None => break,
         }
     }
+}
+
+/// Every pixel becomes 7, band by band.
+#[unsafe(no_mangle)]
+pub extern "C" fn bench_u8_bands(cells: &mut [u8], width: usize, height: usize, stride: usize)
+    requires image { IsImage cells.old width height stride }
+{
+    bands(cells, Shape::new(width, height, stride), 7);
+}
+
+/// Every pixel becomes 7, band by band.
+#[unsafe(no_mangle)]
+pub extern "C" fn bench_u32_bands(cells: &mut [u32], width: usize, height: usize, stride: usize)
+    requires image { IsImage cells.old width height stride }
+{
+    bands(cells, Shape::new(width, height, stride), 7);
+}
+
+/// Every pixel is turned bit by bit.
+#[unsafe(no_mangle)]
+pub extern "C" fn bench_u8_map_pixels(cells: &mut [u8], width: usize, height: usize, stride: usize)
+    requires image { IsImage cells.old width height stride }
+{
+    let mut image: ImgRefMut<'_, u8> = Img::new_stride(cells, width, height, stride);
+    image.map_pixels(|pixel: u8| !pixel);
+}
+
+/// Every pixel is turned bit by bit.
+#[unsafe(no_mangle)]
+pub extern "C" fn bench_u32_map_pixels(
+    cells: &mut [u32],
+    width: usize,
+    height: usize,
+    stride: usize,
+)
+    requires image { IsImage cells.old width height stride }
+{
+    let mut image: ImgRefMut<'_, u32> = Img::new_stride(cells, width, height, stride);
+    image.map_pixels(|pixel: u32| !pixel);
+}
+
+/// Row `y` and row `z` change places.
+#[unsafe(no_mangle)]
+pub extern "C" fn bench_u8_swap_rows(
+    cells: &mut [u8],
+    width: usize,
+    height: usize,
+    stride: usize,
+    y: usize,
+    z: usize,
+)
+    requires image { IsImage cells.old width height stride }
+    requires first { y < height }
+    requires second { z < height }
+{
+    let mut image: ImgRefMut<'_, u8> = Img::new_stride(cells, width, height, stride);
+    image.swap_rows(y, z);
+}
+
+/// Row `y` and row `z` change places.
+#[unsafe(no_mangle)]
+pub extern "C" fn bench_u32_swap_rows(
+    cells: &mut [u32],
+    width: usize,
+    height: usize,
+    stride: usize,
+    y: usize,
+    z: usize,
+)
+    requires image { IsImage cells.old width height stride }
+    requires first { y < height }
+    requires second { z < height }
+{
+    let mut image: ImgRefMut<'_, u32> = Img::new_stride(cells, width, height, stride);
+    image.swap_rows(y, z);
 }

@@ -1,9 +1,7 @@
 //! What the benchmark times and the library for C doesn't export: calls with a closure, iterators, and calls that take memory.
 //!
-//! Each call is on an image of `cells`. `bytes` has those on pixels of one byte and `words` those on
-//! pixels of four; `calls` has both.
+//! Each call is on an image of `cells`. In `calls` its generic function stands before its exports for
+//! pixels of one byte and of four.
 #![tactic(auto)]
 
-mod bytes;
 mod calls;
-mod words;
