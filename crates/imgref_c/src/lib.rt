@@ -4,18 +4,12 @@
 //! `Status` which test failed; unless that is 0 (`IMGREF_OK`), nothing has changed. What stays
 //! trusted is that a pointer and a length are those of memory that the caller lends for the call.
 //!
-//! Each call on cells is one generic function, in the module of its subject. The modules `cells8` to
-//! `cells64` export it for cells of one, two, four and eight bytes: C has no generic functions, and
-//! no macro of the language writes functions.
+//! Each call on cells is one generic function, and behind it stand its exports for cells of one, two,
+//! four and eight bytes: C has no generic functions, and no macro of the language writes functions.
 #![tactic(auto)]
 
-mod cells16;
-mod cells32;
-mod cells64;
-mod cells8;
 mod equality;
 mod images;
-mod mosaics;
 mod packing;
 mod parts;
 mod places;

@@ -1,22 +1,23 @@
-//! Windows of an image: their cells, and writes to them.
+//! Writes to a window of an image.
 
 ghost use Rattle.std.specs.Prelude.{◌≡◌, length};
 ghost use Rattle.image_model.specs.Layout.{layout};
 ghost use Rattle.image_model.specs.Grid.{grid_of, patch, uniform};
 ghost use Rattle.image_model.specs.Windows.{window_view};
-ghost use Rattle.imgref_c.specs.Status.{code, window_status, copy_status, move_status};
+ghost use Rattle.image_mosaics.specs.Mosaic.{mosaic as mosaic_of};
+ghost use Rattle.imgref_c.specs.Status.{code, window_status, copy_status, move_status, mosaic_status};
 ghost use Rattle.imgref_c.specs.Window.{as_window};
 ghost use Rattle.imgref_c.specs.Calls.{Writes};
 
 use crate::images::is_image;
-use crate::parts::{copy_part, fill_part};
+use crate::parts::{copy_part, fill_part, mosaic_part};
 use crate::status::Status;
 use crate::window::ImgrefWindow;
 use image_moves::move_pixels;
 use image_shape::Shape;
 
-/// Every pixel of the window becomes `value`.
-pub(crate) fn fill_window<T: Copy>(
+// Every pixel of the window becomes `value`.
+fn fill_window<T: Copy>(
     cells: &mut [T],
     width: usize,
     height: usize,
@@ -39,8 +40,72 @@ pub(crate) fn fill_window<T: Copy>(
     Status::Done
 }
 
-/// The window gets the pixels of `source`, which has its size.
-pub(crate) fn copy_window<T: Copy>(
+/// Every pixel of the window becomes `value`.
+#[unsafe(no_mangle)]
+pub extern "C" fn imgref_u8_fill_window(
+    cells: &mut [u8],
+    width: usize,
+    height: usize,
+    stride: usize,
+    window: ImgrefWindow,
+    value: u8,
+) -> u32
+    ensures status { result ≡ code (window_status (length cells.old) width height stride (as_window window)) }
+    ensures writes { Writes result (layout cells.old width height stride) (layout cells.new width height stride) (patch (grid_of (layout cells.old width height stride)) window.left window.top (uniform window.width window.height value)) }
+{
+    fill_window::<u8>(cells, width, height, stride, window, value).code()
+}
+
+/// Every pixel of the window becomes `value`.
+#[unsafe(no_mangle)]
+pub extern "C" fn imgref_u16_fill_window(
+    cells: &mut [u16],
+    width: usize,
+    height: usize,
+    stride: usize,
+    window: ImgrefWindow,
+    value: u16,
+) -> u32
+    ensures status { result ≡ code (window_status (length cells.old) width height stride (as_window window)) }
+    ensures writes { Writes result (layout cells.old width height stride) (layout cells.new width height stride) (patch (grid_of (layout cells.old width height stride)) window.left window.top (uniform window.width window.height value)) }
+{
+    fill_window::<u16>(cells, width, height, stride, window, value).code()
+}
+
+/// Every pixel of the window becomes `value`.
+#[unsafe(no_mangle)]
+pub extern "C" fn imgref_u32_fill_window(
+    cells: &mut [u32],
+    width: usize,
+    height: usize,
+    stride: usize,
+    window: ImgrefWindow,
+    value: u32,
+) -> u32
+    ensures status { result ≡ code (window_status (length cells.old) width height stride (as_window window)) }
+    ensures writes { Writes result (layout cells.old width height stride) (layout cells.new width height stride) (patch (grid_of (layout cells.old width height stride)) window.left window.top (uniform window.width window.height value)) }
+{
+    fill_window::<u32>(cells, width, height, stride, window, value).code()
+}
+
+/// Every pixel of the window becomes `value`.
+#[unsafe(no_mangle)]
+pub extern "C" fn imgref_u64_fill_window(
+    cells: &mut [u64],
+    width: usize,
+    height: usize,
+    stride: usize,
+    window: ImgrefWindow,
+    value: u64,
+) -> u32
+    ensures status { result ≡ code (window_status (length cells.old) width height stride (as_window window)) }
+    ensures writes { Writes result (layout cells.old width height stride) (layout cells.new width height stride) (patch (grid_of (layout cells.old width height stride)) window.left window.top (uniform window.width window.height value)) }
+{
+    fill_window::<u64>(cells, width, height, stride, window, value).code()
+}
+
+// The window gets the pixels of `source`, which has its size.
+fn copy_window<T: Copy>(
     cells: &mut [T],
     width: usize,
     height: usize,
@@ -72,8 +137,128 @@ pub(crate) fn copy_window<T: Copy>(
     Status::Done
 }
 
-/// The window `to` gets the pixels that the window `from` had, overlapping or not.
-pub(crate) fn move_window<T: Copy>(
+/// The window gets the pixels of `source`, which has its size.
+#[unsafe(no_mangle)]
+pub extern "C" fn imgref_u8_copy_window(
+    cells: &mut [u8],
+    width: usize,
+    height: usize,
+    stride: usize,
+    window: ImgrefWindow,
+    source: &[u8],
+    source_width: usize,
+    source_height: usize,
+    source_stride: usize,
+) -> u32
+    ensures status { result ≡ code (copy_status (length cells.old) width height stride (as_window window) (length source.now) source_width source_height source_stride) }
+    ensures writes { Writes result (layout cells.old width height stride) (layout cells.new width height stride) (patch (grid_of (layout cells.old width height stride)) window.left window.top (grid_of (layout source.now source_width source_height source_stride))) }
+{
+    copy_window::<u8>(
+        cells,
+        width,
+        height,
+        stride,
+        window,
+        source,
+        source_width,
+        source_height,
+        source_stride,
+    )
+    .code()
+}
+
+/// The window gets the pixels of `source`, which has its size.
+#[unsafe(no_mangle)]
+pub extern "C" fn imgref_u16_copy_window(
+    cells: &mut [u16],
+    width: usize,
+    height: usize,
+    stride: usize,
+    window: ImgrefWindow,
+    source: &[u16],
+    source_width: usize,
+    source_height: usize,
+    source_stride: usize,
+) -> u32
+    ensures status { result ≡ code (copy_status (length cells.old) width height stride (as_window window) (length source.now) source_width source_height source_stride) }
+    ensures writes { Writes result (layout cells.old width height stride) (layout cells.new width height stride) (patch (grid_of (layout cells.old width height stride)) window.left window.top (grid_of (layout source.now source_width source_height source_stride))) }
+{
+    copy_window::<u16>(
+        cells,
+        width,
+        height,
+        stride,
+        window,
+        source,
+        source_width,
+        source_height,
+        source_stride,
+    )
+    .code()
+}
+
+/// The window gets the pixels of `source`, which has its size.
+#[unsafe(no_mangle)]
+pub extern "C" fn imgref_u32_copy_window(
+    cells: &mut [u32],
+    width: usize,
+    height: usize,
+    stride: usize,
+    window: ImgrefWindow,
+    source: &[u32],
+    source_width: usize,
+    source_height: usize,
+    source_stride: usize,
+) -> u32
+    ensures status { result ≡ code (copy_status (length cells.old) width height stride (as_window window) (length source.now) source_width source_height source_stride) }
+    ensures writes { Writes result (layout cells.old width height stride) (layout cells.new width height stride) (patch (grid_of (layout cells.old width height stride)) window.left window.top (grid_of (layout source.now source_width source_height source_stride))) }
+{
+    copy_window::<u32>(
+        cells,
+        width,
+        height,
+        stride,
+        window,
+        source,
+        source_width,
+        source_height,
+        source_stride,
+    )
+    .code()
+}
+
+/// The window gets the pixels of `source`, which has its size.
+#[unsafe(no_mangle)]
+pub extern "C" fn imgref_u64_copy_window(
+    cells: &mut [u64],
+    width: usize,
+    height: usize,
+    stride: usize,
+    window: ImgrefWindow,
+    source: &[u64],
+    source_width: usize,
+    source_height: usize,
+    source_stride: usize,
+) -> u32
+    ensures status { result ≡ code (copy_status (length cells.old) width height stride (as_window window) (length source.now) source_width source_height source_stride) }
+    ensures writes { Writes result (layout cells.old width height stride) (layout cells.new width height stride) (patch (grid_of (layout cells.old width height stride)) window.left window.top (grid_of (layout source.now source_width source_height source_stride))) }
+{
+    copy_window::<u64>(
+        cells,
+        width,
+        height,
+        stride,
+        window,
+        source,
+        source_width,
+        source_height,
+        source_stride,
+    )
+    .code()
+}
+
+// The window `to` gets the pixels that the window `from` had, overlapping or not.
+fn move_window<T: Copy>(
     cells: &mut [T],
     width: usize,
     height: usize,
@@ -98,4 +283,200 @@ pub(crate) fn move_window<T: Copy>(
     }
     move_pixels(cells, shape, from, to);
     Status::Done
+}
+
+/// The window `to` gets the pixels that the window `from` had, overlapping or not.
+#[unsafe(no_mangle)]
+pub extern "C" fn imgref_u8_move_window(
+    cells: &mut [u8],
+    width: usize,
+    height: usize,
+    stride: usize,
+    from: ImgrefWindow,
+    to: ImgrefWindow,
+) -> u32
+    ensures status { result ≡ code (move_status (length cells.old) width height stride (as_window from) (as_window to)) }
+    ensures writes { Writes result (layout cells.old width height stride) (layout cells.new width height stride) (patch (grid_of (layout cells.old width height stride)) to.left to.top (window_view (grid_of (layout cells.old width height stride)) (as_window from))) }
+{
+    move_window::<u8>(cells, width, height, stride, from, to).code()
+}
+
+/// The window `to` gets the pixels that the window `from` had, overlapping or not.
+#[unsafe(no_mangle)]
+pub extern "C" fn imgref_u16_move_window(
+    cells: &mut [u16],
+    width: usize,
+    height: usize,
+    stride: usize,
+    from: ImgrefWindow,
+    to: ImgrefWindow,
+) -> u32
+    ensures status { result ≡ code (move_status (length cells.old) width height stride (as_window from) (as_window to)) }
+    ensures writes { Writes result (layout cells.old width height stride) (layout cells.new width height stride) (patch (grid_of (layout cells.old width height stride)) to.left to.top (window_view (grid_of (layout cells.old width height stride)) (as_window from))) }
+{
+    move_window::<u16>(cells, width, height, stride, from, to).code()
+}
+
+/// The window `to` gets the pixels that the window `from` had, overlapping or not.
+#[unsafe(no_mangle)]
+pub extern "C" fn imgref_u32_move_window(
+    cells: &mut [u32],
+    width: usize,
+    height: usize,
+    stride: usize,
+    from: ImgrefWindow,
+    to: ImgrefWindow,
+) -> u32
+    ensures status { result ≡ code (move_status (length cells.old) width height stride (as_window from) (as_window to)) }
+    ensures writes { Writes result (layout cells.old width height stride) (layout cells.new width height stride) (patch (grid_of (layout cells.old width height stride)) to.left to.top (window_view (grid_of (layout cells.old width height stride)) (as_window from))) }
+{
+    move_window::<u32>(cells, width, height, stride, from, to).code()
+}
+
+/// The window `to` gets the pixels that the window `from` had, overlapping or not.
+#[unsafe(no_mangle)]
+pub extern "C" fn imgref_u64_move_window(
+    cells: &mut [u64],
+    width: usize,
+    height: usize,
+    stride: usize,
+    from: ImgrefWindow,
+    to: ImgrefWindow,
+) -> u32
+    ensures status { result ≡ code (move_status (length cells.old) width height stride (as_window from) (as_window to)) }
+    ensures writes { Writes result (layout cells.old width height stride) (layout cells.new width height stride) (patch (grid_of (layout cells.old width height stride)) to.left to.top (window_view (grid_of (layout cells.old width height stride)) (as_window from))) }
+{
+    move_window::<u64>(cells, width, height, stride, from, to).code()
+}
+
+// Each tile of the window, from its corner on, gets the pixel that stood at the tile's corner.
+fn mosaic<T: Copy>(
+    cells: &mut [T],
+    width: usize,
+    height: usize,
+    stride: usize,
+    window: ImgrefWindow,
+    tile_width: usize,
+    tile_height: usize,
+) -> Status
+    ensures status { result ≡ mosaic_status (length cells.old) width height stride (as_window window) tile_width tile_height }
+    ensures writes { Writes (code result) (layout cells.old width height stride) (layout cells.new width height stride) (patch (grid_of (layout cells.old width height stride)) window.left window.top (mosaic_of tile_width tile_height (window_view (grid_of (layout cells.old width height stride)) (as_window window)))) }
+{
+    if !is_image(cells.len(), width, height, stride) {
+        return Status::NotAnImage;
+    }
+    let shape = Shape::new(width, height, stride);
+    let window = window.as_window();
+    if !shape.has_window(window) {
+        return Status::WindowOutside;
+    }
+    if tile_width == 0 || tile_height == 0 {
+        return Status::NoTile;
+    }
+    mosaic_part(cells, shape, window, tile_width, tile_height);
+    Status::Done
+}
+
+/// Each tile of the window, from its corner on, gets the pixel that stood at the tile's corner.
+#[unsafe(no_mangle)]
+pub extern "C" fn imgref_u8_mosaic(
+    cells: &mut [u8],
+    width: usize,
+    height: usize,
+    stride: usize,
+    window: ImgrefWindow,
+    tile_width: usize,
+    tile_height: usize,
+) -> u32
+    ensures status { result ≡ code (mosaic_status (length cells.old) width height stride (as_window window) tile_width tile_height) }
+    ensures writes { Writes result (layout cells.old width height stride) (layout cells.new width height stride) (patch (grid_of (layout cells.old width height stride)) window.left window.top (mosaic_of tile_width tile_height (window_view (grid_of (layout cells.old width height stride)) (as_window window)))) }
+{
+    mosaic::<u8>(
+        cells,
+        width,
+        height,
+        stride,
+        window,
+        tile_width,
+        tile_height,
+    )
+    .code()
+}
+
+/// Each tile of the window, from its corner on, gets the pixel that stood at the tile's corner.
+#[unsafe(no_mangle)]
+pub extern "C" fn imgref_u16_mosaic(
+    cells: &mut [u16],
+    width: usize,
+    height: usize,
+    stride: usize,
+    window: ImgrefWindow,
+    tile_width: usize,
+    tile_height: usize,
+) -> u32
+    ensures status { result ≡ code (mosaic_status (length cells.old) width height stride (as_window window) tile_width tile_height) }
+    ensures writes { Writes result (layout cells.old width height stride) (layout cells.new width height stride) (patch (grid_of (layout cells.old width height stride)) window.left window.top (mosaic_of tile_width tile_height (window_view (grid_of (layout cells.old width height stride)) (as_window window)))) }
+{
+    mosaic::<u16>(
+        cells,
+        width,
+        height,
+        stride,
+        window,
+        tile_width,
+        tile_height,
+    )
+    .code()
+}
+
+/// Each tile of the window, from its corner on, gets the pixel that stood at the tile's corner.
+#[unsafe(no_mangle)]
+pub extern "C" fn imgref_u32_mosaic(
+    cells: &mut [u32],
+    width: usize,
+    height: usize,
+    stride: usize,
+    window: ImgrefWindow,
+    tile_width: usize,
+    tile_height: usize,
+) -> u32
+    ensures status { result ≡ code (mosaic_status (length cells.old) width height stride (as_window window) tile_width tile_height) }
+    ensures writes { Writes result (layout cells.old width height stride) (layout cells.new width height stride) (patch (grid_of (layout cells.old width height stride)) window.left window.top (mosaic_of tile_width tile_height (window_view (grid_of (layout cells.old width height stride)) (as_window window)))) }
+{
+    mosaic::<u32>(
+        cells,
+        width,
+        height,
+        stride,
+        window,
+        tile_width,
+        tile_height,
+    )
+    .code()
+}
+
+/// Each tile of the window, from its corner on, gets the pixel that stood at the tile's corner.
+#[unsafe(no_mangle)]
+pub extern "C" fn imgref_u64_mosaic(
+    cells: &mut [u64],
+    width: usize,
+    height: usize,
+    stride: usize,
+    window: ImgrefWindow,
+    tile_width: usize,
+    tile_height: usize,
+) -> u32
+    ensures status { result ≡ code (mosaic_status (length cells.old) width height stride (as_window window) tile_width tile_height) }
+    ensures writes { Writes result (layout cells.old width height stride) (layout cells.new width height stride) (patch (grid_of (layout cells.old width height stride)) window.left window.top (mosaic_of tile_width tile_height (window_view (grid_of (layout cells.old width height stride)) (as_window window)))) }
+{
+    mosaic::<u64>(
+        cells,
+        width,
+        height,
+        stride,
+        window,
+        tile_width,
+        tile_height,
+    )
+    .code()
 }
