@@ -1,25 +1,16 @@
 -- The part of an image that a window is, written.
-use Rattle.std.proofs.Common.{◌≡◌, ◌+◌, ◌-◌, ◌≤◌, List, ◌++◌, length, take, drop, drop-drop, sym, ap, ◌∙◌, subst, arith}
+use Rattle.std.proofs.Common.{◌≡◌, ◌+◌, ◌-◌, List, ◌++◌, length, take, drop, drop-drop, sym, ap, ◌∙◌, subst, arith}
 use borrow.Rule.Slice.PartMut.{mid_of, put_mid}
-use Rattle.image_model.specs.Layout.{Layout, layout, Fits, SameOutside}
+use Rattle.image_model.specs.Layout.{Layout, layout, SameOutside}
 use Rattle.image_model.specs.Grid.{grid_of, patch}
-use Rattle.image_model.specs.Windows.{Window, Stretch, IsInside, exact_stretch, exact_window, window_view}
-use Rattle.image_model.proofs.Windows.{HasWindow, stretch_window, exact_has, handed_on, handed_on_grid, handed_on_outside, exact_grid, exact_fits}
+use Rattle.image_model.specs.Windows.{Window, Stretch, exact_window, window_view}
+use Rattle.image_model.proofs.Windows.{HasWindow, stretch_window, exact_has, handed_on, handed_on_grid, handed_on_outside, exact_grid}
 use Rattle.image_shape.specs.declared.shape.Shape.{Shape}
-use Rattle.image_shape.specs.Shape.{shape_width, shape_height, shape_stride, shaped}
+use Rattle.image_shape.specs.Shape.{shaped}
+use Rattle.imgref_c.specs.Part.{IsPart}
 
--- a window that is inside, its shape and its stretch
-pub record IsPart {T : Type 0} (cells : List T) (outer inner : Shape) (w : Window) (s : Stretch) : Type 0 where
-  pub narrow : shape_width outer ≤ shape_stride outer
-  pub fits : Fits (shaped cells outer)
-  pub inside : IsInside (shape_width outer) (shape_height outer) w
-  pub wide : shape_width inner ≡ w.width
-  pub high : shape_height inner ≡ w.height
-  pub same_stride : shape_stride inner ≡ shape_stride outer
-  pub is : s ≡ exact_stretch (shape_stride outer) w
-
--- that stretch, in the window's shape
-module _ {T : Type 0} (cells : List T) (outer inner : Shape) (w : Window) (s : Stretch) (p : IsPart cells outer inner w s) where
+-- the window's stretch, in its shape
+module _ {T : Type 0} (cells : List T) (outer inner : Shape) (w : Window) (s : Stretch) (p : IsPart (length cells) outer inner w s) where
   abbrev l : Layout T
   l = shaped cells outer
 
@@ -38,9 +29,6 @@ module _ {T : Type 0} (cells : List T) (outer inner : Shape) (w : Window) (s : S
       sized (mid_of s.start (s.start + s.len - s.start) cells)
       ∙ ap (λ n. layout (take n (drop s.start cells)) w.width w.height l.stride) count
       ∙ ap (stretch_window l w) p.is
-
-  pub part_fits : Fits part
-  part_fits = subst (λ (m : Layout T). Fits m) (sym part_is) (exact_fits l w p.fits p.inside)
 
   pub part_shows : grid_of part ≡ window_view (grid_of l) w
   part_shows = ap (λ (m : Layout T). grid_of m) part_is ∙ exact_grid l w p.fits p.inside

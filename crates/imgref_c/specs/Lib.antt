@@ -1,4 +1,5 @@
 pub mod Status
 pub mod Window
+pub mod Part
 pub mod Numbering
 pub mod Calls

@@ -4,16 +4,27 @@
 //! would have no register left, which costs a third of the time at rows of 64 bytes.
 
 ghost use Rattle.std.specs.Prelude.{◌≡◌, ◌<◌};
-ghost use Rattle.image_model.specs.Layout.{Fits, SameOutside};
+ghost use Rattle.image_model.specs.Layout.{Fits, Reaches, SameOutside};
 ghost use Rattle.image_model.specs.Grid.{patch, uniform};
-ghost use Rattle.image_model.specs.Windows.{IsInside, window_view};
+ghost use Rattle.image_model.specs.Windows.{IsInside, IsWithin, window_view};
 ghost use Rattle.image_mosaics.specs.Mosaic.{mosaic};
-ghost use Rattle.image_shape.specs.Shape.{shape_width, shape_height, shaped_grid, shaped};
-ghost use Rattle.image_shape.specs.Window.{as_window};
+ghost use Rattle.image_shape.specs.Shape.{shape_width, shape_height, shape_stride, shaped_grid, shaped};
+ghost use Rattle.image_shape.specs.Window.{as_window, as_stretch};
+ghost use Rattle.imgref_c.specs.Part.{IsPart};
 
 use image_mosaics::mosaic_cells;
 use image_pixels::{copy_pixels, fill_pixels};
-use image_shape::{Shape, Window};
+use image_shape::{Shape, Stretch, Window};
+
+// The stretch that a window has of so many cells, and its shape.
+fn part_of(count: usize, shape: Shape, window: Window) -> (Stretch, Shape)
+    requires fits { Reaches count (shape_width shape) (shape_height shape) (shape_stride shape) }
+    requires inside { IsInside (shape_width shape) (shape_height shape) (as_window window) }
+    ensures part { IsPart count shape result.1 (as_window window) (as_stretch result.0) }
+    ensures within { IsWithin count (as_stretch result.0) }
+{
+    (shape.stretch(false, count, window), shape.window(window))
+}
 
 /// Every pixel of the window becomes `value`.
 #[inline(never)]
@@ -23,9 +34,9 @@ pub(crate) fn fill_part<T: Copy>(cells: &mut [T], shape: Shape, window: Window, 
     ensures grid { shaped_grid cells.new shape ≡ patch (shaped_grid cells.old shape) window.left window.top (uniform window.width window.height value) }
     ensures outside { SameOutside (shaped cells.old shape) (shaped cells.new shape) }
 {
-    let part = shape.stretch(false, cells.len(), window);
+    let (part, inner) = part_of(cells.len(), shape, window);
     let end = part.start + part.len;
-    fill_pixels(&mut cells[part.start..end], shape.window(window), value);
+    fill_pixels(&mut cells[part.start..end], inner, value);
 }
 
 /// The window gets the pixels of `source`, which has its size.
@@ -45,14 +56,9 @@ pub(crate) fn copy_part<T: Copy>(
     ensures grid { shaped_grid cells.new shape ≡ patch (shaped_grid cells.old shape) window.left window.top (shaped_grid source.now source_shape) }
     ensures outside { SameOutside (shaped cells.old shape) (shaped cells.new shape) }
 {
-    let part = shape.stretch(false, cells.len(), window);
+    let (part, inner) = part_of(cells.len(), shape, window);
     let end = part.start + part.len;
-    copy_pixels(
-        &mut cells[part.start..end],
-        shape.window(window),
-        source,
-        source_shape,
-    );
+    copy_pixels(&mut cells[part.start..end], inner, source, source_shape);
 }
 
 /// Each tile of the window, from its corner on, gets the pixel that stood at the tile's corner.
@@ -71,12 +77,7 @@ pub(crate) fn mosaic_part<T: Copy>(
     ensures grid { shaped_grid cells.new shape ≡ patch (shaped_grid cells.old shape) window.left window.top (mosaic tile_width tile_height (window_view (shaped_grid cells.old shape) (as_window window))) }
     ensures outside { SameOutside (shaped cells.old shape) (shaped cells.new shape) }
 {
-    let part = shape.stretch(false, cells.len(), window);
+    let (part, inner) = part_of(cells.len(), shape, window);
     let end = part.start + part.len;
-    mosaic_cells(
-        &mut cells[part.start..end],
-        shape.window(window),
-        tile_width,
-        tile_height,
-    );
+    mosaic_cells(&mut cells[part.start..end], inner, tile_width, tile_height);
 }

@@ -2,19 +2,14 @@
 use Rattle.std.proofs.Common.{ap, ◌∙◌}
 use Rattle.image_model.specs.Grid.{grid_of, patch, uniform}
 use Rattle.image_shape.specs.Shape.{shaped}
-use Rattle.image_shape.specs.Window.{as_window, as_stretch}
-use Rattle.imgref_c.proofs.Written.{IsPart, part_grid, part_outside}
+use Rattle.imgref_c.proofs.Written.{part_grid, part_outside}
 use Rattle.imgref_c.proofs.parts.fill_part.Goals as goal
-use Rattle.imgref_c.proofs.parts.fill_part.Goals.{After-cells-1}
-
-is_part : (g : _) (c : After-cells-1 g) → IsPart c.args.cells.now c.args.shape c.window.result (as_window c.args.window) (as_stretch c.stretch-part.result)
-is_part g c = let e = c.window.ensures in let s = c.stretch-part.ensures in record { narrow = s.holds_width; fits = c.requires.fits; inside = c.requires.inside; wide = e.width; high = e.height; same_stride = e.stride; is = s.value }
 
 pub returns-clause-grid : goal.returns-clause-grid
 returns-clause-grid g c =
     let a = c.args in
-    part_grid _ _ _ _ _ (is_part g c) c.fill_pixels.new.cells c.fill_pixels.ensures.outside
-    ∙ ap (patch (grid_of (shaped a.cells.now a.shape)) a.window.left a.window.top) (c.fill_pixels.ensures.grid ∙ (λ i. uniform (c.window.ensures.width i) (c.window.ensures.height i) a.value))
+    part_grid _ _ _ _ _ c.part_of.ensures.part c.fill_pixels.new.cells c.fill_pixels.ensures.outside
+    ∙ ap (patch (grid_of (shaped a.cells.now a.shape)) a.window.left a.window.top) (c.fill_pixels.ensures.grid ∙ (λ i. uniform (c.part_of.ensures.part.wide i) (c.part_of.ensures.part.high i) a.value))
 
 pub returns-clause-outside : goal.returns-clause-outside
-returns-clause-outside g c = part_outside _ _ _ _ _ (is_part g c) c.fill_pixels.new.cells c.fill_pixels.ensures.outside
+returns-clause-outside g c = part_outside _ _ _ _ _ c.part_of.ensures.part c.fill_pixels.new.cells c.fill_pixels.ensures.outside
