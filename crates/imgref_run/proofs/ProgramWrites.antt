@@ -8,7 +8,6 @@ use Rattle.std.proofs.lemmas.List.Elements.{All-from_recursion}
 use Rattle.image_model.specs.Layout.{Layout, Fits}
 use Rattle.imgref_run.specs.declared.fault.RunFault.{RunFault}
 use Rattle.imgref_run.specs.declared.fault.RunFault.TheVariants.{Line, Memory, Input, Output}
-use Rattle.imgref_run.specs.Fault.{reader_failures}
 use Rattle.imgref_run.specs.Line.{IsImage}
 use Rattle.devices.specs.Whole.{AppendsBeginning}
 use Rattle.imgref_run.specs.Program.{Writes, IsOutputOf}
@@ -29,14 +28,6 @@ wrote (Err Output) input left old new bytes text gave end output ok err fault =
 wrote (Err Input) input left old new bytes text gave end output ok err fault = absurd cc
 wrote (Err Memory) input left old new bytes text gave end output ok err fault = absurd cc
 wrote (Err (Line n)) input left old new bytes text gave end output ok err fault = absurd cc
-
--- a run that came to its writing has read without a fault
-pub reader_kept : (r : Result (Unit {0}) RunFault) → IfErr r (λ e. e ≡ Output) → reader_failures r ≡ 0
-reader_kept (Ok x) fault = refl
-reader_kept (Err Output) fault = refl
-reader_kept (Err Input) fault = absurd cc
-reader_kept (Err Memory) fault = refl
-reader_kept (Err (Line n)) fault = refl
 
 layouts_fit : (images : List (Layout ℕ)) → AllByRecursion IsImage images → AllByRecursion Fits images
 layouts_fit [] all = tt

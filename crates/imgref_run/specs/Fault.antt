@@ -23,19 +23,13 @@ fault_text Output = common_text CommonOutput
 
 -- by how much a run with this answer raised the reader's count
 abbrev pub reader_failures : {T : Type 0} → Result T RunFault → ℕ
-reader_failures (Ok x) = 0
-reader_failures (Err (Line n)) = 0
-reader_failures (Err Memory) = 0
 reader_failures (Err Input) = 1
-reader_failures (Err Output) = 0
+reader_failures _ = 0
 
 -- by how much a run with this answer raised the writer's count
 abbrev pub writer_failures : {T : Type 0} → Result T RunFault → ℕ
-writer_failures (Ok x) = 0
-writer_failures (Err (Line n)) = 0
-writer_failures (Err Memory) = 0
-writer_failures (Err Input) = 0
 writer_failures (Err Output) = 1
+writer_failures _ = 0
 
 -- the fault is one that reading the input may end with
 abbrev pub IsReadFault : RunFault → Type 0
