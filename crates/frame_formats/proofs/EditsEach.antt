@@ -2,10 +2,10 @@
 use Rattle.std.proofs.Common.{◌≡◌, ℕ, ◌<◌, List, [], ◌∷◌, ◌++◌, Option, Some, None, true, false, eqb, length, drop, refl, sym, ap, ◌∙◌, subst, arith, append_assoc, inl, inr}
 use Rattle.std.specs.List.{flat_map}
 use Rattle.std.specs.Option.{option_map}
-use Rattle.std.proofs.lemmas.List.{append-nil}
 use Rattle.std.proofs.lemmas.Bool.Decides.{eqb_tells}
 use Rattle.text_model.proofs.Options.{some_is, map_some}
-use Rattle.frame_formats.specs.declared.steps.Step.{Step}
+use Rattle.image_planes.specs.declared.change.Step.{Step}
+use Rattle.frame_formats.specs.declared.steps.Paint.{Paint}
 use Rattle.frame_formats.specs.declared.framing.Framing.{Framing}
 use Rattle.frame_formats.specs.declared.words.Edits.{Edits}
 use Rattle.frame_formats.specs.Lists.{AreEdits, Adds, framing_after, with_one, with_line, with_lines, plain}
@@ -18,22 +18,18 @@ use Rattle.frame_formats.specs.Words.{Named, edit_at, with_edit}
 abbrev pub Taken : List (List ℕ) → Edits → Edits → ℕ → Type 0
 Taken words old new n = option_map (with_edit old.steps.items) (edit_at words) ≡ Some (new.steps.items, (new.framing, n))
 
--- no words add nothing
-pub adds_nothing : (words : List (List ℕ)) (e : Edits) → words ≡ [] → Adds words e e
-adds_nothing words e none = record { edits = []; are = none; steps = sym (append-nil e.steps.items); framing = refl }
-
 -- one edit at the front, and then others
 pub adds_more : (words : List (List ℕ)) (old mid new : Edits) (n : ℕ) → Taken words old mid n → old.framing ≡ None → Adds (drop n words) mid new → Adds words old new
 adds_more words old mid new n taken first more =
     let m = map_some (edit_at words) (with_edit old.steps.items) (mid.steps.items, (mid.framing, n)) taken in
     let e : Named = m.0 in
-    let steps : old.steps.items ++ e.steps ≡ mid.steps.items = ap (λ (t : List Step × (Option Framing × ℕ)). t.0) m.2 in
-    let framing : e.framing ≡ mid.framing = ap (λ (t : List Step × (Option Framing × ℕ)). t.1.0) m.2 in
-    let count : e.count ≡ n = ap (λ (t : List Step × (Option Framing × ℕ)). t.1.1) m.2 in
+    let steps : old.steps.items ++ e.steps ≡ mid.steps.items = ap (λ (t : List (Step Paint) × (Option Framing × ℕ)). t.0) m.2 in
+    let framing : e.framing ≡ mid.framing = ap (λ (t : List (Step Paint) × (Option Framing × ℕ)). t.1.0) m.2 in
+    let count : e.count ≡ n = ap (λ (t : List (Step Paint) × (Option Framing × ℕ)). t.1.1) m.2 in
     record {
       edits = e ∷ more.edits;
       are = (first, m.1, subst (λ (f : Option Framing). AreEdits more.edits f (drop e.count words)) (sym framing) (subst (λ (k : ℕ). AreEdits more.edits mid.framing (drop k words)) (sym count) more.are));
-      steps = more.steps ∙ ap (λ (l : List Step). l ++ flat_map (λ (x : Named). x.steps) more.edits) (sym steps) ∙ append_assoc old.steps.items e.steps (flat_map (λ (x : Named). x.steps) more.edits);
+      steps = more.steps ∙ ap (λ (l : List (Step Paint)). l ++ flat_map (λ (x : Named). x.steps) more.edits) (sym steps) ∙ append_assoc old.steps.items e.steps (flat_map (λ (x : Named). x.steps) more.edits);
       framing = more.framing ∙ ap (framing_after more.edits) (sym framing);
     }
 
@@ -43,8 +39,8 @@ edits_left words old mid n [] taken some are = absurd (let none : length words �
 edits_left words old mid n (e ∷ es) taken some are =
     let m = map_some (edit_at words) (with_edit old.steps.items) (mid.steps.items, (mid.framing, n)) taken in
     let same : e ≡ m.0 = some_is e m.0 (sym are.1 ∙ m.1) in
-    let framing : e.framing ≡ mid.framing = ap (λ (x : Named). x.framing) same ∙ ap (λ (t : List Step × (Option Framing × ℕ)). t.1.0) m.2 in
-    let count : e.count ≡ n = ap (λ (x : Named). x.count) same ∙ ap (λ (t : List Step × (Option Framing × ℕ)). t.1.1) m.2 in
+    let framing : e.framing ≡ mid.framing = ap (λ (x : Named). x.framing) same ∙ ap (λ (t : List (Step Paint) × (Option Framing × ℕ)). t.1.0) m.2 in
+    let count : e.count ≡ n = ap (λ (x : Named). x.count) same ∙ ap (λ (t : List (Step Paint) × (Option Framing × ℕ)). t.1.1) m.2 in
     (es, subst (λ (f : Option Framing). AreEdits es f (drop n words)) framing (subst (λ (k : ℕ). AreEdits es e.framing (drop k words)) count are.2))
 
 -- words with no edit at the front are no edits
@@ -65,7 +61,7 @@ pub one_taken : (words : List (List ℕ)) (old new : Edits) (n : ℕ) → Taken 
 one_taken words old new n taken first all =
     let m = map_some (edit_at words) (with_edit old.steps.items) (new.steps.items, (new.framing, n)) taken in
     let e : Named = m.0 in
-    let count : e.count ≡ length words = ap (λ (t : List Step × (Option Framing × ℕ)). t.1.1) m.2 ∙ all in
+    let count : e.count ≡ length words = ap (λ (t : List (Step Paint) × (Option Framing × ℕ)). t.1.1) m.2 ∙ all in
     let tested : eqb e.count (length words) ≡ true = same_eqb e.count (length words) count in
     rw (first, m.1, tested) (λ i. Some (edits (m.2 i).0 (m.2 i).1.0))
 
@@ -74,7 +70,7 @@ pub fewer_taken : (words : List (List ℕ)) (old new : Edits) (n : ℕ) → Take
 fewer_taken words old new n taken first fewer =
     let m = map_some (edit_at words) (with_edit old.steps.items) (new.steps.items, (new.framing, n)) taken in
     let e : Named = m.0 in
-    let count : e.count ≡ n = ap (λ (t : List Step × (Option Framing × ℕ)). t.1.1) m.2 in
+    let count : e.count ≡ n = ap (λ (t : List (Step Paint) × (Option Framing × ℕ)). t.1.1) m.2 in
     let tested : eqb e.count (length words) ≡ false = other_eqb e.count (length words) (λ same. fewer (sym count ∙ same)) in
     rw (first, m.1, tested) refl
 

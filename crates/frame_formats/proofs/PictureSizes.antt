@@ -5,14 +5,14 @@ use Rattle.text_model.specs.Reading.{◌>>=◌}
 use Rattle.text_model.proofs.Options.{some_is, bind_some, map_some, guard_some}
 use Rattle.image_planes.specs.Changes.{Job, job, job_len, job_for, is_job, jobs_len}
 use Rattle.image_planes.specs.Resized.{Resizing, resizing, resizing_for, is_resizing, sources_len}
-use Rattle.image_planes.specs.declared.change.Step.{Step as PlaneStep}
+use Rattle.image_planes.specs.declared.change.Step.{Step}
 use Rattle.image_planes.specs.declared.target.Resize.{Resize}
 use Rattle.frame_formats.specs.Recipe.{picture_job, one_job, three_jobs, picture_jobs, each_plane}
 use Rattle.frame_formats.specs.Steps.{steps_in}
 use Rattle.frame_formats.specs.declared.picture.Picture.{Picture}
 use Rattle.frame_formats.specs.declared.steps.Channel.{Channel}
 use Rattle.frame_formats.specs.declared.steps.Channel.TheVariants.{Only, Red, Green, Blue}
-use Rattle.frame_formats.specs.declared.steps.Step.{Step}
+use Rattle.frame_formats.specs.declared.steps.Paint.{Paint}
 
 -- how many planes
 abbrev pub plane_count : Bool → ℕ
@@ -23,22 +23,22 @@ plane_count true = 3
 abbrev InRange : Picture → Type 0
 InRange p = (0 < p.width) × (p.width < 2 ^ 32) × (p.height < 2 ^ 32)
 
-in_range : (width height : ℕ) (steps : List PlaneStep) → is_job width height steps ≡ true → (0 < width) × (width < 2 ^ 32) × (height < 2 ^ 32)
+in_range : (width height : ℕ) (steps : List (Step ℕ)) → is_job width height steps ≡ true → (0 < width) × (width < 2 ^ 32) × (height < 2 ^ 32)
 in_range width height steps is = (grind arith, grind arith, grind arith)
 
-job_size : (p : Picture) (channel : Channel) (steps : List Step) (j : Job) → picture_job p channel steps ≡ Some j → (job_len j ≡ p.width * p.height) × InRange p
+job_size : (p : Picture) (channel : Channel) (steps : List (Step Paint)) (j : Job) → picture_job p channel steps ≡ Some j → (job_len j ≡ p.width * p.height) × InRange p
 job_size p channel steps j made =
     let found = bind_some (steps_in channel steps) (job_for p.width p.height) j made in
     let tested = guard_some (is_job p.width p.height found.0) (job p.width p.height found.0) j found.2 in
     (ap job_len (sym tested.1), in_range p.width p.height found.0 tested.0)
 
-one_size : (p : Picture) (steps : List Step) (jobs : List Job) → one_job p steps ≡ Some jobs → (jobs_len jobs ≡ 1 * (p.width * p.height)) × InRange p
+one_size : (p : Picture) (steps : List (Step Paint)) (jobs : List Job) → one_job p steps ≡ Some jobs → (jobs_len jobs ≡ 1 * (p.width * p.height)) × InRange p
 one_size p steps jobs made =
     let found = map_some (picture_job p Only steps) (λ one. one ∷ []) jobs made in
     let size = job_size p Only steps found.0 found.1 in
     (sym (ap jobs_len found.2) ∙ (let e = size.0 in omega (arith, e)), size.1)
 
-three_sizes : (p : Picture) (steps : List Step) (jobs : List Job) → three_jobs p steps ≡ Some jobs → (jobs_len jobs ≡ 3 * (p.width * p.height)) × InRange p
+three_sizes : (p : Picture) (steps : List (Step Paint)) (jobs : List Job) → three_jobs p steps ≡ Some jobs → (jobs_len jobs ≡ 3 * (p.width * p.height)) × InRange p
 unfolding three_jobs
 three_sizes p steps jobs made =
     let reds = bind_some (picture_job p Red steps) (λ red. picture_job p Green steps >>= λ green. picture_job p Blue steps >>= λ blue. Some (red ∷ green ∷ blue ∷ [])) jobs made in
@@ -49,11 +49,11 @@ three_sizes p steps jobs made =
     let blue = job_size p Blue steps blues.0 blues.1 in
     (sym (ap jobs_len (some_is (reds.0 ∷ greens.0 ∷ blues.0 ∷ []) jobs blues.2)) ∙ (let a = red.0 in let b = green.0 in let c = blue.0 in omega (arith, a, b, c)), red.1)
 
-by_kind : (b : Bool) (p : Picture) (steps : List Step) (jobs : List Job) → cond b (three_jobs p steps) (one_job p steps) ≡ Some jobs → (jobs_len jobs ≡ plane_count b * (p.width * p.height)) × InRange p
+by_kind : (b : Bool) (p : Picture) (steps : List (Step Paint)) (jobs : List Job) → cond b (three_jobs p steps) (one_job p steps) ≡ Some jobs → (jobs_len jobs ≡ plane_count b * (p.width * p.height)) × InRange p
 by_kind true p steps jobs made = three_sizes p steps jobs made
 by_kind false p steps jobs made = one_size p steps jobs made
 
-pub picture_size : (p : Picture) (steps : List Step) (jobs : List Job) → picture_jobs p steps ≡ Some jobs → (jobs_len jobs ≡ plane_count p.colour * (p.width * p.height)) × InRange p
+pub picture_size : (p : Picture) (steps : List (Step Paint)) (jobs : List Job) → picture_jobs p steps ≡ Some jobs → (jobs_len jobs ≡ plane_count p.colour * (p.width * p.height)) × InRange p
 picture_size p steps jobs made = by_kind p.colour p steps jobs made
 
 -- those that get another size have it too

@@ -3,7 +3,9 @@ use Rattle.std.proofs.Common.{◌≡◌, ℕ, ◌+◌, ◌<◌, ◌≤◌, List,
 use Rattle.std.specs.Option.{option_map}
 use Rattle.std.proofs.lemmas.List.{append-nil, at_drop_more, at_drop_all}
 use Rattle.text_model.specs.Reading.{◌>>=◌}
-use Rattle.frame_formats.specs.Steps.{all_some}
+use Rattle.image_planes.specs.declared.change.Change.{Change}
+use Rattle.image_planes.specs.declared.change.Step.{Step}
+use Rattle.frame_formats.specs.Steps.{all_some, step_by}
 
 -- what is made, after what was made before
 abbrev pub with_front : {B : Type 0} → List B → Option (List B) → Option (List B)
@@ -33,3 +35,10 @@ unfolding all_some
 all_done f front xs i total past so_far =
     let one : with_front front (all_some f (drop i xs)) ≡ Some front = at_drop_all (λ ys. with_front front (all_some f ys)) xs i past ∙ ap (λ l. Some l) (append-nil front) in
     sym so_far ∙ one
+
+-- a step whose change becomes one, or none
+pub step_made : {V W : Type 0} (become : Change V → Option (Change W)) (s : Step V) (change : Change W) → become s.change ≡ Some change → step_by become s ≡ Some (record { first = s.first; end = s.end; change = change })
+step_made become s change e = rw e refl
+
+pub no_step : {V W : Type 0} (become : Change V → Option (Change W)) (s : Step V) → become s.change ≡ None → step_by become s ≡ None
+no_step become s e = rw e refl

@@ -5,7 +5,7 @@ use Rattle.std.specs.Str.{bytes_eq}
 use Rattle.image_shape.specs.declared.window.Window.{Window}
 use Rattle.image_planes.specs.declared.change.Change.{Change}
 use Rattle.image_planes.specs.declared.change.Change.TheVariants.{Fill, Mosaic, Move}
-use Rattle.image_planes.specs.declared.change.Step.{Step as PlaneStep}
+use Rattle.image_planes.specs.declared.change.Step.{Step}
 use Rattle.image_planes.specs.Changes.{Job, job_for}
 use Rattle.image_planes.specs.Resized.{Resizing, resizing_for}
 use Rattle.image_planes.specs.declared.target.Resize.{Resize}
@@ -15,9 +15,9 @@ use Rattle.text_model.specs.Reading.{◌>>=◌, number_of}
 use Rattle.frame_formats.specs.declared.header.Chroma.{Chroma}
 use Rattle.frame_formats.specs.declared.header.Chroma.TheVariants.{Mono, Small, Wide, Whole}
 use Rattle.frame_formats.specs.declared.header.Format.{Format}
-use Rattle.frame_formats.specs.Steps.{all_some, steps_in}
+use Rattle.frame_formats.specs.Steps.{all_some, step_by, steps_in}
 use Rattle.frame_formats.specs.declared.steps.Channel.TheVariants.{Only}
-use Rattle.frame_formats.specs.declared.steps.Step.{Step}
+use Rattle.frame_formats.specs.declared.steps.Paint.{Paint}
 use Rattle.frame_formats.specs.declared.framing.Framing.{Framing}
 use Rattle.frame_formats.specs.declared.framing.Framing.TheVariants.{Crop as CropPixels, Pad as PadPixels}
 
@@ -61,6 +61,18 @@ format_of_fields (word ∷ fields) = if bytes_eq word (codes "YUV4MPEG2") then f
 abbrev pub format_of : List ℕ → Option Format
 format_of line = format_of_fields (parts_of 32 line)
 
+-- how many columns and rows of pixels a chroma sample stands for, where there are samples
+abbrev pub sampling : Chroma → Option (ℕ × ℕ)
+sampling Mono = None
+sampling Small = Some (2, 2)
+sampling Wide = Some (2, 1)
+sampling Whole = Some (1, 1)
+
+-- what there is of planes of chroma samples, where there are any
+abbrev pub by_sampling : {A : Type 0} → (ℕ → ℕ → Option (List A)) → Option (ℕ × ℕ) → Option (List A)
+by_sampling two None = Some []
+by_sampling two (Some s) = two s.0 s.1
+
 -- ---- planes
 
 -- how many chroma samples there are for so many pixels
@@ -86,7 +98,7 @@ abbrev pub at_corner : Window → ℕ → ℕ → Window
 at_corner w left top = record { left = left; top = top; width = w.width; height = w.height }
 
 -- the change of chroma samples under a change of pixels of a frame of this size: a fill leaves no colour
-unfoldable pub change_under : ℕ → ℕ → ℕ → ℕ → Change → Option Change
+unfoldable pub change_under : ℕ → ℕ → ℕ → ℕ → Change ℕ → Option (Change ℕ)
 change_under x y width height (Fill w value) = do
   under ← window_under x y width height w
   Some (Fill under 128)
@@ -100,30 +112,23 @@ change_under x y width height (Move w left top) = do
   goal ← window_under x y width height (at_corner w left top)
   Some (Move under goal.left goal.top)
 
--- a step as one of samples, of the same frames
-abbrev pub step_under : ℕ → ℕ → ℕ → ℕ → PlaneStep → Option PlaneStep
-step_under x y width height s = option_map (λ change. record { first = s.first; end = s.end; change = change }) (change_under x y width height s.change)
-
--- all steps as steps of samples
-abbrev pub steps_under : ℕ → ℕ → ℕ → ℕ → List PlaneStep → Option (List PlaneStep)
-steps_under x y width height steps = all_some (step_under x y width height) steps
+-- all steps as steps of samples, of the same frames
+abbrev pub steps_under : ℕ → ℕ → ℕ → ℕ → List (Step ℕ) → Option (List (Step ℕ))
+steps_under x y width height steps = all_some (step_by (change_under x y width height)) steps
 
 -- a plane of chroma samples, one for so many columns and lines of pixels
-abbrev pub chroma_job : ℕ → ℕ → ℕ → ℕ → List PlaneStep → Option Job
+abbrev pub chroma_job : ℕ → ℕ → ℕ → ℕ → List (Step ℕ) → Option Job
 chroma_job x y width height steps = steps_under x y width height steps >>= job_for (samples width x) (samples height y)
 
 -- two of them
-unfoldable pub two_planes : ℕ → ℕ → ℕ → ℕ → List PlaneStep → Option (List Job)
+unfoldable pub two_planes : ℕ → ℕ → ℕ → ℕ → List (Step ℕ) → Option (List Job)
 two_planes x y width height steps = option_map (λ plane. plane ∷ plane ∷ []) (chroma_job x y width height steps)
 
-abbrev pub chroma_jobs : Chroma → ℕ → ℕ → List PlaneStep → Option (List Job)
-chroma_jobs Mono width height steps = Some []
-chroma_jobs Small width height steps = two_planes 2 2 width height steps
-chroma_jobs Wide width height steps = two_planes 2 1 width height steps
-chroma_jobs Whole width height steps = two_planes 1 1 width height steps
+abbrev pub chroma_jobs : Chroma → ℕ → ℕ → List (Step ℕ) → Option (List Job)
+chroma_jobs chroma width height steps = by_sampling (λ x y. two_planes x y width height steps) (sampling chroma)
 
 -- the planes of a frame of this format under steps in pixels, or nothing where one has a colour, reaches outside a plane or doesn't fall on whole samples
-unfoldable pub jobs_for : Format → List Step → Option (List Job)
+unfoldable pub jobs_for : Format → List (Step Paint) → Option (List Job)
 jobs_for f steps = do
   plain ← steps_in Only steps
   luma ← job_for f.width f.height plain
@@ -161,10 +166,7 @@ unfoldable pub two_resizings : ℕ → ℕ → ℕ → ℕ → Resize → Option
 two_resizings x y width height resize = option_map (λ plane. plane ∷ plane ∷ []) (chroma_resizing x y width height resize)
 
 abbrev pub chroma_resizings : Chroma → ℕ → ℕ → Resize → Option (List Resizing)
-chroma_resizings Mono width height resize = Some []
-chroma_resizings Small width height resize = two_resizings 2 2 width height resize
-chroma_resizings Wide width height resize = two_resizings 2 1 width height resize
-chroma_resizings Whole width height resize = two_resizings 1 1 width height resize
+chroma_resizings chroma width height resize = by_sampling (λ x y. two_resizings x y width height resize) (sampling chroma)
 
 -- the planes of a frame of this format and what becomes of them, or nothing where a window reaches outside or an edge doesn't fall on whole samples
 unfoldable pub resizings_for : Format → Resize → Option (List Resizing)

@@ -15,7 +15,8 @@ use Rattle.frame_formats.specs.Edits.{Edits}
 use Rattle.frame_formats.specs.Steps.{steps_in}
 use Rattle.frame_formats.specs.declared.steps.Channel.{Channel}
 use Rattle.frame_formats.specs.declared.steps.Channel.TheVariants.{Only, Red, Green, Blue}
-use Rattle.frame_formats.specs.declared.steps.Step.{Step}
+use Rattle.frame_formats.specs.declared.steps.Paint.{Paint}
+use Rattle.image_planes.specs.declared.change.Step.{Step}
 use Rattle.text_model.specs.Reading.{◌>>=◌}
 use Rattle.frame_formats.specs.declared.framing.Framing.{Framing}
 use Rattle.frame_formats.specs.declared.header.Chroma.TheVariants.{Mono}
@@ -91,13 +92,13 @@ finished_picture p jobs (Some framing) =
     else option_map (λ resizing. recipe (head_text (resized_picture p (new_width resize) (new_height resize))) p.colour jobs (Some (each_plane p.colour resizing))) (resizing_for p.width p.height resize)
 
 -- a plane of the picture and what is done to it
-abbrev pub picture_job : Picture → Channel → List Step → Option Job
+abbrev pub picture_job : Picture → Channel → List (Step Paint) → Option Job
 picture_job p channel steps = steps_in channel steps >>= job_for p.width p.height
 
-abbrev pub one_job : Picture → List Step → Option (List Job)
+abbrev pub one_job : Picture → List (Step Paint) → Option (List Job)
 one_job p steps = option_map (λ one. one ∷ []) (picture_job p Only steps)
 
-unfoldable pub three_jobs : Picture → List Step → Option (List Job)
+unfoldable pub three_jobs : Picture → List (Step Paint) → Option (List Job)
 three_jobs p steps = do
   red ← picture_job p Red steps
   green ← picture_job p Green steps
@@ -105,7 +106,7 @@ three_jobs p steps = do
   Some (red ∷ green ∷ blue ∷ [])
 
 -- its planes: a colour is one of a picture of three
-abbrev pub picture_jobs : Picture → List Step → Option (List Job)
+abbrev pub picture_jobs : Picture → List (Step Paint) → Option (List Job)
 picture_jobs p steps = if p.colour then three_jobs p steps else one_job p steps
 
 -- the recipe of edits of a picture, where they are edits of it

@@ -3,25 +3,25 @@ use Rattle.std.specs.Prelude.{ℕ, List, [], ◌∷◌, ◌++◌, Option, Some, 
 use Rattle.std.specs.Option.{option_map}
 use Rattle.std.specs.Str.{bytes_eq}
 use Rattle.image_shape.specs.declared.window.Window.{Window}
-use Rattle.frame_formats.specs.declared.steps.Step.{Step}
+use Rattle.image_planes.specs.declared.change.Step.{Step}
 use Rattle.frame_formats.specs.declared.steps.Paint.{Paint}
 use Rattle.frame_formats.specs.declared.steps.Paint.TheVariants.{Grey, Colour}
-use Rattle.frame_formats.specs.declared.steps.Change.{Change}
-use Rattle.frame_formats.specs.declared.steps.Change.TheVariants.{Fill, Mosaic, Move}
+use Rattle.image_planes.specs.declared.change.Change.{Change}
+use Rattle.image_planes.specs.declared.change.Change.TheVariants.{Fill, Mosaic, Move}
 use Rattle.frame_formats.specs.declared.framing.Framing.{Framing}
 use Rattle.frame_formats.specs.declared.framing.Framing.TheVariants.{Crop, Pad}
 use Rattle.text_model.specs.Parts.{parts_of}
 use Rattle.text_model.specs.Reading.{◌>>=◌, number_at, pixel_at, pixel_of, window_of, is_nil}
 
--- two numbers, and no part more
-unfoldable pub pair_in : List (List ℕ) → Option (ℕ × ℕ)
-pair_in parts = do
+-- two numbers, the second as this reads it, and no part more
+unfoldable pub pair_by : (List (List ℕ) → Option (ℕ × List (List ℕ))) → List (List ℕ) → Option (ℕ × ℕ)
+pair_by next parts = do
   first ← number_at parts
-  second ← number_at first.1
+  second ← next first.1
   if is_nil second.1 then Some (first.0, second.0) else None
 
 abbrev pub pair_of : List ℕ → Option (ℕ × ℕ)
-pair_of part = pair_in (parts_of 44 part)
+pair_of part = pair_by number_at (parts_of 44 part)
 
 -- three pixels, and no part more
 unfoldable pub colour_in : List (List ℕ) → Option Paint
@@ -40,7 +40,7 @@ abbrev pub paint_of : List ℕ → Option Paint
 paint_of part = paint_by (pixel_of part) part
 
 -- a change by its word, its window and what stands behind it
-unfoldable pub change_of : List ℕ → Window → List ℕ → Option Change
+unfoldable pub change_of : List ℕ → Window → List ℕ → Option (Change Paint)
 change_of word window last =
     if bytes_eq word (codes "fill") then option_map (λ paint. Fill window paint) (paint_of last)
     else if bytes_eq word (codes "mosaic") then option_map (λ p. Mosaic window p.0 p.1) (pair_of last)
@@ -56,16 +56,9 @@ abbrev pub behind_gap : List (List ℕ) → Option (ℕ × List (List ℕ))
 behind_gap [] = None
 behind_gap (part ∷ parts) = if is_nil part then number_at parts else None
 
--- two numbers with two dots between them, and no part more
-unfoldable pub span_in : List (List ℕ) → Option (ℕ × ℕ)
-span_in parts = do
-  first ← number_at parts
-  end ← behind_gap first.1
-  if is_nil end.1 then Some (first.0, end.0) else None
-
--- the range of frames that a word names: the first, and the first behind them
+-- the range of frames that a word names, with two dots between: the first, and the first behind them
 abbrev pub span_of : List ℕ → Option (ℕ × ℕ)
-span_of word = span_in (parts_of 46 word)
+span_of word = pair_by behind_gap (parts_of 46 word)
 
 -- ---- the edit at the front of words
 
@@ -87,28 +80,28 @@ framing_at (word ∷ []) = None
 framing_at (word ∷ (numbers ∷ words)) = window_of numbers >>= λ window. framing_by word window words
 
 -- a change of the frames of a range, by its word, its window and what stands behind it
-unfoldable pub step_at : ℕ → ℕ → List (List ℕ) → Option Step
+unfoldable pub step_at : ℕ → ℕ → List (List ℕ) → Option (Step Paint)
 step_at first end [] = None
 step_at first end (word ∷ []) = None
 step_at first end (word ∷ (numbers ∷ [])) = None
 step_at first end (word ∷ (numbers ∷ (last ∷ words))) = window_of numbers >>= λ window. option_map (λ change. record { first = first; end = end; change = change }) (change_of word window last)
 
 -- the same with the range before it, and how many words there are: with no range it is a change of all frames
-abbrev pub ranged_by : Option (ℕ × ℕ) → List ℕ → List (List ℕ) → Option (Step × ℕ)
+abbrev pub ranged_by : Option (ℕ × ℕ) → List ℕ → List (List ℕ) → Option (Step Paint × ℕ)
 ranged_by (Some span) front words = option_map (λ step. (step, 4)) (step_at span.0 span.1 words)
 ranged_by None front words = option_map (λ step. (step, 3)) (step_at 0 18446744073709551615 (front ∷ words))
 
-unfoldable pub ranged_at : List (List ℕ) → Option (Step × ℕ)
+unfoldable pub ranged_at : List (List ℕ) → Option (Step Paint × ℕ)
 ranged_at [] = None
 ranged_at (front ∷ words) = ranged_by (span_of front) front words
 
 -- an edit: a step or none, what becomes of the size, and how many words it has
 pub record Named : Type 0 where
-  pub steps : List Step
+  pub steps : List (Step Paint)
   pub framing : Option Framing
   pub count : ℕ
 
-abbrev pub named : Option (Framing × ℕ) → Option (Step × ℕ) → Option Named
+abbrev pub named : Option (Framing × ℕ) → Option (Step Paint × ℕ) → Option Named
 named (Some f) s = Some (record { steps = []; framing = Some f.0; count = f.1 })
 named None s = option_map (λ r. record { steps = r.0 ∷ []; framing = None; count = r.1 }) s
 
@@ -117,5 +110,5 @@ abbrev pub edit_at : List (List ℕ) → Option Named
 edit_at words = named (framing_at words) (ranged_at words)
 
 -- steps with those of an edit behind them, what becomes of the size, and how many words the edit has
-abbrev pub with_edit : List Step → Named → List Step × (Option Framing × ℕ)
+abbrev pub with_edit : List (Step Paint) → Named → List (Step Paint) × (Option Framing × ℕ)
 with_edit steps e = (steps ++ e.steps, (e.framing, e.count))

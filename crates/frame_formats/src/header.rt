@@ -1,6 +1,6 @@
 //! The line that a video begins with.
 
-ghost use Rattle.std.specs.Prelude.{◌≡◌, ◌<◌};
+ghost use Rattle.std.specs.Prelude.{◌≡◌, ◌<◌, IfSome};
 ghost use Rattle.std.specs.Option.{option_map};
 ghost use Rattle.frame_formats.specs.Format.{tagged, chroma_of, format_of};
 ghost use Rattle.texts.specs.Parts.{parts_left};
@@ -18,6 +18,23 @@ pub enum Chroma {
     Wide,
     /// Two planes, a sample for each pixel.
     Whole,
+}
+
+impl Chroma {
+    ghost use Rattle.frame_formats.specs.Format.{sampling};
+
+    /// How many columns and rows of pixels a sample stands for, where there are samples.
+    pub(crate) fn sampling(self) -> Option<(usize, usize)>
+        ensures sampling { result ≡ sampling self }
+        ensures positive { IfSome result (λ s. (0 < s.0) × (0 < s.1)) }
+    {
+        match self {
+            Chroma::Mono => None,
+            Chroma::Small => Some((2, 2)),
+            Chroma::Wide => Some((2, 1)),
+            Chroma::Whole => Some((1, 1)),
+        }
+    }
 }
 
 /// The size of the frames in pixels, and their planes.

@@ -11,8 +11,8 @@ ghost use Rattle.frame_formats.specs.Recipe.{size_of, picture_job, one_job, thre
 use crate::header::{Chroma, Format};
 use crate::picture::Picture;
 use crate::plans::PlanFault;
-use crate::steps::{Channel, Step, steps_in};
-use image_planes::{Plane, Resize, Target};
+use crate::steps::{Channel, Paint, steps_in};
+use image_planes::{Plane, Resize, Step, Target};
 use std::alloc::Global;
 
 /// Its size, as that of one plane.
@@ -31,7 +31,7 @@ fn picture_plane(
     alloc: Global,
     picture: Picture,
     channel: Channel,
-    steps: &[Step],
+    steps: &[Step<Paint>],
 ) -> Result<Plane, PlanFault>
     ensures plane { IfOk result (λ plane. picture_job picture channel steps.now ≡ Some (job_of plane)) }
     ensures fault { IfErr result (Tells (picture_job picture channel steps.now ≡ None)) }
@@ -45,7 +45,11 @@ fn picture_plane(
 
 // The planes of a picture of three.
 #[tactic(auto, unfolding(crate::specs::Recipe::three_jobs))]
-fn three_planes(alloc: Global, picture: Picture, steps: &[Step]) -> Result<Vec<Plane>, PlanFault>
+fn three_planes(
+    alloc: Global,
+    picture: Picture,
+    steps: &[Step<Paint>],
+) -> Result<Vec<Plane>, PlanFault>
     ensures planes { IfOk result (λ planes. three_jobs picture steps.now ≡ Some (map job_of planes.items)) }
     ensures fault { IfErr result (Tells (three_jobs picture steps.now ≡ None)) }
 {
@@ -59,7 +63,11 @@ fn three_planes(alloc: Global, picture: Picture, steps: &[Step]) -> Result<Vec<P
 }
 
 // The plane of a picture of one.
-fn one_plane(alloc: Global, picture: Picture, steps: &[Step]) -> Result<Vec<Plane>, PlanFault>
+fn one_plane(
+    alloc: Global,
+    picture: Picture,
+    steps: &[Step<Paint>],
+) -> Result<Vec<Plane>, PlanFault>
     ensures planes { IfOk result (λ planes. one_job picture steps.now ≡ Some (map job_of planes.items)) }
     ensures fault { IfErr result (Tells (one_job picture steps.now ≡ None)) }
 {
@@ -74,7 +82,7 @@ fn one_plane(alloc: Global, picture: Picture, steps: &[Step]) -> Result<Vec<Plan
 pub(crate) fn picture_planes(
     alloc: Global,
     picture: Picture,
-    steps: &[Step],
+    steps: &[Step<Paint>],
 ) -> Result<Vec<Plane>, PlanFault>
     ensures planes { IfOk result (λ planes. picture_jobs picture steps.now ≡ Some (map job_of planes.items)) }
     ensures fault { IfErr result (Tells (picture_jobs picture steps.now ≡ None)) }

@@ -13,10 +13,11 @@ use crate::header::Format;
 use crate::line::{ended_line, resized_line};
 use crate::picture::{Picture, picture_head};
 use crate::picture_planes::{picture_planes, picture_targets, size_of};
-use crate::steps::Step;
+use crate::steps::Paint;
 use crate::video_planes::{video_planes, video_targets};
 use image_planes::{
-    Plane, Target, change_planes, join_pixels, part_pixels, planes_len, resize_planes, targets_len,
+    Plane, Step, Target, change_planes, join_pixels, part_pixels, planes_len, resize_planes,
+    targets_len,
 };
 use std::alloc::Global;
 
@@ -93,7 +94,7 @@ impl Plan {
         alloc: Global,
         line: &[u8],
         format: Format,
-        steps: &[Step],
+        steps: &[Step<Paint>],
         framing: Option<Framing>,
     ) -> Result<Plan, PlanFault>
         requires { format_of line.now ≡ Some format }
@@ -125,7 +126,7 @@ impl Plan {
     pub fn for_picture(
         alloc: Global,
         picture: Picture,
-        steps: &[Step],
+        steps: &[Step<Paint>],
         framing: Option<Framing>,
     ) -> Result<Plan, PlanFault>
         ensures plan { IfOk result (λ plan. picture_recipe (edits steps.now framing) picture ≡ Some (recipe_of plan)) }

@@ -58,12 +58,9 @@ fn window_of_samples(
         && ends_on_sample(x, width, window.left, window.width)
         && ends_on_sample(y, height, window.top, window.height)
     {
-        Some(Window {
-            left: window.left / x,
-            top: window.top / y,
-            width: count_samples(window.width, x),
-            height: count_samples(window.height, y),
-        })
+        let columns = count_samples(window.width, x);
+        let rows = count_samples(window.height, y);
+        Some(Window::new(window.left / x, window.top / y, columns, rows))
     } else {
         None
     }
@@ -75,8 +72,8 @@ fn change_of_samples(
     y: usize,
     width: usize,
     height: usize,
-    change: Change,
-) -> Option<Change>
+    change: Change<u8>,
+) -> Option<Change<u8>>
     requires across { 0 < x }
     requires down { 0 < y }
     ensures { result ≡ change_under x y width height change }
@@ -97,12 +94,7 @@ fn change_of_samples(
         }),
         Change::Move { window, left, top } => {
             let under = window_of_samples(x, y, width, height, window)?;
-            let goal = Window {
-                left,
-                top,
-                width: window.width,
-                height: window.height,
-            };
+            let goal = Window::new(left, top, window.width, window.height);
             let goal = window_of_samples(x, y, width, height, goal)?;
             Some(Change::Move {
                 window: under,
@@ -119,8 +111,8 @@ pub(crate) fn steps_of_samples(
     x: usize,
     y: usize,
     format: Format,
-    steps: &[Step],
-) -> Result<Vec<Step>, PlanFault>
+    steps: &[Step<u8>],
+) -> Result<Vec<Step<u8>>, PlanFault>
     requires across { 0 < x }
     requires down { 0 < y }
     ensures steps { IfOk result (λ under. steps_under x y format.width format.height steps.now ≡ Some under.items) }
@@ -162,19 +154,9 @@ pub(crate) fn resize_of_samples(
             let under = window_of_samples(x, y, width, height, window)?;
             Some(Resize::Crop(under))
         }
-        Resize::Pad {
-            left,
-            top,
-            width: wide,
-            height: high,
-            value: _,
-        } => {
-            let place = Window {
-                left,
-                top,
-                width,
-                height,
-            };
+        Resize::Pad { left, top, .. } => {
+            let (wide, high) = (resize.width(), resize.height());
+            let place = Window::new(left, top, width, height);
             let under = window_of_samples(x, y, wide, high, place)?;
             Some(Resize::Pad {
                 left: under.left,

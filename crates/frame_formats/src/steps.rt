@@ -5,7 +5,7 @@ ghost use Rattle.frame_formats.specs.Plan.{Tells};
 ghost use Rattle.frame_formats.specs.Steps.{value_in, change_in, steps_in};
 
 use crate::plans::PlanFault;
-use image_planes::{Change as PlaneChange, Step as PlaneStep, Window};
+use image_planes::{Change, Step};
 use std::alloc::Global;
 
 /// The value that pixels get.
@@ -15,39 +15,6 @@ pub enum Paint {
     Grey(u8),
     /// A colour, for pixels of three bytes.
     Colour { red: u8, green: u8, blue: u8 },
-}
-
-/// What is done to the pixels of a frame.
-#[derive(Clone, Copy, PartialEq, Eq)]
-pub enum Change {
-    /// Every place of the window gets this value.
-    Fill {
-        window: Window,
-        paint: Paint,
-    },
-    /// Every place of the window gets the value, as it was before, at the corner of its tile.
-    Mosaic {
-        window: Window,
-        tile_width: usize,
-        tile_height: usize,
-    },
-    /// The window's pixels, as they were before, are written over those of the window of its size
-    /// at another corner, overlapping or not.
-    Move {
-        window: Window,
-        left: usize,
-        top: usize,
-    },
-}
-
-/// A change, and the frames that it is done to, by their numbers from 0.
-#[derive(Clone, Copy, PartialEq, Eq)]
-pub struct Step {
-    /// The first frame.
-    pub first: u64,
-    /// The first frame behind them.
-    pub end: u64,
-    pub change: Change,
 }
 
 /// What a plane has of the pixels.
@@ -75,24 +42,24 @@ fn value_in(channel: Channel, paint: Paint) -> Option<u8>
 
 // What a change is to a plane.
 #[tactic(auto, unfolding(crate::specs::Steps::change_in))]
-fn change_in(channel: Channel, change: Change) -> Option<PlaneChange>
+fn change_in(channel: Channel, change: Change<Paint>) -> Option<Change<u8>>
     ensures { result ≡ change_in channel change }
 {
     match change {
-        Change::Fill { window, paint } => Some(PlaneChange::Fill {
+        Change::Fill { window, value } => Some(Change::Fill {
             window,
-            value: value_in(channel, paint)?,
+            value: value_in(channel, value)?,
         }),
         Change::Mosaic {
             window,
             tile_width,
             tile_height,
-        } => Some(PlaneChange::Mosaic {
+        } => Some(Change::Mosaic {
             window,
             tile_width,
             tile_height,
         }),
-        Change::Move { window, left, top } => Some(PlaneChange::Move { window, left, top }),
+        Change::Move { window, left, top } => Some(Change::Move { window, left, top }),
     }
 }
 
@@ -100,8 +67,8 @@ fn change_in(channel: Channel, change: Change) -> Option<PlaneChange>
 pub(crate) fn steps_in(
     alloc: Global,
     channel: Channel,
-    steps: &[Step],
-) -> Result<Vec<PlaneStep>, PlanFault>
+    steps: &[Step<Paint>],
+) -> Result<Vec<Step<u8>>, PlanFault>
     ensures steps { IfOk result (λ made. steps_in channel steps.now ≡ Some made.items) }
     ensures fault { IfErr result (Tells (steps_in channel steps.now ≡ None)) }
 {
@@ -110,7 +77,7 @@ pub(crate) fn steps_in(
         let Some(change) = change_in(channel, step.change) else {
             return Err(PlanFault::Outside);
         };
-        let step = PlaneStep {
+        let step = Step {
             first: step.first,
             end: step.end,
             change,

@@ -5,13 +5,13 @@ ghost use Rattle.std.specs.Option.{option_map};
 ghost use Rattle.image_planes.specs.Planes.{job_of};
 ghost use Rattle.image_planes.specs.Targets.{resizing_of};
 ghost use Rattle.frame_formats.specs.Plan.{Tells};
-ghost use Rattle.frame_formats.specs.Format.{chroma_job, two_planes, chroma_jobs, jobs_for, chroma_resizing, two_resizings, chroma_resizings, resizings_for};
+ghost use Rattle.frame_formats.specs.Format.{chroma_job, two_planes, jobs_for, chroma_resizing, two_resizings, resizings_for};
 
-use crate::header::{Chroma, Format};
+use crate::header::Format;
 use crate::plans::PlanFault;
 use crate::samples::{count_samples, resize_of_samples, steps_of_samples};
-use crate::steps::{Channel, Step, steps_in};
-use image_planes::{Plane, Resize, Step as PlaneStep, Target};
+use crate::steps::{Channel, Paint, steps_in};
+use image_planes::{Plane, Resize, Step, Target};
 use std::alloc::Global;
 
 // The plane of chroma samples for so many columns and lines of pixels.
@@ -20,7 +20,7 @@ fn chroma_plane(
     x: usize,
     y: usize,
     format: Format,
-    steps: &[PlaneStep],
+    steps: &[Step<u8>],
 ) -> Result<Plane, PlanFault>
     requires across { 0 < x }
     requires down { 0 < y }
@@ -49,7 +49,7 @@ fn push_two(
     x: usize,
     y: usize,
     format: Format,
-    steps: &[PlaneStep],
+    steps: &[Step<u8>],
 ) -> Result<(), PlanFault>
     requires across { 0 < x }
     requires down { 0 < y }
@@ -70,30 +70,12 @@ fn push_two(
     Ok(())
 }
 
-// Adds the planes of chroma samples that the format has.
-fn push_chroma(
-    planes: &mut Vec<Plane>,
-    alloc: Global,
-    format: Format,
-    steps: &[PlaneStep],
-) -> Result<(), PlanFault>
-    ensures planes { OnOk result (option_map (λ jobs. map job_of planes.old.items ++ jobs) (chroma_jobs format.chroma format.width format.height steps.now) ≡ Some (map job_of planes.new.items)) }
-    ensures fault { IfErr result (Tells (chroma_jobs format.chroma format.width format.height steps.now ≡ None)) }
-{
-    match format.chroma {
-        Chroma::Mono => Ok(()),
-        Chroma::Small => push_two(planes, alloc, 2, 2, format, steps),
-        Chroma::Wide => push_two(planes, alloc, 2, 1, format, steps),
-        Chroma::Whole => push_two(planes, alloc, 1, 1, format, steps),
-    }
-}
-
 /// The planes of a frame of this format, with what is done to each under steps in pixels.
 #[tactic(auto, unfolding(crate::specs::Format::jobs_for))]
 pub(crate) fn video_planes(
     alloc: Global,
     format: Format,
-    steps: &[Step],
+    steps: &[Step<Paint>],
 ) -> Result<Vec<Plane>, PlanFault>
     ensures planes { IfOk result (λ planes. jobs_for format steps.now ≡ Some (map job_of planes.items)) }
     ensures fault { IfErr result (Tells (jobs_for format steps.now ≡ None)) }
@@ -110,10 +92,10 @@ pub(crate) fn video_planes(
     if planes.push(luma).is_err() {
         return Err(PlanFault::Memory);
     }
-    match push_chroma(&mut planes, alloc, format, &plain) {
-        Ok(()) => Ok(planes),
-        Err(fault) => Err(fault),
+    if let Some((x, y)) = format.chroma.sampling() {
+        push_two(&mut planes, alloc, x, y, format, &plain)?;
     }
+    Ok(planes)
 }
 
 // A plane of chroma samples with what becomes of it.
@@ -153,23 +135,6 @@ fn push_two_targets(
     Ok(())
 }
 
-// Adds the planes of chroma samples that the format has.
-fn push_chroma_targets(
-    targets: &mut Vec<Target>,
-    format: Format,
-    resize: Resize,
-) -> Result<(), PlanFault>
-    ensures targets { OnOk result (option_map (λ planes. map resizing_of targets.old.items ++ planes) (chroma_resizings format.chroma format.width format.height resize) ≡ Some (map resizing_of targets.new.items)) }
-    ensures fault { IfErr result (Tells (chroma_resizings format.chroma format.width format.height resize ≡ None)) }
-{
-    match format.chroma {
-        Chroma::Mono => Ok(()),
-        Chroma::Small => push_two_targets(targets, 2, 2, format, resize),
-        Chroma::Wide => push_two_targets(targets, 2, 1, format, resize),
-        Chroma::Whole => push_two_targets(targets, 1, 1, format, resize),
-    }
-}
-
 /// The planes of a frame of this format with what becomes of the size of each, where that of the
 /// plane of brightness becomes this.
 #[tactic(auto, unfolding(crate::specs::Format::resizings_for))]
@@ -188,8 +153,8 @@ pub(crate) fn video_targets(
     if targets.push(luma).is_err() {
         return Err(PlanFault::Memory);
     }
-    match push_chroma_targets(&mut targets, format, resize) {
-        Ok(()) => Ok(targets),
-        Err(fault) => Err(fault),
+    if let Some((x, y)) = format.chroma.sampling() {
+        push_two_targets(&mut targets, x, y, format, resize)?;
     }
+    Ok(targets)
 }

@@ -7,13 +7,13 @@ ghost use Rattle.frame_formats.specs.Lists.{Adds, AddsNone, with_one, with_line,
 ghost use Rattle.frame_formats.specs.Words.{pair_of, colour_in, paint_of, change_of, pad_of, span_of, framing_at, step_at, ranged_at, edit_at, with_edit};
 
 use crate::framing::Framing;
-use crate::steps::{Change, Paint, Step};
-use image_planes::Window;
+use crate::steps::Paint;
+use image_planes::{Change, Step, Window};
 use std::alloc::{AllocError, Global};
 use texts::{Field, Parts, next};
 
 // Two numbers with a comma between them.
-#[tactic(auto, unfolding(crate::specs::Words::pair_in))]
+#[tactic(auto, unfolding(crate::specs::Words::pair_by))]
 fn read_pair(piece: &[u8]) -> Option<(usize, usize)>
     ensures { result ≡ pair_of piece.now }
 {
@@ -49,12 +49,12 @@ fn read_paint(piece: &[u8]) -> Option<Paint>
 
 // A change by its word, its window and what stands behind it.
 #[tactic(auto, unfolding(crate::specs::Words::change_of))]
-fn read_change(word: &[u8], window: Window, last: &[u8]) -> Option<Change>
+fn read_change(word: &[u8], window: Window, last: &[u8]) -> Option<Change<Paint>>
     ensures { result ≡ change_of word.now window last.now }
 {
     if word == b"fill".as_slice() {
-        let paint = read_paint(last)?;
-        Some(Change::Fill { window, paint })
+        let value = read_paint(last)?;
+        Some(Change::Fill { window, value })
     } else if word == b"mosaic".as_slice() {
         let (tile_width, tile_height) = read_pair(last)?;
         Some(Change::Mosaic {
@@ -85,7 +85,7 @@ fn read_pad(sides: Window, last: &[u8]) -> Option<Framing>
 }
 
 // The numbers of the first frame and of the first behind the last one, as in `12..80`.
-#[tactic(auto, unfolding(crate::specs::Words::span_in))]
+#[tactic(auto, unfolding(crate::specs::Words::pair_by))]
 fn read_span(word: &[u8]) -> Option<(usize, usize)>
     ensures { result ≡ span_of word.now }
 {
@@ -121,7 +121,7 @@ fn read_framing(words: &[&[u8]]) -> Option<(Framing, usize)>
 
 // A change of the frames of a range, by the words at the front.
 #[tactic(auto, unfolding(crate::specs::Words::step_at))]
-fn read_step(first: u64, end: u64, words: &[&[u8]]) -> Option<Step>
+fn read_step(first: u64, end: u64, words: &[&[u8]]) -> Option<Step<Paint>>
     ensures step { result ≡ step_at first end (map (λ w. w.now) words.now) }
     ensures there { IfSome result (λ _. 3 ≤ length words.now) }
 {
@@ -135,7 +135,7 @@ fn read_step(first: u64, end: u64, words: &[&[u8]]) -> Option<Step>
 
 // The same with a range at the front or none, and how many words there are.
 #[tactic(auto, unfolding(crate::specs::Words::ranged_at))]
-fn read_ranged(words: &[&[u8]]) -> Option<(Step, usize)>
+fn read_ranged(words: &[&[u8]]) -> Option<(Step<Paint>, usize)>
     ensures step { result ≡ ranged_at (map (λ w. w.now) words.now) }
     ensures some { IfSome result (λ s. 0 < s.1) }
     ensures there { IfSome result (λ s. s.1 ≤ length words.now) }
@@ -162,7 +162,7 @@ fn words_of<'a>(alloc: Global, line: &'a [u8]) -> Result<Vec<&'a [u8]>, AllocErr
 /// What words say is done to a video: steps in their order, and then what becomes of the size.
 #[derive(Drop)]
 pub struct Edits {
-    pub steps: Vec<Step>,
+    pub steps: Vec<Step<Paint>>,
     pub framing: Option<Framing>,
 }
 

@@ -103,18 +103,18 @@ mosaic_hides w tile_width tile_height later g h a =
 all_same : (g h : Grid ℕ) → AlikeBut (λ x y. false) g h → g ≡ h
 all_same g h a = λ i. record { width = a.0 i; height = a.1 i; pixel = λ x y. a.2 x y refl i }
 
-one_step : (named : Bool) (c : Change) (later : ℕ → ℕ → Bool) (g h : Grid ℕ) → AlikeBut (λ x y. cond named (hidden_by c x y (later x y)) (later x y)) g h
+one_step : (named : Bool) (c : Change ℕ) (later : ℕ → ℕ → Bool) (g h : Grid ℕ) → AlikeBut (λ x y. cond named (hidden_by c x y (later x y)) (later x y)) g h
     → AlikeBut later (cond named (changed c g) g) (cond named (changed c h) h)
 one_step false c later g h a = a
 one_step true (Fill w value) later g h a = fill_hides w value later g h a
 one_step true (Mosaic w tile_width tile_height) later g h a = mosaic_hides w tile_width tile_height later g h a
 one_step true (Move w left top) later g h a =
-    let c : Change = Move w left top in
+    let c : Change ℕ = Move w left top in
     subst (λ (k : Grid ℕ). AlikeBut later (changed c g) (changed c k)) (all_same g h a) (refl, refl, λ x y none. refl)
 
 -- ---- all steps of a plane, and all planes
 
-steps_hide : (number : ℕ) (steps : List Step) (g h : Grid ℕ) → AlikeBut (is_hidden number steps) g h → stepped number steps g ≡ stepped number steps h
+steps_hide : (number : ℕ) (steps : List (Step ℕ)) (g h : Grid ℕ) → AlikeBut (is_hidden number steps) g h → stepped number steps g ≡ stepped number steps h
 steps_hide number [] g h a = all_same g h a
 steps_hide number (s ∷ ss) g h a = steps_hide number ss _ _ (one_step (names s number) s.change (is_hidden number ss) g h a)
 

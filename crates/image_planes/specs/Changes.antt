@@ -12,51 +12,51 @@ use Rattle.image_planes.specs.declared.change.Change.{Change}
 use Rattle.image_planes.specs.declared.change.Change.TheVariants.{Fill, Mosaic, Move}
 
 -- what a change makes of a grid
-abbrev pub changed : Change → Grid ℕ → Grid ℕ
+abbrev pub changed : Change ℕ → Grid ℕ → Grid ℕ
 changed (Fill w value) g = patch g w.left w.top (uniform w.width w.height value)
 changed (Mosaic w tile_width tile_height) g = patch g w.left w.top (mosaic tile_width tile_height (window_view g (as_window w)))
 changed (Move w left top) g = patch g left top (window_view g (as_window w))
 
 -- a change is one of this size: its windows lie inside, and its tiles have a place
-abbrev pub IsChangeOf : ℕ → ℕ → Change → Type 0
+abbrev pub IsChangeOf : ℕ → ℕ → Change ℕ → Type 0
 IsChangeOf width height (Fill w value) = IsInside width height (as_window w)
 IsChangeOf width height (Mosaic w tile_width tile_height) = (0 < tile_width) × (0 < tile_height) × IsInside width height (as_window w)
 IsChangeOf width height (Move w left top) = IsInside width height (as_window w) × IsInside width height (window left top w.width w.height)
 
 -- the same as a test
-abbrev pub is_change_of : ℕ → ℕ → Change → Bool
+abbrev pub is_change_of : ℕ → ℕ → Change ℕ → Bool
 is_change_of width height (Fill w value) = is_inside width height (as_window w)
 is_change_of width height (Mosaic w tile_width tile_height) = nat_lt 0 tile_width && (nat_lt 0 tile_height && is_inside width height (as_window w))
 is_change_of width height (Move w left top) = is_inside width height (as_window w) && is_inside width height (window left top w.width w.height)
 
 -- whether a step is done to the frame of this number
-abbrev pub names : Step → ℕ → Bool
+abbrev pub names : {V : Type 0} → Step V → ℕ → Bool
 names s number = nat_le s.first number && nat_lt number s.end
 
 -- what steps make of what a plane of the frame of this number shows, one after the other
-abbrev pub stepped : ℕ → List Step → Grid ℕ → Grid ℕ
+abbrev pub stepped : ℕ → List (Step ℕ) → Grid ℕ → Grid ℕ
 stepped number [] g = g
 stepped number (s ∷ ss) g = stepped number ss (if names s number then changed s.change g else g)
 
 -- whether all steps are steps of this size
-abbrev pub are_inside : ℕ → ℕ → List Step → Bool
+abbrev pub are_inside : ℕ → ℕ → List (Step ℕ) → Bool
 are_inside width height steps = list_all (λ s. is_change_of width height s.change) steps
 
 -- the size of a plane, and what is done to it
 pub record Job : Type 0 where
   pub width : ℕ
   pub height : ℕ
-  pub steps : List Step
+  pub steps : List (Step ℕ)
 
-abbrev pub job : ℕ → ℕ → List Step → Job
+abbrev pub job : ℕ → ℕ → List (Step ℕ) → Job
 job width height steps = record { width = width; height = height; steps = steps }
 
 -- whether a plane has columns, its numbers are in range, and the steps are steps of it
-abbrev pub is_job : ℕ → ℕ → List Step → Bool
+abbrev pub is_job : ℕ → ℕ → List (Step ℕ) → Bool
 is_job width height steps = nat_lt 0 width && (nat_lt width (2 ^ 32) && (nat_lt height (2 ^ 32) && are_inside width height steps))
 
 -- the plane of this size with these steps, where there is one
-abbrev pub job_for : ℕ → ℕ → List Step → Option Job
+abbrev pub job_for : ℕ → ℕ → List (Step ℕ) → Option Job
 job_for width height steps = if is_job width height steps then Some (job width height steps) else None
 
 -- how many cells it has

@@ -13,18 +13,18 @@ abbrev pub is_corner : Window → ℕ → ℕ → ℕ → ℕ → Bool
 is_corner w tile_width tile_height x y = (tile_start tile_width (x - w.left) == x - w.left) && (tile_start tile_height (y - w.top) == y - w.top)
 
 -- whether a change hides a place, where later steps may: a fill all of its window, a mosaic all but the corners of its tiles, and a move nothing, nor what comes after it
-abbrev pub hidden_by : Change → ℕ → ℕ → Bool → Bool
+abbrev pub hidden_by : Change ℕ → ℕ → ℕ → Bool → Bool
 hidden_by (Fill w value) x y later = if covers w.left w.top w.width w.height x y then true else later
 hidden_by (Mosaic w tile_width tile_height) x y later = if covers w.left w.top w.width w.height x y then not (is_corner w tile_width tile_height x y) else later
 hidden_by (Move w left top) x y later = false
 
 -- whether the steps of the frame of this number hide a place
-abbrev pub is_hidden : ℕ → List Step → ℕ → ℕ → Bool
+abbrev pub is_hidden : ℕ → List (Step ℕ) → ℕ → ℕ → Bool
 is_hidden number [] x y = false
 is_hidden number (s ∷ ss) x y = if names s number then hidden_by s.change x y (is_hidden number ss x y) else is_hidden number ss x y
 
 -- two grids differ only at places that the steps hide
-pub record GridsAlike (number : ℕ) (steps : List Step) (g h : Grid ℕ) : Type 0 where
+pub record GridsAlike (number : ℕ) (steps : List (Step ℕ)) (g h : Grid ℕ) : Type 0 where
   pub same_width : g.width ≡ h.width
   pub same_height : g.height ≡ h.height
   pub shown : (x y : ℕ) → is_hidden number steps x y ≡ false → g.pixel x y ≡ h.pixel x y

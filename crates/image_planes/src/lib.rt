@@ -18,4 +18,4 @@ pub use interleaved::{join_pixels, part_pixels, parts_join};
 pub use plane::Plane;
 pub use planes::{change_planes, planes_len};
 pub use target::{Resize, Target};
-pub use targets::{resize_planes, sources_len, targets_len};
+pub use targets::{resize_planes, targets_len};

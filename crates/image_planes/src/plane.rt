@@ -13,7 +13,7 @@ use imgref::{Shape, Window};
 pub struct Plane {
     width: usize,
     height: usize,
-    steps: Vec<Step>,
+    steps: Vec<Step<u8>>,
     ghost wide: { 0 < width },
     ghost width_fits: { width < 2 ^ 32 },
     ghost height_fits: { height < 2 ^ 32 },
@@ -26,7 +26,7 @@ impl Plane {
 
     /// A plane of this size with what is done to it, one step after the other; `None` where there is
     /// no such plane, or a step reaches outside it.
-    pub fn new(width: usize, height: usize, steps: Vec<Step>) -> Option<Plane>
+    pub fn new(width: usize, height: usize, steps: Vec<Step<u8>>) -> Option<Plane>
         ensures { option_map job_of result ≡ job_for width height steps.items }
     {
         let greatest = u32::MAX as usize;
@@ -69,7 +69,7 @@ impl Plane {
 }
 
 /// Whether a change is one of this size.
-pub(crate) fn is_inside(width: usize, height: usize, change: Change) -> bool
+pub(crate) fn is_inside(width: usize, height: usize, change: Change<u8>) -> bool
     ensures { result ≡ is_change_of width height change }
 {
     match change {
@@ -80,12 +80,7 @@ pub(crate) fn is_inside(width: usize, height: usize, change: Change) -> bool
             tile_height,
         } => tile_width > 0 && tile_height > 0 && window.is_inside(width, height),
         Change::Move { window, left, top } => {
-            let target = Window {
-                left,
-                top,
-                width: window.width,
-                height: window.height,
-            };
+            let target = Window::new(left, top, window.width, window.height);
             window.is_inside(width, height) && target.is_inside(width, height)
         }
     }

@@ -11,7 +11,7 @@ use crate::plane::is_inside;
 use imgref::Shape;
 
 /// Whether all steps are steps of this size.
-pub(crate) fn all_inside(width: usize, height: usize, steps: &[Step]) -> bool
+pub(crate) fn all_inside(width: usize, height: usize, steps: &[Step<u8>]) -> bool
     ensures { result ≡ are_inside width height steps.now }
 {
     steps
@@ -21,7 +21,7 @@ pub(crate) fn all_inside(width: usize, height: usize, steps: &[Step]) -> bool
 
 /// Does the steps of the frame of this number to what the cells show in this shape; the padding
 /// stays.
-pub(crate) fn do_steps(cells: &mut [u8], shape: Shape, steps: &[Step], number: u64)
+pub(crate) fn do_steps(cells: &mut [u8], shape: Shape, steps: &[Step<u8>], number: u64)
     requires fits { Fits (shaped cells.old shape) }
     requires inside { IsTrue (are_inside (shape_width shape) (shape_height shape) steps.now) }
     ensures grid { grid_of (shaped cells.new shape) ≡ stepped number steps.now (grid_of (shaped cells.old shape)) }

@@ -12,7 +12,6 @@ ghost use Rattle.imgref.specs.Window.{as_window};
 ghost use Rattle.image_planes.specs.Surrounds.{bordered};
 ghost use Rattle.image_planes.specs.Resized.{is_resize_of, resizing_for, resized_plane, source_len, target_len};
 
-use crate::change::fill_window;
 use imgref::{ImgRef, ImgRefMut, Shape, Window};
 
 /// What becomes of the size of a plane.
@@ -65,9 +64,8 @@ fn put_image(cells: &mut [u8], shape: Shape, window: Window, source: ImgRef<'_, 
     ensures grid { grid_of (shaped cells.new shape) ≡ patch (grid_of (shaped cells.old shape)) window.left window.top (grid_of (ref_layout source.entry)) }
     ensures outside { SameOutside (shaped cells.old shape) (shaped cells.new shape) }
 {
-    let part = shape.stretch(false, cells.len(), window);
-    let end = part.start + part.len;
-    copy_cells(&mut cells[part.start..end], shape.window(window), source);
+    let mut image = ImgRefMut::from_parts(cells, shape);
+    image.copy_window(window.left, window.top, source);
 }
 
 // The cells become the pixels of a window of the image.
@@ -89,6 +87,7 @@ fn crop_image(source: ImgRef<'_, u8>, window: Window, target: &mut [u8])
 }
 
 // Every place beside the window gets the value: above it, below it, on its left and on its right.
+#[tactic(auto, unfolding(image_model::specs::Grid::grid_of))]
 fn fill_border(cells: &mut [u8], shape: Shape, place: Window, value: u8)
     requires fits { Fits (shaped cells.old shape) }
     requires inside { IsInside (shape_width shape) (shape_height shape) (as_window place) }
@@ -97,34 +96,11 @@ fn fill_border(cells: &mut [u8], shape: Shape, place: Window, value: u8)
 {
     let (width, height) = (shape.width(), shape.height());
     let (right, bottom) = (place.left + place.width, place.top + place.height);
-    let above = Window {
-        left: 0,
-        top: 0,
-        width,
-        height: place.top,
-    };
-    fill_window(cells, shape, above, value);
-    let below = Window {
-        left: 0,
-        top: bottom,
-        width,
-        height: height - bottom,
-    };
-    fill_window(cells, shape, below, value);
-    let before = Window {
-        left: 0,
-        top: place.top,
-        width: place.left,
-        height: place.height,
-    };
-    fill_window(cells, shape, before, value);
-    let behind = Window {
-        left: right,
-        top: place.top,
-        width: width - right,
-        height: place.height,
-    };
-    fill_window(cells, shape, behind, value);
+    let mut image = ImgRefMut::from_parts(cells, shape);
+    image.fill_window(0, 0, width, place.top, value);
+    image.fill_window(0, bottom, width, height - bottom, value);
+    image.fill_window(0, place.top, place.left, place.height, value);
+    image.fill_window(right, place.top, width - right, place.height, value);
 }
 
 // The cells become the pixels of a grid of this size and value with the image at a corner.
@@ -180,21 +156,11 @@ impl Resize {
     {
         match self {
             Resize::Crop(window) => window.width > 0 && window.is_inside(width, height),
-            Resize::Pad {
-                left,
-                top,
-                width: wide,
-                height: high,
-                value: _,
-            } => {
+            Resize::Pad { left, top, .. } => {
                 let greatest = u32::MAX as usize;
-                let place = Window {
-                    left: *left,
-                    top: *top,
-                    width,
-                    height,
-                };
-                *wide <= greatest && *high <= greatest && place.is_inside(*wide, *high)
+                let (wide, high) = (self.width(), self.height());
+                let place = Window::new(*left, *top, width, height);
+                wide <= greatest && high <= greatest && place.is_inside(wide, high)
             }
         }
     }
@@ -223,14 +189,8 @@ impl Target {
         })
     }
 
-    /// How many bytes the plane has, or `None` where that is no number of this machine.
-    pub(crate) fn checked_source_len(&self) -> Option<usize>
-        ensures { IfSome result (λ n. n ≡ source_len (resizing_of self.now)) }
-    {
-        self.width.checked_mul(self.height)
-    }
-
-    /// The same of the plane in its other size.
+    /// How many bytes the plane has in its other size, or `None` where that is no number of this
+    /// machine.
     pub(crate) fn checked_len(&self) -> Option<usize>
         ensures { IfSome result (λ n. n ≡ target_len (resizing_of self.now)) }
     {
@@ -269,12 +229,7 @@ impl Target {
                 height,
                 value,
             } => {
-                let place = Window {
-                    left,
-                    top,
-                    width: self.width,
-                    height: self.height,
-                };
+                let place = Window::new(left, top, self.width, self.height);
                 pad_image(whole, place, width, height, value, target);
             }
         }

@@ -6,17 +6,6 @@ ghost use Rattle.image_planes.specs.Targets.{resizing_of};
 
 use crate::target::Target;
 
-/// How many bytes all planes have, where that is a number.
-pub fn sources_len(targets: &[Target]) -> Option<usize>
-    ensures { IfSome result (λ n. n ≡ sources_len (map resizing_of targets.now)) }
-{
-    let Some((target, others)) = targets.split_first() else {
-        return Some(0);
-    };
-    let len = target.checked_source_len()?;
-    len.checked_add(sources_len(others)?)
-}
-
 /// How many bytes all planes have in their other size, where that is a number.
 pub fn targets_len(targets: &[Target]) -> Option<usize>
     ensures { IfSome result (λ n. n ≡ targets_len (map resizing_of targets.now)) }

@@ -23,10 +23,6 @@ use Rattle.imgref_frames.specs.declared.fault.RunFault.TheVariants.{Header, Outs
 use Rattle.imgref_frames.proofs.FrameLines.{one_front, begun}
 use Rattle.imgref_frames.proofs.OneMore.{all_snoc, length_snoc, text_snoc, made_snoc}
 
--- the first byte of some bytes is that of all that begin with them
-pub first_byte : (b : ℕ) (more : List ℕ) (bytes : List ℕ) → bytes ≡ b ∷ more → begins_picture bytes ≡ begins_picture (b ∷ [])
-first_byte b more bytes e = ap begins_picture e
-
 pub line_begins : (line rest bytes : List ℕ) → bytes ≡ (line ++ 10 ∷ []) ++ rest → begins_picture bytes ≡ begins_picture (line ++ 10 ∷ [])
 line_begins [] rest bytes e = ap begins_picture e
 line_begins (b ∷ line) rest bytes e = ap begins_picture e

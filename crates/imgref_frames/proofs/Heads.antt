@@ -65,9 +65,6 @@ begun_more law scan b old mid new h goes_on read = record {
   ];
 }
 
-pub head_done : (picture : Picture) (old new : Option (List ℕ)) → HeadBegun (Done picture) old new → (head : List ℕ) × (picture_of head ≡ Some picture) × Consumes (behind_letter old) new head
-head_done picture old new h = (h.bytes, ap done_as (sym h.scan_is), h.read)
-
 bad_head : BadStays → (old new : Option (List ℕ)) (h : HeadBegun Bad old new) (bytes left : List ℕ) → bytes ≡ h.bytes ++ left → IsNoPicture bytes
 bad_head law old new h bytes left read = λ picture head more named is. elim (either_begins h.bytes head left more (sym read ∙ is)) [
   | inl l ↦ (let bad : Some picture ≡ None = sym named ∙ ap picture_of l.1 ∙ law h.bytes l.0 (sym h.scan_is) in cc)
@@ -78,15 +75,6 @@ pub head_bad : BadStays → (old new : Option (List ℕ)) → HeadBegun Bad old 
 head_bad law None new h = tt
 head_bad law (Some bytes) None h = absurd h.read
 head_bad law (Some bytes) (Some left) h = bad_head law (Some bytes) (Some left) h (80 ∷ bytes) left h.read
-
--- the input ends within a head
-pub head_cut : (scan : Scan) (old mid new : Option (List ℕ)) → HeadBegun scan old mid → done_as scan ≡ None → Consumes mid new [] → IsAtEnd new → IfSome (behind_letter old) IsNoPicture
-head_cut scan None mid new h goes_on read end = tt
-head_cut scan (Some bytes) None new h goes_on read end = absurd h.read
-head_cut scan (Some bytes) (Some left) None h goes_on read end = absurd read
-head_cut scan (Some bytes) (Some left) (Some rest) h goes_on read end = λ picture head more named is.
-    let whole : 80 ∷ bytes ≡ h.bytes = h.read ∙ ap (λ l. h.bytes ++ l) (read ∙ end) ∙ append-nil h.bytes in
-    no_head_yet scan (Some bytes) (Some left) h goes_on picture head more named h.bytes (sym whole ∙ is) (λ l same. h.scan_is ∙ ap (scanned start) (sym same)) (h.none picture head more named (sym whole ∙ is))
 
 -- ---- no pictures
 

@@ -77,14 +77,6 @@ module _ (heads : List ℕ → Recipe → Type 0) (law : Readable heads) where
             omega (arith, ap length one.2, length-append p.cells behind, of.1, ap (λ (q : Recipe). q.size) one.1, short);
       }
 
--- what doesn't begin with the line of a frame is no frame
-pub no_frame : (video : Recipe) (bytes : List ℕ) → IsNoFrameLine bytes → IsNoPiece (FrameHead video) bytes
-no_frame video bytes none = record {
-  some = none.some;
-  other = λ p more of is.
-      none.other of.0.parameters (p.cells ++ more) of.0.are (is ∙ append_assoc p.head p.cells more ∙ ap (λ l. l ++ (p.cells ++ more)) of.0.head_is);
-}
-
 -- a picture that the edits are edits of is none that they are none for
 pub edited_picture : ApartHeads → (edit : Edits) (p : Piece) (more : List ℕ) → IsPiece (PictureHead edit) p → IsPictureNotEdited edit (piece_text p ++ more) → ⊥
 edited_picture one edit p more is not =

@@ -80,16 +80,6 @@ module _ (apart : ApartHeads) (letter : BeginsWithLetter) (edit : Edits) (n : �
   picture_made (Err Memory) c = absurd c
   picture_made (Err Endless) c = absurd c
 
-not_edited : (edit : Edits) (picture : Picture) (head : List ℕ) → picture_of head ≡ Some picture → picture_recipe edit picture ≡ None → (old new : Option (List ℕ)) → Consumes old new head → IfSome old (IsPictureNotEdited edit)
-not_edited edit picture head named none None new read = tt
-not_edited edit picture head named none (Some bytes) None read = absurd read
-not_edited edit picture head named none (Some bytes) (Some rest) read = record { head = head; more = rest; picture = picture; read = read; named = named; none = none }
-
-pub picture_not_planned : (e : PlanFault) (edit : Edits) (n : ℕ) (picture : Picture) (head : List ℕ) → picture_of head ≡ Some picture → Tells (picture_recipe edit picture ≡ None) e → (r1 r2 w : Option (List ℕ)) → Consumes r1 r2 head
-    → PassesPicture (Err (fault_of_plan e)) edit n r1 r2 w w
-picture_not_planned NoPlan edit n picture head named none r1 r2 w read = (not_edited edit picture head named none r1 r2 read, refl)
-picture_not_planned NoMemory edit n picture head named none r1 r2 w read = refl
-
 -- ---- pictures
 
 keeps_none : (pieces : List Piece) (w0 w1 : Option (List ℕ)) → length pieces ≡ 0 → Appends w0 w1 (all_made 0 pieces) → Keeps w0 w1

@@ -11,7 +11,7 @@ mod words;
 pub use devices::Counted;
 pub use fault::RunFault;
 use frame_formats::WordsFault;
-pub use frame_formats::{Change, Framing, Step, Window};
+pub use frame_formats::{Change, Framing, Paint, Step, Window};
 pub use program::run;
 use std::process::ExitCode;
 use words::{edits_of, words_of};

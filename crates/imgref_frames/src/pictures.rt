@@ -10,7 +10,7 @@ ghost use Rattle.imgref_frames.specs.Pictures.{HeadIs, behind_letter};
 use crate::cells::pass_cells;
 use crate::fault::RunFault;
 use devices::{Counted, read_byte};
-use frame_formats::{Framing, Picture, Plan, Scan, Step, heads_end_themselves};
+use frame_formats::{Framing, Paint, Picture, Plan, Scan, Step, heads_end_themselves};
 use std::alloc::{AllocError, Global};
 use std::io::{Read, Write};
 
@@ -52,7 +52,7 @@ fn make_room(alloc: Global, cells: &mut Vec<u8>, room: usize) -> Result<(), Allo
 fn pass_picture<R: Read, W: Write>(
     alloc: Global,
     number: u64,
-    steps: &[Step],
+    steps: &[Step<Paint>],
     framing: Option<Framing>,
     cells: &mut Vec<u8>,
     other: &mut Vec<u8>,
@@ -93,7 +93,7 @@ fn pass_picture<R: Read, W: Write>(
 /// how many there were.
 pub(crate) fn pass_pictures<R: Read, W: Write>(
     alloc: Global,
-    steps: &[Step],
+    steps: &[Step<Paint>],
     framing: Option<Framing>,
     reader: &mut Counted<R>,
     writer: &mut Counted<W>,

@@ -11,7 +11,7 @@ use crate::fault::RunFault;
 use crate::frames::pass_frames;
 use crate::pictures::pass_pictures;
 use devices::{Counted, LineFault, read_byte, read_line, write_all};
-use frame_formats::{Framing, Plan, Step, heads_end_themselves, read_format, recipes_hide};
+use frame_formats::{Framing, Paint, Plan, Step, heads_end_themselves, read_format, recipes_hide};
 use std::alloc::Global;
 use std::io::{Read, Write};
 
@@ -21,7 +21,7 @@ const LONGEST: usize = 256;
 // Writes the video's line, and then the frames behind it.
 fn run_video<R: Read, W: Write>(
     alloc: Global,
-    steps: &[Step],
+    steps: &[Step<Paint>],
     framing: Option<Framing>,
     line: &[u8],
     reader: &mut Counted<R>,
@@ -65,7 +65,7 @@ fn run_video<R: Read, W: Write>(
 // The run over a video, of which the first byte was read.
 fn carry_video<R: Read, W: Write>(
     alloc: Global,
-    steps: &[Step],
+    steps: &[Step<Paint>],
     framing: Option<Framing>,
     first: u8,
     reader: &mut Counted<R>,
@@ -94,7 +94,7 @@ fn carry_video<R: Read, W: Write>(
 // The run, without what it hides.
 fn carry<R: Read, W: Write>(
     alloc: Global,
-    steps: &[Step],
+    steps: &[Step<Paint>],
     framing: Option<Framing>,
     reader: &mut Counted<R>,
     writer: &mut Counted<W>,
@@ -118,7 +118,7 @@ fn carry<R: Read, W: Write>(
 /// written, and that for a picture before its first byte.
 pub fn run<R: Read, W: Write>(
     alloc: Global,
-    steps: &[Step],
+    steps: &[Step<Paint>],
     framing: Option<Framing>,
     reader: &mut Counted<R>,
     writer: &mut Counted<W>,

@@ -1,6 +1,6 @@
 //! The edits that the words behind the program's name are, or the lines of the file that they name.
 
-use frame_formats::{Change, Edits, Step, WordsFault};
+use frame_formats::{Change, Edits, Paint, Step, WordsFault};
 use std::{env, fs, io};
 
 // Why words could not be had: there was no memory for them, or they are none.
@@ -55,7 +55,7 @@ pub(crate) fn edits_of(rt: &HostRuntime, words: &[String]) -> Result<Edits, Word
 }
 
 /// Whether a move stands before a fill or a mosaic, so that it may carry away what these would hide.
-pub(crate) fn uncovers(steps: &[Step]) -> bool {
+pub(crate) fn uncovers(steps: &[Step<Paint>]) -> bool {
     let mut moved = false;
     for step in steps {
         match step.change {
