@@ -1,7 +1,7 @@
 -- The head of a picture, read a byte at a time.
 use Rattle.std.proofs.Common.{◌≡◌, ◌≢◌, ℕ, List, [], ◌∷◌, ◌++◌, ◌⊎◌, Option, Some, None, refl, sym, ap, ◌∙◌, append_assoc, append-nil, inl, inr}
 use Rattle.std.specs.Prelude.{IfSome}
-use Rattle.std.specs.Io.KnownBytes.{Consumes, IsAtEnd}
+use Rattle.std.specs.Io.KnownBytes.{Consumes}
 use Rattle.std.proofs.KnownBytes.{Consumes-trans}
 use Rattle.text_model.proofs.Options.{bind_some}
 use Rattle.frame_formats.specs.Picture.{picture_of, scanned, pushed, start, done_as, OneByteMore, BadStays, BeginsWithLetter}
@@ -9,7 +9,7 @@ use Rattle.frame_formats.specs.Edits.{Edits}
 use Rattle.frame_formats.specs.Recipe.{picture_recipe}
 use Rattle.frame_formats.specs.declared.picture.Picture.{Picture}
 use Rattle.frame_formats.specs.declared.picture.Scan.{Scan}
-use Rattle.frame_formats.specs.declared.picture.Scan.TheVariants.{Done, Bad}
+use Rattle.frame_formats.specs.declared.picture.Scan.TheVariants.{Bad}
 use Rattle.imgref_frames.specs.Pictures.{PictureHead, IsNoPicture, HeadBegun, behind_letter}
 use Rattle.imgref_frames.specs.Passing.{IsNoPiece}
 

@@ -9,7 +9,7 @@ use Rattle.frame_formats.specs.Recipe.{Recipe, picture_recipe}
 use Rattle.imgref_frames.specs.Stream.{Piece, piece, IsPiece, piece_text}
 use Rattle.imgref_frames.specs.Video.{FrameHead, frame_line, with_head}
 use Rattle.imgref_frames.specs.Pictures.{PictureHead, IsPictureNotEdited}
-use Rattle.imgref_frames.specs.Passing.{IsNoPiece, IsNoFrameLine}
+use Rattle.imgref_frames.specs.Passing.{IsNoPiece}
 use Rattle.imgref_frames.proofs.FrameLines.{one_line}
 
 -- no head begins another, and each has one recipe

@@ -5,17 +5,13 @@ use Rattle.std.specs.Io.KnownBytes.{Consumes, Appends, Keeps}
 use Rattle.std.proofs.KnownBytes.{Consumes-trans}
 use Rattle.devices.specs.Whole.{AppendsBeginning}
 use Rattle.frame_formats.specs.Picture.{picture_of, ApartHeads, BeginsWithLetter}
-use Rattle.frame_formats.specs.Plan.{Tells}
 use Rattle.frame_formats.specs.Edits.{Edits}
 use Rattle.frame_formats.specs.Recipe.{Recipe, picture_recipe}
 use Rattle.frame_formats.specs.declared.picture.Picture.{Picture}
-use Rattle.frame_formats.specs.declared.plans.PlanFault.{PlanFault}
-use Rattle.frame_formats.specs.declared.plans.PlanFault.TheVariants.{Outside as NoPlan, Memory as NoMemory}
 use Rattle.imgref_frames.specs.Stream.{Piece, piece, IsPiece, piece_text, pieces_text, made_text, all_made}
 use Rattle.imgref_frames.specs.Video.{FrameHead, with_head}
 use Rattle.imgref_frames.specs.Pictures.{PictureHead, IsNoPicture, IsPictureNotEdited, behind_letter}
 use Rattle.imgref_frames.specs.Passing.{LineRead, IsNoPiece, Passed, PassedUpTo, PassedSome, PassedPart, CellsPassed, PassesCells, PassesFrames, PassesPicture, PassesPictures, Anything}
-use Rattle.imgref_frames.specs.Program.{fault_of_plan}
 use Rattle.imgref_frames.specs.declared.fault.RunFault.{RunFault}
 use Rattle.imgref_frames.specs.declared.fault.RunFault.TheVariants.{Header, Outside, Frame, Memory, Input, Output, Endless}
 use Rattle.imgref_frames.proofs.Pieces.{frames_readable, pictures_readable, cut_piece}
