@@ -1,14 +1,10 @@
 //! Bands of full width.
 
-use crate::fixtures::{GREATEST, write};
+use crate::fixtures::{GREATEST, image_of, write};
 use image_tiles::BandsMut;
 use imgref::{Img, ImgRefMut};
 use imgref_fixtures::SQUARE;
 use std::iter::ExactSizeIterator;
-
-fn image_of(cells: &mut [u8; 11]) -> ImgRefMut<'_, u8> {
-    Img::new_stride(cells.as_mut_slice(), 3, 3, 4)
-}
 
 // Whether a band has these lines of the square and these of its cells: the first one's number, and
 // how many.

@@ -1,6 +1,6 @@
 //! Tiles lent one after the other.
 
-use crate::fixtures::{GREATEST, write};
+use crate::fixtures::{GREATEST, image_of, write};
 use image_tiles::TilesMut;
 use imgref::{Img, ImgRefMut};
 use imgref_fixtures::SQUARE;
@@ -21,7 +21,7 @@ fn mark(tiles: &mut TilesMut<'_, u8>, value: u8) -> Option<[usize; 4]> {
 #[test]
 fn tiles_are_lent_one_after_the_other(rt: HostRuntime) {
     let mut cells = SQUARE;
-    let image: ImgRefMut<'_, u8> = Img::new_stride(cells.as_mut_slice(), 3, 3, 4);
+    let image = image_of(&mut cells);
     assert!(rt; image.is_valid());
     let mut tiles = TilesMut::new(image, 2, 2);
     let sizes = [
@@ -51,7 +51,7 @@ fn tiles_are_lent_one_after_the_other(rt: HostRuntime) {
 #[test]
 fn tiles_dropped_early_leave_what_was_written(rt: HostRuntime) {
     let mut cells = SQUARE;
-    let image: ImgRefMut<'_, u8> = Img::new_stride(cells.as_mut_slice(), 3, 3, 4);
+    let image = image_of(&mut cells);
     assert!(rt; image.is_valid());
     let mut tiles = TilesMut::new(image, 2, 2);
     assert!(rt; mark(&mut tiles, 0).is_some() && mark(&mut tiles, 1).is_some());
@@ -68,7 +68,7 @@ fn tiles_of_other_sizes_are_lent(rt: HostRuntime) {
         (GREATEST, 1, [3, 3, 4, 11]),
     ] {
         let mut cells = SQUARE;
-        let image: ImgRefMut<'_, u8> = Img::new_stride(cells.as_mut_slice(), 3, 3, 4);
+        let image = image_of(&mut cells);
         assert!(rt; image.is_valid() && size > 0);
         let mut tiles = TilesMut::new(image, size, size);
         assert!(rt;
