@@ -21,29 +21,21 @@ fn padded(alloc: Global) -> Result<ImgVec<u8>, AllocError>
     Ok(Img::new_stride(CELLS.to_vec(alloc)?, 3, 2, 4))
 }
 
+// The cells of the image, each pixel 10 brighter.
+const BRIGHT: [u8; 7] = [11, 12, 13, 100, 14, 15, 255];
+
 #[test]
 fn brighter_pixels_stop_at_255(rt: HostRuntime) -> Result<(), Fail> {
-    let mut image = padded(rt.alloc())?;
-    assert!(rt; image.is_valid());
-    brighten(&mut image, 10);
-    assert_eq!(rt;
-        image.into_buf().as_slice(),
-        [11u8, 12, 13, 100, 14, 15, 255].as_slice()
-    );
-    let mut image = padded(rt.alloc())?;
-    assert!(rt; image.is_valid());
-    brighten_places(&mut image, 10);
-    assert_eq!(rt;
-        image.into_buf().as_slice(),
-        [11u8, 12, 13, 100, 14, 15, 255].as_slice()
-    );
-    let mut image = padded(rt.alloc())?;
-    assert!(rt; image.is_valid());
-    brighten_rows(&mut image, 10);
-    assert_eq!(rt;
-        image.into_buf().as_slice(),
-        [11u8, 12, 13, 100, 14, 15, 255].as_slice()
-    );
+    let mut by_pixels = padded(rt.alloc())?;
+    let mut by_places = padded(rt.alloc())?;
+    let mut by_rows = padded(rt.alloc())?;
+    assert!(rt; by_pixels.is_valid() && by_places.is_valid() && by_rows.is_valid());
+    brighten(&mut by_pixels, 10);
+    brighten_places(&mut by_places, 10);
+    brighten_rows(&mut by_rows, 10);
+    assert!(rt; by_pixels.buf().as_slice() == BRIGHT.as_slice());
+    assert!(rt; by_places.buf().as_slice() == BRIGHT.as_slice());
+    assert!(rt; by_rows.buf().as_slice() == BRIGHT.as_slice());
     Ok(())
 }
 
