@@ -1,5 +1,5 @@
 -- Why a run ended, what it prints then, and which device's count that shows in.
-use Rattle.std.specs.Prelude.{ℕ, List, ◌++◌, codes, Result, Ok, Err}
+use Rattle.std.specs.Prelude.{ℕ, List, ◌++◌, codes, Result, Err}
 use Rattle.std.specs.Fmt.{decimal}
 use Rattle.devices.specs.Fault.{common_text}
 use Rattle.devices.specs.declared.fault.CommonFault.TheVariants.{Memory as CommonMemory, Input as CommonInput, Output as CommonOutput}
