@@ -3,6 +3,7 @@
 
 use imgref::{Img, ImgVec};
 use std::alloc::{AllocError, Global};
+use std::hash::{DefaultHasher, Hash, Hasher};
 use std::iter::{ExactSizeIterator, FusedIterator};
 
 // Three by two with one cell of padding after each row, and one behind them.
@@ -21,6 +22,12 @@ pub fn cells_of(alloc: Global, count: usize, value: u8) -> Result<Vec<u8>, Alloc
     Ok(cells)
 }
 
+pub fn hash_of<T: Hash>(value: &T) -> u64 {
+    let mut hasher = DefaultHasher::new();
+    value.hash(&mut hasher);
+    hasher.finish()
+}
+
 // Each of these calls one bound alone, as a caller that knows no type does.
 pub fn len_of<I: ExactSizeIterator>(items: &I) -> usize {
     items.len()
@@ -32,4 +39,16 @@ where
     requires { I.can_next items.old }
 {
     items.next().is_none()
+}
+
+// The next item from the front or from the back.
+pub fn next_from<I: DoubleEndedIterator>(items: &mut I, is_front: bool) -> Option<I::Item>
+    requires front { I.can_next items.old }
+    requires back { I.can_next_back items.old }
+{
+    if is_front {
+        items.next()
+    } else {
+        items.next_back()
+    }
 }

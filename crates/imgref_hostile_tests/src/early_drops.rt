@@ -1,8 +1,8 @@
 //! Iterators for writing that are dropped before their end: what was written stands, all else stays.
 
-use crate::fixtures::{cells_of, numbered};
+use crate::fixtures::{cells_of, numbered, numbers_of};
 use imgref::{AsMutSlice, AsSlice, Img, ImgRefMut, PixelsIterMut, Window};
-use imgref_fixtures::{PADDED, padded};
+use imgref_fixtures::{PADDED, next_from, padded};
 use std::process::Abort;
 use std::test::Fail;
 
@@ -24,11 +24,7 @@ fn take_rows(
     for step in 0..steps {
         let is_front = mix >> (step % 8) & 1 == 0;
         let left = rows.len();
-        let row = if is_front {
-            rows.next()
-        } else {
-            rows.next_back()
-        };
+        let row = next_from(&mut rows, is_front);
         assert!(rt; row.is_some() == (left > 0), "step {step} of mix {mix}");
         if let Some(row) = row {
             row.fill(0);
@@ -69,12 +65,7 @@ fn check_rows(
 
 #[test]
 fn rows_of_lent_cells_from_each_mix_of_ends(rt: HostRuntime) -> Result<(), Fail> {
-    let window = Window {
-        left: 0,
-        top: 0,
-        width: 1,
-        height: 4,
-    };
+    let window = Window::new(0, 0, 1, 4);
     for mix in 0..32u32 {
         for steps in 0..6u32 {
             let mut cells = TWELVE;
@@ -90,12 +81,7 @@ fn rows_of_lent_cells_from_each_mix_of_ends(rt: HostRuntime) -> Result<(), Fail>
 
 #[test]
 fn rows_of_an_inner_column_from_each_mix_of_ends(rt: HostRuntime) -> Result<(), Fail> {
-    let window = Window {
-        left: 1,
-        top: 1,
-        width: 2,
-        height: 3,
-    };
+    let window = Window::new(1, 1, 2, 3);
     for mix in 0..16u32 {
         for steps in 0..5u32 {
             let mut cells = TWELVE;
@@ -117,12 +103,7 @@ fn check_window_rows<C: AsMutSlice<Item = u8>>(
     mix: u32,
     steps: u32,
 ) {
-    let Window {
-        left,
-        top,
-        width,
-        height,
-    } = window;
+    let (left, top, width, height) = numbers_of(window);
     assert!(rt; image.is_valid() && image.has_window(left, top, width, height));
     let mut inner = image.sub_image_mut(left, top, width, height);
     let taken = take_rows(rt, &mut inner, mix, steps);
@@ -192,12 +173,7 @@ fn check_window_pixels<C: AsMutSlice<Item = u8>>(
     window: Window,
     steps: usize,
 ) {
-    let Window {
-        left,
-        top,
-        width,
-        height,
-    } = window;
+    let (left, top, width, height) = numbers_of(window);
     assert!(rt; image.is_valid() && image.has_window(left, top, width, height));
     let mut inner = image.sub_image_mut(left, top, width, height);
     assert!(rt; inner.is_valid());

@@ -20,6 +20,11 @@ pub fn numbered(number: usize) -> Window {
     Window::new(number % 4, number / 4 % 4, number / 16 % 4, number / 64 % 4)
 }
 
+// Left, top, width and height, as the calls of an image take them.
+pub fn numbers_of(window: Window) -> (usize, usize, usize, usize) {
+    (window.left, window.top, window.width, window.height)
+}
+
 // Which cells a window has.
 #[derive(Clone, Copy)]
 pub struct Cells {

@@ -1,6 +1,6 @@
 //! Numbers at the type's end: windows, places, strides, sizes.
 
-use crate::fixtures::pixel_at;
+use crate::fixtures::{numbers_of, pixel_at};
 use imgref::{Img, ImgExt, ImgRef, ImgRefMut, ImgVec, Shape, Window};
 use imgref_fixtures::{PADDED, padded};
 use std::process::Abort;
@@ -63,12 +63,7 @@ fn windows_are_inside_by_their_sums(rt: HostRuntime) -> Result<(), Fail> {
 
 // An empty window at each corner that is there has its size and no cell, by every call.
 fn check_empty(rt: &impl Abort, shape: Shape, window: Window) {
-    let Window {
-        left,
-        top,
-        width,
-        height,
-    } = window;
+    let (left, top, width, height) = numbers_of(window);
     let mut cells = [7u8];
     let mut image = ImgRefMut::from_parts(cells.as_mut_slice(), shape);
     assert!(rt; image.is_valid() && image.has_window(left, top, width, height));
@@ -104,22 +99,12 @@ fn empty_windows_at_corners_without_a_cell(rt: HostRuntime) -> Result<(), Fail> 
         check_empty(
             &rt,
             Shape::new(0, LAST, usize::MAX),
-            Window {
-                left: 0,
-                top: start,
-                width: 0,
-                height: len,
-            },
+            Window::new(0, start, 0, len),
         );
         check_empty(
             &rt,
             Shape::new(LAST, 0, usize::MAX),
-            Window {
-                left: start,
-                top: 0,
-                width: len,
-                height: 0,
-            },
+            Window::new(start, 0, len, 0),
         );
     }
     Ok(())

@@ -1,5 +1,5 @@
 //! The tests of hostile use of `imgref`, by subject: every small window, numbers at the type's end,
-//! iterators dropped early, pixels of no size, buffers that are too short.
+//! iterators dropped early, pixels of no size, buffers that are too short, memory that runs out.
 #![tactic(auto)]
 
 #[cfg(test)]
@@ -12,6 +12,8 @@ mod greatest_numbers;
 mod greatest_strides;
 #[cfg(test)]
 mod greatest_units;
+#[cfg(test)]
+mod memory;
 #[cfg(test)]
 mod short_buffers;
 #[cfg(test)]

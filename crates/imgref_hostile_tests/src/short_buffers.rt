@@ -1,9 +1,8 @@
 //! Buffers that end before the last pixel: what asks no fit works on them, and is safe.
 
 use imgref::{AsMutSlice, AsSlice, Img, ImgExt, ImgExtMut, ImgRef, ImgVec};
-use imgref_fixtures::PADDED;
+use imgref_fixtures::{PADDED, hash_of};
 use std::alloc::{AllocError, Global};
-use std::hash::{DefaultHasher, Hash, Hasher};
 use std::process::Abort;
 use std::test::Fail;
 
@@ -30,12 +29,6 @@ fn meaning_of(count: usize, stride: usize) -> usize {
         (9, 6) => 6,
         _ => 0,
     }
-}
-
-fn hash_of<T: Hash>(image: &T) -> u64 {
-    let mut state = DefaultHasher::new();
-    image.hash(&mut state);
-    state.finish()
 }
 
 #[test]

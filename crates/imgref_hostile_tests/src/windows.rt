@@ -1,6 +1,6 @@
 //! Each window of the image of nine cells, by every call of each kind.
 
-use crate::fixtures::{Cells, cells_of, numbered, pixel_at};
+use crate::fixtures::{Cells, cells_of, numbered, numbers_of, pixel_at};
 use imgref::{AsMutSlice, AsSlice, Img, ImgRef, ImgRefMut, Window};
 use imgref_fixtures::{PADDED, padded};
 use std::process::Abort;
@@ -8,12 +8,7 @@ use std::test::Fail;
 
 // A window has its size, its pixels by their places, and these cells.
 fn check_view(rt: &impl Abort, found: ImgRef<'_, u8>, window: Window, count: usize) {
-    let Window {
-        left,
-        top,
-        width,
-        height,
-    } = window;
+    let (left, top, width, height) = numbers_of(window);
     assert!(rt;
         (found.width(), found.height()) == (width, height)
             && found.stride() == 4
@@ -77,12 +72,7 @@ fn check_filled(rt: &impl Abort, cells: &[u8], window: Window) {
 
 // Whether a window is inside a view, and what is read through it.
 fn is_in_view(rt: &impl Abort, image: ImgRef<'_, u8>, window: Window) -> bool {
-    let Window {
-        left,
-        top,
-        width,
-        height,
-    } = window;
+    let (left, top, width, height) = numbers_of(window);
     assert!(rt; image.is_valid());
     let is_inside = image.has_window(left, top, width, height);
     if is_inside {
@@ -94,8 +84,7 @@ fn is_in_view(rt: &impl Abort, image: ImgRef<'_, u8>, window: Window) -> bool {
 
 // The same of an image that can be written, which has another `sub_image`.
 fn is_in_image<C: AsMutSlice<Item = u8>>(rt: &impl Abort, image: &Img<C>, window: Window) -> bool {
-    let (left, top) = (window.left, window.top);
-    let (width, height) = (window.width, window.height);
+    let (left, top, width, height) = numbers_of(window);
     assert!(rt; image.is_valid());
     let is_inside = image.has_window(left, top, width, height);
     if is_inside {
@@ -143,12 +132,7 @@ fn check_pixels<C: AsMutSlice<Item = u8>>(
     window: Window,
     count: usize,
 ) {
-    let Window {
-        left,
-        top,
-        width,
-        height,
-    } = window;
+    let (left, top, width, height) = numbers_of(window);
     assert!(rt; image.is_valid() && image.has_window(left, top, width, height));
     let mut found = image.sub_image_mut(left, top, width, height);
     check_view(rt, found.as_ref(), window, count);
@@ -164,12 +148,7 @@ fn check_cells<C: AsMutSlice<Item = u8>>(
     window: Window,
     count: usize,
 ) {
-    let Window {
-        left,
-        top,
-        width,
-        height,
-    } = window;
+    let (left, top, width, height) = numbers_of(window);
     assert!(rt; image.is_valid() && image.has_window(left, top, width, height));
     let (parts, shape) = image.window_parts_mut(Window::new(left, top, width, height));
     assert!(rt; (shape.width(), shape.height(), shape.stride()) == (width, height, 4));
@@ -179,12 +158,7 @@ fn check_cells<C: AsMutSlice<Item = u8>>(
 
 // Cells that are lent are cut down to a window, which is written in the same two ways.
 fn check_cut(rt: &impl Abort, window: Window) {
-    let Window {
-        left,
-        top,
-        width,
-        height,
-    } = window;
+    let (left, top, width, height) = numbers_of(window);
     let cells = cells_of(window);
     let mut buf = PADDED;
     let image = ImgRefMut::new_stride(buf.as_mut_slice(), 3, 2, 4);

@@ -1,9 +1,10 @@
 //! Images as keys of a set: a pixel that is written makes another key.
 
 use imgref::{Img, ImgVec};
+use imgref_fixtures::hash_of;
 use std::alloc::{AllocError, Global};
 use std::collections::HashSet;
-use std::hash::{DefaultHasher, Hash, Hasher};
+use std::hash::Hash;
 use std::test::Fail;
 
 // Which of four keys a set takes, one after the other.
@@ -14,12 +15,6 @@ fn taken<K: Eq + Hash + Drop>(alloc: Global, keys: [K; 4]) -> Result<[bool; 4], 
     let is_second = set.insert(second)?;
     let is_third = set.insert(third)?;
     Ok([is_first, is_second, is_third, set.insert(fourth)?])
-}
-
-fn hash_of<K: Hash>(key: &K) -> u64 {
-    let mut hasher = DefaultHasher::new();
-    key.hash(&mut hasher);
-    hasher.finish()
 }
 
 // Two by two at stride 2; the same at stride 3, where a pixel is written; four in a row; and again the first one's pixels,

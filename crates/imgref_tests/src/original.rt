@@ -6,7 +6,7 @@ ghost use Rattle.imgref.specs.Image.{ref_layout, vec_layout};
 
 use crate::answers::ANSWERS;
 use imgref::{Img, ImgRef, ImgVec};
-use imgref_fixtures::PADDED;
+use imgref_fixtures::{PADDED, next_from};
 use std::alloc::{AllocError, Global};
 use std::fmt::Write;
 use std::process::Abort;
@@ -46,12 +46,7 @@ fn write_rows(text: &mut String, image: ImgRef<'_, u8>) -> Result<(), AllocError
     write!(text, "\nrows from both ends")?;
     let mut rows = image.rows();
     for turn in 0..rows.len() {
-        let row = if turn % 2 == 0 {
-            rows.next()
-        } else {
-            rows.next_back()
-        };
-        if let Some(row) = row {
+        if let Some(row) = next_from(&mut rows, turn % 2 == 0) {
             write_row(text, row)?;
         }
     }
@@ -71,12 +66,7 @@ fn fill_rows(image: &mut ImgVec<u8>)
     let mut rows = image.rows_mut();
     let mut value = 100u8;
     for turn in 0..rows.len() {
-        let row = if turn % 2 == 0 {
-            rows.next()
-        } else {
-            rows.next_back()
-        };
-        if let Some(row) = row {
+        if let Some(row) = next_from(&mut rows, turn % 2 == 0) {
             row.fill(value);
         }
         value = value.wrapping_add(1);

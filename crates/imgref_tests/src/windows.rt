@@ -2,6 +2,7 @@
 
 use imgref::{Img, ImgRef, ImgVec};
 use imgref_fixtures::{PADDED, padded};
+use std::process::Abort;
 use std::test::Fail;
 
 #[test]
@@ -82,36 +83,39 @@ fn the_greatest_stride_has_windows(rt: HostRuntime) -> Result<(), Fail> {
     Ok(())
 }
 
+// Left, top, width and height.
+type Numbers = (usize, usize, usize, usize);
+
+// Two empty windows of an image with one cell have none, one for reading and one for writing.
+fn check_empty(rt: &impl Abort, owner: ImgVec<u8>, shared: Numbers, written: Numbers) {
+    let mut owner = owner;
+    let (left, top, width, height) = shared;
+    assert!(rt; owner.is_valid() && owner.has_window(left, top, width, height));
+    assert!(rt; owner.sub_image(left, top, width, height).buf().len() == 0);
+    let (left, top, width, height) = written;
+    assert!(rt; owner.has_window(left, top, width, height));
+    assert!(rt; owner.sub_image_mut(left, top, width, height).buf().len() == 0);
+    assert!(rt; *owner.as_ref().buf() == [1u8].as_slice());
+}
+
 #[test]
 fn zero(rt: HostRuntime) -> Result<(), Fail> {
-    let mut owner: ImgVec<u8> = Img::new_stride([1u8].to_vec(rt.alloc())?, 0, 0, 1);
-    assert!(rt; owner.is_valid());
-    assert!(rt; owner.has_window(0, 0, 0, 0));
-    assert!(rt; owner.sub_image(0, 0, 0, 0).buf().len() == 0);
-    assert!(rt; owner.sub_image_mut(0, 0, 0, 0).buf().len() == 0);
-    assert!(rt; *owner.as_ref().buf() == [1u8].as_slice());
+    let owner: ImgVec<u8> = Img::new_stride([1u8].to_vec(rt.alloc())?, 0, 0, 1);
+    check_empty(&rt, owner, (0, 0, 0, 0), (0, 0, 0, 0));
     Ok(())
 }
 
 #[test]
 fn zero_width(rt: HostRuntime) -> Result<(), Fail> {
-    let mut owner: ImgVec<u8> = Img::new_stride([1u8].to_vec(rt.alloc())?, 0, 1, 1);
-    assert!(rt; owner.is_valid());
-    assert!(rt; owner.has_window(0, 1, 0, 0));
-    assert!(rt; owner.has_window(0, 0, 0, 1));
-    assert!(rt; owner.sub_image(0, 1, 0, 0).buf().len() == 0);
-    assert!(rt; owner.sub_image_mut(0, 0, 0, 1).buf().len() == 0);
+    let owner: ImgVec<u8> = Img::new_stride([1u8].to_vec(rt.alloc())?, 0, 1, 1);
+    check_empty(&rt, owner, (0, 1, 0, 0), (0, 0, 0, 1));
     Ok(())
 }
 
 #[test]
 fn zero_height(rt: HostRuntime) -> Result<(), Fail> {
-    let mut owner: ImgVec<u8> = Img::new_stride([1u8].to_vec(rt.alloc())?, 1, 0, 1);
-    assert!(rt; owner.is_valid());
-    assert!(rt; owner.has_window(1, 0, 0, 0));
-    assert!(rt; owner.has_window(0, 0, 1, 0));
-    assert!(rt; owner.sub_image(1, 0, 0, 0).buf().len() == 0);
-    assert!(rt; owner.sub_image_mut(0, 0, 1, 0).buf().len() == 0);
+    let owner: ImgVec<u8> = Img::new_stride([1u8].to_vec(rt.alloc())?, 1, 0, 1);
+    check_empty(&rt, owner, (1, 0, 0, 0), (0, 0, 1, 0));
     Ok(())
 }
 

@@ -7,7 +7,7 @@ ghost use Rattle.imgref.specs.Image.{width_of, height_of, mut_layout, vec_layout
 
 use imgref::{Img, ImgRefMut, ImgVec};
 use imgref_callers::fill_last_row;
-use imgref_fixtures::{PADDED, SQUARE, cells_of, is_over, len_of, padded};
+use imgref_fixtures::{PADDED, SQUARE, cells_of, is_over, len_of, next_from, padded};
 use std::test::Fail;
 
 fn count_for_writing(image: &mut ImgVec<u8>) -> usize
@@ -87,11 +87,8 @@ fn rows_written_before_a_drop_stand(rt: HostRuntime) -> Result<(), Fail> {
             let mut front = 0usize;
             let mut back = 3usize;
             for step in 0..steps {
-                let (row, at_front) = if mix >> step & 1 == 0 {
-                    (rows.next(), true)
-                } else {
-                    (rows.next_back(), false)
-                };
+                let at_front = mix >> step & 1 == 0;
+                let row = next_from(&mut rows, at_front);
                 assert!(rt; row.is_some() == (front < back), "step {step} of mix {mix}");
                 if let Some(row) = row {
                     row.fill(100);

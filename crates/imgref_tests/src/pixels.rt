@@ -8,6 +8,7 @@ ghost use Rattle.imgref.specs.Pixels.{copies_left};
 
 use imgref::{ImgRef, ImgRefMut, ImgVec, PixelsIter};
 use imgref_fixtures::{PADDED, cells_of, is_over, len_of, padded};
+use std::alloc::{AllocError, Global};
 use std::test::Fail;
 
 // What a caller learns from a chain over the pixels.
@@ -90,36 +91,27 @@ struct Bead {
     weight: u8,
 }
 
-#[test]
-fn an_owner_gives_its_pixels(rt: HostRuntime) -> Result<(), Fail> {
-    let image = padded(rt.alloc())?;
-    assert!(rt; image.is_valid());
-    let found: Vec<u8> = image.pixels().collect(rt.alloc())?;
-    assert!(rt; found.as_slice() == [1u8, 2, 3, 5, 6, 7].as_slice());
-    Ok(())
+// Whether all that an iterator gives is the pixels of `PADDED`.
+fn gives_padded(alloc: Global, pixels: PixelsIter<'_, u8>) -> Result<bool, AllocError> {
+    let found: Vec<u8> = pixels.collect(alloc)?;
+    Ok(found.as_slice() == [1u8, 2, 3, 5, 6, 7].as_slice())
 }
 
 #[test]
-fn a_view_gives_its_pixels(rt: HostRuntime) -> Result<(), Fail> {
+fn each_kind_gives_its_pixels(rt: HostRuntime) -> Result<(), Fail> {
+    let mut cells = PADDED;
+    let owned = padded(rt.alloc())?;
+    let lent = ImgRefMut::new_stride(cells.as_mut_slice(), 3, 2, 4);
     let view = ImgRef::new_stride(PADDED.as_slice(), 3, 2, 4);
-    assert!(rt; view.is_valid());
-    let found: Vec<u8> = view.pixels().collect(rt.alloc())?;
-    assert!(rt; found.as_slice() == [1u8, 2, 3, 5, 6, 7].as_slice());
+    assert!(rt; owned.is_valid() && lent.is_valid() && view.is_valid());
+    assert!(rt; gives_padded(rt.alloc(), owned.pixels())?);
+    assert!(rt; gives_padded(rt.alloc(), lent.pixels())?);
+    assert!(rt; gives_padded(rt.alloc(), view.pixels())?);
     let mut seen = view.pixels_ref();
     for expected in [1u8, 2, 3, 5, 6, 7] {
         assert!(rt; seen.next() == Some(&expected));
     }
     assert!(rt; (seen.next(), seen.next()) == (None, None));
-    Ok(())
-}
-
-#[test]
-fn an_image_for_writing_gives_its_pixels(rt: HostRuntime) -> Result<(), Fail> {
-    let mut cells = PADDED;
-    let image = ImgRefMut::new_stride(cells.as_mut_slice(), 3, 2, 4);
-    assert!(rt; image.is_valid());
-    let found: Vec<u8> = image.pixels().collect(rt.alloc())?;
-    assert!(rt; found.as_slice() == [1u8, 2, 3, 5, 6, 7].as_slice());
     Ok(())
 }
 

@@ -2,35 +2,55 @@
 
 use imgref::{Img, ImgRef, ImgRefMut, ImgVec};
 use imgref_fixtures::{PADDED, SQUARE};
+use std::alloc::{AllocError, Global};
 use std::process::Abort;
 use std::test::Fail;
 
-#[test]
-fn a_window_moves_down_over_itself(rt: HostRuntime) -> Result<(), Fail> {
-    let mut owner: ImgVec<u8> = Img::new_stride(SQUARE.to_vec(rt.alloc())?, 3, 3, 4);
-    assert!(rt; owner.is_valid());
-    owner.move_window(0, 0, 1, 1, 2, 2);
-    assert!(rt; owner.into_buf().as_slice() == [1u8, 2, 3, 0, 4, 1, 2, 0, 7, 4, 5].as_slice());
-    Ok(())
+// Whether an image with the cells of `SQUARE` is left with these, as an owner and as a lent one, once
+// a window of this size has moved.
+fn leaves(
+    alloc: Global,
+    (left, top): (usize, usize),
+    (to_left, to_top): (usize, usize),
+    (width, height): (usize, usize),
+    after: [u8; 11],
+) -> Result<bool, AllocError> {
+    let mut owner: ImgVec<u8> = Img::new_stride(SQUARE.to_vec(alloc)?, 3, 3, 4);
+    let mut cells = SQUARE;
+    let mut lent = ImgRefMut::new_stride(cells.as_mut_slice(), 3, 3, 4);
+    let is_inside = owner.has_window(left, top, width, height)
+        && owner.has_window(to_left, to_top, width, height);
+    if !owner.is_valid() || !lent.is_valid() || !is_inside {
+        return Ok(false);
+    }
+    owner.move_window(left, top, to_left, to_top, width, height);
+    lent.move_window(left, top, to_left, to_top, width, height);
+    Ok(owner.into_buf().as_slice() == after.as_slice() && cells == after)
 }
 
 #[test]
-fn a_window_moves_up_over_itself(rt: HostRuntime) -> Result<(), Fail> {
-    let mut cells = SQUARE;
-    let mut lent: ImgRefMut<'_, u8> = Img::new_stride(cells.as_mut_slice(), 3, 3, 4);
-    assert!(rt; lent.is_valid());
-    lent.move_window(1, 1, 0, 0, 2, 2);
-    assert!(rt; cells == [5u8, 6, 3, 0, 8, 9, 6, 0, 7, 8, 9]);
-    Ok(())
-}
-
-#[test]
-fn a_window_moves_up_and_to_the_right(rt: HostRuntime) -> Result<(), Fail> {
-    let mut cells = SQUARE;
-    let mut lent: ImgRefMut<'_, u8> = Img::new_stride(cells.as_mut_slice(), 3, 3, 4);
-    assert!(rt; lent.is_valid());
-    lent.move_window(0, 1, 1, 0, 2, 2);
-    assert!(rt; cells == [1u8, 4, 5, 0, 4, 7, 8, 0, 7, 8, 9]);
+fn a_window_moves_within_its_image(rt: HostRuntime) -> Result<(), Fail> {
+    for (from, to, size, after) in [
+        // Down and up over itself, up and to the right, and nowhere.
+        ((0, 0), (1, 1), (2, 2), [1, 2, 3, 0, 4, 1, 2, 0, 7, 4, 5]),
+        ((1, 1), (0, 0), (2, 2), [5, 6, 3, 0, 8, 9, 6, 0, 7, 8, 9]),
+        ((0, 1), (1, 0), (2, 2), [1, 4, 5, 0, 4, 7, 8, 0, 7, 8, 9]),
+        ((1, 1), (1, 1), (2, 2), SQUARE),
+        // Empty windows.
+        ((3, 3), (0, 0), (0, 0), SQUARE),
+        ((0, 0), (3, 3), (0, 0), SQUARE),
+        ((0, 3), (0, 0), (3, 0), SQUARE),
+        ((0, 0), (0, 3), (3, 0), SQUARE),
+        ((3, 0), (0, 0), (0, 3), SQUARE),
+        ((0, 0), (3, 0), (0, 3), SQUARE),
+        ((2, 3), (0, 0), (1, 0), SQUARE),
+        ((0, 0), (2, 3), (1, 0), SQUARE),
+    ] {
+        assert!(rt;
+            leaves(rt.alloc(), from, to, size, after)?,
+            "{from:?} {to:?} {size:?}"
+        );
+    }
     Ok(())
 }
 
@@ -44,31 +64,6 @@ fn columns_of_one_row_move_by_one(rt: HostRuntime) -> Result<(), Fail> {
     assert!(rt; owner.has_window(0, 0, 4, 1));
     owner.move_window(2, 0, 1, 0, 2, 1);
     assert!(rt; owner.buf().as_slice() == [1u8, 2, 4, 4].as_slice());
-    Ok(())
-}
-
-#[test]
-fn a_window_that_moves_nowhere_stays(rt: HostRuntime) -> Result<(), Fail> {
-    let mut owner: ImgVec<u8> = Img::new_stride(SQUARE.to_vec(rt.alloc())?, 3, 3, 4);
-    assert!(rt; owner.is_valid());
-    owner.move_window(1, 1, 1, 1, 2, 2);
-    assert!(rt; owner.buf().as_slice() == SQUARE.as_slice());
-    Ok(())
-}
-
-#[test]
-fn an_empty_window_moves_nothing(rt: HostRuntime) -> Result<(), Fail> {
-    let empty = [(3, 3, 0, 0), (0, 3, 3, 0), (3, 0, 0, 3), (2, 3, 1, 0)];
-    for (left, top, width, height) in empty {
-        let mut cells = SQUARE;
-        let mut lent: ImgRefMut<'_, u8> = Img::new_stride(cells.as_mut_slice(), 3, 3, 4);
-        assert!(rt; lent.is_valid());
-        assert!(rt; lent.has_window(0, 0, width, height));
-        assert!(rt; lent.has_window(left, top, width, height));
-        lent.move_window(left, top, 0, 0, width, height);
-        lent.move_window(0, 0, left, top, width, height);
-        assert!(rt; cells == SQUARE, "{left},{top},{width},{height}");
-    }
     Ok(())
 }
 
