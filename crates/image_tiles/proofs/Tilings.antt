@@ -1,4 +1,4 @@
--- A tiling by the column and the line of its next window.
+-- A tiling by the tile column and the tile row of its next window.
 use Rattle.std.proofs.Common.{◌≡◌, ℕ, zero, suc, ◌+◌, ◌-◌, ◌*◌, ◌/◌, ◌%◌, ◌<◌, ◌≤◌, true, false, inl, inr, List, [], ◌∷◌, drop, length, length-drop, Option, Some, None, refl, sym, ap, ◌∙◌, subst, arith}
 use Rattle.std.specs.Prelude.{Bool, if◌then◌else◌, ◌^◌, IfSome}
 use mathlib.Core.Path.{ap₂}
@@ -33,21 +33,21 @@ module _ (width height tile_width tile_height : ℕ) (wide : 0 < tile_width) (hi
   abbrev all : List Window
   all = tiles width height tile_width tile_height
 
-  -- what is left from a column of a line on
+  -- what is left from a tile column of a tile row on
   abbrev left_at : ℕ → ℕ → ℕ → ℕ → List Window
-  left_at columns lines column line = if is_place columns lines column line then drop (line * columns + column) all else []
+  left_at tile_columns tile_rows tile_column tile_row = if is_place tile_columns tile_rows tile_column tile_row then drop (tile_row * tile_columns + tile_column) all else []
 
-  module _ (columns lines : ℕ) (columns_are : columns ≡ tile_count tile_width width) (lines_are : lines ≡ tile_count tile_height height) where
-    length-all : length all ≡ lines * columns
-    length-all = length-tiles width height tile_width tile_height wide high ∙ ap (λ c. tile_count tile_height height * c) (sym columns_are) ∙ ap (λ l. l * columns) (sym lines_are)
+  module _ (tile_columns tile_rows : ℕ) (tile_columns_are : tile_columns ≡ tile_count tile_width width) (tile_rows_are : tile_rows ≡ tile_count tile_height height) where
+    length-all : length all ≡ tile_rows * tile_columns
+    length-all = length-tiles width height tile_width tile_height wide high ∙ ap (λ c. tile_count tile_height height * c) (sym tile_columns_are) ∙ ap (λ l. l * tile_columns) (sym tile_rows_are)
 
     -- at the first tile all are left
-    pub all_left : left_at columns lines 0 0 ≡ all
+    pub all_left : left_at tile_columns tile_rows 0 0 ≡ all
     all_left =
         elim (cases_lt 0 (length all)) [
-          | inl some ↦ cond-true (is_place columns lines 0 0) (drop (0 * columns + 0) all) [] ((is_place_decides columns lines 0 0).1 (positive columns lines (omega (arith, some, length-all)), positive_left columns lines (omega (arith, some, length-all))))
-              ∙ (let e : 0 * columns + 0 ≡ 0 = omega arith in ap (λ n. drop n all) e)
-          | inr none ↦ either (is_place columns lines 0 0) (drop (0 * columns + 0) all) (drop_all (0 * columns + 0) all (omega (arith, none))) ∙ sym (no_tile all (omega (arith, none)))
+          | inl some ↦ cond-true (is_place tile_columns tile_rows 0 0) (drop (0 * tile_columns + 0) all) [] ((is_place_decides tile_columns tile_rows 0 0).1 (positive tile_columns tile_rows (omega (arith, some, length-all)), positive_left tile_columns tile_rows (omega (arith, some, length-all))))
+              ∙ (let e : 0 * tile_columns + 0 ≡ 0 = omega arith in ap (λ n. drop n all) e)
+          | inr none ↦ either (is_place tile_columns tile_rows 0 0) (drop (0 * tile_columns + 0) all) (drop_all (0 * tile_columns + 0) all (omega (arith, none))) ∙ sym (no_tile all (omega (arith, none)))
         ]
       where
         positive : (m n : ℕ) → 0 < n * m → 0 < m
@@ -66,84 +66,84 @@ module _ (width height tile_width tile_height : ℕ) (wide : 0 < tile_width) (hi
         either true ws e = e
         either false ws e = refl
 
-    module _ (column line : ℕ) (here : is_place columns lines column line ≡ true) where
+    module _ (tile_column tile_row : ℕ) (here : is_place tile_columns tile_rows tile_column tile_row ≡ true) where
       abbrev k : ℕ
-      k = line * columns + column
+      k = tile_row * tile_columns + tile_column
 
       abbrev it : Window
-      it = tile width height tile_width tile_height column line
+      it = tile width height tile_width tile_height tile_column tile_row
 
-      abbrev in_column : column < columns
-      in_column = ((is_place_decides columns lines column line).0 here).0
+      abbrev in_tile_column : tile_column < tile_columns
+      in_tile_column = ((is_place_decides tile_columns tile_rows tile_column tile_row).0 here).0
 
-      abbrev in_line : line < lines
-      in_line = ((is_place_decides columns lines column line).0 here).1
+      abbrev in_tile_row : tile_row < tile_rows
+      in_tile_row = ((is_place_decides tile_columns tile_rows tile_column tile_row).0 here).1
 
-      counted_column : column < tile_count tile_width width
-      counted_column = subst (λ n. column < n) columns_are in_column
+      counted_tile_column : tile_column < tile_count tile_width width
+      counted_tile_column = subst (λ n. tile_column < n) tile_columns_are in_tile_column
 
-      counted_line : line < tile_count tile_height height
-      counted_line = subst (λ n. line < n) lines_are in_line
+      counted_tile_row : tile_row < tile_count tile_height height
+      counted_tile_row = subst (λ n. tile_row < n) tile_rows_are in_tile_row
 
       -- its corner lies within the size
-      pub begins : (column * tile_width < width) × (line * tile_height < height)
-      begins = (tile_begins tile_width width column wide counted_column, tile_begins tile_height height line high counted_line)
+      pub begins : (tile_column * tile_width < width) × (tile_row * tile_height < height)
+      begins = (tile_begins tile_width width tile_column wide counted_tile_column, tile_begins tile_height height tile_row high counted_tile_row)
 
       pub inside : IsInside width height it
       inside = (omega (arith, begins.0), omega (arith, begins.1))
 
       there : slice_get all k ≡ Some it
-      there = ap (λ c. slice_get all (line * c + column)) columns_are ∙ tile_at width height tile_width tile_height wide high column line counted_column counted_line
+      there = ap (λ c. slice_get all (tile_row * c + tile_column)) tile_columns_are ∙ tile_at width height tile_width tile_height wide high tile_column tile_row counted_tile_column counted_tile_row
 
       off : drop k all ≡ it ∷ drop (k + 1) all
       off = drop_more all k it (slice_get_within all k it there) ∙ ap (λ w. w ∷ drop (k + 1) all) (get_or_from_slice_get all k it it there)
 
       -- it stands first of those that are left
-      first : left_at columns lines column line ≡ it ∷ drop (k + 1) all
-      first = cond-true (is_place columns lines column line) _ _ here ∙ off
+      first : left_at tile_columns tile_rows tile_column tile_row ≡ it ∷ drop (k + 1) all
+      first = cond-true (is_place tile_columns tile_rows tile_column tile_row) _ _ here ∙ off
 
       -- so many are left
-      pub count : length (left_at columns lines column line) ≡ (lines - line - 1) * columns + (columns - column)
+      pub count : length (left_at tile_columns tile_rows tile_column tile_row) ≡ (tile_rows - tile_row - 1) * tile_columns + (tile_columns - tile_column)
       count =
-          let parts : lines * columns ≡ (lines - line - 1) * columns + (columns + line * columns) = ap (λ l. l * columns) (omega (arith, in_line)) ∙ both in
-          ap length (cond-true (is_place columns lines column line) (drop k all) [] here) ∙ length-drop k all ∙ omega (arith, length-all, parts, in_column)
+          let parts : tile_rows * tile_columns ≡ (tile_rows - tile_row - 1) * tile_columns + (tile_columns + tile_row * tile_columns) = ap (λ l. l * tile_columns) (omega (arith, in_tile_row)) ∙ both in
+          ap length (cond-true (is_place tile_columns tile_rows tile_column tile_row) (drop k all) [] here) ∙ length-drop k all ∙ omega (arith, length-all, parts, in_tile_column)
         where
-          both : (lines - line - 1 + suc line) * columns ≡ (lines - line - 1) * columns + (columns + line * columns)
-          both = add-mul (lines - line - 1) (suc line) columns ∙ ap (λ n. (lines - line - 1) * columns + n) (let e = suc-mul line columns in omega (arith, e))
+          both : (tile_rows - tile_row - 1 + suc tile_row) * tile_columns ≡ (tile_rows - tile_row - 1) * tile_columns + (tile_columns + tile_row * tile_columns)
+          both = add-mul (tile_rows - tile_row - 1) (suc tile_row) tile_columns ∙ ap (λ n. (tile_rows - tile_row - 1) * tile_columns + n) (let e = suc-mul tile_row tile_columns in omega (arith, e))
 
-      -- with a column behind it, the next tile stands there
-      pub right : column + 1 < columns → left_at columns lines column line ≡ it ∷ left_at columns lines (column + 1) line
+      -- with a tile column behind it, the next tile stands there
+      pub right : tile_column + 1 < tile_columns → left_at tile_columns tile_rows tile_column tile_row ≡ it ∷ left_at tile_columns tile_rows (tile_column + 1) tile_row
       right more =
-          let e : k + 1 ≡ line * columns + (column + 1) = omega arith in
-          first ∙ ap (λ n. it ∷ drop n all) e ∙ ap (λ ws. it ∷ ws) (sym (cond-true (is_place columns lines (column + 1) line) _ _ ((is_place_decides columns lines (column + 1) line).1 (more, in_line))))
+          let e : k + 1 ≡ tile_row * tile_columns + (tile_column + 1) = omega arith in
+          first ∙ ap (λ n. it ∷ drop n all) e ∙ ap (λ ws. it ∷ ws) (sym (cond-true (is_place tile_columns tile_rows (tile_column + 1) tile_row) _ _ ((is_place_decides tile_columns tile_rows (tile_column + 1) tile_row).1 (more, in_tile_row))))
 
-      -- behind the last column it is the first one of the line below
-      pub down : columns ≤ column + 1 → left_at columns lines column line ≡ it ∷ left_at columns lines 0 (line + 1)
+      -- behind the last tile column it is the first one of the tile row below
+      pub down : tile_columns ≤ tile_column + 1 → left_at tile_columns tile_rows tile_column tile_row ≡ it ∷ left_at tile_columns tile_rows 0 (tile_row + 1)
       down last =
-          let e : k + 1 ≡ (line + 1) * columns + 0 = let up : line + 1 ≡ suc line = omega arith in omega (arith, suc-mul line columns, ap (λ l. l * columns) up, last, in_column) in
-          first ∙ ap (λ n. it ∷ drop n all) e ∙ ap (λ ws. it ∷ ws) (sym (elim (cases_lt (line + 1) lines) [
-            | inl more ↦ cond-true (is_place columns lines 0 (line + 1)) _ _ ((is_place_decides columns lines 0 (line + 1)).1 (omega (arith, in_column), more))
-            | inr none ↦ cond-false (is_place columns lines 0 (line + 1)) _ _ (false_from_ne_true (is_place columns lines 0 (line + 1)) (λ h. absurd (omega (arith, none, ((is_place_decides columns lines 0 (line + 1)).0 h).1)))) ∙ sym (drop_all ((line + 1) * columns + 0) all (past none))
+          let e : k + 1 ≡ (tile_row + 1) * tile_columns + 0 = let up : tile_row + 1 ≡ suc tile_row = omega arith in omega (arith, suc-mul tile_row tile_columns, ap (λ l. l * tile_columns) up, last, in_tile_column) in
+          first ∙ ap (λ n. it ∷ drop n all) e ∙ ap (λ ws. it ∷ ws) (sym (elim (cases_lt (tile_row + 1) tile_rows) [
+            | inl more ↦ cond-true (is_place tile_columns tile_rows 0 (tile_row + 1)) _ _ ((is_place_decides tile_columns tile_rows 0 (tile_row + 1)).1 (omega (arith, in_tile_column), more))
+            | inr none ↦ cond-false (is_place tile_columns tile_rows 0 (tile_row + 1)) _ _ (false_from_ne_true (is_place tile_columns tile_rows 0 (tile_row + 1)) (λ h. absurd (omega (arith, none, ((is_place_decides tile_columns tile_rows 0 (tile_row + 1)).0 h).1)))) ∙ sym (drop_all ((tile_row + 1) * tile_columns + 0) all (past none))
           ]))
         where
-          past : lines ≤ line + 1 → length all ≤ (line + 1) * columns + 0
-          past none = let same : lines ≡ line + 1 = omega (arith, none, in_line) in omega (arith, length-all, ap (λ l. l * columns) same)
+          past : tile_rows ≤ tile_row + 1 → length all ≤ (tile_row + 1) * tile_columns + 0
+          past none = let same : tile_rows ≡ tile_row + 1 = omega (arith, none, in_tile_row) in omega (arith, length-all, ap (λ l. l * tile_columns) same)
 
 -- the windows that are left are the next one and those behind it
 pub goes_on : (t : Tiling) → has_tile t ≡ true → windows_left t ≡ tile_now t ∷ windows_left (stepped t)
 unfolding windows_left
 goes_on t here =
-    elim (cases_lt (t.column + 1) t.columns) [
-      | inl more ↦ let to : goes_right t ≡ true = lt-ltb (t.column + 1) t.columns more in
-          right t.width t.height t.tile_width t.tile_height t.wide t.high t.columns t.lines t.columns_are t.lines_are t.column t.line here more
-          ∙ ap (λ ws. tile_now t ∷ ws) (sym (ap₂ (λ i j. left t i j) (cond-true (goes_right t) (t.column + 1) 0 to) (cond-true (goes_right t) t.line (t.line + 1) to)))
-      | inr last ↦ let to : goes_right t ≡ false = false_from_ne_true (goes_right t) (λ h. absurd (omega (arith, last, ltb-true (t.column + 1) t.columns h))) in
-          down t.width t.height t.tile_width t.tile_height t.wide t.high t.columns t.lines t.columns_are t.lines_are t.column t.line here last
-          ∙ ap (λ ws. tile_now t ∷ ws) (sym (ap₂ (λ i j. left t i j) (cond-false (goes_right t) (t.column + 1) 0 to) (cond-false (goes_right t) t.line (t.line + 1) to)))
+    elim (cases_lt (t.tile_column + 1) t.tile_columns) [
+      | inl more ↦ let to : goes_right t ≡ true = lt-ltb (t.tile_column + 1) t.tile_columns more in
+          right t.width t.height t.tile_width t.tile_height t.wide t.high t.tile_columns t.tile_rows t.tile_columns_are t.tile_rows_are t.tile_column t.tile_row here more
+          ∙ ap (λ ws. tile_now t ∷ ws) (sym (ap₂ (λ i j. left t i j) (cond-true (goes_right t) (t.tile_column + 1) 0 to) (cond-true (goes_right t) t.tile_row (t.tile_row + 1) to)))
+      | inr last ↦ let to : goes_right t ≡ false = false_from_ne_true (goes_right t) (λ h. absurd (omega (arith, last, ltb-true (t.tile_column + 1) t.tile_columns h))) in
+          down t.width t.height t.tile_width t.tile_height t.wide t.high t.tile_columns t.tile_rows t.tile_columns_are t.tile_rows_are t.tile_column t.tile_row here last
+          ∙ ap (λ ws. tile_now t ∷ ws) (sym (ap₂ (λ i j. left t i j) (cond-false (goes_right t) (t.tile_column + 1) 0 to) (cond-false (goes_right t) t.tile_row (t.tile_row + 1) to)))
     ]
   where
     left : Tiling → ℕ → ℕ → List Window
-    left t i j = if is_place t.columns t.lines i j then drop (j * t.columns + i) (tiles t.width t.height t.tile_width t.tile_height) else []
+    left t i j = if is_place t.tile_columns t.tile_rows i j then drop (j * t.tile_columns + i) (tiles t.width t.height t.tile_width t.tile_height) else []
 
 -- where none is left, the list is empty
 pub at_end : (t : Tiling) → has_tile t ≡ false → windows_left t ≡ []
@@ -157,10 +157,10 @@ one_at_least (suc n) t = omega arith
 
 -- ---- how many are left
 
--- so many are left: those of the lines below, and the others of this line
-pub counted : (t : Tiling) → has_tile t ≡ true → length (windows_left t) ≡ (t.lines - t.line - 1) * t.columns + (t.columns - t.column)
+-- so many are left: those of the tile rows below, and the others of this tile row
+pub counted : (t : Tiling) → has_tile t ≡ true → length (windows_left t) ≡ (t.tile_rows - t.tile_row - 1) * t.tile_columns + (t.tile_columns - t.tile_column)
 unfolding windows_left
-counted t here = count t.width t.height t.tile_width t.tile_height t.wide t.high t.columns t.lines t.columns_are t.lines_are t.column t.line here
+counted t here = count t.width t.height t.tile_width t.tile_height t.wide t.high t.tile_columns t.tile_rows t.tile_columns_are t.tile_rows_are t.tile_column t.tile_row here
 
 -- a checked sum is the number of the list where it fits
 pub sum_is : (o : Option ℕ) (n m len : ℕ) → SomeIff o (n + m < 2 ^ 64) (n + m) → len ≡ n + m → IfSome o (λ k. k ≡ len)
@@ -172,13 +172,13 @@ sum_past None n m len so is none = elim (cases_lt (n + m) (2 ^ 64)) [ inl below 
 sum_past (Some k) n m len so is none = absurd (none-some k (sym none))
 
 -- no more are left than there are
-pub few_left : (t : Tiling) → length (windows_left t) ≤ t.lines * t.columns
+pub few_left : (t : Tiling) → length (windows_left t) ≤ t.tile_rows * t.tile_columns
 unfolding windows_left
 few_left t =
     let all = tiles t.width t.height t.tile_width t.tile_height in
-    let k : ℕ = t.line * t.columns + t.column in
-    let long : length all ≡ t.lines * t.columns = length-all t.width t.height t.tile_width t.tile_height t.wide t.high t.columns t.lines t.columns_are t.lines_are in
-    either (has_tile t) (drop k all) (t.lines * t.columns) (omega (arith, length-drop k all, long))
+    let k : ℕ = t.tile_row * t.tile_columns + t.tile_column in
+    let long : length all ≡ t.tile_rows * t.tile_columns = length-all t.width t.height t.tile_width t.tile_height t.wide t.high t.tile_columns t.tile_rows t.tile_columns_are t.tile_rows_are in
+    either (has_tile t) (drop k all) (t.tile_rows * t.tile_columns) (omega (arith, length-drop k all, long))
   where
     either : (b : Bool) (ws : List Window) (n : ℕ) → length ws ≤ n → length (if b then ws else []) ≤ n
     either true ws n few = few
@@ -187,15 +187,15 @@ few_left t =
 -- those of a size below 2 ^ 32 can be counted
 pub countable : (t : Tiling) → t.width < 2 ^ 32 → t.height < 2 ^ 32 → length (windows_left t) < 2 ^ 64
 countable t narrow low =
-    let lines : t.lines ≤ 4294967295 = omega (arith, low, t.few_lines) in
-    let columns : t.columns ≤ 4294967295 = omega (arith, narrow, t.few_columns) in
-    let product : t.lines * t.columns ≤ 4294967295 * 4294967295 = mul-le-mul lines columns in
+    let tile_rows : t.tile_rows ≤ 4294967295 = omega (arith, low, t.few_tile_rows) in
+    let tile_columns : t.tile_columns ≤ 4294967295 = omega (arith, narrow, t.few_tile_columns) in
+    let product : t.tile_rows * t.tile_columns ≤ 4294967295 * 4294967295 = mul-le-mul tile_rows tile_columns in
     omega (arith, few_left t, product)
 
 -- where some are left, the next one is
 pub some_left : (t : Tiling) → 0 < length (windows_left t) → has_tile t ≡ true
 unfolding windows_left
-some_left t some = either (has_tile t) (drop (t.line * t.columns + t.column) (tiles t.width t.height t.tile_width t.tile_height)) some
+some_left t some = either (has_tile t) (drop (t.tile_row * t.tile_columns + t.tile_column) (tiles t.width t.height t.tile_width t.tile_height)) some
   where
     either : (b : Bool) (ws : List Window) → 0 < length (if b then ws else []) → b ≡ true
     either true ws some = refl

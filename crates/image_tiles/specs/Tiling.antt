@@ -14,20 +14,20 @@ tiling_height t = t.height
 
 -- whether a tile is left
 abbrev pub has_tile : Tiling → Bool
-has_tile t = is_place t.columns t.lines t.column t.line
+has_tile t = is_place t.tile_columns t.tile_rows t.tile_column t.tile_row
 
--- the windows of a tiling that are left: those from its column of its line on
+-- the windows of a tiling that are left: those from its tile column of its tile row on
 unfoldable pub windows_left : Tiling → List Window
-windows_left t = if has_tile t then drop (t.line * t.columns + t.column) (tiles t.width t.height t.tile_width t.tile_height) else []
+windows_left t = if has_tile t then drop (t.tile_row * t.tile_columns + t.tile_column) (tiles t.width t.height t.tile_width t.tile_height) else []
 
 -- the next window of a tiling
 abbrev pub tile_now : Tiling → Window
-tile_now t = tile t.width t.height t.tile_width t.tile_height t.column t.line
+tile_now t = tile t.width t.height t.tile_width t.tile_height t.tile_column t.tile_row
 
--- whether another tile stands behind the next one in its line
+-- whether another tile stands behind the next one in its tile row
 abbrev pub goes_right : Tiling → Bool
-goes_right t = nat_lt (t.column + 1) t.columns
+goes_right t = nat_lt (t.tile_column + 1) t.tile_columns
 
--- a tiling after one more window: at the column behind, or at the first one of the line below
+-- a tiling after one more window: at the tile column behind, or at the first one of the tile row below
 abbrev pub stepped : Tiling → Tiling
-stepped t = record t { column = if goes_right t then t.column + 1 else 0; line = if goes_right t then t.line else t.line + 1 }
+stepped t = record t { tile_column = if goes_right t then t.tile_column + 1 else 0; tile_row = if goes_right t then t.tile_row else t.tile_row + 1 }

@@ -55,7 +55,7 @@ impl<C: AsMutSlice> TileCursor<C> {
     }
 
     /// How many tiles are left: 0 once the image no longer fits.
-    pub fn left(&self) -> usize
+    pub fn remaining(&self) -> usize
         ensures value { result ≡ length (tiles_left C.AsSlice.cells self.now) }
         ensures some { 0 < result → IsTrue (has_tile (tiling_of self.now)) }
         ensures fits { 0 < result → Fits (layout_by C.AsSlice.cells (image_of self.now)) }
@@ -71,11 +71,11 @@ impl<C: AsMutSlice> TileCursor<C> {
     /// The next tile as its cells and its shape, from which `from_parts` makes it.
     ///
     /// For a caller that is itself proved and says what its writes leave, as `window_parts_mut`: test
-    /// first by `left`, then pass the cells to a function of its own.
+    /// first by `remaining`, then pass the cells to a function of its own.
     ///
     /// # Requires
     ///
-    /// The image fits and a tile is left: `left()` isn't 0.
+    /// The image fits and a tile is left: `remaining()` isn't 0.
     pub fn next_parts(&mut self) -> (&mut [C::Item], Shape)
         requires fits { Fits (layout_by C.AsSlice.cells (image_of self.old)) }
         requires more { IsTrue (has_tile (tiling_of self.old)) }
@@ -116,7 +116,7 @@ impl<C: AsMutSlice> TileCursor<C> {
         ensures some { 0 < result.1 → IsTrue (has_tile (tiling_of self.old)) }
         ensures fits { 0 < result.1 → Fits (layout_by C.AsSlice.cells (image_of self.old)) }
     {
-        let left = self.left();
+        let left = self.remaining();
         (self, left)
     }
 

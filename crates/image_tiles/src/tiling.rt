@@ -29,18 +29,18 @@ pub struct Tiling {
     height: usize,
     tile_width: usize,
     tile_height: usize,
-    // How many tiles stand in a line, and how many lines there are.
-    columns: usize,
-    lines: usize,
+    // How many tiles stand side by side, and how many tile rows there are.
+    tile_columns: usize,
+    tile_rows: usize,
     // Where the next tile stands: counted in tiles, so that no sum of corners can wrap.
-    column: usize,
-    line: usize,
+    tile_column: usize,
+    tile_row: usize,
     ghost wide: { 0 < tile_width },
     ghost high: { 0 < tile_height },
-    ghost columns_are: { columns ≡ tile_count tile_width width },
-    ghost lines_are: { lines ≡ tile_count tile_height height },
-    ghost few_columns: { columns ≤ width },
-    ghost few_lines: { lines ≤ height },
+    ghost tile_columns_are: { tile_columns ≡ tile_count tile_width width },
+    ghost tile_rows_are: { tile_rows ≡ tile_count tile_height height },
+    ghost few_tile_columns: { tile_columns ≤ width },
+    ghost few_tile_rows: { tile_rows ≤ height },
 }
 
 impl Tiling {
@@ -67,10 +67,10 @@ impl Tiling {
             height,
             tile_width,
             tile_height,
-            columns: tiles_along(width, tile_width),
-            lines: tiles_along(height, tile_height),
-            column: 0,
-            line: 0,
+            tile_columns: tiles_along(width, tile_width),
+            tile_rows: tiles_along(height, tile_height),
+            tile_column: 0,
+            tile_row: 0,
         }
     }
 
@@ -93,7 +93,7 @@ impl Tiling {
         ensures value { result ≡ has_tile self.now }
         ensures none { IsTrue (not result) → windows_left self.now ≡ [] }
     {
-        self.column < self.columns && self.line < self.lines
+        self.tile_column < self.tile_columns && self.tile_row < self.tile_rows
     }
 
     // The next window.
@@ -103,8 +103,8 @@ impl Tiling {
         ensures some_width { 0 < result.width }
         ensures some_height { 0 < result.height }
     {
-        let left = self.column * self.tile_width;
-        let top = self.line * self.tile_height;
+        let left = self.tile_column * self.tile_width;
+        let top = self.tile_row * self.tile_height;
         let width = self.tile_width.min(self.width - left);
         let height = self.tile_height.min(self.height - top);
         Window::new(left, top, width, height)
@@ -115,11 +115,11 @@ impl Tiling {
         requires more { IsTrue (has_tile self.old) }
         ensures { self.new ≡ stepped self.old }
     {
-        if self.column + 1 < self.columns {
-            self.column += 1;
+        if self.tile_column + 1 < self.tile_columns {
+            self.tile_column += 1;
         } else {
-            self.column = 0;
-            self.line += 1;
+            self.tile_column = 0;
+            self.tile_row += 1;
         }
     }
 
@@ -147,9 +147,9 @@ impl Tiling {
         if !self.has_more() {
             return Some(0);
         }
-        let below = self.lines - self.line - 1;
-        match below.checked_mul(self.columns) {
-            Some(others) => others.checked_add(self.columns - self.column),
+        let below = self.tile_rows - self.tile_row - 1;
+        match below.checked_mul(self.tile_columns) {
+            Some(others) => others.checked_add(self.tile_columns - self.tile_column),
             None => None,
         }
     }

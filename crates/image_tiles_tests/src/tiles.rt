@@ -36,7 +36,7 @@ fn tiles_are_lent_one_after_the_other(rt: HostRuntime) {
     let mut value = 0u8;
     for due in sizes {
         assert!(rt;
-            tiles.left() == left && mark(&mut tiles, value) == due,
+            tiles.remaining() == left && mark(&mut tiles, value) == due,
             "tile {value}"
         );
         left = left.saturating_sub(1);
@@ -72,7 +72,7 @@ fn tiles_of_other_sizes_are_lent(rt: HostRuntime) {
         assert!(rt; image.is_valid() && size > 0);
         let mut tiles = TilesMut::new(image, size, size);
         assert!(rt;
-            tiles.left() == left && mark(&mut tiles, 0) == Some(first),
+            tiles.remaining() == left && mark(&mut tiles, 0) == Some(first),
             "{size}"
         );
         assert!(rt; mark(&mut tiles, 1).is_some() == (left > 1), "{size}");
@@ -85,7 +85,7 @@ fn an_image_with_no_pixel_has_no_tile(rt: HostRuntime) {
     let narrow: ImgRefMut<'_, u8> = Img::new_stride(cells.as_mut_slice(), 0, 2, 1);
     assert!(rt; narrow.is_valid());
     let mut tiles = TilesMut::new(narrow, 1, 1);
-    assert!(rt; mark(&mut tiles, 0) == None && tiles.left() == 0);
+    assert!(rt; mark(&mut tiles, 0) == None && tiles.remaining() == 0);
 }
 
 #[test]
@@ -94,7 +94,7 @@ fn pixels_of_no_size_have_tiles(rt: HostRuntime) {
     let image: ImgRefMut<'_, ()> = Img::new_stride(cells.as_mut_slice(), 2, 2, 3);
     assert!(rt; image.is_valid());
     let mut tiles = TilesMut::new(image, 1, 2);
-    assert!(rt; tiles.left() == 2);
+    assert!(rt; tiles.remaining() == 2);
     assert!(rt; tiles.next_tile().is_some() && tiles.next_tile().is_some());
     assert!(rt; tiles.next_tile().is_none());
 }

@@ -13,7 +13,7 @@ pub fn darken_lent_tiles(image: &mut ImgVec<u8>)
     requires { Fits (vec_layout image.old) }
 {
     let mut tiles = TilesMut::new(image.as_mut(), 8, 8);
-    for _ in 0..tiles.left() {
+    for _ in 0..tiles.remaining() {
         let Some(mut tile) = tiles.next_tile() else {
             return;
         };

@@ -33,7 +33,7 @@ fn flatten_rest<T: Copy>(tiles: &mut TilesMut<'_, T>)
     ensures grid { grid_of (mut_layout (image_of tiles.new)) ≡ all_flattened (grid_of (mut_layout (image_of tiles.old))) (windows_left (tiling_of tiles.old)) }
     ensures outside { SameOutside (mut_layout (image_of tiles.old)) (mut_layout (image_of tiles.new)) }
 {
-    while tiles.left() > 0 {
+    while tiles.remaining() > 0 {
         let (cells, shape) = tiles.next_parts();
         flatten(cells, shape);
     }

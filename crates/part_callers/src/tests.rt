@@ -31,11 +31,11 @@ fn tiles_are_filled_one_by_one(rt: HostRuntime) -> Result<(), Fail> {
     let image: ImgRefMut<'_, u8> = ImgRefMut::new_stride(cells.as_mut_slice(), 3, 2, 4);
     assert!(rt; image.is_valid());
     let mut tiles = TilesMut::new(image, 2, 1);
-    assert!(rt; tiles.left() > 0);
+    assert!(rt; tiles.remaining() > 0);
     fill_next_tile(&mut tiles, 0);
-    assert!(rt; tiles.left() > 0);
+    assert!(rt; tiles.remaining() > 0);
     fill_next_tile(&mut tiles, 7);
-    assert!(rt; tiles.left() == 2);
+    assert!(rt; tiles.remaining() == 2);
     assert_eq!(rt; cells, [0, 0, 7, 4, 5, 6, 7, 8, 9]);
     Ok(())
 }

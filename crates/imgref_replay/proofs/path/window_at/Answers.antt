@@ -9,28 +9,17 @@ use Rattle.imgref.specs.Shape.{shape_width, shape_stride}
 use Rattle.imgref.specs.Window.{as_path}
 use Rattle.imgref_replay.proofs.path.window_at.Goals as goal
 
-pub returns-clause-corner : goal.returns-clause-corner
-returns-clause-corner g c =
-    let l = ref_layout c.args.img in
-    let path = as_path c.args.path.now in
-    let wide : l.width ≤ l.stride = subst (λ s. shape_width s ≤ shape_stride s) c.into_parts.ensures.shape c.in_ok-stretch.ensures.holds_width in
-    let inside : first_outside l.width l.height path ≡ None = search rules in
-    (path_has l path wide c.requires.fits inside).begins
-
-pub returns-clause-fits : goal.returns-clause-fits
-returns-clause-fits g c =
+pub returns : goal.returns
+returns g c =
     let l = ref_layout c.args.img in
     let path = as_path c.args.path.now in
     let wide : l.width ≤ l.stride = subst (λ s. shape_width s ≤ shape_stride s) c.into_parts.ensures.shape c.in_ok-stretch.ensures.holds_width in
     let inside : first_outside l.width l.height path ≡ None = search rules in
     let is : ref_layout c.from_parts.result ≡ path_layout l path = search rules in
-    subst (λ out. Fits out) (sym is) (path_fits l path wide c.requires.fits inside)
-
-pub returns-clause-view : goal.returns-clause-view
-returns-clause-view g c =
-    let l = ref_layout c.args.img in
-    let path = as_path c.args.path.now in
-    let wide : l.width ≤ l.stride = subst (λ s. shape_width s ≤ shape_stride s) c.into_parts.ensures.shape c.in_ok-stretch.ensures.holds_width in
-    let inside : first_outside l.width l.height path ≡ None = search rules in
-    let is : ref_layout c.from_parts.result ≡ path_layout l path = search rules in
-    ap grid_of is ∙ path_grid l path wide c.requires.fits inside
+    record {
+      outside = search rules;
+      layout = search rules;
+      corner = (path_has l path wide c.requires.fits inside).begins;
+      fits = subst (λ out. Fits out) (sym is) (path_fits l path wide c.requires.fits inside);
+      view = ap grid_of is ∙ path_grid l path wide c.requires.fits inside;
+    }
