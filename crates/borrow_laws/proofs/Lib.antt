@@ -7,3 +7,4 @@ pub mod Stretches
 pub mod Bodies
 pub mod Declared
 pub mod Followed
+pub mod Tests

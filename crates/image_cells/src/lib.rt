@@ -19,4 +19,4 @@ pub use equality::are_equal;
 pub use hashing::hash_pixels;
 pub use pairs::agree_at_places;
 pub use rows::{row, row_start};
-pub use windows::{roomy_part, roomy_stretch_mut};
+pub use windows::{padded_part, padded_stretch_mut};

@@ -3,7 +3,7 @@
 ghost use Rattle.std.specs.Prelude.{◌≡◌, length};
 ghost use Rattle.image_model.specs.Layout.{Fits};
 ghost use Rattle.image_model.specs.Grid.{grid_of};
-ghost use Rattle.image_model.specs.Windows.{window_view, IsInside, IsWithin, roomy_stretch, roomy_window, stretch_cells};
+ghost use Rattle.image_model.specs.Windows.{window_view, IsInside, IsWithin, padded_stretch, padded_window, stretch_cells};
 ghost use Rattle.image_shape.specs.Shape.{shape_width, shape_height, shape_stride, shaped_grid, shaped};
 ghost use Rattle.image_shape.specs.Window.{as_window, as_stretch};
 
@@ -11,10 +11,10 @@ use image_shape::{Shape, Stretch, Window};
 
 /// The cells and the shape of a window: whole strides where the cells have them. They fit the
 /// shape, and the window is inside it.
-pub fn roomy_part<T>(cells: &[T], shape: Shape, window: Window) -> (&[T], Shape)
+pub fn padded_part<T>(cells: &[T], shape: Shape, window: Window) -> (&[T], Shape)
     requires fits { Fits (shaped cells.now shape) }
     requires inside { IsInside (shape_width shape) (shape_height shape) (as_window window) }
-    ensures layout { shaped result.0.now result.1 ≡ roomy_window (shaped cells.now shape) (as_window window) }
+    ensures layout { shaped result.0.now result.1 ≡ padded_window (shaped cells.now shape) (as_window window) }
     ensures fits { Fits (shaped result.0.now result.1) }
     ensures view { shaped_grid result.0.now result.1 ≡ window_view (shaped_grid cells.now shape) (as_window window) }
 {
@@ -27,7 +27,7 @@ pub fn roomy_part<T>(cells: &[T], shape: Shape, window: Window) -> (&[T], Shape)
 
 /// The cells as they were lent, and the stretch and the shape of a window of them: whole strides
 /// where the cells have them. They fit the shape, and the window is inside it.
-pub fn roomy_stretch_mut<T>(
+pub fn padded_stretch_mut<T>(
     cells: &mut [T],
     shape: Shape,
     window: Window,
@@ -36,10 +36,10 @@ pub fn roomy_stretch_mut<T>(
     requires inside { IsInside (shape_width shape) (shape_height shape) (as_window window) }
     ensures cells { result.0 ≡ cells.entry }
     ensures room { IsWithin (length cells.old) (as_stretch result.1) }
-    ensures stretch { as_stretch result.1 ≡ roomy_stretch (length cells.old) (shape_stride shape) (as_window window) }
-    ensures layout { shaped (stretch_cells cells.old (as_stretch result.1)) result.2 ≡ roomy_window (shaped cells.old shape) (as_window window) }
-    ensures fits { Fits (roomy_window (shaped cells.old shape) (as_window window)) }
-    ensures view { grid_of (roomy_window (shaped cells.old shape) (as_window window)) ≡ window_view (shaped_grid cells.old shape) (as_window window) }
+    ensures stretch { as_stretch result.1 ≡ padded_stretch (length cells.old) (shape_stride shape) (as_window window) }
+    ensures layout { shaped (stretch_cells cells.old (as_stretch result.1)) result.2 ≡ padded_window (shaped cells.old shape) (as_window window) }
+    ensures fits { Fits (padded_window (shaped cells.old shape) (as_window window)) }
+    ensures view { grid_of (padded_window (shaped cells.old shape) (as_window window)) ≡ window_view (shaped_grid cells.old shape) (as_window window) }
 {
     let stretch = shape.stretch(true, cells.len(), window);
     (cells, stretch, shape.window(window))

@@ -6,10 +6,10 @@ use Rattle.std.specs.Prelude.{nat_eq}
 use Rattle.image_model.specs.Layout.{Layout, layout, is_fitting, cell_of, pixel}
 use Rattle.image_model.specs.Grid.{grid_of, patch, uniform, view}
 use Rattle.image_model.specs.Rows.{rows, row, joined_rows, pixels, grid_rows, grid_pixels, grid_joined_rows}
-use Rattle.image_model.specs.Windows.{window, is_inside, window_view, exact_window, roomy_window, with_stretch, stretch_cells, first_outside, path_window, path_stretch, whole, path_layout, path_view}
+use Rattle.image_model.specs.Windows.{window, is_inside, window_view, exact_window, padded_window, with_stretch, stretch_cells, first_outside, path_window, path_stretch, whole, path_layout, path_view}
 use Rattle.image_model.specs.Shifts.{shifted, rows_compacted, rows_moved, MovesRows, IsCellOf}
 use Rattle.image_model.specs.Alike.{is_alike, fed_by}
-use Rattle.image_model.specs.Kept.{IsPacked}
+use Rattle.image_model.specs.Compaction.{IsPacked}
 use Rattle.image_model.specs.Tiles.{tiles, tile_start}
 
 -- ---- three images
@@ -89,7 +89,7 @@ one_pixel_fits : is_fitting (image (5 ∷ []) 1 1 (2 ^ 64 - 1)) ≡ true
 one_pixel_fits = refl
 
 -- its window has that one cell
-one_pixel_window : (roomy_window (image (5 ∷ []) 1 1 (2 ^ 64 - 1)) (window 0 0 1 1)).cells ≡ 5 ∷ []
+one_pixel_window : (padded_window (image (5 ∷ []) 1 1 (2 ^ 64 - 1)) (window 0 0 1 1)).cells ≡ 5 ∷ []
 one_pixel_window = refl
 
 -- two rows at that stride don't fit into one cell
@@ -107,7 +107,7 @@ empty_fits = refl
 -- ---- windows
 
 -- whole strides where the parent has them
-whole_strides : (roomy_window padded (window 0 1 3 1)).cells ≡ 5 ∷ 6 ∷ 7 ∷ 8 ∷ []
+whole_strides : (padded_window padded (window 0 1 3 1)).cells ≡ 5 ∷ 6 ∷ 7 ∷ 8 ∷ []
 whole_strides = refl
 
 -- exact, up to the last pixel
@@ -115,7 +115,7 @@ to_the_last_pixel : (exact_window padded (window 0 1 3 1)).cells ≡ 5 ∷ 6 ∷
 to_the_last_pixel = refl
 
 -- a window of two rows with whole strides
-two_rows : (roomy_window padded (window 1 0 2 2)).cells ≡ 2 ∷ 3 ∷ 4 ∷ 5 ∷ 6 ∷ 7 ∷ 8 ∷ 9 ∷ []
+two_rows : (padded_window padded (window 1 0 2 2)).cells ≡ 2 ∷ 3 ∷ 4 ∷ 5 ∷ 6 ∷ 7 ∷ 8 ∷ 9 ∷ []
 two_rows = refl
 
 -- the same, exact
@@ -128,14 +128,14 @@ unfolding view grid_of
 two_rows_view = refl
 
 -- where the parent lacks the last whole stride the window is exact
-stride_lacking : (roomy_window exact (window 1 1 2 2)).cells ≡ 5 ∷ 6 ∷ 0 ∷ 7 ∷ 8 ∷ 9 ∷ []
+stride_lacking : (padded_window exact (window 1 1 2 2)).cells ≡ 5 ∷ 6 ∷ 0 ∷ 7 ∷ 8 ∷ 9 ∷ []
 stride_lacking = refl
 
 -- the empty window at the lower edge is inside, and has no cell
 edge_inside : is_inside 2 2 (window 0 2 1 0) ≡ true
 edge_inside = refl
 
-edge_empty : (roomy_window (image (1 ∷ 2 ∷ 3 ∷ 4 ∷ 5 ∷ []) 2 2 3) (window 0 2 1 0)).cells ≡ []
+edge_empty : (padded_window (image (1 ∷ 2 ∷ 3 ∷ 4 ∷ 5 ∷ []) 2 2 3) (window 0 2 1 0)).cells ≡ []
 edge_empty = refl
 
 -- numbers near the greatest are outside

@@ -1,3 +1,4 @@
+pub mod Tables
 pub mod Cells
 pub mod Places
 pub mod Grids
@@ -8,7 +9,7 @@ pub mod OneRow
 pub mod Rows
 pub mod Patches
 pub mod Pixels
-pub mod Kept
+pub mod Compaction
 pub mod Agreement
 pub mod Shifts
 pub mod Alike

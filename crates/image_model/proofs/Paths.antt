@@ -8,10 +8,10 @@ use Rattle.std.proofs.lemmas.Bool.{cond-true}
 use Rattle.std.proofs.Math.Nat.{mul-add}
 use Rattle.image_model.specs.Layout.{Layout, layout, Fits}
 use Rattle.image_model.specs.Grid.{Grid, grid_of, view, patch, uniform}
-use Rattle.image_model.specs.Windows.{Window, window, IsInside, is_inside, window_view, Stretch, roomy_stretch, roomy_window, stretch_cells, first_outside, corner_left, corner_top, path_width, path_height, path_window, path_view, stretch_within, path_stretch, whole, path_layout}
+use Rattle.image_model.specs.Windows.{Window, window, IsInside, is_inside, window_view, Stretch, padded_stretch, padded_window, stretch_cells, first_outside, corner_left, corner_top, path_width, path_height, path_window, path_view, stretch_within, path_stretch, whole, path_layout}
 use Rattle.image_model.proofs.Grids.{at_place, same_grids}
 use Rattle.image_model.proofs.Stretches.{length-stretch_cells, stretch_cells-within}
-use Rattle.image_model.proofs.Windows.{is_inside_decides, HasWindow, roomy_has, roomy_fits, roomy_grid, window_fits, window_grid}
+use Rattle.image_model.proofs.Windows.{is_inside_decides, HasWindow, padded_has, padded_fits, padded_grid, window_fits, window_grid}
 
 -- ---- one window in another
 
@@ -36,11 +36,11 @@ nested_inside width height v w outer inner = (omega (arith, outer, inner), omega
 nested_nested : (u v w : Window) → nested (nested u v) w ≡ nested u (nested v w)
 nested_nested u v w = λ i. window (add_assoc u.left v.left w.left i) (add_assoc u.top v.top w.top i) w.width w.height
 
--- the roomy stretch of a window's cells has the window's window
+-- the padded stretch of a window's cells has the window's window
 pub nested_has : (count stride : ℕ) (v w : Window) (s : Stretch) → v.width ≤ stride → HasWindow count stride v s → IsInside v.width v.height w
-    → HasWindow count stride (nested v w) (stretch_within s (roomy_stretch s.len stride w))
+    → HasWindow count stride (nested v w) (stretch_within s (padded_stretch s.len stride w))
 nested_has count stride v w s wide has inside =
-    let inner = roomy_has s.len stride v.width v.height w wide has.reaches inside in
+    let inner = padded_has s.len stride v.width v.height w wide has.reaches inside in
     record {
       begins = λ column line. omega (arith, inside, has.begins (omega (arith, inside)) (omega (arith, inside)), inner.begins column line, mul-add stride v.top w.top);
       reaches = inner.reaches;
@@ -49,12 +49,12 @@ nested_has count stride v w s wide has inside =
 
 -- a window of a window shows what the one window at the summed corner shows
 pub nested_grid : {T : Type 0} (l : Layout T) (v w : Window) → l.width ≤ l.stride → Fits l → IsInside l.width l.height v → IsInside v.width v.height w
-    → grid_of (roomy_window (roomy_window l v) w) ≡ grid_of (roomy_window l (nested v w))
+    → grid_of (padded_window (padded_window l v) w) ≡ grid_of (padded_window l (nested v w))
 nested_grid l v w wide fits outer inner =
-    roomy_grid (roomy_window l v) w (omega (arith, outer)) (roomy_fits l v wide fits outer) inner
-    ∙ ap (λ g. window_view g w) (roomy_grid l v wide fits outer)
+    padded_grid (padded_window l v) w (omega (arith, outer)) (padded_fits l v wide fits outer) inner
+    ∙ ap (λ g. window_view g w) (padded_grid l v wide fits outer)
     ∙ view_of_view (grid_of l) v w inner
-    ∙ sym (roomy_grid l (nested v w) wide fits (nested_inside l.width l.height v w outer inner))
+    ∙ sym (padded_grid l (nested v w) wide fits (nested_inside l.width l.height v w outer inner))
 
 -- ---- the window that a path comes to
 
@@ -100,10 +100,10 @@ has_along count stride [] v s wide has e =
     subst (λ u. HasWindow count stride u s) (sym same) has
 has_along count stride (w ∷ path) v s wide has e =
     let p = first_inside v.width v.height w path e in
-    let inner : HasWindow count stride (nested v w) (stretch_within s (roomy_stretch s.len stride w)) = nested_has count stride v w s wide has p.0 in
-    subst (λ u. HasWindow count stride u (path_stretch stride (stretch_within s (roomy_stretch s.len stride w)) path))
+    let inner : HasWindow count stride (nested v w) (stretch_within s (padded_stretch s.len stride w)) = nested_has count stride v w s wide has p.0 in
+    subst (λ u. HasWindow count stride u (path_stretch stride (stretch_within s (padded_stretch s.len stride w)) path))
     (nested_nested v w (path_window w.width w.height path) ∙ ap (nested v) (sym (path_window-cons v.width v.height w path)))
-    (has_along count stride path (nested v w) (stretch_within s (roomy_stretch s.len stride w)) (omega (arith, p.0)) inner p.1)
+    (has_along count stride path (nested v w) (stretch_within s (padded_stretch s.len stride w)) (omega (arith, p.0)) inner p.1)
 
 module _ {T : Type 0} (l : Layout T) (path : List Window) (wide : l.width ≤ l.stride) (fits : Fits l) (inside : first_outside l.width l.height path ≡ None) where
   -- the stretch of a path has its window: where that isn't empty, from the summed corner on
@@ -131,9 +131,9 @@ module _ {T : Type 0} (l : Layout T) (path : List Window) (wide : l.width ≤ l.
 -- ---- a path with one more window
 
 pub path_stretch-push : (stride : ℕ) (s : Stretch) (path : List Window) (w : Window)
-    → path_stretch stride s (path ++ w ∷ []) ≡ stretch_within (path_stretch stride s path) (roomy_stretch (path_stretch stride s path).len stride w)
+    → path_stretch stride s (path ++ w ∷ []) ≡ stretch_within (path_stretch stride s path) (padded_stretch (path_stretch stride s path).len stride w)
 path_stretch-push stride s [] w = refl
-path_stretch-push stride s (v ∷ path) w = path_stretch-push stride (stretch_within s (roomy_stretch s.len stride v)) path w
+path_stretch-push stride s (v ∷ path) w = path_stretch-push stride (stretch_within s (padded_stretch s.len stride v)) path w
 
 pub path_width-push : (width : ℕ) (path : List Window) (w : Window) → path_width width (path ++ w ∷ []) ≡ w.width
 path_width-push width [] w = refl
@@ -176,16 +176,16 @@ first_outside-stays width height (w ∷ path) rest n e =
     stays true None p n h e = absurd (none-some n e)
     stays true (Some k) p n h e = ap (option_map (λ k. k + 1)) (h k refl) ∙ e
 
--- one more window takes its roomy stretch of what the path has
+-- one more window takes its padded stretch of what the path has
 pub path_layout-push : {T : Type 0} (l : Layout T) (path : List Window) (w : Window) → l.width ≤ l.stride → Fits l → first_outside l.width l.height path ≡ None
-    → IsInside (path_width l.width path) (path_height l.height path) w → path_layout l (path ++ w ∷ []) ≡ roomy_window (path_layout l path) w
+    → IsInside (path_width l.width path) (path_height l.height path) w → path_layout l (path ++ w ∷ []) ≡ padded_window (path_layout l path) w
 path_layout-push {T} l path w wide fits e inside =
     let s : Stretch = path_stretch l.stride (whole l.cells) path in
     let has = path_has l path wide fits e in
     let all = path_inside l.width l.height path e in
-    let inner = roomy_has s.len l.stride (path_width l.width path) (path_height l.height path) w (omega (arith, all)) has.reaches inside in
-    let cells : stretch_cells l.cells (path_stretch l.stride (whole l.cells) (path ++ w ∷ [])) ≡ (roomy_window (path_layout l path) w).cells =
+    let inner = padded_has s.len l.stride (path_width l.width path) (path_height l.height path) w (omega (arith, all)) has.reaches inside in
+    let cells : stretch_cells l.cells (path_stretch l.stride (whole l.cells) (path ++ w ∷ [])) ≡ (padded_window (path_layout l path) w).cells =
     ap (stretch_cells l.cells) (path_stretch-push l.stride (whole l.cells) path w)
-    ∙ stretch_cells-within l.cells s (roomy_stretch s.len l.stride w) inner.within
-    ∙ ap (λ n. stretch_cells (stretch_cells l.cells s) (roomy_stretch n l.stride w)) (sym (length-stretch_cells l.cells s has.within)) in
+    ∙ stretch_cells-within l.cells s (padded_stretch s.len l.stride w) inner.within
+    ∙ ap (λ n. stretch_cells (stretch_cells l.cells s) (padded_stretch n l.stride w)) (sym (length-stretch_cells l.cells s has.within)) in
     λ i. layout (cells i) (path_width-push l.width path w i) (path_height-push l.height path w i) l.stride

@@ -9,7 +9,7 @@ use Rattle.std.proofs.lemmas.Nat.{same_from_place}
 use Rattle.std.proofs.Math.Nat.{mul-le-mul_left, mul-add, add-mul, mul-suc, mul_comm}
 use Rattle.image_model.specs.Layout.{Layout, layout, Reaches, Fits, cell_of, pixel, SameOutside}
 use Rattle.image_model.specs.Grid.{Grid, grid_of, covers, patch, view, uniform}
-use Rattle.image_model.specs.Windows.{Window, IsInside, is_inside, is_empty, window_view, Stretch, window_start, exact_stretch, roomy_stretch, stretch_cells, with_stretch, exact_window, roomy_window, window_stretch, window_layout, IsWithin}
+use Rattle.image_model.specs.Windows.{Window, IsInside, is_inside, is_empty, window_view, Stretch, window_start, exact_stretch, padded_stretch, stretch_cells, with_stretch, exact_window, padded_window, window_stretch, window_layout, IsWithin}
 use Rattle.image_model.proofs.Places.{reached, written}
 use Rattle.image_model.proofs.Grids.{covers_decides, pixel_at, same_grids, is_patch, patch_of_view}
 use Rattle.image_model.proofs.Stretches.{stretch_cell, length-stretch_cells, length-with_stretch, with_stretch_at, with_stretch_beside, with_stretch-set}
@@ -80,9 +80,9 @@ pub exact_has : (count stride width height : ℕ) (w : Window) → Reaches count
 exact_has count stride width height w fits inside =
     from_corner count stride w (stride * (w.height - 1) + w.width) (λ wide high. omega arith) (window_within count stride width height w fits inside)
 
--- and so has the roomy stretch
-pub roomy_has : (count stride width height : ℕ) (w : Window) → width ≤ stride → Reaches count width height stride → IsInside width height w → HasWindow count stride w (roomy_stretch count stride w)
-roomy_has count stride width height w wide fits inside =
+-- and so has the padded stretch
+pub padded_has : (count stride width height : ℕ) (w : Window) → width ≤ stride → Reaches count width height stride → IsInside width height w → HasWindow count stride w (padded_stretch count stride w)
+padded_has count stride width height w wide fits inside =
     let exact : ℕ = stride * (w.height - 1) + w.width in
     let all : ℕ = stride * w.height in
     let room : Bool = nat_le (stride * w.top + w.left + all) count in
@@ -229,11 +229,11 @@ exact_fits l w fits inside = window_fits l w (exact_stretch l.stride w) (exact_h
 pub exact_grid : {T : Type 0} (l : Layout T) (w : Window) → Fits l → IsInside l.width l.height w → grid_of (exact_window l w) ≡ window_view (grid_of l) w
 exact_grid l w fits inside = window_grid l w (exact_stretch l.stride w) (exact_has (length l.cells) l.stride l.width l.height w fits inside) inside
 
-pub roomy_fits : {T : Type 0} (l : Layout T) (w : Window) → l.width ≤ l.stride → Fits l → IsInside l.width l.height w → Fits (roomy_window l w)
-roomy_fits l w wide fits inside = window_fits l w (roomy_stretch (length l.cells) l.stride w) (roomy_has (length l.cells) l.stride l.width l.height w wide fits inside)
+pub padded_fits : {T : Type 0} (l : Layout T) (w : Window) → l.width ≤ l.stride → Fits l → IsInside l.width l.height w → Fits (padded_window l w)
+padded_fits l w wide fits inside = window_fits l w (padded_stretch (length l.cells) l.stride w) (padded_has (length l.cells) l.stride l.width l.height w wide fits inside)
 
-pub roomy_grid : {T : Type 0} (l : Layout T) (w : Window) → l.width ≤ l.stride → Fits l → IsInside l.width l.height w → grid_of (roomy_window l w) ≡ window_view (grid_of l) w
-roomy_grid l w wide fits inside = window_grid l w (roomy_stretch (length l.cells) l.stride w) (roomy_has (length l.cells) l.stride l.width l.height w wide fits inside) inside
+pub padded_grid : {T : Type 0} (l : Layout T) (w : Window) → l.width ≤ l.stride → Fits l → IsInside l.width l.height w → grid_of (padded_window l w) ≡ window_view (grid_of l) w
+padded_grid l w wide fits inside = window_grid l w (padded_stretch (length l.cells) l.stride w) (padded_has (length l.cells) l.stride l.width l.height w wide fits inside) inside
 
 -- ---- windows with either stretch
 
@@ -243,27 +243,27 @@ exact_within count stride width height w fits inside = (exact_has count stride w
 
 module _ {T : Type 0} (l : Layout T) (narrow : l.width ≤ l.stride) (fits : Fits l) (w : Window) (inside : IsInside l.width l.height w) where
   -- it fits
-  pub layout_fits : (roomy : Bool) → Fits (window_layout roomy l w)
-  layout_fits true = roomy_fits l w narrow fits inside
+  pub layout_fits : (padded : Bool) → Fits (window_layout padded l w)
+  layout_fits true = padded_fits l w narrow fits inside
   layout_fits false = exact_fits l w fits inside
 
   -- and shows the view
-  pub layout_shows : (roomy : Bool) → grid_of (window_layout roomy l w) ≡ window_view (grid_of l) w
-  layout_shows true = roomy_grid l w narrow fits inside
+  pub layout_shows : (padded : Bool) → grid_of (window_layout padded l w) ≡ window_view (grid_of l) w
+  layout_shows true = padded_grid l w narrow fits inside
   layout_shows false = exact_grid l w fits inside
 
-  pub fits_as : (roomy : Bool) (m : Layout T) → m ≡ window_layout roomy l w → Fits m
-  fits_as roomy m e = subst Fits (sym e) (layout_fits roomy)
+  pub fits_as : (padded : Bool) (m : Layout T) → m ≡ window_layout padded l w → Fits m
+  fits_as padded m e = subst Fits (sym e) (layout_fits padded)
 
-  pub shows_as : (roomy : Bool) (m : Layout T) → m ≡ window_layout roomy l w → grid_of m ≡ window_view (grid_of l) w
-  shows_as roomy m e = ap grid_of e ∙ layout_shows roomy
+  pub shows_as : (padded : Bool) (m : Layout T) → m ≡ window_layout padded l w → grid_of m ≡ window_view (grid_of l) w
+  shows_as padded m e = ap grid_of e ∙ layout_shows padded
 
 -- the cells of a window's stretch, in its size, are the window
-pub layout_is : {T : Type 0} (roomy : Bool) (l : Layout T) (w : Window) → stretch_window l w (window_stretch roomy (length l.cells) l.stride w) ≡ window_layout roomy l w
+pub layout_is : {T : Type 0} (padded : Bool) (l : Layout T) (w : Window) → stretch_window l w (window_stretch padded (length l.cells) l.stride w) ≡ window_layout padded l w
 layout_is true l w = refl
 layout_is false l w = refl
 
 -- a window that is inside has its cells, with either stretch
-pub stretch_has : (roomy : Bool) (count stride width height : ℕ) (w : Window) → width ≤ stride → Reaches count width height stride → IsInside width height w → HasWindow count stride w (window_stretch roomy count stride w)
-stretch_has true count stride width height w wide fits inside = roomy_has count stride width height w wide fits inside
+pub stretch_has : (padded : Bool) (count stride width height : ℕ) (w : Window) → width ≤ stride → Reaches count width height stride → IsInside width height w → HasWindow count stride w (window_stretch padded count stride w)
+stretch_has true count stride width height w wide fits inside = padded_has count stride width height w wide fits inside
 stretch_has false count stride width height w wide fits inside = exact_has count stride width height w fits inside

@@ -4,7 +4,7 @@ pub mod Rows
 pub mod Windows
 pub mod Shifts
 pub mod Alike
-pub mod Kept
+pub mod Compaction
 pub mod Tiles
 pub mod Mapped
 pub mod MappedRows

@@ -48,17 +48,17 @@ window_start stride w = if is_empty w then 0 else stride * w.top + w.left
 abbrev pub exact_len : ℕ → Window → ℕ
 exact_len stride w = if is_empty w then 0 else stride * (w.height - 1) + w.width
 
--- roomy: whole strides where so many cells of the parent have them, and else exact
-abbrev pub roomy_len : ℕ → ℕ → Window → ℕ
-roomy_len count stride w = if is_empty w then 0 else (if nat_le (stride * w.top + w.left + stride * w.height) count then stride * w.height else stride * (w.height - 1) + w.width)
+-- padded: whole strides where so many cells of the parent have them, and else exact
+abbrev pub padded_len : ℕ → ℕ → Window → ℕ
+padded_len count stride w = if is_empty w then 0 else (if nat_le (stride * w.top + w.left + stride * w.height) count then stride * w.height else stride * (w.height - 1) + w.width)
 
 -- the cells from the window's corner to its last pixel
 abbrev pub exact_stretch : ℕ → Window → Stretch
 exact_stretch stride w = record { start = window_start stride w; len = exact_len stride w }
 
 -- whole strides from the window's corner where the parent has them, and else the exact stretch
-abbrev pub roomy_stretch : ℕ → ℕ → Window → Stretch
-roomy_stretch count stride w = record { start = window_start stride w; len = roomy_len count stride w }
+abbrev pub padded_stretch : ℕ → ℕ → Window → Stretch
+padded_stretch count stride w = record { start = window_start stride w; len = padded_len count stride w }
 
 -- the cells of a stretch
 abbrev pub stretch_cells : {T : Type 0} → List T → Stretch → List T
@@ -73,16 +73,16 @@ abbrev pub exact_window : {T : Type 0} → Layout T → Window → Layout T
 exact_window l w = layout (stretch_cells l.cells (exact_stretch l.stride w)) w.width w.height l.stride
 
 -- the same with whole strides where the parent has them
-abbrev pub roomy_window : {T : Type 0} → Layout T → Window → Layout T
-roomy_window l w = layout (stretch_cells l.cells (roomy_stretch (length l.cells) l.stride w)) w.width w.height l.stride
+abbrev pub padded_window : {T : Type 0} → Layout T → Window → Layout T
+padded_window l w = layout (stretch_cells l.cells (padded_stretch (length l.cells) l.stride w)) w.width w.height l.stride
 
--- the stretch of a window: whole strides where the parent is roomy and has them, and else the exact one
+-- the stretch of a window: whole strides where the parent is padded and has them, and else the exact one
 abbrev pub window_stretch : Bool → ℕ → ℕ → Window → Stretch
-window_stretch roomy count stride w = if roomy then roomy_stretch count stride w else exact_stretch stride w
+window_stretch padded count stride w = if padded then padded_stretch count stride w else exact_stretch stride w
 
 -- the window with that stretch
 abbrev pub window_layout : {T : Type 0} → Bool → Layout T → Window → Layout T
-window_layout roomy l w = if roomy then roomy_window l w else exact_window l w
+window_layout padded l w = if padded then padded_window l w else exact_window l w
 
 -- a stretch lies within so many cells
 abbrev pub IsWithin : ℕ → Stretch → Type 0
@@ -125,10 +125,10 @@ path_view g path = window_view g (path_window g.width g.height path)
 abbrev pub stretch_within : Stretch → Stretch → Stretch
 stretch_within outer inner = record { start = outer.start + inner.start; len = inner.len }
 
--- the stretch that is left of one when each window in turn takes its roomy stretch of what the one before it had
+-- the stretch that is left of one when each window in turn takes its padded stretch of what the one before it had
 abbrev pub path_stretch : ℕ → Stretch → List Window → Stretch
 path_stretch stride s [] = s
-path_stretch stride s (w ∷ path) = path_stretch stride (stretch_within s (roomy_stretch s.len stride w)) path
+path_stretch stride s (w ∷ path) = path_stretch stride (stretch_within s (padded_stretch s.len stride w)) path
 
 -- all cells of a list
 abbrev pub whole : {T : Type 0} → List T → Stretch

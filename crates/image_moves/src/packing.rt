@@ -5,7 +5,7 @@ ghost use Rattle.std.specs.Vec.{vec_capacity};
 ghost use Rattle.image_model.specs.Layout.{Fits};
 ghost use Rattle.image_model.specs.Grid.{grid_of};
 ghost use Rattle.image_model.specs.Rows.{joined_rows};
-ghost use Rattle.image_model.specs.Kept.{IsPacked, packed};
+ghost use Rattle.image_model.specs.Compaction.{IsPacked, packed};
 ghost use Rattle.image_shape.specs.Shape.{shape_width, shape_height, shaped_grid, shaped};
 
 use image_shape::Shape;

@@ -41,9 +41,6 @@ module _ {X : Type 0} (l : Layout X) (wide : l.width ≤ l.stride) where
 
 -- ---- the marks of a size
 
-none_first : (w : ℕ) → first_row w 0 ≡ 0
-none_first w = refl
-
 some_first : (w h : ℕ) → first_row w (suc h) ≡ w
 some_first w h = let some : (suc h == 0) ≡ false = grind (arith, nat_tests) in ap (λ b. cond b 0 w) some
 

@@ -1,8 +1,6 @@
 -- What a step does to the marks and the cells.
 use Rattle.std.proofs.Common.{◌≡◌, ℕ, zero, suc, ◌+◌, ◌-◌, ◌*◌, ◌≤◌, ◌<◌, refl, sym, ap, ◌∙◌, true, false, List, [], ◌∷◌, ◌++◌, length, take, drop, replicate, arith}
 use mathlib.Core.Path.{ap₂}
-use lib.Dec.{T, T_not, eqb, eqb_refl}
-use mathlib.Core.Bool.{not}
 use native.Mathlib.Nat.{suc-mul, add_comm, zero-mul}
 use Rattle.std.proofs.Math.ListN.{take-append-drop, length-drop}
 use borrow.Table.Elements.{length-take-le, length_app}
@@ -44,10 +42,6 @@ module _ {X : Type 0} where
 pub skipped_in_row : (remaining pad : ℕ) → 0 < remaining → skipped remaining pad ≡ 0
 skipped_in_row zero pad h = absurd (omega (arith, h))
 skipped_in_row (suc k) pad h = refl
-
-pub one_at_least : (n : ℕ) → T (not (eqb n 0)) → 1 ≤ n
-one_at_least zero t = absurd (T_not (eqb 0 0) t (eqb_refl 0))
-one_at_least (suc n) t = omega arith
 
 pub times_one_less : (n m : ℕ) → 1 ≤ n → n * m ≡ m + (n - 1) * m
 times_one_less zero m h = absurd (omega (arith, h))

@@ -1,7 +1,5 @@
 -- The rows of a list of cells, taken off at either end.
 use Rattle.std.proofs.Common.{◌≡◌, ℕ, zero, suc, ◌+◌, ◌-◌, ◌*◌, ◌<◌, ◌≤◌, List, [], ◌∷◌, ◌++◌, All, length, get_or, take, drop, map, inl, inr, refl, sym, ap, subst, ◌∙◌, arith, suc-mul, ◌^◌}
-use lib.Dec.{T, T_not, eqb, eqb_refl}
-use mathlib.Core.Bool.{not}
 use mathlib.Core.Path.{ap₂}
 use Rattle.std.specs.List.{range_with_len}
 use Rattle.std.proofs.Math.Nat.{mul-le-mul_right, mul_comm, zero-mul}
@@ -12,25 +10,12 @@ use Rattle.std.proofs.lemmas.List.FromFn.{map-range_with_len_more, length-range_
 use Rattle.image_model.specs.Grid.{grid_of}
 use Rattle.image_model.specs.Layout.{Layout, Fits, layout}
 use Rattle.image_model.specs.Rows.{row, rows, row_count, grid_rows}
+use Rattle.image_model.proofs.Tables.{map_along}
 use Rattle.image_model.proofs.Rows.{row_stretch, row_count-wide, some_column, row_count-le, length-row, length-rows, rows_from_fits, grid_rows_of}
-
-map_along : {X : Type 0} (f g : ℕ → X) (a b n : ℕ) → ((k : ℕ) → k < n → f (a + k) ≡ g (b + k)) → map f (range_with_len a n) ≡ map g (range_with_len b n)
-map_along f g a b zero each = refl
-map_along f g a b (suc n) each =
-    let first : f a ≡ g b = let e : a ≡ a + 0 = omega arith in let e' : b + 0 ≡ b = omega arith in ap f e ∙ each 0 (omega arith) ∙ ap g e' in
-    let rest = map_along f g (a + 1) (b + 1) n (λ k below.
-    let e : a + 1 + k ≡ a + (k + 1) = omega arith in let e' : b + (k + 1) ≡ b + 1 + k = omega arith in
-    ap f e ∙ each (k + 1) (omega arith) ∙ ap g e') in
-    ap₂ (λ x xs. x ∷ xs) first rest
 
 counted_twice : (w h : ℕ) → row_count w (row_count w h) ≡ row_count w h
 counted_twice zero h = refl
 counted_twice (suc w) h = row_count-wide (suc w) (row_count (suc w) h) (omega arith)
-
--- what a test for 0 tells that fails
-pub one_at_least : (n : ℕ) → T (not (eqb n 0)) → 0 < n
-one_at_least zero t = absurd (T_not (eqb 0 0) t (eqb_refl 0))
-one_at_least (suc n) t = omega arith
 
 pub suc_times : (n s : ℕ) → 0 < n → n * s ≡ (n - 1) * s + s
 suc_times zero s some = absurd (omega (arith, some))
@@ -124,19 +109,14 @@ rows_wide l fits =
     let at : get_or (range_with_len 0 n) k d ≡ k = omega (arith, get_or-range_with_len 0 n k d number) in
     ap (λ y. length (row l y)) at ∙ wide_row l fits k number)
 
--- what an iterator gives that gives the rows of a layout
-module _ {T : Type 0} (l : Layout T) (left : List (List T)) (are : left ≡ rows l) where
-  pub rows_by_grid : left ≡ grid_rows (grid_of l)
-  rows_by_grid = are ∙ sym (grid_rows_of l)
+-- what is said of the rows of a whole layout: they are those of its grid too, counted and countable, and all as wide
+abbrev pub AreRows : {T : Type 0} → Layout T → List (List T) → Type 0
+AreRows l left = (left ≡ grid_rows (grid_of l)) × (length left ≡ row_count l.width l.height) × (length left < 2 ^ 64) × All (λ r. length r ≡ l.width) left
 
-  pub rows_number : length left ≡ row_count l.width l.height
-  rows_number = ap length are ∙ length-rows l
-
-  pub rows_countable : row_count l.width l.height < 2 ^ 32 → length left < 2 ^ 64
-  rows_countable small = omega (arith, rows_number)
-
-  pub rows_as_wide : Fits l → All (λ r. length r ≡ l.width) left
-  rows_as_wide fits = subst (All (λ r. length r ≡ l.width)) (sym are) (rows_wide l fits)
+pub are_rows : {T : Type 0} (l : Layout T) (left : List (List T)) → left ≡ rows l → row_count l.width l.height < 2 ^ 32 → Fits l → AreRows l left
+are_rows l left are small fits =
+    let number : length left ≡ row_count l.width l.height = ap length are ∙ length-rows l in
+    (are ∙ sym (grid_rows_of l), number, omega (arith, number, small), subst (All (λ r. length r ≡ l.width)) (sym are) (rows_wide l fits))
 
 -- the cells of a fitting layout reach to the end of its last row
 pub rows_reach : {T : Type 0} (l : Layout T) → Fits l → l.width ≤ l.stride → row_count l.width l.height * l.stride + l.width ≤ length l.cells + l.stride

@@ -166,15 +166,15 @@ impl Shape {
     /// The stretch of a window that lies inside, of `cells` cells that fit: whole strides where
     /// that is asked for and the cells have them, and else up to its last pixel. That of an empty
     /// window is empty.
-    pub fn stretch(&self, roomy: bool, cells: usize, window: Window) -> Stretch
+    pub fn stretch(&self, padded: bool, cells: usize, window: Window) -> Stretch
         requires fits { Reaches cells (shape_width self.now) (shape_height self.now) (shape_stride self.now) }
         requires inside { IsInside (shape_width self.now) (shape_height self.now) (as_window window) }
-        ensures value { as_stretch result ≡ window_stretch roomy cells (shape_stride self.now) (as_window window) }
+        ensures value { as_stretch result ≡ window_stretch padded cells (shape_stride self.now) (as_window window) }
         ensures inside { IsWithin cells (as_stretch result) }
         ensures holds_width { shape_width self.now ≤ shape_stride self.now }
     {
         let _width = self.width;
         let _height = self.height;
-        window.stretch(roomy, cells, self.stride)
+        window.stretch(padded, cells, self.stride)
     }
 }

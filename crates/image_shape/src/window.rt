@@ -53,10 +53,10 @@ impl Window {
     // The stretch of `cells` cells that this window has: whole strides where that is asked for and
     // the cells have them, and else up to its last pixel. An empty window has no cells, and its
     // corner is never computed: the product might not fit.
-    pub(crate) fn stretch(&self, roomy: bool, cells: usize, stride: usize) -> Stretch
+    pub(crate) fn stretch(&self, padded: bool, cells: usize, stride: usize) -> Stretch
         requires narrow { self.now.width ≤ stride }
         requires room { IsWithin cells (exact_stretch stride (as_window self.now)) }
-        ensures value { as_stretch result ≡ window_stretch roomy cells stride (as_window self.now) }
+        ensures value { as_stretch result ≡ window_stretch padded cells stride (as_window self.now) }
         ensures inside { IsWithin cells (as_stretch result) }
     {
         if self.width == 0 || self.height == 0 {
@@ -65,7 +65,7 @@ impl Window {
         let start = stride * self.top + self.left;
         let exact = stride * (self.height - 1) + self.width;
         let spare = stride - self.width;
-        let len = if roomy && cells - start - exact >= spare {
+        let len = if padded && cells - start - exact >= spare {
             exact + spare
         } else {
             exact

@@ -14,7 +14,8 @@ use Rattle.image_model.specs.Tiles.{tile, tile_count, tile_line, tiles, LiesInOn
 use Rattle.image_model.proofs.Windows.{exact_grid}
 use Rattle.image_model.proofs.Tiles.{tile_begins, tiles_cover}
 use Rattle.image_tiles.specs.Bands.{band_count, band_window, band_windows, bands}
-use Rattle.image_tiles.proofs.BandsLeft.{count_one, map_along}
+use Rattle.image_model.proofs.Tables.{map_along}
+use Rattle.image_tiles.proofs.BandsLeft.{count_one}
 
 -- lists of one item each, joined
 flat_ones : {X : Type 0} (f : ℕ → List X) (g : ℕ → X) → ((j : ℕ) → f j ≡ g j ∷ []) → (a n : ℕ) → flat_map f (range_with_len a n) ≡ map g (range_with_len a n)

@@ -14,18 +14,10 @@ use Rattle.image_model.proofs.Windows.{exact_fits}
 use Rattle.image_model.specs.Layout.{Layout, Fits, layout}
 use Rattle.image_model.specs.Tiles.{tile_count}
 use Rattle.image_model.specs.Windows.{window, is_empty, exact_window}
+use Rattle.image_model.proofs.Tables.{map_along}
 use Rattle.image_model.proofs.Tiles.{tile_begins}
 use Rattle.image_tiles.specs.declared.bands.BandsMut.{BandsMut}
 use Rattle.image_tiles.specs.Bands.{band_count, band_window, bands, bands_left}
-
-pub map_along : {X : Type 0} (f g : ℕ → X) (a b n : ℕ) → ((k : ℕ) → k < n → f (a + k) ≡ g (b + k)) → map f (range_with_len a n) ≡ map g (range_with_len b n)
-map_along f g a b zero each = refl
-map_along f g a b (suc n) each =
-    let first : f a ≡ g b = let e : a ≡ a + 0 = omega arith in let e' : b + 0 ≡ b = omega arith in ap f e ∙ each 0 (omega arith) ∙ ap g e' in
-    let rest = map_along f g (a + 1) (b + 1) n (λ k below.
-    let e : a + 1 + k ≡ a + (k + 1) = omega arith in let e' : b + (k + 1) ≡ b + 1 + k = omega arith in
-    ap f e ∙ each (k + 1) (omega arith) ∙ ap g e') in
-    ap₂ (λ x xs. x ∷ xs) first rest
 
 -- one tile more, where as many places come before the others
 count_more : (tile n : ℕ) → 0 < tile → tile_count tile (n + tile) ≡ suc (tile_count tile n)

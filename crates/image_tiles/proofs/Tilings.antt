@@ -2,8 +2,6 @@
 use Rattle.std.proofs.Common.{◌≡◌, ℕ, zero, suc, ◌+◌, ◌-◌, ◌*◌, ◌/◌, ◌%◌, ◌<◌, ◌≤◌, true, false, inl, inr, List, [], ◌∷◌, drop, length, length-drop, Option, Some, None, refl, sym, ap, ◌∙◌, subst, arith}
 use Rattle.std.specs.Prelude.{Bool, if◌then◌else◌, ◌^◌, IfSome}
 use mathlib.Core.Path.{ap₂}
-use lib.Dec.{T, T_not, eqb, eqb_refl}
-use mathlib.Core.Bool.{not}
 use Rattle.std.specs.List.{slice_get}
 use Rattle.std.specs.Option.{SomeIff}
 use Rattle.std.proofs.lemmas.Bool.{cases_lt, cond-true, cond-false, lt-ltb, ltb-true, false_from_ne_true}
@@ -149,11 +147,6 @@ goes_on t here =
 pub at_end : (t : Tiling) → has_tile t ≡ false → windows_left t ≡ []
 unfolding windows_left
 at_end t none = cond-false (has_tile t) _ _ none
-
--- what a test for 0 tells that fails
-pub one_at_least : (n : ℕ) → T (not (eqb n 0)) → 0 < n
-one_at_least zero t = absurd (T_not (eqb 0 0) t (eqb_refl 0))
-one_at_least (suc n) t = omega arith
 
 -- ---- how many are left
 

@@ -27,7 +27,7 @@ module _ {C : Type 0} where
 
     -- after one more tile, with what was left in its cells
     abbrev pub after_tile : (C → Stretch → List T → C) → Bool → TileCursor C → List T → TileCursor C
-    after_tile with_cells roomy s others = record s { img = with_window cells with_cells roomy s.img (tile_now s.tiling) others; tiling = stepped s.tiling }
+    after_tile with_cells padded s others = record s { img = with_window cells with_cells padded s.img (tile_now s.tiling) others; tiling = stepped s.tiling }
 
 -- the name under which the cells of the answered image are lent
 abbrev pub name_of : {T : Type 0} → Option (Img (MutBor (List T))) → maybe.Option GName
@@ -35,20 +35,20 @@ name_of (Some i) = maybe.some (buf_of i).ghost_name
 name_of None = maybe.none
 
 -- how an image's container is read and written, a cursor, the windows that it still gives
-module _ {C T : Type 0} (cells : C → List T) (with_cells : C → Stretch → List T → C) (roomy : Bool) (s : TileCursor C) (before : List Window) where
+module _ {C T : Type 0} (cells : C → List T) (with_cells : C → Stretch → List T → C) (padded : Bool) (s : TileCursor C) (before : List Window) where
   -- a tile is the window of the first that is left: it has a place, it fits, it shows the view, and what is left in it is left in the image
   pub record IsNext (tile : Img (MutBor (List T))) : Type 0 where
     pub first : before ≡ tile_now s.tiling ∷ windows_left (stepped s.tiling)
     pub inside : IsInside (width_of s.img) (height_of s.img) (tile_now s.tiling)
     pub some_width : 0 < (tile_now s.tiling).width
     pub some_height : 0 < (tile_now s.tiling).height
-    pub cells_are : mut_layout tile ≡ window_layout roomy (layout_by cells s.img) (tile_now s.tiling)
+    pub cells_are : mut_layout tile ≡ window_layout padded (layout_by cells s.img) (tile_now s.tiling)
     pub fits : Fits (mut_layout tile)
     pub shows : mut_grid tile ≡ window_view (grid_by cells s.img) (tile_now s.tiling)
-    pub grid : WindowPatchesGrid cells with_cells roomy s.img (tile_now s.tiling) (mut_layout tile)
-    pub outside : WindowKeepsOutside cells with_cells roomy s.img (tile_now s.tiling) (mut_layout tile)
-    pub still_fits : WindowKeepsFit cells with_cells roomy s.img (tile_now s.tiling) (mut_layout tile)
-    pub container : WindowKeepsContainer cells with_cells roomy s.img (tile_now s.tiling) (mut_layout tile)
+    pub grid : WindowPatchesGrid cells with_cells padded s.img (tile_now s.tiling) (mut_layout tile)
+    pub outside : WindowKeepsOutside cells with_cells padded s.img (tile_now s.tiling) (mut_layout tile)
+    pub still_fits : WindowKeepsFit cells with_cells padded s.img (tile_now s.tiling) (mut_layout tile)
+    pub container : WindowKeepsContainer cells with_cells padded s.img (tile_now s.tiling) (mut_layout tile)
 
   -- the next tile of those that are left, or none where none is
   abbrev pub NextTile : Option (Img (MutBor (List T))) → Type 0

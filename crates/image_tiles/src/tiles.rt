@@ -79,19 +79,19 @@ impl<C: AsMutSlice> TileCursor<C> {
     pub fn next_parts(&mut self) -> (&mut [C::Item], Shape)
         requires fits { Fits (layout_by C.AsSlice.cells (image_of self.old)) }
         requires more { IsTrue (has_tile (tiling_of self.old)) }
-        ensures* hands_on { sem 𝓛 (follows (the_row C.row) (Array C.Item.row 0) self.entry.ghost_name result.0.ghost_name (after_tile C.AsSlice.cells C.with_cells C.roomy_windows self.old)) }
+        ensures* hands_on { sem 𝓛 (follows (the_row C.row) (Array C.Item.row 0) self.entry.ghost_name result.0.ghost_name (after_tile C.AsSlice.cells C.with_cells C.padded_windows self.old)) }
         ensures steps { windows_left (tiling_of self.old) ≡ tile_now (tiling_of self.old) ∷ windows_left (stepped (tiling_of self.old)) }
         ensures inside { IsInside (width_of (image_of self.old)) (height_of (image_of self.old)) (tile_now (tiling_of self.old)) }
-        ensures layout { shaped result.0.now result.1 ≡ window_layout C.roomy_windows (layout_by C.AsSlice.cells (image_of self.old)) (tile_now (tiling_of self.old)) }
+        ensures layout { shaped result.0.now result.1 ≡ window_layout C.padded_windows (layout_by C.AsSlice.cells (image_of self.old)) (tile_now (tiling_of self.old)) }
         ensures fits { Fits (shaped result.0.now result.1) }
         ensures view { shaped_grid result.0.now result.1 ≡ window_view (grid_by C.AsSlice.cells (image_of self.old)) (tile_now (tiling_of self.old)) }
         ensures some_width { 0 < shape_width result.1 }
         ensures some_height { 0 < shape_height result.1 }
         ensures holds_width { width_of (image_of self.old) ≤ stride_of (image_of self.old) }
-        ensures grid { WindowPatchesGrid C.AsSlice.cells C.with_cells C.roomy_windows (image_of self.old) (tile_now (tiling_of self.old)) (shaped result.0.now result.1) }
-        ensures outside { WindowKeepsOutside C.AsSlice.cells C.with_cells C.roomy_windows (image_of self.old) (tile_now (tiling_of self.old)) (shaped result.0.now result.1) }
-        ensures still_fits { WindowKeepsFit C.AsSlice.cells C.with_cells C.roomy_windows (image_of self.old) (tile_now (tiling_of self.old)) (shaped result.0.now result.1) }
-        ensures container { WindowKeepsContainer C.AsSlice.cells C.with_cells C.roomy_windows (image_of self.old) (tile_now (tiling_of self.old)) (shaped result.0.now result.1) }
+        ensures grid { WindowPatchesGrid C.AsSlice.cells C.with_cells C.padded_windows (image_of self.old) (tile_now (tiling_of self.old)) (shaped result.0.now result.1) }
+        ensures outside { WindowKeepsOutside C.AsSlice.cells C.with_cells C.padded_windows (image_of self.old) (tile_now (tiling_of self.old)) (shaped result.0.now result.1) }
+        ensures still_fits { WindowKeepsFit C.AsSlice.cells C.with_cells C.padded_windows (image_of self.old) (tile_now (tiling_of self.old)) (shaped result.0.now result.1) }
+        ensures container { WindowKeepsContainer C.AsSlice.cells C.with_cells C.padded_windows (image_of self.old) (tile_now (tiling_of self.old)) (shaped result.0.now result.1) }
     {
         let window = self.tiling.next_window();
         self.img.window_parts_mut(window)
@@ -101,8 +101,8 @@ impl<C: AsMutSlice> TileCursor<C> {
     fn tile(&mut self) -> Img<&mut [C::Item]>
         requires fits { Fits (layout_by C.AsSlice.cells (image_of self.old)) }
         requires more { IsTrue (has_tile (tiling_of self.old)) }
-        ensures* hands_on { sem 𝓛 (follows (the_row C.row) (Array C.Item.row 0) self.entry.ghost_name (buf_of result).ghost_name (after_tile C.AsSlice.cells C.with_cells C.roomy_windows self.old)) }
-        ensures next { IsNext C.AsSlice.cells C.with_cells C.roomy_windows self.old (windows_left (tiling_of self.old)) result }
+        ensures* hands_on { sem 𝓛 (follows (the_row C.row) (Array C.Item.row 0) self.entry.ghost_name (buf_of result).ghost_name (after_tile C.AsSlice.cells C.with_cells C.padded_windows self.old)) }
+        ensures next { IsNext C.AsSlice.cells C.with_cells C.padded_windows self.old (windows_left (tiling_of self.old)) result }
     {
         let window = self.tiling.next_window();
         self.img.window_mut(window)
@@ -127,8 +127,8 @@ impl<C: AsMutSlice> TileCursor<C> {
     /// Nothing is asked. An image whose cells no longer fit, since a tile was replaced by other
     /// cells, has no tile left.
     pub fn next_tile(&mut self) -> Option<Img<&mut [C::Item]>>
-        ensures* hands_on { sem 𝓛 (follows_if (the_row C.row) (Array C.Item.row 0) self.entry.ghost_name (name_of result) (after_tile C.AsSlice.cells C.with_cells C.roomy_windows self.old) self.old) }
-        ensures gives { NextTile C.AsSlice.cells C.with_cells C.roomy_windows self.old (tiles_left C.AsSlice.cells self.old) result }
+        ensures* hands_on { sem 𝓛 (follows_if (the_row C.row) (Array C.Item.row 0) self.entry.ghost_name (name_of result) (after_tile C.AsSlice.cells C.with_cells C.padded_windows self.old) self.old) }
+        ensures gives { NextTile C.AsSlice.cells C.with_cells C.padded_windows self.old (tiles_left C.AsSlice.cells self.old) result }
     {
         let (this, left) = self.counted();
         if left == 0 {

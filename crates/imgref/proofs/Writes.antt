@@ -16,38 +16,38 @@ use Rattle.imgref.specs.Index.{row_start, with_row, RowPatchesGrid, RowKeepsOuts
 -- ---- the cells of a window
 module _ {C T : Type 0} (cells : C → List T) (with_cells : C → Stretch → List T → C)
     (others_stay : (c : C) (s : Stretch) (ws : List T) → s.start + s.len ≤ length (cells c) → length ws ≡ s.len → cells (with_cells c s ws) ≡ with_stretch (cells c) s ws)
-    (roomy : Bool) (i : Img C) (w : Window) (narrow : width_of i ≤ stride_of i) (fits : Fits (layout_by cells i)) (inside : IsInside (width_of i) (height_of i) w) (m : Layout T) (is : m ≡ window_layout roomy (layout_by cells i) w) where
+    (padded : Bool) (i : Img C) (w : Window) (narrow : width_of i ≤ stride_of i) (fits : Fits (layout_by cells i)) (inside : IsInside (width_of i) (height_of i) w) (m : Layout T) (is : m ≡ window_layout padded (layout_by cells i) w) where
   abbrev l : Layout T
   l = layout_by cells i
 
   abbrev s : Stretch
-  s = stretch_by cells roomy i w
+  s = stretch_by cells padded i w
 
   has : HasWindow (length l.cells) l.stride w s
-  has = stretch_has roomy (length l.cells) l.stride l.width l.height w narrow fits inside
+  has = stretch_has padded (length l.cells) l.stride l.width l.height w narrow fits inside
 
   module _ (left : List T) (stays : SameOutside m (record m { cells = left })) where
     same : SameOutside (stretch_window l w s) (record m { cells = left })
-    same = subst (λ (v : Layout T). SameOutside v (record m { cells = left })) (is ∙ sym (layout_is roomy l w)) stays
+    same = subst (λ (v : Layout T). SameOutside v (record m { cells = left })) (is ∙ sym (layout_is padded l w)) stays
 
     long : length left ≡ s.len
     long = same.length_stays ∙ length-stretch_cells l.cells s has.within
 
-    handed : layout_by cells (with_window cells with_cells roomy i w left) ≡ handed_on l s left
+    handed : layout_by cells (with_window cells with_cells padded i w left) ≡ handed_on l s left
     unfolding window_buf
     handed = ap (λ (items : List T). record l { cells = items }) (others_stay (buf_of i) s left has.within long)
 
-  pub window_patches : WindowPatchesGrid cells with_cells roomy i w m
+  pub window_patches : WindowPatchesGrid cells with_cells padded i w m
   window_patches left stays = ap grid_of (handed left stays) ∙ handed_on_grid l w s has (record m { cells = left }) (same left stays) narrow inside
 
-  pub window_keeps : WindowKeepsOutside cells with_cells roomy i w m
+  pub window_keeps : WindowKeepsOutside cells with_cells padded i w m
   window_keeps left stays = subst (SameOutside l) (sym (handed left stays)) (handed_on_outside l w s has (record m { cells = left }) (same left stays) inside)
 
-  pub window_fits : WindowKeepsFit cells with_cells roomy i w m
+  pub window_fits : WindowKeepsFit cells with_cells padded i w m
   window_fits left stays = outside_fits l _ (window_keeps left stays) fits
 
   module _ (stretch_is_cells : (c : C) (s : Stretch) (ws : List T) → s.start + s.len ≤ length (cells c) → length ws ≡ s.len → with_cells c s ws ≡ with_cells c (whole (cells c)) (with_stretch (cells c) s ws)) where
-    pub window_contains : WindowKeepsContainer cells with_cells roomy i w m
+    pub window_contains : WindowKeepsContainer cells with_cells padded i w m
     unfolding window_buf
     window_contains left stays = stretch_is_cells (buf_of i) s left has.within (long left stays) ∙ ap (with_cells (buf_of i) (whole (cells (buf_of i)))) (sym (others_stay (buf_of i) s left has.within (long left stays)))
 

@@ -6,7 +6,7 @@ use Rattle.std.specs.contracts.alloc.Global as global
 use Rattle.std.specs.contracts.vec.Vec as vec
 use Rattle.std.specs.contracts.impls.GlobalAllocator.TheImpl.{ghosts}
 use mathlib.Core.Option.{none}
-use Rattle.image_model.specs.Kept.{packed}
+use Rattle.image_model.specs.Compaction.{packed}
 use Rattle.imgref.specs.declared.img.Img.{Img}
 use Rattle.imgref.specs.contracts.img.Img as img
 use Rattle.imgref.specs.Image.{buf_of, vec_layout}

@@ -48,7 +48,7 @@ module _ {C : Type 0} where
 
     -- the cells that a window takes, with whole strides or up to its last pixel
     abbrev pub stretch_by : Bool → Img C → Window → Stretch
-    stretch_by roomy i w = window_stretch roomy (length (cells i.buf)) (stride_of i) w
+    stretch_by padded i w = window_stretch padded (length (cells i.buf)) (stride_of i) w
 
     -- how it looks with other cells in the place of a stretch
     module _ (with_cells : C → Stretch → List T → C) where
@@ -74,11 +74,11 @@ module _ {C : Type 0} where
 
       -- the container with other cells in the place of those that a window takes
       unfoldable pub window_buf : Bool → Img C → Window → List T → C
-      window_buf roomy i w others = with_cells (buf_of i) (stretch_by roomy i w) others
+      window_buf padded i w others = with_cells (buf_of i) (stretch_by padded i w) others
 
       -- the image with that container
       abbrev pub with_window : Bool → Img C → Window → List T → Img C
-      with_window roomy i w others = with_buf i (window_buf roomy i w others)
+      with_window padded i w others = with_buf i (window_buf padded i w others)
 
 -- the layout of an image that owns its pixels
 abbrev pub vec_layout : {T Z : Type 0} → Img (Vec T Z) → Layout T

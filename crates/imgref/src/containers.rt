@@ -11,7 +11,7 @@ use image_cells::AsSlice;
 /// A container whose cells can be written: a stretch of them, as an image lends its windows, or one,
 /// as it does by index. It stands for the Rust crate's bound `AsMut`.
 pub trait AsMutSlice: AsSlice {
-    ghost roomy_windows: { Bool };
+    ghost padded_windows: { Bool };
 
     /// The container with other cells in the place of a stretch.
     ghost with_cells: { Self → Stretch → List Self.Item → Self };
@@ -21,8 +21,8 @@ pub trait AsMutSlice: AsSlice {
 
     /// Whether a window for writing takes whole strides where the container has them: so for a lent
     /// slice. In a `Vec` it ends at its last pixel.
-    fn has_roomy_windows() -> bool
-        ensures { result ≡ roomy_windows };
+    fn has_padded_windows() -> bool
+        ensures { result ≡ padded_windows };
 
     /// The `len` cells from number `start` on, for writing. Once the borrow ends, the container has
     /// what was left there in their place.
@@ -60,13 +60,13 @@ pub trait AsMutSlice: AsSlice {
 }
 
 impl<T> AsMutSlice for Vec<T> {
-    ghost roomy_windows = { false };
+    ghost padded_windows = { false };
 
     ghost with_cells = { λ v s ws. with_items_from v s.start ws };
 
     ghost with_cell = { with_item };
 
-    fn has_roomy_windows() -> bool {
+    fn has_padded_windows() -> bool {
         false
     }
 
@@ -88,13 +88,13 @@ impl<T> AsMutSlice for Vec<T> {
 }
 
 impl<'a, T> AsMutSlice for &'a mut [T] {
-    ghost roomy_windows = { true };
+    ghost padded_windows = { true };
 
     ghost with_cells = { λ c s ws. record c { now = with_stretch c.now s ws } };
 
     ghost with_cell = { λ s at w. record s { now = slice_set s.now at w } };
 
-    fn has_roomy_windows() -> bool {
+    fn has_padded_windows() -> bool {
         true
     }
 

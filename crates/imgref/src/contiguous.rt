@@ -7,7 +7,7 @@ ghost use Rattle.std.specs.Cow.{cow_slice_items, IsBorrowedSlice};
 ghost use Rattle.image_model.specs.Layout.{Fits};
 ghost use Rattle.image_model.specs.Grid.{grid_of};
 ghost use Rattle.image_model.specs.Rows.{joined_rows};
-ghost use Rattle.image_model.specs.Kept.{IsPacked, packed};
+ghost use Rattle.image_model.specs.Compaction.{IsPacked, packed};
 ghost use Rattle.image_cells.specs.Clones.{ClonesEqual};
 ghost use Rattle.imgref.specs.Image.{buf_of, width_of, height_of, stride_of, vec_grid, vec_layout, ref_layout};
 ghost use Rattle.imgref.specs.Contiguous.{Rests, IsPackedFrom, vec_image};

@@ -4,7 +4,7 @@ ghost use Rattle.std.specs.Prelude.{◌≡◌, ◌*◌, length, IsOk, IfOk, IfEr
 ghost use Rattle.std.specs.Cow.{IsBorrowedSlice, IsOwnedSlice};
 ghost use Rattle.image_model.specs.Layout.{Fits};
 ghost use Rattle.image_model.specs.Rows.{joined_rows};
-ghost use Rattle.image_model.specs.Kept.{packed};
+ghost use Rattle.image_model.specs.Compaction.{packed};
 ghost use Rattle.image_cells.specs.Clones.{ClonesEqual};
 ghost use Rattle.imgref.specs.Image.{buf_of, width_of, height_of, vec_layout};
 ghost use Rattle.imgref.specs.Copies.{cow_layout, IsBufferOf, IsOwnedAs, IsLentAs};

@@ -3,7 +3,7 @@
 ghost use Rattle.std.specs.Prelude.{◌≡◌, ◌≤◌, length};
 ghost use Rattle.std.specs.Borrow.{sem, follows, Array};
 ghost use Rattle.image_model.specs.Layout.{Fits};
-ghost use Rattle.image_model.specs.Windows.{window, window_view, IsInside, IsWithin, roomy_stretch, roomy_window, window_layout, stretch_cells, with_stretch};
+ghost use Rattle.image_model.specs.Windows.{window, window_view, IsInside, IsWithin, padded_stretch, padded_window, window_layout, stretch_cells, with_stretch};
 ghost use Rattle.image_shape.specs.Shape.{shape_width, shape_height, shaped_grid, shaped};
 ghost use Rattle.image_shape.specs.Window.{as_stretch, as_window};
 ghost use Rattle.imgref.specs.contracts.img.Img.{the_row};
@@ -12,14 +12,14 @@ ghost use Rattle.imgref.specs.Image.{buf_of, width_of, height_of, stride_of, gri
 
 use crate::containers::AsMutSlice;
 use crate::img::{Img, ImgRef, ImgRefMut};
-use image_cells::{AsSlice, roomy_part, roomy_stretch_mut};
+use image_cells::{AsSlice, padded_part, padded_stretch_mut};
 use image_shape::{Shape, Stretch, Window};
 
 impl<'s, T> Img<&'s [T]> {
     /// What is seen through a window: the image over the same pixels, at the same stride.
     ///
     /// Its buffer begins at its first pixel. It has `height` whole strides where the image's cells
-    /// reach so far, and else ends at its last pixel (`roomy_window`). That of an empty window is
+    /// reach so far, and else ends at its last pixel (`padded_window`). That of an empty window is
     /// empty.
     ///
     /// # Requires
@@ -28,11 +28,11 @@ impl<'s, T> Img<&'s [T]> {
     pub fn window(&self, place: Window) -> ImgRef<'s, T>
         requires fits { Fits (ref_layout self.now) }
         requires inside { IsInside (width_of self.now) (height_of self.now) (as_window place) }
-        ensures layout { ref_layout result ≡ roomy_window (ref_layout self.now) (as_window place) }
+        ensures layout { ref_layout result ≡ padded_window (ref_layout self.now) (as_window place) }
         ensures fits { Fits (ref_layout result) }
         ensures view { ref_grid result ≡ window_view (ref_grid self.now) (as_window place) }
     {
-        let (buf, shape) = roomy_part(self.buf, self.shape(), place);
+        let (buf, shape) = padded_part(self.buf, self.shape(), place);
         Img::from_parts(buf, shape)
     }
 
@@ -45,7 +45,7 @@ impl<'s, T> Img<&'s [T]> {
     pub fn sub_image(&self, left: usize, top: usize, width: usize, height: usize) -> ImgRef<'s, T>
         requires fits { Fits (ref_layout self.now) }
         requires inside { IsInside (width_of self.now) (height_of self.now) (window left top width height) }
-        ensures layout { ref_layout result ≡ roomy_window (ref_layout self.now) (window left top width height) }
+        ensures layout { ref_layout result ≡ padded_window (ref_layout self.now) (window left top width height) }
         ensures fits { Fits (ref_layout result) }
         ensures view { ref_grid result ≡ window_view (ref_grid self.now) (window left top width height) }
     {
@@ -73,7 +73,7 @@ impl<'s, T> Img<&'s mut [T]> {
     /// The image cut down to the window of `width` by `height` pixels with its corner at column
     /// `left` of row `top`, for as long as its pixels are lent.
     ///
-    /// Its buffer has whole strides where the image has them (`roomy_window`). Once the borrow
+    /// Its buffer has whole strides where the image has them (`padded_window`). Once the borrow
     /// ends, the lent cells are as they were, with that stretch of them as the window left it.
     ///
     /// # Requires
@@ -88,8 +88,8 @@ impl<'s, T> Img<&'s mut [T]> {
     ) -> ImgRefMut<'s, T>
         requires fits { Fits (mut_layout self) }
         requires inside { IsInside (width_of self) (height_of self) (window left top width height) }
-        ensures* hands_on { sem 𝓛 (follows (Array T.row 0) (Array T.row 0) (buf_of self.entry).ghost_name (buf_of result).ghost_name (with_stretch (buf_of self.entry).now (roomy_stretch (length (buf_of self.entry).now) (stride_of self.entry) (window left top width height)))) }
-        ensures layout { mut_layout result ≡ roomy_window (mut_layout self.entry) (window left top width height) }
+        ensures* hands_on { sem 𝓛 (follows (Array T.row 0) (Array T.row 0) (buf_of self.entry).ghost_name (buf_of result).ghost_name (with_stretch (buf_of self.entry).now (padded_stretch (length (buf_of self.entry).now) (stride_of self.entry) (window left top width height)))) }
+        ensures layout { mut_layout result ≡ padded_window (mut_layout self.entry) (window left top width height) }
         ensures fits { Fits (mut_layout result) }
         ensures view { mut_grid result ≡ window_view (mut_grid self.entry) (window left top width height) }
     {
@@ -100,14 +100,14 @@ impl<'s, T> Img<&'s mut [T]> {
             height,
         };
         let (buf, shape) = self.into_parts();
-        let (cells, stretch, shape) = roomy_stretch_mut(buf, shape, window);
+        let (cells, stretch, shape) = padded_stretch_mut(buf, shape, window);
         Img::from_stretch(cells, stretch, shape)
     }
 }
 
 impl<C: AsMutSlice> Img<C> {
     /// What is seen through a window, as `window` of an image of shared pixels gives it: with whole
-    /// strides where the image has them (`roomy_window`).
+    /// strides where the image has them (`padded_window`).
     ///
     /// # Requires
     ///
@@ -115,11 +115,11 @@ impl<C: AsMutSlice> Img<C> {
     pub fn window(&self, place: Window) -> ImgRef<'_, C::Item>
         requires fits { Fits (layout_by C.AsSlice.cells self.now) }
         requires inside { IsInside (width_of self.now) (height_of self.now) (as_window place) }
-        ensures layout { ref_layout result ≡ roomy_window (layout_by C.AsSlice.cells self.now) (as_window place) }
+        ensures layout { ref_layout result ≡ padded_window (layout_by C.AsSlice.cells self.now) (as_window place) }
         ensures fits { Fits (ref_layout result) }
         ensures view { ref_grid result ≡ window_view (grid_by C.AsSlice.cells self.now) (as_window place) }
     {
-        let (buf, shape) = roomy_part(self.buf.as_slice(), self.shape(), place);
+        let (buf, shape) = padded_part(self.buf.as_slice(), self.shape(), place);
         Img::from_parts(buf, shape)
     }
 
@@ -138,7 +138,7 @@ impl<C: AsMutSlice> Img<C> {
     ) -> ImgRef<'_, C::Item>
         requires fits { Fits (layout_by C.AsSlice.cells self.now) }
         requires inside { IsInside (width_of self.now) (height_of self.now) (window left top width height) }
-        ensures layout { ref_layout result ≡ roomy_window (layout_by C.AsSlice.cells self.now) (window left top width height) }
+        ensures layout { ref_layout result ≡ padded_window (layout_by C.AsSlice.cells self.now) (window left top width height) }
         ensures fits { Fits (ref_layout result) }
         ensures view { ref_grid result ≡ window_view (grid_by C.AsSlice.cells self.now) (window left top width height) }
     {
@@ -166,7 +166,7 @@ impl<C: AsMutSlice> Img<C> {
     ///
     /// Its buffer begins at its first pixel. For an `ImgVec` it always ends at the last pixel
     /// (`exact_window`); for an `ImgRefMut` it has `height` whole strides where the image's cells
-    /// reach so far (`roomy_window`). That of an empty window is empty. Once the borrow ends, the
+    /// reach so far (`padded_window`). That of an empty window is empty. Once the borrow ends, the
     /// image's cells are as they were, with that stretch of them as the window left it. So a write
     /// at place (x, y) of the window is a write at place (left + x, top + y) of the image.
     ///
@@ -176,14 +176,14 @@ impl<C: AsMutSlice> Img<C> {
     pub fn window_mut(&mut self, place: Window) -> Img<&mut [C::Item]>
         requires fits { Fits (layout_by C.AsSlice.cells self.old) }
         requires inside { IsInside (width_of self.old) (height_of self.old) (as_window place) }
-        ensures* hands_on { sem 𝓛 (follows (the_row C.row) (Array C.Item.row 0) self.entry.ghost_name (buf_of result).ghost_name (with_window C.AsSlice.cells C.with_cells C.roomy_windows self.old (as_window place))) }
-        ensures layout { mut_layout result ≡ window_layout C.roomy_windows (layout_by C.AsSlice.cells self.old) (as_window place) }
+        ensures* hands_on { sem 𝓛 (follows (the_row C.row) (Array C.Item.row 0) self.entry.ghost_name (buf_of result).ghost_name (with_window C.AsSlice.cells C.with_cells C.padded_windows self.old (as_window place))) }
+        ensures layout { mut_layout result ≡ window_layout C.padded_windows (layout_by C.AsSlice.cells self.old) (as_window place) }
         ensures fits { Fits (mut_layout result) }
         ensures view { mut_grid result ≡ window_view (grid_by C.AsSlice.cells self.old) (as_window place) }
-        ensures grid { WindowPatchesGrid C.AsSlice.cells C.with_cells C.roomy_windows self.old (as_window place) (mut_layout result) }
-        ensures outside { WindowKeepsOutside C.AsSlice.cells C.with_cells C.roomy_windows self.old (as_window place) (mut_layout result) }
-        ensures still_fits { WindowKeepsFit C.AsSlice.cells C.with_cells C.roomy_windows self.old (as_window place) (mut_layout result) }
-        ensures container { WindowKeepsContainer C.AsSlice.cells C.with_cells C.roomy_windows self.old (as_window place) (mut_layout result) }
+        ensures grid { WindowPatchesGrid C.AsSlice.cells C.with_cells C.padded_windows self.old (as_window place) (mut_layout result) }
+        ensures outside { WindowKeepsOutside C.AsSlice.cells C.with_cells C.padded_windows self.old (as_window place) (mut_layout result) }
+        ensures still_fits { WindowKeepsFit C.AsSlice.cells C.with_cells C.padded_windows self.old (as_window place) (mut_layout result) }
+        ensures container { WindowKeepsContainer C.AsSlice.cells C.with_cells C.padded_windows self.old (as_window place) (mut_layout result) }
     {
         let (buf, shape) = self.window_parts_mut(place);
         Img::from_parts(buf, shape)
@@ -204,14 +204,14 @@ impl<C: AsMutSlice> Img<C> {
     ) -> Img<&mut [C::Item]>
         requires fits { Fits (layout_by C.AsSlice.cells self.old) }
         requires inside { IsInside (width_of self.old) (height_of self.old) (window left top width height) }
-        ensures* hands_on { sem 𝓛 (follows (the_row C.row) (Array C.Item.row 0) self.entry.ghost_name (buf_of result).ghost_name (with_window C.AsSlice.cells C.with_cells C.roomy_windows self.old (window left top width height))) }
-        ensures layout { mut_layout result ≡ window_layout C.roomy_windows (layout_by C.AsSlice.cells self.old) (window left top width height) }
+        ensures* hands_on { sem 𝓛 (follows (the_row C.row) (Array C.Item.row 0) self.entry.ghost_name (buf_of result).ghost_name (with_window C.AsSlice.cells C.with_cells C.padded_windows self.old (window left top width height))) }
+        ensures layout { mut_layout result ≡ window_layout C.padded_windows (layout_by C.AsSlice.cells self.old) (window left top width height) }
         ensures fits { Fits (mut_layout result) }
         ensures view { mut_grid result ≡ window_view (grid_by C.AsSlice.cells self.old) (window left top width height) }
-        ensures grid { WindowPatchesGrid C.AsSlice.cells C.with_cells C.roomy_windows self.old (window left top width height) (mut_layout result) }
-        ensures outside { WindowKeepsOutside C.AsSlice.cells C.with_cells C.roomy_windows self.old (window left top width height) (mut_layout result) }
-        ensures still_fits { WindowKeepsFit C.AsSlice.cells C.with_cells C.roomy_windows self.old (window left top width height) (mut_layout result) }
-        ensures container { WindowKeepsContainer C.AsSlice.cells C.with_cells C.roomy_windows self.old (window left top width height) (mut_layout result) }
+        ensures grid { WindowPatchesGrid C.AsSlice.cells C.with_cells C.padded_windows self.old (window left top width height) (mut_layout result) }
+        ensures outside { WindowKeepsOutside C.AsSlice.cells C.with_cells C.padded_windows self.old (window left top width height) (mut_layout result) }
+        ensures still_fits { WindowKeepsFit C.AsSlice.cells C.with_cells C.padded_windows self.old (window left top width height) (mut_layout result) }
+        ensures container { WindowKeepsContainer C.AsSlice.cells C.with_cells C.padded_windows self.old (window left top width height) (mut_layout result) }
     {
         self.window_mut(Window::new(left, top, width, height))
     }
@@ -228,21 +228,21 @@ impl<C: AsMutSlice> Img<C> {
     pub fn window_parts_mut(&mut self, place: Window) -> (&mut [C::Item], Shape)
         requires fits { Fits (layout_by C.AsSlice.cells self.old) }
         requires inside { IsInside (width_of self.old) (height_of self.old) (as_window place) }
-        ensures* hands_on { sem 𝓛 (follows (the_row C.row) (Array C.Item.row 0) self.entry.ghost_name result.0.ghost_name (with_window C.AsSlice.cells C.with_cells C.roomy_windows self.old (as_window place))) }
-        ensures layout { shaped result.0.now result.1 ≡ window_layout C.roomy_windows (layout_by C.AsSlice.cells self.old) (as_window place) }
+        ensures* hands_on { sem 𝓛 (follows (the_row C.row) (Array C.Item.row 0) self.entry.ghost_name result.0.ghost_name (with_window C.AsSlice.cells C.with_cells C.padded_windows self.old (as_window place))) }
+        ensures layout { shaped result.0.now result.1 ≡ window_layout C.padded_windows (layout_by C.AsSlice.cells self.old) (as_window place) }
         ensures fits { Fits (shaped result.0.now result.1) }
         ensures view { shaped_grid result.0.now result.1 ≡ window_view (grid_by C.AsSlice.cells self.old) (as_window place) }
         ensures width { shape_width result.1 ≡ place.width }
         ensures height { shape_height result.1 ≡ place.height }
         ensures holds_width { width_of self.old ≤ stride_of self.old }
-        ensures grid { WindowPatchesGrid C.AsSlice.cells C.with_cells C.roomy_windows self.old (as_window place) (shaped result.0.now result.1) }
-        ensures outside { WindowKeepsOutside C.AsSlice.cells C.with_cells C.roomy_windows self.old (as_window place) (shaped result.0.now result.1) }
-        ensures still_fits { WindowKeepsFit C.AsSlice.cells C.with_cells C.roomy_windows self.old (as_window place) (shaped result.0.now result.1) }
-        ensures container { WindowKeepsContainer C.AsSlice.cells C.with_cells C.roomy_windows self.old (as_window place) (shaped result.0.now result.1) }
+        ensures grid { WindowPatchesGrid C.AsSlice.cells C.with_cells C.padded_windows self.old (as_window place) (shaped result.0.now result.1) }
+        ensures outside { WindowKeepsOutside C.AsSlice.cells C.with_cells C.padded_windows self.old (as_window place) (shaped result.0.now result.1) }
+        ensures still_fits { WindowKeepsFit C.AsSlice.cells C.with_cells C.padded_windows self.old (as_window place) (shaped result.0.now result.1) }
+        ensures container { WindowKeepsContainer C.AsSlice.cells C.with_cells C.padded_windows self.old (as_window place) (shaped result.0.now result.1) }
     {
         let len = self.buf.as_slice().len();
         let whole = self.shape();
-        let part = whole.stretch(C::has_roomy_windows(), len, place);
+        let part = whole.stretch(C::has_padded_windows(), len, place);
         let shape = whole.window(place);
         let cells = self.buf.stretch_mut(part.start, part.len);
         (cells, shape)

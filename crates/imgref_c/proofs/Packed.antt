@@ -3,10 +3,10 @@ use Rattle.std.proofs.Common.{◌≡◌, List, ◌++◌, refl, ◌∙◌}
 use Rattle.image_model.specs.Layout.{Layout, layout, Fits, cell_of}
 use Rattle.image_model.specs.Grid.{grid_of}
 use Rattle.image_model.specs.Rows.{joined_rows}
-use Rattle.image_model.specs.Kept.{least_stride, packed}
+use Rattle.image_model.specs.Compaction.{least_stride, packed}
 use Rattle.image_model.proofs.Cells.{slice_get-append_left}
 use Rattle.image_model.proofs.Grids.{same_grids_of}
-use Rattle.image_model.proofs.Kept.{packed_grid, packed_is_fit}
+use Rattle.image_model.proofs.Compaction.{packed_grid, packed_is_fit}
 use Rattle.image_model.proofs.Places.{cell_within}
 
 -- at the least stride they show the image, whatever stands behind them

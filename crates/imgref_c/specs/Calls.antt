@@ -4,7 +4,7 @@ use Rattle.image_model.specs.Layout.{Layout, layout, SameOutside}
 use Rattle.image_model.specs.Grid.{Grid, grid_of}
 use Rattle.image_model.specs.Windows.{Stretch}
 use Rattle.image_model.specs.Rows.{joined_rows}
-use Rattle.image_model.specs.Kept.{least_stride}
+use Rattle.image_model.specs.Compaction.{least_stride}
 
 -- an image that was written: with status 0 it shows this grid, and its padding is as before
 pub record Writes {T : Type 0} (status : ℕ) (old new : Layout T) (seen : Grid T) : Type 0 where

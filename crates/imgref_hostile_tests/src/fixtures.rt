@@ -31,7 +31,7 @@ pub struct Cells {
     pub first: usize,
     // Those to its last pixel, and those of its whole strides where they are there.
     pub exact: usize,
-    pub roomy: usize,
+    pub padded: usize,
 }
 
 // The windows with a pixel: left, top, width and height, the first cell, and both numbers of cells.
@@ -58,7 +58,7 @@ const STRETCHES: [(usize, usize, usize, usize, usize, usize, usize); 18] = [
 
 // The cells of a window inside that image: none, where it has no pixel.
 pub fn cells_of(window: Window) -> Cells {
-    for (left, top, width, height, first, exact, roomy) in STRETCHES {
+    for (left, top, width, height, first, exact, padded) in STRETCHES {
         let is_this = window.left == left
             && window.top == top
             && window.width == width
@@ -67,13 +67,13 @@ pub fn cells_of(window: Window) -> Cells {
             return Cells {
                 first,
                 exact,
-                roomy,
+                padded,
             };
         }
     }
     Cells {
         first: 0,
         exact: 0,
-        roomy: 0,
+        padded: 0,
     }
 }

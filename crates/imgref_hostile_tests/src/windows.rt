@@ -77,7 +77,7 @@ fn is_in_view(rt: &impl Abort, image: ImgRef<'_, u8>, window: Window) -> bool {
     let is_inside = image.has_window(left, top, width, height);
     if is_inside {
         let found = image.sub_image(left, top, width, height);
-        check_view(rt, found, window, cells_of(window).roomy);
+        check_view(rt, found, window, cells_of(window).padded);
     }
     is_inside
 }
@@ -89,7 +89,7 @@ fn is_in_image<C: AsMutSlice<Item = u8>>(rt: &impl Abort, image: &Img<C>, window
     let is_inside = image.has_window(left, top, width, height);
     if is_inside {
         let found = image.sub_image(left, top, width, height);
-        check_view(rt, found, window, cells_of(window).roomy);
+        check_view(rt, found, window, cells_of(window).padded);
     }
     is_inside
 }
@@ -164,7 +164,7 @@ fn check_cut(rt: &impl Abort, window: Window) {
     let image = ImgRefMut::new_stride(buf.as_mut_slice(), 3, 2, 4);
     assert!(rt; image.is_valid() && image.has_window(left, top, width, height));
     let mut cut = image.into_sub_image_mut(left, top, width, height);
-    check_view(rt, cut.as_ref(), window, cells.roomy);
+    check_view(rt, cut.as_ref(), window, cells.padded);
     assert!(rt; cut.is_valid());
     cut.fill(0);
     check_filled(rt, buf.as_slice(), window);
@@ -175,7 +175,7 @@ fn check_cut(rt: &impl Abort, window: Window) {
         .into_sub_image_mut(left, top, width, height)
         .into_buf()
         .fill(0);
-    check_cleared(rt, buf.as_slice(), cells.first, cells.roomy);
+    check_cleared(rt, buf.as_slice(), cells.first, cells.padded);
 }
 
 // A window of an owner ends at its last pixel, and one of lent cells has whole strides.
@@ -186,15 +186,15 @@ fn sixty_windows_for_writing(rt: HostRuntime) -> Result<(), Fail> {
     for number in 0..256usize {
         let window = numbered(number);
         if view.has_window(window.left, window.top, window.width, window.height) {
-            let Cells { exact, roomy, .. } = cells_of(window);
+            let Cells { exact, padded, .. } = cells_of(window);
             check_pixels(&rt, &mut padded(rt.alloc())?, window, exact);
             check_cells(&rt, &mut padded(rt.alloc())?, window, exact);
             let mut cells = PADDED;
             let mut lent = Img::new_stride(cells.as_mut_slice(), 3, 2, 4);
-            check_pixels(&rt, &mut lent, window, roomy);
+            check_pixels(&rt, &mut lent, window, padded);
             let mut cells = PADDED;
             let mut lent = Img::new_stride(cells.as_mut_slice(), 3, 2, 4);
-            check_cells(&rt, &mut lent, window, roomy);
+            check_cells(&rt, &mut lent, window, padded);
             check_cut(&rt, window);
             inside = inside.saturating_add(1);
         }

@@ -7,7 +7,7 @@ use Rattle.std.proofs.lemmas.List.Elements.{All-set}
 use Rattle.std.proofs.lemmas.List.{length-map, length-set, map-set, get_or-map, get_or-set_same, set-get_or}
 use Rattle.image_model.specs.Layout.{Layout, Fits, SameOutside}
 use Rattle.image_model.specs.Grid.{grid_of}
-use Rattle.image_model.specs.Kept.{IsKept}
+use Rattle.image_model.specs.Compaction.{IsKept}
 use Rattle.image_model.specs.Windows.{Window, IsInside, first_outside}
 use Rattle.image_model.proofs.Places.{outside_refl}
 use Rattle.image_model.proofs.Cells.{slice_get-set_other}

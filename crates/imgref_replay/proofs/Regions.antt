@@ -5,8 +5,8 @@ use Rattle.std.specs.Prelude.{Option, Some, None}
 use Rattle.std.specs.Option.{option_map}
 use Rattle.image_model.specs.Layout.{Reaches}
 use Rattle.image_model.specs.Windows as model
-use Rattle.image_model.specs.Windows.{is_inside, first_outside, path_width, path_height, path_stretch, roomy_stretch, stretch_within}
-use Rattle.image_model.proofs.Windows.{is_inside_decides, roomy_has}
+use Rattle.image_model.specs.Windows.{is_inside, first_outside, path_width, path_height, path_stretch, padded_stretch, stretch_within}
+use Rattle.image_model.proofs.Windows.{is_inside_decides, padded_has}
 use Rattle.image_shape.specs.declared.window.Window.{Window}
 use Rattle.imgref.specs.Window.{as_window, as_path}
 
@@ -31,11 +31,11 @@ module _ (stride count width height : ℕ) (path : List Window) (n : ℕ) (s : m
   rest = as_path (drop (n + 1) path)
 
   -- a window that is inside leaves its own cells
-  pub goes_on : (t : model.Stretch) (w' h' : ℕ) → w ≤ stride → is_inside w h next_one ≡ true → t ≡ stretch_within s (roomy_stretch s.len stride next_one) → w' ≡ next_one.width → h' ≡ next_one.height
+  pub goes_on : (t : model.Stretch) (w' h' : ℕ) → w ≤ stride → is_inside w h next_one ≡ true → t ≡ stretch_within s (padded_stretch s.len stride next_one) → w' ≡ next_one.width → h' ≡ next_one.height
       → IsOnWay stride count width height path (n + 1) t w' h'
   goes_on t w' h' wide inn is wide' high' =
       let inside = (is_inside_decides w h next_one).0 inn in
-      let has = roomy_has s.len stride w h next_one wide way.fits inside in
+      let has = padded_has s.len stride w h next_one wide way.fits inside in
       let split = drop_more path n d more in
       record {
         cells = way.cells ∙ ap (λ ws. path_stretch stride s (as_path ws)) split ∙ ap (λ r. path_stretch stride r rest) (sym is);

@@ -5,8 +5,8 @@ use Rattle.std.proofs.lemmas.List.Folds.{list_any-append}
 use Rattle.std.proofs.lemmas.Option.{slice_get_within, slice_get-get_or}
 use Rattle.image_model.specs.Layout.{Layout}
 use Rattle.image_model.specs.Grid.{Grid, grid_of}
-use Rattle.image_model.specs.Kept.{IsKept}
-use Rattle.image_model.proofs.Kept.{kept_twice}
+use Rattle.image_model.specs.Compaction.{IsKept}
+use Rattle.image_model.proofs.Compaction.{kept_twice}
 use Rattle.imgref_replay.specs.Step.{reply_to, after, compacts}
 use Rattle.imgref_replay.specs.Run.{replies_to, after_all, IsRun}
 use Rattle.imgref_replay.specs.declared.commands.Command.{Command}

@@ -7,7 +7,7 @@ use Rattle.std.proofs.lemmas.Option.{same_Some}
 use Rattle.image_model.specs.Layout.{Layout, Fits, SameOutside}
 use Rattle.image_model.specs.Grid.{Grid, grid_of, is_place}
 use Rattle.image_model.specs.Windows as model
-use Rattle.image_model.specs.Kept.{IsKept, IsPacked, packed}
+use Rattle.image_model.specs.Compaction.{IsKept, IsPacked, packed}
 use Rattle.image_model.proofs.Grids.{is_place_decides}
 use Rattle.image_model.proofs.Places.{outside_refl}
 use Rattle.imgref.specs.Image.{vec_layout}
@@ -28,14 +28,6 @@ pub faults_after : (firsts others : List (Bool × Refusal)) → first_fault firs
 faults_after [] others e = refl
 faults_after ((true, refusal) ∷ firsts) others e = absurd cc
 faults_after ((false, refusal) ∷ firsts) others e = faults_after firsts others e
-
--- a place of a window that has no fault
-pub no_place_fault : (spot : Place) (x y : ℕ) (sizes : Sizes) → None ≡ first_fault (window_faults spot sizes)
-    → (let w = window_named spot sizes in (x < w.width) × (y < w.height)) → None ≡ first_fault (place_faults spot x y sizes)
-no_place_fault spot x y sizes e within =
-    let w = window_named spot sizes in
-    let place : first_fault ((misses_window spot x y sizes, PlaceOutside) ∷ []) ≡ None = cond-false (not (is_place w.width w.height x y)) (Some PlaceOutside) None (ap not ((is_place_decides w.width w.height x y).1 within)) in
-    sym (faults_after (window_faults spot sizes) ((misses_window spot x y sizes, PlaceOutside) ∷ []) (sym e) ∙ place)
 
 -- a window with tiles that has no fault
 pub no_tile_fault : (spot : Place) (tile_width tile_height : ℕ) (sizes : Sizes) → None ≡ first_fault (window_faults spot sizes) → tile_width ≢ 0 → tile_height ≢ 0

@@ -4,7 +4,7 @@ use Rattle.std.specs.Option.{option_map_or}
 use Rattle.std.specs.Result.{result_err}
 use Rattle.image_model.specs.Layout.{Layout, Fits}
 use Rattle.image_model.specs.Grid.{Grid, grid_of, patch}
-use Rattle.image_model.specs.Kept.{IsKept}
+use Rattle.image_model.specs.Compaction.{IsKept}
 use Rattle.imgref_replay.specs.Commands.{grid_at, sizes_of, scene_of, reply_of, changed, meaning}
 use Rattle.imgref_replay.specs.declared.commands.Command.{Command}
 use Rattle.imgref_replay.specs.declared.commands.Refusal.{Refusal}

@@ -41,9 +41,6 @@ pub record IsPartly {T : Type 0} (old now : TileCursor (MutBor (List T))) : Type
   pub rest : all_flattened (grid_of (mut_layout (image_of now))) (windows_left (tiling_of now)) ≡ all_flattened (grid_of (mut_layout (image_of old))) (windows_left (tiling_of old))
   pub outside : SameOutside (mut_layout (image_of old)) (mut_layout (image_of now))
 
-pub none_yet : {T : Type 0} (old : TileCursor (MutBor (List T))) → Fits (mut_layout (image_of old)) → IsPartly old old
-none_yet old fits = record { same_reference = refl; fits = fits; rest = refl; outside = outside_refl (mut_layout (image_of old)) }
-
 no_item : {X : Type 0} (xs : List X) → length xs ≤ 0 → xs ≡ []
 no_item [] few = refl
 no_item (x ∷ xs) few = absurd (omega arith)

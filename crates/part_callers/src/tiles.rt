@@ -18,8 +18,8 @@ use imgref::{AsMutSlice, Shape};
 // The next tile, as its cells and its shape.
 fn tile_parts<C: AsMutSlice>(tiles: &mut TileCursor<C>) -> (&mut [C::Item], Shape)
     requires more { 0 < length (tiles_left C.AsSlice.cells tiles.old) }
-    ensures* hands_on { sem 𝓛 (follows (the_row C.row) (Array C.Item.row 0) tiles.entry.ghost_name result.0.ghost_name (after_tile C.AsSlice.cells C.with_cells C.roomy_windows tiles.old)) }
-    ensures tile { IsTile C.AsSlice.cells C.with_cells C.roomy_windows tiles.old (shaped result.0.now result.1) }
+    ensures* hands_on { sem 𝓛 (follows (the_row C.row) (Array C.Item.row 0) tiles.entry.ghost_name result.0.ghost_name (after_tile C.AsSlice.cells C.with_cells C.padded_windows tiles.old)) }
+    ensures tile { IsTile C.AsSlice.cells C.with_cells C.padded_windows tiles.old (shaped result.0.now result.1) }
 {
     match tiles.next_tile() {
         Some(tile) => tile.into_parts(),

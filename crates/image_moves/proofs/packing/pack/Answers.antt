@@ -1,5 +1,5 @@
 -- The packed layout is packed, fits and shows the same grid.
-use Rattle.image_model.proofs.Kept.{packed_is_packed, packed_is_fit, packed_grid}
+use Rattle.image_model.proofs.Compaction.{packed_is_packed, packed_is_fit, packed_grid}
 use Rattle.image_shape.specs.Shape.{shaped}
 use Rattle.image_moves.proofs.packing.pack.Goals as goal
 

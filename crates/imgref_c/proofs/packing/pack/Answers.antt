@@ -3,7 +3,7 @@ use Rattle.std.proofs.Common.{rules, ◌≡◌, ◌*◌, ◌++◌, List, ap, ◌
 use Rattle.image_model.specs.Layout.{Layout, layout, Fits}
 use Rattle.image_model.specs.Grid.{grid_of}
 use Rattle.image_model.specs.Rows.{joined_rows}
-use Rattle.image_model.specs.Kept.{least_stride}
+use Rattle.image_model.specs.Compaction.{least_stride}
 use Rattle.image_shape.specs.Shape.{shaped}
 use Rattle.imgref_c.proofs.Packed.{joined_shows}
 use Rattle.imgref_c.proofs.packing.pack.Goals as goal

@@ -80,10 +80,10 @@ tile_parts_spec 𝓤 𝓛 𝓜 𝓡 wired X Y LX LY gh d gs ds bm bs =
     let Ans : RattleType = OP.the_row Row in
     let Held : RattleType = LentCells κ Y in
     let Two : RattleType = ImgParts κ R in
-    let F : List Y.Denot → TileCursor X.Denot = after_tile gs.cells gh.with_cells gh.roomy_windows h in
+    let F : List Y.Denot → TileCursor X.Denot = after_tile gs.cells gh.with_cells gh.padded_windows h in
     let Tile : Type 0 = Img (MutBor (List Y.Denot)) in
     let Given : Type 0 = Option Tile in
-    let Gives : Given → Type 0 = NextTile gs.cells gh.with_cells gh.roomy_windows h before in
+    let Gives : Given → Type 0 = NextTile gs.cells gh.with_cells gh.padded_windows h before in
     let Tok : Item 𝓤 = ‵ (flft κ qs.0) ⊛ ‵ (flft κX qs.1.0) ⊛ ‵ (flft κY qs.1.1.0) ⊛ ‵ ftrue in
     let G₁ = triple_of 𝓛 (f.signature X Y) (f.spec X Y gh d gs ds 𝓛 𝓜.mem 𝓡.returns) in
     let z₁ : G₁.Ghost = ((κs, qs, z.0.2, (x, tt), (mut_vals x, tt)), tt) in
@@ -143,8 +143,8 @@ tile_parts_spec 𝓤 𝓛 𝓜 𝓡 wired X Y LX LY gh d gs ds bm bs =
     lands_last ! refl good $ exec ! 𝓣.C 𝓣.Λ E rest (at_ret E Post) $
     sets ! (of_opd ! (get ! refl)) refl good $ returns ! (look_at ! 0 refl) $ free_all ! refl $
     -- [the parts; the token of κ; that of κX; that of κY; what the cursor follows]
-    let Taken : Type 0 = IsTile gs.cells gh.with_cells gh.roomy_windows h (mut_layout y) in
-    let taken : Taken = record { first = next.first; fits = next.fits; same_width = ap (λ (k : Layout Y.Denot). k.width) next.cells_are ∙ window_width gh.roomy_windows whole_image here; same_height = ap (λ (k : Layout Y.Denot). k.height) next.cells_are ∙ window_height gh.roomy_windows whole_image here; grid = next.grid; outside = next.outside } in
+    let Taken : Type 0 = IsTile gs.cells gh.with_cells gh.padded_windows h (mut_layout y) in
+    let taken : Taken = record { first = next.first; fits = next.fits; same_width = ap (λ (k : Layout Y.Denot). k.width) next.cells_are ∙ window_width gh.padded_windows whole_image here; same_height = ap (λ (k : Layout Y.Denot). k.height) next.cells_are ∙ window_height gh.padded_windows whole_image here; grid = next.grid; outside = next.outside } in
     move ! (4 ∷ []) $ use0 𝓛 (raw (fact 𝓤 Taken)) (fact_i 𝓤 Taken (emp 𝓤) taken) $ move ! (1 ∷ 0 ∷ []) $ join ! $
     -- [the ensures; the parts; the token of κ; that of κX; that of κY]
     move ! (2 ∷ []) $ split ! $ move ! (1 ∷ []) $ drop ! $ move ! (3 ∷ 4 ∷ []) $ join ! $ move ! (1 ∷ 0 ∷ []) $ join ! $

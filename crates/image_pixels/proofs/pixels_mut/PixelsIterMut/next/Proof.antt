@@ -30,7 +30,8 @@ use mir.Syntax.{Ty}
 use Rattle.image_pixels.specs.Loans.{lent}
 use Rattle.image_pixels.proofs.Cursors.{words, then_runs, then_arm}
 use Rattle.image_pixels.proofs.Writing.{Data, made}
-use Rattle.image_pixels.proofs.Marks.{marks_in_row, marks_new_row, parts, pick_past, skipped_in_row, one_at_least, times_one_less}
+use Rattle.borrow_laws.proofs.Tests.{one_at_least}
+use Rattle.image_pixels.proofs.Marks.{marks_in_row, marks_new_row, parts, pick_past, skipped_in_row, times_one_less}
 use Rattle.image_pixels.proofs.Writing.{Taken, takes}
 use denote.Param.{param, layouts}
 use denote.Param.Laws.{param_laws}

@@ -50,6 +50,7 @@ use Rattle.borrow_laws.proofs.Declared.{is_low, typed}
 use Rattle.borrow_laws.proofs.Options.{lent_val}
 use Rattle.borrow_laws.proofs.Pairs.{pair_val, pair_made, pair_told, pair_out}
 use Rattle.borrow_laws.proofs.Parts.{given_up, cut_within}
+use Rattle.borrow_laws.proofs.Tests.{one_at_least}
 use Rattle.image_rows.specs.Rows.{without, outer_cut, inner_cut, near, far, beside, let_go, Yields, Moves}
 use Rattle.image_rows.specs.declared.ends.End.{End}
 use Rattle.image_rows.specs.declared.spacing.Spacing.{Spacing}
@@ -64,7 +65,6 @@ use Rattle.image_rows.proofs.spacing.Spacing.TheLaws as spacing_laws
 use Rattle.image_rows.proofs.spacing.Cuts.TheLaws as cuts_laws
 use Rattle.image_rows.proofs.writing.RowsIterMut.TheLaws as iter_laws
 use Rattle.image_rows.proofs.Cuts.{Lies, outer_within, inner_within, last_reaches, gone_is, rest_lies, whole_is, given_at, none_at}
-use Rattle.image_rows.proofs.RowsLeft.{one_at_least}
 use Rattle.image_rows.proofs.IterValues.{cells_out, cells_in}
 use Rattle.image_rows.specs.contracts.parts.part as f
 use Rattle.image_rows.proofs.parts.part.Met as parting

@@ -69,7 +69,7 @@ use Rattle.image_tiles.proofs.bands.BandSpacing.TheLaws as spacing_laws
 use Rattle.image_tiles.proofs.bands.Cut.TheLaws as cut_laws
 use Rattle.image_tiles.proofs.bands.BandsMut.TheLaws as iter_laws
 use Rattle.image_tiles.proofs.BandsCut.{Lies, cut_end, end_within, skip_within, gone_is, rest_lies, whole_is, given, none_at}
-use Rattle.image_tiles.proofs.Tilings.{one_at_least}
+use Rattle.borrow_laws.proofs.Tests.{one_at_least}
 use Rattle.image_tiles.proofs.BandValues.{cells_out, cells_in}
 use Rattle.image_tiles.specs.contracts.bands.part as f
 use Rattle.image_tiles.proofs.bands.part.Met as parting

@@ -13,11 +13,11 @@ returns g c =
     let i = image_of c.args.self.now in
     let cells = g.C.AsSlice.cells in
     let with_cells = g.C.AsMutSlice.with_cells in
-    let roomy = g.C.AsMutSlice.roomy_windows in
+    let padded = g.C.AsMutSlice.padded_windows in
     let next = c.next_window-window.ensures in
     let parts = c.window_parts_mut.ensures in
     let m = shaped c.window_parts_mut.result.0.now c.window_parts_mut.result.1 in (
-      (refl, λ ws. same_cursor _ _ _ _ (ap (λ (w : Window). with_window cells with_cells roomy i w ws) next.value) next.steps _ _ _ _),
+      (refl, λ ws. same_cursor _ _ _ _ (ap (λ (w : Window). with_window cells with_cells padded i w ws) next.value) next.steps _ _ _ _),
       record {
         hands_on = tt;
         steps = search rules;
@@ -28,9 +28,9 @@ returns g c =
         some_width = search rules;
         some_height = search rules;
         holds_width = search rules;
-        grid = subst (λ (w : Window). WindowPatchesGrid cells with_cells roomy i w m) next.value parts.grid;
-        outside = subst (λ (w : Window). WindowKeepsOutside cells with_cells roomy i w m) next.value parts.outside;
-        still_fits = subst (λ (w : Window). WindowKeepsFit cells with_cells roomy i w m) next.value parts.still_fits;
-        container = subst (λ (w : Window). WindowKeepsContainer cells with_cells roomy i w m) next.value parts.container;
+        grid = subst (λ (w : Window). WindowPatchesGrid cells with_cells padded i w m) next.value parts.grid;
+        outside = subst (λ (w : Window). WindowKeepsOutside cells with_cells padded i w m) next.value parts.outside;
+        still_fits = subst (λ (w : Window). WindowKeepsFit cells with_cells padded i w m) next.value parts.still_fits;
+        container = subst (λ (w : Window). WindowKeepsContainer cells with_cells padded i w m) next.value parts.container;
       },
     )

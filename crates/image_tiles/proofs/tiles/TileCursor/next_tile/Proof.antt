@@ -55,7 +55,7 @@ use Rattle.image_tiles.specs.contracts.tiles.TileCursor.tile as g
 use Rattle.image_tiles.proofs.tiles.TileCursor.tile.Met as lending
 use Rattle.image_tiles.proofs.CountedValues.{Counted, counted_told, counted_out}
 use Rattle.image_tiles.proofs.Left.{tiles_all_left, none_of_length}
-use Rattle.image_tiles.proofs.Tilings.{one_at_least}
+use Rattle.borrow_laws.proofs.Tests.{one_at_least}
 use Rattle.image_tiles.specs.contracts.tiles.TileCursor.next_tile.{ended, clauses}
 use Rattle.image_tiles.specs.contracts.tiles.TileCursor.next_tile.Key.{name as #self}
 use Rattle.image_tiles.proofs.tiles.TileCursor.next_tile.Statement.{statement}
@@ -74,16 +74,16 @@ next_tile_spec 𝓤 𝓛 𝓜 𝓡 wired X Y LX LY gh d gs ds bm bs =
     let li : Layout Y.Denot = layout_by gs.cells (image_of h) in
     let before : List Window = tiles_left gs.cells h in
     let here : Window = tile_now (tiling_of h) in
-    let roomy = gh.roomy_windows in
+    let padded = gh.padded_windows in
     let FitsIn : Type 0 = Fits li in
     let More : Type 0 = IsTrue (has_tile (tiling_of h)) in
     let Row : RattleType = img_row (named 0) κ R in
     let Ans : RattleType = OP.the_row Row in
     let Pair : RattleType = Counted (named 0) κ Whole in
-    let F : List Y.Denot → TileCursor X.Denot = after_tile gs.cells gh.with_cells roomy h in
+    let F : List Y.Denot → TileCursor X.Denot = after_tile gs.cells gh.with_cells padded h in
     let Answered : Type 0 = Option (Img (MutBor (List Y.Denot))) in
-    let Next : List Window → Img (MutBor (List Y.Denot)) → Type 0 = IsNext gs.cells gh.with_cells roomy h in
-    let Gives : Answered → Type 0 = NextTile gs.cells gh.with_cells roomy h before in
+    let Next : List Window → Img (MutBor (List Y.Denot)) → Type 0 = IsNext gs.cells gh.with_cells padded h in
+    let Gives : Answered → Type 0 = NextTile gs.cells gh.with_cells padded h before in
     let Tok : Item 𝓤 = ‵ (flft κ qs.0) ⊛ ‵ (flft κX qs.1.0) ⊛ ‵ (flft κY qs.1.1.0) ⊛ ‵ ftrue in
     let G₁ = triple_of 𝓛 (f.signature X Y) (f.spec X Y gh d gs ds 𝓛 𝓜.mem 𝓡.returns) in
     let z₁ : G₁.Ghost = ((κs, qs, (z.0.2.0, tt), (x, tt), (mut_vals x, tt)), tt) in

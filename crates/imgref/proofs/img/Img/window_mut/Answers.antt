@@ -14,7 +14,7 @@ returns g c =
     let i = c.args.self.now in
     let cells = g.C.AsSlice.cells in
     let with_cells = g.C.AsMutSlice.with_cells in
-    let roomy = g.C.AsMutSlice.roomy_windows in
+    let padded = g.C.AsMutSlice.padded_windows in
     let w : Window = as_window c.args.place in
     let parts = c.window_parts_mut-buf in
     let made = c.from_parts.ensures in
@@ -25,9 +25,9 @@ returns g c =
         layout = sym is ∙ parts.ensures.layout;
         fits = subst (λ (m : Layout g.row.C-Item.Denot). Fits m) is parts.ensures.fits;
         view = ap grid_of (sym is) ∙ parts.ensures.view;
-        grid = subst (WindowPatchesGrid cells with_cells roomy i w) is parts.ensures.grid;
-        outside = subst (WindowKeepsOutside cells with_cells roomy i w) is parts.ensures.outside;
-        still_fits = subst (WindowKeepsFit cells with_cells roomy i w) is parts.ensures.still_fits;
-        container = subst (WindowKeepsContainer cells with_cells roomy i w) is parts.ensures.container;
+        grid = subst (WindowPatchesGrid cells with_cells padded i w) is parts.ensures.grid;
+        outside = subst (WindowKeepsOutside cells with_cells padded i w) is parts.ensures.outside;
+        still_fits = subst (WindowKeepsFit cells with_cells padded i w) is parts.ensures.still_fits;
+        container = subst (WindowKeepsContainer cells with_cells padded i w) is parts.ensures.container;
       },
     )

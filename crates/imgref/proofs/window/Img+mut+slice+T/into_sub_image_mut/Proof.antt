@@ -35,7 +35,7 @@ use Rattle.std.proofs.raw_atomic.Walks.{proved_at, leaves}
 use Rattle.borrow_laws.proofs.Bodies.{of_one}
 use Rattle.image_model.specs.Layout.{Fits}
 use Rattle.image_model.specs.Grid.{grid_of}
-use Rattle.image_model.specs.Windows.{Window as Pane, window, window_view, IsInside, IsWithin, Stretch as Part, roomy_stretch, roomy_window, stretch_cells, with_stretch}
+use Rattle.image_model.specs.Windows.{Window as Pane, window, window_view, IsInside, IsWithin, Stretch as Part, padded_stretch, padded_window, stretch_cells, with_stretch}
 use Rattle.image_shape.specs.declared.window.Window.{Window}
 use Rattle.image_shape.specs.declared.window.Stretch.{Stretch}
 use Rattle.image_shape.specs.declared.shape.Shape.{Shape}
@@ -47,8 +47,8 @@ use Rattle.image_shape.specs.Window.{as_stretch}
 use Rattle.imgref.specs.Image.{mut_layout, shape_of}
 use Rattle.imgref.specs.declared.img.Img.{Img}
 use Rattle.imgref.proofs.ImageValues.{window_val, window_made, stretch_val, stretch_made, shape_val, shape_made, img_val, img_row, img_told, ImgParts, img_parts_told, Parts, parts_told, LentCells, lent_cells_laws}
-use Rattle.image_cells.specs.contracts.roomy_stretch_mut as f
-use Rattle.image_cells.proofs.roomy_stretch_mut.Met as found
+use Rattle.image_cells.specs.contracts.padded_stretch_mut as f
+use Rattle.image_cells.proofs.padded_stretch_mut.Met as found
 use Rattle.imgref.specs.contracts.img.Img.into_parts as parts
 use Rattle.imgref.proofs.img.Img.into_parts.Met as apart
 use Rattle.imgref.specs.contracts.window.Img+mut+slice+T.from_stretch as g
@@ -125,13 +125,13 @@ into_sub_image_mut_spec 𝓤 𝓛 𝓜 𝓡 wired T L =
     move ! (1 ∷ 0 ∷ []) $ join ! $ move ! (1 ∷ 0 ∷ []) $ join ! $
     use0 𝓛 (raw (fact 𝓤 Inside)) (fact_i 𝓤 Inside (emp 𝓤) inside) $ use0 𝓛 (raw (fact 𝓤 Holds)) (fact_i 𝓤 Holds (emp 𝓤) holds) $ join ! $ use0 𝓛 (raw (fact 𝓤 (κT ⊑ T.lives))) (fact_i 𝓤 (κT ⊑ T.lives) (emp 𝓤) le) $ join ! $
     move ! (1 ∷ 0 ∷ []) $ use2 𝓛 (raw (G.pre z₁)) (id⊢ 𝓤 _) $
-    calls_at ! fm G (found.met 𝓤 𝓛 𝓜 𝓡 (compiled.calls-image_cells::roomy_stretch_mut 𝓡.env wired) T L) z₁ (and_then ! (get ! refl) (and_then ! (get ! refl) (and_then ! (get ! refl) (no_more !)))) (λ v.
+    calls_at ! fm G (found.met 𝓤 𝓛 𝓜 𝓡 (compiled.calls-image_cells::padded_stretch_mut 𝓡.env wired) T L) z₁ (and_then ! (get ! refl) (and_then ! (get ! refl) (and_then ! (get ! refl) (no_more !)))) (λ v.
     let Cells₁ : MutBor (List T.Denot) × Stretch × Shape → Type 0 = λ x. x.0 ≡ cells in
     let Room₁ : MutBor (List T.Denot) × Stretch × Shape → Type 0 = λ x. IsWithin (length xs) (as_stretch x.1) in
-    let There : MutBor (List T.Denot) × Stretch × Shape → Type 0 = λ x. as_stretch x.1 ≡ roomy_stretch (length xs) li.stride here in
-    let Laid : MutBor (List T.Denot) × Stretch × Shape → Type 0 = λ x. shaped (stretch_cells xs (as_stretch x.1)) x.2 ≡ roomy_window li here in
-    let Fits₁ : Type 0 = Fits (roomy_window li here) in
-    let View₁ : Type 0 = grid_of (roomy_window li here) ≡ window_view (grid_of li) here in
+    let There : MutBor (List T.Denot) × Stretch × Shape → Type 0 = λ x. as_stretch x.1 ≡ padded_stretch (length xs) li.stride here in
+    let Laid : MutBor (List T.Denot) × Stretch × Shape → Type 0 = λ x. shaped (stretch_cells xs (as_stretch x.1)) x.2 ≡ padded_window li here in
+    let Fits₁ : Type 0 = Fits (padded_window li here) in
+    let View₁ : Type 0 = grid_of (padded_window li here) ≡ window_view (grid_of li) here in
     use1 𝓛 (later (some (λ (x : MutBor (List T.Denot) × Stretch × Shape). (Tok ⊛ ‵ (Found.own_val x (v ∷ []))) ⊛ some (λ (us : Unit {0} × (Unit {0} × (Unit {0} × Unit {0}))). ‵ (lasts (f.ended T) z₁.0.0 z₁.0.3 us)
     ⊛ raw (fact 𝓤 (Cells₁ x)) ⊛ raw (fact 𝓤 (Room₁ x)) ⊛ raw (fact 𝓤 (There x)) ⊛ raw (fact 𝓤 (Laid x)) ⊛ raw (fact 𝓤 Fits₁) ⊛ raw (fact 𝓤 View₁))))) (id⊢ 𝓤 _) $
     await ! tt $ pick ! (λ x. split ! $ split ! $ move ! (2 ∷ []) $ pick ! (λ us. split ! $ drop ! $ split ! $ heard ! (Cells₁ x) (λ e₁. split ! $ heard ! (Room₁ x) (λ room. split ! $ heard ! (There x) (λ there. split ! $ heard ! (Laid x) (λ laid. split ! $ heard ! Fits₁ (λ fits. heard ! View₁ (λ view.
@@ -163,7 +163,7 @@ into_sub_image_mut_spec 𝓤 𝓛 𝓜 𝓡 wired T L =
     -- [what follows; the tokens; the window]
     move ! (2 ∷ []) $ peeks ! Row (Is Row) (shows 𝓛 Row) r₂ (v₂ ∷ []) (λ is₂. let t₂ = img_told (named 0) κ R r₂ (v₂ ∷ []) is₂ in
     let w₂ : Val = img_val r₂.buf.ref_ptr (length r₂.buf.now) (shape_of r₂) in
-    let Is₂ : Type 0 = mut_layout r₂ ≡ roomy_window li here in
+    let Is₂ : Type 0 = mut_layout r₂ ≡ padded_window li here in
     let Fits₂ : Type 0 = Fits (mut_layout r₂) in
     let Shows : Type 0 = grid_of (mut_layout r₂) ≡ window_view (grid_of li) here in
     let is₃ : Is₂ = e₂ ∙ laid in

@@ -7,7 +7,7 @@ use Rattle.std.proofs.Math.Nat.{mul-suc}
 use Rattle.image_model.specs.Layout.{Layout, layout, Fits, SameOutside, pixel}
 use Rattle.image_model.specs.Grid.{grid_of}
 use Rattle.image_model.specs.Rows.{joined_rows}
-use Rattle.image_model.specs.Kept.{least_stride, IsPacked, packed, IsKept}
+use Rattle.image_model.specs.Compaction.{least_stride, IsPacked, packed, IsKept}
 use Rattle.image_model.proofs.Places.{outside_trans, written, written_outside}
 use Rattle.image_model.proofs.Grids.{same_grids_of}
 use Rattle.image_model.proofs.Rows.{joined_first, length-joined_rows}

@@ -3,7 +3,7 @@ use Rattle.std.proofs.Common.{true, rules}
 use Rattle.image_model.proofs.Windows.{shows_as}
 use Rattle.image_shape.specs.Shape.{shaped}
 use Rattle.image_shape.specs.Window.{as_window}
-use Rattle.image_cells.proofs.windows.roomy_part.Goals as goal
+use Rattle.image_cells.proofs.windows.padded_part.Goals as goal
 
 pub returns-clause-view : goal.returns-clause-view
 returns-clause-view g c =

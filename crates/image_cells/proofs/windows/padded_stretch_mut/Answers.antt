@@ -3,7 +3,7 @@ use Rattle.std.proofs.Common.{true}
 use Rattle.image_model.proofs.Windows.{layout_shows}
 use Rattle.image_shape.specs.Shape.{shaped}
 use Rattle.image_shape.specs.Window.{as_window}
-use Rattle.image_cells.proofs.windows.roomy_stretch_mut.Goals as goal
+use Rattle.image_cells.proofs.windows.padded_stretch_mut.Goals as goal
 
 pub returns-clause-view : goal.returns-clause-view
 returns-clause-view g c =
