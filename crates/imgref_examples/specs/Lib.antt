@@ -5,3 +5,5 @@ pub mod Stripes
 pub mod Swept
 pub mod Blur
 pub mod Brightness
+pub mod Rows
+pub mod Pixels

@@ -1,11 +1,17 @@
 //! Frames of video: what a user of `imgref` writes, with contracts by the grid. Sums, brightness,
 //! crops, blurs, rectangles, luma planes, and drawings by places. docs/CALLERS.md explains them.
+//!
+//! Beside them stand callers that show what a contract says from outside: writes through nested
+//! windows, copies and moves of windows, rows that are filled by their number or through an iterator
+//! that ends early, pixels that are written through a cursor, and calls that just meet a condition.
 #![tactic(auto)]
 
 mod beside;
+mod blits;
 mod blur;
 mod border;
 mod brightness;
+mod conditions;
 mod crop;
 mod drawing;
 mod luma;
@@ -13,25 +19,37 @@ mod nested;
 #[cfg(test)]
 mod outcomes;
 mod paste;
+mod pixels;
 mod points;
 mod rect;
+mod rows;
 mod sums;
 #[cfg(test)]
 mod tests;
 mod tiles;
 mod upside_down;
+mod windows;
 
 pub use beside::put_above_fill;
+pub use blits::{copy_across, copy_but_one, copy_over_cells, scroll_up};
 pub use blur::box_blur_3x3;
 pub use border::draw_border;
 pub use brightness::{brighten, brighten_places, brighten_rows};
+pub use conditions::{
+    cells_of_last_columns, clear_start_of_last_row, exchange_last_rows, halve_if_it_fits, highest,
+    last_cell, narrowest, padding_of_first_row, pixels_if_it_fits, second_row_far_behind,
+    start_of_last_row, widest,
+};
 pub use crop::{crop_copy, crop_packed};
 pub use drawing::{dot, put_then_get, stripes, three_by_index, three_places};
 pub use luma::{FrameError, luma_plane};
 pub use nested::greatest_in;
 pub use paste::{paste_at, paste_sprite};
+pub use pixels::{invert_lent, invert_owner, write_first};
 pub use points::{invert, threshold};
 pub use rect::draw_rect;
+pub use rows::{fill_last_row, fill_row_at};
 pub use sums::{checksum, checksum_by_rows, exact_checksum};
 pub use tiles::{darken_lent_tiles, darken_tiles};
 pub use upside_down::flip;
+pub use windows::{put_in_cells, put_in_lent, put_in_owner};

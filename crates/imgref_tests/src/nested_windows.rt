@@ -1,7 +1,7 @@
 //! Writes through a window of a window.
 
 use imgref::{ImgRefMut, ImgVec, Shape, Window};
-use imgref_callers::{put_in_cells, put_in_lent, put_in_owner};
+use imgref_examples::{put_in_cells, put_in_lent, put_in_owner};
 use std::test::Fail;
 
 const CELLS: [u8; 9] = [1, 2, 3, 4, 5, 6, 7, 8, 9];

@@ -4,7 +4,7 @@ ghost use Rattle.image_model.specs.Layout.{Fits};
 ghost use Rattle.imgref.specs.Image.{mut_layout, vec_layout};
 
 use imgref::{ImgRef, ImgRefMut, ImgVec, Shape, fill_pixels};
-use imgref_callers::write_first;
+use imgref_examples::write_first;
 use imgref_fixtures::{PADDED, cells_of, is_over, len_of, padded};
 use std::test::Fail;
 

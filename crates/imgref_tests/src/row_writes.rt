@@ -6,7 +6,7 @@ ghost use Rattle.image_model.specs.Rows.{row_count};
 ghost use Rattle.imgref.specs.Image.{width_of, height_of, mut_layout, vec_layout};
 
 use imgref::{Img, ImgRefMut, ImgVec};
-use imgref_callers::fill_last_row;
+use imgref_examples::fill_last_row;
 use imgref_fixtures::{PADDED, SQUARE, cells_of, is_over, len_of, next_from, padded};
 use std::test::Fail;
 

@@ -5,7 +5,7 @@ ghost use Rattle.image_model.specs.Layout.{Fits, layout};
 ghost use Rattle.imgref.specs.Image.{width_of, height_of, layout_by, vec_layout};
 
 use imgref::{AsSlice, Img, ImgRefMut, ImgVec};
-use imgref_callers::fill_row_at;
+use imgref_examples::fill_row_at;
 use imgref_fixtures::PADDED;
 use std::test::Fail;
 

@@ -6,7 +6,7 @@ use Rattle.std.proofs.lemmas.Bool.{cond-true, lt-ltb}
 use Rattle.image_model.specs.Layout.{Layout}
 use Rattle.image_model.specs.Grid.{grid_of, uniform}
 use Rattle.image_model.proofs.Grids.{same_grids}
-use Rattle.imgref_callers.specs.Pixels.{with_first}
+use Rattle.imgref_examples.specs.Pixels.{with_first}
 
 pub all_of_them : {T : Type 0} (l : Layout T) (value : T) → with_first (grid_of l) (l.width * l.height) value ≡ uniform l.width l.height value
 unfolding grid_of uniform

@@ -21,7 +21,7 @@ use Rattle.imgref.specs.Image.{buf_of, width_of, height_of, layout_by, mut_layou
 use Rattle.image_tiles.specs.declared.bands.BandSpacing.{BandSpacing}
 use Rattle.image_tiles.specs.declared.bands.BandsMut.{BandsMut}
 use Rattle.image_tiles.specs.Bands.{bands, band_count, band_window, bands_left, cells_left, spacing_left, whole_spacing, put_back, Moves}
-use Rattle.imgref_callers.proofs.Replaced.{new_layout}
+use Rattle.imgref_examples.proofs.Replaced.{new_layout}
 use Rattle.part_callers.specs.Bands.{HasFirstBand}
 
 -- the first item, or this one

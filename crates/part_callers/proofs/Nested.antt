@@ -9,7 +9,7 @@ use Rattle.image_model.proofs.Stretches.{length-stretch_cells, length-with_stret
 use Rattle.image_model.proofs.Windows.{HasWindow, stretch_window, handed_on, handed_on_grid, handed_on_outside}
 use Rattle.imgref.specs.declared.img.Img.{Img}
 use Rattle.imgref.specs.Image.{width_of, height_of, stride_of, layout_by}
-use Rattle.imgref_callers.proofs.Replaced.{new_layout}
+use Rattle.imgref_examples.proofs.Replaced.{new_layout}
 use Rattle.part_callers.specs.Paths.{with_path, IsNested}
 
 module _ {C T : Type 0} (cells : C → List T) (with_cells : C → Stretch → List T → C)

@@ -6,7 +6,7 @@ ghost use Rattle.image_model.specs.Grid.{uniform};
 ghost use Rattle.imgref.specs.Shape.{shape_width, shape_height, shaped_grid, shaped};
 
 use imgref::{ImgRefMut, Shape};
-use imgref_callers::write_first;
+use imgref_examples::write_first;
 
 // Every pixel becomes `value`, one after the other.
 pub fn fill<T: Copy>(cells: &mut [T], shape: Shape, value: T)

@@ -6,7 +6,7 @@ use Rattle.image_model.specs.Grid.{grid_of}
 use Rattle.imgref.specs.declared.img.Img.{Img}
 use Rattle.imgref.specs.Image.{buf_of, width_of, height_of, stride_of, mut_layout}
 use Rattle.imgref.specs.Shape.{shaped}
-use Rattle.imgref_callers.specs.Pixels.{with_first}
+use Rattle.imgref_examples.specs.Pixels.{with_first}
 use Rattle.part_callers.proofs.Filled.{all_of_them}
 use Rattle.part_callers.proofs.fills.fill.Goals as goal
 

@@ -67,12 +67,12 @@ use Rattle.image_pixels.specs.declared.pixels_mut.PixelsIterMut.{PixelsIterMut}
 use Rattle.image_pixels.specs.contracts.pixels_mut.PixelsIterMut.next as N
 use Rattle.image_pixels.specs.contracts.pixels_mut.PixelsIterMut.next.Key.{name as #next}
 use Rattle.image_pixels.proofs.pixels_mut.PixelsIterMut.next.Met as next
-use Rattle.imgref_callers.specs.Pixels.{first_covered}
-use Rattle.imgref_callers.proofs.FirstPixels.{covered_past, covered_none}
-use Rattle.imgref_callers.specs.contracts.pixels.write_next as F
-use Rattle.imgref_callers.specs.contracts.pixels.write_next.Key.{name as #self}
-use Rattle.imgref_callers.proofs.pixels.write_next.Statement.{statement}
-use Rattle.imgref_callers.proofs.pixels.write_next.Code as code
+use Rattle.imgref_examples.specs.Pixels.{first_covered}
+use Rattle.imgref_examples.proofs.FirstPixels.{covered_past, covered_none}
+use Rattle.imgref_examples.specs.contracts.pixels.write_next as F
+use Rattle.imgref_examples.specs.contracts.pixels.write_next.Key.{name as #self}
+use Rattle.imgref_examples.proofs.pixels.write_next.Statement.{statement}
+use Rattle.imgref_examples.proofs.pixels.write_next.Code as code
 
 record El : Type 2 where
   X : RattleType

@@ -5,7 +5,7 @@ ghost use Rattle.std.specs.Borrow.{sem};
 ghost use Rattle.image_model.specs.Layout.{Fits, SameOutside};
 ghost use Rattle.image_pixels.specs.Marks.{marks_of};
 ghost use Rattle.imgref.specs.Image.{buf_of, width_of, height_of, stride_of, grid_by, layout_by, OnlyCellsChange, with_all, vec_layout, mut_layout};
-ghost use Rattle.imgref_callers.specs.Pixels.{with_first, first_covered, writes_first};
+ghost use Rattle.imgref_examples.specs.Pixels.{with_first, first_covered, writes_first};
 
 use image_pixels::PixelsIterMut;
 use imgref::{AsMutSlice, Img, ImgRefMut, ImgVec};

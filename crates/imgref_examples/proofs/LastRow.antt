@@ -18,8 +18,8 @@ use Rattle.image_rows.specs.declared.ends.End.TheVariants.{Last}
 use Rattle.image_rows.specs.declared.writing.RowsIterMut.{RowsIterMut}
 use Rattle.imgref.specs.declared.img.Img.{Img}
 use Rattle.imgref.specs.Image.{buf_of, width_of, stride_of, with_all, grid_by, layout_by}
-use Rattle.imgref_callers.specs.Rows.{with_last_row, with_last_of}
-use Rattle.imgref_callers.proofs.Replaced.{new_layout, new_container}
+use Rattle.imgref_examples.specs.Rows.{with_last_row, with_last_of}
+use Rattle.imgref_examples.proofs.Replaced.{new_layout, new_container}
 
 -- ---- what a step from the back says, of an iterator over all rows
 

@@ -1,5 +1,5 @@
 use Rattle.std.proofs.Common.{◌≡◌, replicate, take}
-use Rattle.imgref_callers.proofs.rows.fill_row.Given as goal
+use Rattle.imgref_examples.proofs.rows.fill_row.Given as goal
 
 -- the cells so far are `value`
 abbrev pub invariant-loop-i : goal.invariant-loop-i

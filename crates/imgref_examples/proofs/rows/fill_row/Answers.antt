@@ -1,6 +1,6 @@
 use Rattle.std.proofs.Common.{◌≡◌, ◌∷◌, [], ◌++◌, length, sym, ap, ◌∙◌, arith, replicate}
 use Rattle.std.proofs.lemmas.List.{take_more_set, replicate_more, take_all}
-use Rattle.imgref_callers.proofs.rows.fill_row.Goals as goal
+use Rattle.imgref_examples.proofs.rows.fill_row.Goals as goal
 
 pub loop-i-preserved : goal.loop-i-preserved
 loop-i-preserved g c =

@@ -1,7 +1,7 @@
 -- The clauses of the window at what is left in its cells.
 use Rattle.std.proofs.Common.{arith}
 use Rattle.image_model.proofs.Patches.{fill_in_view}
-use Rattle.imgref_callers.proofs.windows.put_in_owner.Goals as goal
+use Rattle.imgref_examples.proofs.windows.put_in_owner.Goals as goal
 
 pub returns-clause-grid : goal.returns-clause-grid
 returns-clause-grid g c =

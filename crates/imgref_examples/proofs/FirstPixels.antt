@@ -16,9 +16,9 @@ use Rattle.image_pixels.specs.Marks.{pick, marks_of}
 use Rattle.image_pixels.proofs.Layouts.{marked_pixels}
 use Rattle.imgref.specs.declared.img.Img.{Img}
 use Rattle.imgref.specs.Image.{buf_of, width_of, stride_of, with_all, grid_by, layout_by}
-use Rattle.imgref_callers.specs.Pixels.{first_covered, with_first}
-use Rattle.imgref_callers.proofs.Padding.{padding_unmarked}
-use Rattle.imgref_callers.proofs.Replaced.{new_layout, new_container}
+use Rattle.imgref_examples.specs.Pixels.{first_covered, with_first}
+use Rattle.imgref_examples.proofs.Padding.{padding_unmarked}
+use Rattle.imgref_examples.proofs.Replaced.{new_layout, new_container}
 
 module _ {X : Type 0} (v : X) where
   pub covered_past : (n k : ℕ) (ms : List Bool) (front : List X) (y : X) (back : List X) → length front ≡ k → first_covered (suc n) (replicate k false ++ true ∷ ms) v (front ++ y ∷ back) ≡ front ++ v ∷ first_covered n ms v back

@@ -71,14 +71,14 @@ use Rattle.imgref.specs.declared.img.Img.{Img}
 use Rattle.imgref.specs.contracts.img.Img.{the_row}
 use Rattle.imgref.specs.contracts.img.Img.rows_mut as M
 use Rattle.imgref.proofs.img.Img.rows_mut.Met as making
-use Rattle.imgref_callers.specs.Rows.{with_last_row}
-use Rattle.imgref_callers.proofs.LastRow.{none_left, last_left}
-use Rattle.imgref_callers.specs.contracts.rows.fill_row as W
-use Rattle.imgref_callers.proofs.rows.fill_row.Met as writing
-use Rattle.imgref_callers.specs.contracts.rows.cover_last.{ended, clauses}
-use Rattle.imgref_callers.specs.contracts.rows.cover_last.Key.{name as #self}
-use Rattle.imgref_callers.proofs.rows.cover_last.Statement.{statement}
-use Rattle.imgref_callers.proofs.rows.cover_last.Code as compiled
+use Rattle.imgref_examples.specs.Rows.{with_last_row}
+use Rattle.imgref_examples.proofs.LastRow.{none_left, last_left}
+use Rattle.imgref_examples.specs.contracts.rows.fill_row as W
+use Rattle.imgref_examples.proofs.rows.fill_row.Met as writing
+use Rattle.imgref_examples.specs.contracts.rows.cover_last.{ended, clauses}
+use Rattle.imgref_examples.specs.contracts.rows.cover_last.Key.{name as #self}
+use Rattle.imgref_examples.proofs.rows.cover_last.Statement.{statement}
+use Rattle.imgref_examples.proofs.rows.cover_last.Code as compiled
 
 pub cover_last_spec : {M : Type 1} → statement M
 cover_last_spec 𝓤 𝓛 𝓜 𝓡 wired X Y LX LY CY gh d gs ds gc dc bm bs bc =
@@ -235,7 +235,7 @@ cover_last_spec 𝓤 𝓛 𝓜 𝓡 wired X Y LX LY CY gh d gs ds gc dc bm bs bc
     nothing ! $ move ! (10 ∷ 0 ∷ []) $ fjoin ! $ move ! (1 ∷ 0 ∷ []) $ fjoin ! $ nothing ! $ move ! (4 ∷ 0 ∷ []) $ join ! $ move ! (3 ∷ 0 ∷ []) $ join ! $ join ! $
     nothing ! $ use0 𝓛 (raw (fact 𝓤 (κ₂ ⊑ Y.lives))) (fact_i 𝓤 (κ₂ ⊑ Y.lives) (emp 𝓤) inY) $ join ! $ move ! (1 ∷ 0 ∷ []) $ use2 𝓛 (raw (G₃.pre z₃)) (id⊢ 𝓤 _) $
     -- [what the call asks; how the iterator's cells end; what follows the row; κ₁; what follows; what is kept; the end of α]
-    calls_at_last ! fm G₃ (writing.met 𝓤 𝓛 𝓜 𝓡 (compiled.calls-imgref_callers::rows::fill_row 𝓡.env wired) Y LY CY gc dc bc) z₃ (and_then ! (get ! refl) (and_then ! (get ! refl) (no_more !))) (λ v₄.
+    calls_at_last ! fm G₃ (writing.met 𝓤 𝓛 𝓜 𝓡 (compiled.calls-imgref_examples::rows::fill_row 𝓡.env wired) Y LY CY gc dc bc) z₃ (and_then ! (get ! refl) (and_then ! (get ! refl) (no_more !))) (λ v₄.
     use1 𝓛 (later (some (λ (u : Unit {0}). ((‵ (flft α qα) ⊛ ‵ (flft κ₂ q₂) ⊛ ‵ ftrue) ⊛ ‵ (unit.own_val u (v₄ ∷ []))) ⊛ some (λ (ws : List Y.Denot × (Unit {0} × Unit {0})). ‵ (lasts (W.ended Y gc dc) z₃.0.0 z₃.0.3 ws) ⊛ raw (fact 𝓤 (ws.0 ≡ full)))))) (id⊢ 𝓤 _) $
     await ! tt $ pick ! (λ u. split ! $ split ! $ move ! (1 ∷ []) $ feq_l ! (λ is_unit.
     lands_last ! refl (subst (λ (v' : Val). T (has_ty ty_unit v') × WT v') (sym (ap only is_unit)) (tt, tt)) $

@@ -1,6 +1,6 @@
 -- The cells that `cover_last` leaves show the patch of the last row.
-use Rattle.imgref_callers.proofs.LastRow.{image_grid, image_outside, image_container}
-use Rattle.imgref_callers.proofs.rows.fill_last_row.Goals as goal
+use Rattle.imgref_examples.proofs.LastRow.{image_grid, image_outside, image_container}
+use Rattle.imgref_examples.proofs.rows.fill_last_row.Goals as goal
 
 pub returns-clause-grid : goal.returns-clause-grid
 returns-clause-grid g c =

@@ -58,14 +58,14 @@ use Rattle.imgref.specs.declared.img.Img.{Img}
 use Rattle.imgref.specs.contracts.img.Img.{the_row}
 use Rattle.imgref.specs.contracts.img.Img.exact_pixels_mut as M
 use Rattle.imgref.proofs.img.Img.exact_pixels_mut.Met as making
-use Rattle.imgref_callers.specs.Pixels.{first_covered, writes_first}
-use Rattle.imgref_callers.specs.contracts.pixels.write_next as W
-use Rattle.imgref_callers.proofs.pixels.write_next.Met as writing
-use Rattle.imgref_callers.specs.contracts.pixels.cover_first.{ended, clauses}
-use Rattle.imgref_callers.specs.contracts.pixels.cover_first.Key.{name as #self}
-use Rattle.imgref_callers.proofs.pixels.cover_first.Statement.{statement}
-use Rattle.imgref_callers.proofs.pixels.cover_first.Code as compiled
-use Rattle.imgref_callers.proofs.Destruct++none.drop.Code.{code as let_go_code}
+use Rattle.imgref_examples.specs.Pixels.{first_covered, writes_first}
+use Rattle.imgref_examples.specs.contracts.pixels.write_next as W
+use Rattle.imgref_examples.proofs.pixels.write_next.Met as writing
+use Rattle.imgref_examples.specs.contracts.pixels.cover_first.{ended, clauses}
+use Rattle.imgref_examples.specs.contracts.pixels.cover_first.Key.{name as #self}
+use Rattle.imgref_examples.proofs.pixels.cover_first.Statement.{statement}
+use Rattle.imgref_examples.proofs.pixels.cover_first.Code as compiled
+use Rattle.imgref_examples.proofs.Destruct++none.drop.Code.{code as let_go_code}
 
 pub cover_first_spec : {M : Type 1} → statement M
 unfolding let_go_code
@@ -142,7 +142,7 @@ cover_first_spec 𝓤 𝓛 𝓜 𝓡 wired X Y LX LY CY gh d gs ds gc dc bm bs b
     nothing ! $ move ! (6 ∷ 0 ∷ []) $ join ! $ move ! (5 ∷ 0 ∷ []) $ join ! $ move ! (3 ∷ 0 ∷ []) $ join ! $ join ! $
     nothing ! $ use0 𝓛 (raw (fact 𝓤 (κ₂ ⊑ Y.lives))) (fact_i 𝓤 (κ₂ ⊑ Y.lives) (emp 𝓤) inY) $ join ! $ move ! (1 ∷ 0 ∷ []) $ use2 𝓛 (raw (G₂.pre z₂)) (id⊢ 𝓤 _) $
     -- [what the call asks; what is kept of the loan; the end of β; κ₁; what follows; what is kept; the end of α]
-    calls_at ! fm G₂ (writing.met 𝓤 𝓛 𝓜 𝓡 (compiled.calls-imgref_callers::pixels::write_next 𝓡.env wired) Y LY CY gc dc bc) z₂ (and_then ! (get ! refl) (and_then ! (get ! refl) (and_then ! (get ! refl) (no_more !)))) (λ v₂.
+    calls_at ! fm G₂ (writing.met 𝓤 𝓛 𝓜 𝓡 (compiled.calls-imgref_examples::pixels::write_next 𝓡.env wired) Y LY CY gc dc bc) z₂ (and_then ! (get ! refl) (and_then ! (get ! refl) (and_then ! (get ! refl) (no_more !)))) (λ v₂.
     use1 𝓛 (later (some (λ (u : Unit {0}). ((‵ (flft β qβ) ⊛ ‵ (flft α (Share.right qα)) ⊛ ‵ (flft κ₂ q₂) ⊛ ‵ ftrue) ⊛ ‵ (unit.own_val u (v₂ ∷ []))) ⊛ some (λ (ws : Sort × (Unit {0} × (Unit {0} × Unit {0}))). ‵ (lasts (W.ended Y gc dc) z₂.0.0 z₂.0.3 ws) ⊛ ‵ (writes_first R count value r ws.0))))) (id⊢ 𝓤 _) $
     await ! tt $ pick ! (λ u. split ! $ split ! $ move ! (1 ∷ []) $ feq_l ! (λ is_unit. lands_as ! (ap only is_unit) refl (tt, tt) $
     move ! (1 ∷ []) $ pick ! (λ ws₂. let t : Sort = ws₂.0 in split ! $ fsplit ! $ fsplit ! $
@@ -157,13 +157,13 @@ cover_first_spec 𝓤 𝓛 𝓜 𝓡 wired X Y LX LY CY gh d gs ds gc dc bm bs b
     rewrite ! 0 (λ (us : List Val). ‵ (cursor.own_val t us)) told₃ refl $ move ! (1 ∷ []) $ rewrite ! 0 (λ (us : Val). ‵ (fat full_share spelled (l 4) 0 us)) (ap only told₃) refl $ give_at ! 4 $
     -- [the cursor; α; κ₂; its borrow; nothing; what it fills; κ₁; what follows; what is kept; the end of α]
     sets ! (of_opd ! (unit_lit !)) refl (tt, tt) $ sets ! (of_opd ! (get ! refl)) refl (fit t (v₃ ∷ []) is₃) $
-    let let_go : Dict = impl ("imgref_callers::Destruct++none::drop" ∷ []) (tcons (layout Y) tnil) dnil in
+    let let_go : Dict = impl ("imgref_examples::Destruct++none::drop" ∷ []) (tcons (layout Y) tnil) dnil in
     let G₃ = triple_of 𝓛 (D.signature Y) (D.spec Y let_go 𝓛 𝓜.mem 𝓡.returns) in
     let z₃ : G₃.Ghost = (((α, (κ₂, tt)), (qα, (q₂, tt)), (in₂, tt), (t, tt), (lowered t ∷ [], tt)), tt) in
     nothing ! $ move ! (1 ∷ 0 ∷ []) $ fjoin ! $ move ! (1 ∷ 2 ∷ []) $ join ! $ join ! $
     nothing ! $ use0 𝓛 (raw (fact 𝓤 (κ₂ ⊑ Y.lives))) (fact_i 𝓤 (κ₂ ⊑ Y.lives) (emp 𝓤) inY) $ join ! $ move ! (1 ∷ 0 ∷ []) $ use2 𝓛 (raw (G₃.pre z₃)) (id⊢ 𝓤 _) $
     -- [what the call asks; the borrow of the cursor; nothing; what it fills; κ₁; what follows; what is kept; the end of α]
-    calls_at ! fm G₃ (dropping.met 𝓤 𝓛 𝓜 𝓡 (compiled.calls-image_pixels::pixels_mut::PixelsIterMut::drop 𝓡.env wired) Y LY let_go (glues "imgref_callers::Destruct++none::drop" 𝓡.env (compiled.calls-imgref_callers::Destruct++none::drop 𝓡.env wired) Y LY _ 𝓤 𝓛 𝓜 𝓡)) z₃ (and_then ! (get ! refl) (no_more !)) (λ v₄.
+    calls_at ! fm G₃ (dropping.met 𝓤 𝓛 𝓜 𝓡 (compiled.calls-image_pixels::pixels_mut::PixelsIterMut::drop 𝓡.env wired) Y LY let_go (glues "imgref_examples::Destruct++none::drop" 𝓡.env (compiled.calls-imgref_examples::Destruct++none::drop 𝓡.env wired) Y LY _ 𝓤 𝓛 𝓜 𝓡)) z₃ (and_then ! (get ! refl) (no_more !)) (λ v₄.
     use1 𝓛 (later (some (λ (u₃ : Unit {0}). ((‵ (flft α qα) ⊛ ‵ (flft κ₂ q₂) ⊛ ‵ ftrue) ⊛ ‵ (unit.own_val u₃ (v₄ ∷ []))) ⊛ some (λ (ws : Unit {0} × Unit {0}). ‵ (lasts (D.ended Y let_go) z₃.0.0 z₃.0.3 ws) ⊛ ‵ (fres (name_of t) ((coded_list R.coded).code (cells_left t))))))) (id⊢ 𝓤 _) $
     await ! tt $ pick ! (λ u₃. split ! $ split ! $ move ! (1 ∷ []) $ feq_l ! (λ was_unit. lands_as ! (ap only was_unit) refl (tt, tt) $
     move ! (1 ∷ []) $ pick ! (λ ws₃. split ! $ drop ! $ move ! (1 ∷ []) $ split3 ! $

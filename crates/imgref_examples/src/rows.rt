@@ -4,7 +4,7 @@ ghost use Rattle.std.specs.Prelude.{◌≡◌, ◌-◌, ◌<◌, length, replica
 ghost use Rattle.image_model.specs.Layout.{Fits, SameOutside};
 ghost use Rattle.image_model.specs.Grid.{patch, uniform};
 ghost use Rattle.imgref.specs.Image.{width_of, height_of, grid_by, layout_by, OnlyCellsChange, with_all};
-ghost use Rattle.imgref_callers.specs.Rows.{with_last_row};
+ghost use Rattle.imgref_examples.specs.Rows.{with_last_row};
 
 use imgref::{AsMutSlice, Img};
 

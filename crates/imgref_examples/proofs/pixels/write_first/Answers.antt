@@ -1,6 +1,6 @@
 -- The cells that `cover_first` leaves show the first pixels written.
-use Rattle.imgref_callers.proofs.FirstPixels.{image_grid, image_outside, image_container}
-use Rattle.imgref_callers.proofs.pixels.write_first.Goals as goal
+use Rattle.imgref_examples.proofs.FirstPixels.{image_grid, image_outside, image_container}
+use Rattle.imgref_examples.proofs.pixels.write_first.Goals as goal
 
 pub returns-clause-grid : goal.returns-clause-grid
 returns-clause-grid g c =
