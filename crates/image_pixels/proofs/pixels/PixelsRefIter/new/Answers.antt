@@ -2,10 +2,9 @@ use Rattle.std.proofs.Common.{◌+◌, ◌*◌, ◌≤◌, length, subst, sym, a
 use Rattle.image_shape.specs.Shape.{shaped}
 use Rattle.image_pixels.specs.Marks.{pick, marks}
 use Rattle.image_pixels.specs.Pixels.{refs_left}
-use Rattle.image_pixels.proofs.Layouts.{ArePixels, start_reaches, start_pixels}
+use Rattle.image_pixels.proofs.Layouts.{start_reaches, start_pixels}
 use Rattle.image_pixels.proofs.Runs.{refs_run}
 use Rattle.image_pixels.proofs.pixels.PixelsRefIter.new.Goals as goal
-use Rattle.image_pixels.proofs.pixels.PixelsRefIter.new.Goals.{After-from_counts}
 
 pub from_counts-requires-clause-reaches : goal.from_counts-requires-clause-reaches
 from_counts-requires-clause-reaches g c =
@@ -13,23 +12,9 @@ from_counts-requires-clause-reaches g c =
     subst (λ xs. n.result.remaining + n.result.rows_left * (n.result.pad + n.result.width) ≤ length xs) (sym c.new.ensures)
     (start_reaches (shaped c.args.cells.now c.args.shape) n.result.remaining n.result.rows_left n.result.width n.result.pad n.ensures.narrow n.ensures.remaining n.ensures.rows_left n.ensures.width n.ensures.pad c.requires.fits)
 
-all : (g : _) (c : After-from_counts g) → ArePixels (shaped c.args.cells.now c.args.shape) (refs_left c.from_counts.result)
-all g c =
+pub returns : goal.returns
+returns g c =
     let n = c.of_shape in
-    start_pixels (shaped c.args.cells.now c.args.shape) n.result.remaining n.result.rows_left n.result.width n.result.pad n.ensures.narrow n.ensures.remaining n.ensures.rows_left n.ensures.width n.ensures.pad
-    (refs_left c.from_counts.result) c.requires.fits n.ensures.width_fits n.ensures.height_fits (c.from_counts.ensures.pixels ∙ ap (pick (marks n.result.remaining n.result.rows_left n.result.width n.result.pad)) c.new.ensures)
-
-pub returns-clause-pixels : goal.returns-clause-pixels
-returns-clause-pixels g c = (all g c).0
-
-pub returns-clause-grid : goal.returns-clause-grid
-returns-clause-grid g c = (all g c).1
-
-pub returns-clause-count : goal.returns-clause-count
-returns-clause-count g c = (all g c).2
-
-pub returns-clause-countable : goal.returns-clause-countable
-returns-clause-countable g c = (all g c).3
-
-pub returns-clause-runs : goal.returns-clause-runs
-returns-clause-runs g c = refs_run
+    let all = start_pixels (shaped c.args.cells.now c.args.shape) n.result.remaining n.result.rows_left n.result.width n.result.pad n.ensures.narrow n.ensures.remaining n.ensures.rows_left n.ensures.width n.ensures.pad
+    (refs_left c.from_counts.result) c.requires.fits n.ensures.width_fits n.ensures.height_fits (c.from_counts.ensures.pixels ∙ ap (pick (marks n.result.remaining n.result.rows_left n.result.width n.result.pad)) c.new.ensures) in
+    record { pixels = all.0; grid = all.1; count = all.2; countable = all.3; runs = refs_run }
