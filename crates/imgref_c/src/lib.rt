@@ -8,7 +8,9 @@
 //! four and eight bytes: C has no generic functions, and no macro of the language writes functions.
 #![tactic(auto)]
 
+mod copies;
 mod equality;
+mod fills;
 mod images;
 mod packing;
 mod parts;
@@ -16,4 +18,3 @@ mod places;
 mod status;
 mod tiles;
 mod window;
-mod windows;
