@@ -1,6 +1,6 @@
 //! Each window of the image of nine cells, by every call of each kind.
 
-use crate::fixtures::{Cells, cells_of, numbered, numbers_of, pixel_at};
+use crate::fixtures::{cells_of, numbered, numbers_of, pixel_at};
 use imgref::{AsMutSlice, AsSlice, Img, ImgRef, ImgRefMut, Window};
 use imgref_fixtures::{PADDED, padded};
 use std::process::Abort;
@@ -186,15 +186,15 @@ fn sixty_windows_for_writing(rt: HostRuntime) -> Result<(), Fail> {
     for number in 0..256usize {
         let window = numbered(number);
         if view.has_window(window.left, window.top, window.width, window.height) {
-            let Cells { exact, padded, .. } = cells_of(window);
-            check_pixels(&rt, &mut padded(rt.alloc())?, window, exact);
-            check_cells(&rt, &mut padded(rt.alloc())?, window, exact);
+            let due = cells_of(window);
+            check_pixels(&rt, &mut padded(rt.alloc())?, window, due.exact);
+            check_cells(&rt, &mut padded(rt.alloc())?, window, due.exact);
             let mut cells = PADDED;
             let mut lent = Img::new_stride(cells.as_mut_slice(), 3, 2, 4);
-            check_pixels(&rt, &mut lent, window, padded);
+            check_pixels(&rt, &mut lent, window, due.padded);
             let mut cells = PADDED;
             let mut lent = Img::new_stride(cells.as_mut_slice(), 3, 2, 4);
-            check_cells(&rt, &mut lent, window, padded);
+            check_cells(&rt, &mut lent, window, due.padded);
             check_cut(&rt, window);
             inside = inside.saturating_add(1);
         }
