@@ -76,18 +76,22 @@ def link(archive):
     command(*compiler(), "-r", "-nostdlib", "-o", whole, "-Wl,--whole-archive", archive, "-Wl,--no-whole-archive", *toolchain())
     command("objcopy", "--wildcard", f"--keep-global-symbol={EXPORTS}", whole)
     command(*compiler(), "-shared", "-o", shared, whole, f"-Wl,-soname,{shared.name}", "-Wl,-z,defs", "-Wl,-z,noexecstack", "-Wl,--gc-sections", "-Wl,-s")
-    linked(OUT)
+    linked(OUT, is_installed=False)
     (OUT / "imgref.pc").write_text(package(HEADER.parent, OUT))
     # (the last of all, since its time tells whether they are fresh)
     command("ar", "rcs", static, whole)
     whole.unlink()
 
 
-def linked(folder):
+def linked(folder, is_installed):
     """The name by which a linker finds the shared object."""
-    name = folder / "libimgref.so"
+    name, shared = folder / "libimgref.so", folder / f"libimgref.so.{ABI}"
     name.unlink(missing_ok=True)
-    name.symlink_to(f"{name.name}.{ABI}")
+    if is_installed:
+        name.symlink_to(shared.name)
+    else:
+        # (`rt all` stops at a symbolic link in the repository)
+        name.hardlink_to(shared)
 
 
 def build():
@@ -106,7 +110,7 @@ def install(prefix):
         (prefix / below).mkdir(parents=True, exist_ok=True)
         for it in sources:
             shutil.copy2(it, prefix / below / it.name)
-    linked(prefix / "lib")
+    linked(prefix / "lib", is_installed=True)
     (prefix / "lib/pkgconfig").mkdir(exist_ok=True)
     (prefix / "lib/pkgconfig/imgref.pc").write_text(package(prefix / "include", prefix / "lib"))
     say(f"installed below {prefix}")
