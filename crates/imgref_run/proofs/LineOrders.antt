@@ -10,7 +10,7 @@ use Rattle.std.proofs.lemmas.Bool.{cases_Bool}
 use Rattle.std.proofs.lemmas.Slice.Eq.{bytes_eq-Decides}
 use Rattle.text_model.specs.Fields.{IsWord, IsPixel}
 use Rattle.imgref_run.specs.Fields.{IsPath, path_text}
-use Rattle.imgref_run.specs.Line.{Kind, a_number, a_pixel, a_place, Argument, number, pixel, place, kind_of, argument_fields, IsArgument, Form, form, forms, form_of, Order, order, IsOrder, order_line, entry_fields}
+use Rattle.imgref_run.specs.Line.{Kind, a_number, a_pixel, a_place, Argument, number, pixel, place, kind_of, argument_fields, IsArgument, Form, forms, form_of, kinds_of, Order, order, IsOrder, order_line, entry_fields}
 use Rattle.text_model.specs.Reading.{◌>>=◌, is_nil, number_of, number_at, pixel_of, pixel_at}
 use Rattle.imgref_run.specs.Reading.{path_of, path_at, place_at, argument_at, arguments_at, order_at, order_in}
 use Rattle.text_model.proofs.FieldTexts.{first_is, first_back, then, number_law, pixel_law}
@@ -126,7 +126,7 @@ order_is word fields o e =
     subst (λ v. (word ∷ fields ≡ entry_fields (order_line v)) × IsOrder v) is (
       ap (λ w. w ∷ fields) word_is ∙ ap (λ l. b.0.word ∷ l) whole,
       record {
-        formed = ap form_of (sym word_is) ∙ b.1 ∙ ap (λ ks. Some (form b.0.word ks)) (sym at.kinds_are);
+        formed = ap kinds_of (sym word_is) ∙ ap (option_map (λ f. f.kinds)) b.1 ∙ ap (λ ks. Some ks) (sym at.kinds_are);
         in_range = at.in_range;
       },
     )
@@ -136,14 +136,18 @@ unfolding order_in
 order_back o is =
     let read : arguments_at (map kind_of o.arguments) (flat_map argument_fields o.arguments) ≡ Some (o.arguments, []) =
     ap (arguments_at (map kind_of o.arguments)) (sym (append-nil (flat_map argument_fields o.arguments))) ∙ arguments_back o.arguments [] is.in_range in
-    rw (is.formed, read) refl
+    let f = map_some (form_of o.word) (λ f. f.kinds) (map kind_of o.arguments) is.formed in
+    rw (f.1, f.2, read) (ap (λ word. Some (order word o.arguments)) (sym (found forms o.word f.0 (λ f. true) f.1 refl).0))
 
 -- a command's word isn't an image's
 pub order_word : (o : Order) → IsOrder o → bytes_eq o.word (codes "image") ≡ false
 order_word o is =
     not_true (bytes_eq o.word (codes "image"))
-    (λ same. let none : form_of o.word ≡ None = ap form_of ((bytes_eq-Decides o.word (codes "image")).0 same) in let some = is.formed in cc)
+    (λ same. let none : kinds_of o.word ≡ None = ap kinds_of ((bytes_eq-Decides o.word (codes "image")).0 same) in let some = is.formed in cc)
 
 -- no field of a command has a space
 pub lacks-order : (o : Order) → IsOrder o → AllLack 32 (entry_fields (order_line o))
-lacks-order o is = ((found forms o.word _ (λ f. lacks 32 f.word) is.formed refl).1, lacks-arguments o.arguments is.in_range)
+lacks-order o is =
+    let f = map_some (form_of o.word) (λ f. f.kinds) (map kind_of o.arguments) is.formed in
+    let at = found forms o.word f.0 (λ g. lacks 32 g.word) f.1 refl in
+    (ap (lacks 32) at.0 ∙ at.1, lacks-arguments o.arguments is.in_range)

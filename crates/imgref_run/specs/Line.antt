@@ -1,5 +1,5 @@
 -- Lines of a script: an image or a command as a value, without where it lies in memory, its text, and which values have one.
-use Rattle.std.specs.Prelude.{◌≡◌, ℕ, ◌≤◌, List, [], ◌∷◌, ◌++◌, map, Option, Some, codes}
+use Rattle.std.specs.Prelude.{◌≡◌, ℕ, ◌≤◌, List, [], ◌∷◌, ◌++◌, map, Option, Some, None, option_map, codes}
 use Rattle.std.specs.List.{find, flat_map, join_with_byte, AllByRecursion}
 use Rattle.std.specs.Str.{bytes_eq}
 use Rattle.std.specs.Fmt.{decimal}
@@ -47,31 +47,6 @@ IsArgument (place image path) = IsWord image × IsPath path
 
 -- ---- commands
 
--- a word, and the kinds of what stands after it
-pub record Form : Type 0 where
-  pub word : List ℕ
-  pub kinds : List Kind
-
-abbrev pub form : List ℕ → List Kind → Form
-form word kinds = record { word = word; kinds = kinds }
-
--- the form of each command
-abbrev pub forms : List Form
-forms =
-    form (codes "get") (a_place ∷ a_number ∷ a_number ∷ [])
-    ∷ form (codes "put") (a_place ∷ a_number ∷ a_number ∷ a_pixel ∷ [])
-    ∷ form (codes "fill") (a_place ∷ a_pixel ∷ [])
-    ∷ form (codes "count") (a_place ∷ a_pixel ∷ [])
-    ∷ form (codes "same") (a_place ∷ a_place ∷ [])
-    ∷ form (codes "blit") (a_place ∷ a_place ∷ [])
-    ∷ form (codes "mosaic") (a_place ∷ a_number ∷ a_number ∷ [])
-    ∷ form (codes "compact") (a_number ∷ [])
-    ∷ []
-
--- the form with this word
-abbrev pub form_of : List ℕ → Option Form
-form_of word = find (λ f. bytes_eq word f.word) forms
-
 -- a command as its word and what stands after it
 pub record Order : Type 0 where
   pub word : List ℕ
@@ -80,24 +55,60 @@ pub record Order : Type 0 where
 abbrev pub order : List ℕ → List Argument → Order
 order word arguments = record { word = word; arguments = arguments }
 
+-- a word, the kinds of what stands after it, and what stands there for a command of this form
+pub record Form : Type 0 where
+  pub word : List ℕ
+  pub kinds : List Kind
+  pub arguments_of : Command ℕ → Option (List Argument)
+
+abbrev pub form : List ℕ → List Kind → (Command ℕ → Option (List Argument)) → Form
+form word kinds arguments_of = record { word = word; kinds = kinds; arguments_of = arguments_of }
+
 -- the image's number and the path of a place of the program
 abbrev pub place_of : Place → Argument
 place_of p = place p.image p.path.items
 
+-- the form of each command
+abbrev pub forms : List Form
+forms =
+    form (codes "get") (a_place ∷ a_number ∷ a_number ∷ [])
+    (λ c. elim c [ Get spot x y ↦ Some (place_of spot ∷ number x ∷ number y ∷ []) | other ↦ None ])
+    ∷ form (codes "put") (a_place ∷ a_number ∷ a_number ∷ a_pixel ∷ [])
+    (λ c. elim c [ Put spot x y value ↦ Some (place_of spot ∷ number x ∷ number y ∷ pixel value ∷ []) | other ↦ None ])
+    ∷ form (codes "fill") (a_place ∷ a_pixel ∷ [])
+    (λ c. elim c [ Fill spot value ↦ Some (place_of spot ∷ pixel value ∷ []) | other ↦ None ])
+    ∷ form (codes "count") (a_place ∷ a_pixel ∷ [])
+    (λ c. elim c [ Count spot value ↦ Some (place_of spot ∷ pixel value ∷ []) | other ↦ None ])
+    ∷ form (codes "same") (a_place ∷ a_place ∷ [])
+    (λ c. elim c [ Same first second ↦ Some (place_of first ∷ place_of second ∷ []) | other ↦ None ])
+    ∷ form (codes "blit") (a_place ∷ a_place ∷ [])
+    (λ c. elim c [ Blit source target ↦ Some (place_of source ∷ place_of target ∷ []) | other ↦ None ])
+    ∷ form (codes "mosaic") (a_place ∷ a_number ∷ a_number ∷ [])
+    (λ c. elim c [ Mosaic spot width height ↦ Some (place_of spot ∷ number width ∷ number height ∷ []) | other ↦ None ])
+    ∷ form (codes "compact") (a_number ∷ [])
+    (λ c. elim c [ Compact image ↦ Some (number image ∷ []) | other ↦ None ])
+    ∷ []
+
+-- the form with this word
+abbrev pub form_of : List ℕ → Option Form
+form_of word = find (λ f. bytes_eq word f.word) forms
+
+-- what stands after this word
+abbrev pub kinds_of : List ℕ → Option (List Kind)
+kinds_of word = option_map (λ f. f.kinds) (form_of word)
+
+-- the command by the first of these forms that it has
+abbrev pub order_by : List Form → Command ℕ → Order
+order_by [] c = order [] []
+order_by (f ∷ fs) c = elim (f.arguments_of c) [ Some arguments ↦ order f.word arguments | None ↦ order_by fs c ]
+
 -- each command of the program
 abbrev pub order_of : Command ℕ → Order
-order_of (Get spot x y) = order (codes "get") (place_of spot ∷ number x ∷ number y ∷ [])
-order_of (Put spot x y value) = order (codes "put") (place_of spot ∷ number x ∷ number y ∷ pixel value ∷ [])
-order_of (Fill spot value) = order (codes "fill") (place_of spot ∷ pixel value ∷ [])
-order_of (Count spot value) = order (codes "count") (place_of spot ∷ pixel value ∷ [])
-order_of (Same first second) = order (codes "same") (place_of first ∷ place_of second ∷ [])
-order_of (Blit source target) = order (codes "blit") (place_of source ∷ place_of target ∷ [])
-order_of (Mosaic spot tile_width tile_height) = order (codes "mosaic") (place_of spot ∷ number tile_width ∷ number tile_height ∷ [])
-order_of (Compact image) = order (codes "compact") (number image ∷ [])
+order_of c = order_by forms c
 
 -- a command that a script may hold: whether its image, windows and place are there is for the run to say
 pub record IsOrder (o : Order) : Type 0 where
-  pub formed : form_of o.word ≡ Some (form o.word (map kind_of o.arguments))
+  pub formed : kinds_of o.word ≡ Some (map kind_of o.arguments)
   pub in_range : AllByRecursion IsArgument o.arguments
 
 -- ---- images
