@@ -9,9 +9,9 @@ use Rattle.image_planes.specs.Interleaved.{channel, channels, parted, interleave
 in_first : (a b c : List ℕ) (count q : ℕ) → length a ≡ count → q < count → get_or (a ++ (b ++ c)) q 0 ≡ get_or a q 0
 in_first a b c count q first within = get_or_append_left a (b ++ c) 0 q (omega (arith, first, within))
 
-in_second : (a b c : List ℕ) (count q : ℕ) → length a ≡ count → length b ≡ count → q < count → get_or (a ++ (b ++ c)) (1 * count + q) 0 ≡ get_or b q 0
+in_second : (a b c : List ℕ) (count q : ℕ) → length a ≡ count → length b ≡ count → q < count → get_or (a ++ (b ++ c)) (count + q) 0 ≡ get_or b q 0
 in_second a b c count q first second within =
-    let at : 1 * count + q ≡ length a + q = omega (arith, first) in
+    let at : count + q ≡ length a + q = omega (arith, first) in
     ap (λ i. get_or (a ++ (b ++ c)) i 0) at ∙ get_or-append-add a (b ++ c) q 0 ∙ get_or_append_left b c 0 q (omega (arith, second, within))
 
 in_third : (a b c : List ℕ) (count q : ℕ) → length a ≡ count → length b ≡ count → get_or (a ++ (b ++ c)) (2 * count + q) 0 ≡ get_or c q 0
@@ -20,29 +20,29 @@ in_third a b c count q first second =
     ap (λ i. get_or (a ++ (b ++ c)) i 0) at ∙ get_or-append-add a (b ++ c) (length b + q) 0 ∙ get_or-append-add b c q 0
 
 -- bytes that are those of each pixel are the pixels of the planes
-pub pixels_joined : (count : ℕ) (a b c pixels : List ℕ) → length pixels ≡ 3 * count → length a ≡ count → length b ≡ count
-    → ((k : ℕ) → k < count → get_or pixels (3 * k) 0 ≡ get_or a k 0) → ((k : ℕ) → k < count → get_or pixels (3 * k + 1) 0 ≡ get_or b k 0) → ((k : ℕ) → k < count → get_or pixels (3 * k + 2) 0 ≡ get_or c k 0)
-    → pixels ≡ interleaved count (a ++ (b ++ c))
-pixels_joined count a b c pixels long first second reds greens blues =
-    fill_by_all (λ j. get_or (a ++ (b ++ c)) (j % 3 * count + j / 3) 0) pixels (3 * count) 0 long (λ j within.
+pub pixels_joined : (count : ℕ) (planes pixels : List ℕ) → length pixels ≡ 3 * count
+    → ((k : ℕ) → k < count → get_or pixels (3 * k) 0 ≡ get_or planes k 0) → ((k : ℕ) → k < count → get_or pixels (3 * k + 1) 0 ≡ get_or planes (count + k) 0)
+    → ((k : ℕ) → k < count → get_or pixels (3 * k + 2) 0 ≡ get_or planes (2 * count + k) 0) → pixels ≡ interleaved count planes
+pixels_joined count planes pixels long reds greens blues =
+    fill_by_all (λ j. get_or planes (j % 3 * count + j / 3) 0) pixels (3 * count) 0 long (λ j within.
     let q = j / 3 in
-    let cell : ℕ → ℕ = λ r. get_or (a ++ (b ++ c)) (r * count + q) 0 in
+    let cell : ℕ → ℕ = λ r. get_or planes (r * count + q) 0 in
     let column : q < count = omega arith in
     elim (cases_lt (j % 3) 1) [
       | inl low ↦
           let at : j ≡ 3 * q = omega arith in
           let which : j % 3 ≡ 0 = omega arith in
-          ap (λ i. get_or pixels i 0) at ∙ reds q column ∙ sym (in_first a b c count q first column) ∙ sym (ap cell which ∙ ap (λ i. get_or (a ++ (b ++ c)) i 0) (omega arith))
+          ap (λ i. get_or pixels i 0) at ∙ reds q column ∙ sym (ap cell which ∙ ap (λ i. get_or planes i 0) (omega arith))
       | inr some ↦
           elim (cases_lt (j % 3) 2) [
             | inl mid ↦
                 let at : j ≡ 3 * q + 1 = omega arith in
                 let which : j % 3 ≡ 1 = omega arith in
-                ap (λ i. get_or pixels i 0) at ∙ greens q column ∙ sym (in_second a b c count q first second column) ∙ sym (ap cell which)
+                ap (λ i. get_or pixels i 0) at ∙ greens q column ∙ sym (ap cell which ∙ ap (λ i. get_or planes i 0) (omega arith))
             | inr high ↦
                 let at : j ≡ 3 * q + 2 = omega arith in
                 let which : j % 3 ≡ 2 = omega arith in
-                ap (λ i. get_or pixels i 0) at ∙ blues q column ∙ sym (in_third a b c count q first second) ∙ sym (ap cell which)
+                ap (λ i. get_or pixels i 0) at ∙ blues q column ∙ sym (ap cell which)
           ]
     ])
 
@@ -66,7 +66,12 @@ pub parts_joined : (count : ℕ) (pixels : List ℕ) → length pixels ≡ 3 * c
 parts_joined count pixels long =
     let whole : length pixels / 3 ≡ count = omega (arith, long) in
     let planes : length (channels count pixels) / 3 ≡ count = omega (arith, length-channels count pixels) in
-    let zero : (k : ℕ) → 3 * k + 0 ≡ 3 * k = λ k. omega arith in
+    let a = channel count 0 pixels in
+    let b = channel count 1 pixels in
+    let c = channel count 2 pixels in
+    let first = length-channel count 0 pixels in
+    let second = length-channel count 1 pixels in
     ap (λ n. joined (channels n pixels)) whole ∙ ap (λ n. interleaved n (channels count pixels)) planes
-    ∙ sym (pixels_joined count (channel count 0 pixels) (channel count 1 pixels) (channel count 2 pixels) pixels long (length-channel count 0 pixels) (length-channel count 1 pixels)
-    (λ k within. sym (cell_of count 0 pixels k within ∙ ap (λ i. get_or pixels i 0) (zero k))) (λ k within. sym (cell_of count 1 pixels k within)) (λ k within. sym (cell_of count 2 pixels k within)))
+    ∙ sym (pixels_joined count (channels count pixels) pixels long
+    (λ k within. sym (in_first a b c count k first within ∙ cell_of count 0 pixels k within ∙ ap (λ i. get_or pixels i 0) (omega arith)))
+    (λ k within. sym (in_second a b c count k first second (omega (arith, within)) ∙ cell_of count 1 pixels k within)) (λ k within. sym (in_third a b c count k first second ∙ cell_of count 2 pixels k within)))

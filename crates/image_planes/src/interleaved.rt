@@ -21,22 +21,6 @@ fn part_into(pixels: &[u8], red: &mut [u8], green: &mut [u8], blue: &mut [u8])
     }
 }
 
-// Each cell of the planes into its pixel.
-#[inline(never)]
-fn join_from(red: &[u8], green: &[u8], blue: &[u8], pixels: &mut [u8])
-    requires pixels { length pixels.old ≡ 3 * length red.now }
-    requires green { length green.now ≡ length red.now }
-    requires blue { length blue.now ≡ length red.now }
-    ensures { pixels.new ≡ interleaved (length red.now) (red.now ++ (green.now ++ blue.now)) }
-{
-    for i in 0..red.len() {
-        let at = 3 * i;
-        pixels[at] = red[i];
-        pixels[at + 1] = green[i];
-        pixels[at + 2] = blue[i];
-    }
-}
-
 /// Copies the bytes of pixels of three bytes into three planes, which lie one behind the other.
 pub fn part_pixels(pixels: &[u8], planes: &mut [u8])
     requires whole { length pixels.now % 3 ≡ 0 }
@@ -56,9 +40,12 @@ pub fn join_pixels(planes: &[u8], pixels: &mut [u8])
     ensures { pixels.new ≡ joined planes.now }
 {
     let count = planes.len() / 3;
-    let (red, others) = planes.split_at(count);
-    let (green, blue) = others.split_at(count);
-    join_from(red, green, blue, pixels);
+    for i in 0..count {
+        let at = 3 * i;
+        pixels[at] = planes[i];
+        pixels[at + 1] = planes[count + i];
+        pixels[at + 2] = planes[2 * count + i];
+    }
 }
 
 /// Whole pixels that are parted and joined are the same. A caller calls it for this law; it does

@@ -10,11 +10,10 @@ use crate::plane::Plane;
 pub fn planes_len(planes: &[Plane]) -> Option<usize>
     ensures { IfSome result (λ n. n ≡ jobs_len (map job_of planes.now)) }
 {
-    let Some((plane, others)) = planes.split_first() else {
-        return Some(0);
-    };
-    let len = plane.checked_len()?;
-    len.checked_add(planes_len(others)?)
+    match planes {
+        [] => Some(0),
+        [plane, others @ ..] => plane.checked_len()?.checked_add(planes_len(others)?),
+    }
 }
 
 /// Does the steps of the frame of this number to each of its planes, whose cells they are one behind

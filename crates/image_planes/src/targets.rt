@@ -10,11 +10,10 @@ use crate::target::Target;
 pub fn targets_len(targets: &[Target]) -> Option<usize>
     ensures { IfSome result (λ n. n ≡ targets_len (map resizing_of targets.now)) }
 {
-    let Some((target, others)) = targets.split_first() else {
-        return Some(0);
-    };
-    let len = target.checked_len()?;
-    len.checked_add(targets_len(others)?)
+    match targets {
+        [] => Some(0),
+        [target, others @ ..] => target.checked_len()?.checked_add(targets_len(others)?),
+    }
 }
 
 /// Copies each plane of a frame in its other size, one behind the other, over a frame of these.

@@ -1,4 +1,5 @@
 pub mod Fault
+pub mod Request
 pub mod Stream
 pub mod Video
 pub mod Pictures

@@ -6,6 +6,7 @@ mod fault;
 mod frames;
 mod pictures;
 mod program;
+mod request;
 mod words;
 
 pub use devices::Counted;

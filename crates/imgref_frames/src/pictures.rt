@@ -2,15 +2,16 @@
 
 ghost use Rattle.std.specs.Prelude.{◌≡◌, ◌+◌, ◌≤◌, ◌<◌, length, OnOk, OnErr, IfErr};
 ghost use Rattle.devices.specs.Device.{device_of, failures_of};
-ghost use Rattle.frame_formats.specs.Edits.{edits};
 ghost use Rattle.imgref_frames.specs.Fault.{reader_failures, writer_failures};
 ghost use Rattle.imgref_frames.specs.Passing.{PassesPicture, PassesPictures};
 ghost use Rattle.imgref_frames.specs.Pictures.{HeadIs, behind_letter};
+ghost use Rattle.imgref_frames.specs.Request.{edits_of};
 
 use crate::cells::pass_cells;
 use crate::fault::RunFault;
+use crate::request::Request;
 use devices::{Counted, read_byte};
-use frame_formats::{Framing, Paint, Picture, Plan, Scan, Step, heads_end_themselves};
+use frame_formats::{Picture, Plan, Scan, heads_end_themselves};
 use std::alloc::{AllocError, Global};
 use std::io::{Read, Write};
 
@@ -50,10 +51,8 @@ fn make_room(alloc: Global, cells: &mut Vec<u8>, room: usize) -> Result<(), Allo
 
 // Passes on the picture of this number, the first letter of whose head was read.
 fn pass_picture<R: Read, W: Write>(
-    alloc: Global,
+    request: Request<'_>,
     number: u64,
-    steps: &[Step<Paint>],
-    framing: Option<Framing>,
     cells: &mut Vec<u8>,
     other: &mut Vec<u8>,
     reader: &mut Counted<R>,
@@ -61,11 +60,12 @@ fn pass_picture<R: Read, W: Write>(
 ) -> Result<(), RunFault>
     requires reader_counts { failures_of reader.old < u64.MAX }
     requires writer_counts { failures_of writer.old < u64.MAX }
-    ensures passes { PassesPicture result (edits steps.now framing) number (behind_letter (R.remaining (device_of reader.old))) (R.remaining (device_of reader.new)) (W.contents (device_of writer.old)) (W.contents (device_of writer.new)) }
+    ensures passes { PassesPicture result (edits_of request.entry) number (behind_letter (R.remaining (device_of reader.old))) (R.remaining (device_of reader.new)) (W.contents (device_of writer.old)) (W.contents (device_of writer.new)) }
     ensures reader_count { failures_of reader.new ≡ failures_of reader.old + reader_failures result }
     ensures writer_count { failures_of writer.new ≡ failures_of writer.old + writer_failures result }
 {
     heads_end_themselves();
+    let alloc = request.alloc;
     let picture = match read_head(reader) {
         Ok(Some(picture)) => picture,
         Ok(None) => {
@@ -76,7 +76,7 @@ fn pass_picture<R: Read, W: Write>(
         }
         Err(fault) => return Err(fault),
     };
-    let plan = match Plan::for_picture(alloc, picture, steps, framing) {
+    let plan = match Plan::for_picture(alloc, picture, request.steps, request.framing) {
         Ok(plan) => plan,
         Err(fault) => return Err(RunFault::from(fault)),
     };
@@ -92,25 +92,21 @@ fn pass_picture<R: Read, W: Write>(
 /// Reads picture after picture, the first letter of which was read, edits it and writes it; answers
 /// how many there were.
 pub(crate) fn pass_pictures<R: Read, W: Write>(
-    alloc: Global,
-    steps: &[Step<Paint>],
-    framing: Option<Framing>,
+    request: Request<'_>,
     reader: &mut Counted<R>,
     writer: &mut Counted<W>,
 ) -> Result<u64, RunFault>
     requires reader_counts { failures_of reader.old < u64.MAX }
     requires writer_counts { failures_of writer.old < u64.MAX }
-    ensures passes { PassesPictures result (edits steps.now framing) (behind_letter (R.remaining (device_of reader.old))) (R.remaining (device_of reader.new)) (W.contents (device_of writer.old)) (W.contents (device_of writer.new)) }
+    ensures passes { PassesPictures result (edits_of request.entry) (behind_letter (R.remaining (device_of reader.old))) (R.remaining (device_of reader.new)) (W.contents (device_of writer.old)) (W.contents (device_of writer.new)) }
     ensures reader_count { failures_of reader.new ≡ failures_of reader.old + reader_failures result }
     ensures writer_count { failures_of writer.new ≡ failures_of writer.old + writer_failures result }
 {
     heads_end_themselves();
-    let mut cells = Vec::new(alloc);
-    let mut other = Vec::new(alloc);
+    let mut cells = Vec::new(request.alloc);
+    let mut other = Vec::new(request.alloc);
     for number in 0..u64::MAX {
-        match pass_picture(
-            alloc, number, steps, framing, &mut cells, &mut other, reader, writer,
-        ) {
+        match pass_picture(request, number, &mut cells, &mut other, reader, writer) {
             Ok(()) => {}
             Err(fault) => return Err(fault),
         }

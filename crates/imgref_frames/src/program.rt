@@ -5,11 +5,13 @@ ghost use Rattle.devices.specs.Device.{device_of, failures_of};
 ghost use Rattle.imgref_frames.specs.Fault.{reader_failures, writer_failures};
 ghost use Rattle.frame_formats.specs.Edits.{edits};
 ghost use Rattle.imgref_frames.specs.Alike.{Hides, OneOutput};
+ghost use Rattle.imgref_frames.specs.Request.{edits_of};
 ghost use Rattle.imgref_frames.specs.Program.{Follows, Writes, begins_picture};
 
 use crate::fault::RunFault;
 use crate::frames::pass_frames;
 use crate::pictures::pass_pictures;
+use crate::request::Request;
 use devices::{Counted, LineFault, read_byte, read_line, write_all};
 use frame_formats::{Framing, Paint, Plan, Step, heads_end_themselves, read_format, recipes_hide};
 use std::alloc::Global;
@@ -20,9 +22,7 @@ const LONGEST: usize = 256;
 
 // Writes the video's line, and then the frames behind it.
 fn run_video<R: Read, W: Write>(
-    alloc: Global,
-    steps: &[Step<Paint>],
-    framing: Option<Framing>,
+    request: Request<'_>,
     line: &[u8],
     reader: &mut Counted<R>,
     writer: &mut Counted<W>,
@@ -31,14 +31,15 @@ fn run_video<R: Read, W: Write>(
     requires kind { begins_picture (line.now ++ 10 ∷ []) ≡ false }
     requires reader_counts { failures_of reader.old < u64.MAX }
     requires writer_counts { failures_of writer.old < u64.MAX }
-    ensures follows { Follows result (edits steps.now framing) (line.now ++ 10 ∷ []) (R.remaining (device_of reader.old)) (W.contents (device_of writer.old)) (W.contents (device_of writer.new)) }
+    ensures follows { Follows result (edits_of request.entry) (line.now ++ 10 ∷ []) (R.remaining (device_of reader.old)) (W.contents (device_of writer.old)) (W.contents (device_of writer.new)) }
     ensures reader_count { failures_of reader.new ≡ failures_of reader.old + reader_failures result }
     ensures writer_count { failures_of writer.new ≡ failures_of writer.old + writer_failures result }
 {
+    let alloc = request.alloc;
     let Some(format) = read_format(line) else {
         return Err(RunFault::Header);
     };
-    let plan = match Plan::for_video(alloc, line, format, steps, framing) {
+    let plan = match Plan::for_video(alloc, line, format, request.steps, request.framing) {
         Ok(plan) => plan,
         Err(fault) => return Err(RunFault::from(fault)),
     };
@@ -64,9 +65,7 @@ fn run_video<R: Read, W: Write>(
 
 // The run over a video, of which the first byte was read.
 fn carry_video<R: Read, W: Write>(
-    alloc: Global,
-    steps: &[Step<Paint>],
-    framing: Option<Framing>,
+    request: Request<'_>,
     first: u8,
     reader: &mut Counted<R>,
     writer: &mut Counted<W>,
@@ -74,7 +73,7 @@ fn carry_video<R: Read, W: Write>(
     requires kind { first ≢ 80 }
     requires reader_counts { failures_of reader.old < u64.MAX }
     requires writer_counts { failures_of writer.old < u64.MAX }
-    ensures follows { Follows result (edits steps.now framing) (first ∷ []) (R.remaining (device_of reader.old)) (W.contents (device_of writer.old)) (W.contents (device_of writer.new)) }
+    ensures follows { Follows result (edits_of request.entry) (first ∷ []) (R.remaining (device_of reader.old)) (W.contents (device_of writer.old)) (W.contents (device_of writer.new)) }
     ensures reader_count { failures_of reader.new ≡ failures_of reader.old + reader_failures result }
     ensures writer_count { failures_of writer.new ≡ failures_of writer.old + writer_failures result }
 {
@@ -88,26 +87,24 @@ fn carry_video<R: Read, W: Write>(
         Err(LineFault::NoLine) => return Err(RunFault::Header),
         Err(LineFault::Reader) => return Err(RunFault::Input),
     };
-    run_video(alloc, steps, framing, &line[..len + 1], reader, writer)
+    run_video(request, &line[..len + 1], reader, writer)
 }
 
 // The run, without what it hides.
 fn carry<R: Read, W: Write>(
-    alloc: Global,
-    steps: &[Step<Paint>],
-    framing: Option<Framing>,
+    request: Request<'_>,
     reader: &mut Counted<R>,
     writer: &mut Counted<W>,
 ) -> Result<u64, RunFault>
     requires reader_counts { failures_of reader.old < u64.MAX }
     requires writer_counts { failures_of writer.old < u64.MAX }
-    ensures written { Writes result (edits steps.now framing) (R.remaining (device_of reader.old)) (W.contents (device_of writer.old)) (W.contents (device_of writer.new)) }
+    ensures written { Writes result (edits_of request.entry) (R.remaining (device_of reader.old)) (W.contents (device_of writer.old)) (W.contents (device_of writer.new)) }
     ensures reader_count { failures_of reader.new ≡ failures_of reader.old + reader_failures result }
     ensures writer_count { failures_of writer.new ≡ failures_of writer.old + writer_failures result }
 {
     match read_byte(reader) {
-        Ok(Some(b'P')) => pass_pictures(alloc, steps, framing, reader, writer),
-        Ok(Some(first)) => carry_video(alloc, steps, framing, first, reader, writer),
+        Ok(Some(b'P')) => pass_pictures(request, reader, writer),
+        Ok(Some(first)) => carry_video(request, first, reader, writer),
         Ok(None) => Err(RunFault::Header),
         Err(_) => Err(RunFault::Input),
     }
@@ -142,5 +139,10 @@ pub fn run<R: Read, W: Write>(
 {
     recipes_hide();
     heads_end_themselves();
-    carry(alloc, steps, framing, reader, writer)
+    let request = Request {
+        alloc,
+        steps,
+        framing,
+    };
+    carry(request, reader, writer)
 }

@@ -2,7 +2,7 @@
 use Rattle.std.proofs.Common.{subst, refl}
 use Rattle.devices.specs.Device.{device_of}
 use Rattle.frame_formats.specs.Planned.{recipe_of}
-use Rattle.frame_formats.specs.Edits.{edits}
+use Rattle.imgref_frames.specs.Request.{edits_of}
 use Rattle.imgref_frames.specs.Passing.{PassesCells}
 use Rattle.imgref_frames.specs.Pictures.{behind_letter}
 use Rattle.imgref_frames.specs.Video.{with_head}
@@ -11,7 +11,7 @@ use Rattle.imgref_frames.proofs.Rounds.{picture_made}
 use Rattle.imgref_frames.proofs.pictures.pass_picture.Goals as goal
 
 pub returns-in-Ok-None-clause-passes : goal.returns-in-Ok-None-clause-passes
-returns-in-Ok-None-clause-passes g c = (refl, no_picture_behind (edits c.args.steps.now c.args.framing) (g.R.Read.remaining (device_of c.args.reader.now)) (rw c.in-Ok-None.field-0-is at c.in-Ok-None.ensures.head), refl)
+returns-in-Ok-None-clause-passes g c = (refl, no_picture_behind (edits_of c.args.request) (g.R.Read.remaining (device_of c.args.reader.now)) (rw c.in-Ok-None.field-0-is at c.in-Ok-None.ensures.head), refl)
 
 pub returns-clause-passes : goal.returns-clause-passes
 returns-clause-passes g c =
@@ -20,6 +20,6 @@ returns-clause-passes g c =
     let r3 = g.R.Read.remaining (device_of c.pass_cells.new.reader) in
     let w1 = g.W.Write.contents (device_of c.args.writer.now) in
     let w2 = g.W.Write.contents (device_of c.pass_cells.new.writer) in
-    picture_made c.heads_end_themselves.ensures.apart c.heads_end_themselves.ensures.begins (edits c.args.steps.now c.args.framing) c.args.number c.in-Ok-Some.picture (recipe_of c.in-Ok.plan) found.0 found.1 c.in-Ok.ensures.plan
+    picture_made c.heads_end_themselves.ensures.apart c.heads_end_themselves.ensures.begins (edits_of c.args.request) c.args.number c.in-Ok-Some.picture (recipe_of c.in-Ok.plan) found.0 found.1 c.in-Ok.ensures.plan
     (behind_letter (g.R.Read.remaining (device_of c.args.reader.now))) r2 r3 w1 w2 found.2 c.pass_cells.result
     (subst (λ h. PassesCells c.pass_cells.result (with_head h (recipe_of c.in-Ok.plan)) c.args.number r2 r3 w1 w2) c.head.ensures c.pass_cells.ensures.passes)
