@@ -90,26 +90,6 @@ fn carry_video<R: Read, W: Write>(
     run_video(request, &line[..len + 1], reader, writer)
 }
 
-// The run, without what it hides.
-fn carry<R: Read, W: Write>(
-    request: Request<'_>,
-    reader: &mut Counted<R>,
-    writer: &mut Counted<W>,
-) -> Result<u64, RunFault>
-    requires reader_counts { failures_of reader.old < u64.MAX }
-    requires writer_counts { failures_of writer.old < u64.MAX }
-    ensures written { Writes result (edits_of request.entry) (R.remaining (device_of reader.old)) (W.contents (device_of writer.old)) (W.contents (device_of writer.new)) }
-    ensures reader_count { failures_of reader.new ≡ failures_of reader.old + reader_failures result }
-    ensures writer_count { failures_of writer.new ≡ failures_of writer.old + writer_failures result }
-{
-    match read_byte(reader) {
-        Ok(Some(b'P')) => pass_pictures(request, reader, writer),
-        Ok(Some(first)) => carry_video(request, first, reader, writer),
-        Ok(None) => Err(RunFault::Header),
-        Err(_) => Err(RunFault::Input),
-    }
-}
-
 /// Reads a video or pictures, and writes what the steps and then a crop or a border make of each frame
 /// or picture; answers how many there were. All memory for a video is found before the first byte is
 /// written, and that for a picture before its first byte.
@@ -144,5 +124,10 @@ pub fn run<R: Read, W: Write>(
         steps,
         framing,
     };
-    carry(request, reader, writer)
+    match read_byte(reader) {
+        Ok(Some(b'P')) => pass_pictures(request, reader, writer),
+        Ok(Some(first)) => carry_video(request, first, reader, writer),
+        Ok(None) => Err(RunFault::Header),
+        Err(_) => Err(RunFault::Input),
+    }
 }

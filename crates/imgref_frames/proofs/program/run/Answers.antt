@@ -1,0 +1,46 @@
+-- Pictures begin with their letter. What is hidden, and that the output is one, follows from what was written.
+use Rattle.std.proofs.Common.{◌∷◌, [], Err, subst, arith, rules}
+use Rattle.std.proofs.lemmas.Grind.{common_steps}
+use Rattle.std.specs.Io.KnownBytes.{Consumes}
+use Rattle.devices.specs.Device.{device_of}
+use Rattle.frame_formats.specs.Edits.{edits}
+use Rattle.imgref_frames.specs.Program.{Writes}
+use Rattle.imgref_frames.specs.declared.fault.RunFault.TheVariants.{Header}
+use Rattle.imgref_frames.proofs.Carrying.{behind_first}
+use Rattle.imgref_frames.proofs.Hiding.{Laws, hides, one_output}
+use Rattle.imgref_frames.proofs.program.run.Goals as goal
+use Rattle.imgref_frames.proofs.program.run.Goals.{After-heads_end_themselves, After-pass_pictures}
+
+laws : (g : _) (c : After-heads_end_themselves g) → Laws
+laws g c = record { videos = c.recipes_hide.ensures.videos; pictures = c.recipes_hide.ensures.pictures; apart = c.heads_end_themselves.ensures.apart; letter = c.heads_end_themselves.ensures.begins }
+
+pictures_written : (g : _) (c : After-pass_pictures g) → Writes c.pass_pictures.result (edits c.args.steps.now c.args.framing) (g.R.Read.remaining (device_of c.args.reader.now)) (g.W.Write.contents (device_of c.args.writer.now)) (g.W.Write.contents (device_of c.pass_pictures.new.writer))
+pictures_written g c = behind_first (edits c.args.steps.now c.args.framing) c.pass_pictures.result (g.R.Read.remaining (device_of c.args.reader.now)) (g.R.Read.remaining (device_of c.read_byte.new.reader)) (g.R.Read.remaining (device_of c.pass_pictures.new.reader))
+    (g.W.Write.contents (device_of c.args.writer.now)) (g.W.Write.contents (device_of c.pass_pictures.new.writer))
+    (subst (λ b. Consumes (g.R.Read.remaining (device_of c.args.reader.now)) (g.R.Read.remaining (device_of c.read_byte.new.reader)) (b ∷ [])) c.in-Ok-Some-eq80.field-0-0-test (rw c.in-Ok-Some-eq80.field-0-is at c.in-Ok-Some-eq80.ensures.byte)) c.pass_pictures.ensures.passes
+
+pub returns-in-Ok-Some-eq80-clause-written : goal.returns-in-Ok-Some-eq80-clause-written
+returns-in-Ok-Some-eq80-clause-written g c = pictures_written g (goal.at.returns-in-Ok-Some-eq80-clause-written g c).After-pass_pictures
+
+pub returns-in-Ok-Some-eq80-clause-hiding : goal.returns-in-Ok-Some-eq80-clause-hiding
+returns-in-Ok-Some-eq80-clause-hiding g c = hides (laws g (goal.at.returns-in-Ok-Some-eq80-clause-hiding g c).After-heads_end_themselves) _ _ _ _ _ (pictures_written g (goal.at.returns-in-Ok-Some-eq80-clause-hiding g c).After-pass_pictures)
+
+pub returns-in-Ok-Some-eq80-clause-one_output : goal.returns-in-Ok-Some-eq80-clause-one_output
+returns-in-Ok-Some-eq80-clause-one_output g c = one_output (laws g (goal.at.returns-in-Ok-Some-eq80-clause-one_output g c).After-heads_end_themselves)
+
+pub returns-in-Ok-Some-clause-hiding : goal.returns-in-Ok-Some-clause-hiding
+returns-in-Ok-Some-clause-hiding g c =
+    hides (laws g (goal.at.returns-in-Ok-Some-clause-hiding g c).After-heads_end_themselves) c.carry_video.result (edits c.args.steps.now c.args.framing) (g.R.Read.remaining (device_of c.args.reader.now)) (g.W.Write.contents (device_of c.args.writer.now)) (g.W.Write.contents (device_of c.carry_video.new.writer)) (search rules)
+
+pub returns-in-Ok-Some-clause-one_output : goal.returns-in-Ok-Some-clause-one_output
+returns-in-Ok-Some-clause-one_output g c = one_output (laws g (goal.at.returns-in-Ok-Some-clause-one_output g c).After-heads_end_themselves)
+
+pub returns-in-Ok-None-clause-hiding : goal.returns-in-Ok-None-clause-hiding
+returns-in-Ok-None-clause-hiding g c =
+    hides (laws g (goal.at.returns-in-Ok-None-clause-hiding g c).After-heads_end_themselves) (Err Header) (edits c.args.steps.now c.args.framing) (g.R.Read.remaining (device_of c.args.reader.now)) (g.W.Write.contents (device_of c.args.writer.now)) (g.W.Write.contents (device_of c.args.writer.now)) (grind (arith, common_steps))
+
+pub returns-in-Ok-None-clause-one_output : goal.returns-in-Ok-None-clause-one_output
+returns-in-Ok-None-clause-one_output g c = one_output (laws g (goal.at.returns-in-Ok-None-clause-one_output g c).After-heads_end_themselves)
+
+pub returns-in-Err-clause-one_output : goal.returns-in-Err-clause-one_output
+returns-in-Err-clause-one_output g c = one_output (laws g (goal.at.returns-in-Err-clause-one_output g c).After-heads_end_themselves)
