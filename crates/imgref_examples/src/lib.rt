@@ -52,4 +52,4 @@ pub use rows::{fill_last_row, fill_row_at};
 pub use sums::{checksum, checksum_by_rows, exact_checksum};
 pub use tiles::{darken_lent_tiles, darken_tiles};
 pub use upside_down::flip;
-pub use windows::{put_in_cells, put_in_lent, put_in_owner};
+pub use windows::{NestedPlace, put_in_cells, put_nested, put_pixel};

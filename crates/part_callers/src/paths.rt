@@ -12,7 +12,8 @@ ghost use Rattle.imgref.specs.contracts.img.Img.{the_row};
 ghost use Rattle.part_callers.specs.Paths.{with_path, IsNested};
 
 use crate::fills::fill;
-use imgref::{AsMutSlice, Img, ImgRefMut, Shape, Window};
+use imgref::{AsMutSlice, Img, Shape, Window};
+use imgref_examples::put_pixel;
 use imgref_replay::into_window_at;
 
 // The window that a path comes to, as its cells and its shape.
@@ -26,18 +27,6 @@ fn parts_at<'a, C: AsMutSlice>(image: &'a mut Img<C>, path: &[Window]) -> (&'a m
         Ok(window) => window.into_parts(),
         Err(_) => (&mut [], Shape::new(0, 0, 1)),
     }
-}
-
-// Writes one pixel.
-fn put<T: Copy>(cells: &mut [T], shape: Shape, x: usize, y: usize, value: T)
-    requires fits { Fits (shaped cells.old shape) }
-    requires column { x < shape_width shape }
-    requires line { y < shape_height shape }
-    ensures grid { shaped_grid cells.new shape ≡ patch (shaped_grid cells.old shape) x y (uniform 1 1 value) }
-    ensures outside { SameOutside (shaped cells.old shape) (shaped cells.new shape) }
-{
-    let mut image = ImgRefMut::from_parts(cells, shape);
-    image[(x, y)] = value;
 }
 
 /// Writes one pixel of the window that a path comes to; every other cell of the image stays.
@@ -63,7 +52,7 @@ where
     ensures outside { SameOutside (layout_by C.AsSlice.cells image.old) (layout_by C.AsSlice.cells image.new) }
 {
     let (cells, shape) = parts_at(image, path);
-    put(cells, shape, x, y, value);
+    put_pixel(cells, shape, x, y, value);
 }
 
 /// Every pixel of the window that a path comes to becomes `value`, through the cursor of
