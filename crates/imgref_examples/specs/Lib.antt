@@ -1,4 +1,5 @@
 pub mod Darkened
+pub mod Drawing
 pub mod Frames
 pub mod Signed
 pub mod Stripes

@@ -1,29 +1,26 @@
 //! The pixels of a window, copied: as an image of their own, or as a list.
 
 ghost use Rattle.std.specs.Prelude.{◌≡◌, ◌↔◌, ◌*◌, max, length, IsSome, IfOk, IfSome};
-ghost use Rattle.imgref.specs.Words.{Fits, IsInside, grid_pixels, window, window_view, width_of, height_of, stride_of, ref_grid, ref_layout, vec_grid, vec_layout};
+ghost use Rattle.imgref.specs.Words.{Fits, IsInside, grid_pixels, as_window, window_view, width_of, height_of, stride_of, ref_grid, ref_layout, vec_grid, vec_layout};
 
-use imgref::{ImgRef, ImgVec};
+use imgref::{ImgRef, ImgVec, Window};
 use std::alloc::{AllocError, Global};
 
 /// The pixels of a window in an image of their own, with no padding.
 pub fn crop_packed(
     alloc: Global,
     image: ImgRef<'_, u8>,
-    left: usize,
-    top: usize,
-    width: usize,
-    height: usize,
+    place: Window,
 ) -> Result<ImgVec<u8>, AllocError>
     requires fits { Fits (ref_layout image) }
-    requires inside { IsInside (width_of image) (height_of image) (window left top width height) }
-    ensures grid { IfOk result (λ copy. vec_grid copy ≡ window_view (ref_grid image.entry) (window left top width height)) }
-    ensures stride { IfOk result (λ copy. stride_of copy ≡ max width 1) }
-    ensures packed { IfOk result (λ copy. length (vec_layout copy).cells ≡ width * height) }
+    requires inside { IsInside (width_of image) (height_of image) (as_window place) }
+    ensures grid { IfOk result (λ copy. vec_grid copy ≡ window_view (ref_grid image.entry) (as_window place)) }
+    ensures stride { IfOk result (λ copy. stride_of copy ≡ max place.width 1) }
+    ensures packed { IfOk result (λ copy. length (vec_layout copy).cells ≡ place.width * place.height) }
 {
-    let cells = vec![in alloc; 0u8; width * height]?;
-    let mut copy = ImgVec::new_stride(cells, width, height, width.max(1));
-    copy.copy_from(image.sub_image(left, top, width, height));
+    let cells = vec![in alloc; 0u8; place.width * place.height]?;
+    let mut copy = ImgVec::new_stride(cells, place.width, place.height, place.width.max(1));
+    copy.copy_from(image.window(place));
     Ok(copy)
 }
 
@@ -31,19 +28,16 @@ pub fn crop_packed(
 pub fn crop_copy(
     alloc: Global,
     image: ImgRef<'_, u8>,
-    left: usize,
-    top: usize,
-    width: usize,
-    height: usize,
+    place: Window,
 ) -> Result<Option<Vec<u8>>, AllocError>
     requires { Fits (ref_layout image) }
-    ensures inside { IfOk result (λ copy. IsSome copy ↔ IsInside (width_of image.entry) (height_of image.entry) (window left top width height)) }
-    ensures pixels { IfOk result (λ copy. IfSome copy (λ cells. cells.items ≡ grid_pixels (window_view (ref_grid image.entry) (window left top width height)))) }
+    ensures inside { IfOk result (λ copy. IsSome copy ↔ IsInside (width_of image.entry) (height_of image.entry) (as_window place)) }
+    ensures pixels { IfOk result (λ copy. IfSome copy (λ cells. cells.items ≡ grid_pixels (window_view (ref_grid image.entry) (as_window place)))) }
 {
-    if !image.has_window(left, top, width, height) {
+    if !image.shape().has_window(place) {
         return Ok(None);
     }
-    let part = image.sub_image(left, top, width, height);
+    let part = image.window(place);
     let mut cells = Vec::new(alloc);
     for row in part.rows() {
         cells.extend_from_slice(row)?;

@@ -5,6 +5,7 @@ ghost use Rattle.image_model.specs.Grid.{patch, uniform};
 ghost use Rattle.image_model.specs.Layout.{Fits, SameOutside};
 ghost use Rattle.imgref.specs.Image.{width_of, height_of, vec_grid, vec_layout, mut_grid, mut_layout};
 ghost use Rattle.imgref_examples.specs.Stripes.{striped};
+ghost use Rattle.imgref_examples.specs.Drawing.{DrawsThree};
 
 use imgref::{ImgRefMut, ImgVec};
 
@@ -24,8 +25,7 @@ pub fn three_places(image: &mut ImgVec<u8>, value: u8)
     requires fits { Fits (vec_layout image.old) }
     requires wide { 3 ≤ width_of image.old }
     requires high { 2 ≤ height_of image.old }
-    ensures grid { vec_grid image.new ≡ patch (patch (patch (vec_grid image.old) 0 0 (uniform 1 1 1)) 1 0 (uniform 1 1 2)) 1 1 (uniform 2 1 value) }
-    ensures outside { SameOutside (vec_layout image.old) (vec_layout image.new) }
+    ensures { DrawsThree (vec_layout image.old) (vec_layout image.new) value }
 {
     image.put(0, 0, 1);
     image.put(1, 0, 2);
@@ -37,8 +37,7 @@ pub fn three_by_index(image: &mut ImgVec<u8>, value: u8)
     requires fits { Fits (vec_layout image.old) }
     requires wide { 3 ≤ width_of image.old }
     requires high { 2 ≤ height_of image.old }
-    ensures grid { vec_grid image.new ≡ patch (patch (patch (vec_grid image.old) 0 0 (uniform 1 1 1)) 1 0 (uniform 1 1 2)) 1 1 (uniform 2 1 value) }
-    ensures outside { SameOutside (vec_layout image.old) (vec_layout image.new) }
+    ensures { DrawsThree (vec_layout image.old) (vec_layout image.new) value }
 {
     image[(0usize, 0usize)] = 1;
     image[(1u32, 0u32)] = 2;

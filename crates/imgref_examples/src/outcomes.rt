@@ -219,7 +219,7 @@ fn what_is_read_leaves_out_padding(rt: HostRuntime) -> Result<(), Fail> {
     ] {
         assert!(rt; greatest(image, outer, inner) == pixel);
     }
-    let copy = crop_packed(rt.alloc(), image, 1, 1, 2, 2)?;
+    let copy = crop_packed(rt.alloc(), image, Window::new(1, 1, 2, 2))?;
     assert!(rt; copy.width() == 2 && copy.height() == 2 && copy.stride() == 2);
     assert!(rt; copy.into_buf().as_slice() == [6u8, 7, 10, 11].as_slice());
     Ok(())

@@ -4,7 +4,7 @@ ghost use Rattle.std.specs.Prelude.{◌≡◌};
 ghost use Rattle.std.specs.Borrow.{sem};
 ghost use Rattle.image_model.specs.Layout.{Fits, SameOutside};
 ghost use Rattle.image_pixels.specs.Marks.{marks_of};
-ghost use Rattle.imgref.specs.Image.{buf_of, width_of, height_of, stride_of, grid_by, layout_by, OnlyCellsChange, with_all, vec_layout, mut_layout};
+ghost use Rattle.imgref.specs.Image.{buf_of, shape_of, width_of, height_of, stride_of, grid_by, layout_by, OnlyCellsChange, with_all, vec_layout, mut_layout};
 ghost use Rattle.imgref_examples.specs.Pixels.{with_first, first_covered, writes_first};
 
 use image_pixels::PixelsIterMut;
@@ -13,9 +13,7 @@ use imgref::{AsMutSlice, Img, ImgRefMut, ImgVec};
 /// Every pixel becomes 255 less what it was. The image keeps its size and its stride, and fits.
 pub fn invert_owner(image: &mut ImgVec<u8>)
     requires fits { Fits (vec_layout image.old) }
-    ensures width { width_of image.new ≡ width_of image.old }
-    ensures height { height_of image.new ≡ height_of image.old }
-    ensures stride { stride_of image.new ≡ stride_of image.old }
+    ensures shape { shape_of image.new ≡ shape_of image.old }
     ensures fits { Fits (vec_layout image.new) }
 {
     for pixel in image.pixels_mut() {
@@ -26,9 +24,7 @@ pub fn invert_owner(image: &mut ImgVec<u8>)
 /// The same of a lent image.
 pub fn invert_lent(image: &mut ImgRefMut<'_, u8>)
     requires fits { Fits (mut_layout image.old) }
-    ensures width { width_of image.new ≡ width_of image.old }
-    ensures height { height_of image.new ≡ height_of image.old }
-    ensures stride { stride_of image.new ≡ stride_of image.old }
+    ensures shape { shape_of image.new ≡ shape_of image.old }
     ensures fits { Fits (mut_layout image.new) }
 {
     for pixel in image.pixels_mut() {

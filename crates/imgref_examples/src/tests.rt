@@ -7,7 +7,7 @@ use crate::{
     FrameError, box_blur_3x3, brighten, brighten_places, brighten_rows, crop_copy, dot, draw_rect,
     luma_plane, put_then_get, stripes, three_by_index, three_places,
 };
-use imgref::{Img, ImgVec};
+use imgref::{Img, ImgVec, Window};
 use std::alloc::{AllocError, Global};
 use std::test::Fail;
 
@@ -43,12 +43,12 @@ fn brighter_pixels_stop_at_255(rt: HostRuntime) -> Result<(), Fail> {
 fn a_crop_is_copied(rt: HostRuntime) -> Result<(), Fail> {
     let image = Img::new_stride(CELLS.as_slice(), 3, 2, 4);
     assert!(rt; image.is_valid());
-    let Some(copy) = crop_copy(rt.alloc(), image, 1, 0, 2, 2)? else {
+    let Some(copy) = crop_copy(rt.alloc(), image, Window::new(1, 0, 2, 2))? else {
         panic!(rt; "the window is inside");
     };
     assert_eq!(rt; copy.as_slice(), [2u8, 3, 5, 250].as_slice());
-    assert!(rt; crop_copy(rt.alloc(), image, 2, 0, 2, 2)?.is_none());
-    assert!(rt; crop_copy(rt.alloc(), image, usize::MAX, 0, 1, 1)?.is_none());
+    assert!(rt; crop_copy(rt.alloc(), image, Window::new(2, 0, 2, 2))?.is_none());
+    assert!(rt; crop_copy(rt.alloc(), image, Window::new(usize::MAX, 0, 1, 1))?.is_none());
     Ok(())
 }
 
