@@ -1,16 +1,20 @@
 -- What a call leaves, by the status that it answers: with any other than 0 all is as before.
 use Rattle.std.specs.Prelude.{◌≡◌, ℕ, ◌+◌, ◌*◌, ◌<◌, ◌≤◌, List, ◌++◌, drop}
 use Rattle.image_model.specs.Layout.{Layout, layout, SameOutside}
-use Rattle.image_model.specs.Grid.{Grid, grid_of}
-use Rattle.image_model.specs.Windows.{Stretch}
+use Rattle.image_model.specs.Grid.{Grid, grid_of, patch}
+use Rattle.image_model.specs.Windows.{Window, Stretch, window_view}
 use Rattle.image_model.specs.Rows.{joined_rows}
 use Rattle.image_model.specs.Compaction.{least_stride}
 
--- an image that was written: with status 0 it shows this grid, and its padding is as before
-pub record Writes {T : Type 0} (status : ℕ) (old new : Layout T) (seen : Grid T) : Type 0 where
-  pub shows : status ≡ 0 → grid_of new ≡ seen
-  pub outside : status ≡ 0 → SameOutside old new
-  pub unchanged : 0 < status → new.cells ≡ old.cells
+-- what an image of these cells shows at a window
+abbrev pub seen : {T : Type 0} → ℕ → ℕ → ℕ → List T → Window → Grid T
+seen width height stride cells w = window_view (grid_of (layout cells width height stride)) w
+
+-- the cells of an image that was written: with status 0 it shows the old grid with another one put at this column and row, and its padding is as before
+pub record Writes {T : Type 0} (status width height stride : ℕ) (old new : List T) (left top : ℕ) (put : Grid T) : Type 0 where
+  pub shows : status ≡ 0 → grid_of (layout new width height stride) ≡ patch (grid_of (layout old width height stride)) left top put
+  pub outside : status ≡ 0 → SameOutside (layout old width height stride) (layout new width height stride)
+  pub unchanged : 0 < status → new ≡ old
 
 -- an image that was packed: with status 0 its rows are joined, the cells behind them are as before, and at the least stride it shows the old grid
 pub record Packs {T : Type 0} (status : ℕ) (old : Layout T) (new : List T) : Type 0 where

@@ -3,3 +3,4 @@ pub mod Window
 pub mod Part
 pub mod Numbering
 pub mod Calls
+pub mod Words

@@ -3,5 +3,5 @@ use Rattle.image_model.specs.Windows as model
 use Rattle.imgref_c.specs.declared.window.ImgrefWindow.{ImgrefWindow}
 
 -- the window with this one's corner and size
-abbrev pub as_window : ImgrefWindow → model.Window
-as_window w = model.window w.left w.top w.width w.height
+abbrev pub from_c : ImgrefWindow → model.Window
+from_c w = model.window w.left w.top w.width w.height

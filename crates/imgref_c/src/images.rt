@@ -1,26 +1,64 @@
 //! What is an image, which windows are inside, and which cells a window has.
 
-ghost use Rattle.std.specs.Prelude.{◌≡◌, ◌↔◌, IsTrue};
-ghost use Rattle.image_model.specs.Windows.{IsInside, exact_stretch};
-ghost use Rattle.imgref_c.specs.Status.{is_image as passes, IsImage, code, window_status};
-ghost use Rattle.imgref_c.specs.Window.{as_window};
-ghost use Rattle.imgref_c.specs.Calls.{Finds};
+ghost use Rattle.std.specs.Prelude.{◌≡◌, ◌↔◌, ◌≤◌, ◌<◌, ◌^◌, IsTrue};
+ghost use Rattle.imgref_c.specs.Words.{code, exact_stretch, from_c, passes, window_status, Finds, IsImage, IsInside};
 
 use crate::status::Status;
 use crate::window::ImgrefWindow;
 use image_shape::Shape;
 
-/// Whether so many cells are an image of this size and stride.
-#[tactic(auto, using(crate::proofs::Tests::is_image_decides))]
-pub(crate) fn is_image(len: usize, width: usize, height: usize, stride: usize) -> bool
-    ensures value { result ≡ passes len width height stride }
-    ensures means { IsTrue result ↔ IsImage len width height stride }
-{
-    let greatest = u32::MAX as usize;
-    if stride == 0 || width > stride || width > greatest || height > greatest {
-        return false;
+/// The width, the height and the stride that a caller in C claims for an image.
+#[derive(Clone, Copy)]
+pub(crate) struct ClaimedShape {
+    pub(crate) width: usize,
+    pub(crate) height: usize,
+    stride: usize,
+}
+
+impl ClaimedShape {
+    ghost use Rattle.image_shape.specs.Shape.{shape_width, shape_height, shape_stride};
+
+    /// These three numbers. Nothing is known of them.
+    pub(crate) fn new(width: usize, height: usize, stride: usize) -> ClaimedShape
+        ensures width { result.width ≡ width }
+        ensures height { result.height ≡ height }
+        ensures stride { result.stride ≡ stride }
+    {
+        ClaimedShape {
+            width,
+            height,
+            stride,
+        }
     }
-    Shape::new(width, height, stride).fits(len)
+
+    /// Whether so many cells are an image of this size and stride.
+    #[tactic(auto, using(crate::proofs::Tests::is_image_decides))]
+    pub(crate) fn is_image(self, len: usize) -> bool
+        ensures value { result ≡ passes len self.width self.height self.stride }
+        ensures means { IsTrue result ↔ IsImage len self.width self.height self.stride }
+    {
+        let greatest = u32::MAX as usize;
+        if self.stride == 0 || self.width > self.stride {
+            return false;
+        }
+        if self.width > greatest || self.height > greatest {
+            return false;
+        }
+        self.shape().fits(len)
+    }
+
+    /// The same as a shape, where the numbers are those of one: `is_image` tells.
+    pub(crate) fn shape(self) -> Shape
+        requires stride_positive { 1 ≤ self.stride }
+        requires width_within { self.width ≤ self.stride }
+        requires width_fits { self.width < 2 ^ 32 }
+        requires height_fits { self.height < 2 ^ 32 }
+        ensures width { shape_width result ≡ self.width }
+        ensures height { shape_height result ≡ self.height }
+        ensures stride { shape_stride result ≡ self.stride }
+    {
+        Shape::new(self.width, self.height, self.stride)
+    }
 }
 
 /// Whether so many cells are an image of this size and stride: the stride is positive and at least
@@ -29,13 +67,13 @@ pub(crate) fn is_image(len: usize, width: usize, height: usize, stride: usize) -
 pub extern "C" fn imgref_is_image(len: usize, width: usize, height: usize, stride: usize) -> bool
     ensures { IsTrue result ↔ IsImage len width height stride }
 {
-    is_image(len, width, height, stride)
+    ClaimedShape::new(width, height, stride).is_image(len)
 }
 
 /// Whether a window is inside an image of this size. An empty one at the edge is.
 #[unsafe(no_mangle)]
 pub extern "C" fn imgref_has_window(width: usize, height: usize, window: ImgrefWindow) -> bool
-    ensures { IsTrue result ↔ IsInside width height (as_window window) }
+    ensures { IsTrue result ↔ IsInside width height (from_c window) }
 {
     window.as_window().is_inside(width, height)
 }
@@ -52,14 +90,15 @@ pub extern "C" fn imgref_window(
     start: &mut usize,
     count: &mut usize,
 ) -> u32
-    ensures status { result ≡ code (window_status len width height stride (as_window window)) }
-    ensures finds { Finds result start.old count.old start.new count.new len (exact_stretch stride (as_window window)) }
+    ensures status { result ≡ code (window_status len width height stride (from_c window)) }
+    ensures finds { Finds result start.old count.old start.new count.new len (exact_stretch stride (from_c window)) }
     ensures image { result ≡ 0 → IsImage count.new window.width window.height stride }
 {
-    if !is_image(len, width, height, stride) {
+    let claimed = ClaimedShape::new(width, height, stride);
+    if !claimed.is_image(len) {
         return Status::NotAnImage.code();
     }
-    let shape = Shape::new(width, height, stride);
+    let shape = claimed.shape();
     let window = window.as_window();
     if !shape.has_window(window) {
         return Status::WindowOutside.code();

@@ -8,13 +8,12 @@
 //! four and eight bytes: C has no generic functions, and no macro of the language writes functions.
 #![tactic(auto)]
 
-mod copies;
-mod equality;
-mod fills;
 mod images;
 mod packing;
+mod pairs;
 mod parts;
 mod places;
 mod status;
 mod tiles;
 mod window;
+mod windows;

@@ -1,24 +1,21 @@
 //! Compaction in place.
 
 ghost use Rattle.std.specs.Prelude.{◌≡◌, length};
-ghost use Rattle.image_model.specs.Layout.{layout};
-ghost use Rattle.imgref_c.specs.Status.{code, image_status};
-ghost use Rattle.imgref_c.specs.Calls.{Packs};
+ghost use Rattle.imgref_c.specs.Words.{code, image_status, layout, Packs};
 
-use crate::images::is_image;
+use crate::images::ClaimedShape;
 use crate::status::Status;
 use image_moves::join_rows;
-use image_shape::Shape;
 
 // The rows come one after the other at the front of the cells; the cells behind them stay.
-fn pack<T: Copy>(cells: &mut [T], width: usize, height: usize, stride: usize) -> Status
-    ensures status { result ≡ image_status (length cells.old) width height stride }
-    ensures packs { Packs (code result) (layout cells.old width height stride) cells.new }
+fn pack<T: Copy>(cells: &mut [T], claimed: ClaimedShape) -> Status
+    ensures status { result ≡ image_status (length cells.old) claimed.width claimed.height claimed.stride }
+    ensures packs { Packs (code result) (layout cells.old claimed.width claimed.height claimed.stride) cells.new }
 {
-    if !is_image(cells.len(), width, height, stride) {
+    if !claimed.is_image(cells.len()) {
         return Status::NotAnImage;
     }
-    join_rows(cells, Shape::new(width, height, stride));
+    join_rows(cells, claimed.shape());
     Status::Done
 }
 
@@ -33,7 +30,8 @@ pub extern "C" fn imgref_u8_pack(
     ensures status { result ≡ code (image_status (length cells.old) width height stride) }
     ensures packs { Packs result (layout cells.old width height stride) cells.new }
 {
-    pack::<u8>(cells, width, height, stride).code()
+    let claimed = ClaimedShape::new(width, height, stride);
+    pack::<u8>(cells, claimed).code()
 }
 
 /// The rows come one after the other at the front of the cells; the cells behind them stay.
@@ -47,7 +45,8 @@ pub extern "C" fn imgref_u16_pack(
     ensures status { result ≡ code (image_status (length cells.old) width height stride) }
     ensures packs { Packs result (layout cells.old width height stride) cells.new }
 {
-    pack::<u16>(cells, width, height, stride).code()
+    let claimed = ClaimedShape::new(width, height, stride);
+    pack::<u16>(cells, claimed).code()
 }
 
 /// The rows come one after the other at the front of the cells; the cells behind them stay.
@@ -61,7 +60,8 @@ pub extern "C" fn imgref_u32_pack(
     ensures status { result ≡ code (image_status (length cells.old) width height stride) }
     ensures packs { Packs result (layout cells.old width height stride) cells.new }
 {
-    pack::<u32>(cells, width, height, stride).code()
+    let claimed = ClaimedShape::new(width, height, stride);
+    pack::<u32>(cells, claimed).code()
 }
 
 /// The rows come one after the other at the front of the cells; the cells behind them stay.
@@ -75,5 +75,6 @@ pub extern "C" fn imgref_u64_pack(
     ensures status { result ≡ code (image_status (length cells.old) width height stride) }
     ensures packs { Packs result (layout cells.old width height stride) cells.new }
 {
-    pack::<u64>(cells, width, height, stride).code()
+    let claimed = ClaimedShape::new(width, height, stride);
+    pack::<u64>(cells, claimed).code()
 }

@@ -1,39 +1,27 @@
 //! One pixel by its place.
 
 ghost use Rattle.std.specs.Prelude.{◌≡◌, length, Some};
-ghost use Rattle.image_model.specs.Layout.{layout};
-ghost use Rattle.image_model.specs.Grid.{grid_of, patch, uniform};
-ghost use Rattle.imgref_c.specs.Status.{code, place_status};
-ghost use Rattle.imgref_c.specs.Calls.{Writes, Gives};
+ghost use Rattle.imgref_c.specs.Words.{code, grid_of, layout, place_status, uniform, Gives, Writes};
 
-use crate::images::is_image;
+use crate::images::ClaimedShape;
 use crate::parts::fill_part;
 use crate::status::Status;
-use image_shape::{Shape, Window};
+use image_shape::Window;
 use imgref::ImgRef;
 
 // The pixel in column `x` of row `y` goes to `pixel`.
 #[tactic(auto, unfolding(image_model::specs::Grid::grid_of))]
-fn get<T: Copy>(
-    cells: &[T],
-    width: usize,
-    height: usize,
-    stride: usize,
-    x: usize,
-    y: usize,
-    pixel: &mut T,
-) -> Status
-    ensures status { result ≡ place_status (length cells.now) width height stride x y }
-    ensures gives { Gives (code result) pixel.old pixel.new ((grid_of (layout cells.now width height stride)).pixel x y ≡ Some pixel.new) }
+fn get<T: Copy>(cells: &[T], claimed: ClaimedShape, place: (usize, usize), pixel: &mut T) -> Status
+    ensures status { result ≡ place_status (length cells.now) claimed.width claimed.height claimed.stride place.0 place.1 }
+    ensures gives { Gives (code result) pixel.old pixel.new ((grid_of (layout cells.now claimed.width claimed.height claimed.stride)).pixel place.0 place.1 ≡ Some pixel.new) }
 {
-    if !is_image(cells.len(), width, height, stride) {
+    if !claimed.is_image(cells.len()) {
         return Status::NotAnImage;
     }
-    if x >= width || y >= height {
+    if place.0 >= claimed.width || place.1 >= claimed.height {
         return Status::PlaceOutside;
     }
-    let image = ImgRef::new_stride(cells, width, height, stride);
-    *pixel = image[(x, y)];
+    *pixel = ImgRef::from_parts(cells, claimed.shape())[place];
     Status::Done
 }
 
@@ -51,7 +39,8 @@ pub extern "C" fn imgref_u8_get(
     ensures status { result ≡ code (place_status (length cells.now) width height stride x y) }
     ensures gives { Gives result pixel.old pixel.new ((grid_of (layout cells.now width height stride)).pixel x y ≡ Some pixel.new) }
 {
-    get::<u8>(cells, width, height, stride, x, y, pixel).code()
+    let claimed = ClaimedShape::new(width, height, stride);
+    get::<u8>(cells, claimed, (x, y), pixel).code()
 }
 
 /// The pixel in column `x` of row `y` goes to `pixel`.
@@ -68,7 +57,8 @@ pub extern "C" fn imgref_u16_get(
     ensures status { result ≡ code (place_status (length cells.now) width height stride x y) }
     ensures gives { Gives result pixel.old pixel.new ((grid_of (layout cells.now width height stride)).pixel x y ≡ Some pixel.new) }
 {
-    get::<u16>(cells, width, height, stride, x, y, pixel).code()
+    let claimed = ClaimedShape::new(width, height, stride);
+    get::<u16>(cells, claimed, (x, y), pixel).code()
 }
 
 /// The pixel in column `x` of row `y` goes to `pixel`.
@@ -85,7 +75,8 @@ pub extern "C" fn imgref_u32_get(
     ensures status { result ≡ code (place_status (length cells.now) width height stride x y) }
     ensures gives { Gives result pixel.old pixel.new ((grid_of (layout cells.now width height stride)).pixel x y ≡ Some pixel.new) }
 {
-    get::<u32>(cells, width, height, stride, x, y, pixel).code()
+    let claimed = ClaimedShape::new(width, height, stride);
+    get::<u32>(cells, claimed, (x, y), pixel).code()
 }
 
 /// The pixel in column `x` of row `y` goes to `pixel`.
@@ -102,30 +93,27 @@ pub extern "C" fn imgref_u64_get(
     ensures status { result ≡ code (place_status (length cells.now) width height stride x y) }
     ensures gives { Gives result pixel.old pixel.new ((grid_of (layout cells.now width height stride)).pixel x y ≡ Some pixel.new) }
 {
-    get::<u64>(cells, width, height, stride, x, y, pixel).code()
+    let claimed = ClaimedShape::new(width, height, stride);
+    get::<u64>(cells, claimed, (x, y), pixel).code()
 }
 
 // The pixel in column `x` of row `y` becomes `value`.
-fn put<T: Copy>(
-    cells: &mut [T],
-    width: usize,
-    height: usize,
-    stride: usize,
-    x: usize,
-    y: usize,
-    value: T,
-) -> Status
-    ensures status { result ≡ place_status (length cells.old) width height stride x y }
-    ensures writes { Writes (code result) (layout cells.old width height stride) (layout cells.new width height stride) (patch (grid_of (layout cells.old width height stride)) x y (uniform 1 1 value)) }
+fn put<T: Copy>(cells: &mut [T], claimed: ClaimedShape, place: (usize, usize), value: T) -> Status
+    ensures status { result ≡ place_status (length cells.old) claimed.width claimed.height claimed.stride place.0 place.1 }
+    ensures writes { Writes (code result) claimed.width claimed.height claimed.stride cells.old cells.new place.0 place.1 (uniform 1 1 value) }
 {
-    if !is_image(cells.len(), width, height, stride) {
+    if !claimed.is_image(cells.len()) {
         return Status::NotAnImage;
     }
-    if x >= width || y >= height {
+    if place.0 >= claimed.width || place.1 >= claimed.height {
         return Status::PlaceOutside;
     }
-    let place = Window::new(x, y, 1, 1);
-    fill_part(cells, Shape::new(width, height, stride), place, value);
+    fill_part(
+        cells,
+        claimed.shape(),
+        Window::new(place.0, place.1, 1, 1),
+        value,
+    );
     Status::Done
 }
 
@@ -141,9 +129,10 @@ pub extern "C" fn imgref_u8_put(
     value: u8,
 ) -> u32
     ensures status { result ≡ code (place_status (length cells.old) width height stride x y) }
-    ensures writes { Writes result (layout cells.old width height stride) (layout cells.new width height stride) (patch (grid_of (layout cells.old width height stride)) x y (uniform 1 1 value)) }
+    ensures writes { Writes result width height stride cells.old cells.new x y (uniform 1 1 value) }
 {
-    put::<u8>(cells, width, height, stride, x, y, value).code()
+    let claimed = ClaimedShape::new(width, height, stride);
+    put::<u8>(cells, claimed, (x, y), value).code()
 }
 
 /// The pixel in column `x` of row `y` becomes `value`.
@@ -158,9 +147,10 @@ pub extern "C" fn imgref_u16_put(
     value: u16,
 ) -> u32
     ensures status { result ≡ code (place_status (length cells.old) width height stride x y) }
-    ensures writes { Writes result (layout cells.old width height stride) (layout cells.new width height stride) (patch (grid_of (layout cells.old width height stride)) x y (uniform 1 1 value)) }
+    ensures writes { Writes result width height stride cells.old cells.new x y (uniform 1 1 value) }
 {
-    put::<u16>(cells, width, height, stride, x, y, value).code()
+    let claimed = ClaimedShape::new(width, height, stride);
+    put::<u16>(cells, claimed, (x, y), value).code()
 }
 
 /// The pixel in column `x` of row `y` becomes `value`.
@@ -175,9 +165,10 @@ pub extern "C" fn imgref_u32_put(
     value: u32,
 ) -> u32
     ensures status { result ≡ code (place_status (length cells.old) width height stride x y) }
-    ensures writes { Writes result (layout cells.old width height stride) (layout cells.new width height stride) (patch (grid_of (layout cells.old width height stride)) x y (uniform 1 1 value)) }
+    ensures writes { Writes result width height stride cells.old cells.new x y (uniform 1 1 value) }
 {
-    put::<u32>(cells, width, height, stride, x, y, value).code()
+    let claimed = ClaimedShape::new(width, height, stride);
+    put::<u32>(cells, claimed, (x, y), value).code()
 }
 
 /// The pixel in column `x` of row `y` becomes `value`.
@@ -192,7 +183,8 @@ pub extern "C" fn imgref_u64_put(
     value: u64,
 ) -> u32
     ensures status { result ≡ code (place_status (length cells.old) width height stride x y) }
-    ensures writes { Writes result (layout cells.old width height stride) (layout cells.new width height stride) (patch (grid_of (layout cells.old width height stride)) x y (uniform 1 1 value)) }
+    ensures writes { Writes result width height stride cells.old cells.new x y (uniform 1 1 value) }
 {
-    put::<u64>(cells, width, height, stride, x, y, value).code()
+    let claimed = ClaimedShape::new(width, height, stride);
+    put::<u64>(cells, claimed, (x, y), value).code()
 }

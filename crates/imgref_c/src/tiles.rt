@@ -1,11 +1,7 @@
 //! The tiles of a size, by their numbers.
 
 ghost use Rattle.std.specs.Prelude.{◌≡◌, ◌<◌, ◌^◌, length, Some, slice_get};
-ghost use Rattle.image_model.specs.Tiles.{tiles};
-ghost use Rattle.imgref_c.specs.Status.{code, tiles_status, tile_status};
-ghost use Rattle.imgref_c.specs.Numbering.{Numbered};
-ghost use Rattle.imgref_c.specs.Window.{as_window};
-ghost use Rattle.imgref_c.specs.Calls.{Gives};
+ghost use Rattle.imgref_c.specs.Words.{code, from_c, tile_status, tiles, tiles_status, Gives, Numbered};
 
 use crate::status::Status;
 use crate::window::ImgrefWindow;
@@ -24,7 +20,6 @@ fn count_of(width: usize, height: usize, tile_width: usize, tile_height: usize) 
 }
 
 // How many tiles stand in a line of a size that has a tile with this number.
-
 fn columns_of(
     width: usize,
     height: usize,
@@ -51,7 +46,7 @@ fn window_of(
     requires wide { 0 < tile_width }
     requires high { 0 < tile_height }
     requires below { number < length (tiles width height tile_width tile_height) }
-    ensures { slice_get (tiles width height tile_width tile_height) number ≡ Some (as_window result) }
+    ensures { slice_get (tiles width height tile_width tile_height) number ≡ Some (from_c result) }
 {
     let columns = columns_of(width, height, tile_width, tile_height, number);
     let left = number % columns * tile_width;
@@ -108,7 +103,7 @@ pub extern "C" fn imgref_tile(
     window: &mut ImgrefWindow,
 ) -> u32
     ensures status { result ≡ code (tile_status width height tile_width tile_height number) }
-    ensures gives { Gives result window.old window.new (slice_get (tiles width height tile_width tile_height) number ≡ Some (as_window window.new)) }
+    ensures gives { Gives result window.old window.new (slice_get (tiles width height tile_width tile_height) number ≡ Some (from_c window.new)) }
 {
     let status = tested(width, height, tile_width, tile_height);
     if status != Status::Done {

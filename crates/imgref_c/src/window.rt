@@ -19,12 +19,12 @@ pub struct ImgrefWindow {
 }
 
 impl ImgrefWindow {
-    ghost use Rattle.image_shape.specs.Window.{as_window as model_of};
-    ghost use Rattle.imgref_c.specs.Window.{as_window};
+    ghost use Rattle.image_shape.specs.Window.{as_window};
+    ghost use Rattle.imgref_c.specs.Window.{from_c};
 
     /// The same window for the calls below.
     pub(crate) fn as_window(self) -> Window
-        ensures { model_of result ≡ as_window self }
+        ensures { as_window result ≡ from_c self }
     {
         Window::new(self.left, self.top, self.width, self.height)
     }
