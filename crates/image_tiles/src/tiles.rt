@@ -104,8 +104,8 @@ impl<C: AsMutSlice> TileCursor<C> {
         ensures* hands_on { sem 𝓛 (follows (the_row C.row) (Array C.Item.row 0) self.entry.ghost_name (buf_of result).ghost_name (after_tile C.AsSlice.cells C.with_cells C.padded_windows self.old)) }
         ensures next { IsNext C.AsSlice.cells C.with_cells C.padded_windows self.old (windows_left (tiling_of self.old)) result }
     {
-        let window = self.tiling.next_window();
-        self.img.window_mut(window)
+        let (cells, shape) = self.next_parts();
+        Img::from_parts(cells, shape)
     }
 
     // This cursor, and how many tiles are left.
