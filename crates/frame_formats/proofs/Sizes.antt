@@ -1,59 +1,58 @@
--- The planes that are changed are those that get another size.
-use Rattle.std.proofs.Common.{◌≡◌, ℕ, ◌+◌, ◌*◌, List, [], ◌∷◌, Option, Some, sym, ap, ◌∙◌}
-use Rattle.std.specs.Option.{option_map}
+-- How many bytes the planes have, before and after.
+use Rattle.std.proofs.Common.{◌≡◌, ℕ, ◌+◌, ◌*◌, true, List, [], ◌∷◌, Some, sym, ap, ◌∙◌}
 use Rattle.text_model.specs.Reading.{◌>>=◌}
-use Rattle.text_model.proofs.Options.{some_is, bind_some, map_some, guard_some}
-use Rattle.image_planes.specs.Changes.{Job, job, job_for, is_job, jobs_len}
-use Rattle.image_planes.specs.Resized.{Resizing, resizing, resizing_for, is_resizing, sources_len}
+use Rattle.text_model.proofs.Options.{some_is, bind_some, guard_some}
+use Rattle.image_planes.specs.Changes.{Job, job, job_len, job_for, is_job, jobs_len}
+use Rattle.image_planes.specs.Resized.{Resizing, resizing, resizing_for, is_resizing, source_len, sources_len}
 use Rattle.image_planes.specs.declared.change.Step.{Step}
-use Rattle.frame_formats.specs.Steps.{steps_in}
-use Rattle.frame_formats.specs.declared.steps.Channel.TheVariants.{Only}
-use Rattle.frame_formats.specs.declared.steps.Paint.{Paint}
 use Rattle.image_planes.specs.declared.target.Resize.{Resize}
-use Rattle.frame_formats.specs.Format.{samples, steps_under, resize_under, two_planes, two_resizings, chroma_job, chroma_resizing, chroma_jobs, chroma_resizings, jobs_for, resizings_for}
-use Rattle.frame_formats.specs.declared.header.Format.{Format}
-use Rattle.frame_formats.specs.declared.header.Chroma.{Chroma}
-use Rattle.frame_formats.specs.declared.header.Chroma.TheVariants.{Mono, Small, Wide, Whole}
+use Rattle.frame_formats.specs.Layers.{layer_width, layer_height, change_on, job_on, jobs_on, resize_on, resizing_on, resizings_on}
+use Rattle.frame_formats.specs.Steps.{all_some, step_by}
+use Rattle.frame_formats.specs.declared.layers.Layer.{Layer}
+use Rattle.frame_formats.specs.declared.steps.Paint.{Paint}
 
-two_sizes : (x y width height : ℕ) (steps : List (Step ℕ)) (resize : Resize) (jobs : List Job) (resizings : List Resizing)
-    → two_planes x y width height steps ≡ Some jobs → two_resizings x y width height resize ≡ Some resizings → jobs_len jobs ≡ sources_len resizings
-unfolding two_planes two_resizings
-two_sizes x y width height steps resize jobs resizings planned cut =
-    let w = samples width x in
-    let h = samples height y in
-    let p = map_some (chroma_job x y width height steps) (λ plane. plane ∷ plane ∷ []) jobs planned in
-    let u = bind_some (steps_under x y width height steps) (job_for w h) p.0 p.1 in
-    let pg = guard_some (is_job w h u.0) (job w h u.0) p.0 u.2 in
-    let s = map_some (chroma_resizing x y width height resize) (λ one. one ∷ one ∷ []) resizings cut in
-    let v = bind_some (resize_under x y width height resize) (resizing_for w h) s.0 s.1 in
-    let sg = guard_some (is_resizing w h v.0) (resizing w h v.0) s.0 v.2 in
-    sym (ap jobs_len p.2) ∙ ap (λ (j : Job). jobs_len (j ∷ j ∷ [])) (sym pg.1) ∙ ap (λ (k : Resizing). sources_len (k ∷ k ∷ [])) sg.1 ∙ ap sources_len s.2
+-- how many bytes planes of these sizes have
+abbrev pub layers_len : List Layer → ℕ → ℕ → ℕ
+layers_len [] width height = 0
+layers_len (l ∷ ls) width height = layer_width l width * layer_height l height + layers_len ls width height
 
-chroma_sizes : (c : Chroma) (width height : ℕ) (steps : List (Step ℕ)) (resize : Resize) (jobs : List Job) (resizings : List Resizing)
-    → chroma_jobs c width height steps ≡ Some jobs → chroma_resizings c width height resize ≡ Some resizings → jobs_len jobs ≡ sources_len resizings
-chroma_sizes Mono width height steps resize jobs resizings planned cut = sym (ap jobs_len (some_is [] jobs planned)) ∙ ap sources_len (some_is [] resizings cut)
-chroma_sizes Small width height steps resize jobs resizings planned cut = two_sizes 2 2 width height steps resize jobs resizings planned cut
-chroma_sizes Wide width height steps resize jobs resizings planned cut = two_sizes 2 1 width height steps resize jobs resizings planned cut
-chroma_sizes Whole width height steps resize jobs resizings planned cut = two_sizes 1 1 width height steps resize jobs resizings planned cut
+-- a plane has a size in range
+pub job_size : (l : Layer) (width height : ℕ) (steps : List (Step Paint)) (j : Job) → job_on l width height steps ≡ Some j → (layer_width l width * layer_height l height ≡ job_len j) × (is_job (layer_width l width) (layer_height l height) j.steps ≡ true)
+job_size l width height steps j made =
+    let w = layer_width l width in
+    let h = layer_height l height in
+    let found = bind_some (all_some (step_by (change_on l width height)) steps) (job_for w h) j made in
+    let tested = guard_some (is_job w h found.0) (job w h found.0) j found.2 in
+    (ap job_len tested.1, rw (ap (λ (k : Job). k.steps) (sym tested.1)) tested.0)
 
--- the planes under steps of the plane of brightness
-abbrev plain_jobs : Format → List (Step ℕ) → Option (List Job)
-plain_jobs f plain = job_for f.width f.height plain >>= λ luma. option_map (λ (chroma : List Job). luma ∷ chroma) (chroma_jobs f.chroma f.width f.height plain)
+pub jobs_size : (ls : List Layer) (width height : ℕ) (steps : List (Step Paint)) (jobs : List Job) → jobs_on ls width height steps ≡ Some jobs → layers_len ls width height ≡ jobs_len jobs
+unfolding all_some
+jobs_size [] width height steps jobs made = ap jobs_len (some_is [] jobs made)
+jobs_size (l ∷ ls) width height steps jobs made =
+    let first = bind_some (job_on l width height steps) (λ j. jobs_on ls width height steps >>= λ js. Some (j ∷ js)) jobs made in
+    let others = bind_some (jobs_on ls width height steps) (λ js. Some (first.0 ∷ js)) jobs first.2 in
+    let one = (job_size l width height steps first.0 first.1).0 in
+    let rest = jobs_size ls width height steps others.0 others.1 in
+    (λ i. one i + rest i) ∙ ap jobs_len (some_is (first.0 ∷ others.0) jobs others.2)
 
-plain_sizes : (f : Format) (plain : List (Step ℕ)) (resize : Resize) (jobs : List Job) (resizings : List Resizing) → plain_jobs f plain ≡ Some jobs → Some resizings ≡ resizings_for f resize → jobs_len jobs ≡ sources_len resizings
-unfolding resizings_for
-plain_sizes f plain resize jobs resizings planned cut =
-    let p = bind_some (job_for f.width f.height plain) (λ luma. option_map (λ (chroma : List Job). luma ∷ chroma) (chroma_jobs f.chroma f.width f.height plain)) jobs planned in
-    let pg = guard_some (is_job f.width f.height plain) (job f.width f.height plain) p.0 p.1 in
-    let pc = map_some (chroma_jobs f.chroma f.width f.height plain) (λ (chroma : List Job). p.0 ∷ chroma) jobs p.2 in
-    let s = bind_some (resizing_for f.width f.height resize) (λ luma. option_map (λ (chroma : List Resizing). luma ∷ chroma) (chroma_resizings f.chroma f.width f.height resize)) resizings (sym cut) in
-    let sg = guard_some (is_resizing f.width f.height resize) (resizing f.width f.height resize) s.0 s.1 in
-    let sc = map_some (chroma_resizings f.chroma f.width f.height resize) (λ (chroma : List Resizing). s.0 ∷ chroma) resizings s.2 in
-    let others = chroma_sizes f.chroma f.width f.height plain resize pc.0 sc.0 pc.1 sc.1 in
-    sym (ap jobs_len pc.2) ∙ ap (λ (j : Job). jobs_len (j ∷ pc.0)) (sym pg.1) ∙ ap (λ n. f.width * f.height + n) others ∙ ap (λ (k : Resizing). sources_len (k ∷ sc.0)) sg.1 ∙ ap sources_len sc.2
+pub target_size : (l : Layer) (width height : ℕ) (resize : Resize) (r : Resizing) → resizing_on l width height resize ≡ Some r → (z : Resize) × (resize_on l width height resize ≡ Some z) × (is_resizing (layer_width l width) (layer_height l height) z ≡ true) × (resizing (layer_width l width) (layer_height l height) z ≡ r)
+target_size l width height resize r made =
+    let w = layer_width l width in
+    let h = layer_height l height in
+    let found = bind_some (resize_on l width height resize) (resizing_for w h) r made in
+    let tested = guard_some (is_resizing w h found.0) (resizing w h found.0) r found.2 in
+    (found.0, found.1, tested.0, tested.1)
 
-pub same_sizes : (f : Format) (steps : List (Step Paint)) (resize : Resize) (jobs : List Job) (resizings : List Resizing) → Some jobs ≡ jobs_for f steps → Some resizings ≡ resizings_for f resize → jobs_len jobs ≡ sources_len resizings
-unfolding jobs_for
-same_sizes f steps resize jobs resizings planned cut =
-    let plain = bind_some (steps_in Only steps) (plain_jobs f) jobs (sym planned) in
-    plain_sizes f plain.0 resize jobs resizings plain.2 cut
+sources_size : (ls : List Layer) (width height : ℕ) (resize : Resize) (rs : List Resizing) → resizings_on ls width height resize ≡ Some rs → layers_len ls width height ≡ sources_len rs
+unfolding all_some
+sources_size [] width height resize rs made = ap sources_len (some_is [] rs made)
+sources_size (l ∷ ls) width height resize rs made =
+    let first = bind_some (resizing_on l width height resize) (λ r. resizings_on ls width height resize >>= λ more. Some (r ∷ more)) rs made in
+    let others = bind_some (resizings_on ls width height resize) (λ more. Some (first.0 ∷ more)) rs first.2 in
+    let one = ap source_len (target_size l width height resize first.0 first.1).3 in
+    let rest = sources_size ls width height resize others.0 others.1 in
+    (λ i. one i + rest i) ∙ ap sources_len (some_is (first.0 ∷ others.0) rs others.2)
+
+-- the planes that are changed are those that get another size
+pub same_sizes : (ls : List Layer) (width height : ℕ) (steps : List (Step Paint)) (resize : Resize) (jobs : List Job) (rs : List Resizing) → jobs_on ls width height steps ≡ Some jobs → resizings_on ls width height resize ≡ Some rs → jobs_len jobs ≡ sources_len rs
+same_sizes ls width height steps resize jobs rs planned cut = sym (jobs_size ls width height steps jobs planned) ∙ sources_size ls width height resize rs cut

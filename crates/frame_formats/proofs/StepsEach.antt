@@ -5,7 +5,10 @@ use Rattle.std.proofs.lemmas.List.{append-nil, at_drop_more, at_drop_all}
 use Rattle.text_model.specs.Reading.{◌>>=◌}
 use Rattle.image_planes.specs.declared.change.Change.{Change}
 use Rattle.image_planes.specs.declared.change.Step.{Step}
+use Rattle.frame_formats.specs.Plan.{Tells}
 use Rattle.frame_formats.specs.Steps.{all_some, step_by}
+use Rattle.frame_formats.specs.declared.plans.PlanFault.{PlanFault}
+use Rattle.frame_formats.specs.declared.plans.PlanFault.TheVariants.{Outside, Memory}
 
 -- what is made, after what was made before
 abbrev pub with_front : {B : Type 0} → List B → Option (List B) → Option (List B)
@@ -42,3 +45,8 @@ step_made become s change e = rw e refl
 
 pub no_step : {V W : Type 0} (become : Change V → Option (Change W)) (s : Step V) → become s.change ≡ None → step_by become s ≡ None
 no_step become s e = rw e refl
+
+-- what stops one item stops all
+pub tells_more : (none all : Type 0) (fault : PlanFault) → (none → all) → Tells none fault → Tells all fault
+tells_more none all Outside stops tells = stops tells
+tells_more none all Memory stops tells = tells

@@ -2,16 +2,17 @@
 use Rattle.std.proofs.Common.{◌≡◌, ℕ, ◌<◌, ◌^◌, Bool, true, false, cond, eqb, List, Option, Some, None, refl, sym, ap, ◌∙◌, arith, inl, inr}
 use Rattle.std.specs.Option.{option_map}
 use Rattle.std.proofs.lemmas.Bool.Decides.{eqb_tells}
-use Rattle.text_model.proofs.Options.{bind_some, map_some, guard_some}
+use Rattle.text_model.proofs.Options.{bind_some, map_some}
 use Rattle.image_planes.specs.Changes.{Job}
-use Rattle.image_planes.specs.Resized.{Resizing, resizing, resizing_for, is_resizing, new_width, new_height}
+use Rattle.image_planes.specs.Resized.{Resizing, is_resizing, new_width, new_height}
 use Rattle.image_planes.specs.declared.target.Resize.{Resize}
 use Rattle.image_planes.specs.declared.target.Resize.TheVariants.{Crop, Pad}
 use Rattle.frame_formats.specs.Format.{resize_for}
+use Rattle.frame_formats.specs.Layers.{picture_layers, jobs_on, resizings_on}
 use Rattle.frame_formats.specs.Picture.{picture_of, head_text}
 use Rattle.frame_formats.specs.Edits.{Edits}
-use Rattle.frame_formats.specs.Recipe.{Recipe, recipe, finished_picture, picture_jobs, picture_recipe, each_plane, size_of, resized_picture}
-use Rattle.frame_formats.proofs.PictureSizes.{picture_size}
+use Rattle.frame_formats.specs.Recipe.{Recipe, recipe, finished_picture, picture_recipe, resized_picture}
+use Rattle.frame_formats.proofs.PictureSizes.{picture_size, picture_resized}
 use Rattle.frame_formats.proofs.Heads.{reads_back}
 use Rattle.frame_formats.specs.declared.framing.Framing.{Framing}
 use Rattle.frame_formats.specs.declared.picture.Picture.{Picture}
@@ -25,8 +26,8 @@ abbrev HasHead : Recipe → Type 0
 HasHead r = (q : Picture) × (picture_of r.head ≡ Some q)
 
 -- the recipe that is left where the new size has a row
-abbrev resized_recipe : Picture → List Job → Resize → Resizing → Recipe
-resized_recipe p jobs resize one = recipe (head_text (resized_picture p (new_width resize) (new_height resize))) p.colour jobs (Some (each_plane p.colour one))
+abbrev resized_recipe : Picture → List Job → Resize → List Resizing → Recipe
+resized_recipe p jobs resize resizings = recipe (head_text (resized_picture p (new_width resize) (new_height resize))) p.colour jobs (Some resizings)
 
 with_rows : (b : Bool) (o : Option Recipe) (r : Recipe) → cond b None o ≡ Some r → (b ≡ false) × (o ≡ Some r)
 with_rows true o r e = absurd cc
@@ -37,18 +38,17 @@ finished_head p jobs None r columns width_fits rows height_fits made =
     let same : recipe (head_text p) p.colour jobs None ≡ r = cc in
     (p, ap (λ (x : Recipe). picture_of x.head) (sym same) ∙ reads_back p columns width_fits rows height_fits)
 finished_head p jobs (Some framing) r columns width_fits rows height_fits made =
-    let step = bind_some (resize_for (size_of p) framing) (λ resize. cond (eqb (new_height resize) 0) None (option_map (resized_recipe p jobs resize) (resizing_for p.width p.height resize))) r made in
+    let step = bind_some (resize_for p.width p.height framing) (λ resize. cond (eqb (new_height resize) 0) None (option_map (resized_recipe p jobs resize) (resizings_on (picture_layers p.colour) p.width p.height resize))) r made in
     let resize : Resize = step.0 in
-    let left = with_rows (eqb (new_height resize) 0) (option_map (resized_recipe p jobs resize) (resizing_for p.width p.height resize)) r step.2 in
+    let left = with_rows (eqb (new_height resize) 0) (option_map (resized_recipe p jobs resize) (resizings_on (picture_layers p.colour) p.width p.height resize)) r step.2 in
     let some : 0 < new_height resize = elim (eqb_tells (new_height resize) 0) [ inl t ↦ absurd (let bad : true ≡ false = sym t.0 ∙ left.0 in cc) | inr t ↦ omega (arith, t.1) ] in
-    let found = map_some (resizing_for p.width p.height resize) (resized_recipe p jobs resize) r left.1 in
-    let tested = guard_some (is_resizing p.width p.height resize) (resizing p.width p.height resize) found.0 found.1 in
-    let size = new_size p.width p.height resize tested.0 in
+    let found = map_some (resizings_on (picture_layers p.colour) p.width p.height resize) (resized_recipe p jobs resize) r left.1 in
+    let size = new_size p.width p.height resize (picture_resized p.colour p.width p.height resize found.0 found.1) in
     let q : Picture = resized_picture p (new_width resize) (new_height resize) in
     (q, ap (λ (x : Recipe). picture_of x.head) (sym found.2) ∙ reads_back q size.0 size.1 some size.2)
 
 pub heads_are_read : (e : Edits) (p : Picture) (r : Recipe) → 0 < p.height → picture_recipe e p ≡ Some r → HasHead r
 heads_are_read e p r rows made =
-    let step = bind_some (picture_jobs p e.steps) (λ jobs. finished_picture p jobs e.framing) r made in
-    let size = (picture_size p e.steps step.0 step.1).1 in
+    let step = bind_some (jobs_on (picture_layers p.colour) p.width p.height e.steps) (λ jobs. finished_picture p jobs e.framing) r made in
+    let size = picture_size p.colour p.width p.height e.steps step.0 step.1 in
     finished_head p step.0 e.framing r size.0 size.1 rows size.2 step.2

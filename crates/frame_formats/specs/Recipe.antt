@@ -2,24 +2,19 @@
 use Rattle.std.specs.Prelude.{◌≡◌, ◌==◌, ℕ, ◌<◌, ◌%◌, Bool, true, false, List, [], ◌∷◌, ◌++◌, map, Option, Some, None, if◌then◌else◌}
 use Rattle.std.specs.Option.{option_map}
 use Rattle.std.specs.declared.vec.Vec.{Vec}
-use Rattle.image_planes.specs.Changes.{Job, job_for, jobs_len, changed_planes}
+use Rattle.image_planes.specs.Changes.{Job, jobs_len, changed_planes}
 use Rattle.image_planes.specs.Interleaved.{parted, joined}
-use Rattle.image_planes.specs.Resized.{Resizing, resizing_for, resized_planes, sources_len, targets_len, new_width, new_height}
+use Rattle.image_planes.specs.Resized.{Resizing, resized_planes, sources_len, targets_len, new_width, new_height}
 use Rattle.image_planes.specs.Targets.{resizing_of}
 use Rattle.image_planes.specs.Unseen.{PlanesAlike}
 use Rattle.image_planes.specs.declared.target.Target.{Target}
-use Rattle.frame_formats.specs.Format.{format_of, jobs_for, resize_for, resizings_for}
+use Rattle.frame_formats.specs.Format.{format_of, resize_for}
+use Rattle.frame_formats.specs.Layers.{picture_layers, video_layers, jobs_on, resizings_on}
 use Rattle.frame_formats.specs.Line.{resized}
 use Rattle.frame_formats.specs.Picture.{picture, picture_of, head_text}
 use Rattle.frame_formats.specs.Edits.{Edits}
-use Rattle.frame_formats.specs.Steps.{steps_in}
-use Rattle.frame_formats.specs.declared.steps.Channel.{Channel}
-use Rattle.frame_formats.specs.declared.steps.Channel.TheVariants.{Only, Red, Green, Blue}
-use Rattle.frame_formats.specs.declared.steps.Paint.{Paint}
-use Rattle.image_planes.specs.declared.change.Step.{Step}
 use Rattle.text_model.specs.Reading.{◌>>=◌}
 use Rattle.frame_formats.specs.declared.framing.Framing.{Framing}
-use Rattle.frame_formats.specs.declared.header.Chroma.TheVariants.{Mono}
 use Rattle.frame_formats.specs.declared.header.Format.{Format}
 use Rattle.frame_formats.specs.declared.picture.Picture.{Picture}
 
@@ -62,22 +57,13 @@ recipe head in_pixels jobs resizings = record {
 abbrev pub finished_video : List ℕ → Format → List Job → Option Framing → Option Recipe
 finished_video line format jobs None = Some (recipe (line ++ 10 ∷ []) false jobs None)
 finished_video line format jobs (Some framing) =
-    resize_for format framing >>= λ resize. option_map (λ resizings. recipe (resized (new_width resize) (new_height resize) line ++ 10 ∷ []) false jobs (Some resizings)) (resizings_for format resize)
+    resize_for format.width format.height framing >>= λ resize. option_map (λ resizings. recipe (resized (new_width resize) (new_height resize) line ++ 10 ∷ []) false jobs (Some resizings)) (resizings_on (video_layers format.chroma) format.width format.height resize)
 
 -- the recipe of edits of a video with this line, where they are edits of it
 abbrev pub video_recipe : Edits → List ℕ → Option Recipe
-video_recipe e line = format_of line >>= λ format. jobs_for format e.steps >>= λ jobs. finished_video line format jobs e.framing
+video_recipe e line = format_of line >>= λ format. jobs_on (video_layers format.chroma) format.width format.height e.steps >>= λ jobs. finished_video line format jobs e.framing
 
 -- ---- a picture
-
--- its size, as that of one plane
-abbrev pub size_of : Picture → Format
-size_of p = record { width = p.width; height = p.height; chroma = Mono }
-
--- what is one for each plane: there is one plane, or there are three
-abbrev pub each_plane : {A : Type 0} → Bool → A → List A
-each_plane false x = x ∷ []
-each_plane true x = x ∷ x ∷ x ∷ []
 
 -- a picture of the same kind in its new size
 abbrev pub resized_picture : Picture → ℕ → ℕ → Picture
@@ -87,31 +73,13 @@ resized_picture p width height = picture width height p.colour
 abbrev pub finished_picture : Picture → List Job → Option Framing → Option Recipe
 finished_picture p jobs None = Some (recipe (head_text p) p.colour jobs None)
 finished_picture p jobs (Some framing) =
-    resize_for (size_of p) framing >>= λ resize.
+    resize_for p.width p.height framing >>= λ resize.
     if new_height resize == 0 then None
-    else option_map (λ resizing. recipe (head_text (resized_picture p (new_width resize) (new_height resize))) p.colour jobs (Some (each_plane p.colour resizing))) (resizing_for p.width p.height resize)
-
--- a plane of the picture and what is done to it
-abbrev pub picture_job : Picture → Channel → List (Step Paint) → Option Job
-picture_job p channel steps = steps_in channel steps >>= job_for p.width p.height
-
-abbrev pub one_job : Picture → List (Step Paint) → Option (List Job)
-one_job p steps = option_map (λ one. one ∷ []) (picture_job p Only steps)
-
-unfoldable pub three_jobs : Picture → List (Step Paint) → Option (List Job)
-three_jobs p steps = do
-  red ← picture_job p Red steps
-  green ← picture_job p Green steps
-  blue ← picture_job p Blue steps
-  Some (red ∷ green ∷ blue ∷ [])
-
--- its planes: a colour is one of a picture of three
-abbrev pub picture_jobs : Picture → List (Step Paint) → Option (List Job)
-picture_jobs p steps = if p.colour then three_jobs p steps else one_job p steps
+    else option_map (λ resizings. recipe (head_text (resized_picture p (new_width resize) (new_height resize))) p.colour jobs (Some resizings)) (resizings_on (picture_layers p.colour) p.width p.height resize)
 
 -- the recipe of edits of a picture, where they are edits of it
 abbrev pub picture_recipe : Edits → Picture → Option Recipe
-picture_recipe e p = picture_jobs p e.steps >>= λ jobs. finished_picture p jobs e.framing
+picture_recipe e p = jobs_on (picture_layers p.colour) p.width p.height e.steps >>= λ jobs. finished_picture p jobs e.framing
 
 -- ---- sizes
 

@@ -38,7 +38,3 @@ unfoldable pub change_in : Channel → Change Paint → Option (Change ℕ)
 change_in channel (Fill w paint) = option_map (λ value. Fill w value) (value_in channel paint)
 change_in channel (Mosaic w tile_width tile_height) = Some (Mosaic w tile_width tile_height)
 change_in channel (Move w left top) = Some (Move w left top)
-
--- what steps are to a plane, where each is something
-abbrev pub steps_in : Channel → List (Step Paint) → Option (List (Step ℕ))
-steps_in channel steps = all_some (step_by (change_in channel)) steps

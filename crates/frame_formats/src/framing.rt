@@ -3,7 +3,6 @@
 ghost use Rattle.std.specs.Prelude.{◌≡◌};
 ghost use Rattle.frame_formats.specs.Format.{padded_size, resize_for};
 
-use crate::header::Format;
 use image_planes::{Resize, Window};
 
 /// What becomes of the size of the frames, in pixels.
@@ -30,11 +29,11 @@ fn padded_size(before: usize, pixels: usize, behind: usize) -> Option<usize>
     (size <= u32::MAX as usize).then_some(size)
 }
 
-/// What becomes of the plane of brightness of a frame of this format, or `None` where its new size
-/// is too large.
+/// What becomes of a plane of pixels of a frame of this size, or `None` where its new size is too
+/// large.
 #[tactic(auto, unfolding(crate::specs::Format::resize_for))]
-pub(crate) fn resize_of(format: Format, framing: Framing) -> Option<Resize>
-    ensures { result ≡ resize_for format framing }
+pub(crate) fn resize_of(width: usize, height: usize, framing: Framing) -> Option<Resize>
+    ensures { result ≡ resize_for width height framing }
 {
     match framing {
         Framing::Crop(window) => Some(Resize::Crop(window)),
@@ -47,8 +46,8 @@ pub(crate) fn resize_of(format: Format, framing: Framing) -> Option<Resize>
         } => Some(Resize::Pad {
             left,
             top,
-            width: padded_size(left, format.width, right)?,
-            height: padded_size(top, format.height, bottom)?,
+            width: padded_size(left, width, right)?,
+            height: padded_size(top, height, bottom)?,
             value,
         }),
     }

@@ -20,23 +20,6 @@ pub enum Chroma {
     Whole,
 }
 
-impl Chroma {
-    ghost use Rattle.frame_formats.specs.Format.{sampling};
-
-    /// How many columns and rows of pixels a sample stands for, where there are samples.
-    pub(crate) fn sampling(self) -> Option<(usize, usize)>
-        ensures sampling { result ≡ sampling self }
-        ensures positive { IfSome result (λ s. (0 < s.0) × (0 < s.1)) }
-    {
-        match self {
-            Chroma::Mono => None,
-            Chroma::Small => Some((2, 2)),
-            Chroma::Wide => Some((2, 1)),
-            Chroma::Whole => Some((1, 1)),
-        }
-    }
-}
-
 /// The size of the frames in pixels, and their planes.
 #[derive(Clone, Copy, PartialEq, Eq)]
 pub struct Format {
@@ -66,13 +49,11 @@ fn read_chroma(word: &[u8]) -> Option<Chroma>
 {
     if word == b"mono".as_slice() {
         Some(Chroma::Mono)
-    } else if word == b"420jpeg".as_slice() {
-        Some(Chroma::Small)
-    } else if word == b"420mpeg2".as_slice() {
-        Some(Chroma::Small)
-    } else if word == b"420paldv".as_slice() {
-        Some(Chroma::Small)
-    } else if word == b"420".as_slice() {
+    } else if word == b"420jpeg".as_slice()
+        || word == b"420mpeg2".as_slice()
+        || word == b"420paldv".as_slice()
+        || word == b"420".as_slice()
+    {
         Some(Chroma::Small)
     } else if word == b"422".as_slice() {
         Some(Chroma::Wide)

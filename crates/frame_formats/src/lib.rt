@@ -5,13 +5,12 @@
 mod framing;
 mod header;
 mod hiding;
+mod layers;
 mod line;
 mod picture;
-mod picture_planes;
 mod plans;
 mod samples;
 mod steps;
-mod video_planes;
 mod words;
 
 pub use framing::Framing;

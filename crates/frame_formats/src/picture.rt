@@ -81,6 +81,11 @@ impl Head {
     {
         let head = match self {
             Head::Start | Head::Letter => return Scan::Bad,
+            Head::Width { width: Some(0), .. } => return Scan::Bad,
+            Head::Height {
+                height: Some(0),
+                ..
+            } => return Scan::Bad,
             Head::Kind { colour } => Head::Width {
                 colour,
                 width: None,
@@ -88,31 +93,21 @@ impl Head {
             Head::Width {
                 colour,
                 width: Some(width),
-            } => {
-                if width == 0 {
-                    return Scan::Bad;
-                }
-                Head::Height {
-                    colour,
-                    width,
-                    height: None,
-                }
-            }
+            } => Head::Height {
+                colour,
+                width,
+                height: None,
+            },
             Head::Height {
                 colour,
                 width,
                 height: Some(height),
-            } => {
-                if height == 0 {
-                    return Scan::Bad;
-                }
-                Head::Greatest {
-                    colour,
-                    width,
-                    height,
-                    greatest: None,
-                }
-            }
+            } => Head::Greatest {
+                colour,
+                width,
+                height,
+                greatest: None,
+            },
             Head::Greatest {
                 colour,
                 width,

@@ -10,11 +10,10 @@ ghost use Rattle.frame_formats.specs.Recipe.{recipe, video_recipe, picture_recip
 
 use crate::framing::{Framing, resize_of};
 use crate::header::Format;
+use crate::layers::{picture_layers, planes_of, targets_of, video_layers};
 use crate::line::{ended_line, resized_line};
 use crate::picture::{Picture, picture_head};
-use crate::picture_planes::{picture_planes, picture_targets, size_of};
 use crate::steps::Paint;
-use crate::video_planes::{video_planes, video_targets};
 use image_planes::{
     Plane, Step, Target, change_planes, join_pixels, part_pixels, planes_len, resize_planes,
     targets_len,
@@ -101,17 +100,18 @@ impl Plan {
         ensures plan { IfOk result (λ plan. video_recipe (edits steps.now framing) line.now ≡ Some (recipe_of plan)) }
         ensures fault { IfErr result (Tells (video_recipe (edits steps.now framing) line.now ≡ None)) }
     {
-        let planes = video_planes(alloc, format, steps)?;
+        let layers = video_layers(format.chroma);
+        let planes = planes_of(alloc, layers, format.width, format.height, steps)?;
         let Some(framing) = framing else {
             let Ok(head) = ended_line(alloc, line) else {
                 return Err(PlanFault::Memory);
             };
             return Plan::new(head, false, planes, None);
         };
-        let Some(resize) = resize_of(format, framing) else {
+        let Some(resize) = resize_of(format.width, format.height, framing) else {
             return Err(PlanFault::Outside);
         };
-        let targets = video_targets(alloc, format, resize)?;
+        let targets = targets_of(alloc, layers, format.width, format.height, resize)?;
         let Ok(head) = resized_line(alloc, line, resize.width(), resize.height()) else {
             return Err(PlanFault::Memory);
         };
@@ -132,20 +132,21 @@ impl Plan {
         ensures plan { IfOk result (λ plan. picture_recipe (edits steps.now framing) picture ≡ Some (recipe_of plan)) }
         ensures fault { IfErr result (Tells (picture_recipe (edits steps.now framing) picture ≡ None)) }
     {
-        let planes = picture_planes(alloc, picture, steps)?;
+        let layers = picture_layers(picture.colour);
+        let planes = planes_of(alloc, layers, picture.width, picture.height, steps)?;
         let Some(framing) = framing else {
             let Ok(head) = picture_head(alloc, picture) else {
                 return Err(PlanFault::Memory);
             };
             return Plan::new(head, picture.colour, planes, None);
         };
-        let Some(resize) = resize_of(size_of(picture), framing) else {
+        let Some(resize) = resize_of(picture.width, picture.height, framing) else {
             return Err(PlanFault::Outside);
         };
         if resize.height() == 0 {
             return Err(PlanFault::Outside);
         }
-        let targets = picture_targets(alloc, picture, resize)?;
+        let targets = targets_of(alloc, layers, picture.width, picture.height, resize)?;
         let resized = Picture {
             width: resize.width(),
             height: resize.height(),
@@ -212,28 +213,23 @@ impl Plan {
         }
     }
 
-    // A frame of planes.
-    fn edit_planes(&self, number: u64, cells: &mut [u8], other: &mut [u8])
-        requires planes { self.now.in_pixels ≡ false }
+    /// Does to the frame of this number, which stands at the front of the first buffer, what is to be
+    /// done to it. Then it stands at the front of the other buffer where it has another size, and else
+    /// of the first.
+    pub fn edit(&self, number: u64, cells: &mut [u8], other: &mut [u8])
         requires room { plan_room self.now ≤ length cells.old }
         requires other_room { plan_other_room self.now ≤ length other.old }
         ensures { take (plan_len self.now) (if plan_is_resized self.now then other.new else cells.new) ≡ (recipe_of self.now).frame number (take (recipe_of self.now).size cells.old) }
     {
-        let (frame, _) = cells.split_at_mut(self.source_len);
-        change_planes(number, frame, &self.planes);
-        if let Some(targets) = &self.targets {
-            let (target, _) = other.split_at_mut(self.len);
-            resize_planes(frame, target, targets);
+        if !self.in_pixels {
+            let (frame, _) = cells.split_at_mut(self.source_len);
+            change_planes(number, frame, &self.planes);
+            if let Some(targets) = &self.targets {
+                let (target, _) = other.split_at_mut(self.len);
+                resize_planes(frame, target, targets);
+            }
+            return;
         }
-    }
-
-    // A frame of pixels.
-    fn edit_pixels(&self, number: u64, cells: &mut [u8], other: &mut [u8])
-        requires pixels { self.now.in_pixels ≡ true }
-        requires room { plan_room self.now ≤ length cells.old }
-        requires other_room { plan_other_room self.now ≤ length other.old }
-        ensures { take (plan_len self.now) (if plan_is_resized self.now then other.new else cells.new) ≡ (recipe_of self.now).frame number (take (recipe_of self.now).size cells.old) }
-    {
         let (planes, _) = other.split_at_mut(self.source_len);
         part_pixels(&cells[..self.source_len], planes);
         change_planes(number, planes, &self.planes);
@@ -248,21 +244,6 @@ impl Plan {
                 let (frame, _) = other.split_at_mut(self.len);
                 join_pixels(resized, frame);
             }
-        }
-    }
-
-    /// Does to the frame of this number, which stands at the front of the first buffer, what is to be
-    /// done to it. Then it stands at the front of the other buffer where it has another size, and else
-    /// of the first.
-    pub fn edit(&self, number: u64, cells: &mut [u8], other: &mut [u8])
-        requires room { plan_room self.now ≤ length cells.old }
-        requires other_room { plan_other_room self.now ≤ length other.old }
-        ensures { take (plan_len self.now) (if plan_is_resized self.now then other.new else cells.new) ≡ (recipe_of self.now).frame number (take (recipe_of self.now).size cells.old) }
-    {
-        if self.in_pixels {
-            self.edit_pixels(number, cells, other);
-        } else {
-            self.edit_planes(number, cells, other);
         }
     }
 }

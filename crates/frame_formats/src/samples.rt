@@ -1,13 +1,9 @@
-//! Numbers, windows and edits of pixels as those of chroma samples.
+//! Numbers, windows and changes of pixels as those of chroma samples.
 
-ghost use Rattle.std.specs.Prelude.{◌≡◌, ◌<◌, Some, None, IfOk, IfErr};
-ghost use Rattle.frame_formats.specs.Plan.{Tells};
-ghost use Rattle.frame_formats.specs.Format.{samples, ends_on_sample, window_under, exact_samples, at_corner, change_under, steps_under, resize_under};
+ghost use Rattle.std.specs.Prelude.{◌≡◌, ◌<◌};
+ghost use Rattle.frame_formats.specs.Format.{samples, ends_on_sample, window_under, exact_samples, at_corner, change_under, resize_under};
 
-use crate::header::Format;
-use crate::plans::PlanFault;
-use image_planes::{Change, Resize, Step, Window};
-use std::alloc::Global;
+use image_planes::{Change, Resize, Window};
 
 // The number of samples for so many pixels, where it is a whole one.
 fn whole_samples(step: usize, pixels: usize) -> Option<usize>
@@ -66,8 +62,9 @@ fn window_of_samples(
     }
 }
 
+// The change of chroma samples under a change of pixels.
 #[tactic(auto, unfolding(crate::specs::Format::change_under))]
-fn change_of_samples(
+pub(crate) fn change_of_samples(
     x: usize,
     y: usize,
     width: usize,
@@ -103,37 +100,6 @@ fn change_of_samples(
             })
         }
     }
-}
-
-// The steps in samples.
-pub(crate) fn steps_of_samples(
-    alloc: Global,
-    x: usize,
-    y: usize,
-    format: Format,
-    steps: &[Step<u8>],
-) -> Result<Vec<Step<u8>>, PlanFault>
-    requires across { 0 < x }
-    requires down { 0 < y }
-    ensures steps { IfOk result (λ under. steps_under x y format.width format.height steps.now ≡ Some under.items) }
-    ensures fault { IfErr result (Tells (steps_under x y format.width format.height steps.now ≡ None)) }
-{
-    let mut under = Vec::new(alloc);
-    for step in steps {
-        let Some(change) = change_of_samples(x, y, format.width, format.height, step.change) else {
-            return Err(PlanFault::Outside);
-        };
-        let step = Step {
-            first: step.first,
-            end: step.end,
-            change,
-        };
-        match under.push(step) {
-            Ok(()) => {}
-            Err(_) => return Err(PlanFault::Memory),
-        }
-    }
-    Ok(under)
 }
 
 // What becomes of a plane of chroma samples.

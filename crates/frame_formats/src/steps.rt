@@ -1,12 +1,9 @@
 //! What is done to the pixels of frames, and what that is to each plane.
 
-ghost use Rattle.std.specs.Prelude.{◌≡◌, Some, None, IfOk, IfErr};
-ghost use Rattle.frame_formats.specs.Plan.{Tells};
-ghost use Rattle.frame_formats.specs.Steps.{value_in, change_in, steps_in};
+ghost use Rattle.std.specs.Prelude.{◌≡◌};
+ghost use Rattle.frame_formats.specs.Steps.{value_in, change_in};
 
-use crate::plans::PlanFault;
-use image_planes::{Change, Step};
-use std::alloc::Global;
+use image_planes::Change;
 
 /// The value that pixels get.
 #[derive(Clone, Copy, PartialEq, Eq)]
@@ -40,9 +37,9 @@ fn value_in(channel: Channel, paint: Paint) -> Option<u8>
     }
 }
 
-// What a change is to a plane.
+/// What a change is to a plane; a colour is nothing to the only one.
 #[tactic(auto, unfolding(crate::specs::Steps::change_in))]
-fn change_in(channel: Channel, change: Change<Paint>) -> Option<Change<u8>>
+pub(crate) fn change_in(channel: Channel, change: Change<Paint>) -> Option<Change<u8>>
     ensures { result ≡ change_in channel change }
 {
     match change {
@@ -61,31 +58,4 @@ fn change_in(channel: Channel, change: Change<Paint>) -> Option<Change<u8>>
         }),
         Change::Move { window, left, top } => Some(Change::Move { window, left, top }),
     }
-}
-
-/// What steps are to a plane; a colour is nothing to the only one.
-pub(crate) fn steps_in(
-    alloc: Global,
-    channel: Channel,
-    steps: &[Step<Paint>],
-) -> Result<Vec<Step<u8>>, PlanFault>
-    ensures steps { IfOk result (λ made. steps_in channel steps.now ≡ Some made.items) }
-    ensures fault { IfErr result (Tells (steps_in channel steps.now ≡ None)) }
-{
-    let mut made = Vec::new(alloc);
-    for step in steps {
-        let Some(change) = change_in(channel, step.change) else {
-            return Err(PlanFault::Outside);
-        };
-        let step = Step {
-            first: step.first,
-            end: step.end,
-            change,
-        };
-        match made.push(step) {
-            Ok(()) => {}
-            Err(_) => return Err(PlanFault::Memory),
-        }
-    }
-    Ok(made)
 }

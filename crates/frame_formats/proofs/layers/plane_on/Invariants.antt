@@ -1,0 +1,8 @@
+use Rattle.std.proofs.Common.{◌≡◌, drop}
+use Rattle.frame_formats.specs.Layers.{change_on}
+use Rattle.frame_formats.specs.Steps.{all_some, step_by}
+use Rattle.frame_formats.proofs.StepsEach.{with_front}
+use Rattle.frame_formats.proofs.layers.plane_on.Given as goal
+
+abbrev pub invariant-loop-step : goal.invariant-loop-step
+invariant-loop-step l = with_front l.made.items (all_some (step_by (change_on l.layer l.width l.height)) (drop l.step-index l.steps)) ≡ all_some (step_by (change_on l.layer l.width l.height)) l.steps

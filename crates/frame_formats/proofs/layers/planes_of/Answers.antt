@@ -1,0 +1,25 @@
+-- One plane after the other.
+use Rattle.std.proofs.Common.{arith, map}
+use Rattle.std.proofs.lemmas.List.{map-append}
+use Rattle.image_planes.specs.Planes.{job_of}
+use Rattle.frame_formats.specs.Layers.{job_on}
+use Rattle.frame_formats.specs.declared.layers.Layer.{Layer}
+use Rattle.frame_formats.proofs.StepsEach.{one_more, one_stops, all_done, tells_more}
+use Rattle.frame_formats.proofs.layers.planes_of.Goals as goal
+
+pub returns-in-Err-clause-fault : goal.returns-in-Err-clause-fault
+returns-in-Err-clause-fault c =
+    let a = c.args in
+    let made = λ (layer : Layer). job_on layer a.width a.height a.steps.now in
+    tells_more _ _ c.in-Err.fault (λ none. one_stops made (map job_of c.loop-layer.planes.items) a.layers.now c.loop-layer.layer-index _ _ (omega arith) none c.loop-layer.invariant) c.in-Err.ensures.fault
+
+pub loop-layer-preserved : goal.loop-layer-preserved
+loop-layer-preserved c =
+    let a = c.args in
+    let made = λ (layer : Layer). job_on layer a.width a.height a.steps.now in
+    rw (c.in-Ok-push.ensures.items, map-append) (one_more made (map job_of c.loop-layer.planes.items) a.layers.now c.loop-layer.layer-index _ _ _ (omega arith) c.in-Ok.ensures.plane c.loop-layer.invariant)
+
+pub returns-clause-planes : goal.returns-clause-planes
+returns-clause-planes c =
+    let a = c.args in
+    all_done (λ layer. job_on layer a.width a.height a.steps.now) (map job_of c.loop-layer.planes.items) a.layers.now c.loop-layer.layer-index _ (omega arith) c.loop-layer.invariant

@@ -1,0 +1,8 @@
+use Rattle.std.proofs.Common.{◌≡◌, drop, map}
+use Rattle.image_planes.specs.Targets.{resizing_of}
+use Rattle.frame_formats.specs.Layers.{resizings_on}
+use Rattle.frame_formats.proofs.StepsEach.{with_front}
+use Rattle.frame_formats.proofs.layers.targets_of.Given as goal
+
+abbrev pub invariant-loop-layer : goal.invariant-loop-layer
+invariant-loop-layer l = with_front (map resizing_of l.targets.items) (resizings_on (drop l.layer-index l.layers) l.width l.height l.resize) ≡ resizings_on l.layers l.width l.height l.resize
