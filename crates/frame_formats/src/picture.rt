@@ -1,6 +1,7 @@
 //! The head of a picture: its kind, its size and the greatest value of a pixel.
 
 ghost use Rattle.std.specs.Prelude.{◌≡◌, IfOk};
+ghost use Rattle.std.specs.Option.{is_some};
 ghost use Rattle.frame_formats.specs.Picture.{is_white, with_digit, after_white, after_digit, at_byte, pushed, start, head_text, ApartHeads, OneByteMore, BadStays, BeginsWithLetter, ReadsBack};
 
 use std::alloc::{AllocError, Global};
@@ -74,6 +75,15 @@ fn with_digit(number: Option<usize>, digit: usize) -> Option<usize>
     }
 }
 
+// Adds a digit, and answers whether the number is then in range.
+fn push_digit(number: &mut Option<usize>, digit: usize) -> bool
+    ensures number { number.new ≡ with_digit number.old digit }
+    ensures fits { result ≡ is_some (with_digit number.old digit) }
+{
+    *number = with_digit(*number, digit);
+    number.is_some()
+}
+
 impl Head {
     // What it is after white space, or after a comment.
     fn after_white(self) -> Scan
@@ -135,39 +145,16 @@ impl Head {
     fn after_digit(self, digit: usize) -> Scan
         ensures { result ≡ after_digit self digit }
     {
-        let head = match self {
-            Head::Start | Head::Letter | Head::Kind { .. } => return Scan::Bad,
-            Head::Width { colour, width } => match with_digit(width, digit) {
-                None => return Scan::Bad,
-                width => Head::Width { colour, width },
-            },
-            Head::Height {
-                colour,
-                width,
-                height,
-            } => match with_digit(height, digit) {
-                None => return Scan::Bad,
-                height => Head::Height {
-                    colour,
-                    width,
-                    height,
-                },
-            },
-            Head::Greatest {
-                colour,
-                width,
-                height,
-                greatest,
-            } => match with_digit(greatest, digit) {
-                None => return Scan::Bad,
-                greatest => Head::Greatest {
-                    colour,
-                    width,
-                    height,
-                    greatest,
-                },
-            },
+        let mut head = self;
+        let fits = match &mut head {
+            Head::Start | Head::Letter | Head::Kind { .. } => false,
+            Head::Width { width, .. } => push_digit(width, digit),
+            Head::Height { height, .. } => push_digit(height, digit),
+            Head::Greatest { greatest, .. } => push_digit(greatest, digit),
         };
+        if !fits {
+            return Scan::Bad;
+        }
         Scan::More {
             head,
             comment: false,
