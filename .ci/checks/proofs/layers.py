@@ -34,7 +34,7 @@ CASES = [
     ("row_mover", "moves", "move_rows", ["cells"], "image_moves", "moving::with_moved_window", []),
     ("image_moves", "moving", "with_moved_window", ["grid"], "image_moves", "moving::move_pixels", []),
     ("image_moves", "moving", "move_pixels", ["grid"], "imgref", "img::Img::move_inside", []),
-    ("imgref", "blit", "move_inside", ["grid"], "imgref_replay", "copy::move_within", ["move_window"]),
+    ("imgref", "blit", "move_inside", ["grid"], "imgref_replay", "copy::copy_window", ["move_window"]),
     ("imgref", "blit", "copy_window", ["grid"], "imgref_replay", "copy::copy_over", []),
 ]
 

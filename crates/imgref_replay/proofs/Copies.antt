@@ -20,15 +20,18 @@ use Rattle.imgref_replay.specs.declared.commands.Reply.TheVariants.{Done}
 use Rattle.imgref_replay.proofs.Images.{grid_at-images, grids_set, fits_set, kept_set}
 use Rattle.imgref_replay.proofs.Steps.{faults_after}
 
--- an image of the list that shows the copy, in its old image's place
-pub copied : {T Z : Type 0} (images : List (Img (Vec T Z))) (i left top : ℕ) (copy : Grid T) (image new : Img (Vec T Z)) → i < length images → image ≡ get_or images i image
-    → grid_of (vec_layout new) ≡ patch (grid_of (vec_layout image)) left top copy → SameOutside (vec_layout image) (vec_layout new) → Fits (vec_layout new) → All Fits (map vec_layout images)
-    → ShowsCopy i left top copy (map vec_layout images) (map vec_layout (set images i new))
-copied images i left top copy image new there is shows outside fits all_fit = record {
-  grids = grids_set images i new ∙ ap (set (grids_of images) i) (shows ∙ ap (λ g. patch g left top copy) (sym (grid_at-images images i image there is)));
-  kept = kept_set (λ _. false) images i image new there is (λ _ _. refl) outside;
-  fits = fits_set images i new fits all_fit;
-}
+-- an image of the list that shows a window of image j, in its old image's place
+pub copied : {T Z : Type 0} (images : List (Img (Vec T Z))) (i j left top : ℕ) (from : model.Window) (image seen new : Img (Vec T Z)) → i < length images → j < length images → image ≡ get_or images i image → seen ≡ get_or images j seen
+    → grid_of (vec_layout new) ≡ patch (grid_of (vec_layout image)) left top (window_view (grid_of (vec_layout seen)) from) → SameOutside (vec_layout image) (vec_layout new) → Fits (vec_layout new) → All Fits (map vec_layout images)
+    → ShowsCopy i left top (window_view (grid_at (grids_of images) j) from) (map vec_layout images) (map vec_layout (set images i new))
+copied images i j left top from image seen new there seen_there is seen_is shows outside fits all_fit =
+    let copy = window_view (grid_at (grids_of images) j) from in
+    let shown = shows ∙ ap (λ g. patch (grid_of (vec_layout image)) left top (window_view g from)) (sym (grid_at-images images j seen seen_there seen_is)) in
+    record {
+      grids = grids_set images i new ∙ ap (set (grids_of images) i) (shown ∙ ap (λ g. patch g left top copy) (sym (grid_at-images images i image there is)));
+      kept = kept_set (λ _. false) images i image new there is (λ _ _. refl) outside;
+      fits = fits_set images i new fits all_fit;
+    }
 
 -- windows of one size that two places name, with no other fault
 pub no_copy_fault : (source target : Place) (sizes : Sizes) (from to : model.Window) → None ≡ first_fault (pair_faults source target sizes) → from ≡ window_named source sizes → to ≡ window_named target sizes

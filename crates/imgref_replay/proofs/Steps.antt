@@ -1,18 +1,17 @@
 -- Commands without a fault: what one that asks and one that writes leave.
-use Rattle.std.proofs.Common.{◌≡◌, ◌≢◌, ℕ, ◌<◌, Bool, true, false, not, List, [], ◌∷◌, ◌++◌, length, map, set, get_or, Some, None, Vec, refl, sym, ap, ◌∙◌, subst}
+use Rattle.std.proofs.Common.{◌≡◌, ◌≢◌, ℕ, ◌<◌, Bool, true, false, List, [], ◌∷◌, ◌++◌, length, map, set, get_or, Some, None, Vec, refl, sym, ap, ◌∙◌, subst}
 use Rattle.std.specs.Prelude.{◌||◌, All, Ok}
 use Rattle.std.specs.Option.{option_map_or}
 use Rattle.std.proofs.lemmas.Bool.{cond-false, lt-leb, eq-eqb, ne_eqb}
 use Rattle.std.proofs.lemmas.Option.{same_Some}
 use Rattle.image_model.specs.Layout.{Layout, Fits, SameOutside}
-use Rattle.image_model.specs.Grid.{Grid, grid_of, is_place}
+use Rattle.image_model.specs.Grid.{Grid, grid_of}
 use Rattle.image_model.specs.Windows as model
 use Rattle.image_model.specs.Compaction.{IsKept, IsPacked, packed}
-use Rattle.image_model.proofs.Grids.{is_place_decides}
 use Rattle.image_model.proofs.Places.{outside_refl}
 use Rattle.imgref.specs.Image.{vec_layout}
 use Rattle.imgref.specs.declared.img.Img.{Img}
-use Rattle.imgref_replay.specs.Commands.{grids_of, grid_at, Sizes, sizes_of, window_named, lacks_image, misses_window, lacks_tile, window_faults, place_faults, tile_faults, meaning}
+use Rattle.imgref_replay.specs.Commands.{grids_of, grid_at, Sizes, sizes_of, window_named, lacks_image, lacks_tile, window_faults, tile_faults, meaning}
 use Rattle.imgref_replay.specs.Step.{first_fault, fault_of, answer_to, effect_of, compacts, AllKept, IsStep}
 use Rattle.imgref_replay.specs.declared.commands.Command.{Command}
 use Rattle.imgref_replay.specs.declared.commands.Command.TheVariants.{Compact}
@@ -20,7 +19,7 @@ use Rattle.imgref_replay.specs.declared.commands.Place.{Place}
 use Rattle.imgref_replay.specs.declared.commands.Refusal.{Refusal}
 use Rattle.imgref_replay.specs.declared.commands.Reply.{Reply}
 use Rattle.imgref_replay.specs.declared.commands.Reply.TheVariants.{Done}
-use Rattle.imgref_replay.specs.declared.commands.Refusal.TheVariants.{NoImage, PlaceOutside, NoTile}
+use Rattle.imgref_replay.specs.declared.commands.Refusal.TheVariants.{NoImage, NoTile}
 use Rattle.imgref_replay.proofs.Images.{length-grids, grid_at-images, grids_set, fits_set, kept_set, same_grids}
 
 -- where the first tests don't hold, the others decide

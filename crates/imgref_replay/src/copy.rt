@@ -1,6 +1,6 @@
 //! Windows of a list of images, copied one over another.
 
-ghost use Rattle.std.specs.Prelude.{◌≡◌, ◌≢◌, ◌<◌, length};
+ghost use Rattle.std.specs.Prelude.{◌≡◌, ◌<◌, length};
 ghost use Rattle.image_model.specs.Layout.{Fits, SameOutside};
 ghost use Rattle.image_model.specs.Grid.{patch};
 ghost use Rattle.image_model.specs.Windows.{IsInside, window_view};
@@ -27,47 +27,8 @@ fn copy_over<T: Copy>(image: &mut ImgVec<T>, to: Window, source: &ImgVec<T>, fro
     image.copy_window(to.left, to.top, seen);
 }
 
-/// Copies a window of one image of a list over a window of its size in another image of it.
-fn copy_between<T: Copy>(
-    images: &mut [ImgVec<T>],
-    target: usize,
-    to: Window,
-    source: usize,
-    from: Window,
-)
-    requires fit { AllFit images.old }
-    requires target { target < length images.old }
-    requires source { source < length images.old }
-    requires differ { source ≢ target }
-    requires target_inside { IsInsideOf images.old target (as_window to) }
-    requires source_inside { IsInsideOf images.old source (as_window from) }
-    requires same_width { from.width ≡ to.width }
-    requires same_height { from.height ≡ to.height }
-    ensures { ShowsCopy target to.left to.top (window_view (grid_at (grids_of images.old) source) (as_window from)) (layouts_of images.old) (layouts_of images.new) }
-{
-    if source < target {
-        let (front, back) = images.split_at_mut(target);
-        copy_over(&mut back[0], to, &front[source], from);
-    } else {
-        let (front, back) = images.split_at_mut(source);
-        copy_over(&mut front[target], to, &back[0], from);
-    }
-}
-
-/// Copies a window of an image over another of its size in the same image, overlapping or not.
-fn move_within<T: Copy>(images: &mut [ImgVec<T>], image: usize, to: Window, from: Window)
-    requires fit { AllFit images.old }
-    requires image { image < length images.old }
-    requires target_inside { IsInsideOf images.old image (as_window to) }
-    requires source_inside { IsInsideOf images.old image (as_window from) }
-    requires same_width { from.width ≡ to.width }
-    requires same_height { from.height ≡ to.height }
-    ensures { ShowsCopy image to.left to.top (window_view (grid_at (grids_of images.old) image) (as_window from)) (layouts_of images.old) (layouts_of images.new) }
-{
-    images[image].move_inside(from, to.left, to.top);
-}
-
 /// Copies a window of an image of a list over a window of its size in the same or another image.
+/// Of two images the list is split, so that one is read and the other written.
 pub(crate) fn copy_window<T: Copy>(
     images: &mut [ImgVec<T>],
     target: usize,
@@ -85,8 +46,12 @@ pub(crate) fn copy_window<T: Copy>(
     ensures { ShowsCopy target to.left to.top (window_view (grid_at (grids_of images.old) source) (as_window from)) (layouts_of images.old) (layouts_of images.new) }
 {
     if source == target {
-        move_within(images, target, to, from);
+        images[target].move_inside(from, to.left, to.top);
+    } else if source < target {
+        let (front, back) = images.split_at_mut(target);
+        copy_over(&mut back[0], to, &front[source], from);
     } else {
-        copy_between(images, target, to, source, from);
+        let (front, back) = images.split_at_mut(source);
+        copy_over(&mut front[target], to, &back[0], from);
     }
 }

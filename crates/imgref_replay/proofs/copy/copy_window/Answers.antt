@@ -1,0 +1,113 @@
+-- Within one image it is a move; of two, each part of the list has one.
+use Rattle.std.proofs.Common.{◌≡◌, ◌<◌, get_or, map, set, ap, sym, ◌∙◌, subst, arith}
+use Rattle.image_model.specs.Windows.{IsInside, window_view}
+use Rattle.imgref.specs.Image.{vec_layout}
+use Rattle.imgref.specs.Window.{as_window}
+use Rattle.imgref_replay.specs.Commands.{grid_at, grids_of}
+use Rattle.imgref_replay.specs.Step.{ShowsCopy}
+use Rattle.imgref_replay.proofs.Images.{fits_at, inside_at}
+use Rattle.imgref_replay.proofs.Copies.{copied, in_front, in_back, set_front, set_back}
+use Rattle.imgref_replay.proofs.copy.copy_window.Goals as goal
+
+-- ---- the same image is read and written
+
+pub move_inside-requires : goal.move_inside-requires
+move_inside-requires g c =
+    let a = c.args in
+    let r = c.requires in
+    let images = a.images.now in
+    let is = ap (get_or images a.target) c.index-images-target.is in
+    let seen_inside = subst (λ j. (let g = grid_at (grids_of images) j in IsInside g.width g.height (as_window a.from))) c.if-source-target.true r.source_inside in
+    record {
+      fits = fits_at images a.target _ r.target is r.fit;
+      source_inside = inside_at images a.target _ (as_window a.from) r.target is seen_inside;
+      target_inside = rw (r.same_width, r.same_height) (inside_at images a.target _ (as_window a.to) r.target is r.target_inside);
+    }
+
+pub returns-then-source-target : goal.returns-then-source-target
+returns-then-source-target g c =
+    let a = c.args in
+    let r = c.requires in
+    let images = a.images.now in
+    let i = a.target in
+    let old = get_or images i c.index-images-target.result in
+    let is : old ≡ get_or images i old = ap (get_or images i) c.index-images-target.is in
+    let moved = c.move_inside in
+    subst (λ j. ShowsCopy i a.to.left a.to.top (window_view (grid_at (grids_of images) j) (as_window a.from)) (map vec_layout images) (map vec_layout (set images i moved.new.self))) (sym c.if-source-target.true)
+    (copied images i i a.to.left a.to.top (as_window a.from) old old moved.new.self r.target r.target is is moved.ensures.grid moved.ensures.outside moved.ensures.fits r.fit)
+
+-- ---- the image that is read stands in front
+
+pub copy_over-requires : goal.copy_over-requires
+copy_over-requires g c =
+    let a = c.args in
+    let r = c.requires in
+    let images = a.images.now in
+    let parts = c.split_at_mut-front.ensures in
+    let is = in_back images _ _ a.target parts.value parts.front_len c.index-back-0.result ∙ ap (get_or images a.target) c.index-back-0.is in
+    let seen_is = in_front images _ _ a.target parts.value parts.front_len a.source c.index-front-source.result c.if-source-target-2.true ∙ ap (get_or images a.source) c.index-front-source.is in
+    record {
+      fits = fits_at images a.target _ r.target is r.fit;
+      inside = inside_at images a.target _ (as_window a.to) r.target is r.target_inside;
+      source_fits = fits_at images a.source _ r.source seen_is r.fit;
+      source_inside = inside_at images a.source _ (as_window a.from) r.source seen_is r.source_inside;
+      same_width = r.same_width;
+      same_height = r.same_height;
+    }
+
+pub returns-then-source-target-2 : goal.returns-then-source-target-2
+returns-then-source-target-2 g c =
+    let a = c.args in
+    let r = c.requires in
+    let images = a.images.now in
+    let parts = c.split_at_mut-front in
+    let value = parts.ensures.value in
+    let cut = parts.ensures.front_len in
+    let old = get_or parts.result.1.now 0 c.index-back-0.result in
+    let seen = get_or parts.result.0.now a.source c.index-front-source.result in
+    let is : old ≡ get_or images a.target old = in_back images _ _ a.target value cut c.index-back-0.result ∙ ap (get_or images a.target) c.index-back-0.is in
+    let seen_is : seen ≡ get_or images a.source seen = in_front images _ _ a.target value cut a.source c.index-front-source.result c.if-source-target-2.true ∙ ap (get_or images a.source) c.index-front-source.is in
+    let copy = window_view (grid_at (grids_of images) a.source) (as_window a.from) in
+    let over = c.copy_over in
+    subst (λ all. ShowsCopy a.target a.to.left a.to.top copy (map vec_layout images) (map vec_layout all)) (sym (set_back images _ _ a.target value cut over.new.image))
+    (copied images a.target a.source a.to.left a.to.top (as_window a.from) old seen over.new.image r.target r.source is seen_is over.ensures.grid over.ensures.outside over.ensures.fits r.fit)
+
+-- ---- the image that is written stands in front
+
+pub copy_over-requires-else-source-target-2 : goal.copy_over-requires-else-source-target-2
+copy_over-requires-else-source-target-2 g c =
+    let a = c.args in
+    let r = c.requires in
+    let images = a.images.now in
+    let parts = c.split_at_mut-front-else-source-target-2.ensures in
+    let below : a.target < a.source = omega (arith, c.if-source-target.false, c.if-source-target-2.false) in
+    let is = in_front images _ _ a.source parts.value parts.front_len a.target c.index-front-target.result below ∙ ap (get_or images a.target) c.index-front-target.is in
+    let read = c.index-back-0-else-source-target-2 in
+    let seen_is = in_back images _ _ a.source parts.value parts.front_len read.result ∙ ap (get_or images a.source) read.is in
+    record {
+      fits = fits_at images a.target _ r.target is r.fit;
+      inside = inside_at images a.target _ (as_window a.to) r.target is r.target_inside;
+      source_fits = fits_at images a.source _ r.source seen_is r.fit;
+      source_inside = inside_at images a.source _ (as_window a.from) r.source seen_is r.source_inside;
+      same_width = r.same_width;
+      same_height = r.same_height;
+    }
+
+pub returns-else-source-target-2 : goal.returns-else-source-target-2
+returns-else-source-target-2 g c =
+    let a = c.args in
+    let r = c.requires in
+    let images = a.images.now in
+    let parts = c.split_at_mut-front-else-source-target-2 in
+    let value = parts.ensures.value in
+    let cut = parts.ensures.front_len in
+    let below : a.target < a.source = omega (arith, c.if-source-target.false, c.if-source-target-2.false) in
+    let read = c.index-back-0-else-source-target-2 in
+    let old = get_or parts.result.0.now a.target c.index-front-target.result in
+    let seen = get_or parts.result.1.now 0 read.result in
+    let is : old ≡ get_or images a.target old = in_front images _ _ a.source value cut a.target c.index-front-target.result below ∙ ap (get_or images a.target) c.index-front-target.is in
+    let seen_is : seen ≡ get_or images a.source seen = in_back images _ _ a.source value cut read.result ∙ ap (get_or images a.source) read.is in
+    let copy = window_view (grid_at (grids_of images) a.source) (as_window a.from) in
+    let over = c.copy_over-else-source-target-2 in
+    subst (λ all. ShowsCopy a.target a.to.left a.to.top copy (map vec_layout images) (map vec_layout all)) (sym (set_front images _ _ a.source value cut a.target over.new.image below))
+    (copied images a.target a.source a.to.left a.to.top (as_window a.from) old seen over.new.image r.target r.source is seen_is over.ensures.grid over.ensures.outside over.ensures.fits r.fit)
