@@ -10,14 +10,14 @@ use Rattle.image_model.proofs.Grids.{at_place, same_grids}
 use Rattle.imgref.specs.Image.{vec_layout}
 use Rattle.imgref.specs.declared.img.Img.{Img}
 use Rattle.image_model.specs.Windows as model
-use Rattle.image_model.specs.Windows.{window_view}
+use Rattle.image_model.specs.Windows.{IsInside, window_view}
 use Rattle.imgref_replay.specs.Commands.{grids_of, grid_at, Sizes, sizes_of, window_named, view_named, differ_in_size, pair_faults, copy_faults}
-use Rattle.imgref_replay.specs.Step.{first_fault, effect_of, IsStep, ShowsCopy}
+use Rattle.imgref_replay.specs.Step.{first_fault, effect_of, IsStep, MayCopy, ShowsCopy}
 use Rattle.imgref_replay.specs.declared.commands.Place.{Place}
 use Rattle.imgref_replay.specs.declared.commands.Command.TheVariants.{Blit}
 use Rattle.imgref_replay.specs.declared.commands.Refusal.TheVariants.{SizesDiffer}
 use Rattle.imgref_replay.specs.declared.commands.Reply.TheVariants.{Done}
-use Rattle.imgref_replay.proofs.Images.{grid_at-images, grids_set, fits_set, kept_set}
+use Rattle.imgref_replay.proofs.Images.{fits_at, inside_at, grid_at-images, grids_set, fits_set, kept_set}
 use Rattle.imgref_replay.proofs.Steps.{faults_after}
 
 -- an image of the list that shows a window of image j, in its old image's place
@@ -32,6 +32,19 @@ copied images i j left top from image seen new there seen_there is seen_is shows
       kept = kept_set (λ _. false) images i image new there is (λ _ _. refl) outside;
       fits = fits_set images i new fits all_fit;
     }
+
+-- two images of a list and windows of theirs
+pub may_copy : {T Z : Type 0} (images : List (Img (Vec T Z))) (i j : ℕ) (image seen : Img (Vec T Z)) (to from : model.Window) → i < length images → j < length images → image ≡ get_or images i image → seen ≡ get_or images j seen
+    → All Fits (map vec_layout images) → (let g = grid_at (grids_of images) i in IsInside g.width g.height to) → (let g = grid_at (grids_of images) j in IsInside g.width g.height from) → from.width ≡ to.width → from.height ≡ to.height
+    → MayCopy (vec_layout image) to (vec_layout seen) from
+may_copy images i j image seen to from there seen_there is seen_is fit inside seen_inside wide high = record {
+  fits = fits_at images i image there is fit;
+  inside = inside_at images i image to there is inside;
+  source_fits = fits_at images j seen seen_there seen_is fit;
+  source_inside = inside_at images j seen from seen_there seen_is seen_inside;
+  same_width = wide;
+  same_height = high;
+}
 
 -- windows of one size that two places name, with no other fault
 pub no_copy_fault : (source target : Place) (sizes : Sizes) (from to : model.Window) → None ≡ first_fault (pair_faults source target sizes) → from ≡ window_named source sizes → to ≡ window_named target sizes

@@ -5,6 +5,7 @@ use Rattle.std.specs.Result.{result_err}
 use Rattle.image_model.specs.Layout.{Layout, Fits}
 use Rattle.image_model.specs.Grid.{Grid, grid_of, patch}
 use Rattle.image_model.specs.Compaction.{IsKept}
+use Rattle.image_model.specs.Windows.{Window, IsInside}
 use Rattle.imgref_replay.specs.Commands.{grid_at, sizes_of, scene_of, reply_of, changed, meaning}
 use Rattle.imgref_replay.specs.declared.commands.Command.{Command}
 use Rattle.imgref_replay.specs.declared.commands.Refusal.{Refusal}
@@ -43,6 +44,15 @@ compacts i command = option_map_or (λ image. image == i) ((meaning command).com
 -- each image keeps its outside where it isn't compacted, and else is packed
 abbrev pub AllKept : {T : Type 0} → (ℕ → Bool) → List (Layout T) → List (Layout T) → Type 0
 AllKept {T} compacted olds news = (i : ℕ) (old new : Layout T) → slice_get olds i ≡ Some old → slice_get news i ≡ Some new → IsKept (compacted i) old new
+
+-- windows of one size, each inside an image that fits
+pub record MayCopy {T : Type 0} (target : Layout T) (to : Window) (source : Layout T) (from : Window) : Type 0 where
+  pub fits : Fits target
+  pub inside : IsInside target.width target.height to
+  pub source_fits : Fits source
+  pub source_inside : IsInside source.width source.height from
+  pub same_width : from.width ≡ to.width
+  pub same_height : from.height ≡ to.height
 
 -- a copy of a grid stands at a corner of image i, each image keeps its outside, and all fit
 pub record ShowsCopy {T : Type 0} (i left top : ℕ) (copy : Grid T) (olds news : List (Layout T)) : Type 0 where

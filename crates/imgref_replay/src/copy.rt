@@ -7,18 +7,13 @@ ghost use Rattle.image_model.specs.Windows.{IsInside, window_view};
 ghost use Rattle.imgref.specs.Image.{vec_grid, vec_layout, width_of, height_of};
 ghost use Rattle.imgref.specs.Window.{as_window};
 ghost use Rattle.imgref_replay.specs.Commands.{AllFit, layouts_of, IsInsideOf, grids_of, grid_at};
-ghost use Rattle.imgref_replay.specs.Step.{ShowsCopy};
+ghost use Rattle.imgref_replay.specs.Step.{MayCopy, ShowsCopy};
 
 use imgref::{ImgVec, Window};
 
 /// Copies a window of one image over a window of its size in another image.
 fn copy_over<T: Copy>(image: &mut ImgVec<T>, to: Window, source: &ImgVec<T>, from: Window)
-    requires fits { Fits (vec_layout image.old) }
-    requires inside { IsInside (width_of image.old) (height_of image.old) (as_window to) }
-    requires source_fits { Fits (vec_layout source.now) }
-    requires source_inside { IsInside (width_of source.now) (height_of source.now) (as_window from) }
-    requires same_width { from.width ≡ to.width }
-    requires same_height { from.height ≡ to.height }
+    requires { MayCopy (vec_layout image.old) (as_window to) (vec_layout source.now) (as_window from) }
     ensures grid { vec_grid image.new ≡ patch (vec_grid image.old) to.left to.top (window_view (vec_grid source.now) (as_window from)) }
     ensures outside { SameOutside (vec_layout image.old) (vec_layout image.new) }
     ensures fits { Fits (vec_layout image.new) }

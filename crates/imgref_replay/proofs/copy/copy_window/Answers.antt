@@ -6,7 +6,7 @@ use Rattle.imgref.specs.Window.{as_window}
 use Rattle.imgref_replay.specs.Commands.{grid_at, grids_of}
 use Rattle.imgref_replay.specs.Step.{ShowsCopy}
 use Rattle.imgref_replay.proofs.Images.{fits_at, inside_at}
-use Rattle.imgref_replay.proofs.Copies.{copied, in_front, in_back, set_front, set_back}
+use Rattle.imgref_replay.proofs.Copies.{may_copy, copied, in_front, in_back, set_front, set_back}
 use Rattle.imgref_replay.proofs.copy.copy_window.Goals as goal
 
 -- ---- the same image is read and written
@@ -46,14 +46,7 @@ copy_over-requires g c =
     let parts = c.split_at_mut-front.ensures in
     let is = in_back images _ _ a.target parts.value parts.front_len c.index-back-0.result ∙ ap (get_or images a.target) c.index-back-0.is in
     let seen_is = in_front images _ _ a.target parts.value parts.front_len a.source c.index-front-source.result c.if-source-target-2.true ∙ ap (get_or images a.source) c.index-front-source.is in
-    record {
-      fits = fits_at images a.target _ r.target is r.fit;
-      inside = inside_at images a.target _ (as_window a.to) r.target is r.target_inside;
-      source_fits = fits_at images a.source _ r.source seen_is r.fit;
-      source_inside = inside_at images a.source _ (as_window a.from) r.source seen_is r.source_inside;
-      same_width = r.same_width;
-      same_height = r.same_height;
-    }
+    may_copy images a.target a.source _ _ (as_window a.to) (as_window a.from) r.target r.source is seen_is r.fit r.target_inside r.source_inside r.same_width r.same_height
 
 pub returns-then-source-target-2 : goal.returns-then-source-target-2
 returns-then-source-target-2 g c =
@@ -84,14 +77,7 @@ copy_over-requires-else-source-target-2 g c =
     let is = in_front images _ _ a.source parts.value parts.front_len a.target c.index-front-target.result below ∙ ap (get_or images a.target) c.index-front-target.is in
     let read = c.index-back-0-else-source-target-2 in
     let seen_is = in_back images _ _ a.source parts.value parts.front_len read.result ∙ ap (get_or images a.source) read.is in
-    record {
-      fits = fits_at images a.target _ r.target is r.fit;
-      inside = inside_at images a.target _ (as_window a.to) r.target is r.target_inside;
-      source_fits = fits_at images a.source _ r.source seen_is r.fit;
-      source_inside = inside_at images a.source _ (as_window a.from) r.source seen_is r.source_inside;
-      same_width = r.same_width;
-      same_height = r.same_height;
-    }
+    may_copy images a.target a.source _ _ (as_window a.to) (as_window a.from) r.target r.source is seen_is r.fit r.target_inside r.source_inside r.same_width r.same_height
 
 pub returns-else-source-target-2 : goal.returns-else-source-target-2
 returns-else-source-target-2 g c =
