@@ -6,10 +6,10 @@ use native.Mathlib.Nat.{zero-mul, mul-le-mul_left, mul-le-mul_right}
 use Rattle.std.specs.Prelude.{◌==◌}
 use Rattle.std.proofs.lemmas.Bool.Decides.{nat_tests}
 use Rattle.image_model.specs.Layout.{Layout, layout, Reaches, Fits}
-use Rattle.image_model.specs.Grid.{grid_of}
-use Rattle.image_model.specs.Rows.{row, pixels, grid_pixels}
+use Rattle.image_model.specs.Rows.{row, pixels}
 use Rattle.image_model.proofs.Rows.{HasRows, joined_is, row_is, row_empty, rows_from_fits, length-joined_rows, grid_joined_rows_of}
 use Rattle.image_pixels.specs.Marks.{pick, marks, marks_of, rows_from, first_row, rows_after}
+use Rattle.image_pixels.specs.Pixels.{ArePixels}
 use Rattle.image_pixels.proofs.Marks.{all_false, pick_none}
 
 module _ {X : Type 0} where
@@ -84,10 +84,6 @@ marked_pixels {X} cells (suc w) (suc h) s fits wide =
 pub area_fits : (w h : ℕ) → w < 2 ^ 32 → h < 2 ^ 32 → w * h < 2 ^ 64
 area_fits w h wide high = omega (arith, mul-le-mul_right h (let le : w ≤ 4294967295 = omega arith in le), mul-le-mul_left 4294967295 (let le : h ≤ 4294967295 = omega arith in le))
 
--- what is said of the pixels of a whole layout: they are those of its grid too, and countable
-abbrev pub ArePixels : {X : Type 0} → Layout X → List X → Type 0
-ArePixels l xs = (xs ≡ pixels l) × (xs ≡ grid_pixels (grid_of l)) × (length xs ≡ l.width * l.height) × (length xs < 2 ^ 64)
-
 -- the numbers that a cursor over a whole layout begins with
 module _ {X : Type 0} (l : Layout X) (remaining rows width pad : ℕ) (narrow : l.width ≤ l.stride) (el : remaining ≡ first_row l.width l.height) (er : rows ≡ rows_after l.width l.height) (ew : width ≡ l.width) (ep : pad ≡ l.stride - l.width) where
   pub start_marks : marks remaining rows width pad ≡ marks_of l.width l.height l.stride
@@ -101,4 +97,4 @@ module _ {X : Type 0} (l : Layout X) (remaining rows width pad : ℕ) (narrow : 
   start_pixels xs fits small_width small_height e =
       let same : xs ≡ pixels l = e ∙ ap (λ ms. pick ms l.cells) start_marks ∙ marked_pixels l.cells l.width l.height l.stride fits narrow in
       let count : length xs ≡ l.width * l.height = ap length same ∙ length-joined_rows l.cells l.width l.height l.stride fits in
-      (same, same ∙ sym (grid_joined_rows_of l), count, omega (arith, count, area_fits l.width l.height small_width small_height))
+      record { pixels = same; grid = same ∙ sym (grid_joined_rows_of l); count = count; countable = omega (arith, count, area_fits l.width l.height small_width small_height) }

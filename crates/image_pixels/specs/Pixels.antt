@@ -1,14 +1,24 @@
 -- What a contract sees of a pixel cursor: the pixels that it still gives, and how writes come back.
-use Rattle.std.specs.Prelude.{◌≡◌, ◌<◌, ℕ, Bool, List, [], ◌∷◌, ◌++◌, take, length, replicate, true, false, Option, Some, None}
+use Rattle.std.specs.Prelude.{◌≡◌, ◌<◌, ◌*◌, ◌^◌, ℕ, Bool, List, [], ◌∷◌, ◌++◌, take, length, replicate, true, false, Option, Some, None}
 use Rattle.std.specs.Borrow.{Bor, MutBor, GName, Fml, RattleType, ftrue, follows_both, Array}
 use base.Fml.{fres}
 use base.Stored.{coded_list}
+use Rattle.image_model.specs.Layout.{Layout}
+use Rattle.image_model.specs.Grid.{grid_of}
+use Rattle.image_model.specs.Rows.{pixels as pixels_of, grid_pixels}
 use Rattle.image_pixels.specs.Marks.{pick, marks, skipped}
 use Rattle.image_pixels.specs.declared.pixels.PixelsRefIter.{PixelsRefIter}
 use Rattle.image_pixels.specs.declared.pixels.PixelsIter.{PixelsIter}
 use Rattle.image_pixels.specs.declared.pixels_mut.PixelsIterMut.{PixelsIterMut}
 
 module _ {T : Type 0} where
+  -- these are all pixels of a layout, row by row and from left to right: of its grid too, so many, and countable
+  pub record ArePixels (l : Layout T) (xs : List T) : Type 0 where
+    pub pixels : xs ≡ pixels_of l
+    pub grid : xs ≡ grid_pixels (grid_of l)
+    pub count : length xs ≡ l.width * l.height
+    pub countable : length xs < 2 ^ 64
+
   -- the pixels that a cursor still gives, for reading
   unfoldable pub refs_left : PixelsRefIter T → List T
   refs_left s = pick (marks s.remaining s.rows_left s.width s.pad) s.cells.cells

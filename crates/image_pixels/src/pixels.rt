@@ -2,14 +2,13 @@
 
 #![tactic(auto, using(crate::proofs::Runs::copies_run), unfolding(crate::specs::Pixels::copies_left))]
 
-ghost use Rattle.std.specs.Prelude.{◌≡◌, ◌+◌, ◌*◌, ◌^◌, ◌<◌, ◌≤◌, length, List, ◌++◌, true, false, [], Some, IfSome};
+ghost use Rattle.std.specs.Prelude.{◌≡◌, ◌+◌, ◌*◌, ◌<◌, ◌≤◌, length, List, ◌++◌, true, false, [], Some, IfSome};
 ghost use Rattle.std.specs.Borrow.{Bor, ftrue};
 ghost use Rattle.std.specs.Iterator.{YieldsFirst, YieldsFirstRef, item_count, UpTo, CallableInFold, FoldsItems, ActsAsOnTwo};
 ghost use Rattle.std.specs.Iterator.SizeHint.{IsWithinCount};
 ghost use Rattle.std.specs.Iterator.Runs.{YieldsInOrder, YieldsRefsInOrder};
 ghost use Rattle.image_model.specs.Layout.{Fits};
-ghost use Rattle.image_model.specs.Rows.{pixels as pixels_of, grid_pixels};
-ghost use Rattle.image_shape.specs.Shape.{shape_width, shape_height, shaped_grid, shaped};
+ghost use Rattle.image_shape.specs.Shape.{shaped};
 
 use crate::cells::Cells;
 use crate::counts::Counts;
@@ -37,16 +36,13 @@ pub struct PixelsRefIter<'a, T> {
 
 impl<'a, T> PixelsRefIter<'a, T> {
     ghost use Rattle.image_pixels.specs.Marks.{pick, marks};
-    ghost use Rattle.image_pixels.specs.Pixels.{refs_left, TakesRow};
+    ghost use Rattle.image_pixels.specs.Pixels.{refs_left, ArePixels, TakesRow};
 
     /// The pixels of `shape` in `cells`: `width` times `height` of them, row by row and from left
     /// to right, without the padding. The cells must fit, as `Shape::fits` tells.
     pub fn new(cells: &'a [T], shape: Shape) -> PixelsRefIter<'a, T>
         requires fits { Fits (shaped cells.now shape) }
-        ensures pixels { refs_left result ≡ pixels_of (shaped cells.now shape) }
-        ensures grid { refs_left result ≡ grid_pixels (shaped_grid cells.now shape) }
-        ensures count { length (refs_left result) ≡ shape_width shape * shape_height shape }
-        ensures countable { length (refs_left result) < 2 ^ 64 }
+        ensures whole { ArePixels (shaped cells.now shape) (refs_left result) }
         ensures runs { YieldsRefsInOrder (YieldsFirstRef (refs_left {T = T})) refs_left }
     {
         PixelsRefIter::from_counts(Cells::new(cells), Counts::of_shape(shape))
@@ -66,6 +62,13 @@ impl<'a, T> PixelsRefIter<'a, T> {
             width: counts.width,
             pad: counts.pad,
         }
+    }
+
+    // How many pixels are left.
+    fn count_left(&self) -> usize
+        ensures { result ≡ length (refs_left self.now) }
+    {
+        self.remaining + self.rows_left * self.width
     }
 
     // Goes on to the next row, past the padding before it.
@@ -140,8 +143,7 @@ impl<'a, T> Iterator for PixelsRefIter<'a, T> {
         ensures upper { IfSome result.1 (UpTo (item_count refs_left self.now)) }
         ensures exact { (result.0 ≡ length (refs_left self.now)) × (result.1 ≡ Some (length (refs_left self.now))) }
     {
-        let count = self.remaining + self.rows_left * self.width;
-        (count, Some(count))
+        (self.count_left(), Some(self.count_left()))
     }
 }
 
@@ -174,7 +176,7 @@ impl<'a, T> PixelsRefIter<'a, T> {
 
 impl<T: Copy> ExactSizeIterator for PixelsRefIter<'_, T> {
     fn len(&self) -> usize {
-        self.size_hint().0
+        self.count_left()
     }
 }
 
@@ -187,16 +189,13 @@ pub struct PixelsIter<'a, T: Copy> {
 }
 
 impl<'a, T: Copy> PixelsIter<'a, T> {
-    ghost use Rattle.image_pixels.specs.Pixels.{copies_left};
+    ghost use Rattle.image_pixels.specs.Pixels.{copies_left, ArePixels};
 
     /// Copies of the pixels of `shape` in `cells`: `width` times `height` of them, row by row and
     /// from left to right, without the padding. The cells must fit, as `Shape::fits` tells.
     pub fn new(cells: &'a [T], shape: Shape) -> PixelsIter<'a, T>
         requires fits { Fits (shaped cells.now shape) }
-        ensures pixels { copies_left result ≡ pixels_of (shaped cells.now shape) }
-        ensures grid { copies_left result ≡ grid_pixels (shaped_grid cells.now shape) }
-        ensures count { length (copies_left result) ≡ shape_width shape * shape_height shape }
-        ensures countable { length (copies_left result) < 2 ^ 64 }
+        ensures whole { ArePixels (shaped cells.now shape) (copies_left result) }
         ensures runs { YieldsInOrder (YieldsFirst (copies_left {T = T})) copies_left }
     {
         PixelsIter {

@@ -5,8 +5,7 @@ ghost use Rattle.std.specs.Borrow.{GName, ftrue, sem};
 ghost use Rattle.std.specs.Iterator.{YieldsFirstMut, item_count, MakesProgress, UpTo};
 ghost use Rattle.std.specs.Iterator.SizeHint.{IsWithinCount};
 ghost use Rattle.image_model.specs.Layout.{Fits};
-ghost use Rattle.image_model.specs.Rows.{pixels as pixels_of, grid_pixels};
-ghost use Rattle.image_shape.specs.Shape.{shape_width, shape_height, shape_stride, shaped_grid, shaped};
+ghost use Rattle.image_shape.specs.Shape.{shape_width, shape_height, shape_stride, shaped};
 ghost use Rattle.image_pixels.specs.Loans.{lent};
 
 use crate::counts::Counts;
@@ -42,7 +41,7 @@ impl<'a, T> Model for PixelsIterMut<'a, T> {
 
 impl<'a, T> PixelsIterMut<'a, T> {
     ghost use Rattle.image_pixels.specs.Marks.{pick, marks, marks_of};
-    ghost use Rattle.image_pixels.specs.Pixels.{muts_left, cells_left, marks_left, name_of, hands_on, Moves};
+    ghost use Rattle.image_pixels.specs.Pixels.{muts_left, cells_left, marks_left, name_of, hands_on, ArePixels, Moves};
 
     // The first `remaining` cells, and then `rows_left` rows of `width` cells with `pad` before each.
     fn from_counts(
@@ -78,10 +77,7 @@ impl<'a, T> PixelsIterMut<'a, T> {
         ensures name { name_of result ≡ cells.entry.ghost_name }
         ensures cells { cells_left result ≡ cells.old }
         ensures marks { marks_left result ≡ marks_of (shape_width shape) (shape_height shape) (shape_stride shape) }
-        ensures pixels { muts_left result ≡ pixels_of (shaped cells.old shape) }
-        ensures grid { muts_left result ≡ grid_pixels (shaped_grid cells.old shape) }
-        ensures count { length (muts_left result) ≡ shape_width shape * shape_height shape }
-        ensures countable { length (muts_left result) < 2 ^ 64 }
+        ensures whole { ArePixels (shaped cells.old shape) (muts_left result) }
     {
         let counts = Counts::of_shape(shape);
         PixelsIterMut::from_counts(

@@ -17,4 +17,4 @@ returns g c =
     let n = c.of_shape in
     let all = start_pixels (shaped c.args.cells.now c.args.shape) n.result.remaining n.result.rows_left n.result.width n.result.pad n.ensures.narrow n.ensures.remaining n.ensures.rows_left n.ensures.width n.ensures.pad
     (refs_left c.from_counts.result) c.requires.fits n.ensures.width_fits n.ensures.height_fits (c.from_counts.ensures.pixels ∙ ap (pick (marks n.result.remaining n.result.rows_left n.result.width n.result.pad)) c.new.ensures) in
-    record { pixels = all.0; grid = all.1; count = all.2; countable = all.3; runs = refs_run }
+    record { whole = all; runs = refs_run }

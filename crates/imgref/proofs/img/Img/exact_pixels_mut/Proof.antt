@@ -41,7 +41,7 @@ use Rattle.image_shape.specs.declared.shape.Shape.{Shape}
 use Rattle.image_shape.specs.contracts.shape.Shape as shape
 use Rattle.image_shape.specs.Shape.{shaped}
 use Rattle.image_pixels.specs.Marks.{marks_of}
-use Rattle.image_pixels.specs.Pixels.{cells_left, marks_left, muts_left, name_of}
+use Rattle.image_pixels.specs.Pixels.{ArePixels, cells_left, marks_left, muts_left, name_of}
 use Rattle.image_pixels.specs.declared.pixels_mut.PixelsIterMut.{PixelsIterMut}
 use Rattle.image_pixels.specs.contracts.pixels_mut.PixelsIterMut as P
 use Rattle.image_pixels.proofs.pixels_mut.PixelsIterMut.TheLaws as laws
@@ -128,12 +128,11 @@ exact_pixels_mut_spec 𝓤 𝓛 𝓜 𝓡 wired X Y LX LY gh d gs ds bm bs =
     let here : Layout Y.Denot = shaped p.0.now p.1 in
     let Sort : Type 0 = PixelsIterMut Y.Denot in
     let Name : Sort → Type 0 = λ r. name_of r ≡ p.0.ghost_name in let Cells : Layout Y.Denot → Sort → Type 0 = λ l r. cells_left r ≡ l.cells in let Marks : Layout Y.Denot → Sort → Type 0 = λ l r. marks_left r ≡ marks_of l.width l.height l.stride in
-    let Pixels : Layout Y.Denot → Sort → Type 0 = λ l r. muts_left r ≡ pixels l in let Grid : Layout Y.Denot → Sort → Type 0 = λ l r. muts_left r ≡ grid_pixels (grid_of l) in
-    let Count : Layout Y.Denot → Sort → Type 0 = λ l r. length (muts_left r) ≡ l.width * l.height in let Countable : Sort → Type 0 = λ r. length (muts_left r) < 2 ^ 64 in
+    let Whole₂ : Layout Y.Denot → Sort → Type 0 = λ l r. ArePixels l (muts_left r) in
     use1 𝓛 (later (some (λ (r : Sort). ((‵ (flft κ qs.0) ⊛ ‵ (flft κY qs.1.1.0) ⊛ ‵ ftrue) ⊛ ‵ (cursor.own_val r (v₂ ∷ []))) ⊛ some (λ (us : Unit {0} × (Unit {0} × Unit {0})). ‵ (lasts (f.ended Y) z₂.0.0 z₂.0.3 us)
-    ⊛ (raw (fact 𝓤 (Name r)) ⊛ raw (fact 𝓤 (Cells here r)) ⊛ raw (fact 𝓤 (Marks here r)) ⊛ raw (fact 𝓤 (Pixels here r)) ⊛ raw (fact 𝓤 (Grid here r)) ⊛ raw (fact 𝓤 (Count here r)) ⊛ raw (fact 𝓤 (Countable r))))))) (id⊢ 𝓤 _) $
+    ⊛ (raw (fact 𝓤 (Name r)) ⊛ raw (fact 𝓤 (Cells here r)) ⊛ raw (fact 𝓤 (Marks here r)) ⊛ raw (fact 𝓤 (Whole₂ here r))))))) (id⊢ 𝓤 _) $
     await ! tt $ pick ! (λ r. split ! $ split ! $ move ! (2 ∷ []) $ pick ! (λ us₂. split ! $ drop ! $
-    split ! $ heard ! (Name r) (λ name. split ! $ heard ! (Cells here r) (λ cells. split ! $ heard ! (Marks here r) (λ marks. split ! $ heard ! (Pixels here r) (λ are_pixels. split ! $ heard ! (Grid here r) (λ grid. split ! $ heard ! (Count here r) (λ count. heard ! (Countable r) (λ countable.
+    split ! $ heard ! (Name r) (λ name. split ! $ heard ! (Cells here r) (λ cells. split ! $ heard ! (Marks here r) (λ marks. heard ! (Whole₂ here r) (λ whole.
     -- [the tokens; the cursor; the image's token; what follows]
     move ! (1 ∷ []) $ peeks ! cursor (Is cursor) (shows 𝓛 cursor) r (v₂ ∷ []) (λ is₂.
     let word : Val = laws.lowered α R (param_laws 1 Y LY) r in
@@ -147,10 +146,11 @@ exact_pixels_mut_spec 𝓤 𝓛 𝓜 𝓡 wired X Y LX LY gh d gs ds bm bs =
     move ! (2 ∷ []) $ rewrite ! 0 (λ (γ : GName). ‵ (follows Whole (Array R 0) x.ghost_name γ F)) (sym name) refl $ move ! (1 ∷ []) $
     -- [the tokens; what follows; the cursor]
     returns ! (look_at ! 0 refl) $ free_all ! refl $
-    use0 𝓛 (raw (fact 𝓤 (Countable r))) (fact_i 𝓤 (Countable r) (emp 𝓤) countable) $ use0 𝓛 (raw (fact 𝓤 (Count old r))) (fact_i 𝓤 (Count old r) (emp 𝓤) (subst (λ l. Count l r) is_old count)) $ join ! $
-    use0 𝓛 (raw (fact 𝓤 (Grid old r))) (fact_i 𝓤 (Grid old r) (emp 𝓤) (subst (λ l. Grid l r) is_old grid)) $ join ! $ use0 𝓛 (raw (fact 𝓤 (Pixels old r))) (fact_i 𝓤 (Pixels old r) (emp 𝓤) (subst (λ l. Pixels l r) is_old are_pixels)) $ join ! $
+    let are : ArePixels old (muts_left r) = subst (λ l. Whole₂ l r) is_old whole in
+    use0 𝓛 (raw (fact 𝓤 (length (muts_left r) < 2 ^ 64))) (fact_i 𝓤 (length (muts_left r) < 2 ^ 64) (emp 𝓤) are.countable) $ use0 𝓛 (raw (fact 𝓤 (length (muts_left r) ≡ old.width * old.height))) (fact_i 𝓤 (length (muts_left r) ≡ old.width * old.height) (emp 𝓤) are.count) $ join ! $
+    use0 𝓛 (raw (fact 𝓤 (muts_left r ≡ grid_pixels (grid_of old)))) (fact_i 𝓤 (muts_left r ≡ grid_pixels (grid_of old)) (emp 𝓤) are.grid) $ join ! $ use0 𝓛 (raw (fact 𝓤 (muts_left r ≡ pixels old))) (fact_i 𝓤 (muts_left r ≡ pixels old) (emp 𝓤) are.pixels) $ join ! $
     use0 𝓛 (raw (fact 𝓤 (Marks old r))) (fact_i 𝓤 (Marks old r) (emp 𝓤) (subst (λ l. Marks l r) is_old marks)) $ join ! $ use0 𝓛 (raw (fact 𝓤 (Cells old r))) (fact_i 𝓤 (Cells old r) (emp 𝓤) full) $ join ! $
     -- [the plain clauses; the tokens; what follows; the cursor]
     move ! (2 ∷ 0 ∷ []) $ join ! $ nothing ! $ nothing ! $ fjoin ! $
     -- [the reference; the ensures; the tokens; the cursor]
-    move ! (2 ∷ 0 ∷ 3 ∷ 1 ∷ []) $ by ! (leaves 𝓛 En stays c z word r (tt, tt) (tt, tt))))))))))))))))))))))))))
+    move ! (2 ∷ 0 ∷ 3 ∷ 1 ∷ []) $ by ! (leaves 𝓛 En stays c z word r (tt, tt) (tt, tt)))))))))))))))))))))))
