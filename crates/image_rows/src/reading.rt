@@ -89,10 +89,9 @@ impl<'a, T> DoubleEndedIterator for RowsIter<'a, T> {
         if self.count == 0 {
             return None;
         }
-        let cells = self.cells;
         self.count -= 1;
         let start = self.count * self.stride;
-        Some(&cells[start..start + self.width])
+        Some(&self.cells[start..start + self.width])
     }
 }
 

@@ -106,16 +106,7 @@ impl<'a, T> RowsIterMut<'a, T> {
     fn take(&mut self) -> RowsIterMut<'a, T>
         ensures { result ≡ self.old }
     {
-        let none = RowsIterMut {
-            cells: &mut [],
-            spacing: Spacing {
-                skip: 0,
-                count: 0,
-                width: 0,
-                stride: 0,
-            },
-        };
-        std::mem::replace(self, none)
+        std::mem::replace(self, RowsIterMut::new(&mut [], Shape::new(0, 0, 1)))
     }
 }
 
@@ -138,8 +129,7 @@ impl<'a, T> Iterator for RowsIterMut<'a, T> {
         ensures upper { IfSome result.1 (UpTo (item_count muts_left self.now)) }
         ensures exact { (result.0 ≡ length (muts_left self.now)) × (result.1 ≡ Some (length (muts_left self.now))) }
     {
-        let left = self.spacing.count;
-        (left, Some(left))
+        (self.spacing.count, Some(self.spacing.count))
     }
 }
 

@@ -183,21 +183,20 @@ impl<'a, T> BandsMut<'a, T> {
         band
     }
 
+    // How many bands are left.
+    #[tactic(auto, using(crate::proofs::BandsLeft::counted_left))]
+    fn count_left(&self) -> usize
+        ensures { result ≡ length (bands_left self.now) }
+    {
+        tiles_along(self.spacing.rows, self.spacing.band_height)
+    }
+
     // The bands that are left, which leaves none.
     fn take(&mut self) -> BandsMut<'a, T>
         ensures { result ≡ self.old }
     {
-        let none = BandsMut {
-            cells: &mut [],
-            spacing: BandSpacing {
-                skip: 0,
-                rows: 0,
-                width: 0,
-                stride: 1,
-                band_height: 1,
-            },
-        };
-        std::mem::replace(self, none)
+        let none = ImgRefMut::new_stride(&mut [], 0, 0, 1);
+        std::mem::replace(self, BandsMut::new(none, 1))
     }
 }
 
@@ -214,21 +213,19 @@ impl<'a, T> Iterator for BandsMut<'a, T> {
         BandsMut::next(self)
     }
 
-    #[tactic(auto, using(crate::proofs::BandsLeft::counted_left))]
     fn size_hint(&self) -> (usize, Option<usize>)
         ensures lower { IsWithinCount result.0 (item_count bands_left self.now) }
         ensures upper { IfSome result.1 (UpTo (item_count bands_left self.now)) }
         ensures exact { (result.0 ≡ length (bands_left self.now)) × (result.1 ≡ Some (length (bands_left self.now))) }
     {
-        let left = tiles_along(self.spacing.rows, self.spacing.band_height);
+        let left = self.count_left();
         (left, Some(left))
     }
 }
 
 impl<T> ExactSizeIterator for BandsMut<'_, T> {
     fn len(&self) -> usize {
-        let (left, _) = self.size_hint();
-        left
+        self.count_left()
     }
 }
 
