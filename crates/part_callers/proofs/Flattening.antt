@@ -6,7 +6,7 @@ use Rattle.image_model.specs.Layout.{Layout, Fits, SameOutside, is_fitting, pixe
 use Rattle.image_model.specs.Grid.{Grid, grid, grid_of, view, patch, uniform, is_place}
 use Rattle.image_model.specs.Windows.{Window, window_view}
 use Rattle.image_model.proofs.Grids.{same_grids, pixel_at, is_place_decides}
-use Rattle.image_model.proofs.Places.{outside_refl, outside_trans, outside_fits, is_fitting_decides}
+use Rattle.image_model.proofs.Places.{outside_trans, outside_fits, is_fitting_decides}
 use Rattle.imgref.specs.Image.{buf_of, mut_layout}
 use Rattle.image_tiles.specs.Tiling.{windows_left}
 use Rattle.image_tiles.specs.Lending.{image_of, tiling_of, tiles_left}

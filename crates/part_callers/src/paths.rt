@@ -29,7 +29,8 @@ fn parts_at<'a, C: AsMutSlice>(image: &'a mut Img<C>, path: &[Window]) -> (&'a m
     }
 }
 
-/// Writes one pixel of the window that a path comes to; every other cell of the image stays.
+/// Writes the pixel in a column and a row of the window that a path comes to; every other cell of the
+/// image stays.
 ///
 /// # Requires
 ///
@@ -38,21 +39,20 @@ fn parts_at<'a, C: AsMutSlice>(image: &'a mut Img<C>, path: &[Window]) -> (&'a m
 pub fn put_through_path<'a, C: AsMutSlice>(
     image: &'a mut Img<C>,
     path: &[Window],
-    x: usize,
-    y: usize,
+    place: (usize, usize),
     value: C::Item,
 )
 where
     C::Item: Copy + 'a,
     requires fits { Fits (layout_by C.AsSlice.cells image.old) }
     requires inside { first_outside (width_of image.old) (height_of image.old) (as_path path.now) ≡ None }
-    requires column { x < path_width (width_of image.old) (as_path path.now) }
-    requires line { y < path_height (height_of image.old) (as_path path.now) }
-    ensures grid { grid_by C.AsSlice.cells image.new ≡ patch (grid_by C.AsSlice.cells image.old) (corner_left (as_path path.now) + x) (corner_top (as_path path.now) + y) (uniform 1 1 value) }
+    requires column { place.0 < path_width (width_of image.old) (as_path path.now) }
+    requires line { place.1 < path_height (height_of image.old) (as_path path.now) }
+    ensures grid { grid_by C.AsSlice.cells image.new ≡ patch (grid_by C.AsSlice.cells image.old) (corner_left (as_path path.now) + place.0) (corner_top (as_path path.now) + place.1) (uniform 1 1 value) }
     ensures outside { SameOutside (layout_by C.AsSlice.cells image.old) (layout_by C.AsSlice.cells image.new) }
 {
     let (cells, shape) = parts_at(image, path);
-    put_pixel(cells, shape, x, y, value);
+    put_pixel(cells, shape, place.0, place.1, value);
 }
 
 /// Every pixel of the window that a path comes to becomes `value`, through the cursor of

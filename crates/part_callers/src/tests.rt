@@ -45,7 +45,7 @@ fn writes_through_a_path(rt: HostRuntime) -> Result<(), Fail> {
     let mut owner: ImgVec<u8> = ImgVec::new_stride(CELLS.to_vec(rt.alloc())?, 3, 2, 4);
     assert!(rt; owner.is_valid());
     assert!(rt; window_at(owner.as_ref(), PATH.as_slice()).is_ok());
-    put_through_path(&mut owner, PATH.as_slice(), 0, 1, 0);
+    put_through_path(&mut owner, PATH.as_slice(), (0, 1), 0);
     assert_eq!(rt;
         owner.into_buf().as_slice(),
         [1, 2, 3, 4, 5, 6, 0, 8, 9].as_slice()
