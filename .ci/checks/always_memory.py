@@ -20,11 +20,11 @@ HANDED_BACK = "if true { return Err(self); }"
 
 # The crate, the file and the function, what stands at its head, and the crate whose tests are run.
 CASES = [
-    ("imgref", "contiguous", "to_contiguous_buf", NO_ROOM, "imgref_tests"),
-    ("imgref", "copies", "to_owned", NO_ROOM, "imgref_tests"),
-    ("imgref", "copies", "clone", NO_ROOM, "imgref_tests"),
-    ("imgref", "cow", "into_owned", HANDED_BACK, "imgref_tests"),
-    ("imgref", "cow", "into_vec", HANDED_BACK, "imgref_tests"),
+    ("imgref", "contiguous", "to_contiguous_buf", NO_ROOM, "imgref_hostile_tests"),
+    ("imgref", "copies", "to_owned", NO_ROOM, "imgref_hostile_tests"),
+    ("imgref", "copies", "clone", NO_ROOM, "imgref_hostile_tests"),
+    ("imgref", "cow", "into_owned", HANDED_BACK, "imgref_hostile_tests"),
+    ("imgref", "cow", "into_vec", HANDED_BACK, "imgref_hostile_tests"),
     ("imgref_replay", "run", "replay", NO_ROOM, "imgref_replay_tests"),
     ("imgref_run", "program", "run", "if true { return Err(RunFault::Memory); }", "imgref_run"),
 ]

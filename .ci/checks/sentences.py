@@ -57,7 +57,7 @@ def replaced(path):
 def main():
     cases = Cases()
     documents = [ROOT / "README.md", ROOT / "CONTRIBUTING.md", *sorted((ROOT / "docs").glob("*.md"))]
-    old = [line for it in [*documents, *sorted((ROOT / "crates").glob("*/src/*.rt"))] for line in replaced(it)]
+    old = [line for it in [*documents, *sorted((ROOT / "crates").glob("*/src/**/*.rt"))] for line in replaced(it)]
     cases.count("the words of the glossary", not old, "\n".join(old))
     for path in documents:
         most = README_WORDS if path.name == "README.md" else MOST_WORDS

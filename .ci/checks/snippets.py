@@ -81,7 +81,7 @@ def main():
     for path in [ROOT / "README.md", ROOT / "CONTRIBUTING.md", *sorted((ROOT / "docs").glob("*.md"))]:
         missing = list(missing_files(path))
         cases.count(f"{path.relative_to(ROOT)}: the files it names", not missing, f"not there: {', '.join(missing)}")
-    files = [it for end in ("src/*.rt", "proofs/**/*.antt") for it in (ROOT / "crates").glob(f"*/{end}")]
+    files = [it for end in ("src/**/*.rt", "proofs/**/*.antt") for it in (ROOT / "crates").glob(f"*/{end}")]
     texts = [as_lines(it.read_text()) for it in files]
     for name in ("README.md", "docs/CALLERS.md"):
         quoted(cases, name, texts)

@@ -3,10 +3,4 @@
 #![tactic(auto)]
 
 #[cfg(test)]
-mod bands;
-#[cfg(test)]
-mod fixtures;
-#[cfg(test)]
-mod tiles;
-#[cfg(test)]
-mod tilings;
+mod tests;

@@ -3,12 +3,4 @@
 #![tactic(auto)]
 
 #[cfg(test)]
-mod commands;
-#[cfg(test)]
-mod fixtures;
-#[cfg(test)]
-mod layouts;
-#[cfg(test)]
-mod nested;
-#[cfg(test)]
-mod paths;
+mod tests;

@@ -1,7 +1,7 @@
 use Rattle.std.proofs.Common.{◌≡◌, List, drop, Option, Some, None, sym, ap, ◌∙◌, drop-drop}
 use Rattle.std.specs.Iterator.{YieldsFirst}
 use Rattle.imgref.specs.Pixels.{copies_left}
-use Rattle.imgref_tests.proofs.pixels.skip_pixels.Goals as goal
+use Rattle.imgref_tests.proofs.tests.pixels.skip_pixels.Goals as goal
 
 -- a step leaves all but the first
 after_step : {S A : Type 0} (rest : S → List A) (s : S) (r : Option A) (t : S) → YieldsFirst rest s r t → rest t ≡ drop 1 (rest s)

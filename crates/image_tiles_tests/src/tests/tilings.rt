@@ -1,6 +1,6 @@
 //! The windows of tiles by their numbers.
 
-use crate::fixtures::GREATEST;
+use super::fixtures::GREATEST;
 use image_tiles::Tiling;
 
 // Left, top, width and height.

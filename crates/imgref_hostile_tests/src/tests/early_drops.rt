@@ -1,6 +1,6 @@
 //! Iterators for writing that are dropped before their end: what was written stands, all else stays.
 
-use crate::fixtures::{cells_of, numbered, numbers_of};
+use super::fixtures::{cells_of, numbered, numbers_of};
 use imgref::{AsMutSlice, AsSlice, Img, ImgRefMut, PixelsIterMut, Window};
 use imgref_fixtures::{PADDED, next_from, padded};
 use std::process::Abort;

@@ -2,7 +2,7 @@ use Rattle.std.proofs.Common.{◌≡◌, ◌+◌, count_by, nat_eq}
 use Rattle.image_model.specs.Rows.{pixels}
 use Rattle.imgref.specs.Image.{ref_layout}
 use Rattle.imgref.specs.Pixels.{copies_left}
-use Rattle.imgref_tests.proofs.pixels.count_equal.Given as goal
+use Rattle.imgref_tests.proofs.tests.pixels.count_equal.Given as goal
 
 abbrev pub invariant-loop-pixel : goal.invariant-loop-pixel
 invariant-loop-pixel l =

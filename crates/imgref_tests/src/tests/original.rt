@@ -4,7 +4,7 @@
 ghost use Rattle.image_model.specs.Layout.{Fits};
 ghost use Rattle.imgref.specs.Image.{ref_layout, vec_layout};
 
-use crate::answers::ANSWERS;
+use super::answers::ANSWERS;
 use imgref::{Img, ImgRef, ImgVec};
 use imgref_fixtures::{PADDED, next_from};
 use std::alloc::{AllocError, Global};

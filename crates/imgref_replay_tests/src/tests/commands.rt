@@ -4,7 +4,7 @@
 ghost use Rattle.std.specs.Prelude.{IfOk};
 ghost use Rattle.imgref_replay.specs.Commands.{AllFit};
 
-use crate::fixtures::{ALL, Line, commands, has, image, window};
+use super::fixtures::{ALL, Line, commands, has, image, window};
 use imgref::ImgVec;
 use imgref_fixtures::PADDED;
 use imgref_replay::{Command, Place, Refusal, Reply, replay, replay_into};

@@ -1,6 +1,6 @@
 //! Windows by paths, as calls.
 
-use crate::fixtures::{GREATEST, window};
+use super::fixtures::{GREATEST, window};
 use imgref::{Img, ImgRef, ImgVec};
 use imgref_fixtures::PADDED;
 use imgref_replay::{Window, into_window_at, window_at};

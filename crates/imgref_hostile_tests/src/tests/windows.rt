@@ -1,6 +1,6 @@
 //! Each window of the image of nine cells, by every call of each kind.
 
-use crate::fixtures::{cells_of, numbered, numbers_of, pixel_at};
+use super::fixtures::{cells_of, numbered, numbers_of, pixel_at};
 use imgref::{AsMutSlice, AsSlice, Img, ImgRef, ImgRefMut, Window};
 use imgref_fixtures::{PADDED, padded};
 use std::process::Abort;

@@ -1,6 +1,6 @@
 //! Bands of full width.
 
-use crate::fixtures::{GREATEST, image_of, write};
+use super::fixtures::{GREATEST, image_of, write};
 use image_tiles::BandsMut;
 use imgref::{Img, ImgRefMut};
 use imgref_fixtures::SQUARE;

@@ -1,6 +1,6 @@
 //! Buffers that end before the last pixel, copied and handed on.
 
-use crate::short_buffers::{first_cells, owned_cells};
+use super::short_buffers::{first_cells, owned_cells};
 use imgref::{Img, ImgExtMut, ImgRef, ImgRefMut, ImgVec};
 use std::alloc::AllocError;
 use std::borrow::CowSlice;

@@ -1,6 +1,6 @@
 //! Tiles lent one after the other.
 
-use crate::fixtures::{GREATEST, image_of, write};
+use super::fixtures::{GREATEST, image_of, write};
 use image_tiles::TilesMut;
 use imgref::{Img, ImgRefMut};
 use imgref_fixtures::SQUARE;

@@ -1,6 +1,6 @@
 //! Numbers at the type's end: windows, places, strides, sizes.
 
-use crate::fixtures::{numbers_of, pixel_at};
+use super::fixtures::{numbers_of, pixel_at};
 use imgref::{Img, ImgExt, ImgRef, ImgRefMut, ImgVec, Shape, Window};
 use imgref_fixtures::{PADDED, padded};
 use std::process::Abort;

@@ -1,6 +1,6 @@
 //! Every small window in every small window, for reading and for writing.
 
-use crate::fixtures::window;
+use super::fixtures::window;
 use imgref::{ImgRef, ImgRefMut};
 use imgref_fixtures::PADDED;
 use imgref_replay::{Window, into_window_at, window_at};

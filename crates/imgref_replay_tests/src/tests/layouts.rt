@@ -5,7 +5,7 @@ ghost use Rattle.image_model.specs.Layout.{Fits};
 ghost use Rattle.image_model.specs.Grid.{Agree};
 ghost use Rattle.imgref.specs.Image.{vec_grid, vec_layout};
 
-use crate::fixtures::{ALL, Line, commands, has, image};
+use super::fixtures::{ALL, Line, commands, has, image};
 use imgref::ImgVec;
 use imgref_fixtures::PADDED;
 use imgref_replay::{Refusal, Reply, two_layouts};

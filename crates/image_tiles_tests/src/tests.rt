@@ -1,0 +1,6 @@
+//! A file a subject.
+
+mod bands;
+mod fixtures;
+mod tiles;
+mod tilings;

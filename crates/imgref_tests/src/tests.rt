@@ -1,0 +1,20 @@
+//! A file a subject.
+
+mod answers;
+mod equality;
+mod images;
+mod keys;
+mod maps;
+mod nested_windows;
+mod original;
+mod padded;
+mod pixel_writes;
+mod pixels;
+mod places;
+mod row_writes;
+mod rows;
+mod rows_by_number;
+mod swaps;
+mod values;
+mod window_writes;
+mod windows;
