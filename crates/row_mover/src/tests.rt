@@ -1,148 +1,122 @@
 use crate::RowMover;
 use std::process::Abort;
-use std::test::Fail;
 
 /// A picture of 3 by 3 pixels at stride 4: rows 1 2 3, 4 5 6 and 7 8 9, with padding 0.
 const PICTURE: [u8; 11] = [1, 2, 3, 0, 4, 5, 6, 0, 7, 8, 9];
 
+// A mover has made so many shifts, and has these cells.
+fn check_left(rt: &impl Abort, mover: RowMover<'_, u8>, shifts: u64, cells: &[u8]) {
+    assert_eq!(rt; mover.shifts(), shifts);
+    assert_eq!(rt; &*mover.into_cells(), cells);
+}
+
+// A window of 2 by 2 pixels of the picture moves from a cell to another.
+fn check_window(rt: &impl Abort, from: usize, to: usize, cells: [u8; 11]) {
+    assert!(rt; from <= 5 && to <= 5);
+    let mut picture = PICTURE;
+    let mut mover = RowMover::new(&mut picture);
+    mover.move_rows(4, from, to, 2, 2);
+    check_left(rt, mover, 2, &cells);
+}
+
 #[test]
-fn a_new_mover_has_the_cells_and_no_shift(rt: HostRuntime) -> Result<(), Fail> {
+fn a_new_mover_has_the_cells_and_no_shift(rt: HostRuntime) {
     let mut cells = [1u8, 2, 3, 4];
     let mover = RowMover::new(&mut cells);
     assert_eq!(rt; mover.cells(), [1u8, 2, 3, 4].as_slice());
-    assert_eq!(rt; mover.shifts(), 0);
-    assert_eq!(rt; &*mover.into_cells(), [1u8, 2, 3, 4].as_slice());
-    Ok(())
+    check_left(&rt, mover, 0, &[1, 2, 3, 4]);
 }
 
 #[test]
-fn shifts_an_overlapping_stretch(rt: HostRuntime) -> Result<(), Fail> {
+fn shifts_an_overlapping_stretch(rt: HostRuntime) {
     let mut cells = [1u8, 2, 3, 4];
     let mut mover = RowMover::new(&mut cells);
     mover.shift(1, 3, 0);
-    assert_eq!(rt; mover.shifts(), 1);
-    assert_eq!(rt; &*mover.into_cells(), [2u8, 3, 4, 4].as_slice());
-    Ok(())
+    check_left(&rt, mover, 1, &[2, 3, 4, 4]);
 }
 
 #[test]
-fn moves_a_window_towards_the_back(rt: HostRuntime) -> Result<(), Fail> {
-    let mut cells = PICTURE;
-    let mut mover = RowMover::new(&mut cells);
-    mover.move_rows(4, 0, 5, 2, 2);
-    assert_eq!(rt; mover.shifts(), 2);
-    assert_eq!(rt;
-        &*mover.into_cells(),
-        [1u8, 2, 3, 0, 4, 1, 2, 0, 7, 4, 5].as_slice()
-    );
-    Ok(())
+fn moves_a_window_towards_the_back(rt: HostRuntime) {
+    check_window(&rt, 0, 5, [1, 2, 3, 0, 4, 1, 2, 0, 7, 4, 5]);
 }
 
 #[test]
-fn a_dropped_mover_leaves_what_it_moved(rt: HostRuntime) -> Result<(), Fail> {
+fn a_dropped_mover_leaves_what_it_moved(rt: HostRuntime) {
     let mut cells = PICTURE;
     let mut mover = RowMover::new(&mut cells);
     mover.move_rows(4, 0, 5, 2, 2);
     drop(mover);
     assert_eq!(rt; cells, [1u8, 2, 3, 0, 4, 1, 2, 0, 7, 4, 5]);
-    Ok(())
 }
 
 #[test]
-fn moves_a_window_towards_the_front(rt: HostRuntime) -> Result<(), Fail> {
-    let mut cells = PICTURE;
-    let mut mover = RowMover::new(&mut cells);
-    mover.move_rows(4, 5, 0, 2, 2);
-    assert_eq!(rt; mover.shifts(), 2);
-    assert_eq!(rt;
-        &*mover.into_cells(),
-        [5u8, 6, 3, 0, 8, 9, 6, 0, 7, 8, 9].as_slice()
-    );
-    Ok(())
+fn moves_a_window_towards_the_front(rt: HostRuntime) {
+    check_window(&rt, 5, 0, [5, 6, 3, 0, 8, 9, 6, 0, 7, 8, 9]);
 }
 
 #[test]
-fn moves_rows_that_touch(rt: HostRuntime) -> Result<(), Fail> {
+fn moves_rows_that_touch(rt: HostRuntime) {
     let mut cells = [1u8, 2, 3, 4, 5, 6, 7, 8];
     let mut mover = RowMover::new(&mut cells);
     mover.move_rows(3, 0, 2, 3, 2);
-    assert_eq!(rt; mover.shifts(), 2);
-    assert_eq!(rt; &*mover.into_cells(), [1u8, 2, 1, 2, 3, 4, 5, 6].as_slice());
-    Ok(())
+    check_left(&rt, mover, 2, &[1, 2, 1, 2, 3, 4, 5, 6]);
 }
 
 #[test]
-fn moves_one_row_within_itself(rt: HostRuntime) -> Result<(), Fail> {
+fn moves_one_row_within_itself_and_counts_a_move_to_the_same_place(rt: HostRuntime) {
     let mut cells = [1u8, 2, 3, 4];
     let mut mover = RowMover::new(&mut cells);
     mover.move_rows(4, 0, 1, 3, 1);
     assert_eq!(rt; mover.shifts(), 1);
-    assert_eq!(rt; &*mover.into_cells(), [1u8, 1, 2, 3].as_slice());
-    Ok(())
-}
-
-#[test]
-fn a_move_to_the_same_place_is_counted(rt: HostRuntime) -> Result<(), Fail> {
-    let mut cells = [1u8, 2, 3, 4];
-    let mut mover = RowMover::new(&mut cells);
+    assert_eq!(rt; mover.cells(), [1u8, 1, 2, 3].as_slice());
     mover.move_rows(4, 2, 2, 2, 1);
-    assert_eq!(rt; mover.shifts(), 1);
-    assert_eq!(rt; &*mover.into_cells(), [1u8, 2, 3, 4].as_slice());
-    Ok(())
+    check_left(&rt, mover, 2, &[1, 1, 2, 3]);
 }
 
 #[test]
-fn the_corners_of_an_empty_window_are_not_looked_at(rt: HostRuntime) -> Result<(), Fail> {
+fn the_corners_of_an_empty_window_are_not_looked_at(rt: HostRuntime) {
     let mut cells = [1u8, 2, 3, 4];
     let mut mover = RowMover::new(&mut cells);
     mover.move_rows(1, 99, 99, 0, 3);
     mover.move_rows(usize::MAX, usize::MAX, 0, usize::MAX, 0);
-    assert_eq!(rt; mover.shifts(), 0);
-    assert_eq!(rt; &*mover.into_cells(), [1u8, 2, 3, 4].as_slice());
-    Ok(())
+    check_left(&rt, mover, 0, &[1, 2, 3, 4]);
 }
 
 #[test]
-fn compacts_and_keeps_later_cells(rt: HostRuntime) -> Result<(), Fail> {
+fn compacts_and_keeps_later_cells(rt: HostRuntime) {
     let mut cells = [1u8, 2, 3, 4, 5];
     let mut mover = RowMover::new(&mut cells);
     mover.compact_rows(1, 3, 2);
-    assert_eq!(rt; mover.shifts(), 2);
-    assert_eq!(rt; &*mover.into_cells(), [1u8, 3, 5, 4, 5].as_slice());
-    Ok(())
+    check_left(&rt, mover, 2, &[1, 3, 5, 4, 5]);
 }
 
 #[test]
-fn compacts_once_and_then_does_nothing(rt: HostRuntime) -> Result<(), Fail> {
+fn compacts_once_and_then_does_nothing(rt: HostRuntime) {
     let mut cells = [1u8, 2, 0, 3, 4, 0, 5, 6];
     let mut mover = RowMover::new(&mut cells);
     mover.compact_rows(2, 3, 3);
     assert_eq!(rt; mover.shifts(), 2);
     assert_eq!(rt; mover.cells(), [1u8, 2, 3, 4, 5, 6, 5, 6].as_slice());
     mover.compact_rows(2, 3, 2);
-    assert_eq!(rt; mover.shifts(), 2);
-    assert_eq!(rt; &*mover.into_cells(), [1u8, 2, 3, 4, 5, 6, 5, 6].as_slice());
-    Ok(())
+    check_left(&rt, mover, 2, &[1, 2, 3, 4, 5, 6, 5, 6]);
 }
 
 #[test]
-fn an_image_with_no_pixel_needs_no_shift(rt: HostRuntime) -> Result<(), Fail> {
+fn an_image_with_no_pixel_needs_no_shift(rt: HostRuntime) {
     let mut cells = [9u8];
     let mut mover = RowMover::new(&mut cells);
     mover.compact_rows(0, usize::MAX, usize::MAX);
     mover.compact_rows(usize::MAX, 0, usize::MAX);
-    assert_eq!(rt; mover.shifts(), 0);
-    assert_eq!(rt; &*mover.into_cells(), [9u8].as_slice());
-    Ok(())
+    check_left(&rt, mover, 0, &[9]);
 }
 
 #[test]
-fn moves_cells_of_no_size_by_the_greatest_numbers(rt: HostRuntime) -> Result<(), Fail> {
-    moves_by_the_greatest_numbers::<{ usize::MAX }>(&rt)
+fn moves_cells_of_no_size_by_the_greatest_numbers(rt: HostRuntime) {
+    moves_by_the_greatest_numbers::<{ usize::MAX }>(&rt);
 }
 
 // Generic, since the check would count the elements of an array of known length one by one.
-fn moves_by_the_greatest_numbers<const N: usize>(rt: &impl Abort) -> Result<(), Fail> {
+fn moves_by_the_greatest_numbers<const N: usize>(rt: &impl Abort) {
     assert_eq!(rt; N, usize::MAX);
     let mut cells = [(); N];
     let mut mover = RowMover::new(&mut cells);
@@ -151,5 +125,4 @@ fn moves_by_the_greatest_numbers<const N: usize>(rt: &impl Abort) -> Result<(), 
     mover.shift(N, 0, N);
     assert_eq!(rt; mover.shifts(), 4);
     assert_eq!(rt; mover.into_cells().len(), N);
-    Ok(())
 }
