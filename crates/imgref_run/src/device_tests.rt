@@ -87,22 +87,12 @@ fn a_writer_that_fails(rt: HostRuntime) -> Result<(), Fail> {
     Ok(())
 }
 
-// Whether a read answers so many bytes, or else the source's error, and the failures and the calls
-// that are counted then.
-fn reads(
-    reader: &mut Counted<Source<'_>>,
-    place: &mut [u8; 4],
-    due: Option<usize>,
-    counts: (u64, usize),
-) -> bool {
-    if reader.failures() == u64::MAX {
-        return false;
-    }
-    let is_due = match reader.read(place) {
-        Ok(count) => due == Some(count),
+// Whether a device answered this, or else its error.
+fn is_answer<T: PartialEq + Drop>(found: std::io::Result<T>, due: Option<T>) -> bool {
+    match found {
+        Ok(answer) => due == Some(answer),
         Err(error) => due.is_none() && error.kind() == ErrorKind::Interrupted,
-    };
-    is_due && (reader.failures(), reader.device().calls) == counts
+    }
 }
 
 // A counted reader asks its device once a call, and passes on what that answers: an error, some
@@ -111,9 +101,10 @@ fn reads(
 fn a_counted_reader_asks_once(rt: HostRuntime) {
     let mut place = [0; 4];
     let mut reader = Counted::new(Source::new("abc", usize::MAX, 1));
-    assert!(rt; reads(&mut reader, &mut place, None, (1, 1)));
-    assert!(rt; reads(&mut reader, &mut place, Some(3), (1, 2)));
-    assert!(rt; reads(&mut reader, &mut place, Some(0), (1, 3)));
+    for (due, calls) in [(None, 1), (Some(3), 2), (Some(0), 3)] {
+        assert!(rt; reader.failures() < u64::MAX && is_answer(reader.read(&mut place), due));
+        assert!(rt; (reader.failures(), reader.device().calls) == (1, calls));
+    }
     assert!(rt; place == *b"abc\0");
 }
 
@@ -125,26 +116,16 @@ fn writes(
     due: Option<usize>,
     counts: (u64, usize),
 ) -> bool {
-    if writer.failures() == u64::MAX {
-        return false;
-    }
-    let is_due = match writer.write(piece) {
-        Ok(count) => due == Some(count),
-        Err(error) => due.is_none() && error.kind() == ErrorKind::Interrupted,
-    };
-    is_due && (writer.failures(), writer.device().calls) == counts
+    writer.failures() < u64::MAX
+        && is_answer(writer.write(piece), due)
+        && (writer.failures(), writer.device().calls) == counts
 }
 
 // The same of a flush, with the flushes that are counted.
-fn flushes(writer: &mut Counted<Sink>, is_ok: bool, counts: (u64, usize)) -> bool {
-    if writer.failures() == u64::MAX {
-        return false;
-    }
-    let is_due = match writer.flush() {
-        Ok(()) => is_ok,
-        Err(error) => !is_ok && error.kind() == ErrorKind::Interrupted,
-    };
-    is_due && (writer.failures(), writer.device().flushes) == counts
+fn flushes(writer: &mut Counted<Sink>, due: Option<()>, counts: (u64, usize)) -> bool {
+    writer.failures() < u64::MAX
+        && is_answer(writer.flush(), due)
+        && (writer.failures(), writer.device().flushes) == counts
 }
 
 // So does a counted writer. An answer of no byte is a failure where there was one to take.
@@ -157,10 +138,10 @@ fn a_counted_writer_asks_once(rt: HostRuntime) {
     let mut writer = Counted::new(Sink::new(2, Failing::Nothing(1)));
     assert!(rt; writes(&mut writer, b"x", Some(0), (1, 1)));
     assert!(rt; writes(&mut writer, b"", Some(0), (1, 2)));
-    assert!(rt; flushes(&mut writer, true, (1, 1)) && writer.device().holds(""));
+    assert!(rt; flushes(&mut writer, Some(()), (1, 1)) && writer.device().holds(""));
 
     let mut writer = Counted::new(Sink::new(2, Failing::Flush));
-    assert!(rt; flushes(&mut writer, false, (1, 1)) && writer.device().calls == 0);
+    assert!(rt; flushes(&mut writer, None, (1, 1)) && writer.device().calls == 0);
 }
 
 #[test]
