@@ -5,6 +5,20 @@ use image_tiles::BandsMut;
 use imgref::{Img, ImgRefMut};
 use imgref_fixtures::SQUARE;
 use std::iter::ExactSizeIterator;
+use std::process::Abort;
+
+// The bands of the square.
+fn bands_of<'a>(rt: &impl Abort, cells: &'a mut [u8; 11], height: usize) -> BandsMut<'a, u8> {
+    let image = image_of(cells);
+    assert!(rt; image.is_valid() && height > 0);
+    BandsMut::new(image, height)
+}
+
+// The next band, which is there.
+fn next_of<'a>(rt: &impl Abort, bands: &mut BandsMut<'a, u8>) -> ImgRefMut<'a, u8> {
+    let Some(band) = bands.next() else { panic!(rt) };
+    band
+}
 
 // Whether a band has these lines of the square and these of its cells: the first one's number, and
 // how many.
@@ -72,15 +86,9 @@ fn an_image_with_no_pixel_has_no_band(rt: HostRuntime) {
 #[test]
 fn two_bands_are_written_in_turn(rt: HostRuntime) {
     let mut cells = SQUARE;
-    let image = image_of(&mut cells);
-    assert!(rt; image.is_valid());
-    let mut bands = BandsMut::new(image, 2);
-    let Some(mut upper) = bands.next() else {
-        panic!(rt)
-    };
-    let Some(mut lower) = bands.next() else {
-        panic!(rt)
-    };
+    let mut bands = bands_of(&rt, &mut cells, 2);
+    let mut upper = next_of(&rt, &mut bands);
+    let mut lower = next_of(&rt, &mut bands);
     assert!(rt; write(&mut lower, 0, 0, 70) && write(&mut upper, 2, 1, 60));
     assert!(rt; write(&mut lower, 2, 0, 90) && write(&mut upper, 0, 0, 10));
     assert!(rt; !write(&mut lower, 0, 1, 0));
@@ -90,12 +98,8 @@ fn two_bands_are_written_in_turn(rt: HostRuntime) {
 #[test]
 fn bands_dropped_early_leave_what_was_written(rt: HostRuntime) {
     let mut cells = SQUARE;
-    let image = image_of(&mut cells);
-    assert!(rt; image.is_valid());
-    let mut bands = BandsMut::new(image, 1);
-    let Some(mut first) = bands.next() else {
-        panic!(rt)
-    };
+    let mut bands = bands_of(&rt, &mut cells, 1);
+    let mut first = next_of(&rt, &mut bands);
     assert!(rt; write(&mut first, 1, 0, 20));
     drop(bands);
     assert!(rt; write(&mut first, 2, 0, 30));

@@ -4,6 +4,14 @@ use super::fixtures::{GREATEST, image_of, write};
 use image_tiles::TilesMut;
 use imgref::{Img, ImgRefMut};
 use imgref_fixtures::SQUARE;
+use std::process::Abort;
+
+// The tiles of the square, as wide as high.
+fn tiles_of<'a>(rt: &impl Abort, cells: &'a mut [u8; 11], size: usize) -> TilesMut<'a, u8> {
+    let image = image_of(cells);
+    assert!(rt; image.is_valid() && size > 0);
+    TilesMut::new(image, size, size)
+}
 
 // Sets each pixel of the next tile, and answers its width, height, stride and the length of its
 // buffer.
@@ -21,9 +29,7 @@ fn mark(tiles: &mut TilesMut<'_, u8>, value: u8) -> Option<[usize; 4]> {
 #[test]
 fn tiles_are_lent_one_after_the_other(rt: HostRuntime) {
     let mut cells = SQUARE;
-    let image = image_of(&mut cells);
-    assert!(rt; image.is_valid());
-    let mut tiles = TilesMut::new(image, 2, 2);
+    let mut tiles = tiles_of(&rt, &mut cells, 2);
     let sizes = [
         Some([2, 2, 4, 8]),
         Some([1, 2, 4, 8]),
@@ -51,9 +57,7 @@ fn tiles_are_lent_one_after_the_other(rt: HostRuntime) {
 #[test]
 fn tiles_dropped_early_leave_what_was_written(rt: HostRuntime) {
     let mut cells = SQUARE;
-    let image = image_of(&mut cells);
-    assert!(rt; image.is_valid());
-    let mut tiles = TilesMut::new(image, 2, 2);
+    let mut tiles = tiles_of(&rt, &mut cells, 2);
     assert!(rt; mark(&mut tiles, 0).is_some() && mark(&mut tiles, 1).is_some());
     drop(tiles);
     assert!(rt; cells == [0u8, 0, 1, 0, 0, 0, 1, 0, 7, 8, 9]);
@@ -68,9 +72,7 @@ fn tiles_of_other_sizes_are_lent(rt: HostRuntime) {
         (GREATEST, 1, [3, 3, 4, 11]),
     ] {
         let mut cells = SQUARE;
-        let image = image_of(&mut cells);
-        assert!(rt; image.is_valid() && size > 0);
-        let mut tiles = TilesMut::new(image, size, size);
+        let mut tiles = tiles_of(&rt, &mut cells, size);
         assert!(rt;
             tiles.remaining() == left && mark(&mut tiles, 0) == Some(first),
             "{size}"
