@@ -1,9 +1,11 @@
--- What each program over devices prints of the faults that it may end with.
+-- What each program over devices prints of the faults that all of them may end with.
 use Rattle.std.specs.Prelude.{ℕ, List, codes}
-use Rattle.devices.specs.declared.fault.CommonFault.{CommonFault}
-use Rattle.devices.specs.declared.fault.CommonFault.TheVariants.{Memory, Input, Output}
 
-abbrev pub common_text : CommonFault → List ℕ
-common_text Memory = codes "fault memory"
-common_text Input = codes "fault input"
-common_text Output = codes "fault output"
+abbrev pub memory_text : List ℕ
+memory_text = codes "fault memory"
+
+abbrev pub input_text : List ℕ
+input_text = codes "fault input"
+
+abbrev pub output_text : List ℕ
+output_text = codes "fault output"

@@ -7,5 +7,5 @@ mod fault;
 mod whole;
 
 pub use counted::Counted;
-pub use fault::CommonFault;
+pub use fault::{INPUT_TEXT, MEMORY_TEXT, OUTPUT_TEXT};
 pub use whole::{LineFault, ReadFailed, WriteFailed, fill, read_byte, read_line, write_all};

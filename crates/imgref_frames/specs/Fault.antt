@@ -1,30 +1,25 @@
 -- Why a run ended, what is printed then, and which device's count shows it.
 use Rattle.std.specs.Prelude.{ℕ, List, ◌++◌, codes, Result, Ok, Err}
 use Rattle.std.specs.Fmt.{decimal}
-use Rattle.devices.specs.Fault.{common_text}
-use Rattle.devices.specs.declared.fault.CommonFault.TheVariants.{Memory as CommonMemory, Input as CommonInput, Output as CommonOutput}
+use Rattle.devices.specs.Fault.{memory_text, input_text, output_text}
 use Rattle.imgref_frames.specs.declared.fault.RunFault.{RunFault}
 use Rattle.imgref_frames.specs.declared.fault.RunFault.TheVariants.{Header, Outside, Frame, Memory, Input, Output, Endless}
 
--- the status that the program ends with: each fault has its own
-abbrev pub status_of : RunFault → ℕ
-status_of Header = 2
-status_of Memory = 3
-status_of Input = 4
-status_of Output = 5
-status_of Outside = 6
-status_of (Frame n) = 7
-status_of Endless = 8
+-- the status that the program ends with, each fault's own, and what it prints
+abbrev pub ends_with : RunFault → ℕ × List ℕ
+ends_with Header = (2, codes "fault header")
+ends_with Memory = (3, memory_text)
+ends_with Input = (4, input_text)
+ends_with Output = (5, output_text)
+ends_with Outside = (6, codes "fault outside")
+ends_with (Frame n) = (7, codes "fault frame " ++ decimal n)
+ends_with Endless = (8, codes "fault endless")
 
--- what the program prints
+abbrev pub status_of : RunFault → ℕ
+status_of fault = (ends_with fault).0
+
 abbrev pub fault_text : RunFault → List ℕ
-fault_text Header = codes "fault header"
-fault_text Outside = codes "fault outside"
-fault_text (Frame n) = codes "fault frame " ++ decimal n
-fault_text Memory = common_text CommonMemory
-fault_text Input = common_text CommonInput
-fault_text Output = common_text CommonOutput
-fault_text Endless = codes "fault endless"
+fault_text fault = (ends_with fault).1
 
 -- by how much a fault raised the reader's count
 abbrev pub reads_failed : RunFault → ℕ

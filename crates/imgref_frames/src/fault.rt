@@ -2,7 +2,7 @@
 
 ghost use Rattle.std.specs.Prelude.{◌≡◌, Some};
 
-use devices::CommonFault;
+use devices::{INPUT_TEXT, MEMORY_TEXT, OUTPUT_TEXT};
 use frame_formats::PlanFault;
 use std::fmt;
 
@@ -57,9 +57,9 @@ impl fmt::Display for RunFault {
             RunFault::Header => write!(f, "fault header"),
             RunFault::Outside => write!(f, "fault outside"),
             RunFault::Frame(number) => write!(f, "fault frame {number}"),
-            RunFault::Memory => write!(f, "{}", CommonFault::Memory),
-            RunFault::Input => write!(f, "{}", CommonFault::Input),
-            RunFault::Output => write!(f, "{}", CommonFault::Output),
+            RunFault::Memory => write!(f, "{MEMORY_TEXT}"),
+            RunFault::Input => write!(f, "{INPUT_TEXT}"),
+            RunFault::Output => write!(f, "{OUTPUT_TEXT}"),
             RunFault::Endless => write!(f, "fault endless"),
         }
     }

@@ -1,25 +1,23 @@
 -- Why a run ended, what it prints then, and which device's count that shows in.
 use Rattle.std.specs.Prelude.{ℕ, List, ◌++◌, codes, Result, Err}
 use Rattle.std.specs.Fmt.{decimal}
-use Rattle.devices.specs.Fault.{common_text}
-use Rattle.devices.specs.declared.fault.CommonFault.TheVariants.{Memory as CommonMemory, Input as CommonInput, Output as CommonOutput}
+use Rattle.devices.specs.Fault.{memory_text, input_text, output_text}
 use Rattle.imgref_run.specs.declared.fault.RunFault.{RunFault}
 use Rattle.imgref_run.specs.declared.fault.RunFault.TheVariants.{Line, Memory, Input, Output}
 use Rattle.imgref_run.specs.Script.{IsFirstBad}
 
--- the status that the program ends with
-abbrev pub status_of : RunFault → ℕ
-status_of (Line n) = 2
-status_of Memory = 3
-status_of Input = 4
-status_of Output = 4
+-- the status that the program ends with, and what it prints
+abbrev pub ends_with : RunFault → ℕ × List ℕ
+ends_with (Line n) = (2, codes "fault line " ++ decimal n)
+ends_with Memory = (3, memory_text)
+ends_with Input = (4, input_text)
+ends_with Output = (4, output_text)
 
--- what the program prints
+abbrev pub status_of : RunFault → ℕ
+status_of fault = (ends_with fault).0
+
 abbrev pub fault_text : RunFault → List ℕ
-fault_text (Line n) = codes "fault line " ++ decimal n
-fault_text Memory = common_text CommonMemory
-fault_text Input = common_text CommonInput
-fault_text Output = common_text CommonOutput
+fault_text fault = (ends_with fault).1
 
 -- by how much a run with this answer raised the reader's count
 abbrev pub reader_failures : {T : Type 0} → Result T RunFault → ℕ

@@ -2,7 +2,7 @@
 
 ghost use Rattle.std.specs.Prelude.{◌≡◌, Some};
 
-use devices::CommonFault;
+use devices::{INPUT_TEXT, MEMORY_TEXT, OUTPUT_TEXT};
 use std::alloc::{AllocError, AllocFailed};
 use std::fmt;
 
@@ -72,9 +72,9 @@ impl fmt::Display for RunFault {
     fn fmt<W: fmt::Write>(&self, f: &mut fmt::Formatter<W>) -> fmt::Result {
         match self {
             RunFault::Line(number) => write!(f, "fault line {number}"),
-            RunFault::Memory => write!(f, "{}", CommonFault::Memory),
-            RunFault::Input => write!(f, "{}", CommonFault::Input),
-            RunFault::Output => write!(f, "{}", CommonFault::Output),
+            RunFault::Memory => write!(f, "{MEMORY_TEXT}"),
+            RunFault::Input => write!(f, "{INPUT_TEXT}"),
+            RunFault::Output => write!(f, "{OUTPUT_TEXT}"),
         }
     }
 }
