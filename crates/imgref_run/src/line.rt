@@ -48,48 +48,44 @@ fn command_at(alloc: Global, word: &[u8], fields: &mut Parts<'_>) -> Result<Comm
     ensures { Gives (λ c. (order_of c, parts_left fields.new)) result (order_at word.now (parts_left fields.old)) }
 {
     if word == b"get".as_slice() {
-        Ok(Command::Get {
-            spot: next_place(alloc, fields)?,
-            x: next_value(fields)?,
-            y: next_value(fields)?,
-        })
+        let spot = next_place(alloc, fields)?;
+        let x = next_value(fields)?;
+        let y = next_value(fields)?;
+        Ok(Command::Get { spot, x, y })
     } else if word == b"put".as_slice() {
-        Ok(Command::Put {
-            spot: next_place(alloc, fields)?,
-            x: next_value(fields)?,
-            y: next_value(fields)?,
-            value: next_value(fields)?,
-        })
+        let spot = next_place(alloc, fields)?;
+        let x = next_value(fields)?;
+        let y = next_value(fields)?;
+        let value = next_value(fields)?;
+        Ok(Command::Put { spot, x, y, value })
     } else if word == b"fill".as_slice() {
-        Ok(Command::Fill {
-            spot: next_place(alloc, fields)?,
-            value: next_value(fields)?,
-        })
+        let spot = next_place(alloc, fields)?;
+        let value = next_value(fields)?;
+        Ok(Command::Fill { spot, value })
     } else if word == b"count".as_slice() {
-        Ok(Command::Count {
-            spot: next_place(alloc, fields)?,
-            value: next_value(fields)?,
-        })
+        let spot = next_place(alloc, fields)?;
+        let value = next_value(fields)?;
+        Ok(Command::Count { spot, value })
     } else if word == b"same".as_slice() {
-        Ok(Command::Same {
-            first: next_place(alloc, fields)?,
-            second: next_place(alloc, fields)?,
-        })
+        let first = next_place(alloc, fields)?;
+        let second = next_place(alloc, fields)?;
+        Ok(Command::Same { first, second })
     } else if word == b"blit".as_slice() {
-        Ok(Command::Blit {
-            source: next_place(alloc, fields)?,
-            target: next_place(alloc, fields)?,
-        })
+        let source = next_place(alloc, fields)?;
+        let target = next_place(alloc, fields)?;
+        Ok(Command::Blit { source, target })
     } else if word == b"mosaic".as_slice() {
+        let spot = next_place(alloc, fields)?;
+        let tile_width = next_value(fields)?;
+        let tile_height = next_value(fields)?;
         Ok(Command::Mosaic {
-            spot: next_place(alloc, fields)?,
-            tile_width: next_value(fields)?,
-            tile_height: next_value(fields)?,
+            spot,
+            tile_width,
+            tile_height,
         })
     } else if word == b"compact".as_slice() {
-        Ok(Command::Compact {
-            image: next_value(fields)?,
-        })
+        let image = next_value(fields)?;
+        Ok(Command::Compact { image })
     } else {
         Err(LineFault::Bad)
     }
