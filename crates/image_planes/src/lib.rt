@@ -9,13 +9,11 @@ mod plane;
 mod planes;
 mod steps;
 mod target;
-mod targets;
 
 pub use change::{Change, Step};
 pub use hiding::changes_hide;
 pub use imgref::Window;
 pub use interleaved::{join_pixels, part_pixels, parts_join};
 pub use plane::Plane;
-pub use planes::{change_planes, planes_len};
+pub use planes::{change_planes, planes_len, resize_planes, targets_len};
 pub use target::{Resize, Target};
-pub use targets::{resize_planes, targets_len};
