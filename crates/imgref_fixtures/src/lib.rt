@@ -1,10 +1,17 @@
 //! Cells that the tests of several crates begin with, and calls through one bound.
 #![tactic(auto)]
 
-use imgref::{Img, ImgVec};
+ghost use Rattle.std.specs.Prelude.{IfOk};
+ghost use Rattle.image_model.specs.Layout.{Fits};
+ghost use Rattle.imgref.specs.Image.{ref_layout, vec_layout};
+
+mod windows;
+
+use imgref::{Img, ImgRef, ImgVec};
 use std::alloc::{AllocError, Global};
 use std::hash::{DefaultHasher, Hash, Hasher};
 use std::iter::{ExactSizeIterator, FusedIterator};
+pub use windows::{are_cleared, are_filled, numbered, numbers_of, place_in};
 
 // Three by two with one cell of padding after each row, and one behind them.
 pub const PADDED: [u8; 9] = [1, 2, 3, 4, 5, 6, 7, 8, 9];
@@ -12,8 +19,23 @@ pub const PADDED: [u8; 9] = [1, 2, 3, 4, 5, 6, 7, 8, 9];
 // Three by three with one cell of padding between two rows.
 pub const SQUARE: [u8; 11] = [1, 2, 3, 0, 4, 5, 6, 0, 7, 8, 9];
 
-pub fn padded(alloc: Global) -> Result<ImgVec<u8>, AllocError> {
+pub fn padded(alloc: Global) -> Result<ImgVec<u8>, AllocError>
+    ensures { IfOk result (λ image. Fits (vec_layout image)) }
+{
     Ok(Img::new_stride(PADDED.to_vec(alloc)?, 3, 2, 4))
+}
+
+// The same, for reading.
+pub fn padded_view() -> ImgRef<'static, u8>
+    ensures { Fits (ref_layout result) }
+{
+    Img::new_stride(PADDED.as_slice(), 3, 2, 4)
+}
+
+pub fn square(alloc: Global) -> Result<ImgVec<u8>, AllocError>
+    ensures { IfOk result (λ image. Fits (vec_layout image)) }
+{
+    Ok(Img::new_stride(SQUARE.to_vec(alloc)?, 3, 3, 4))
 }
 
 pub fn cells_of(alloc: Global, count: usize, value: u8) -> Result<Vec<u8>, AllocError> {

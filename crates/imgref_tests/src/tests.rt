@@ -1,10 +1,10 @@
 //! A file a subject.
 
 mod answers;
+mod changes;
 mod equality;
 mod images;
 mod keys;
-mod maps;
 mod nested_windows;
 mod original;
 mod padded;
@@ -14,7 +14,6 @@ mod places;
 mod row_writes;
 mod rows;
 mod rows_by_number;
-mod swaps;
 mod values;
 mod window_writes;
 mod windows;

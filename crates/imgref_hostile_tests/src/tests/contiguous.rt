@@ -62,28 +62,34 @@ fn pixels_of_no_size_are_compacted(rt: HostRuntime) -> Result<(), Fail> {
     Ok(())
 }
 
+// The rows of an image are joined to these cells, in its own buffer or in a new one.
+fn check_gathered(
+    rt: &impl Abort,
+    alloc: Global,
+    image: ImgRef<'_, u8>,
+    is_lent: bool,
+    due: &[u8],
+) -> Result<(), AllocError> {
+    assert!(rt; image.is_valid());
+    let size = (image.width(), image.height());
+    let (joined, width, height) = image.to_contiguous_buf(alloc)?;
+    assert!(rt; matches!(&joined, CowSlice::Borrowed(_)) == is_lent);
+    assert!(rt; joined.as_ref() == due);
+    assert!(rt; (width, height) == size);
+    Ok(())
+}
+
 #[test]
 fn rows_that_touch_are_lent(rt: HostRuntime) -> Result<(), Fail> {
     let image: ImgVec<u8> = Img::new([1u8, 2, 3, 4, 5, 6].to_vec(rt.alloc())?, 2, 2);
-    let seen: ImgRef<'_, u8> = image.as_ref();
-    assert!(rt; seen.is_valid());
-    let (joined, width, height) = seen.to_contiguous_buf(rt.alloc())?;
-    assert!(rt; matches!(&joined, CowSlice::Borrowed(_)));
-    assert!(rt; joined.as_ref() == [1u8, 2, 3, 4].as_slice());
-    assert!(rt; (width, height) == (2, 2));
+    check_gathered(&rt, rt.alloc(), image.as_ref(), true, &[1, 2, 3, 4])?;
     Ok(())
 }
 
 #[test]
 fn rows_apart_are_gathered(rt: HostRuntime) -> Result<(), Fail> {
     let image: ImgVec<u8> = Img::new_stride(SMALL.to_vec(rt.alloc())?, 2, 2, 3);
-    let seen: ImgRef<'_, u8> = image.as_ref();
-    assert!(rt; seen.is_valid());
-    let (joined, width, height) = seen.to_contiguous_buf(rt.alloc())?;
-    assert!(rt; matches!(&joined, CowSlice::Owned(_)));
-    assert!(rt; joined.as_ref() == [1u8, 2, 4, 5].as_slice());
-    assert!(rt; (width, height) == (2, 2));
-    drop(joined);
+    check_gathered(&rt, rt.alloc(), image.as_ref(), false, &[1, 2, 4, 5])?;
     assert!(rt; image.is_valid());
     let (joined, width, height) = image.into_contiguous_buf();
     assert!(rt; joined.as_slice() == [1u8, 2, 4, 5].as_slice());
@@ -117,10 +123,8 @@ fn readme(rt: HostRuntime) -> Result<(), Fail> {
     assert!(rt; image.pixels().count() == 1000);
     assert!(rt; image.has_window(5, 5, 15, 15));
     let window = image.sub_image(5, 5, 15, 15);
-    let (joined, width, height) = window.to_contiguous_buf(rt.alloc())?;
-    assert!(rt; matches!(&joined, CowSlice::Owned(_)));
-    assert!(rt; joined.as_ref() == [0u8; 225].as_slice());
-    assert!(rt; (width, height) == (15, 15));
+    assert!(rt; (window.width(), window.height()) == (15, 15));
+    check_gathered(&rt, rt.alloc(), window, false, &[0; 225])?;
     Ok(())
 }
 

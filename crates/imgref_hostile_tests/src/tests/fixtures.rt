@@ -1,6 +1,8 @@
 //! What the image of nine cells has at its places and in its windows.
 
-use imgref::Window;
+use imgref::{AsMutSlice, Img, ImgRefMut, Window};
+use imgref_fixtures::numbers_of;
+use std::process::Abort;
 
 // The pixel of a place of that image.
 pub fn pixel_at(x: usize, y: usize) -> Option<u8> {
@@ -15,14 +17,15 @@ pub fn pixel_at(x: usize, y: usize) -> Option<u8> {
     }
 }
 
-// Each of the 256 windows with numbers from 0 to 3.
-pub fn numbered(number: usize) -> Window {
-    Window::new(number % 4, number / 4 % 4, number / 16 % 4, number / 64 % 4)
-}
-
-// Left, top, width and height, as the calls of an image take them.
-pub fn numbers_of(window: Window) -> (usize, usize, usize, usize) {
-    (window.left, window.top, window.width, window.height)
+// A window of an image, for writing.
+pub fn window_mut<'a, C: AsMutSlice<Item = u8>>(
+    rt: &impl Abort,
+    image: &'a mut Img<C>,
+    window: Window,
+) -> ImgRefMut<'a, u8> {
+    let (left, top, width, height) = numbers_of(window);
+    assert!(rt; image.is_valid() && image.has_window(left, top, width, height));
+    image.sub_image_mut(left, top, width, height)
 }
 
 // Which cells a window has.
@@ -34,36 +37,32 @@ pub struct Cells {
     pub padded: usize,
 }
 
-// The windows with a pixel: left, top, width and height, the first cell, and both numbers of cells.
-const STRETCHES: [(usize, usize, usize, usize, usize, usize, usize); 18] = [
-    (0, 0, 1, 1, 0, 1, 4),
-    (1, 0, 1, 1, 1, 1, 4),
-    (2, 0, 1, 1, 2, 1, 4),
-    (0, 0, 2, 1, 0, 2, 4),
-    (1, 0, 2, 1, 1, 2, 4),
-    (0, 0, 3, 1, 0, 3, 4),
-    (0, 1, 1, 1, 4, 1, 4),
-    (1, 1, 1, 1, 5, 1, 4),
-    (2, 1, 1, 1, 6, 1, 1),
-    (0, 1, 2, 1, 4, 2, 4),
-    (1, 1, 2, 1, 5, 2, 4),
-    (0, 1, 3, 1, 4, 3, 4),
-    (0, 0, 1, 2, 0, 5, 8),
-    (1, 0, 1, 2, 1, 5, 8),
-    (2, 0, 1, 2, 2, 5, 5),
-    (0, 0, 2, 2, 0, 6, 8),
-    (1, 0, 2, 2, 1, 6, 8),
-    (0, 0, 3, 2, 0, 7, 8),
+// The windows with a pixel by their numbers, with the first cell and both numbers of cells.
+pub const STRETCHES: [((usize, usize, usize, usize), usize, usize, usize); 18] = [
+    ((0, 0, 1, 1), 0, 1, 4),
+    ((1, 0, 1, 1), 1, 1, 4),
+    ((2, 0, 1, 1), 2, 1, 4),
+    ((0, 0, 2, 1), 0, 2, 4),
+    ((1, 0, 2, 1), 1, 2, 4),
+    ((0, 0, 3, 1), 0, 3, 4),
+    ((0, 1, 1, 1), 4, 1, 4),
+    ((1, 1, 1, 1), 5, 1, 4),
+    ((2, 1, 1, 1), 6, 1, 1),
+    ((0, 1, 2, 1), 4, 2, 4),
+    ((1, 1, 2, 1), 5, 2, 4),
+    ((0, 1, 3, 1), 4, 3, 4),
+    ((0, 0, 1, 2), 0, 5, 8),
+    ((1, 0, 1, 2), 1, 5, 8),
+    ((2, 0, 1, 2), 2, 5, 5),
+    ((0, 0, 2, 2), 0, 6, 8),
+    ((1, 0, 2, 2), 1, 6, 8),
+    ((0, 0, 3, 2), 0, 7, 8),
 ];
 
 // The cells of a window inside that image: none, where it has no pixel.
 pub fn cells_of(window: Window) -> Cells {
-    for (left, top, width, height, first, exact, padded) in STRETCHES {
-        let is_this = window.left == left
-            && window.top == top
-            && window.width == width
-            && window.height == height;
-        if is_this {
+    for (numbers, first, exact, padded) in STRETCHES {
+        if numbers == numbers_of(window) {
             return Cells {
                 first,
                 exact,

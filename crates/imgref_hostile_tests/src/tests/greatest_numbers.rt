@@ -1,8 +1,8 @@
 //! Numbers at the type's end: windows, places, strides, sizes.
 
-use super::fixtures::{numbers_of, pixel_at};
+use super::fixtures::pixel_at;
 use imgref::{Img, ImgExt, ImgRef, ImgRefMut, ImgVec, Shape, Window};
-use imgref_fixtures::{PADDED, padded};
+use imgref_fixtures::{PADDED, numbers_of, padded};
 use std::process::Abort;
 use std::test::Fail;
 

@@ -1,5 +1,9 @@
 //! Pixels of no size: each call of each kind.
 
+ghost use Rattle.std.specs.Prelude.{◌≡◌};
+ghost use Rattle.image_model.specs.Layout.{Fits};
+ghost use Rattle.imgref.specs.Image.{width_of, height_of, mut_layout};
+
 use imgref::{
     AsMutSlice, AsSlice, Img, ImgExt, ImgExtMut, ImgRef, ImgRefMut, ImgVec, Shape, Stretch, Window,
     fill_pixels,
@@ -9,17 +13,22 @@ use std::borrow::CowSlice;
 use std::collections::HashSet;
 use std::test::Fail;
 
-// The greatest width and height.
-const LAST: usize = 4294967295;
-
 const UNITS: [(); 9] = [(); 9];
+
+fn lent(cells: &mut [(); 9]) -> ImgRefMut<'_, ()>
+    ensures width { width_of result ≡ 3 }
+    ensures height { height_of result ≡ 2 }
+    ensures fits { Fits (mut_layout result) }
+{
+    Img::new_stride(cells.as_mut_slice(), 3, 2, 4)
+}
 
 fn units(alloc: Global) -> Result<ImgVec<()>, AllocError> {
     Ok(Img::new_stride(UNITS.to_vec(alloc)?, 3, 2, 4))
 }
 
 #[test]
-fn views_are_read_by_place(rt: HostRuntime) -> Result<(), Fail> {
+fn views_are_read_by_place(rt: HostRuntime) {
     let view = ImgRef::new_stride(UNITS.as_slice(), 3, 2, 4);
     assert!(rt;
         view.is_valid()
@@ -31,11 +40,10 @@ fn views_are_read_by_place(rt: HostRuntime) -> Result<(), Fail> {
     assert!(rt; (view[(3usize, 1usize)], view[(0u32, 2u32)]) == ((), ()));
     let window = view.sub_image(1, 1, 2, 1);
     assert!(rt; (window.buf().len(), window.width(), window.stride()) == (4, 2, 4));
-    Ok(())
 }
 
 #[test]
-fn views_are_read_one_by_one(rt: HostRuntime) -> Result<(), Fail> {
+fn views_are_read_one_by_one(rt: HostRuntime) {
     let view = ImgRef::new_stride(UNITS.as_slice(), 3, 2, 4);
     assert!(rt;
         view.is_valid()
@@ -44,11 +52,10 @@ fn views_are_read_one_by_one(rt: HostRuntime) -> Result<(), Fail> {
             && (view.pixels().count(), view.pixels_ref().count()) == (6, 6)
     );
     assert!(rt; (view.iter().count(), view.into_iter().count()) == (9, 9));
-    Ok(())
 }
 
 #[test]
-fn views_are_cut_into_strides(rt: HostRuntime) -> Result<(), Fail> {
+fn views_are_cut_into_strides(rt: HostRuntime) {
     let view = ImgRef::new_stride(UNITS.as_slice(), 3, 2, 4);
     assert!(rt;
         (view.width_padded(), view.height_padded()) == (4, 2)
@@ -57,11 +64,10 @@ fn views_are_cut_into_strides(rt: HostRuntime) -> Result<(), Fail> {
     );
     let (cells, shape) = view.into_parts();
     assert!(rt; (cells.len(), shape.fits(7), shape.fits(6)) == (9, true, false));
-    Ok(())
 }
 
 #[test]
-fn lent_pixels_are_written(rt: HostRuntime) -> Result<(), Fail> {
+fn lent_pixels_are_written(rt: HostRuntime) {
     let mut cells = UNITS;
     let mut lent = ImgRefMut::new_stride(cells.as_mut_slice(), 3, 2, 4);
     assert!(rt; lent.is_valid());
@@ -79,35 +85,27 @@ fn lent_pixels_are_written(rt: HostRuntime) -> Result<(), Fail> {
     assert!(rt; lent.same_pixels(ImgRef::new_stride(UNITS.as_slice(), 3, 2, 4)));
     fill_pixels(cells.as_mut_slice(), Shape::new(3, 2, 4), ());
     assert!(rt; cells == UNITS);
-    Ok(())
 }
 
 #[test]
-fn lent_rows_and_pixels_are_lent_on(rt: HostRuntime) -> Result<(), Fail> {
+fn lent_rows_and_pixels_are_lent_on(rt: HostRuntime) {
     let mut cells = UNITS;
-    let mut lent = ImgRefMut::new_stride(cells.as_mut_slice(), 3, 2, 4);
-    assert!(rt;
-        lent.is_valid()
-            && lent.row_mut(1).len() == 3
-            && lent.is_valid()
-            && lent.rows_mut().count() == 2
-    );
+    let mut lent = lent(&mut cells);
+    assert!(rt; lent.row_mut(1).len() == 3 && lent.is_valid() && lent.rows_mut().count() == 2);
     assert!(rt;
         lent.is_valid()
             && lent.pixels_mut().count() == 6
             && lent.rows_padded_mut().count() == 3
             && ImgExtMut::as_mut(&mut lent).buf().len() == 9
     );
-    Ok(())
 }
 
 #[test]
-fn windows_of_lent_cells_are_lent_on(rt: HostRuntime) -> Result<(), Fail> {
+fn windows_of_lent_cells_are_lent_on(rt: HostRuntime) {
     let mut cells = UNITS;
-    let mut lent = ImgRefMut::new_stride(cells.as_mut_slice(), 3, 2, 4);
+    let mut lent = lent(&mut cells);
     assert!(rt;
-        lent.is_valid()
-            && lent.has_window(1, 1, 2, 1)
+        lent.has_window(1, 1, 2, 1)
             && lent.sub_image_mut(1, 1, 2, 1).buf().len() == 4
             && lent.is_valid()
             && lent.has_window(1, 1, 2, 1)
@@ -121,7 +119,6 @@ fn windows_of_lent_cells_are_lent_on(rt: HostRuntime) -> Result<(), Fail> {
     let nothing = Stretch { start: 9, len: 0 };
     let part = ImgRefMut::from_stretch(cells.as_mut_slice(), nothing, Shape::new(0, 2, 4));
     assert!(rt; part.is_valid() && part.buf().is_empty());
-    Ok(())
 }
 
 #[test]

@@ -1,8 +1,8 @@
 //! Each window of the image of nine cells, by every call of each kind.
 
-use super::fixtures::{cells_of, numbered, numbers_of, pixel_at};
+use super::fixtures::{cells_of, pixel_at, window_mut};
 use imgref::{AsMutSlice, AsSlice, Img, ImgRef, ImgRefMut, Window};
-use imgref_fixtures::{PADDED, padded};
+use imgref_fixtures::{PADDED, are_cleared, are_filled, numbered, numbers_of, padded, padded_view};
 use std::process::Abort;
 use std::test::Fail;
 
@@ -38,67 +38,34 @@ fn check_view(rt: &impl Abort, found: ImgRef<'_, u8>, window: Window, count: usi
     }
 }
 
-// So many cells from this one on are 0, and no other has changed.
-fn check_cleared(rt: &impl Abort, cells: &[u8], first: usize, count: usize) {
-    assert!(rt; cells.len() == 9);
-    for (at, cell) in cells.iter().enumerate() {
-        let is_written = at >= first && at.saturating_sub(first) < count;
-        let expected = if is_written { Some(&0) } else { PADDED.get(at) };
-        assert!(rt; Some(cell) == expected, "cell {at} of {count} from {first}");
-    }
+// Whether a window is inside an image, and what is read through it. An image that is only read has
+// a `sub_image` of its own.
+macro_rules! is_shown {
+    ($rt:expr, $image:expr, $window:expr) => {{
+        let (left, top, width, height) = numbers_of($window);
+        assert!($rt; $image.is_valid());
+        let is_inside = $image.has_window(left, top, width, height);
+        if is_inside {
+            let found = $image.sub_image(left, top, width, height);
+            check_view($rt, found, $window, cells_of($window).padded);
+        }
+        is_inside
+    }};
 }
 
-// The pixels of a window are 0, and no other cell has changed.
-fn check_filled(rt: &impl Abort, cells: &[u8], window: Window) {
-    assert!(rt; cells.len() == 9);
-    for (at, cell) in cells.iter().enumerate() {
-        let x = at % 4;
-        let y = at / 4;
-        let is_column = x >= window.left && x.saturating_sub(window.left) < window.width;
-        let is_line = y >= window.top && y.saturating_sub(window.top) < window.height;
-        let expected = if is_column && is_line {
-            Some(&0)
-        } else {
-            PADDED.get(at)
-        };
-        assert!(rt;
-            Some(cell) == expected,
-            "cell {at} of {}, {}",
-            window.left,
-            window.top
-        );
-    }
-}
-
-// Whether a window is inside a view, and what is read through it.
 fn is_in_view(rt: &impl Abort, image: ImgRef<'_, u8>, window: Window) -> bool {
-    let (left, top, width, height) = numbers_of(window);
-    assert!(rt; image.is_valid());
-    let is_inside = image.has_window(left, top, width, height);
-    if is_inside {
-        let found = image.sub_image(left, top, width, height);
-        check_view(rt, found, window, cells_of(window).padded);
-    }
-    is_inside
+    is_shown!(rt, image, window)
 }
 
-// The same of an image that can be written, which has another `sub_image`.
 fn is_in_image<C: AsMutSlice<Item = u8>>(rt: &impl Abort, image: &Img<C>, window: Window) -> bool {
-    let (left, top, width, height) = numbers_of(window);
-    assert!(rt; image.is_valid());
-    let is_inside = image.has_window(left, top, width, height);
-    if is_inside {
-        let found = image.sub_image(left, top, width, height);
-        check_view(rt, found, window, cells_of(window).padded);
-    }
-    is_inside
+    is_shown!(rt, image, window)
 }
 
 #[test]
 fn sixty_windows_for_reading(rt: HostRuntime) -> Result<(), Fail> {
     let mut cells = PADDED;
     let owner = padded(rt.alloc())?;
-    let view = ImgRef::new_stride(PADDED.as_slice(), 3, 2, 4);
+    let view = padded_view();
     let lent = ImgRefMut::new_stride(cells.as_mut_slice(), 3, 2, 4);
     let mut inside = 0u32;
     for number in 0..256usize {
@@ -132,13 +99,11 @@ fn check_pixels<C: AsMutSlice<Item = u8>>(
     window: Window,
     count: usize,
 ) {
-    let (left, top, width, height) = numbers_of(window);
-    assert!(rt; image.is_valid() && image.has_window(left, top, width, height));
-    let mut found = image.sub_image_mut(left, top, width, height);
+    let mut found = window_mut(rt, image, window);
     check_view(rt, found.as_ref(), window, count);
     assert!(rt; found.is_valid());
     found.fill(0);
-    check_filled(rt, image.buf().as_slice(), window);
+    assert!(rt; are_filled(image.buf().as_slice(), window));
 }
 
 // All cells of a window for writing are written.
@@ -153,7 +118,7 @@ fn check_cells<C: AsMutSlice<Item = u8>>(
     let (parts, shape) = image.window_parts_mut(Window::new(left, top, width, height));
     assert!(rt; (shape.width(), shape.height(), shape.stride()) == (width, height, 4));
     parts.fill(0);
-    check_cleared(rt, image.buf().as_slice(), cells_of(window).first, count);
+    assert!(rt; are_cleared(image.buf().as_slice(), cells_of(window).first, count));
 }
 
 // Cells that are lent are cut down to a window, which is written in the same two ways.
@@ -167,7 +132,7 @@ fn check_cut(rt: &impl Abort, window: Window) {
     check_view(rt, cut.as_ref(), window, cells.padded);
     assert!(rt; cut.is_valid());
     cut.fill(0);
-    check_filled(rt, buf.as_slice(), window);
+    assert!(rt; are_filled(&buf, window));
     let mut buf = PADDED;
     let image = ImgRefMut::new_stride(buf.as_mut_slice(), 3, 2, 4);
     assert!(rt; image.is_valid() && image.has_window(left, top, width, height));
@@ -175,13 +140,13 @@ fn check_cut(rt: &impl Abort, window: Window) {
         .into_sub_image_mut(left, top, width, height)
         .into_buf()
         .fill(0);
-    check_cleared(rt, buf.as_slice(), cells.first, cells.padded);
+    assert!(rt; are_cleared(&buf, cells.first, cells.padded));
 }
 
 // A window of an owner ends at its last pixel, and one of lent cells has whole strides.
 #[test]
 fn sixty_windows_for_writing(rt: HostRuntime) -> Result<(), Fail> {
-    let view = ImgRef::new_stride(PADDED.as_slice(), 3, 2, 4);
+    let view = padded_view();
     let mut inside = 0u32;
     for number in 0..256usize {
         let window = numbered(number);

@@ -1,17 +1,11 @@
 //! Every small window in every small window, for reading and for writing.
 
-use super::fixtures::window;
 use imgref::{ImgRef, ImgRefMut};
-use imgref_fixtures::PADDED;
+use imgref_fixtures::{PADDED, are_cleared, are_filled, numbered};
 use imgref_replay::{Window, into_window_at, window_at};
 
 // Each cell has its number plus 1.
 const CELLS: [u8; 13] = [1, 2, 3, 4, 5, 6, 7, 8, 9, 10, 11, 12, 13];
-
-// Each of the 256 windows with numbers from 0 to 3.
-fn numbered(number: usize) -> Window {
-    window([number % 4, number / 4 % 4, number / 16 % 4, number / 64 % 4])
-}
 
 fn is_in(window: Window, width: usize, height: usize) -> bool {
     window.left.saturating_add(window.width) <= width
@@ -172,37 +166,6 @@ fn each_window_of_every_small_image_is_read(rt: HostRuntime) {
     }
 }
 
-// Whether these cells are those of PADDED, but for 0 in a window.
-fn are_filled(cells: [u8; 9], window: Window) -> bool {
-    for (at, cell) in cells.iter().enumerate() {
-        let (x, y) = (at % 4, at / 4);
-        let is_column = x >= window.left && x.saturating_sub(window.left) < window.width;
-        let is_line = y >= window.top && y.saturating_sub(window.top) < window.height;
-        let due = if is_column && is_line {
-            Some(&0)
-        } else {
-            CELLS.get(at)
-        };
-        if Some(cell) != due {
-            return false;
-        }
-    }
-    true
-}
-
-// Whether these cells are those of PADDED, but for 0 in a stretch.
-fn are_cleared(cells: [u8; 9], stretch: (usize, usize)) -> bool {
-    let (first, count) = stretch;
-    for (at, cell) in cells.iter().enumerate() {
-        let is_written = at >= first && at.saturating_sub(first) < count;
-        let due = if is_written { Some(&0) } else { CELLS.get(at) };
-        if Some(cell) != due {
-            return false;
-        }
-    }
-    true
-}
-
 // The cells of PADDED once the pixels of what a path leads to are 0, or all its cells.
 fn written(path: &[Window], is_whole: bool) -> [u8; 9] {
     let mut cells = PADDED;
@@ -244,7 +207,9 @@ fn each_window_in_a_window_is_written(rt: HostRuntime) {
         assert!(rt; lends(&path, due, stretch), "pair {number}");
         let (filled, cleared) = (written(&path, false), written(&path, true));
         let is_well = match due {
-            Ok(window) => are_filled(filled, window) && are_cleared(cleared, stretch),
+            Ok(window) => {
+                are_filled(&filled, window) && are_cleared(&cleared, stretch.0, stretch.1)
+            }
             Err(_) => filled == PADDED && cleared == PADDED,
         };
         assert!(rt; is_well, "pair {number}");

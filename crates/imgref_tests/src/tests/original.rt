@@ -25,11 +25,8 @@ fn write_row(text: &mut String, row: &[u8]) -> Result<(), AllocError> {
 }
 
 // A buffer by its first cell and its length.
-fn write_buffer(text: &mut String, cells: &[u8], end: &str) -> Result<(), AllocError> {
-    if let Some(first) = cells.first() {
-        write!(text, " {first} {}{end}", cells.len())?;
-    }
-    Ok(())
+fn buffer(cells: &[u8]) -> (u8, usize) {
+    (cells.first().copied().unwrap_or(0), cells.len())
 }
 
 fn write_rows(text: &mut String, image: ImgRef<'_, u8>) -> Result<(), AllocError>
@@ -129,7 +126,6 @@ fn write_window(
     write!(text, " {left} {top} {width} {height}:")?;
     assert!(rt; image.is_valid() && image.has_window(left, top, width, height));
     let shared = image.sub_image(left, top, width, height);
-    write_buffer(text, shared.buf(), ",")?;
     let mut owner: ImgVec<u8> = Img::new_stride(
         image.buf().to_vec(alloc)?,
         image.width(),
@@ -137,25 +133,16 @@ fn write_window(
         image.stride(),
     );
     assert!(rt; owner.is_valid() && owner.has_window(left, top, width, height));
-    write_buffer(
-        text,
-        owner.sub_image_mut(left, top, width, height).buf(),
-        ",",
-    )?;
+    let owned = buffer(owner.sub_image_mut(left, top, width, height).buf());
     let mut lent = owner.as_mut();
     assert!(rt; lent.is_valid() && lent.has_window(left, top, width, height));
-    write_buffer(
-        text,
-        lent.sub_image_mut(left, top, width, height).buf(),
-        ",",
-    )?;
-    let lent = owner.as_mut();
+    let lent_on = buffer(lent.sub_image_mut(left, top, width, height).buf());
     assert!(rt; lent.is_valid() && lent.has_window(left, top, width, height));
-    write_buffer(
-        text,
-        lent.into_sub_image_mut(left, top, width, height).buf(),
-        ":",
-    )?;
+    let cut = buffer(lent.into_sub_image_mut(left, top, width, height).buf());
+    for (first, len) in [buffer(shared.buf()), owned, lent_on] {
+        write!(text, " {first} {len},")?;
+    }
+    write!(text, " {} {}:", cut.0, cut.1)?;
     assert!(rt; shared.is_valid());
     for pixel in shared.pixels() {
         write!(text, " {pixel}")?;

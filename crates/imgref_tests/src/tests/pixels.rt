@@ -203,16 +203,8 @@ fn every_small_size_has_its_pixels(rt: HostRuntime) -> Result<(), Fail> {
 }
 
 #[test]
-fn an_image_without_columns_has_no_pixel(rt: HostRuntime) -> Result<(), Fail> {
-    let mut cells = [9u8, 9];
-    let image = ImgRef::new_stride(cells.as_slice(), 0, 2, 1);
-    assert!(rt; image.is_valid());
-    assert!(rt; is_over(&mut image.pixels()) && is_over(&mut image.pixels_ref()));
-    let mut lent = ImgRefMut::new_stride(cells.as_mut_slice(), 0, 2, 1);
-    assert!(rt; lent.is_valid());
-    assert!(rt; is_over(&mut lent.pixels_mut()));
+fn no_pixel_has_the_sum_0(rt: HostRuntime) {
     let none: ImgRef<'_, u64> = ImgRef::new_stride(&[], 0, 3, 1);
     assert!(rt; none.is_valid());
     assert!(rt; sum_of(none) == 0);
-    Ok(())
 }

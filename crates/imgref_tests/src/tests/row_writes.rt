@@ -7,7 +7,7 @@ ghost use Rattle.imgref.specs.Image.{width_of, height_of, mut_layout, vec_layout
 
 use imgref::{Img, ImgRefMut, ImgVec};
 use imgref_examples::fill_last_row;
-use imgref_fixtures::{PADDED, SQUARE, cells_of, is_over, len_of, next_from, padded};
+use imgref_fixtures::{PADDED, cells_of, is_over, padded, square};
 use std::test::Fail;
 
 fn count_for_writing(image: &mut ImgVec<u8>) -> usize
@@ -76,46 +76,6 @@ fn the_last_row_is_filled(rt: HostRuntime) -> Result<(), Fail> {
 }
 
 #[test]
-fn rows_written_before_a_drop_stand(rt: HostRuntime) -> Result<(), Fail> {
-    // Each mix of the two ends: at each step the front where the bit is 0. After each number of
-    // steps the iterator is dropped.
-    for mix in 0..8u32 {
-        for steps in 0..5u32 {
-            let mut image: ImgVec<u8> = Img::new_stride(SQUARE.to_vec(rt.alloc())?, 3, 3, 4);
-            assert!(rt; image.is_valid());
-            let mut rows = image.rows_mut();
-            let mut front = 0usize;
-            let mut back = 3usize;
-            for step in 0..steps {
-                let at_front = mix >> step & 1 == 0;
-                let row = next_from(&mut rows, at_front);
-                assert!(rt; row.is_some() == (front < back), "step {step} of mix {mix}");
-                if let Some(row) = row {
-                    row.fill(100);
-                    if at_front {
-                        front = front.saturating_add(1);
-                    } else {
-                        back = back.saturating_sub(1);
-                    }
-                }
-            }
-            assert!(rt;
-                len_of(&rows) == back.saturating_sub(front),
-                "{steps} of mix {mix}"
-            );
-            drop(rows);
-            for (cell, now) in image.buf().as_slice().iter().enumerate() {
-                let row = cell / 4;
-                let written = cell % 4 < 3 && (row < front || row >= back);
-                let expected = if written { 100 } else { SQUARE[cell] };
-                assert!(rt; *now == expected, "cell {cell} after {steps} of mix {mix}");
-            }
-        }
-    }
-    Ok(())
-}
-
-#[test]
 fn rows_of_pixels_without_size(rt: HostRuntime) -> Result<(), Fail> {
     let mut cells = [(), (), (), (), ()];
     let mut image: ImgRefMut<'_, ()> = Img::new_stride(cells.as_mut_slice(), 2, 2, 3);
@@ -151,8 +111,8 @@ fn a_window_has_its_own_rows_for_writing(rt: HostRuntime) -> Result<(), Fail> {
 
 #[test]
 fn a_loop_writes_the_last_column(rt: HostRuntime) -> Result<(), Fail> {
-    let mut image: ImgVec<u8> = Img::new_stride(SQUARE.to_vec(rt.alloc())?, 3, 3, 4);
-    assert!(rt; image.is_valid());
+    let mut image = square(rt.alloc())?;
+    assert!(rt; image.is_valid() && image.width() == 3);
     clear_last_column(&mut image);
     assert!(rt; image.buf().as_slice() == [1u8, 2, 0, 0, 4, 5, 0, 0, 7, 8, 0].as_slice());
     Ok(())

@@ -92,15 +92,17 @@ fn rows_come_from_both_ends(rt: HostRuntime) -> Result<(), Fail> {
 }
 
 #[test]
-fn an_image_without_columns_has_no_row(rt: HostRuntime) -> Result<(), Fail> {
+fn an_image_without_columns_has_no_row_and_no_pixel(rt: HostRuntime) -> Result<(), Fail> {
     let mut cells = [9u8, 9];
     let view = Img::new_stride(cells.as_slice(), 0, 2, 1);
     assert!(rt; view.is_valid());
     assert!(rt; (view.height(), count_rows(view)) == (2, 0));
     assert!(rt; is_over(&mut view.rows()));
+    assert!(rt; is_over(&mut view.pixels()) && is_over(&mut view.pixels_ref()));
     let mut lent: ImgRefMut<'_, u8> = Img::new_stride(cells.as_mut_slice(), 0, 2, 1);
     assert!(rt; lent.is_valid());
     assert!(rt; is_over(&mut lent.rows()) && is_over(&mut lent.rows_mut()));
+    assert!(rt; lent.is_valid() && is_over(&mut lent.pixels_mut()));
     let empty: ImgRef<'_, u8> = Img::new_stride(&[], 0, 3, 1);
     assert!(rt; empty.is_valid());
     assert!(rt; (empty.height(), count_rows(empty)) == (3, 0));

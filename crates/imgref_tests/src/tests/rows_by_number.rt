@@ -6,7 +6,7 @@ ghost use Rattle.imgref.specs.Image.{width_of, height_of, layout_by, vec_layout}
 
 use imgref::{AsSlice, Img, ImgRefMut, ImgVec};
 use imgref_examples::fill_row_at;
-use imgref_fixtures::PADDED;
+use imgref_fixtures::{PADDED, padded};
 use std::test::Fail;
 
 fn row_of<C: AsSlice>(image: &Img<C>, y: usize) -> &[C::Item]
@@ -83,8 +83,8 @@ fn a_write_in_a_row_changes_its_cells(rt: HostRuntime) -> Result<(), Fail> {
 
 #[test]
 fn a_row_is_filled(rt: HostRuntime) -> Result<(), Fail> {
-    let mut owned: ImgVec<u8> = Img::new_stride(PADDED.to_vec(rt.alloc())?, 3, 2, 4);
-    assert!(rt; owned.is_valid());
+    let mut owned = padded(rt.alloc())?;
+    assert!(rt; owned.height() == 2);
     fill_row_at(&mut owned, 0, 0);
     assert!(rt; owned.buf().as_slice() == [0u8, 0, 0, 4, 5, 6, 7, 8, 9].as_slice());
     let mut cells = PADDED;

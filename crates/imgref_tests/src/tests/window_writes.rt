@@ -2,6 +2,7 @@
 
 use imgref::{AsMutSlice, AsSlice, Img, ImgRefMut, ImgVec, Window};
 use imgref_fixtures::padded;
+use std::process::Abort;
 use std::test::Fail;
 
 // Writes the cell at a place, where it is there.
@@ -15,6 +16,14 @@ fn set<C: AsMutSlice<Item = u8>>(image: &mut Img<C>, x: usize, y: usize, value: 
     true
 }
 
+// A window of the first column has these cells, and a write behind its pixel is in the image.
+fn check_column<C: AsMutSlice<Item = u8>>(rt: &impl Abort, image: &mut Img<C>, cells: &[u8]) {
+    assert!(rt; image.is_valid() && image.has_window(0, 0, 1, 2));
+    let mut window = image.sub_image_mut(0, 0, 1, 2);
+    assert!(rt; &**window.buf() == cells);
+    assert!(rt; set(&mut window, 1, 0, 9));
+}
+
 #[test]
 fn a_window_of_an_owner_for_writing_ends_at_its_last_pixel(rt: HostRuntime) -> Result<(), Fail> {
     let mut owner = padded(rt.alloc())?;
@@ -22,11 +31,7 @@ fn a_window_of_an_owner_for_writing_ends_at_its_last_pixel(rt: HostRuntime) -> R
     assert!(rt; owner.has_window(0, 1, 3, 1));
     assert!(rt; &**owner.sub_image_mut(0, 1, 3, 1).buf() == [5u8, 6, 7].as_slice());
     let mut owner = padded(rt.alloc())?;
-    assert!(rt; owner.is_valid());
-    assert!(rt; owner.has_window(0, 0, 1, 2));
-    let mut window = owner.sub_image_mut(0, 0, 1, 2);
-    assert!(rt; &**window.buf() == [1u8, 2, 3, 4, 5].as_slice());
-    assert!(rt; set(&mut window, 1, 0, 9));
+    check_column(&rt, &mut owner, &[1, 2, 3, 4, 5]);
     assert!(rt; owner.into_buf().as_slice() == [1u8, 9, 3, 4, 5, 6, 7, 8, 9].as_slice());
     Ok(())
 }
@@ -34,12 +39,7 @@ fn a_window_of_an_owner_for_writing_ends_at_its_last_pixel(rt: HostRuntime) -> R
 #[test]
 fn a_window_of_a_lent_image_for_writing_has_whole_strides(rt: HostRuntime) -> Result<(), Fail> {
     let mut owner = padded(rt.alloc())?;
-    let mut lent = owner.as_mut();
-    assert!(rt; lent.is_valid());
-    assert!(rt; lent.has_window(0, 0, 1, 2));
-    let mut window = lent.sub_image_mut(0, 0, 1, 2);
-    assert!(rt; &**window.buf() == [1u8, 2, 3, 4, 5, 6, 7, 8].as_slice());
-    assert!(rt; set(&mut window, 1, 0, 9));
+    check_column(&rt, &mut owner.as_mut(), &[1, 2, 3, 4, 5, 6, 7, 8]);
     assert!(rt; owner.into_buf().as_slice() == [1u8, 9, 3, 4, 5, 6, 7, 8, 9].as_slice());
     Ok(())
 }
