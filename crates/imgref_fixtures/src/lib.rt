@@ -3,11 +3,11 @@
 
 ghost use Rattle.std.specs.Prelude.{IfOk};
 ghost use Rattle.image_model.specs.Layout.{Fits};
-ghost use Rattle.imgref.specs.Image.{ref_layout, vec_layout};
+ghost use Rattle.imgref.specs.Image.{mut_layout, ref_layout, vec_layout};
 
 mod windows;
 
-use imgref::{Img, ImgRef, ImgVec};
+use imgref::{Img, ImgRef, ImgRefMut, ImgVec};
 use std::alloc::{AllocError, Global};
 use std::hash::{DefaultHasher, Hash, Hasher};
 use std::iter::{ExactSizeIterator, FusedIterator};
@@ -30,6 +30,13 @@ pub fn padded_view() -> ImgRef<'static, u8>
     ensures { Fits (ref_layout result) }
 {
     Img::new_stride(PADDED.as_slice(), 3, 2, 4)
+}
+
+// The same over these cells, for writing.
+pub fn padded_mut(cells: &mut [u8; 9]) -> ImgRefMut<'_, u8>
+    ensures { Fits (mut_layout result) }
+{
+    Img::new_stride(cells.as_mut_slice(), 3, 2, 4)
 }
 
 pub fn square(alloc: Global) -> Result<ImgVec<u8>, AllocError>

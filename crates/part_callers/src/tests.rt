@@ -2,8 +2,8 @@ use crate::{
     fill_first_band, fill_next_tile, fill_through_path, mosaic_by_tiles, put_through_path,
 };
 use image_tiles::TilesMut;
-use imgref::{ImgRefMut, Shape, Window};
-use imgref_fixtures::{PADDED, padded};
+use imgref::{Shape, Window};
+use imgref_fixtures::{PADDED, padded, padded_mut};
 use imgref_replay::window_at;
 use std::test::Fail;
 
@@ -26,9 +26,7 @@ const PATH: [Window; 2] = [
 #[test]
 fn tiles_are_filled_one_by_one(rt: HostRuntime) {
     let mut cells = PADDED;
-    let image: ImgRefMut<'_, u8> = ImgRefMut::new_stride(cells.as_mut_slice(), 3, 2, 4);
-    assert!(rt; image.is_valid());
-    let mut tiles = TilesMut::new(image, 2, 1);
+    let mut tiles = TilesMut::new(padded_mut(&mut cells), 2, 1);
     assert!(rt; tiles.remaining() > 0);
     fill_next_tile(&mut tiles, 0);
     assert!(rt; tiles.remaining() > 0);
@@ -44,8 +42,7 @@ fn writes_through_a_path(rt: HostRuntime) -> Result<(), Fail> {
     put_through_path(&mut owner, PATH.as_slice(), (0, 1), 0);
     assert!(rt; owner.into_buf().as_slice() == [1u8, 2, 3, 4, 5, 6, 0, 8, 9].as_slice());
     let mut cells = PADDED;
-    let mut lent: ImgRefMut<'_, u8> = ImgRefMut::new_stride(cells.as_mut_slice(), 3, 2, 4);
-    assert!(rt; lent.is_valid());
+    let mut lent = padded_mut(&mut cells);
     assert!(rt; window_at(lent.as_ref(), PATH.as_slice()).is_ok());
     fill_through_path(&mut lent, PATH.as_slice(), 0);
     assert!(rt; cells == [1u8, 2, 0, 4, 5, 6, 0, 8, 9]);
@@ -58,8 +55,7 @@ fn a_band_is_filled(rt: HostRuntime) -> Result<(), Fail> {
     fill_first_band(&mut owner, 1, 0);
     assert!(rt; owner.into_buf().as_slice() == [0u8, 0, 0, 4, 5, 6, 7, 8, 9].as_slice());
     let mut cells = PADDED;
-    let mut lent: ImgRefMut<'_, u8> = ImgRefMut::new_stride(cells.as_mut_slice(), 3, 2, 4);
-    assert!(rt; lent.is_valid());
+    let mut lent = padded_mut(&mut cells);
     fill_first_band(&mut lent, 5, 0);
     assert!(rt; cells == [0u8, 0, 0, 4, 0, 0, 0, 8, 9]);
     Ok(())
