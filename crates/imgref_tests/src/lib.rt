@@ -1,6 +1,6 @@
 //! The tests of what `imgref` shows and writes pixel by pixel: images, places, rows, pixels, windows
-//! and equality, and the comparison with the Rust crate. They stand apart from the code that they
-//! test, since a crate with tests is proved twice.
+//! and equality. They stand apart from the code that they test, since a crate with tests is proved
+//! twice.
 #![tactic(auto)]
 
 #[cfg(test)]

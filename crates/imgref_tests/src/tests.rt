@@ -1,12 +1,10 @@
 //! A file a subject.
 
-mod answers;
 mod changes;
 mod equality;
 mod images;
 mod keys;
 mod nested_windows;
-mod original;
 mod padded;
 mod pixel_writes;
 mod pixels;

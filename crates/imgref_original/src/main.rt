@@ -1,16 +1,24 @@
-//! The port answers what the Rust crate does: `answers` has the crate's lines, and this test writes
-//! the port's, in the same order.
+//! The port asked what the Rust crate `imgref` 1.12.3 was asked: `stdout` of this crate's folder has
+//! the crate's answers, which this program must print too.
+//!
+//! `original/answers.rs` wrote them: built over the crate's own sources (feature `deprecated`) with
+//! rustc 1.95, with and without debug assertions, which gave the same lines. To make them again: a
+//! new cargo project over the crate with that file as its `src/main.rs`, and `cargo run`.
+//!
+//! Each image holds the cells 1, 2, 3 and so on. Its line has the number of cells, the width, the
+//! height and the stride. A `/` ends a row. The line of a window has left, top, width and height;
+//! the first cell and the length of its buffer by `sub_image`, by `sub_image_mut` of an owner and
+//! of a lent image, and by `into_sub_image_mut`; and its pixels. What isn't valid has no line.
+#![tactic(auto)]
 
 ghost use Rattle.image_model.specs.Layout.{Fits};
 ghost use Rattle.imgref.specs.Image.{ref_layout, vec_layout};
 
-use super::answers::ANSWERS;
 use imgref::{Img, ImgRef, ImgVec};
 use imgref_fixtures::{PADDED, next_from};
 use std::alloc::{AllocError, Global};
 use std::fmt::Write;
-use std::process::Abort;
-use std::test::Fail;
+use std::process::ExitCode;
 
 fn write_cells(text: &mut String, cells: &[u8]) -> Result<(), AllocError> {
     for cell in cells {
@@ -116,7 +124,6 @@ fn write_places(text: &mut String, image: ImgRef<'_, u8>) -> Result<(), AllocErr
 // The buffers of a window by `sub_image`, by `sub_image_mut` of an owner and of a lent image, and by
 // `into_sub_image_mut`; and its pixels.
 fn write_window(
-    rt: &impl Abort,
     alloc: Global,
     text: &mut String,
     image: ImgRef<'_, u8>,
@@ -124,7 +131,9 @@ fn write_window(
 ) -> Result<(), AllocError> {
     let (left, top, width, height) = at;
     write!(text, " {left} {top} {width} {height}:")?;
-    assert!(rt; image.is_valid() && image.has_window(left, top, width, height));
+    if !image.is_valid() || !image.has_window(left, top, width, height) {
+        return Ok(());
+    }
     let shared = image.sub_image(left, top, width, height);
     let mut owner: ImgVec<u8> = Img::new_stride(
         image.buf().to_vec(alloc)?,
@@ -132,18 +141,26 @@ fn write_window(
         image.height(),
         image.stride(),
     );
-    assert!(rt; owner.is_valid() && owner.has_window(left, top, width, height));
+    if !owner.is_valid() || !owner.has_window(left, top, width, height) {
+        return Ok(());
+    }
     let owned = buffer(owner.sub_image_mut(left, top, width, height).buf());
     let mut lent = owner.as_mut();
-    assert!(rt; lent.is_valid() && lent.has_window(left, top, width, height));
+    if !lent.is_valid() || !lent.has_window(left, top, width, height) {
+        return Ok(());
+    }
     let lent_on = buffer(lent.sub_image_mut(left, top, width, height).buf());
-    assert!(rt; lent.is_valid() && lent.has_window(left, top, width, height));
+    if !lent.is_valid() || !lent.has_window(left, top, width, height) {
+        return Ok(());
+    }
     let cut = buffer(lent.into_sub_image_mut(left, top, width, height).buf());
     for (first, len) in [buffer(shared.buf()), owned, lent_on] {
         write!(text, " {first} {len},")?;
     }
     write!(text, " {} {}:", cut.0, cut.1)?;
-    assert!(rt; shared.is_valid());
+    if !shared.is_valid() {
+        return Ok(());
+    }
     for pixel in shared.pixels() {
         write!(text, " {pixel}")?;
     }
@@ -151,7 +168,6 @@ fn write_window(
 }
 
 fn write_windows(
-    rt: &impl Abort,
     alloc: Global,
     text: &mut String,
     name: &str,
@@ -162,7 +178,7 @@ fn write_windows(
             for width in 1..=image.width() - left {
                 for height in 1..=image.height() - top {
                     write!(text, "\n{name}")?;
-                    write_window(rt, alloc, text, image, (left, top, width, height))?;
+                    write_window(alloc, text, image, (left, top, width, height))?;
                 }
             }
         }
@@ -170,34 +186,35 @@ fn write_windows(
     Ok(())
 }
 
-fn write_image(
-    rt: &impl Abort,
-    alloc: Global,
-    text: &mut String,
-    image: ImgRef<'_, u8>,
-) -> Result<(), AllocError> {
+fn write_image(alloc: Global, text: &mut String, image: ImgRef<'_, u8>) -> Result<(), AllocError> {
     let (width, height, stride) = (image.width(), image.height(), image.stride());
     let cells = image.buf().len();
     write!(text, "image {cells} {width} {height} {stride}\n")?;
-    assert!(rt; image.is_valid());
+    if !image.is_valid() {
+        return Ok(());
+    }
     write_rows(text, image)?;
     let mut owner: ImgVec<u8> = Img::new_stride(image.buf().to_vec(alloc)?, width, height, stride);
-    assert!(rt; owner.is_valid());
+    if !owner.is_valid() {
+        return Ok(());
+    }
     fill_rows(&mut owner);
     write!(text, "\nrows written from both ends")?;
     write_cells(text, owner.buf())?;
     write_pixels(text, image)?;
-    assert!(rt; owner.is_valid());
+    if !owner.is_valid() {
+        return Ok(());
+    }
     count_up(&mut owner);
     write!(text, "\npixels written")?;
     write_cells(text, owner.buf())?;
     write!(text, "\nplaces")?;
     write_places(text, image)?;
-    write_windows(rt, alloc, text, "window", image)?;
+    write_windows(alloc, text, "window", image)?;
     writeln!(text)
 }
 
-fn write_answers(rt: &impl Abort, alloc: Global, text: &mut String) -> Result<(), AllocError> {
+fn write_answers(alloc: Global, text: &mut String) -> Result<(), AllocError> {
     let images = [
         Img::new_stride(&PADDED[..0], 0, 0, 1),
         Img::new_stride(&PADDED[..2], 0, 2, 1),
@@ -212,30 +229,34 @@ fn write_answers(rt: &impl Abort, alloc: Global, text: &mut String) -> Result<()
         Img::new_stride(&PADDED[..9], 3, 2, 4),
     ];
     for image in images {
-        write_image(rt, alloc, text, image)?;
+        write_image(alloc, text, image)?;
     }
     let outer = Img::new_stride(PADDED.as_slice(), 3, 2, 4);
-    assert!(rt; outer.is_valid() && outer.has_window(1, 0, 2, 2));
+    if !outer.is_valid() || !outer.has_window(1, 0, 2, 2) {
+        return Ok(());
+    }
     write!(text, "in the window 1 0 2 2 of 9 3 2 4")?;
-    write_windows(rt, alloc, text, "window", outer.sub_image(1, 0, 2, 2))?;
+    write_windows(alloc, text, "window", outer.sub_image(1, 0, 2, 2))?;
     let mut held = PADDED;
     let mut written = Img::new_stride(held.as_mut_slice(), 3, 2, 4);
     written[(1usize, 1usize)] = 0;
     written[(3u32, 0u32)] = 100;
-    assert!(rt; written.is_valid());
+    if !written.is_valid() {
+        return Ok(());
+    }
     written.row_mut(1)[0] = 50;
     write!(text, "\nwritten at places")?;
     write_cells(text, &held)?;
     writeln!(text)
 }
 
-#[test]
-fn the_port_answers_as_the_crate_does(rt: HostRuntime) -> Result<(), Fail> {
+/// Prints the port's answers.
+fn main(rt: HostRuntime) -> ExitCode {
     let mut text = String::new(rt.alloc());
-    write_answers(&rt, rt.alloc(), &mut text)?;
-    for (line, wanted) in text.lines().zip(ANSWERS.lines()) {
-        assert_eq!(rt; line, wanted);
+    let is_written = write_answers(rt.alloc(), &mut text).is_ok();
+    if is_written && print!(rt; "{text}").is_ok() {
+        ExitCode::SUCCESS
+    } else {
+        ExitCode::FAILURE
     }
-    assert_eq!(rt; text.len(), ANSWERS.len());
-    Ok(())
 }

@@ -1,4 +1,4 @@
-//! Writes what the Rust crate `imgref` 1.12.3 answers, line by line: the table of `src/tests/answers.rt`.
+//! Writes what the Rust crate `imgref` 1.12.3 answers, line by line: the file `stdout` of this crate.
 //!
 //! Every image holds the cells 1, 2, 3 and so on, so a buffer is told by its first cell and its length.
 use imgref::{Img, ImgRef, ImgRefMut, ImgVec};
