@@ -9,21 +9,17 @@ use Rattle.imgref_replay.specs.declared.commands.Refusal.{Refusal}
 use Rattle.imgref_replay.specs.declared.commands.Refusal.TheVariants.{NoImage, WindowOutside, PlaceOutside, SizesDiffer, NoTile}
 use Rattle.imgref_run.specs.Line.{image_text}
 
--- the number that a refusal is printed as
-abbrev pub refusal_number : Refusal → ℕ
-refusal_number NoImage = 1
-refusal_number WindowOutside = 2
-refusal_number PlaceOutside = 3
-refusal_number SizesDiffer = 4
-refusal_number NoTile = 5
-
 -- the line of a reply
 abbrev pub reply_text : Reply ℕ → List ℕ
 reply_text (Pixel value) = codes "pixel " ++ decimal value
 reply_text (Counted number) = codes "count " ++ decimal number
 reply_text (Truth truth) = if truth then codes "true" else codes "false"
 reply_text Done = codes "done"
-reply_text (Refused refusal) = codes "refused " ++ decimal (refusal_number refusal)
+reply_text (Refused NoImage) = codes "refused 1"
+reply_text (Refused WindowOutside) = codes "refused 2"
+reply_text (Refused PlaceOutside) = codes "refused 3"
+reply_text (Refused SizesDiffer) = codes "refused 4"
+reply_text (Refused NoTile) = codes "refused 5"
 
 -- a line with its line feed
 abbrev pub ended_line : List ℕ → List ℕ

@@ -11,7 +11,7 @@ ghost use Rattle.imgref_run.specs.Fault.{writer_failures};
 ghost use Rattle.text_model.specs.Fields.{IsPixel};
 ghost use Rattle.imgref_run.specs.Line.{line_of, image_text, IsImage};
 ghost use Rattle.devices.specs.Whole.{AppendsBeginning};
-ghost use Rattle.imgref_run.specs.Output.{refusal_number, reply_text, ended_line, output_text};
+ghost use Rattle.imgref_run.specs.Output.{reply_text, ended_line, output_text};
 ghost use Rattle.imgref_replay.specs.Commands.{AllFit, layouts_of};
 
 use crate::fault::RunFault;
@@ -21,15 +21,16 @@ use imgref_replay::{Refusal, Reply};
 use std::alloc::{AllocError, Global};
 use std::io::Write;
 
-fn number_of(refusal: Refusal) -> u8
-    ensures { result ≡ refusal_number refusal }
+// The line of a refused command.
+fn refused_line(refusal: Refusal) -> &'static [u8]
+    ensures { result.now ≡ reply_text (Reply.Refused refusal) }
 {
     match refusal {
-        Refusal::NoImage => 1,
-        Refusal::WindowOutside => 2,
-        Refusal::PlaceOutside => 3,
-        Refusal::SizesDiffer => 4,
-        Refusal::NoTile => 5,
+        Refusal::NoImage => b"refused 1",
+        Refusal::WindowOutside => b"refused 2",
+        Refusal::PlaceOutside => b"refused 3",
+        Refusal::SizesDiffer => b"refused 4",
+        Refusal::NoTile => b"refused 5",
     }
 }
 
@@ -86,10 +87,7 @@ fn push_reply(text: &mut Vec<u8>, reply: Reply<u8>) -> Result<(), AllocError>
         Reply::Truth(true) => text.extend_from_slice(b"true")?,
         Reply::Truth(false) => text.extend_from_slice(b"false")?,
         Reply::Done => text.extend_from_slice(b"done")?,
-        Reply::Refused(refusal) => {
-            text.extend_from_slice(b"refused")?;
-            push_pixel(text, number_of(refusal))?;
-        }
+        Reply::Refused(refusal) => text.extend_from_slice(refused_line(refusal))?,
     }
     text.extend_from_slice(b"\n")
 }
