@@ -1,6 +1,6 @@
 //! Pixels changed in place: each by a closure, and rows that change places.
 
-use imgref::{AsMutSlice, AsSlice, Img, ImgRefMut, ImgVec};
+use imgref::{AsMutSlice, Img, ImgRefMut, ImgVec};
 use imgref_fixtures::{PADDED, SQUARE, padded, square};
 use std::alloc::{AllocError, Global};
 use std::test::Fail;
