@@ -1,6 +1,5 @@
 -- What proofs by hand read of a function's code: its type arguments, the first arm of a switch, and the type of a local.
-use Prim.Native.Nat.{ℕ, zero, suc}
-use mathlib.Core.List.{List, [], ◌∷◌}
+use Rattle.std.proofs.Common.{ℕ, zero, suc, List, [], ◌∷◌}
 use mir.Syntax.{Args, Dict, Body, Local, Ty, local, ty_unit, a_type, dcons, dnil, skip, seq, switch, arm}
 use denote.Param.{layouts, bounded}
 use denote.RattleType.{RattleType}

@@ -1,23 +1,10 @@
 -- Machine values of declared types: the one that is related to a value, and a struct of lent cells and one field more. Assumes `Logic`.
-use mathlib.Core.Path.{refl, subst}
-use mathlib.Core.List.{List, [], ◌∷◌}
-use seplogic.Ra.Ura.{Ura}
-use base.Fml.{Lft}
-use base.Logic.{ent, emp}
-use mir.Syntax.{Sym, Lifetime}
-use mir.Val.{Val, vstruct, vcons, vnil}
-use types.Logic.{Logic, sem}
-use types.Kit.{‵, ◌$◌, ◌∵◌, !, qed, move, keep, drop, fjoin, fpack, fpick, fsplit, feq_i, rewrite, use0, done}
-use denote.Laws.{Is, Typed, shows}
+use mir.Syntax.{Sym}
 use denote.Lowered.{Lowered}
-use denote.Model.Fixed.{row_Makes}
-use denote.Param.Laws.{Laws}
 use denote.Param.Plain.{IsPlain}
-use denote.RattleType.{RattleType, Valss}
-use denote.Ref.{MutBor}
-use denote.Slice.{MutSlice}
-use denote.Steps.{nothing, owned, peeks}
-use denote.Struct.Struct.{Shape, Struct, within}
+use denote.Struct.Struct.{Shape}
+use Rattle.std.proofs.Common.{refl, subst, List, [], ◌∷◌, MutBor}
+use Rattle.borrow_laws.proofs.Walking.{Ura, Lft, ent, emp, Lifetime, Val, vstruct, vcons, vnil, Logic, sem, ‵, ◌$◌, ◌∵◌, !, qed, move, keep, drop, fjoin, fpack, fpick, fsplit, feq_i, rewrite, use0, done, Is, Typed, shows, row_Makes, Laws, RattleType, Valss, MutSlice, nothing, owned, peeks, Struct, within}
 use Rattle.borrow_laws.proofs.Options.{lent_val}
 
 -- of a declared type: what is related to x is its one machine value, and that has the type

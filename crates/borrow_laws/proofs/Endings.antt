@@ -1,12 +1,6 @@
 -- The final value of one name by that of another. Assumes `Logic`.
-use mathlib.Core.List.{[], ◌∷◌}
-use seplogic.Ra.Ura.{Ura}
-use base.Logic.{SProp, ent, emp, sep, wand, all, all_e, apply∗}
-use base.Fml.{GName, fres}
-use types.Logic.{Logic, sem}
-use types.Kit.{‵, raw, ◌$◌, ◌∵◌, !, qed, by, move, use1, use2, join, each, assume, done}
-use denote.RattleType.{RattleType}
-use denote.Follow.{follows_both, both_by}
+use Rattle.std.proofs.Common.{[], ◌∷◌}
+use Rattle.borrow_laws.proofs.Walking.{Ura, SProp, ent, emp, sep, wand, all, all_e, apply∗, GName, fres, Logic, sem, ‵, raw, ◌$◌, ◌∵◌, !, qed, by, move, use1, use2, join, each, assume, done, RattleType, follows_both, both_by}
 use Rattle.borrow_laws.specs.Endings.{ends_as}
 
 module _ {M : Type 1} {𝓤 : Ura M} (𝓛 : Logic 𝓤) where

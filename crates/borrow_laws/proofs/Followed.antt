@@ -1,11 +1,7 @@
 -- What follows an answer that lends or lends nothing. Assumes `Logic`.
-use mathlib.Core.Option.{some, none}
-use seplogic.Ra.Ura.{Ura}
-use base.Fml.{GName}
-use base.Logic.{ent, id⊢}
-use types.Logic.{Logic, sem}
-use denote.Follow.{follows, follows_by, follows_if}
-use denote.RattleType.{RattleType}
+use Rattle.borrow_laws.proofs.Walking.{none, Ura, GName, ent, id⊢, Logic, sem, follows, follows_if, RattleType}
+use mathlib.Core.Option.{some}
+use denote.Follow.{follows_by}
 
 module _ {M : Type 1} {𝓤 : Ura M} (𝓛 : Logic 𝓤) (R T : RattleType) (γ : GName) (F : T.Denot → R.Denot) (v : R.Denot) where
   open 𝓛 use {A}

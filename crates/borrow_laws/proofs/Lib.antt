@@ -1,3 +1,4 @@
+pub mod Walking
 pub mod Lifetimes
 pub mod Endings
 pub mod Options

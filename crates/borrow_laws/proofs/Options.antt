@@ -1,23 +1,7 @@
 -- What an `Option` of one machine value holds: none, a `&mut`, or a slice for writing. Assumes `Logic`.
-use mathlib.Core.Path.{◌≡◌, refl, ap, ◌∙◌}
-use mathlib.Core.List.{List, [], ◌∷◌, ◌++◌}
-use mathlib.Core.Logic.{◌⊎◌, inl, inr}
-use lib.ListN.{length}
-use seplogic.Ra.Ura.{Ura}
-use base.Fml.{Lft, feq}
-use base.Logic.{ent, sep}
-use mir.Syntax.{Lifetime}
-use mir.Val.{Val, vptr, of_list}
-use types.Kit.{‵, ◌$◌, ◌∵◌, !, qed, move, drop, fsplit, fsplit3, fjoin3, fpick, feq_i, feq_l, rewrite, done}
-use types.Logic.{Logic, sem}
-use types.Match.{live}
-use denote.Laws.{shows, Is}
-use denote.RattleType.{RattleType}
-use denote.Ref.{MutRef, MutBor}
-use denote.Slice.{MutSlice, slice_val}
-use denote.Steps.{peeks}
-use Rattle.std.specs.Prelude.{Option, Some, None}
+use Rattle.std.proofs.Common.{◌≡◌, refl, ap, ◌∙◌, List, [], ◌∷◌, ◌++◌, ◌⊎◌, inl, inr, length, MutBor, Option, Some, None}
 use Rattle.std.specs.contracts.option.Option as OP
+use Rattle.borrow_laws.proofs.Walking.{Ura, Lft, feq, ent, sep, Lifetime, Val, vptr, of_list, ‵, ◌$◌, ◌∵◌, !, qed, move, drop, fsplit, fsplit3, fjoin3, fpick, feq_i, feq_l, rewrite, done, Logic, sem, live, shows, Is, RattleType, MutRef, MutSlice, slice_val, peeks}
 
 -- there is none, or there is one
 pub none_or_some : {X : Type 0} (m : Option X) → (m ≡ None) ⊎ ((x : X) × (m ≡ Some x))

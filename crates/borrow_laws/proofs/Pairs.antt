@@ -1,17 +1,7 @@
 -- A pair of what two machine values hold: made, and taken apart. Assumes `Logic`.
-use mathlib.Core.Path.{◌≡◌, refl, ◌∙◌}
-use mathlib.Core.List.{List, [], ◌∷◌, ◌++◌}
-use seplogic.Ra.Ura.{Ura}
-use base.Logic.{ent, sep}
-use mir.Val.{Val, vstruct, vcons, vnil, of_list}
-use types.Logic.{Logic, sem}
-use types.Kit.{‵, ◌$◌, ◌∵◌, !, qed, move, keep, drop, fjoin, fpack, fsplit, fpick, feq_i, rewrite, done}
-use denote.Laws.{Is, shows}
-use denote.RattleType.{RattleType, Valss}
-use denote.Steps.{nothing, peeks}
+use Rattle.std.proofs.Common.{◌≡◌, refl, ◌∙◌, List, [], ◌∷◌, ◌++◌}
+use Rattle.borrow_laws.proofs.Walking.{Ura, ent, sep, Val, vstruct, vcons, vnil, of_list, Logic, sem, ‵, ◌$◌, ◌∵◌, !, qed, move, keep, drop, fjoin, fpack, fsplit, fpick, feq_i, rewrite, done, Is, shows, RattleType, Valss, nothing, peeks, within, Tuple, tuple_type}
 use denote.Struct.Declared.{shape}
-use denote.Struct.Struct.{within}
-use denote.Struct.Tuple.{Tuple, tuple_type}
 
 abbrev pub pair_val : Val → Val → Val
 pair_val v w = vstruct (vcons v (vcons w vnil))

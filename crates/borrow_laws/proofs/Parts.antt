@@ -1,20 +1,7 @@
 -- Lent cells that are cut in two, and one part again, where a piece is let go: the final cells of the whole. Assumes `Logic`.
-use mathlib.Core.Path.{refl}
-use mathlib.Core.List.{List, [], ◌∷◌}
-use seplogic.Ra.Ura.{Ura}
-use mir.Syntax.{Lifetime}
-use mir.Val.{Val}
-use base.Fml.{Lft, GName, fres, fobs}
-use base.Logic.{SProp, ent, sep, wand, all, all_e, apply∗}
-use base.Stored.{Gv, coded_list}
-use types.Kit.{‵, raw, ◌⊛◌, ◌$◌, ◌∵◌, !, qed, by, move, keep, drop, split, join, each, assume, fsplit3, rewrite, use1, use2, done}
-use types.Logic.{Logic, sem}
-use denote.Array.{Array}
-use denote.Follow.{follows_both, both_by}
-use denote.FollowSlice.{heres_id}
-use denote.RattleType.{RattleType}
-use denote.Ref.{MutBor}
-use denote.Slice.{MutSlice}
+use Rattle.std.proofs.Common.{refl, List, [], ◌∷◌, MutBor}
+use Rattle.borrow_laws.proofs.Walking.{Ura, Lifetime, Val, Lft, GName, fres, fobs, SProp, ent, sep, wand, all, all_e, apply∗, coded_list, ‵, raw, ◌⊛◌, ◌$◌, ◌∵◌, !, qed, by, move, keep, drop, split, join, each, assume, fsplit3, rewrite, use1, use2, done, Logic, sem, Array, follows_both, both_by, heres_id, RattleType, MutSlice}
+use base.Stored.{Gv}
 
 module _ {M : Type 1} {𝓤 : Ura M} (𝓛 : Logic 𝓤) (R : RattleType) where
   open 𝓛 use {A}

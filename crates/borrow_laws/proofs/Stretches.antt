@@ -1,32 +1,10 @@
 -- A stretch of a lent slice is lent on, and the slice follows it.
-use mathlib.Core.Path.{◌≡◌, refl, sym, ap, ◌∙◌}
-use Prim.Native.Nat.{ℕ, zero, suc, ◌+◌, ◌*◌, ◌^◌, ◌<◌}
-use native.Mathlib.Nat.{zero-mul, suc-mul}
-use native.Mathlib.Omega.{arith}
-use mathlib.Core.List.{List, [], ◌∷◌, ◌++◌}
-use lib.ListN.{length, take, drop as drop_list, take-append-drop, length-append}
-use lib.Seq.{drop-drop}
-use seplogic.Ra.Ura.{Ura}
-use base.Logic.{SProp, ent, sep, ex}
-use base.Stored.{coded_list}
-use base.Fml.{Lft, GName, Share, flft, fobs, fbor}
-use mir.Syntax.{Lifetime}
-use mir.Val.{Val}
+use Rattle.std.proofs.Common.{◌≡◌, refl, sym, ap, ◌∙◌, ℕ, zero, suc, ◌+◌, ◌*◌, ◌^◌, ◌<◌, zero-mul, suc-mul, arith, List, [], ◌∷◌, ◌++◌, length, take, drop as drop_list, take-append-drop, length-append, drop-drop}
+use Rattle.borrow_laws.proofs.Walking.{Ura, SProp, ent, sep, ex, coded_list, Lft, GName, Share, flft, fobs, fbor, Lifetime, Val, Logic, sem, cells, Arr, takes_part, open_ref, Item, ‵, ◌⊛◌, later, some, ◌$◌, ◌∵◌, !, qed, move, drop, split, split3, join, group, fsplit, fsplit3, fjoin, feq_i, feq_l, rewrite, updating, use1, use2, await, pick, now, show, done, Array, follows, heres_id, mem, RattleType, MutSlice, Room, slice_val, at, cut_app, join_app}
 use prog.Memory.{capped}
 use prog.Capped.{capped_is}
-use types.Logic.{Logic, sem}
-use types.SemTy.{cells, Arr}
 use types.SemTy.{Body as Borrowed}
-use types.Follow.{takes_part}
-use types.Mut.{open_ref}
-use types.Kit.{Item, ‵, ◌⊛◌, later, some, ◌$◌, ◌∵◌, !, qed, move, drop, split, split3, join, group, fsplit, fsplit3, fjoin, feq_i, feq_l, rewrite, updating, use1, use2, await, pick, now, show, done}
-use denote.Array.{Array}
-use denote.Follow.{follows}
-use denote.FollowSlice.{heres_id, slice_of}
-use denote.Memory.{mem}
-use denote.RattleType.{RattleType}
-use denote.Slice.{MutSlice, Room, slice_val}
-use borrow.Table.Elements.{at, cut_app, join_app}
+use denote.FollowSlice.{slice_of}
 
 -- where the product fits a word, the count is zero or the size fits too
 pub uncapped : (i k : ℕ) → i * k < 2 ^ 64 → i * capped k ≡ i * k

@@ -1,6 +1,5 @@
 -- Grids that agree by the pixel's own equality.
-use Rattle.std.proofs.Common.{◌≡◌, ℕ, zero, suc, ◌+◌, ◌-◌, ◌*◌, ◌<◌, Bool, true, false, cond, List, [], ◌∷◌, ◌++◌, map, Some, None, Option, refl, sym, ap, ◌∙◌, subst, arith}
-use Rattle.std.specs.Prelude.{IsTrue}
+use Rattle.std.proofs.Common.{◌≡◌, ℕ, zero, suc, ◌+◌, ◌-◌, ◌*◌, ◌<◌, Bool, true, false, cond, List, [], ◌∷◌, ◌++◌, map, Some, None, Option, refl, sym, ap, ◌∙◌, subst, arith, IsTrue}
 use Rattle.std.specs.List.{slice_get, AllZip, filter_map, flat_map, range_with_len, cons_option}
 use Rattle.std.specs.Cmp.{IsEquivalence, IsPartialEquivalence}
 use Rattle.image_model.specs.Layout.{Layout, Fits, pixel}

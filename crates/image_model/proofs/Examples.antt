@@ -1,8 +1,7 @@
 -- Worked images, computed: what the definitions say of small layouts that a reader can check by hand.
-use Rattle.std.proofs.Common.{◌≡◌, ◌^◌, ◌+◌, ◌-◌, ◌*◌, ◌<◌, true, false, ℕ, zero, suc, Some, None, List, [], ◌∷◌, refl, set, arith}
+use Rattle.std.proofs.Common.{◌≡◌, ◌^◌, ◌+◌, ◌-◌, ◌*◌, ◌<◌, true, false, ℕ, zero, suc, Some, None, List, [], ◌∷◌, refl, set, arith, nat_eq}
 use Rattle.std.specs.List.{slice_get}
 use Rattle.std.specs.Hash as fed
-use Rattle.std.specs.Prelude.{nat_eq}
 use Rattle.image_model.specs.Layout.{Layout, layout, is_fitting, cell_of, pixel}
 use Rattle.image_model.specs.Grid.{grid_of, patch, uniform, view}
 use Rattle.image_model.specs.Rows.{rows, row, joined_rows, pixels, grid_rows, grid_pixels, grid_joined_rows}

@@ -1,8 +1,7 @@
 -- Rows and joined rows as stretches of the cells.
-use Rattle.std.proofs.Common.{◌==◌, false, cond, subst, ◌≡◌, ℕ, zero, suc, ◌+◌, ◌-◌, ◌*◌, ◌<◌, ◌≤◌, List, [], ◌∷◌, ◌++◌, length, take, drop, map, refl, sym, ap, ◌∙◌, arith, add-one, add-zero, inl, inr, add_assoc, length-append, length-take, length-drop}
+use Rattle.std.proofs.Common.{◌==◌, false, cond, subst, ◌≡◌, ℕ, zero, suc, ◌+◌, ◌-◌, ◌*◌, ◌<◌, ◌≤◌, List, [], ◌∷◌, ◌++◌, length, take, drop, map, refl, sym, ap, ◌∙◌, arith, add-one, add-zero, inl, inr, add_assoc, length-append, length-take, length-drop, Some, Option}
 use Rattle.std.specs.List.{slice_get, filter_map, flat_map, range_with_len}
 use Rattle.std.proofs.lemmas.List.{drop_more, drop_all, append-nil}
-use Rattle.std.specs.Prelude.{Some, Option}
 use Rattle.std.specs.List.{cons_option}
 use Rattle.std.proofs.lemmas.List.Concat.{flat_map-append}
 use Rattle.std.proofs.lemmas.List.FromFn.{map-range_with_len_more, length-map-range_with_len, get_or-map-range_with_len}

@@ -1,6 +1,5 @@
 -- The tiles of a size, by their numbers: each is inside, and each place lies in exactly one.
-use Rattle.std.proofs.Common.{◌≡◌, ℕ, zero, suc, ◌+◌, ◌-◌, ◌*◌, ◌/◌, ◌%◌, ◌<◌, ◌≤◌, true, inl, inr, List, [], ◌∷◌, ◌++◌, length, Some, refl, sym, ap, ◌∙◌, subst, arith, min, length-append, get_or}
-use Rattle.std.specs.Prelude.{IsTrue, Option, None}
+use Rattle.std.proofs.Common.{◌≡◌, ℕ, zero, suc, ◌+◌, ◌-◌, ◌*◌, ◌/◌, ◌%◌, ◌<◌, ◌≤◌, true, inl, inr, List, [], ◌∷◌, ◌++◌, length, Some, refl, sym, ap, ◌∙◌, subst, arith, min, length-append, get_or, IsTrue, Option, None}
 use Rattle.std.specs.Option.{IsSomeAnd}
 use Rattle.std.specs.List.{All, slice_get, flat_map, range_with_len}
 use Rattle.std.proofs.lemmas.Bool.{cases_lt, and_from, le-leb}

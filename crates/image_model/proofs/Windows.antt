@@ -1,8 +1,7 @@
 -- A window's cells among its parent's: which they are, what they show, and what a write to them does.
-use Rattle.std.proofs.Common.{true, ◌≡◌, ◌≢◌, ℕ, ◌+◌, ◌-◌, ◌*◌, ◌<◌, ◌≤◌, Bool, suc, false, inl, inr, List, length, set, refl, sym, ap, ◌∙◌, subst, arith}
+use Rattle.std.proofs.Common.{true, ◌≡◌, ◌≢◌, ℕ, ◌+◌, ◌-◌, ◌*◌, ◌<◌, ◌≤◌, Bool, suc, false, inl, inr, List, length, set, refl, sym, ap, ◌∙◌, subst, arith, ◌==◌, nat_le, if◌then◌else◌}
 use Rattle.std.specs.List.{slice_get}
 use Rattle.std.specs.Bool.{Decides}
-use Rattle.std.specs.Prelude.{◌==◌, nat_le, if◌then◌else◌}
 use Rattle.std.proofs.lemmas.Bool.Decides.{nat_tests}
 use Rattle.std.proofs.lemmas.Bool.{and_parts, and_from, leb-true, le-leb, cases_lt, cases_Bool, cond-true, cond-false, cond_both, or_parts, eqb-false, true≢false}
 use Rattle.std.proofs.lemmas.Nat.{same_from_place}

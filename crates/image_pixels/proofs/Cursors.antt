@@ -1,20 +1,11 @@
 -- What the walks of both pixel cursors over a pointer share: their machine value, an `if`'s first arm, and a count behind a `&`. Assumes `Logic`.
-use mathlib.Core.Path.{refl}
-use Prim.Native.Nat.{ℕ, ◌<◌, ◌^◌}
-use mathlib.Core.List.{List, [], ◌∷◌}
-use seplogic.Ra.Ura.{Ura}
-use mir.Syntax.{w64, ty_int, skip, seq, assign, block, loop, cond, switch, exit, return, call, call_v, unreachable, lend_static}
+use Rattle.std.proofs.Common.{refl, ℕ, ◌<◌, ◌^◌, List, [], ◌∷◌, w64}
+use Rattle.borrow_laws.proofs.Walking.{Ura, ty_int, skip, seq, assign, block, loop, cond, switch, exit, return, call, call_v, unreachable, lend_static, Val, vint, vptr, vstruct, vcons, vnil, Lft, Share, flft, fat, Logic, Item, flt_i, flt_l, ‵, ◌$◌, move, drop, rewrite, fsplit, fjoin, feq_i, feq_l, post, any_q, usize, cell_at, part_at, hidden_shr, Wp, Env, Calls, Loops, after_seq}
 use mir.Syntax as syntax
-use mir.Val.{Val, vint, vptr, vstruct, vcons, vnil}
-use base.Fml.{Lft, Share, flft, fat}
-use types.Logic.{Logic}
-use types.Kit.{Item, Goal, Soaks, Step, step, Seq, flt_i, flt_l, ‵, ◌$◌, move, drop, rewrite, fsplit, fjoin, feq_i, feq_l, Post, post, any_q}
-use denote.Builtin.{usize}
+use types.Kit.{Goal, Soaks, Step, step, Seq, Post}
 use denote.Copied.{uint_Copied}
-use denote.Memory.{cell_at, part_at, hidden_shr}
 use denote.Opens.{Shut}
 use denote.Steps.{looks, shuts}
-use prog.Wp.{Wp, Env, Calls, Loops, after_seq}
 
 -- the one machine value of a cursor
 abbrev pub words : ℕ → ℕ → ℕ → ℕ → ℕ → ℕ → Val

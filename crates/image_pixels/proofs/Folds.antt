@@ -1,6 +1,5 @@
 -- A fold that is under way over the items of a cursor, taken a row at a time.
-use Rattle.std.proofs.Common.{◌≡◌, ◌<◌, ◌≤◌, ◌^◌, ◌*◌, ◌+◌, ℕ, zero, suc, true, Some, List, [], ◌∷◌, ◌++◌, length, drop, get_or, replicate, refl, sym, ap, ◌∙◌, arith}
-use native.Mathlib.Nat.{mul-le-mul_left}
+use Rattle.std.proofs.Common.{◌≡◌, ◌<◌, ◌≤◌, ◌^◌, ◌*◌, ◌+◌, ℕ, zero, suc, true, Some, List, [], ◌∷◌, ◌++◌, length, drop, get_or, replicate, refl, sym, ap, ◌∙◌, arith, mul-le-mul_left}
 use Rattle.std.proofs.iter.Next.{served, Serves-on, Yields-more}
 use Rattle.std.proofs.slice.Lists.{chained_more}
 use Rattle.std.specs.Fn.{Called, Takes}

@@ -1,9 +1,6 @@
 -- The marks of a fitting size choose its pixels.
-use Rattle.std.proofs.Common.{◌≡◌, ℕ, zero, suc, ◌+◌, ◌-◌, ◌*◌, ◌<◌, ◌≤◌, ◌^◌, Bool, true, false, List, [], ◌∷◌, ◌++◌, length, take, drop, replicate, map, refl, sym, ap, ◌∙◌, arith, cond, length-drop, drop-drop}
+use Rattle.std.proofs.Common.{◌≡◌, ℕ, zero, suc, ◌+◌, ◌-◌, ◌*◌, ◌<◌, ◌≤◌, ◌^◌, Bool, true, false, List, [], ◌∷◌, ◌++◌, length, take, drop, replicate, map, refl, sym, ap, ◌∙◌, arith, cond, length-drop, drop-drop, ap₂, zero-mul, mul-le-mul_left, mul-le-mul_right, ◌==◌}
 use Rattle.std.specs.List.{flat_map, range_with_len}
-use mathlib.Core.Path.{ap₂}
-use native.Mathlib.Nat.{zero-mul, mul-le-mul_left, mul-le-mul_right}
-use Rattle.std.specs.Prelude.{◌==◌}
 use Rattle.std.proofs.lemmas.Bool.Decides.{nat_tests}
 use Rattle.image_model.specs.Layout.{Layout, layout, Reaches, Fits}
 use Rattle.image_model.specs.Rows.{row, pixels}

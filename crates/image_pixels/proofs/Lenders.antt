@@ -1,28 +1,7 @@
 -- A cursor goes on under a name of a whole that has its cells: whatever the whole's final value is, the final cells are those that it has. Assumes `Logic`.
-use mathlib.Core.Path.{◌≡◌, refl, sym}
-use Prim.Native.Nat.{ℕ, ◌*◌}
-use mathlib.Core.List.{List, [], ◌∷◌}
-use lib.ListN.{length}
-use seplogic.Ra.Ura.{Ura}
-use base.Logic.{SProp, ent, emp, sep, ex}
-use base.Stored.{coded_list}
-use base.Fml.{Lft, GName, Share, flft, fobs, fbor}
-use types.Follow.{after, takes_part}
-use types.Kit.{‵, ◌⊛◌, raw, some, later, ◌$◌, ◌∵◌, !, qed, move, keep, use1, fsplit3, split, split3, group, pick, fsplit, fjoin, feq_i, feq_l, rewrite, show, await, updating, now, done}
-use types.Logic.{Logic, sem}
-use types.Mut.{open_ref}
-use types.SemTy.{SemTy, Arr, Body}
-use denote.Array.{Array}
-use denote.Follow.{follows}
-use denote.Memory.{mem}
-use denote.RattleType.{RattleType}
-use denote.Ref.{NamedLft}
-use denote.RawPtr.{Ptr, in_a_block}
-use denote.Shadow.{pure_l, pure_i}
-use denote.Slice.{room}
-use denote.Steps.{nothing}
-use base.Logic.{id⊢}
-use mir.Val.{Val}
+use types.SemTy.{SemTy}
+use Rattle.std.proofs.Common.{◌≡◌, refl, sym, ℕ, ◌*◌, List, [], ◌∷◌, length}
+use Rattle.borrow_laws.proofs.Walking.{Ura, SProp, ent, emp, sep, ex, coded_list, Lft, GName, Share, flft, fobs, fbor, after, takes_part, ‵, ◌⊛◌, raw, some, later, ◌$◌, ◌∵◌, !, qed, move, keep, use1, fsplit3, split, split3, group, pick, fsplit, fjoin, feq_i, feq_l, rewrite, show, await, updating, now, done, Logic, sem, open_ref, Arr, Body, Array, follows, mem, RattleType, NamedLft, Ptr, in_a_block, pure_l, pure_i, room, nothing, id⊢, Val}
 use Rattle.image_pixels.specs.Loans.{lent}
 use Rattle.image_pixels.specs.contracts.pixels_mut.PixelsIterMut as P
 use Rattle.image_pixels.specs.declared.pixels_mut.PixelsIterMut.{PixelsIterMut}

@@ -1,7 +1,5 @@
 -- What a step does to the marks and the cells.
-use Rattle.std.proofs.Common.{◌≡◌, ℕ, zero, suc, ◌+◌, ◌-◌, ◌*◌, ◌≤◌, ◌<◌, refl, sym, ap, ◌∙◌, true, false, List, [], ◌∷◌, ◌++◌, length, take, drop, replicate, arith}
-use mathlib.Core.Path.{ap₂}
-use native.Mathlib.Nat.{suc-mul, add_comm, zero-mul}
+use Rattle.std.proofs.Common.{◌≡◌, ℕ, zero, suc, ◌+◌, ◌-◌, ◌*◌, ◌≤◌, ◌<◌, refl, sym, ap, ◌∙◌, true, false, List, [], ◌∷◌, ◌++◌, length, take, drop, replicate, arith, ap₂, suc-mul, add_comm, zero-mul}
 use Rattle.std.proofs.Math.ListN.{take-append-drop, length-drop}
 use borrow.Table.Elements.{length-take-le, length_app}
 use Rattle.image_pixels.specs.Marks.{pick, marks, rows_from, skipped}

@@ -1,23 +1,7 @@
 -- Cells that are seen are taken from the front. Assumes `Logic`.
-use mathlib.Core.Path.{◌≡◌, refl, sym, ap}
-use Prim.Native.Nat.{ℕ, ◌+◌}
-use mathlib.Core.List.{List, [], ◌∷◌, ◌++◌}
-use lib.ListN.{length}
-use seplogic.Ra.Ura.{Ura}
-use mir.Val.{Val, vptr, vstruct, vcons, vnil}
-use base.Logic.{ent, emp, sep}
-use base.Fml.{Fml, Lft}
-use types.Logic.{Logic, sem}
-use types.Kit.{‵, ◌⊛◌, ◌$◌, ◌∵◌, !, qed, move, use1, split, fsplit, fjoin, done}
 use denote.Memory.{each_shared}
-use denote.RattleType.{RattleType}
-use denote.RawPtr.{ptr_val, block_ptr}
-use denote.Ref.{NamedLft}
-use denote.Shadow.{makes_shadow}
-use denote.Steps.{nothing}
-use denote.Struct.Owning.{shape, to}
-use denote.Struct.Struct.{Struct}
-use borrow.Table.Elements.{at}
+use Rattle.std.proofs.Common.{◌≡◌, refl, sym, ap, ℕ, ◌+◌, List, [], ◌∷◌, ◌++◌, length}
+use Rattle.borrow_laws.proofs.Walking.{Ura, Val, vptr, vstruct, vcons, vnil, ent, emp, sep, Fml, Lft, Logic, sem, ‵, ◌⊛◌, ◌$◌, ◌∵◌, !, qed, move, use1, split, fsplit, fjoin, done, RattleType, ptr_val, block_ptr, NamedLft, makes_shadow, nothing, shape, to, Struct, at}
 use Rattle.image_pixels.specs.contracts.cells.Cells as P
 use Rattle.image_pixels.specs.declared.cells.Cells.{Cells}
 

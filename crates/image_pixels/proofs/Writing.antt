@@ -1,33 +1,10 @@
 -- The first pixel is taken out of cells that are lent, and the cells before it stay as they are. Assumes `Logic`.
-use mathlib.Core.Path.{◌≡◌, refl, sym, ap, ◌∙◌}
-use Prim.Native.Nat.{ℕ, suc, ◌+◌, ◌<◌, ◌^◌}
-use mathlib.Core.List.{List, [], ◌∷◌, ◌++◌}
-use lib.ListN.{length}
-use seplogic.Ra.Ura.{Ura}
-use mir.Syntax.{Lifetime, w64}
-use mir.Val.{Val, vptr, vint, vstruct, vnil}
-use base.Logic.{SProp, ent, emp, sep, ex, wand}
-use base.Stored.{coded_list}
-use base.Fml.{Fml, Lft, GName, Share, flft, fobs, fbor, fhide, fsep, feq, fex, fauth, fres}
-use types.Follow.{after₂, takes_two}
-use types.Kit.{‵, ◌⊛◌, some, later, ◌$◌, ◌∵◌, !, qed, move, keep, drop, use1, use2, split, group, pick, fsplit, fjoin, fjoin3, fpack, feq_i, feq_l, show, await, updating, now, each, assume, done}
-use types.Logic.{Logic, sem}
-use types.Mut.{open_ref}
-use types.SemTy.{cells, Arr, Body}
-use denote.Builtin.{usize}
-use denote.Follow.{follows}
-use denote.Memory.{mem, hidden_shr}
-use denote.Opens.{unhide}
-use denote.RattleType.{RattleType}
-use denote.RawPtr.{ptr_val, block_ptr}
-use denote.Ref.{MutRef, NamedLft}
-use denote.Shadow.{makes_shadow}
-use denote.Slice.{MutSlice}
+use types.Follow.{takes_two}
 use denote.Struct.Lending.{lent_out}
-use denote.Struct.Owning.{shape, to}
-use denote.Struct.Struct.{Struct}
-use borrow.Table.Elements.{at, cut_app, join_app, length_app}
+use borrow.Table.Elements.{length_app}
+use Rattle.std.proofs.Common.{◌≡◌, refl, sym, ap, ◌∙◌, ℕ, suc, ◌+◌, ◌<◌, ◌^◌, List, [], ◌∷◌, ◌++◌, length, w64}
 use Rattle.std.specs.contracts.marker.PhantomData as marker
+use Rattle.borrow_laws.proofs.Walking.{Ura, Lifetime, Val, vptr, vint, vstruct, vnil, SProp, ent, emp, sep, ex, wand, coded_list, Fml, Lft, GName, Share, flft, fobs, fbor, fhide, fsep, feq, fex, fauth, fres, after₂, ‵, ◌⊛◌, some, later, ◌$◌, ◌∵◌, !, qed, move, keep, drop, use1, use2, split, group, pick, fsplit, fjoin, fjoin3, fpack, feq_i, feq_l, show, await, updating, now, each, assume, done, Logic, sem, open_ref, cells, Arr, Body, usize, follows, mem, hidden_shr, unhide, RattleType, ptr_val, block_ptr, MutRef, NamedLft, makes_shadow, MutSlice, shape, to, Struct, at, cut_app, join_app}
 use Rattle.image_pixels.specs.contracts.pixels_mut.PixelsIterMut as P
 use Rattle.image_pixels.specs.declared.pixels_mut.PixelsIterMut.{PixelsIterMut}
 use Rattle.image_pixels.proofs.Cursors.{words}

@@ -1,7 +1,5 @@
 -- A row taken off the cells at either end: where they are cut, what the row is, and how the others lie in the cells that are kept.
-use Rattle.std.proofs.Common.{◌≡◌, ℕ, ◌+◌, ◌-◌, ◌*◌, ◌<◌, ◌≤◌, List, [], ◌∷◌, ◌++◌, length, drop, None, Some, MutBor, refl, sym, ◌∙◌, arith}
-use mathlib.Core.Path.{ap₂}
-use lib.ListN.{take-append-drop}
+use Rattle.std.proofs.Common.{◌≡◌, ℕ, ◌+◌, ◌-◌, ◌*◌, ◌<◌, ◌≤◌, List, [], ◌∷◌, ◌++◌, length, drop, None, Some, MutBor, refl, sym, ◌∙◌, arith, ap₂, take-append-drop}
 use Rattle.std.proofs.lemmas.List.{take-take, length-drop, length-take-le}
 use Rattle.image_model.specs.Layout.{layout}
 use Rattle.image_model.specs.Rows.{rows}

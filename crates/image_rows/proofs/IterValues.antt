@@ -1,14 +1,6 @@
 -- Machine values of an iterator for writing: its slice, and it made again. Assumes `Logic`.
-use mathlib.Core.List.{List, [], ◌∷◌}
-use seplogic.Ra.Ura.{Ura}
-use base.Logic.{ent}
-use mir.Val.{Val}
-use types.Logic.{Logic, sem}
-use denote.Laws.{Is}
-use denote.Param.Laws.{Laws}
-use denote.RattleType.{RattleType}
-use denote.Ref.{NamedLft}
-use denote.Slice.{MutSlice}
+use Rattle.std.proofs.Common.{List, [], ◌∷◌}
+use Rattle.borrow_laws.proofs.Walking.{Ura, ent, Val, Logic, sem, Is, Laws, RattleType, NamedLft, MutSlice}
 use Rattle.borrow_laws.proofs.Declared.{plain_made, held_cells, held_again}
 use Rattle.borrow_laws.proofs.Options.{lent_val}
 use Rattle.image_rows.specs.declared.writing.RowsIterMut.{RowsIterMut}

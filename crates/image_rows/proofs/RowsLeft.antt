@@ -1,6 +1,5 @@
 -- The rows of a list of cells, taken off at either end.
-use Rattle.std.proofs.Common.{◌≡◌, ℕ, zero, suc, ◌+◌, ◌-◌, ◌*◌, ◌<◌, ◌≤◌, List, [], ◌∷◌, ◌++◌, All, length, get_or, take, drop, map, inl, inr, refl, sym, ap, subst, ◌∙◌, arith, suc-mul, ◌^◌}
-use mathlib.Core.Path.{ap₂}
+use Rattle.std.proofs.Common.{◌≡◌, ℕ, zero, suc, ◌+◌, ◌-◌, ◌*◌, ◌<◌, ◌≤◌, List, [], ◌∷◌, ◌++◌, All, length, get_or, take, drop, map, inl, inr, refl, sym, ap, subst, ◌∙◌, arith, suc-mul, ◌^◌, ap₂}
 use Rattle.std.specs.List.{range_with_len}
 use Rattle.std.proofs.Math.Nat.{mul-le-mul_right, mul_comm, zero-mul}
 use Rattle.std.proofs.lemmas.Bool.{cases_lt}

@@ -1,35 +1,8 @@
 -- An iterator for writing is lent to `step` and comes back after it: what `next` and `next_back` share. Assumes `Logic`.
-use mathlib.Core.Path.{sym, subst}
-use Prim.Native.Nat.{ℕ}
-use mathlib.Core.List.{List, [], ◌∷◌}
-use lib.Dec.{lit<}
-use seplogic.Ra.Ura.{Ura}
-use base.Fml.{Fml, Lft, GName, Share, ftrue, fdead, fsep, fres, fbor, flft}
-use base.Logic.{SProp, ent, sep, emp, ex, guard, id⊢, apply∗}
 use base.Share
-use contract.BorrowLft.{◌⊑◌, ⊑_trans, meet_⊑_right}
-use contract.Monad.{Fun, fact, fact_i}
-use mir.Syntax.{named}
-use mir.Val.{Val, vptr}
-use prog.Memory.{Memory}
-use prog.Routine.{Routine}
-use types.Kit.{‵, ◌⊛◌, raw, later, some, ◌$◌, ◌∵◌, !, qed, move, keep, split, split3, join, fsplit, use0, use1, use2, use3, await, pick, updating, show, check, done, now as at_once}
-use types.Logic.{Logic, sem}
-use types.SemTy.{Body}
-use denote.Laws.{Is, Typed}
-use denote.Lend.{LentAgain, lends_again, comes_back}
-use denote.Memory.{mem}
-use denote.Model.Fixed.{row_Makes}
-use denote.Param.{param}
-use denote.RattleType.{RattleType}
-use denote.Ref.{MutBor, MutRef}
-use denote.Signature.{named_lft}
-use denote.Slice.{MutSlice}
-use denote.Steps.{nothing, owned, heard}
-use denote.Triple.Spec.{triple_of}
-use denote.Triple.Statement.{Contract}
-use Rattle.std.specs.Prelude.{Option, Some, None}
+use Rattle.std.proofs.Common.{sym, subst, ℕ, List, [], ◌∷◌, lit<, MutBor, Option, Some, None}
 use Rattle.std.specs.contracts.option.Option as opt
+use Rattle.borrow_laws.proofs.Walking.{Ura, Fml, Lft, GName, Share, ftrue, fdead, fsep, fres, fbor, flft, SProp, ent, sep, emp, ex, guard, id⊢, apply∗, ◌⊑◌, ⊑_trans, meet_⊑_right, Fun, fact, fact_i, named, Val, vptr, Memory, Routine, ‵, ◌⊛◌, raw, later, some, ◌$◌, ◌∵◌, !, qed, move, keep, split, split3, join, fsplit, use0, use1, use2, use3, await, pick, updating, show, check, done, at_once, Logic, sem, Body, Is, Typed, LentAgain, lends_again, comes_back, mem, row_Makes, param, RattleType, MutRef, named_lft, MutSlice, nothing, owned, heard, triple_of, Contract}
 use Rattle.borrow_laws.proofs.Lifetimes.{Ends, begins}
 use Rattle.borrow_laws.proofs.Options.{none_told, some_told}
 use Rattle.image_rows.specs.Rows.{hands_on, Yields, Moves}

@@ -1,21 +1,7 @@
 -- Machine values that the walks of bands handle: of an iterator, and of a band. Assumes `Logic`.
-use mathlib.Core.Path.{◌≡◌, ap, ◌∙◌}
-use mathlib.Core.List.{List, [], ◌∷◌, ◌++◌}
-use lib.ListN.{length}
-use base.Fml.{Lft}
-use mir.Syntax.{Lifetime}
-use seplogic.Ra.Ura.{Ura}
-use base.Logic.{ent}
-use mir.Val.{Val, WT, of_list}
-use types.Logic.{Logic, sem}
-use types.Match.{live}
-use denote.Laws.{Is}
-use denote.Param.Laws.{Laws}
-use denote.RattleType.{RattleType}
-use denote.Ref.{NamedLft, MutBor}
-use denote.Slice.{MutSlice}
-use Rattle.std.specs.Prelude.{Some}
+use Rattle.std.proofs.Common.{◌≡◌, ap, ◌∙◌, List, [], ◌∷◌, ◌++◌, length, MutBor, Some}
 use Rattle.std.specs.contracts.option.Option as opt
+use Rattle.borrow_laws.proofs.Walking.{Lft, Lifetime, Ura, ent, Val, WT, of_list, Logic, sem, live, Is, Laws, RattleType, NamedLft, MutSlice}
 use Rattle.borrow_laws.proofs.Declared.{plain_made, held_cells, held_again}
 use Rattle.borrow_laws.proofs.Options.{lent_val}
 use Rattle.imgref.specs.declared.img.Img.{Img}

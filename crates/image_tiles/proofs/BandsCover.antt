@@ -1,8 +1,6 @@
 -- The windows of bands: they are tiles as wide as the size, so they cover it, and each shows its view.
-use Rattle.std.proofs.Common.{◌≡◌, ℕ, zero, suc, ◌+◌, ◌-◌, ◌*◌, ◌<◌, inl, inr, List, [], ◌∷◌, ◌++◌, get_or, map, min, refl, sym, ap, subst, ◌∙◌, arith}
-use mathlib.Core.Path.{ap₂}
+use Rattle.std.proofs.Common.{◌≡◌, ℕ, zero, suc, ◌+◌, ◌-◌, ◌*◌, ◌<◌, inl, inr, List, [], ◌∷◌, ◌++◌, get_or, map, min, refl, sym, ap, subst, ◌∙◌, arith, ap₂, ◌==◌}
 use Rattle.std.specs.List.{All, flat_map, range_with_len}
-use Rattle.std.specs.Prelude.{◌==◌}
 use Rattle.std.proofs.lemmas.Bool.{cond-false, cases_lt}
 use Rattle.std.proofs.lemmas.Bool.Decides.{nat_tests}
 use Rattle.std.proofs.lemmas.List.FromFn.{length-range_with_len, get_or-range_with_len}

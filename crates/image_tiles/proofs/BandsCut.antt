@@ -1,7 +1,5 @@
 -- A band taken off the cells: where they are cut, what the band is, and how the others lie in the cells that are kept.
-use Rattle.std.proofs.Common.{◌≡◌, ℕ, ◌+◌, ◌-◌, ◌*◌, ◌^◌, ◌<◌, ◌≤◌, List, ◌∷◌, ◌++◌, length, drop, take, None, Some, MutBor, sym, ap, ◌∙◌, arith}
-use mathlib.Core.Path.{ap₂}
-use lib.ListN.{take-append-drop}
+use Rattle.std.proofs.Common.{◌≡◌, ℕ, ◌+◌, ◌-◌, ◌*◌, ◌^◌, ◌<◌, ◌≤◌, List, ◌∷◌, ◌++◌, length, drop, take, None, Some, MutBor, sym, ap, ◌∙◌, arith, ap₂, take-append-drop}
 use Rattle.std.proofs.lemmas.List.{take-take, length-drop, length-take-le, drop-drop, drop-take}
 use Rattle.std.specs.Iterator.{YieldsFirstBy}
 use Rattle.image_model.specs.Layout.{Layout, layout}

@@ -1,9 +1,7 @@
 -- The bands of a list of cells, taken off at the front.
-use Rattle.std.proofs.Common.{◌≡◌, ℕ, zero, suc, ◌+◌, ◌-◌, ◌*◌, ◌/◌, ◌%◌, ◌<◌, ◌≤◌, false, inl, inr, List, [], ◌∷◌, All, get_or, take, drop, length, map, min, refl, sym, ap, subst, ◌∙◌, arith, suc-mul}
-use mathlib.Core.Path.{ap₂}
+use Rattle.std.proofs.Common.{◌≡◌, ℕ, zero, suc, ◌+◌, ◌-◌, ◌*◌, ◌/◌, ◌%◌, ◌<◌, ◌≤◌, false, inl, inr, List, [], ◌∷◌, All, get_or, take, drop, length, map, min, refl, sym, ap, subst, ◌∙◌, arith, suc-mul, ap₂, ◌==◌}
 use Rattle.std.specs.List.{range_with_len}
 use Rattle.std.proofs.Math.Nat.{mul-add, mul-suc, mul-le-mul_left}
-use Rattle.std.specs.Prelude.{◌==◌}
 use Rattle.std.proofs.lemmas.Bool.{cond-false, cases_lt}
 use Rattle.std.proofs.lemmas.Bool.Decides.{nat_tests}
 use Rattle.std.proofs.lemmas.List.{drop-drop}

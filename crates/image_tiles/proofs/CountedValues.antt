@@ -1,20 +1,6 @@
 -- What the proof by hand of `next_tile` passes on: a reference with a number, as machine values. Assumes `Logic`.
-use mathlib.Core.Path.{◌≡◌, refl, ◌∙◌}
-use Prim.Native.Nat.{ℕ, ◌^◌, ◌<◌}
-use mathlib.Core.List.{List, [], ◌∷◌, ◌++◌}
-use seplogic.Ra.Ura.{Ura}
-use base.Fml.{Lft}
-use base.Logic.{ent}
-use mir.Syntax.{Lifetime, w64}
-use mir.Val.{Val, vint, vptr, vstruct, vcons, vnil, of_list}
-use types.Logic.{Logic, sem}
-use types.Kit.{‵, ◌$◌, ◌∵◌, !, qed, keep, drop, fsplit, fpick, rewrite, done}
-use denote.Builtin.{usize}
-use denote.Laws.{Is, shows}
-use denote.RattleType.{RattleType}
-use denote.Ref.{MutBor, MutRef, mut_Tells}
-use denote.Steps.{peeks}
-use denote.Struct.Tuple.{Tuple}
+use Rattle.std.proofs.Common.{◌≡◌, refl, ◌∙◌, ℕ, ◌^◌, ◌<◌, List, [], ◌∷◌, ◌++◌, w64, MutBor}
+use Rattle.borrow_laws.proofs.Walking.{Ura, Lft, ent, Lifetime, Val, vint, vptr, vstruct, vcons, vnil, of_list, Logic, sem, ‵, ◌$◌, ◌∵◌, !, qed, keep, drop, fsplit, fpick, rewrite, done, usize, Is, shows, RattleType, MutRef, mut_Tells, peeks, Tuple}
 
 abbrev pub counted_val : ℕ × ℕ → ℕ → Val
 counted_val p n = vstruct (vcons (vptr p.0 p.1) (vcons (vint w64 n) vnil))

@@ -1,31 +1,14 @@
 -- Machine values by what they hold: a window, a stretch, a shape, an image of a slice for writing, and its parts; and a lent slice as a container.
-use mathlib.Core.Path.{◌≡◌, refl, ◌∙◌}
-use Prim.Native.Nat.{ℕ, ◌^◌, ◌<◌}
-use mathlib.Core.List.{List, [], ◌∷◌, ◌++◌}
-use lib.ListN.{length}
-use seplogic.Ra.Ura.{Ura}
-use base.Fml.{Lft}
-use base.Logic.{ent, emp}
-use mir.Syntax.{Lifetime, Ty, named, w32, w64, ty_ptr, ty_int, ty_struct, tcons, tnil}
-use mir.Val.{Val, vint, vstruct, vcons, vnil, of_list}
-use types.Logic.{Logic, sem}
-use types.Kit.{◌$◌, ◌∵◌, !, qed, fjoin, fpack, feq_i, done}
-use denote.Builtin.{u32, usize}
-use denote.Exit.{no}
-use denote.Laws.{Is}
-use denote.Param.{param, arg}
-use denote.Param.Laws.{Laws, arg_laws, param_laws, of_field, is_one, row_shared}
+use mir.Syntax.{ty_ptr, ty_struct}
+use denote.Builtin.{u32}
+use denote.Param.{arg}
+use denote.Param.Laws.{arg_laws, of_field, is_one, row_shared}
 use denote.Param.Shared.{mut_slice_shared}
-use denote.Plain.{uint_Makes}
-use denote.RattleType.{RattleType, Valss}
-use denote.Ref.{MutBor}
-use denote.Slice.{MutSlice, Room, slice_val}
-use denote.Steps.{nothing, owned}
 use denote.Struct.Declared.{shape as fields}
 use denote.Struct.Field.{mut_slice_field}
 use denote.Struct.Laws.{mut_slice_laws}
-use denote.Struct.Struct.{within}
-use denote.Struct.Tuple.{Tuple}
+use Rattle.std.proofs.Common.{◌≡◌, refl, ◌∙◌, ℕ, ◌^◌, ◌<◌, List, [], ◌∷◌, ◌++◌, length, w32, w64, MutBor}
+use Rattle.borrow_laws.proofs.Walking.{Ura, Lft, ent, emp, Lifetime, Ty, named, ty_int, tcons, tnil, Val, vint, vstruct, vcons, vnil, of_list, Logic, sem, ◌$◌, ◌∵◌, !, qed, fjoin, fpack, feq_i, done, usize, no, Is, param, Laws, param_laws, uint_Makes, RattleType, Valss, MutSlice, Room, slice_val, nothing, owned, within, Tuple}
 use Rattle.image_shape.specs.declared.window.Window.{Window}
 use Rattle.image_shape.specs.contracts.window.Window as window
 use Rattle.image_shape.specs.declared.window.Stretch.{Stretch}

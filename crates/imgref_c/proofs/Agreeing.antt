@@ -1,6 +1,5 @@
 -- Images that fit are alike exactly where their grids agree.
-use Rattle.std.proofs.Common.{◌≡◌, Bool, inl, inr, sym, subst}
-use Rattle.std.specs.Prelude.{◌↔◌}
+use Rattle.std.proofs.Common.{◌≡◌, Bool, inl, inr, sym, subst, ◌↔◌}
 use Rattle.image_model.specs.Layout.{Layout, Fits}
 use Rattle.image_model.specs.Grid.{grid_of, Agree}
 use Rattle.image_model.specs.Alike.{Alike}

@@ -1,7 +1,6 @@
 -- The mean of nine pixels, and images that become blurred place by place.
-use Rattle.std.proofs.Common.{◌≡◌, ℕ, ◌+◌, ◌-◌, ◌<◌, ◌≤◌, ◌/◌, inl, inr, List, [], ◌++◌, true, Option, Some, refl, sym, ap, ◌∙◌, arith, ⊎_elim, sum}
+use Rattle.std.proofs.Common.{◌≡◌, ℕ, ◌+◌, ◌-◌, ◌<◌, ◌≤◌, ◌/◌, inl, inr, List, [], ◌++◌, true, Option, Some, refl, sym, ap, ◌∙◌, arith, ⊎_elim, sum, if◌then◌else◌}
 use Rattle.std.specs.List.{cons_option}
-use Rattle.std.specs.Prelude.{if◌then◌else◌}
 use Rattle.std.proofs.lemmas.List.{append-nil}
 use Rattle.std.proofs.lemmas.List.Sums.{sum_by-append}
 use Rattle.std.proofs.lemmas.Bool.{cond-true, cond-false, cases_Bool}

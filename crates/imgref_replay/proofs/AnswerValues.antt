@@ -1,26 +1,10 @@
 -- What the proof by hand of `into_window_at` passes on, as machine values: the parts of an image, and the answers of `region_at` and of itself.
-use mathlib.Core.Path.{◌≡◌, refl, ◌∙◌}
-use mathlib.Core.Logic.{◌⊎◌, inl, inr}
-use Prim.Native.Nat.{ℕ, ◌^◌, ◌<◌}
-use mathlib.Core.List.{List, [], ◌∷◌, ◌++◌}
-use seplogic.Ra.Ura.{Ura}
-use base.Fml.{fsep, feq, fex}
-use base.Logic.{ent, emp}
-use mir.Syntax.{w64}
-use mir.Val.{Val, vint, vstruct, vcons, vnil, of_list}
-use types.Logic.{Logic, sem}
-use types.Kit.{‵, ◌$◌, ◌∵◌, !, qed, move, fjoin, fpack, feq_i, done}
-use types.Match.{live}
-use denote.Builtin.{usize}
 use denote.Enum.Enum.{in_a_row}
-use denote.Laws.{Is}
-use denote.Plain.{uint_Makes}
-use denote.RattleType.{RattleType, Valss, owns}
-use denote.Steps.{nothing, owned}
-use denote.Struct.Tuple.{Tuple}
+use Rattle.std.proofs.Common.{◌≡◌, refl, ◌∙◌, ◌⊎◌, inl, inr, ℕ, ◌^◌, ◌<◌, List, [], ◌∷◌, ◌++◌, w64}
 use Rattle.std.specs.contracts.result.Result as result
 use Rattle.std.specs.declared.result.Result.{Result}
 use Rattle.std.specs.declared.result.Result.TheVariants.{Ok, Err}
+use Rattle.borrow_laws.proofs.Walking.{Ura, fsep, feq, fex, ent, emp, Val, vint, vstruct, vcons, vnil, of_list, Logic, sem, ‵, ◌$◌, ◌∵◌, !, qed, move, fjoin, fpack, feq_i, done, live, usize, Is, uint_Makes, RattleType, Valss, owns, nothing, owned, Tuple}
 use Rattle.image_shape.specs.declared.window.Stretch.{Stretch}
 use Rattle.image_shape.specs.contracts.window.Stretch as stretch
 use Rattle.image_shape.specs.declared.shape.Shape.{Shape}

@@ -1,7 +1,6 @@
 -- Counting: by steps of one that could wrap, where the whole count fits; and of pixels by their places.
-use Rattle.std.proofs.Common.{◌≡◌, refl, ℕ, ◌+◌, ◌<◌, ◌≤◌, ◌^◌, ◌%◌, arith, Bool, true, false, cond, List, [], ◌∷◌, length, map, Option, Some, None, ◌∙◌, sym, ap}
+use Rattle.std.proofs.Common.{◌≡◌, refl, ℕ, ◌+◌, ◌<◌, ◌≤◌, ◌^◌, ◌%◌, arith, Bool, true, false, cond, List, [], ◌∷◌, length, map, Option, Some, None, ◌∙◌, sym, ap, count_by}
 use Rattle.std.proofs.Math.Nat.{mod-eq_of_lt}
-use Rattle.std.specs.Prelude.{count_by}
 use Rattle.std.specs.List.{fold, filter_map, flat_map, range_with_len, cons_option}
 use Rattle.std.proofs.lemmas.List.Sums.{fold-append}
 use Rattle.image_model.specs.Grid.{Grid}

@@ -1,6 +1,5 @@
 -- Lists of images: the layout and the grid of each by its number, and what a place names in them.
-use Rattle.std.proofs.Common.{◌≡◌, ◌≢◌, ℕ, zero, suc, ◌<◌, List, [], ◌∷◌, Bool, length, map, set, get_or, false, Some, None, Option, ap, sym, ◌∙◌, subst, ⊎_elim, arith}
-use Rattle.std.specs.Prelude.{Vec, All, slice_get, if◌then◌else◌, is_some}
+use Rattle.std.proofs.Common.{◌≡◌, ◌≢◌, ℕ, zero, suc, ◌<◌, List, [], ◌∷◌, Bool, length, map, set, get_or, false, Some, None, Option, ap, sym, ◌∙◌, subst, ⊎_elim, arith, Vec, All, slice_get, if◌then◌else◌, is_some}
 use Rattle.std.proofs.lemmas.Bool.{lt-leb, cond-false, cases_eq}
 use Rattle.std.proofs.lemmas.Option.{same_Some, get_or_from_slice_get}
 use Rattle.std.proofs.lemmas.List.Elements.{All-set}

@@ -1,6 +1,5 @@
 -- Commands without a fault: what one that asks and one that writes leave.
-use Rattle.std.proofs.Common.{◌≡◌, ◌≢◌, ℕ, ◌<◌, Bool, true, false, List, [], ◌∷◌, ◌++◌, length, map, set, get_or, Some, None, Vec, refl, sym, ap, ◌∙◌, subst}
-use Rattle.std.specs.Prelude.{◌||◌, All, Ok}
+use Rattle.std.proofs.Common.{◌≡◌, ◌≢◌, ℕ, ◌<◌, Bool, true, false, List, [], ◌∷◌, ◌++◌, length, map, set, get_or, Some, None, Vec, refl, sym, ap, ◌∙◌, subst, ◌||◌, All, Ok}
 use Rattle.std.specs.Option.{option_map_or}
 use Rattle.std.proofs.lemmas.Bool.{cond-false, lt-leb, eq-eqb, ne_eqb}
 use Rattle.std.proofs.lemmas.Option.{same_Some}

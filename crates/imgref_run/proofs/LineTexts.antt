@@ -1,6 +1,5 @@
 -- Lines: what one is read as has that text, what has a text is read from it, and no text is that of two values.
-use Rattle.std.proofs.Common.{◌≡◌, ℕ, cond, List, [], ◌∷◌, Option, Some, sym, ap, subst, ◌∙◌, inl, inr, Result, Ok, Err}
-use Rattle.std.specs.Prelude.{codes, IfOk, IsErrOf}
+use Rattle.std.proofs.Common.{◌≡◌, ℕ, cond, List, [], ◌∷◌, Option, Some, sym, ap, subst, ◌∙◌, inl, inr, Result, Ok, Err, codes, IfOk, IsErrOf}
 use Rattle.std.specs.Option.{option_map}
 use Rattle.std.specs.Str.{bytes_eq}
 use Rattle.std.proofs.lemmas.Slice.Eq.{bytes_eq-Decides}

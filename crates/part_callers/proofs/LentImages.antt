@@ -1,26 +1,10 @@
 -- Machine values of an image that was lent in an option or a result. Assumes `Logic`.
-use mathlib.Core.Path.{◌≡◌, refl, ap, ◌∙◌}
-use mathlib.Core.List.{List, [], ◌∷◌, ◌++◌}
-use mathlib.Core.Logic.{◌⊎◌, inl, inr}
-use seplogic.Ra.Ura.{Ura}
-use Prim.Native.Nat.{ℕ}
-use base.Fml.{Lft}
-use base.Logic.{ent}
-use mir.Syntax.{Lifetime}
-use mir.Val.{Val, of_list}
-use types.Kit.{‵, ◌$◌, ◌∵◌, !, qed, move, keep, drop, fsplit, fpick, rewrite, done}
-use types.Logic.{Logic, sem}
-use types.Match.{live}
-use denote.Builtin.{usize}
-use denote.Laws.{Is, shows}
-use denote.RattleType.{RattleType}
-use denote.Ref.{MutBor}
-use denote.Steps.{peeks}
-use Rattle.std.specs.Prelude.{Some}
+use Rattle.std.proofs.Common.{◌≡◌, refl, ap, ◌∙◌, List, [], ◌∷◌, ◌++◌, ◌⊎◌, inl, inr, ℕ, MutBor, Some}
 use Rattle.std.specs.contracts.option.Option as opt
 use Rattle.std.specs.contracts.result.Result as result
 use Rattle.std.specs.declared.result.Result.{Result}
 use Rattle.std.specs.declared.result.Result.TheVariants.{Ok, Err}
+use Rattle.borrow_laws.proofs.Walking.{Ura, Lft, ent, Lifetime, Val, of_list, ‵, ◌$◌, ◌∵◌, !, qed, move, keep, drop, fsplit, fpick, rewrite, done, Logic, sem, live, usize, Is, shows, RattleType, peeks}
 use Rattle.imgref.specs.declared.img.Img.{Img}
 use Rattle.imgref.proofs.ImageValues.{img_row, img_told}
 use Rattle.image_tiles.proofs.BandValues.{band_val}

@@ -1,6 +1,5 @@
 -- The window that a path comes to: what is written in its cells is in the image at the path's corner.
-use Rattle.std.proofs.Common.{◌≡◌, ◌+◌, ◌≤◌, List, length, refl, sym, ap, ◌∙◌, subst}
-use Rattle.std.specs.Prelude.{None}
+use Rattle.std.proofs.Common.{◌≡◌, ◌+◌, ◌≤◌, List, length, refl, sym, ap, ◌∙◌, subst, None}
 use Rattle.image_model.specs.Grid.{grid_of}
 use Rattle.image_model.specs.Layout.{Layout, Fits, SameOutside}
 use Rattle.image_model.specs.Windows.{Window, Stretch, IsInside, whole, with_stretch, first_outside, path_stretch, path_window, path_layout}

@@ -1,7 +1,5 @@
 -- Flattening each tile of a size in turn makes its mosaic.
-use Rattle.std.proofs.Common.{◌≡◌, ℕ, zero, suc, ◌+◌, ◌-◌, ◌*◌, ◌/◌, ◌<◌, ◌≤◌, true, inl, inr, List, [], drop, Some, Option, sym, ap, ◌∙◌, subst, arith, min, get_or, length}
-use mathlib.Core.Path.{ap₂}
-use Rattle.std.specs.Prelude.{IsTrue, nat_le, if◌then◌else◌}
+use Rattle.std.proofs.Common.{◌≡◌, ℕ, zero, suc, ◌+◌, ◌-◌, ◌*◌, ◌/◌, ◌<◌, ◌≤◌, true, inl, inr, List, [], drop, Some, Option, sym, ap, ◌∙◌, subst, arith, min, get_or, length, ap₂, IsTrue, nat_le, if◌then◌else◌}
 use Rattle.std.specs.Option.{IsSomeAnd}
 use Rattle.std.specs.List.{slice_get}
 use Rattle.std.proofs.Math.Nat.{mul-le-mul_right, suc-mul}

@@ -1,12 +1,10 @@
 -- Byte by byte up to a line feed.
-use Rattle.std.proofs.Common.{◌≡◌, ◌≢◌, ◌+◌, ◌<◌, ◌++◌, ◌∷◌, [], ℕ, List, length, take, set, add-one, length-take-le, arith, sym, subst, ◌∙◌, inl, inr}
+use Rattle.std.proofs.Common.{◌≡◌, ◌≢◌, ◌+◌, ◌<◌, ◌++◌, ◌∷◌, [], ℕ, List, length, take, set, add-one, length-take-le, arith, sym, subst, ◌∙◌, inl, inr, All, take-suc-set}
 use Rattle.std.specs.Io.KnownBytes.{Consumes}
-use Rattle.std.specs.Prelude.{All}
 use Rattle.std.proofs.KnownBytes.{Consumes-trans}
 use Rattle.std.proofs.lemmas.List.{append-nil}
 use Rattle.std.proofs.lemmas.List.Elements.{All-push}
 use Rattle.std.proofs.lemmas.Grind.{common_steps}
-use lib.Seq.{take-suc-set}
 use Rattle.devices.proofs.Lines.{no_line}
 use Rattle.devices.proofs.whole.read_line.Goals as goal
 

@@ -1,5 +1,4 @@
-use Rattle.std.proofs.Common.{◌≡◌, ◌≢◌, take}
-use Rattle.std.specs.Prelude.{All}
+use Rattle.std.proofs.Common.{◌≡◌, ◌≢◌, take, All}
 use Rattle.std.specs.Io.KnownBytes.{Consumes}
 use Rattle.devices.proofs.whole.read_line.Given as goal
 

@@ -1,6 +1,5 @@
 -- One row more, by the row of the tile that it is.
-use Rattle.std.proofs.Common.{◌≡◌, ◌-◌, ◌<◌, ◌%◌, arith, sym, ap, ◌∙◌}
-use mathlib.Core.Path.{ap₂}
+use Rattle.std.proofs.Common.{◌≡◌, ◌-◌, ◌<◌, ◌%◌, arith, sym, ap, ◌∙◌, ap₂}
 use Rattle.image_model.specs.Layout.{Layout, pixel}
 use Rattle.image_model.specs.Grid.{grid_of}
 use Rattle.image_model.specs.Rows.{row_count}

@@ -1,48 +1,12 @@
 -- `cover_first` lends the image to a cursor and the cursor to `write_next`, and takes both back: the image ends as the cursor's cells do. Assumes `Logic`.
-use mathlib.Core.Path.{◌≡◌, refl, ap, subst}
-use Prim.Native.Nat.{ℕ, ◌*◌, ◌<◌, ◌^◌}
-use mathlib.Core.List.{List, [], ◌∷◌, ◌++◌}
-use lib.ListN.{length}
-use base.Fml.{Lft, GName, Share, ftrue, fdead, fres, flft, flent, fat}
-use base.Fraction.{full_share}
 use base.Share
-use base.Logic.{SProp, emp, id⊢, apply∗}
-use base.Stored.{coded_list}
-use mir.Syntax.{Args, Dict, Fn, Ty, named, w64, dnil, tcons, tnil, impl}
-use mir.MapTy.{inst_fn}
-use mir.Val.{Val, vint, vptr, vunit}
-use contract.BorrowLft.{◌⊑◌, ⊑_trans, meet_⊑_right}
-use contract.Monad.{fact, fact_i}
-use contract.Running.{tables}
-use types.Kit.{‵, ◌⊛◌, raw, later, some, ◌$◌, ◌∵◌, !, qed, by, move, keep, drop, split, split3, join, fsplit, fjoin, fpick, feq_l, feq_i, rewrite, use0, use1, use2, use3, await, pick}
-use types.Run.{stop, from, addr, of_opd, unit_lit, and_then, no_more, returns, enter}
-use types.ByLocal.{alloc_all, pass_all, free_all, look_at, get, through, sets, lands_as, take_at, give_at}
-use types.SemTy.{Body}
-use borrow.Table.OneValue.{part_in_at, part_out_at}
-use denote.Array.{Array}
-use denote.Builtin.{unit, usize}
-use denote.Exit.{no, yes}
-use denote.Plain.{uint_Makes, uint_vals, uint_Tells}
-use denote.Follow.{follows, followed}
-use denote.Laws.{shows, Is}
-use denote.Lend.{LentAgain, lends_again, comes_back, lends_ref, ref_back}
-use denote.Memory.{part_at, mem}
-use denote.Param.{param, copied, layout}
-use denote.Param.Laws.{param_laws, copied_laws, copied_copy}
+use mir.Syntax.{impl}
 use denote.Param.NoDrop.{glues}
-use denote.RattleType.{RattleType, owns}
-use denote.Ref.{MutBor, MutRef, mut_vals, mut_Tells}
-use denote.Signature.{plain, named_lft, types_at}
-use denote.Steps.{nothing, heard, owned, peeks, only}
-use denote.Triple.Call.{calls_at}
-use denote.Triple.Clauses.{lasts}
-use denote.Triple.Spec.{triple_of}
-use denote.Triple.Table.{framed}
-use denote.Triple.Walked.{Stays, stay_ref, stay_dropped, walk_of, Goes-ref, Goes-dropped}
-use Rattle.std.proofs.raw_atomic.Walks.{proved, leaves}
+use Rattle.std.proofs.Common.{◌≡◌, refl, ap, subst, ℕ, ◌*◌, ◌<◌, ◌^◌, List, [], ◌∷◌, ◌++◌, length, w64, MutBor}
 use Rattle.image_model.specs.Layout.{Layout, Fits}
 use Rattle.image_model.specs.Grid.{grid_of}
 use Rattle.image_model.specs.Rows.{pixels, grid_pixels}
+use Rattle.borrow_laws.proofs.Walking.{Lft, GName, Share, ftrue, fdead, fres, flft, flent, fat, full_share, SProp, emp, id⊢, apply∗, coded_list, Args, Dict, Fn, Ty, named, dnil, tcons, tnil, inst_fn, Val, vint, vptr, vunit, ◌⊑◌, ⊑_trans, meet_⊑_right, fact, fact_i, tables, ‵, ◌⊛◌, raw, later, some, ◌$◌, ◌∵◌, !, qed, by, move, keep, drop, split, split3, join, fsplit, fjoin, fpick, feq_l, feq_i, rewrite, use0, use1, use2, use3, await, pick, stop, from, addr, of_opd, unit_lit, and_then, no_more, returns, enter, alloc_all, pass_all, free_all, look_at, get, through, sets, lands_as, take_at, give_at, Body, part_in_at, part_out_at, Array, unit, usize, no, yes, uint_Makes, uint_vals, uint_Tells, follows, followed, shows, Is, LentAgain, lends_again, comes_back, lends_ref, ref_back, part_at, mem, param, copied, layout, param_laws, copied_laws, copied_copy, RattleType, owns, MutRef, mut_vals, mut_Tells, plain, named_lft, types_at, nothing, heard, owned, peeks, only, calls_at, lasts, triple_of, framed, Stays, stay_ref, stay_dropped, walk_of, Goes-ref, Goes-dropped, proved, leaves}
 use Rattle.borrow_laws.proofs.Bodies.{of_copied}
 use Rattle.borrow_laws.proofs.Endings.{ends_said}
 use Rattle.borrow_laws.proofs.Lifetimes.{Ends, begins}

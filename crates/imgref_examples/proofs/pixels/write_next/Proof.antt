@@ -1,62 +1,21 @@
 -- `write_next` writes over one pixel after the other: a loop whose invariant is how the first name follows the cursor's. Assumes `Logic`.
-use mathlib.Core.Path.{◌≡◌, refl, sym, ap, ◌∙◌}
-use Prim.Native.Nat.{ℕ, suc, ◌-◌, ◌<◌, ◌^◌}
-use native.Mathlib.Omega.{arith}
-use mathlib.Core.Bool.{Bool}
-use mathlib.Core.List.{List, [], ◌∷◌, ◌++◌, append_assoc}
 use mathlib.Core.WellFounded.InvImage
-use lib.ListN.{length}
 use lib.WfN.{lt-wf_rel}
-use lib.Dec.{T, lit<, ltb→lt, nltb→le}
-use seplogic.Ra.Ura.{Ura}
-use mir.Syntax.{Fn, Body, Dict, Args, named, w64, a_type, dcons, dnil, seq, assign, block, loop, cond, switch, exit, return, call, call_v, unreachable, lend_static, skip, place, rv_opd, copy, variant, field, deref}
-use mir.MapTy.{inst_fn}
-use mir.Val.{Val, vptr, vint, vunit, of_list, has_ty, WT}
-use base.Logic.{SProp, ent, sep, emp, ex, apply∗, id⊢, guard}
+use mir.Syntax.{Body, place, rv_opd, copy, variant, field, deref}
 use base.Share
-use base.Fraction.{full_share}
-use base.Fml.{Lft, GName, Share, Fml, ftrue, fsep, feq, fdead, fres, fbor, fobor, fobs, fauth, flft}
-use prog.Memory.{Memory}
-use prog.Routine.{Routine}
-use prog.Wp.{Env, WpFn, Tables, Out, Wp, after_turn, after_block, after_seq, at_return}
-use types.Logic.{Logic, sem}
-use types.Match.{live, vrt, in_variant}
-use types.Part.{whole}
+use prog.Wp.{Out, after_turn, after_block}
 use types.SemTy.{Body as BorBody}
-use types.Kit.{Item, Sq, ‵, raw, ◌⊛◌, some, given, later, at_ret, runs, lands, any_q, ◌$◌, ◌∵◌, !, qed, by, move, keep, drop, use0, use1, use2, use3, split, split3, join, fsplit, fsplit3, fjoin, fpack, feq_i, feq_l, pick, await, updating, rewrite, group, learn, show, check, done, now as at_once}
-use types.Run.{enter, of_opd, bin, lit, unit_lit, addr, stop, fld, no_more, and_then, assigns_last, store_raw, first, blocks, branches, skips, jumps, exec, returns, switches_on, loops, again, Below}
-use types.ByLocal.{alloc_all, pass_all, free_all, look_at, get, get_in, get_tag, through, sets, env, forget_but, holding, lands_as}
-use contract.Monad.{Fun, fact, fact_i}
-use contract.BorrowLft.{◌⊑◌, ⊑_trans, meet_⊑_right}
-use contract.Lifetimes.{Lfts, AllOutlive}
-use contract.Running.{tables, tables_of}
+use types.Kit.{lands}
+use types.Run.{jumps, loops, again, Below}
 use sound.WpLaws.{fm_of}
-use denote.RattleType.{RattleType}
-use denote.Exit.{no, yes}
-use denote.Builtin.{usize}
-use denote.Plain.{uint_vals, uint_Tells}
-use denote.Array.{Array}
-use denote.Follow.{follows_both}
-use denote.Laws.{Is, shows}
-use denote.Lend.{LentAgain, lends_again, comes_back}
-use denote.Memory.{mem, cell_at}
-use denote.Param.{copied, layout, layouts, bounded}
-use denote.Param.Laws.{Laws, IsCopy, copied_laws, copied_copy}
-use denote.Ref.{MutRef, MutBor, mut_vals, mut_Tells}
-use denote.Signature.{plain, named_lft}
-use denote.Steps.{nothing, opens, closes, facts, heard, only}
-use denote.Triple.Call.{calls_at}
-use denote.Triple.Clauses.{Clauses, Ended}
-use denote.Triple.Entry.{on_entry}
-use denote.Triple.Spec.{triple_of}
-use denote.Triple.Statement.{Contract, Triple}
-use denote.Triple.Walked.{Stays, walk_of, stay_ref, stay_dropped, Goes-ref, Goes-dropped}
-use Rattle.std.proofs.raw_atomic.Walks.{proved, leaves}
+use denote.Param.Laws.{IsCopy}
+use denote.Triple.Statement.{Triple}
+use Rattle.std.proofs.Common.{◌≡◌, refl, sym, ap, ◌∙◌, ℕ, suc, ◌-◌, ◌<◌, ◌^◌, arith, Bool, List, [], ◌∷◌, ◌++◌, append_assoc, length, T, lit<, ltb→lt, nltb→le, w64, MutBor, Option, Some, None}
 use Rattle.std.proofs.alloc.Shapes.{after}
-use Rattle.std.specs.Prelude.{Option, Some, None}
 use Rattle.std.specs.Iterator.{MakesProgress, item_count, YieldsFirstMut}
 use Rattle.std.specs.contracts.option.Option as OP
 use Rattle.std.specs.declared.clone.Clone.{Ghosts}
+use Rattle.borrow_laws.proofs.Walking.{Ura, Fn, Dict, Args, named, a_type, dcons, dnil, seq, assign, block, loop, cond, switch, exit, return, call, call_v, unreachable, lend_static, skip, inst_fn, Val, vptr, vint, vunit, of_list, has_ty, WT, SProp, ent, sep, emp, ex, apply∗, id⊢, guard, full_share, Lft, GName, Share, Fml, ftrue, fsep, feq, fdead, fres, fbor, fobor, fobs, fauth, flft, Memory, Routine, Env, WpFn, Tables, Wp, after_seq, at_return, Logic, sem, live, vrt, in_variant, whole, Item, Sq, ‵, raw, ◌⊛◌, some, given, later, at_ret, runs, any_q, ◌$◌, ◌∵◌, !, qed, by, move, keep, drop, use0, use1, use2, use3, split, split3, join, fsplit, fsplit3, fjoin, fpack, feq_i, feq_l, pick, await, updating, rewrite, group, learn, show, check, done, at_once, enter, of_opd, bin, lit, unit_lit, addr, stop, fld, no_more, and_then, assigns_last, store_raw, first, blocks, branches, skips, exec, returns, switches_on, alloc_all, pass_all, free_all, look_at, get, get_in, get_tag, through, sets, env, forget_but, holding, lands_as, Fun, fact, fact_i, ◌⊑◌, ⊑_trans, meet_⊑_right, Lfts, AllOutlive, tables, tables_of, RattleType, no, yes, usize, uint_vals, uint_Tells, Array, follows_both, Is, shows, LentAgain, lends_again, comes_back, mem, cell_at, copied, layout, layouts, bounded, Laws, copied_laws, copied_copy, MutRef, mut_vals, mut_Tells, plain, named_lft, nothing, opens, closes, facts, heard, only, calls_at, Clauses, Ended, on_entry, triple_of, Contract, Stays, walk_of, stay_ref, stay_dropped, Goes-ref, Goes-dropped, proved, leaves}
 use Rattle.borrow_laws.specs.Endings.{ends_as}
 use Rattle.borrow_laws.proofs.Endings.{ends_beside, ends_then, ends_itself}
 use Rattle.borrow_laws.proofs.Lifetimes.{Ends, begins}

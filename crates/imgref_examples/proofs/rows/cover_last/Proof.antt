@@ -1,57 +1,15 @@
 -- `cover_last` lends the image to an iterator and the iterator to `next_back`, fills the last row and lets the others go: the image ends as its cells do. Assumes `Logic`.
-use mathlib.Core.Path.{◌≡◌, refl, sym, ap, subst}
-use Prim.Native.Nat.{ℕ, ◌^◌, ◌<◌}
-use mathlib.Core.List.{List, [], ◌∷◌}
-use lib.ListN.{length, replicate}
-use lib.Dec.{T, lit<}
-use base.Fraction.{full_share}
-use base.Fml.{Lft, GName, Share, feq, ftrue, fdead, fres, fat, flft, flent}
 use base.Share
-use base.Logic.{SProp, ent, emp, id⊢, apply∗}
-use types.Logic.{sem}
-use mir.Syntax.{Args, Body, Fn, Ty, named, ty_unit, skip}
-use mir.MapTy.{inst_fn}
-use mir.Val.{Val, WT, has_ty, vptr, vunit, of_list}
-use prog.Wp.{Wp, after_seq, at_return}
-use contract.BorrowLft.{◌⊑◌, ⊑_trans, meet_⊑_right}
-use contract.Monad.{fact, fact_i}
-use contract.Running.{tables}
-use types.Kit.{Item, Sq, any_q, ‵, ◌⊛◌, raw, later, some, at_ret, runs, ◌$◌, ◌∵◌, !, qed, by, move, keep, drop, split, split3, join, fsplit, fjoin, feq_l, feq_i, rewrite, use0, use1, use2, use3, await, pick}
-use types.Match.{live, vrt, in_variant}
-use types.Part.{whole as all_of, sub, agg}
-use types.Run.{stop, fld, hop, from, addr, of_opd, unit_lit, and_then, no_more, first, switches_on, skips, exec, returns, enter}
-use types.ByLocal.{alloc_all, pass_all, free_all, look_at, look_in_at, get, get_in, get_tag, through, sets, lands_as, lands_last, env, holding, forget_but, take_at, give_at}
-use denote.Array.{Array}
-use denote.Builtin.{unit}
-use denote.Exit.{no}
-use denote.Follow.{follows, followed}
-use denote.FollowSlice.{finally-res}
-use denote.Laws.{shows, Is}
-use denote.Lend.{LentAgain, lends_again, comes_back, lends_ref, ref_back}
-use denote.Memory.{part_at, mem}
-use borrow.Table.OneValue.{part_in_at, part_out_at}
+use mir.Syntax.{Body}
 use types.SemTy.{Body as BorBody}
-use denote.Param.{param, copied}
-use denote.Param.Laws.{param_laws, copied_laws, copied_copy}
-use denote.RattleType.{RattleType, owns}
-use denote.Ref.{MutBor, MutRef, mut_vals, mut_Tells}
-use denote.Signature.{plain, named_lft, types_at}
-use denote.Slice.{MutSlice}
-use denote.Steps.{nothing, heard, peeks, only}
-use denote.Triple.Call.{calls_at, calls_at_last}
-use denote.Triple.Clauses.{lasts}
-use denote.Triple.Spec.{triple_of}
-use denote.Triple.Table.{framed}
-use denote.Triple.Walked.{Stays, stay_ref, stay_dropped, walk_of, Goes-ref, Goes-dropped}
-use Rattle.std.proofs.raw_atomic.Walks.{proved, leaves}
-use Rattle.std.proofs.Common.{⊎_elim}
+use Rattle.std.proofs.Common.{⊎_elim, ◌≡◌, refl, sym, ap, subst, ℕ, ◌^◌, ◌<◌, List, [], ◌∷◌, length, replicate, T, lit<, MutBor, Option, Some, None, All}
 use Rattle.std.proofs.alloc.Shapes.{after}
-use Rattle.std.specs.Prelude.{Option, Some, None, All}
 use Rattle.std.specs.contracts.option.Option as OP
 use Rattle.image_model.specs.Layout.{Layout, Fits}
 use Rattle.image_model.specs.Grid.{grid_of}
 use Rattle.image_model.specs.Rows.{rows, row_count, grid_rows}
 use Rattle.imgref.specs.Image.{with_all, layout_by}
+use Rattle.borrow_laws.proofs.Walking.{full_share, Lft, GName, Share, feq, ftrue, fdead, fres, fat, flft, flent, SProp, ent, emp, id⊢, apply∗, sem, Args, Fn, Ty, named, ty_unit, skip, inst_fn, Val, WT, has_ty, vptr, vunit, of_list, Wp, after_seq, at_return, ◌⊑◌, ⊑_trans, meet_⊑_right, fact, fact_i, tables, Item, Sq, any_q, ‵, ◌⊛◌, raw, later, some, at_ret, runs, ◌$◌, ◌∵◌, !, qed, by, move, keep, drop, split, split3, join, fsplit, fjoin, feq_l, feq_i, rewrite, use0, use1, use2, use3, await, pick, live, vrt, in_variant, all_of, sub, agg, stop, fld, hop, from, addr, of_opd, unit_lit, and_then, no_more, first, switches_on, skips, exec, returns, enter, alloc_all, pass_all, free_all, look_at, look_in_at, get, get_in, get_tag, through, sets, lands_as, lands_last, env, holding, forget_but, take_at, give_at, Array, unit, no, follows, followed, finally-res, shows, Is, LentAgain, lends_again, comes_back, lends_ref, ref_back, part_at, mem, part_in_at, part_out_at, param, copied, param_laws, copied_laws, copied_copy, RattleType, owns, MutRef, mut_vals, mut_Tells, plain, named_lft, types_at, MutSlice, nothing, heard, peeks, only, calls_at, calls_at_last, lasts, triple_of, framed, Stays, stay_ref, stay_dropped, walk_of, Goes-ref, Goes-dropped, proved, leaves}
 use Rattle.borrow_laws.proofs.Bodies.{of_copied, first_arm, type_of}
 use Rattle.borrow_laws.proofs.Declared.{typed}
 use Rattle.borrow_laws.specs.Endings.{ends_as}

@@ -1,6 +1,5 @@
 -- The head is written before the cells.
-use Rattle.std.proofs.Common.{Result, Ok, Err}
-use Rattle.std.specs.Prelude.{OnErr}
+use Rattle.std.proofs.Common.{Result, Ok, Err, OnErr}
 use Rattle.devices.specs.Device.{device_of}
 use Rattle.imgref_frames.proofs.FrameLines.{begun}
 use Rattle.imgref_frames.proofs.cells.write_piece.Goals as goal

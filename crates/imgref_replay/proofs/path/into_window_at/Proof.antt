@@ -1,52 +1,13 @@
 -- `into_window_at` asks where the path leads, and lends that stretch on; where a window is outside, the cells are given up as they are.
-use mathlib.Core.Path.{◌≡◌, refl, sym, ap, subst, ◌∙◌}
-use mathlib.Core.Logic.{inl, inr}
-use Prim.Native.Nat.{ℕ, ◌≤◌}
-use native.Mathlib.Nat.{suc-ne-zero}
-use mathlib.Core.List.{List, [], ◌∷◌, ◌++◌}
-use mathlib.Core.Option.{some as there, none}
-use lib.Dec.{lit<}
-use lib.ListN.{length}
-use base.Logic.{SProp, emp, id⊢}
-use base.Fml.{Lft, GName, ftrue, flft, fobs}
-use base.Stored.{coded_list}
-use mir.Syntax.{Args, Fn, named, w64}
-use mir.MapTy.{inst_fn}
-use mir.Val.{Val, vint, vcons, vnil}
-use prog.Wp.{Env, WpFn}
-use contract.BorrowLft.{◌⊑◌, ⊑_refl, ⊑_trans, ⊑_meet}
-use contract.Monad.{fact, fact_i}
-use contract.Running.{tables}
-use types.Kit.{Item, ‵, ◌⊛◌, raw, later, some, prop, at_ret, ◌$◌, ◌∵◌, !, qed, by, move, keep, drop, split, split3, join, fsplit, fsplit3, fjoin, fpick, rewrite, regoal, use0, use1, use2, await, pick, updating, now, done}
-use types.Match.{live, vrt, in_variant, by_variants}
-use types.Part.{whole as all_of, sub, agg}
-use types.Run.{stop, fld, hop, from, addr, of_opd, lit, and_then, no_more, first, exec, returns, enter}
-use types.ByLocal.{alloc_all, pass_all, free_all, look_at, look_in_at, get, get_in, get_tag, sets, sets_last, lands_as, env}
-use types.Tokens.{name_done}
-use denote.Array.{Array}
-use denote.Builtin.{usize}
-use denote.Follow.{follows, follows_if}
-use denote.FollowSlice.{heres_id}
-use denote.Laws.{shows, Is}
-use denote.Param.{param}
-use denote.Plain.{uint_Makes}
-use denote.RattleType.{RattleType, owns}
-use denote.Ref.{MutBor, Bor}
-use denote.Signature.{types_at}
-use denote.Slice.{MutSlice, ShrSlice, slice_val, shr_slice_Tells}
-use denote.Steps.{nothing, heard, peeks, owned, only}
-use denote.Triple.Call.{calls_at}
-use denote.Triple.Clauses.{lasts}
-use denote.Triple.Spec.{triple_of}
-use denote.Triple.Table.{framed}
-use denote.Triple.Walked.{Stays, stay_dropped, walk_of}
-use Rattle.std.proofs.raw_atomic.Walks.{proved_at, leaves}
+use mathlib.Core.Option.{some as there}
+use types.Match.{by_variants}
+use Rattle.std.proofs.Common.{◌≡◌, refl, sym, ap, subst, ◌∙◌, inl, inr, ℕ, ◌≤◌, suc-ne-zero, List, [], ◌∷◌, ◌++◌, lit<, length, w64, MutBor, Bor, Option, None}
 use Rattle.std.proofs.VecSteps.Shapes.{after}
 use Rattle.std.specs.Result.{IfOk, result_err}
-use Rattle.std.specs.Prelude.{Option, None}
 use Rattle.std.specs.contracts.result.Result as result
 use Rattle.std.specs.declared.result.Result.{Result}
 use Rattle.std.specs.declared.result.Result.TheVariants.{Ok, Err}
+use Rattle.borrow_laws.proofs.Walking.{none, SProp, emp, id⊢, Lft, GName, ftrue, flft, fobs, coded_list, Args, Fn, named, inst_fn, Val, vint, vcons, vnil, Env, WpFn, ◌⊑◌, ⊑_refl, ⊑_trans, ⊑_meet, fact, fact_i, tables, Item, ‵, ◌⊛◌, raw, later, some, prop, at_ret, ◌$◌, ◌∵◌, !, qed, by, move, keep, drop, split, split3, join, fsplit, fsplit3, fjoin, fpick, rewrite, regoal, use0, use1, use2, await, pick, updating, now, done, live, vrt, in_variant, all_of, sub, agg, stop, fld, hop, from, addr, of_opd, lit, and_then, no_more, first, exec, returns, enter, alloc_all, pass_all, free_all, look_at, look_in_at, get, get_in, get_tag, sets, sets_last, lands_as, env, name_done, Array, usize, follows, follows_if, heres_id, shows, Is, param, uint_Makes, RattleType, owns, types_at, MutSlice, ShrSlice, slice_val, shr_slice_Tells, nothing, heard, peeks, owned, only, calls_at, lasts, triple_of, framed, Stays, stay_dropped, walk_of, proved_at, leaves}
 use Rattle.borrow_laws.proofs.Bodies.{of_one}
 use Rattle.borrow_laws.proofs.Followed.{if_some, if_none}
 use Rattle.image_model.specs.Grid.{grid_of}

@@ -1,5 +1,4 @@
-use Rattle.std.proofs.Common.{ap, sym, ◌∙◌, refl}
-use Rattle.std.specs.Prelude.{count_by}
+use Rattle.std.proofs.Common.{ap, sym, ◌∙◌, refl, count_by}
 use Rattle.image_model.specs.Grid.{view}
 use Rattle.image_model.specs.Rows.{grid_pixels}
 use Rattle.image_model.proofs.Rows.{grid_joined_rows_of}

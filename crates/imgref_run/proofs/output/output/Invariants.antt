@@ -1,5 +1,4 @@
-use Rattle.std.proofs.Common.{◌≡◌, ◌++◌, map, take}
-use Rattle.std.specs.Prelude.{All}
+use Rattle.std.proofs.Common.{◌≡◌, ◌++◌, map, take, All}
 use Rattle.std.specs.List.{flat_map}
 use Rattle.imgref.specs.Image.{vec_layout}
 use Rattle.imgref_run.specs.Line.{image_text, IsImage}

@@ -1,47 +1,13 @@
 -- `parts_at` lends the whole image, takes the window of the path from it, and parts that: its MIR, proved by hand. Assumes `Logic`.
-use mathlib.Core.Path.{◌≡◌, refl, sym, ap, subst, ◌∙◌}
-use Prim.Native.Nat.{ℕ}
-use mathlib.Core.List.{List, [], ◌∷◌, ◌++◌}
-use lib.Dec.{T, lit<}
-use lib.ListN.{length}
-use base.Logic.{SProp, emp, id⊢}
-use base.Fml.{Lft, GName, ftrue, flft}
-use mir.Syntax.{Args, Body, Fn, named}
-use mir.MapTy.{inst_fn}
-use mir.Val.{Val, WT, has_ty, vptr, of_list}
-use prog.Wp.{Env, Wp, WpFn, after_seq, at_return}
-use contract.BorrowLft.{◌⊑◌, ⊑_refl, ⊑_trans, ⊑_meet}
-use contract.Monad.{fact, fact_i}
-use contract.Running.{tables}
-use types.Kit.{Item, any_q, ‵, ◌⊛◌, raw, later, some, prop, at_ret, ◌$◌, ◌∵◌, !, qed, by, move, keep, drop, split, split3, join, fsplit, fjoin, rewrite, regoal, use0, use1, use2, await, pick, updating, now, done}
-use types.Match.{live, vrt, in_variant}
-use types.Part.{whole as all_of}
-use types.Run.{stop, fld, addr, of_opd, and_then, no_more, first, switches_on, exec, returns, enter}
-use types.ByLocal.{alloc_all, pass_all, free_all, look_at, get, get_in, get_tag, through, sets, lands_as, lands_last, env}
-use denote.Array.{Array}
-use denote.Builtin.{usize}
-use denote.Follow.{follows, follows_if, follows_then}
-use denote.Laws.{shows, Is}
-use denote.Param.{param}
-use denote.RattleType.{RattleType, owns}
-use denote.Ref.{Bor, MutBor, MutRef, mut_vals, mut_Tells}
-use denote.Signature.{plain, types_at}
-use denote.Slice.{ShrSlice, slice_val, shr_slice_Tells}
-use denote.Steps.{nothing, heard, peeks, only}
-use denote.Triple.Call.{calls_at, calls_at_last}
-use denote.Triple.Clauses.{lasts}
-use denote.Triple.Spec.{triple_of}
-use denote.Triple.Table.{framed}
-use denote.Triple.Walked.{Stays, stay_dropped, walk_of, Goes-spent_ref}
-use Rattle.std.proofs.raw_atomic.Walks.{proved_at, leaves}
-use Rattle.std.proofs.Common.{⊎_elim}
+use mir.Syntax.{Body}
+use Rattle.std.proofs.Common.{⊎_elim, ◌≡◌, refl, sym, ap, subst, ◌∙◌, ℕ, List, [], ◌∷◌, ◌++◌, T, lit<, length, Bor, MutBor, None}
 use Rattle.std.proofs.alloc.Shapes.{after}
 use Rattle.std.proofs.lemmas.Option.{none-some}
-use Rattle.std.specs.Prelude.{None}
 use Rattle.std.specs.Result.{IfOk, result_err}
 use Rattle.std.specs.contracts.result.Result as result
 use Rattle.std.specs.declared.result.Result.{Result}
 use Rattle.std.specs.declared.result.Result.TheVariants.{Ok, Err}
+use Rattle.borrow_laws.proofs.Walking.{SProp, emp, id⊢, Lft, GName, ftrue, flft, Args, Fn, named, inst_fn, Val, WT, has_ty, vptr, of_list, Env, Wp, WpFn, after_seq, at_return, ◌⊑◌, ⊑_refl, ⊑_trans, ⊑_meet, fact, fact_i, tables, Item, any_q, ‵, ◌⊛◌, raw, later, some, prop, at_ret, ◌$◌, ◌∵◌, !, qed, by, move, keep, drop, split, split3, join, fsplit, fjoin, rewrite, regoal, use0, use1, use2, await, pick, updating, now, done, live, vrt, in_variant, all_of, stop, fld, addr, of_opd, and_then, no_more, first, switches_on, exec, returns, enter, alloc_all, pass_all, free_all, look_at, get, get_in, get_tag, through, sets, lands_as, lands_last, env, Array, usize, follows, follows_if, follows_then, shows, Is, param, RattleType, owns, MutRef, mut_vals, mut_Tells, plain, types_at, ShrSlice, slice_val, shr_slice_Tells, nothing, heard, peeks, only, calls_at, calls_at_last, lasts, triple_of, framed, Stays, stay_dropped, walk_of, Goes-spent_ref, proved_at, leaves}
 use Rattle.borrow_laws.proofs.Bodies.{of_container, first_arm, type_of}
 use Rattle.borrow_laws.proofs.Followed.{if_given}
 use Rattle.image_model.specs.Layout.{Layout, Fits}

@@ -1,30 +1,8 @@
 -- `new` keeps what the slice sees. Assumes `Logic`.
-use mathlib.Core.Path.{◌≡◌, refl}
-use Prim.Native.Nat.{ℕ}
-use mathlib.Core.List.{List, [], ◌∷◌}
-use lib.ListN.{length}
-use mir.Syntax.{Fn, a_type, named}
-use mir.MapTy.{inst_fn}
-use base.Logic.{emp}
-use base.Fml.{Lft, Share, ftrue, flft}
-use contract.Monad.{fact, fact_i}
-use contract.Running.{tables}
-use types.Kit.{‵, raw, ◌⊛◌, ◌$◌, ◌∵◌, !, qed, by, move, keep, drop, use0, split, fsplit, fjoin}
-use types.Run.{enter, addr, from, fld, hop, stop, no_more, and_then, returns}
-use types.Part.{whole, sub, agg}
-use types.ByLocal.{alloc_all, pass_all, free_all, look_at, look_in_at, get, sets}
-use denote.Exit.{yes}
-use denote.RattleType.{RattleType, owns}
-use denote.Param.{param, layouts}
-use denote.RawPtr.{block_ptr}
-use denote.Ref.{Bor}
-use denote.Shadow.{pure_l, pure_i}
-use denote.Signature.{plain, named_lft, shr_slice_of, types_at}
-use denote.Slice.{room, slice_val, shr_slice_vals, shr_slice_Tells}
-use denote.Steps.{nothing}
-use denote.Struct.Owning.{to}
-use denote.Triple.Walked.{Stays, walk_of, stay_dropped, Goes-dropped}
-use Rattle.std.proofs.raw_atomic.Walks.{proved, leaves}
+use denote.Signature.{shr_slice_of}
+use denote.Slice.{shr_slice_vals}
+use Rattle.std.proofs.Common.{◌≡◌, refl, ℕ, List, [], ◌∷◌, length, Bor}
+use Rattle.borrow_laws.proofs.Walking.{Fn, a_type, named, inst_fn, emp, Lft, Share, ftrue, flft, fact, fact_i, tables, ‵, raw, ◌⊛◌, ◌$◌, ◌∵◌, !, qed, by, move, keep, drop, use0, split, fsplit, fjoin, enter, addr, from, fld, hop, stop, no_more, and_then, returns, whole, sub, agg, alloc_all, pass_all, free_all, look_at, look_in_at, get, sets, yes, RattleType, owns, param, layouts, block_ptr, pure_l, pure_i, plain, named_lft, types_at, room, slice_val, shr_slice_Tells, nothing, to, Stays, walk_of, stay_dropped, Goes-dropped, proved, leaves}
 use Rattle.image_pixels.proofs.Reading.{place}
 use Rattle.image_pixels.proofs.Reading.{Data, made}
 use Rattle.image_pixels.specs.contracts.cells.Cells as P

@@ -1,44 +1,11 @@
 -- `take` shows the first cells. Assumes `Logic`.
-use mathlib.Core.Path.{◌≡◌, refl, sym, ap, subst, ◌∙◌}
-use Prim.Native.Nat.{ℕ, ◌+◌, ◌-◌, ◌*◌, ◌≤◌, ◌<◌, ◌^◌}
-use native.Mathlib.Omega.{arith}
-use native.Mathlib.Nat.{mul-le-mul_right}
-use mathlib.Core.List.{List, [], ◌∷◌}
-use lib.ListN.{length, take, drop as drop_list, take-append-drop, length-drop}
-use base.Fraction.{full_share}
-use mir.Syntax.{Fn, Ty, named, a_type, w64}
-use mir.MapTy.{inst_fn}
 use mir.Raw.{raw as bare}
-use mir.Val.{Val, vint, vptr}
-use base.Logic.{SProp, emp, id⊢}
-use base.Fml.{Lft, GName, Share, ftrue, fat, flft, fhide}
-use contract.BorrowLft.{◌⊑◌}
-use contract.Monad.{fact, fact_i}
-use contract.Running.{tables}
-use types.Kit.{‵, raw, ◌⊛◌, at_ret, ◌$◌, ◌∵◌, !, qed, by, move, keep, drop, use0, use1, split, join, fsplit, fsplit3, fjoin, fjoin3, feq_i, rewrite}
-use types.Run.{enter, of_opd, bin, load, stop, fld, no_more, and_then, assigns, first, blocks, exec, returns, size_word}
-use types.Part.{whole, sub, look_in, store_in, agg}
-use types.ByLocal.{alloc_all, pass_all, free_all, look_at, get, through, sets, sets_last, is, env}
-use denote.Builtin.{usize}
-use denote.Exit.{yes}
-use denote.RattleType.{RattleType, owns}
-use denote.Laws.{shows, Is}
-use denote.Memory.{mem, cell_at, shared_of}
-use denote.Opens.{unhide, hide}
-use denote.Param.{param, layouts}
-use denote.Param.Laws.{param_laws}
-use denote.Plain.{uint_vals, uint_Tells}
-use denote.RawPtr.{Ptr, block_ptr, in_a_block}
-use denote.Ref.{Bor, mut_vals, mut_Tells}
-use denote.Shadow.{pure_l, pure_i}
-use denote.Signature.{plain, named_lft, types_at}
-use denote.Slice.{room, slice_val, shr_slice_at, elements_shared}
-use denote.Steps.{nothing, heard, opens, closes, peeks}
-use denote.Struct.Owning.{to}
-use denote.Triple.Walked.{Stays, walk_of, stay_ref, stay_dropped, Goes-ref, Goes-dropped}
-use borrow.Table.Elements.{at, at_mul, length-take-le}
+use denote.Memory.{shared_of}
+use denote.Opens.{hide}
+use denote.Slice.{shr_slice_at, elements_shared}
+use Rattle.std.proofs.Common.{◌≡◌, refl, sym, ap, subst, ◌∙◌, ℕ, ◌+◌, ◌-◌, ◌*◌, ◌≤◌, ◌<◌, ◌^◌, arith, mul-le-mul_right, List, [], ◌∷◌, length, take, drop as drop_list, take-append-drop, length-drop, w64, Bor}
 use Rattle.std.proofs.alloc.Shapes.{after}
-use Rattle.std.proofs.raw_atomic.Walks.{proved, leaves}
+use Rattle.borrow_laws.proofs.Walking.{full_share, Fn, Ty, named, a_type, inst_fn, Val, vint, vptr, SProp, emp, id⊢, Lft, GName, Share, ftrue, fat, flft, fhide, ◌⊑◌, fact, fact_i, tables, ‵, raw, ◌⊛◌, at_ret, ◌$◌, ◌∵◌, !, qed, by, move, keep, drop, use0, use1, split, join, fsplit, fsplit3, fjoin, fjoin3, feq_i, rewrite, enter, of_opd, bin, load, stop, fld, no_more, and_then, assigns, first, blocks, exec, returns, size_word, whole, sub, look_in, store_in, agg, alloc_all, pass_all, free_all, look_at, get, through, sets, sets_last, is, env, usize, yes, RattleType, owns, shows, Is, mem, cell_at, unhide, param, layouts, param_laws, uint_vals, uint_Tells, Ptr, block_ptr, in_a_block, mut_vals, mut_Tells, pure_l, pure_i, plain, named_lft, types_at, room, slice_val, nothing, heard, opens, closes, peeks, to, Stays, walk_of, stay_ref, stay_dropped, Goes-ref, Goes-dropped, at, at_mul, length-take-le, proved, leaves}
 use Rattle.borrow_laws.proofs.Stretches.{uncapped}
 use Rattle.image_pixels.specs.Loans.{seen}
 use Rattle.image_pixels.proofs.Reading.{Data, made, parts, place}

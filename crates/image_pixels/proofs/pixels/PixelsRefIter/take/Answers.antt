@@ -1,5 +1,4 @@
-use Rattle.std.proofs.Common.{◌-◌, ◌++◌, sym, ◌∙◌}
-use mathlib.Core.Path.{ap₂}
+use Rattle.std.proofs.Common.{◌-◌, ◌++◌, sym, ◌∙◌, ap₂}
 use Rattle.image_pixels.specs.Marks.{pick, marks}
 use Rattle.image_pixels.specs.Pixels.{refs_left}
 use Rattle.image_pixels.proofs.Marks.{pick_taken}

@@ -1,14 +1,11 @@
 -- A `&` to it holds none of the pixels. Assumes `Logic`.
-use denote.RattleType.{RattleType}
-use denote.Ref.{NamedLft}
-use denote.Slice.{MutSlice}
-use denote.Param.Laws.{Laws}
 use denote.Param.Shared.{copy_shared}
 use denote.SharingLaws.{nothing_shr_laws}
 use denote.Struct.Field.{RawPtr-field, usize-field}
 use denote.Struct.Laws.{field_copy, RawPtr-copy, usize-copy}
 use denote.Struct.Lending.{of_Lends, Lends-nothing}
 use Rattle.std.specs.contracts.marker.PhantomData as marker
+use Rattle.borrow_laws.proofs.Walking.{RattleType, NamedLft, MutSlice, Laws}
 use Rattle.image_pixels.specs.contracts.pixels_mut.PixelsIterMut as C
 use Rattle.image_pixels.proofs.pixels_mut.PixelsIterMut.TheLaw.Statement.{statement}
 

@@ -1,27 +1,7 @@
 -- `drop` lets the cells go as they are. Assumes `Logic`.
-use mathlib.Core.Path.{refl}
-use mathlib.Core.List.{List, [], ◌∷◌}
-use mir.Syntax.{Fn, a_type, dcons, dnil}
-use mir.MapTy.{inst_fn}
-use mir.Val.{Val, vunit}
-use base.Logic.{id⊢}
-use base.Fml.{Lft, Share, ftrue, flft, fres}
-use base.Stored.{coded_list}
-use contract.Running.{tables}
-use types.Kit.{‵, raw, ◌⊛◌, ◌$◌, ◌∵◌, !, qed, by, move, keep, drop, use1, split, fsplit, fsplit3, fjoin, feq_i}
-use types.Run.{enter, of_opd, unit_lit, returns}
-use types.ByLocal.{alloc_all, pass_all, free_all, look_at, sets}
-use denote.Exit.{no}
-use denote.RattleType.{RattleType}
-use denote.Param.{param, bounded}
-use denote.Param.Laws.{param_laws}
-use contract.Lifetimes.{Lfts}
+use Rattle.std.proofs.Common.{refl, List, [], ◌∷◌}
+use Rattle.borrow_laws.proofs.Walking.{Fn, a_type, dcons, dnil, inst_fn, Val, vunit, id⊢, Lft, Share, ftrue, flft, fres, coded_list, tables, ‵, raw, ◌⊛◌, ◌$◌, ◌∵◌, !, qed, by, move, keep, drop, use1, split, fsplit, fsplit3, fjoin, feq_i, enter, of_opd, unit_lit, returns, alloc_all, pass_all, free_all, look_at, sets, no, RattleType, param, bounded, param_laws, Lfts, in_a_block, plain, named_lft, nothing, Stays, walk_of, stay_dropped, Goes-dropped, proved, leaves}
 use Rattle.image_pixels.proofs.pixels_mut.PixelsIterMut.TheLaws as laws
-use denote.RawPtr.{in_a_block}
-use denote.Signature.{plain, named_lft}
-use denote.Steps.{nothing}
-use denote.Triple.Walked.{Stays, walk_of, stay_dropped, Goes-dropped}
-use Rattle.std.proofs.raw_atomic.Walks.{proved, leaves}
 use Rattle.image_pixels.specs.Loans.{lent}
 use Rattle.image_pixels.specs.contracts.pixels_mut.PixelsIterMut as P
 use Rattle.image_pixels.specs.declared.pixels_mut.PixelsIterMut.{PixelsIterMut}

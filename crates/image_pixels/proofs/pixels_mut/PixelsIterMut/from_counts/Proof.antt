@@ -1,36 +1,8 @@
 -- `from_counts` keeps the slice's own borrow. Assumes `Logic`.
-use mathlib.Core.Path.{◌≡◌, refl}
-use Prim.Native.Nat.{ℕ, ◌+◌, ◌*◌, ◌<◌, ◌≤◌, ◌^◌}
-use mathlib.Core.List.{List, [], ◌∷◌}
-use lib.ListN.{length}
-use mir.Syntax.{Fn, a_type, w64, named}
-use mir.MapTy.{inst_fn}
-use mir.Val.{Val, vint}
-use base.Logic.{emp}
-use base.Fml.{Lft, GName, Share, ftrue, flft, fobs}
-use base.Stored.{coded_list}
-use contract.Monad.{fact, fact_i}
-use contract.Running.{tables}
-use types.Kit.{‵, raw, ◌⊛◌, ◌$◌, ◌∵◌, !, qed, by, move, keep, drop, use0, split, split3, join, fsplit, fsplit3, fjoin, rewrite}
-use types.Run.{enter, addr, from, fld, hop, stop, no_more, and_then, returns}
-use types.Part.{whole, sub, agg}
-use types.ByLocal.{alloc_all, pass_all, free_all, look_at, look_in_at, get, sets}
-use denote.Exit.{no, yes}
-use denote.RattleType.{RattleType, owns}
-use denote.Builtin.{usize}
-use denote.FollowSlice.{heres_id}
-use denote.Param.{param, layouts}
-use denote.Plain.{uint_vals, uint_Tells}
-use denote.RawPtr.{block_ptr}
-use denote.Ref.{MutBor}
-use denote.Shadow.{pure_l, pure_i}
-use contract.BorrowLft.{◌⊑◌}
-use denote.Signature.{plain, named_lft, mut_slice_of, types_at}
-use denote.Slice.{room, slice_val, mut_slice_vals, mut_slice_Tells}
-use denote.Steps.{nothing, heard}
-use denote.Struct.Owning.{to}
-use denote.Triple.Walked.{Stays, walk_of, stay_dropped, Goes-dropped, Goes-spent_slice}
-use Rattle.std.proofs.raw_atomic.Walks.{proved, leaves}
+use denote.Slice.{mut_slice_Tells}
+use denote.Triple.Walked.{Goes-spent_slice}
+use Rattle.std.proofs.Common.{◌≡◌, refl, ℕ, ◌+◌, ◌*◌, ◌<◌, ◌≤◌, ◌^◌, List, [], ◌∷◌, length, w64, MutBor}
+use Rattle.borrow_laws.proofs.Walking.{Fn, a_type, named, inst_fn, Val, vint, emp, Lft, GName, Share, ftrue, flft, fobs, coded_list, fact, fact_i, tables, ‵, raw, ◌⊛◌, ◌$◌, ◌∵◌, !, qed, by, move, keep, drop, use0, split, split3, join, fsplit, fsplit3, fjoin, rewrite, enter, addr, from, fld, hop, stop, no_more, and_then, returns, whole, sub, agg, alloc_all, pass_all, free_all, look_at, look_in_at, get, sets, no, yes, RattleType, owns, usize, heres_id, param, layouts, uint_vals, uint_Tells, block_ptr, pure_l, pure_i, ◌⊑◌, plain, named_lft, mut_slice_of, types_at, room, slice_val, mut_slice_vals, nothing, heard, to, Stays, walk_of, stay_dropped, Goes-dropped, proved, leaves}
 use Rattle.image_pixels.proofs.Cursors.{words}
 use Rattle.image_pixels.proofs.Writing.{Data, made}
 use Rattle.image_pixels.specs.Marks.{pick, marks}

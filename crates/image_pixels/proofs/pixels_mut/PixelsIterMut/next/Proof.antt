@@ -1,45 +1,13 @@
 -- `next` gives the first pixel, and the cells that were lent follow it and those that are left. Assumes `Logic`.
-use mathlib.Core.Path.{◌≡◌, refl, sym, ap, ◌∙◌}
-use mathlib.Core.Bool.{true, false}
-use Prim.Native.Nat.{ℕ, ◌+◌, ◌-◌, ◌*◌, ◌≤◌, ◌<◌, ◌^◌}
-use native.Mathlib.Omega.{arith}
-use mathlib.Core.List.{List, [], ◌∷◌, ◌++◌}
-use lib.ListN.{length}
-use lib.Dec.{lit<}
-use base.Fraction.{full_share}
-use mir.Syntax.{Fn, named, a_type}
-use mir.MapTy.{inst_fn}
-use mir.Val.{Val, vptr, of_list}
-use base.Logic.{SProp, emp}
-use base.Fml.{Lft, GName, Share, ftrue, fat, flft, fobs, fbor}
-use contract.Monad.{fact, fact_i}
-use contract.Running.{tables}
-use types.Kit.{‵, raw, ◌⊛◌, some, later, at_ret, Sq, ◌$◌, ◌∵◌, !, qed, by, move, keep, drop, use0, use1, split, split3, join, fsplit, fsplit3, fjoin, fjoin3, feq_i, pick, await, rewrite, group}
-use types.Run.{enter, of_opd, lit, bin, addr, load, stop, fld, no_more, and_then, assigns, assigns_last, first, blocks, branches, skips, exec, returns, returns_within, size_lit, well_typed}
-use types.Part.{whole, sub, look_in, store_in, agg}
-use types.ByLocal.{alloc_all, pass_all, free_all, look_at, get, through, sets, sets_last, env, forget_but, holding}
-use denote.RattleType.{RattleType}
-use denote.Laws.{shows, Is}
-use denote.Memory.{mem, cell_at}
-use denote.RawPtr.{Ptr, block_ptr, in_a_block}
-use denote.Shadow.{pure_l, pure_i}
-use denote.Slice.{room}
-use denote.Follow.{both_by}
-use base.Logic.{id⊢}
-use mir.Syntax.{Ty}
+use types.Run.{size_lit, well_typed}
+use Rattle.std.proofs.Common.{◌≡◌, refl, sym, ap, ◌∙◌, true, false, ℕ, ◌+◌, ◌-◌, ◌*◌, ◌≤◌, ◌<◌, ◌^◌, arith, List, [], ◌∷◌, ◌++◌, length, lit<, MutBor, take, one-mul, mul-le-mul_right, eqb→eq, replicate, Some, None}
 use Rattle.image_pixels.specs.Loans.{lent}
 use Rattle.image_pixels.proofs.Cursors.{words, then_runs, then_arm}
 use Rattle.image_pixels.proofs.Writing.{Data, made}
+use Rattle.borrow_laws.proofs.Walking.{full_share, Fn, named, a_type, inst_fn, Val, vptr, of_list, SProp, emp, Lft, GName, Share, ftrue, fat, flft, fobs, fbor, fact, fact_i, tables, ‵, raw, ◌⊛◌, some, later, at_ret, Sq, ◌$◌, ◌∵◌, !, qed, by, move, keep, drop, use0, use1, split, split3, join, fsplit, fsplit3, fjoin, fjoin3, feq_i, pick, await, rewrite, group, enter, of_opd, lit, bin, addr, load, stop, fld, no_more, and_then, assigns, assigns_last, first, blocks, branches, skips, exec, returns, returns_within, whole, sub, look_in, store_in, agg, alloc_all, pass_all, free_all, look_at, get, through, sets, sets_last, env, forget_but, holding, RattleType, shows, Is, mem, cell_at, Ptr, block_ptr, in_a_block, pure_l, pure_i, room, both_by, id⊢, Ty, param, layouts, param_laws, MutRef, mut_vals, mut_Tells, plain, named_lft, nothing, opens, closes, peeks, Stays, walk_of, stay_ref, Goes-ref, proved, leaves, Wp, prop, post, Arr, Body, after₂, fauth, fobor, coded_list, at, at_mul, to, live}
 use Rattle.borrow_laws.proofs.Tests.{one_at_least}
 use Rattle.image_pixels.proofs.Marks.{marks_in_row, marks_new_row, parts, pick_past, skipped_in_row, times_one_less}
 use Rattle.image_pixels.proofs.Writing.{Taken, takes}
-use denote.Param.{param, layouts}
-use denote.Param.Laws.{param_laws}
-use denote.Ref.{MutRef, MutBor, mut_vals, mut_Tells}
-use denote.Signature.{plain, named_lft}
-use denote.Steps.{nothing, opens, closes, peeks}
-use denote.Triple.Walked.{Stays, walk_of, stay_ref, Goes-ref}
-use Rattle.std.proofs.raw_atomic.Walks.{proved, leaves}
 use Rattle.image_pixels.specs.contracts.pixels_mut.PixelsIterMut as P
 use Rattle.image_pixels.proofs.pixels_mut.PixelsIterMut.TheLaws as laws
 use Rattle.image_pixels.specs.declared.pixels_mut.PixelsIterMut.{PixelsIterMut}
@@ -47,27 +15,13 @@ use Rattle.image_pixels.specs.contracts.pixels_mut.PixelsIterMut.next as f
 use Rattle.image_pixels.specs.contracts.pixels_mut.PixelsIterMut.next.Key.{name as #self}
 use Rattle.image_pixels.proofs.pixels_mut.PixelsIterMut.next.Statement.{statement}
 use Rattle.image_pixels.proofs.pixels_mut.PixelsIterMut.next.Code as code
-use prog.Wp.{Wp}
-use types.Kit.{prop, post}
-use types.SemTy.{Arr, Body}
-use types.Follow.{after₂}
-use base.Fml.{fauth, fobor}
-use base.Stored.{coded_list}
 use mir.Raw.{raw as bare}
-use borrow.Table.Elements.{at, at_mul}
-use lib.ListN.{take}
-use native.Mathlib.Nat.{one-mul, mul-le-mul_right}
 use Rattle.std.proofs.alloc.Shapes.{after, head}
 use Rattle.image_pixels.specs.Pixels.{muts_left, Moves}
 use Rattle.image_pixels.specs.Marks.{skipped}
 use Rattle.image_pixels.specs.Marks.{pick as chosen, marks}
-use denote.Struct.Owning.{to}
-use types.Match.{live}
-use lib.Dec.{eqb→eq}
-use lib.ListN.{replicate}
 use Rattle.std.proofs.option.Made.{Some-of, none_of}
 use Rattle.std.specs.contracts.option.Option as OP
-use Rattle.std.specs.Prelude.{Some, None}
 use Rattle.std.specs.Iterator.{MakesProgress, item_count, YieldsFirstMut}
 use Rattle.std.proofs.iter.Next.{firm}
 

@@ -1,41 +1,14 @@
 -- `size_hint` reads the counts. Assumes `Logic`.
-use mathlib.Core.Path.{◌≡◌, refl, sym, ap}
-use Prim.Native.Nat.{ℕ, ◌+◌, ◌*◌, ◌<◌, ◌≤◌, ◌^◌}
-use native.Mathlib.Omega.{arith}
-use native.Mathlib.Nat.{mul-le-mul_left}
-use mathlib.Core.List.{List, [], ◌∷◌}
-use lib.ListN.{length}
-use lib.Dec.{lit<}
-use mir.Syntax.{Fn, a_type, w64, named}
-use mir.MapTy.{inst_fn}
-use mir.Val.{Val, vint, vptr, vstruct, vcons, vnil, of_list}
-use base.Logic.{emp}
-use base.Fml.{Lft, Share, ftrue, flft}
-use types.Match.{live}
-use contract.Monad.{fact, fact_i}
-use contract.Running.{tables}
-use types.Kit.{‵, raw, ◌⊛◌, ◌$◌, ◌∵◌, !, qed, by, move, keep, drop, use0, use1, split, split3, join, fsplit, fjoin, fpack, feq_i, flt_i}
-use types.Run.{enter, of_opd, bin, lit, load, look, stop, fld, no_more, and_then, returns}
-use types.Part.{agg}
-use types.ByLocal.{alloc_all, pass_all, free_all, look_at, get, through, sets}
-use denote.Exit.{yes}
-use denote.Builtin.{usize, RefOf}
-use denote.Memory.{hidden_shr}
-use denote.Param.{param, layouts}
-use denote.RattleType.{RattleType, owns, Valss}
+use types.Run.{look}
+use denote.Builtin.{RefOf}
 use denote.Ref.{shr_vals, shr_Tells}
-use denote.Signature.{plain, named_lft, types_at}
-use denote.Steps.{nothing}
 use denote.Struct.Declared.{shape}
-use denote.Struct.Struct.{within}
-use denote.Struct.Tuple.{tuple_type}
-use denote.Triple.Walked.{Stays, walk_of, stay_dropped, Goes-dropped}
-use Rattle.std.proofs.raw_atomic.Walks.{proved, leaves}
+use Rattle.std.proofs.Common.{◌≡◌, refl, sym, ap, ℕ, ◌+◌, ◌*◌, ◌<◌, ◌≤◌, ◌^◌, arith, mul-le-mul_left, List, [], ◌∷◌, length, lit<, w64, Some, IfSome}
 use Rattle.std.proofs.option.Made.{Some-of}
 use Rattle.std.specs.contracts.option.Option as OP
-use Rattle.std.specs.Prelude.{Some, IfSome}
 use Rattle.std.specs.Iterator.{item_count, UpTo}
 use Rattle.std.specs.Iterator.SizeHint.{IsWithinCount}
+use Rattle.borrow_laws.proofs.Walking.{Fn, a_type, named, inst_fn, Val, vint, vptr, vstruct, vcons, vnil, of_list, emp, Lft, Share, ftrue, flft, live, fact, fact_i, tables, ‵, raw, ◌⊛◌, ◌$◌, ◌∵◌, !, qed, by, move, keep, drop, use0, use1, split, split3, join, fsplit, fjoin, fpack, feq_i, flt_i, enter, of_opd, bin, lit, load, stop, fld, no_more, and_then, returns, agg, alloc_all, pass_all, free_all, look_at, get, through, sets, yes, usize, hidden_shr, param, layouts, RattleType, owns, Valss, plain, named_lft, types_at, nothing, within, tuple_type, Stays, walk_of, stay_dropped, Goes-dropped, proved, leaves}
 use Rattle.image_pixels.proofs.Marks.{length-pixels}
 use Rattle.image_pixels.proofs.Writing.{shown}
 use Rattle.image_pixels.proofs.Cursors.{word_in, word_out}

@@ -1,30 +1,6 @@
 -- `next` lends the iterator to `step` at the first end: its MIR, proved by hand. Assumes `Logic`.
-use mathlib.Core.Path.{refl}
-use mathlib.Core.List.{List, [], ◌∷◌}
-use lib.Dec.{lit<}
-use base.Fml.{Lft, Share, ftrue, flft}
-use base.Logic.{SProp, emp}
-use contract.BorrowLft.{◌⊑◌}
-use contract.Monad.{fact, fact_i}
-use contract.Running.{tables}
-use mir.MapTy.{inst_fn}
-use mir.Syntax.{Args, Fn, named}
-use mir.Val.{Val, vptr}
-use types.ByLocal.{alloc_all, pass_all, free_all, look_at, get, through, sets, lands_as}
-use types.Kit.{‵, ◌⊛◌, raw, later, some, given, ◌$◌, ◌∵◌, !, qed, by, move, keep, drop, split, split3, join, fsplit, fjoin, use0, use1, group, learn, await, pick}
-use types.Part.{agg}
-use types.Run.{stop, lit, addr, and_then, no_more, returns, enter}
-use denote.Laws.{shows, Is}
-use denote.Param.{param}
-use denote.RattleType.{RattleType, owns}
-use denote.Ref.{MutBor, MutRef, mut_vals, mut_Tells}
-use denote.Signature.{plain, named_lft, types_at}
-use denote.Steps.{nothing, heard, peeks}
-use denote.Triple.Call.{calls_at}
-use denote.Triple.Table.{framed}
-use denote.Triple.Walked.{Stays, stay_ref, walk_of, Goes-ref}
-use Rattle.std.proofs.raw_atomic.Walks.{proved, leaves}
-use Rattle.std.specs.Prelude.{Option}
+use Rattle.std.proofs.Common.{refl, List, [], ◌∷◌, lit<, MutBor, Option}
+use Rattle.borrow_laws.proofs.Walking.{Lft, Share, ftrue, flft, SProp, emp, ◌⊑◌, fact, fact_i, tables, inst_fn, Args, Fn, named, Val, vptr, alloc_all, pass_all, free_all, look_at, get, through, sets, lands_as, ‵, ◌⊛◌, raw, later, some, given, ◌$◌, ◌∵◌, !, qed, by, move, keep, drop, split, split3, join, fsplit, fjoin, use0, use1, group, learn, await, pick, agg, stop, lit, addr, and_then, no_more, returns, enter, shows, Is, param, RattleType, owns, MutRef, mut_vals, mut_Tells, plain, named_lft, types_at, nothing, heard, peeks, calls_at, framed, Stays, stay_ref, walk_of, Goes-ref, proved, leaves}
 use Rattle.borrow_laws.proofs.Bodies.{of_one}
 use Rattle.image_rows.specs.Rows.{hands_on, Yields, Moves}
 use Rattle.image_rows.specs.declared.ends.End.TheVariants.{First}

@@ -1,5 +1,4 @@
-use Rattle.std.proofs.Common.{drop, sym, ap, arith}
-use Rattle.std.specs.Prelude.{Some}
+use Rattle.std.proofs.Common.{drop, sym, ap, arith, Some}
 use Rattle.image_rows.specs.Rows.{muts_left}
 use Rattle.image_rows.proofs.RowsLeft.{length-rows_left}
 use Rattle.image_rows.proofs.writing.RowsIterMutIterator.size_hint.Goals as goal

@@ -1,44 +1,10 @@
 -- `next` takes the iterator out of its place, parts a band off and puts the others back: its MIR, proved by hand. Assumes `Logic`.
-use mathlib.Core.Path.{◌≡◌, refl, sym, ap}
-use Prim.Native.Nat.{ℕ}
-use mathlib.Core.List.{List, [], ◌∷◌}
-use lib.Dec.{lit<}
-use base.Fml.{Lft, GName, Share, ftrue, fdead, flft}
-use base.Fraction.{full_share}
-use base.Logic.{SProp, emp, id⊢, apply∗}
 use base.Share
-use contract.BorrowLft.{◌⊑◌, ⊑_trans, meet_⊑_right}
-use contract.Monad.{fact, fact_i}
-use contract.Running.{tables}
-use mir.MapTy.{inst_fn}
-use mir.Syntax.{Args, Fn, named}
-use mir.Val.{Val, WT, vptr, of_list}
-use types.ByLocal.{alloc_all, pass_all, free_all, look_at, get, get_in, through, sets, lands_as, env, holding, forget_but}
-use types.Kit.{Sq, ‵, ◌⊛◌, raw, later, some, at_ret, runs, ◌$◌, ◌∵◌, !, qed, by, move, keep, drop, split, split3, join, fsplit, fsplit3, fjoin, fjoin3, feq_i, rewrite, use0, use1, use2, use3, await, pick}
-use types.Match.{live}
-use types.Part.{whole, sub}
-use types.Run.{stop, fld, addr, of_opd, and_then, no_more, assigns, store_raw, returns, enter}
-use denote.Laws.{shows, Is, Typed}
-use denote.Lend.{LentAgain, lends_again, comes_back}
-use denote.Memory.{cell_at}
-use denote.Param.{param}
-use denote.Param.Laws.{param_laws}
-use denote.RattleType.{RattleType, owns}
-use denote.Ref.{MutBor, MutRef, mut_vals, mut_Tells}
-use denote.Signature.{plain, named_lft, types_at}
-use denote.Steps.{nothing, heard, peeks, facts, opens, closes, only}
-use denote.Struct.Tuple.{Tuple}
-use denote.Triple.Call.{calls_at}
-use denote.Triple.Clauses.{lasts}
-use denote.Triple.Spec.{triple_of}
-use denote.Triple.Table.{framed}
-use denote.Triple.Walked.{Stays, stay_ref, walk_of, Goes-ref}
-use Rattle.std.proofs.Common.{⊎_elim}
+use Rattle.std.proofs.Common.{⊎_elim, ◌≡◌, refl, sym, ap, ℕ, List, [], ◌∷◌, lit<, MutBor, Option, Some, None}
 use Rattle.std.proofs.alloc.Shapes.{after}
-use Rattle.std.proofs.raw_atomic.Walks.{proved, leaves}
 use Rattle.std.specs.Iterator.{YieldsFirstBy}
-use Rattle.std.specs.Prelude.{Option, Some, None}
 use Rattle.std.specs.contracts.option.Option as opt
+use Rattle.borrow_laws.proofs.Walking.{Lft, GName, Share, ftrue, fdead, flft, full_share, SProp, emp, id⊢, apply∗, ◌⊑◌, ⊑_trans, meet_⊑_right, fact, fact_i, tables, inst_fn, Args, Fn, named, Val, WT, vptr, of_list, alloc_all, pass_all, free_all, look_at, get, get_in, through, sets, lands_as, env, holding, forget_but, Sq, ‵, ◌⊛◌, raw, later, some, at_ret, runs, ◌$◌, ◌∵◌, !, qed, by, move, keep, drop, split, split3, join, fsplit, fsplit3, fjoin, fjoin3, feq_i, rewrite, use0, use1, use2, use3, await, pick, live, whole, sub, stop, fld, addr, of_opd, and_then, no_more, assigns, store_raw, returns, enter, shows, Is, Typed, LentAgain, lends_again, comes_back, cell_at, param, param_laws, RattleType, owns, MutRef, mut_vals, mut_Tells, plain, named_lft, types_at, nothing, heard, peeks, facts, opens, closes, only, Tuple, calls_at, lasts, triple_of, framed, Stays, stay_ref, walk_of, Goes-ref, proved, leaves}
 use Rattle.borrow_laws.proofs.Bodies.{of_one}
 use Rattle.borrow_laws.proofs.Declared.{typed}
 use Rattle.borrow_laws.proofs.Lifetimes.{Ends, begins}

@@ -1,50 +1,9 @@
 -- `split_first` cuts the cells that are kept off the others, and the band off those before it, and the cells follow the band and what is kept: its MIR, proved by hand.
-use mathlib.Core.Path.{◌≡◌, refl, sym, ap, ◌∙◌}
-use Prim.Native.Nat.{ℕ, ◌+◌, ◌-◌, ◌*◌, ◌^◌, ◌<◌, ◌≤◌}
-use native.Mathlib.Omega.{arith}
-use mathlib.Core.List.{List, [], ◌∷◌, ◌++◌}
-use lib.Dec.{eqb→eq, lit<}
-use lib.ListN.{length, take, drop as drop_list}
-use base.Logic.{SProp, ent, sep, emp, id⊢}
-use base.Fml.{Lft, GName, Share, ftrue, flft, fres}
-use base.Stored.{coded_list}
-use mir.Syntax.{Args, Fn, named, w64}
-use mir.MapTy.{inst_fn}
-use mir.Val.{Val, WT, vint, of_list}
-use prog.Wp.{WpFn}
-use contract.BorrowLft.{◌⊑◌, ⊑_refl, ⊑_trans, ⊑_meet}
-use contract.Monad.{fact, fact_i}
-use contract.Running.{tables}
-use types.Kit.{Item, ‵, ◌⊛◌, raw, later, some, prop, at_ret, ◌$◌, ◌∵◌, !, qed, by, move, keep, drop, split, split3, join, fsplit, fjoin, rewrite, regoal, use0, use1, use2, use3, await, pick, updating, now, done}
-use types.Logic.{sem}
-use types.Match.{live}
-use types.Part.{whole, sub, agg}
-use types.Run.{stop, fld, hop, from, lit, addr, bin, of_opd, and_then, no_more, first, branches, skips, exec, returns, returns_within, enter}
-use types.ByLocal.{alloc_all, pass_all, free_all, look_at, look_in_at, get, get_in, sets, lands_as, env}
-use denote.Array.{Array}
-use denote.Builtin.{usize}
-use denote.Follow.{follows_both}
-use denote.Laws.{shows, Is}
-use denote.Model.Fixed.{row_Makes}
-use denote.Param.{param}
-use denote.Param.Laws.{param_laws}
-use denote.Plain.{uint_Makes}
-use denote.RattleType.{RattleType, owns}
-use denote.Ref.{MutBor}
-use denote.Signature.{named_lft, types_at}
-use denote.Slice.{MutSlice}
-use denote.Steps.{nothing, heard, peeks, owned, only}
-use denote.Struct.Tuple.{Tuple}
-use denote.Triple.Call.{calls_at}
-use denote.Triple.Clauses.{lasts}
-use denote.Triple.Spec.{triple_of}
-use denote.Triple.Table.{framed}
-use denote.Triple.Walked.{Stays, stay_dropped, walk_of}
+use Rattle.std.proofs.Common.{◌≡◌, refl, sym, ap, ◌∙◌, ℕ, ◌+◌, ◌-◌, ◌*◌, ◌^◌, ◌<◌, ◌≤◌, arith, List, [], ◌∷◌, ◌++◌, eqb→eq, lit<, length, take, drop as drop_list, w64, MutBor, None, Some}
 use Rattle.std.proofs.alloc.Shapes.{after}
 use Rattle.std.proofs.option.Made.{Some-of, none_of}
-use Rattle.std.proofs.raw_atomic.Walks.{proved_at, leaves}
-use Rattle.std.specs.Prelude.{None, Some}
 use Rattle.std.specs.contracts.option.Option as opt
+use Rattle.borrow_laws.proofs.Walking.{SProp, ent, sep, emp, id⊢, Lft, GName, Share, ftrue, flft, fres, coded_list, Args, Fn, named, inst_fn, Val, WT, vint, of_list, WpFn, ◌⊑◌, ⊑_refl, ⊑_trans, ⊑_meet, fact, fact_i, tables, Item, ‵, ◌⊛◌, raw, later, some, prop, at_ret, ◌$◌, ◌∵◌, !, qed, by, move, keep, drop, split, split3, join, fsplit, fjoin, rewrite, regoal, use0, use1, use2, use3, await, pick, updating, now, done, sem, live, whole, sub, agg, stop, fld, hop, from, lit, addr, bin, of_opd, and_then, no_more, first, branches, skips, exec, returns, returns_within, enter, alloc_all, pass_all, free_all, look_at, look_in_at, get, get_in, sets, lands_as, env, Array, usize, follows_both, shows, Is, row_Makes, param, param_laws, uint_Makes, RattleType, owns, named_lft, types_at, MutSlice, nothing, heard, peeks, owned, only, Tuple, calls_at, lasts, triple_of, framed, Stays, stay_dropped, walk_of, proved_at, leaves}
 use Rattle.borrow_laws.proofs.Bodies.{of_one}
 use Rattle.borrow_laws.proofs.Declared.{is_low, typed}
 use Rattle.borrow_laws.proofs.Options.{lent_val}

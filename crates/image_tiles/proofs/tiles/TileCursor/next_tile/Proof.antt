@@ -1,42 +1,9 @@
 -- `next_tile` counts the tiles that are left, and lends the next one on; where none is left, the cursor is given up as it is. A walk of its MIR by hand.
-use mathlib.Core.Path.{◌≡◌, refl, sym, ap, ◌∙◌, subst}
-use Prim.Native.Nat.{ℕ, ◌<◌}
-use mathlib.Core.List.{List, [], ◌∷◌, ◌++◌}
-use lib.Dec.{eqb→eq, lit<}
-use lib.ListN.{length}
-use base.Logic.{SProp, emp, id⊢}
-use base.Fml.{Lft, GName, ftrue, flft}
-use mir.Syntax.{Args, Fn, named}
-use mir.MapTy.{inst_fn}
-use mir.Val.{Val, vptr, of_list}
-use prog.Wp.{Env, WpFn}
-use contract.BorrowLft.{◌⊑◌}
-use contract.Monad.{fact, fact_i}
-use contract.Running.{tables}
-use types.Kit.{Item, ‵, ◌⊛◌, raw, later, some, prop, at_ret, ◌$◌, ◌∵◌, !, qed, by, move, keep, drop, split, split3, join, fsplit, fsplit3, fjoin, rewrite, regoal, use0, use1, use2, await, pick}
-use types.Match.{live}
-use types.Part.{whole as all_of, sub, agg}
-use types.Run.{stop, fld, lit, addr, bin, of_opd, and_then, no_more, first, branches, skips, exec, returns, returns_within, enter}
-use types.ByLocal.{alloc_all, pass_all, free_all, look_at, get, get_in, through, sets, lands_as, env}
-use types.Tokens.{name_done}
-use denote.Array.{Array}
-use denote.Follow.{follows, follows_if}
-use denote.Laws.{shows, Is}
-use denote.Param.{param}
-use denote.RattleType.{RattleType, owns}
-use denote.Ref.{MutBor, MutRef, mut_vals, mut_Tells}
-use denote.Signature.{plain, types_at}
-use denote.Steps.{nothing, heard, peeks, only}
-use denote.Triple.Call.{calls_at}
-use denote.Triple.Clauses.{lasts}
-use denote.Triple.Spec.{triple_of}
-use denote.Triple.Table.{framed}
-use denote.Triple.Walked.{Stays, stay_dropped, walk_of, Goes-spent_ref}
-use Rattle.std.proofs.raw_atomic.Walks.{proved_at, leaves}
+use Rattle.std.proofs.Common.{◌≡◌, refl, sym, ap, ◌∙◌, subst, ℕ, ◌<◌, List, [], ◌∷◌, ◌++◌, eqb→eq, lit<, length, MutBor, Option, Some, None, IsTrue}
 use Rattle.std.proofs.alloc.Shapes.{after}
 use Rattle.std.proofs.option.Made.{Some-of, none_of}
-use Rattle.std.specs.Prelude.{Option, Some, None}
 use Rattle.std.specs.contracts.option.Option as OP
+use Rattle.borrow_laws.proofs.Walking.{SProp, emp, id⊢, Lft, GName, ftrue, flft, Args, Fn, named, inst_fn, Val, vptr, of_list, Env, WpFn, ◌⊑◌, fact, fact_i, tables, Item, ‵, ◌⊛◌, raw, later, some, prop, at_ret, ◌$◌, ◌∵◌, !, qed, by, move, keep, drop, split, split3, join, fsplit, fsplit3, fjoin, rewrite, regoal, use0, use1, use2, await, pick, live, all_of, sub, agg, stop, fld, lit, addr, bin, of_opd, and_then, no_more, first, branches, skips, exec, returns, returns_within, enter, alloc_all, pass_all, free_all, look_at, get, get_in, through, sets, lands_as, env, name_done, Array, follows, follows_if, shows, Is, param, RattleType, owns, MutRef, mut_vals, mut_Tells, plain, types_at, nothing, heard, peeks, only, calls_at, lasts, triple_of, framed, Stays, stay_dropped, walk_of, Goes-spent_ref, proved_at, leaves}
 use Rattle.borrow_laws.proofs.Bodies.{of_container}
 use Rattle.borrow_laws.proofs.Followed.{if_some, if_none}
 use Rattle.image_model.specs.Layout.{Layout, Fits}
@@ -44,7 +11,6 @@ use Rattle.image_model.specs.Windows.{Window}
 use Rattle.imgref.specs.Image.{layout_by, shape_of}
 use Rattle.imgref.proofs.ImageValues.{img_val, img_row, img_told}
 use Rattle.imgref.specs.declared.img.Img.{Img}
-use Rattle.std.specs.Prelude.{IsTrue}
 use Rattle.image_tiles.specs.Lending.{image_of, tiling_of, after_tile, name_of, IsNext, NextTile, tiles_left}
 use Rattle.image_tiles.specs.Tiling.{tile_now, windows_left, has_tile}
 use Rattle.image_tiles.specs.declared.tiles.TileCursor.{TileCursor}

@@ -1,6 +1,5 @@
 -- The windows that are left go on behind the next one.
-use Rattle.std.proofs.Common.{◌∷◌, sym, ap, ◌∙◌}
-use mathlib.Core.Path.{ap₂}
+use Rattle.std.proofs.Common.{◌∷◌, sym, ap, ◌∙◌, ap₂}
 use Rattle.image_tiles.specs.declared.tiling.Tiling.{Tiling}
 use Rattle.image_tiles.specs.Tiling.{windows_left}
 use Rattle.image_tiles.proofs.Tilings.{goes_on}

@@ -1,60 +1,14 @@
 -- `&mut self[start..end]` at a `&mut &mut [T]`: a stretch of the inner slice is lent, and the outer reference follows it. A walk of its MIR by hand.
-use mathlib.Core.Path.{◌≡◌, refl, sym, ap, subst}
-use Prim.Native.Nat.{ℕ, ◌+◌, ◌*◌, ◌^◌, ◌<◌, ◌≤◌}
-use native.Mathlib.Nat.{mul-le-mul_right}
-use native.Mathlib.Omega.{arith}
-use mathlib.Core.List.{List, [], ◌∷◌}
-use lib.ListN.{length, get_or, set, length-map}
+use lib.ListN.{length-map}
 use borrow.Rule.Slice.Handed.{takes_at, get_or_heres}
 use borrow.Rule.Slice.AtParam.{inhabits}
-use types.Follow.{after}
 use types.Hole.{here}
 use denote.Slice.{heres}
-use seplogic.Ra.Ura.{Ura}
-use base.Fraction.{full_share}
-use base.Logic.{SProp, ent, sep, ex}
-use base.Fml.{Lft, GName, Share, ftrue, flft, fobs, fbor, fat}
-use mir.Syntax.{Args, Fn, Ty, Lifetime, named, erased, mut, ty_ref, ty_param, w64, a_type}
-use mir.MapTy.{inst_fn}
-use mir.Val.{Val, vint, vptr}
-use prog.Memory.{Memory, size}
-use prog.Routine.{Routine}
-use prog.Wp.{Calls, Loops, WpFn, Tables}
-use types.Logic.{Logic, sem}
-use types.SemTy.{Arr}
 use types.SemTy.{Body as Borrowed}
-use types.Mut.{open_ref, close_ref}
-use types.Kit.{Item, ‵, ◌⊛◌, raw, given, some, later, ◌$◌, ◌∵◌, !, qed, by, move, keep, drop, split, split3, join, learn, fsplit, fsplit3, fjoin, fjoin3, feq_i, feq_l, flt_l, flt_i, rewrite, updating, use1, use2, use3, await, pick, now, show, suffices, frame, done}
-use types.Part.{whole, sub, look_in}
-use types.Run.{stop, fld, load, addr, bin, size_word, returns, enter}
-use types.ByLocal.{alloc_all, pass_all, free_all, look_at, get, through, is, sets}
-use contract.BorrowLft.{◌⊑◌}
-use contract.Lifetimes.{AllOutlive}
-use contract.Monad.{Fun}
-use contract.Running.{tables, tables_of}
 use sound.WpLaws.{WpFn-mono}
-use denote.Array.{Array}
-use denote.Builtin.{usize}
-use denote.Exit.{yes, no}
-use denote.Follow.{follows, follows_then}
-use denote.FollowSlice.{heres_id}
-use denote.Memory.{mem, part_at}
-use denote.Param.{param, layout, layouts}
-use denote.Plain.{uint_vals, uint_Tells}
-use denote.RattleType.{RattleType, owns}
-use denote.Ref.{MutBor, MutRef, at_last, mut_vals, mut_Tells}
-use denote.Signature.{plain, mut_ref_to, mut_slice_of}
-use denote.Slice.{MutSlice, slice_ty, slice_val, mut_slice_vals}
-use denote.Steps.{nothing, only}
-use denote.Through.{renamed, lends_inner_slice}
-use denote.Triple.Clauses.{Clauses, Ended, closing}
-use denote.Triple.Entry.{on_entry}
-use denote.Triple.Spec.{Meets, triple_of}
-use denote.Triple.Table.{entered}
-use denote.Triple.Walked.{says, Stays, stay_dropped, walk_of, ends_at, walked, Goes-dropped, Goes-spent_ref, walk_Meets}
-use borrow.Table.Elements.{at, at_mul}
-use borrow.Table.OneValue.{part_out_at, part_in_at}
+use Rattle.std.proofs.Common.{◌≡◌, refl, sym, ap, subst, ℕ, ◌+◌, ◌*◌, ◌^◌, ◌<◌, ◌≤◌, mul-le-mul_right, arith, List, [], ◌∷◌, length, slice_index_or as get_or, slice_set as set, w64, MutBor}
 use Rattle.std.proofs.lemmas.Option.{slice_get-get_or}
+use Rattle.borrow_laws.proofs.Walking.{after, Ura, full_share, SProp, ent, sep, ex, Lft, GName, Share, ftrue, flft, fobs, fbor, fat, Args, Fn, Ty, Lifetime, named, erased, mut, ty_ref, ty_param, a_type, inst_fn, Val, vint, vptr, Memory, size, Routine, Calls, Loops, WpFn, Tables, Logic, sem, Arr, open_ref, close_ref, Item, ‵, ◌⊛◌, raw, given, some, later, ◌$◌, ◌∵◌, !, qed, by, move, keep, drop, split, split3, join, learn, fsplit, fsplit3, fjoin, fjoin3, feq_i, feq_l, flt_l, flt_i, rewrite, updating, use1, use2, use3, await, pick, now, show, suffices, frame, done, whole, sub, look_in, stop, fld, load, addr, bin, size_word, returns, enter, alloc_all, pass_all, free_all, look_at, get, through, is, sets, ◌⊑◌, AllOutlive, Fun, tables, tables_of, Array, usize, yes, no, follows, follows_then, heres_id, mem, part_at, param, layout, layouts, uint_vals, uint_Tells, RattleType, owns, MutRef, at_last, mut_vals, mut_Tells, plain, mut_ref_to, mut_slice_of, MutSlice, slice_ty, slice_val, mut_slice_vals, nothing, only, renamed, lends_inner_slice, Clauses, Ended, closing, on_entry, Meets, triple_of, entered, says, Stays, stay_dropped, walk_of, ends_at, walked, Goes-dropped, Goes-spent_ref, walk_Meets, at, at_mul, part_out_at, part_in_at}
 use Rattle.borrow_laws.proofs.Stretches.{uncapped}
 use Rattle.imgref.specs.contracts.containers.RefMutSliceAsMutSlice.cell_mut as F
 use Rattle.imgref.specs.contracts.containers.RefMutSliceAsMutSlice.cell_mut.Key.{name as #self}

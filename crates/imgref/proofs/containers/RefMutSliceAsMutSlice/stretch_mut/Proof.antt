@@ -1,51 +1,7 @@
 -- `&mut self[start..start + len]` at a `&mut &mut [T]`: a stretch of the inner slice is lent, and the outer reference follows it. A walk of its MIR by hand.
-use mathlib.Core.Path.{◌≡◌, refl, sym, ap, subst, ◌∙◌}
-use Prim.Native.Nat.{ℕ, ◌+◌, ◌-◌, ◌*◌, ◌^◌, ◌<◌, ◌≤◌}
-use native.Mathlib.Nat.{mul-le-mul_right}
-use native.Mathlib.Omega.{arith}
-use mathlib.Core.List.{List, [], ◌∷◌, ◌++◌}
-use lib.ListN.{length, take, drop as drop_list, length-drop}
-use seplogic.Ra.Ura.{Ura}
-use base.Fraction.{full_share}
-use base.Logic.{SProp, ent}
-use base.Fml.{Lft, GName, Share, ftrue, flft, fat}
-use mir.Syntax.{Args, Fn, Ty, named, erased, mut, ty_ref, ty_param, w64, a_type}
-use mir.MapTy.{inst_fn}
-use mir.Val.{Val, vint, vptr}
-use prog.Memory.{Memory, size}
-use prog.Routine.{Routine}
-use prog.Wp.{Calls, Loops, WpFn, Tables}
-use types.Logic.{Logic}
-use types.Mut.{open_ref, close_ref}
-use types.Kit.{Item, ‵, ◌⊛◌, raw, given, some, later, ◌$◌, ◌∵◌, !, qed, by, move, keep, drop, split, split3, join, learn, fsplit, fsplit3, fjoin, fjoin3, feq_i, feq_l, flt_l, flt_i, rewrite, use1, use2, use3, await, pick, suffices, frame, done}
-use types.Part.{whole, sub, look_in, agg}
-use types.Run.{stop, fld, hop, load, addr, bin, of_opd, size_word, and_then, no_more, returns, enter}
-use types.ByLocal.{alloc_all, pass_all, free_all, look_at, get, get_in, through, is, sets}
-use contract.BorrowLft.{◌⊑◌}
-use contract.Lifetimes.{AllOutlive}
-use contract.Monad.{Fun}
-use contract.Running.{tables, tables_of}
 use sound.WpLaws.{WpFn-mono}
-use denote.Array.{Array}
-use denote.Builtin.{usize}
-use denote.Exit.{yes, no}
-use denote.Follow.{follows, follows_then}
-use denote.Memory.{mem, part_at}
-use denote.Param.{param, layout, layouts}
-use denote.Plain.{uint_vals, uint_Tells}
-use denote.RattleType.{RattleType, owns}
-use denote.Ref.{MutBor, MutRef, at_last, mut_vals, mut_Tells}
-use denote.Signature.{plain, mut_ref_to, mut_slice_of}
-use denote.Slice.{MutSlice, Room, slice_ty, slice_val, mut_slice_vals}
-use denote.Steps.{nothing, only}
-use denote.Through.{renamed, lends_inner_slice}
-use denote.Triple.Clauses.{Clauses, Ended, closing}
-use denote.Triple.Entry.{on_entry}
-use denote.Triple.Spec.{Meets, triple_of}
-use denote.Triple.Table.{entered}
-use denote.Triple.Walked.{says, Stays, stay_dropped, walk_of, ends_at, walked, Goes-dropped, Goes-spent_ref, walk_Meets}
-use borrow.Table.Elements.{at, at_mul, length-take-le}
-use borrow.Table.OneValue.{part_out_at, part_in_at}
+use Rattle.std.proofs.Common.{◌≡◌, refl, sym, ap, subst, ◌∙◌, ℕ, ◌+◌, ◌-◌, ◌*◌, ◌^◌, ◌<◌, ◌≤◌, mul-le-mul_right, arith, List, [], ◌∷◌, ◌++◌, length, take, drop as drop_list, length-drop, w64, MutBor}
+use Rattle.borrow_laws.proofs.Walking.{Ura, full_share, SProp, ent, Lft, GName, Share, ftrue, flft, fat, Args, Fn, Ty, named, erased, mut, ty_ref, ty_param, a_type, inst_fn, Val, vint, vptr, Memory, size, Routine, Calls, Loops, WpFn, Tables, Logic, open_ref, close_ref, Item, ‵, ◌⊛◌, raw, given, some, later, ◌$◌, ◌∵◌, !, qed, by, move, keep, drop, split, split3, join, learn, fsplit, fsplit3, fjoin, fjoin3, feq_i, feq_l, flt_l, flt_i, rewrite, use1, use2, use3, await, pick, suffices, frame, done, whole, sub, look_in, agg, stop, fld, hop, load, addr, bin, of_opd, size_word, and_then, no_more, returns, enter, alloc_all, pass_all, free_all, look_at, get, get_in, through, is, sets, ◌⊑◌, AllOutlive, Fun, tables, tables_of, Array, usize, yes, no, follows, follows_then, mem, part_at, param, layout, layouts, uint_vals, uint_Tells, RattleType, owns, MutRef, at_last, mut_vals, mut_Tells, plain, mut_ref_to, mut_slice_of, MutSlice, Room, slice_ty, slice_val, mut_slice_vals, nothing, only, renamed, lends_inner_slice, Clauses, Ended, closing, on_entry, Meets, triple_of, entered, says, Stays, stay_dropped, walk_of, ends_at, walked, Goes-dropped, Goes-spent_ref, walk_Meets, at, at_mul, length-take-le, part_out_at, part_in_at}
 use Rattle.borrow_laws.proofs.Stretches.{uncapped, cut_at, part_lent, lends_part}
 use Rattle.imgref.specs.contracts.containers.RefMutSliceAsMutSlice.stretch_mut as F
 use Rattle.imgref.specs.contracts.containers.RefMutSliceAsMutSlice.stretch_mut.Key.{name as #self}

@@ -1,38 +1,6 @@
 -- `exact_pixels_mut` makes a cursor over all cells, under the name by which the image's cells were lent. Assumes `Logic`.
-use mathlib.Core.Path.{◌≡◌, refl, sym, ap, ◌∙◌, subst}
-use Prim.Native.Nat.{ℕ, ◌*◌, ◌<◌, ◌^◌}
-use mathlib.Core.List.{List, [], ◌∷◌, ◌++◌}
-use lib.ListN.{length}
-use base.Fml.{Lft, GName, ftrue, flft}
-use base.Logic.{SProp, emp, id⊢}
-use mir.Syntax.{Args, Fn, named}
-use mir.MapTy.{inst_fn}
-use mir.Val.{Val, vptr, vstruct, vcons, vnil, of_list}
-use prog.Wp.{WpFn}
-use contract.BorrowLft.{◌⊑◌}
-use contract.Monad.{fact, fact_i}
-use contract.Running.{tables}
-use types.Kit.{Item, ‵, ◌⊛◌, raw, later, some, prop, ◌$◌, ◌∵◌, !, qed, by, move, keep, drop, split, split3, join, fsplit, fjoin, fpick, rewrite, regoal, use0, use1, use2, await, pick}
-use types.Part.{whole, sub, agg}
-use types.Run.{stop, fld, hop, from, addr, of_opd, and_then, no_more, returns, enter}
-use types.ByLocal.{alloc_all, pass_all, free_all, look_at, look_in_at, get, get_in, through, sets, lands_as}
-use denote.Array.{Array}
-use denote.Follow.{follows}
-use denote.Laws.{shows, Is}
-use denote.Param.{param}
-use denote.Param.Laws.{param_laws}
-use denote.RattleType.{RattleType, owns}
-use denote.Ref.{MutBor, MutRef, mut_vals, mut_Tells}
-use denote.Signature.{plain, named_lft, types_at}
-use denote.Slice.{MutSlice, slice_val}
-use denote.Steps.{nothing, heard, peeks, only}
-use denote.Struct.Tuple.{Tuple}
-use denote.Triple.Call.{calls_at}
-use denote.Triple.Clauses.{lasts}
-use denote.Triple.Spec.{triple_of}
-use denote.Triple.Table.{framed}
-use denote.Triple.Walked.{Stays, stay_dropped, walk_of, Goes-spent_ref}
-use Rattle.std.proofs.raw_atomic.Walks.{proved_at, leaves}
+use Rattle.std.proofs.Common.{◌≡◌, refl, sym, ap, ◌∙◌, subst, ℕ, ◌*◌, ◌<◌, ◌^◌, List, [], ◌∷◌, ◌++◌, length, MutBor}
+use Rattle.borrow_laws.proofs.Walking.{Lft, GName, ftrue, flft, SProp, emp, id⊢, Args, Fn, named, inst_fn, Val, vptr, vstruct, vcons, vnil, of_list, WpFn, ◌⊑◌, fact, fact_i, tables, Item, ‵, ◌⊛◌, raw, later, some, prop, ◌$◌, ◌∵◌, !, qed, by, move, keep, drop, split, split3, join, fsplit, fjoin, fpick, rewrite, regoal, use0, use1, use2, await, pick, whole, sub, agg, stop, fld, hop, from, addr, of_opd, and_then, no_more, returns, enter, alloc_all, pass_all, free_all, look_at, look_in_at, get, get_in, through, sets, lands_as, Array, follows, shows, Is, param, param_laws, RattleType, owns, MutRef, mut_vals, mut_Tells, plain, named_lft, types_at, MutSlice, slice_val, nothing, heard, peeks, only, Tuple, calls_at, lasts, triple_of, framed, Stays, stay_dropped, walk_of, Goes-spent_ref, proved_at, leaves}
 use Rattle.borrow_laws.proofs.Bodies.{of_container}
 use Rattle.image_model.specs.Layout.{Layout, Fits}
 use Rattle.image_model.specs.Grid.{grid_of}

@@ -1,40 +1,6 @@
 -- `from_stretch` lends a stretch of the cells on, and the cells follow it: its MIR, proved by hand.
-use mathlib.Core.Path.{◌≡◌, refl, sym, ap, subst, ◌∙◌}
-use Prim.Native.Nat.{ℕ, ◌+◌, ◌-◌, ◌*◌, ◌^◌, ◌<◌, ◌≤◌}
-use native.Mathlib.Nat.{mul-le-mul_right}
-use native.Mathlib.Omega.{arith}
-use mathlib.Core.List.{List, [], ◌∷◌, ◌++◌}
-use lib.ListN.{length, take, drop as drop_list, length-drop}
-use base.Logic.{SProp, emp, id⊢}
-use base.Fml.{Lft, GName, Share, ftrue, flft}
-use mir.Syntax.{Args, Fn, named, w64}
-use mir.MapTy.{inst_fn}
-use mir.Val.{Val, vint}
-use prog.Memory.{size}
-use prog.Wp.{WpFn}
-use contract.BorrowLft.{◌⊑◌, ⊑_refl, ⊑_trans, ⊑_meet}
-use contract.Monad.{fact, fact_i}
-use contract.Running.{tables}
-use types.Kit.{Item, ‵, ◌⊛◌, raw, later, some, prop, ◌$◌, ◌∵◌, !, qed, by, move, keep, drop, split, split3, join, fsplit, fjoin, rewrite, regoal, use0, use1, use2, await, pick, updating, now, done}
-use types.Part.{whole, sub, agg}
-use types.Run.{stop, fld, addr, bin, size_word, and_then, no_more, returns, enter}
-use types.ByLocal.{alloc_all, pass_all, free_all, look_at, get, get_in, through, is, sets, lands_as}
-use denote.Array.{Array}
-use denote.Follow.{follows}
-use denote.Laws.{shows, Is}
-use denote.Param.{param, layout}
-use denote.RattleType.{RattleType, owns}
-use denote.Ref.{MutBor}
-use denote.Slice.{MutSlice, Room, slice_val}
-use denote.Signature.{types_at}
-use denote.Steps.{nothing, heard, peeks, only}
-use denote.Triple.Call.{calls_at}
-use denote.Triple.Clauses.{lasts}
-use denote.Triple.Spec.{triple_of}
-use denote.Triple.Table.{framed}
-use denote.Triple.Walked.{Stays, stay_dropped, walk_of}
-use borrow.Table.Elements.{at, at_mul, length-take-le}
-use Rattle.std.proofs.raw_atomic.Walks.{proved_at, leaves}
+use Rattle.std.proofs.Common.{◌≡◌, refl, sym, ap, subst, ◌∙◌, ℕ, ◌+◌, ◌-◌, ◌*◌, ◌^◌, ◌<◌, ◌≤◌, mul-le-mul_right, arith, List, [], ◌∷◌, ◌++◌, length, take, drop as drop_list, length-drop, w64, MutBor}
+use Rattle.borrow_laws.proofs.Walking.{SProp, emp, id⊢, Lft, GName, Share, ftrue, flft, Args, Fn, named, inst_fn, Val, vint, size, WpFn, ◌⊑◌, ⊑_refl, ⊑_trans, ⊑_meet, fact, fact_i, tables, Item, ‵, ◌⊛◌, raw, later, some, prop, ◌$◌, ◌∵◌, !, qed, by, move, keep, drop, split, split3, join, fsplit, fjoin, rewrite, regoal, use0, use1, use2, await, pick, updating, now, done, whole, sub, agg, stop, fld, addr, bin, size_word, and_then, no_more, returns, enter, alloc_all, pass_all, free_all, look_at, get, get_in, through, is, sets, lands_as, Array, follows, shows, Is, param, layout, RattleType, owns, MutSlice, Room, slice_val, types_at, nothing, heard, peeks, only, calls_at, lasts, triple_of, framed, Stays, stay_dropped, walk_of, at, at_mul, length-take-le, proved_at, leaves}
 use Rattle.borrow_laws.proofs.Bodies.{of_one}
 use Rattle.borrow_laws.proofs.Stretches.{uncapped, cut_at, part_lent, lends_part}
 use Rattle.image_shape.specs.declared.window.Stretch.{Stretch}

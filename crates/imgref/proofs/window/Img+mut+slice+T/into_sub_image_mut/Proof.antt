@@ -1,37 +1,6 @@
 -- `into_sub_image_mut` finds the window's stretch and shape, and lends that stretch on: its MIR, proved by hand.
-use mathlib.Core.Path.{◌≡◌, refl, sym, ap, subst, ◌∙◌}
-use Prim.Native.Nat.{◌^◌, ◌<◌}
-use mathlib.Core.List.{List, [], ◌∷◌, ◌++◌}
-use lib.ListN.{length}
-use base.Logic.{SProp, emp, id⊢}
-use base.Fml.{Lft, GName, Share, ftrue, flft}
-use mir.Syntax.{Args, Fn, named, w64}
-use mir.MapTy.{inst_fn}
-use mir.Val.{Val, vint}
-use prog.Wp.{WpFn}
-use contract.BorrowLft.{◌⊑◌, ⊑_refl, ⊑_trans, ⊑_meet}
-use contract.Monad.{fact, fact_i}
-use contract.Running.{tables}
-use types.Kit.{Item, ‵, fpick, ◌⊛◌, raw, later, some, prop, ◌$◌, ◌∵◌, !, qed, by, move, keep, drop, split, split3, join, fsplit, fjoin, rewrite, regoal, use0, use1, use2, await, pick, updating, now, done}
-use types.Part.{whole, sub, agg}
-use types.Run.{stop, fld, addr, of_opd, and_then, no_more, returns, enter, from, hop}
-use types.ByLocal.{alloc_all, pass_all, free_all, look_at, look_in_at, get, get_in, sets, lands_as}
-use denote.Array.{Array}
-use denote.Builtin.{usize}
-use denote.Follow.{follows}
-use denote.Laws.{shows, Is}
-use denote.Param.{param}
-use denote.RattleType.{RattleType, owns}
-use denote.Ref.{MutBor}
-use denote.Slice.{MutSlice, slice_val}
-use denote.Signature.{plain, types_at}
-use denote.Steps.{nothing, heard, peeks, only}
-use denote.Triple.Call.{calls_at}
-use denote.Triple.Clauses.{lasts}
-use denote.Triple.Spec.{triple_of}
-use denote.Triple.Table.{framed}
-use denote.Triple.Walked.{Stays, stay_dropped, walk_of, Goes-dropped}
-use Rattle.std.proofs.raw_atomic.Walks.{proved_at, leaves}
+use Rattle.std.proofs.Common.{◌≡◌, refl, sym, ap, subst, ◌∙◌, ◌^◌, ◌<◌, List, [], ◌∷◌, ◌++◌, length, w64, MutBor}
+use Rattle.borrow_laws.proofs.Walking.{SProp, emp, id⊢, Lft, GName, Share, ftrue, flft, Args, Fn, named, inst_fn, Val, vint, WpFn, ◌⊑◌, ⊑_refl, ⊑_trans, ⊑_meet, fact, fact_i, tables, Item, ‵, fpick, ◌⊛◌, raw, later, some, prop, ◌$◌, ◌∵◌, !, qed, by, move, keep, drop, split, split3, join, fsplit, fjoin, rewrite, regoal, use0, use1, use2, await, pick, updating, now, done, whole, sub, agg, stop, fld, addr, of_opd, and_then, no_more, returns, enter, from, hop, alloc_all, pass_all, free_all, look_at, look_in_at, get, get_in, sets, lands_as, Array, usize, follows, shows, Is, param, RattleType, owns, MutSlice, slice_val, plain, types_at, nothing, heard, peeks, only, calls_at, lasts, triple_of, framed, Stays, stay_dropped, walk_of, Goes-dropped, proved_at, leaves}
 use Rattle.borrow_laws.proofs.Bodies.{of_one}
 use Rattle.image_model.specs.Layout.{Fits}
 use Rattle.image_model.specs.Grid.{grid_of}
