@@ -90,7 +90,7 @@ impl<'a, T> DoubleEndedIterator for RowsIter<'a, T> {
             return None;
         }
         self.count -= 1;
-        let start = self.count * self.stride;
+        let start = Shape::cells_of_rows(self.count, self.stride);
         Some(&self.cells[start..start + self.width])
     }
 }

@@ -66,7 +66,7 @@ impl Spacing {
                 },
             },
             End::Last => Cuts {
-                outer: self.skip + others * self.stride,
+                outer: self.skip + Shape::cells_of_rows(others, self.stride),
                 inner: self.width,
                 rest: Spacing {
                     skip: self.skip,

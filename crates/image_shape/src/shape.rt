@@ -3,7 +3,7 @@
 ghost use Rattle.std.specs.Prelude.{◌≡◌, ◌+◌, ◌-◌, ◌*◌, ◌^◌, ◌≤◌, ◌<◌, ◌↔◌, IsTrue};
 ghost use Rattle.image_model.specs.Layout.{Reaches};
 ghost use Rattle.image_model.specs.Rows.{row_count};
-ghost use Rattle.image_model.specs.Windows.{IsInside, IsWithin, window_stretch};
+ghost use Rattle.image_model.specs.Windows.{IsInside, IsWithin, exact_stretch, window_stretch};
 ghost use Rattle.image_shape.specs.Window.{as_window, as_stretch};
 
 use crate::window::{Stretch, Window};
@@ -90,12 +90,20 @@ impl Shape {
         }
     }
 
+    /// How many cells so many whole rows take, their padding included: where the row below begins.
+    pub fn cells_of_rows(rows: usize, stride: usize) -> usize
+        requires counts { rows * stride < 2 ^ 64 }
+        ensures value { result ≡ rows * stride }
+    {
+        rows * stride
+    }
+
     /// The number of the cell in column `x` of row `y`. It may be padding, or lie below the last row.
     pub fn cell(&self, x: usize, y: usize) -> usize
         requires counts { y * shape_stride self.now + x < 2 ^ 64 }
         ensures value { result ≡ y * shape_stride self.now + x }
     {
-        y * self.stride + x
+        Shape::cells_of_rows(y, self.stride) + x
     }
 
     /// The number of cells from the first pixel to the last.
@@ -104,8 +112,7 @@ impl Shape {
         requires counts { shape_stride self.now * (shape_height self.now - 1) + shape_width self.now < 2 ^ 64 }
         ensures value { result ≡ shape_stride self.now * (shape_height self.now - 1) + shape_width self.now }
     {
-        let last_row = self.stride * (self.height as usize - 1);
-        last_row + self.width as usize
+        Shape::cells_of_rows(self.height as usize - 1, self.stride) + self.width as usize
     }
 
     /// The cells of row `y`, of `cells` cells that fit. The row has a pixel, so its start can't wrap.
@@ -119,7 +126,7 @@ impl Shape {
     {
         let _cells = cells;
         Stretch {
-            start: y * self.stride,
+            start: Shape::cells_of_rows(y, self.stride),
             len: self.width as usize,
         }
     }
@@ -173,8 +180,29 @@ impl Shape {
         ensures inside { IsWithin cells (as_stretch result) }
         ensures holds_width { shape_width self.now ≤ shape_stride self.now }
     {
-        let _width = self.width;
-        let _height = self.height;
-        window.stretch(padded, cells, self.stride)
+        self.stretch_within(padded, cells, window)
+    }
+
+    // That stretch. Its exact one lies within the cells.
+    fn stretch_within(&self, padded: bool, cells: usize, window: Window) -> Stretch
+        requires inside { IsInside (shape_width self.now) (shape_height self.now) (as_window window) }
+        requires room { IsWithin cells (exact_stretch (shape_stride self.now) (as_window window)) }
+        ensures value { as_stretch result ≡ window_stretch padded cells (shape_stride self.now) (as_window window) }
+        ensures inside { IsWithin cells (as_stretch result) }
+    {
+        // No corner is computed of an empty window: the product might not fit.
+        if window.width == 0 || window.height == 0 {
+            return Stretch { start: 0, len: 0 };
+        }
+        let own = self.window(window);
+        let start = self.cell(window.left, window.top);
+        let exact = own.reach();
+        let spare = self.stride - window.width;
+        let len = if padded && cells - start - exact >= spare {
+            exact + spare
+        } else {
+            exact
+        };
+        Stretch { start, len }
     }
 }

@@ -1,7 +1,7 @@
-//! Windows, and the stretch of cells that each has.
+//! Windows and stretches, as values.
 
-ghost use Rattle.std.specs.Prelude.{◌≡◌, ◌≤◌};
-ghost use Rattle.image_model.specs.Windows.{exact_stretch, window, window_stretch, is_inside, IsWithin};
+ghost use Rattle.std.specs.Prelude.{◌≡◌};
+ghost use Rattle.image_model.specs.Windows.{window, is_inside};
 
 /// A window of an image or of another window: its corner and its size, in pixels.
 #[derive(Clone, Copy, PartialEq, Eq)]
@@ -26,7 +26,7 @@ pub struct Stretch {
 }
 
 impl Window {
-    ghost use Rattle.image_shape.specs.Window.{as_window, as_stretch};
+    ghost use Rattle.image_shape.specs.Window.{as_window};
 
     /// The window of `width` by `height` pixels with its corner at column `left` of row `top`.
     pub const fn new(left: usize, top: usize, width: usize, height: usize) -> Window
@@ -48,28 +48,5 @@ impl Window {
             && self.width <= width - self.left
             && self.top <= height
             && self.height <= height - self.top
-    }
-
-    // The stretch of `cells` cells that this window has: whole strides where that is asked for and
-    // the cells have them, and else up to its last pixel. An empty window has no cells, and its
-    // corner is never computed: the product might not fit.
-    pub(crate) fn stretch(&self, padded: bool, cells: usize, stride: usize) -> Stretch
-        requires narrow { self.now.width ≤ stride }
-        requires room { IsWithin cells (exact_stretch stride (as_window self.now)) }
-        ensures value { as_stretch result ≡ window_stretch padded cells stride (as_window self.now) }
-        ensures inside { IsWithin cells (as_stretch result) }
-    {
-        if self.width == 0 || self.height == 0 {
-            return Stretch { start: 0, len: 0 };
-        }
-        let start = stride * self.top + self.left;
-        let exact = stride * (self.height - 1) + self.width;
-        let spare = stride - self.width;
-        let len = if padded && cells - start - exact >= spare {
-            exact + spare
-        } else {
-            exact
-        };
-        Stretch { start, len }
     }
 }

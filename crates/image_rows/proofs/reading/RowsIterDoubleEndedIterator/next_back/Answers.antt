@@ -1,4 +1,4 @@
-use Rattle.std.proofs.Common.{◌≡◌, ◌+◌, ◌-◌, ◌*◌, ◌<◌, [], ◌∷◌, ◌++◌, take, drop, ap, ◌∙◌, arith}
+use Rattle.std.proofs.Common.{◌≡◌, ◌+◌, ◌-◌, ◌*◌, ◌<◌, [], ◌∷◌, ◌++◌, take, drop, sym, ap, ◌∙◌, arith}
 use Rattle.std.proofs.iter.Next.{firm}
 use Rattle.image_model.specs.Layout.{layout}
 use Rattle.image_model.specs.Rows.{rows}
@@ -11,10 +11,12 @@ unfolding refs_left
 returns-clause-steps g c =
     let s = c.args.self.now in
     let some : 0 < s.count = omega (arith, c.if-self-eq0.false) in
-    let start = (s.count - 1) * s.stride in
+    let start = c.cells_of_rows-start.result in
+    let earlier = rows (layout s.cells.now s.width (s.count - 1) s.stride) in
     let long : s.width ≡ start + s.width - start = omega arith in
     rows_last s.cells.now s.width s.stride s.count (s.some some) some
-    ∙ ap (λ n. rows (layout s.cells.now s.width (s.count - 1) s.stride) ++ take n (drop start s.cells.now) ∷ []) long
+    ∙ ap (λ n. earlier ++ take s.width (drop n s.cells.now) ∷ []) (sym c.cells_of_rows-start.ensures.value)
+    ∙ ap (λ n. earlier ++ take n (drop start s.cells.now) ∷ []) long
 
 pub returns-clause-goes : goal.returns-clause-goes
 unfolding refs_left
