@@ -51,12 +51,12 @@ pub use denote.Struct.Struct.{Struct, within}
 pub use denote.Struct.Tuple.{Tuple, tuple_type}
 pub use denote.Through.{lends_inner_slice, renamed}
 pub use denote.Triple.Call.{calls_at, calls_at_last}
-pub use denote.Triple.Clauses.{Clauses, Ended, closing, lasts}
+pub use denote.Triple.Clauses.{Clauses, Ended, lasts}
 pub use denote.Triple.Entry.{on_entry}
-pub use denote.Triple.Spec.{Meets, triple_of}
+pub use denote.Triple.Spec.{triple_of}
 pub use denote.Triple.Statement.{Contract}
-pub use denote.Triple.Table.{entered, framed}
-pub use denote.Triple.Walked.{Goes-dropped, Goes-ref, Goes-spent_ref, Stays, ends_at, says, stay_dropped, stay_ref, walk_Meets, walk_of, walked}
+pub use denote.Triple.Table.{framed}
+pub use denote.Triple.Walked.{Goes-dropped, Goes-ref, Goes-spent_ref, Stays, ends_at, says, stay_dropped, stay_ref, walk_of}
 pub use borrow.Table.Elements.{at, at_mul, cut_app, join_app, length-take-le}
 pub use borrow.Table.OneValue.{part_in_at, part_out_at}
 pub use mathlib.Core.Option.{none}
