@@ -17,7 +17,7 @@ pub use prog.Routine.{Routine}
 pub use prog.Wp.{Calls, Env, Loops, Tables, Wp, WpFn, after_seq, at_return}
 pub use types.ByLocal.{alloc_all, env, forget_but, free_all, get, get_in, get_tag, give_at, holding, is, lands_as, lands_last, look_at, look_in_at, pass_all, sets, sets_last, take_at, through}
 pub use types.Follow.{after, after₂, takes_part}
-pub use types.Kit.{!, Item, Sq, any_q, assume, now as at_once, at_ret, await, by, check, done, drop, each, feq_i, feq_l, fjoin, fjoin3, flt_i, flt_l, fpack, fpick, frame, fsplit, fsplit3, given, group, join, keep, later, learn, move, now, pick, post, prop, qed, raw, regoal, rewrite, runs, show, some, split, split3, suffices, updating, use0, use1, use2, use3, ‵, ◌$◌, ◌∵◌, ◌⊛◌}
+pub use types.Kit.{ !, Item, Sq, any_q, assume, now as at_once, at_ret, await, by, check, done, drop, each, feq_i, feq_l, fjoin, fjoin3, flt_i, flt_l, fpack, fpick, frame, fsplit, fsplit3, given, group, join, keep, later, learn, move, now, pick, post, prop, qed, raw, regoal, rewrite, runs, show, some, split, split3, suffices, updating, use0, use1, use2, use3, ‵, ◌$◌, ◌∵◌, ◌⊛◌}
 pub use types.Logic.{Logic, sem}
 pub use types.Match.{in_variant, live, vrt}
 pub use types.Mut.{close_ref, open_ref}
