@@ -11,5 +11,6 @@ mod spacing;
 mod writing;
 
 pub use ends::End;
+pub use parts::cut_out;
 pub use reading::RowsIter;
 pub use writing::RowsIterMut;

@@ -19,3 +19,24 @@ pub(crate) fn part<T>(cells: &mut [T], end: End, at: usize) -> (&mut [T], &mut [
         End::Last => (back, front),
     }
 }
+
+/// The cells between an inner and an outer cut, counted from that end, and the cells on the other side
+/// of the outer one. What lies on this side of the inner one is let go, as it is.
+///
+/// Rows and bands are taken off their cells by it. The inner cut is counted within what the outer one
+/// parts off, from its first cell on.
+///
+/// # Requires
+///
+/// The outer cut lies within the cells, and the inner one within what is parted off.
+pub fn cut_out<T>(cells: &mut [T], end: End, outer: usize, inner: usize) -> (&mut [T], &mut [T])
+    requires outer { outer ≤ length cells.old }
+    requires inner { inner ≤ length (near end outer cells.old) }
+    ensures* parts { sem 𝓛 (follows_both (Array T.row 0) (Array T.row 0) (Array T.row 0) cells.entry.ghost_name result.0.ghost_name result.1.ghost_name (λ cut kept. beside end (beside end (near end inner (near end outer cells.old)) cut) kept)) }
+    ensures first { result.0.now ≡ far end inner (near end outer cells.old) }
+    ensures second { result.1.now ≡ far end outer cells.old }
+{
+    let (piece, kept) = part(cells, end, outer);
+    let (_, cut) = part(piece, end, inner);
+    (cut, kept)
+}

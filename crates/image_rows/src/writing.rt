@@ -9,7 +9,7 @@ ghost use Rattle.image_model.specs.Rows.{rows as rows_of, row_count, grid_rows};
 ghost use Rattle.image_shape.specs.Shape.{shape_width, shape_height, shape_stride, shaped_grid, shaped};
 
 use crate::ends::End;
-use crate::parts::part;
+use crate::parts::cut_out;
 use crate::spacing::Spacing;
 use image_shape::Shape;
 use std::iter::{ExactSizeIterator, FusedIterator};
@@ -60,8 +60,7 @@ impl<'a, T> RowsIterMut<'a, T> {
             return (None, self);
         }
         let cuts = self.spacing.cuts(end);
-        let (piece, kept) = part(self.cells, end, cuts.outer);
-        let (_, row) = part(piece, end, cuts.inner);
+        let (row, kept) = cut_out(self.cells, end, cuts.outer, cuts.inner);
         let left = RowsIterMut {
             cells: kept,
             spacing: cuts.rest,

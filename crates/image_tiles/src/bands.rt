@@ -1,7 +1,7 @@
 //! Bands of an image for writing: full width, side by side.
 
 ghost use Rattle.std.specs.Prelude.{◌≡◌, ◌+◌, ◌-◌, ◌*◌, ◌^◌, ◌≤◌, ◌<◌, ◌++◌, length, take, drop, map, Some, All, IfSome};
-ghost use Rattle.std.specs.Borrow.{sem, follows_both, Array};
+ghost use Rattle.std.specs.Borrow.{sem};
 ghost use Rattle.std.specs.Iterator.{YieldsFirstBy, item_count, UpTo};
 ghost use Rattle.std.specs.Iterator.SizeHint.{IsWithinCount};
 ghost use Rattle.image_model.specs.Layout.{Fits};
@@ -13,18 +13,9 @@ ghost use Rattle.imgref.specs.Shape.{shape_width, shape_height, shape_stride};
 ghost use Rattle.imgref.specs.Image.{buf_of, width_of, height_of, stride_of, mut_grid, mut_layout};
 
 use crate::tiling::tiles_along;
+use image_rows::{End, cut_out};
 use imgref::{ImgRefMut, Shape};
 use std::iter::{ExactSizeIterator, FusedIterator};
-
-// The first `mid` cells, and the others.
-fn part<T>(cells: &mut [T], mid: usize) -> (&mut [T], &mut [T])
-    requires { mid ≤ length cells.old }
-    ensures* parts { sem 𝓛 (follows_both (Array T.row 0) (Array T.row 0) (Array T.row 0) cells.entry.ghost_name result.0.ghost_name result.1.ghost_name ◌++◌) }
-    ensures front { result.0.now ≡ take mid cells.old }
-    ensures back { result.1.now ≡ drop mid cells.old }
-{
-    cells.split_at_mut(mid)
-}
 
 // How bands lie in a list of cells.
 #[derive(Clone, Copy)]
@@ -160,8 +151,7 @@ impl<'a, T> BandsMut<'a, T> {
             return (None, self);
         }
         let cut = self.spacing.cut();
-        let (piece, kept) = part(self.cells, cut.end);
-        let (_, cells) = part(piece, cut.skip);
+        let (cells, kept) = cut_out(self.cells, End::First, cut.end, cut.skip);
         let band = ImgRefMut::from_parts(cells, cut.shape);
         let left = BandsMut {
             cells: kept,

@@ -1,16 +1,15 @@
--- `split_end` cuts the cells that are kept off the others, and the row off those that are let go, and the cells follow the row and what is kept: its MIR, proved by hand.
-use Rattle.std.proofs.Common.{◌≡◌, refl, sym, ap, ℕ, ◌+◌, ◌-◌, ◌*◌, ◌^◌, ◌<◌, ◌≤◌, arith, List, [], ◌∷◌, ◌++◌, eqb→eq, lit<, length, w64, MutBor, None, Some}
+-- `split_end` cuts the row out of the cells, which follow the row and what is kept: its MIR, proved by hand.
+use Rattle.std.proofs.Common.{◌≡◌, refl, sym, ap, ◌+◌, ◌-◌, ◌*◌, ◌^◌, ◌<◌, ◌≤◌, arith, List, [], ◌∷◌, ◌++◌, eqb→eq, lit<, length, w64, MutBor, None, Some}
 use Rattle.std.proofs.alloc.Shapes.{after}
-use Rattle.std.proofs.option.Made.{Some-of, none_of}
+use Rattle.std.proofs.option.Made.{Some-of}
 use Rattle.std.specs.contracts.option.Option as opt
-use Rattle.borrow_laws.proofs.Walking.{SProp, ent, sep, emp, id⊢, Lft, Share, ftrue, flft, fres, coded_list, Args, Fn, named, inst_fn, Val, WT, vint, of_list, WpFn, ◌⊑◌, fact, fact_i, tables, Item, ‵, ◌⊛◌, raw, later, some, prop, at_ret, ◌$◌, ◌∵◌, !, qed, by, move, keep, drop, split, split3, join, fsplit, fjoin, rewrite, regoal, use0, use1, use2, use3, await, pick, updating, now, done, sem, live, whole, sub, agg, stop, fld, hop, from, lit, addr, bin, of_opd, and_then, no_more, first, branches, skips, exec, returns, returns_within, enter, alloc_all, pass_all, free_all, look_at, look_in_at, get, get_in, sets, lands_as, env, Array, usize, follows_both, shows, Is, row_Makes, param, param_laws, uint_Makes, RattleType, owns, plain, named_lft, types_at, MutSlice, nothing, heard, peeks, owned, only, Tuple, calls_at, lasts, triple_of, framed, Stays, stay_dropped, walk_of, Goes-dropped, proved_at, leaves}
+use Rattle.borrow_laws.proofs.Walking.{SProp, emp, id⊢, Lft, Share, ftrue, flft, Args, Fn, named, inst_fn, Val, vint, of_list, WpFn, ◌⊑◌, fact, fact_i, tables, Item, ‵, ◌⊛◌, raw, later, some, prop, at_ret, ◌$◌, ◌∵◌, !, qed, by, move, keep, drop, split, split3, join, fsplit, fjoin, rewrite, regoal, use0, use1, use2, await, pick, updating, now, done, live, whole, sub, agg, stop, fld, hop, from, lit, addr, bin, of_opd, and_then, no_more, first, branches, skips, exec, returns, returns_within, enter, alloc_all, pass_all, free_all, look_at, look_in_at, get, get_in, sets, lands_as, env, Array, usize, follows_both, shows, Is, row_Makes, param, param_laws, uint_Makes, RattleType, owns, plain, named_lft, types_at, MutSlice, nothing, heard, peeks, owned, only, Tuple, calls_at, lasts, triple_of, framed, Stays, stay_dropped, walk_of, Goes-dropped, proved_at, leaves}
 use Rattle.borrow_laws.proofs.Bodies.{of_one}
 use Rattle.borrow_laws.proofs.Declared.{is_low, typed}
 use Rattle.borrow_laws.proofs.Options.{lent_val}
-use Rattle.borrow_laws.proofs.Pairs.{pair_val, pair_made, pair_told, pair_out}
-use Rattle.borrow_laws.proofs.Parts.{given_up, cut_within}
+use Rattle.borrow_laws.proofs.Pairs.{pair_val, pair_made, slices_told, slices_out, none_beside}
 use Rattle.borrow_laws.proofs.Tests.{one_at_least}
-use Rattle.image_rows.specs.Rows.{without, outer_cut, inner_cut, near, far, beside, let_go, Yields, Moves}
+use Rattle.image_rows.specs.Rows.{without, outer_cut, inner_cut, near, far, beside, Yields, Moves}
 use Rattle.image_rows.specs.declared.ends.End.{End}
 use Rattle.image_rows.specs.declared.spacing.Spacing.{Spacing}
 use Rattle.image_rows.specs.declared.spacing.Cuts.{Cuts}
@@ -25,8 +24,8 @@ use Rattle.image_rows.proofs.spacing.Cuts.TheLaws as cuts_laws
 use Rattle.image_rows.proofs.writing.RowsIterMut.TheLaws as iter_laws
 use Rattle.image_rows.proofs.Cuts.{Lies, outer_within, inner_within, last_reaches, gone_is, rest_lies, whole_is, given_at, none_at}
 use Rattle.image_rows.proofs.IterValues.{cells_out, cells_in}
-use Rattle.image_rows.specs.contracts.parts.part as f
-use Rattle.image_rows.proofs.parts.part.Met as parting
+use Rattle.image_rows.specs.contracts.parts.cut_out as f
+use Rattle.image_rows.proofs.parts.cut_out.Met as parting
 use Rattle.image_rows.specs.contracts.spacing.Spacing.cuts as g
 use Rattle.image_rows.proofs.spacing.Spacing.cuts.Met as counting
 use Rattle.image_rows.specs.contracts.writing.RowsIterMut.split_end.{ended, clauses}
@@ -73,8 +72,7 @@ split_end_spec 𝓤 𝓛 𝓜 𝓡 wired T L =
     sets ! (of_opd ! (get ! refl)) refl ok $
     sets ! (agg ! (and_then ! (get ! refl) (and_then ! (get ! refl) (no_more !)))) refl (tt, ((record { fits = lit< tt }, tt), (ok.1, tt))) $
     returns_within ! Post refl (look_at ! 0 refl) $ free_all ! refl $
-    use0 𝓛 (‵ (Row.own_val None (no_row ∷ []))) (none_of 𝓛 Slice) $ join ! $
-    use1 𝓛 (‵ ((Tuple (Row ∷ It ∷ [])).own_val (None, s) (pair_val no_row (low s) ∷ []))) (pair_made Row It None s no_row (low s) 𝓛) $
+    use1 𝓛 (‵ ((Tuple (Row ∷ It ∷ [])).own_val (None, s) (pair_val no_row (low s) ∷ []))) (none_beside 𝓛 Slice It s (low s)) $
     -- [the result; the tokens]
     use0 𝓛 (raw (fact 𝓤 (Moves end s None s))) (fact_i 𝓤 (Moves end s None s) (emp 𝓤) refl) $
     use0 𝓛 (raw (fact 𝓤 (Yields end s None s))) (fact_i 𝓤 (Yields end s None s) (emp 𝓤) (none_at end s none)) $ join ! $ nothing ! $ join ! $
@@ -104,8 +102,7 @@ split_end_spec 𝓤 𝓛 𝓜 𝓡 wired T L =
     await ! tt $ pick ! (λ n. split ! $ split ! $ drop ! $ move ! (1 ∷ []) $ pick ! (λ wsc. split ! $ drop ! $ split3 ! $
     heard ! (n.outer ≡ outer_cut end sp) (λ is_outer. heard ! (n.inner ≡ inner_cut end sp) (λ is_inner. heard ! (n.rest ≡ without end sp) (λ is_rest.
     -- [the numbers; the iterator; the tokens]
-    peeks ! Cut (Is Cut) (shows 𝓛 Cut) n (vc ∷ []) (λ isc. drop ! $
-    let okc = (typed Cut cuts_laws.the_row_laws cuts_laws.lowers 𝓛 n (vc ∷ []) isc).0 in
+    peeks ! Cut (Is Cut) (shows 𝓛 Cut) n (vc ∷ []) (λ isc. drop ! $ let okc = (typed Cut cuts_laws.the_row_laws cuts_laws.lowers 𝓛 n (vc ∷ []) isc).0 in
     lands_as ! (ap only (cuts_laws.lowers.val_is n (vc ∷ []) isc)) refl okc $
     use1 𝓛 (‵ (Slice.own_val s.cells (lent_val s.cells ∷ []))) (cells_out α R LR 𝓛 s (low s ∷ [])) $
     sets ! (addr ! (from ! (fld ! refl (fld ! refl (hop ! (look_in_at ! 1 (sub ! 0 refl (sub ! 0 refl (whole !)))) (stop !)))))) refl (tt, tt) $
@@ -113,77 +110,56 @@ split_end_spec 𝓤 𝓛 𝓜 𝓡 wired T L =
     -- [the cells; the tokens]
     let Pair : Type 0 = MutBor (List T.Denot) × MutBor (List T.Denot) in
     let Two : RattleType = Tuple (Slice ∷ Slice ∷ []) in
-    let told : (x : MutBor (List T.Denot)) (us : List Val) → Is Slice x us → us ≡ lent_val x ∷ [] = λ x us is. is.0.0 in
     let G = triple_of 𝓛 (f.signature T) (f.spec T 𝓛 𝓜.mem 𝓡.returns) in
-    -- a call of `part` on these cells, and what it leaves
-    let at_cut : MutBor (List T.Denot) → ℕ → G.Ghost = λ x k. (((κ, (κT, tt)), (q, (qT, tt)), z.0.2, (x, (end, (k, tt))), (lent_val x ∷ [], (e ∷ [], (vint w64 k ∷ [], tt)))), tt) in
-    let Parts : MutBor (List T.Denot) → Pair → Item 𝓤 = λ x r. ‵ (follows_both (Array R 0) (Array R 0) (Array R 0) x.ghost_name r.0.ghost_name r.1.ghost_name (beside end)) in
-    let Parted : MutBor (List T.Denot) → ℕ → Val → Item 𝓤 = λ x k v. later (some (λ (r : Pair). (Tok ⊛ ‵ (Two.own_val r (v ∷ [])))
-    ⊛ some (λ (ws : Unit {0} × (Unit {0} × (Unit {0} × Unit {0}))). ‵ (lasts (f.ended T) (at_cut x k).0.0 (at_cut x k).0.3 ws) ⊛ (Parts x r ⊛ raw (fact 𝓤 (r.0.now ≡ near end k x.now)) ⊛ raw (fact 𝓤 (r.1.now ≡ far end k x.now)))))) in
-    let asks : (x : MutBor (List T.Denot)) (k : ℕ) → k < 2 ^ 64 → k ≤ length x.now → ent 𝓤 (sep 𝓤 (sem 𝓛 (Slice.own_val x (lent_val x ∷ []))) (sep 𝓤 (𝓛.A.lft κ q) (sep 𝓤 (𝓛.A.lft κT qT) (sem 𝓛 ftrue)))) (G.pre (at_cut x k)) = λ x k fits within.
-    qed 𝓛 (‵ (Slice.own_val x (lent_val x ∷ [])) ∷ Tok ∷ []) ∵ nothing ! $ owned ! usize (Is usize) (uint_Makes 𝓛 w64) k (vint w64 k ∷ []) (refl, fits) $ join ! $
+    let z₁ : G.Ghost = (((κ, (κT, tt)), (q, (qT, tt)), z.0.2, (s.cells, (end, (n.outer, (n.inner, tt)))), (lent_val s.cells ∷ [], (e ∷ [], (vint w64 n.outer ∷ [], (vint w64 n.inner ∷ [], tt))))), tt) in
+    let Outer : Type 0 = n.outer ≤ length xs in
+    let Inner : Type 0 = n.inner ≤ length (near end n.outer xs) in
+    let gone : List T.Denot = near end n.inner (near end n.outer xs) in
+    nothing ! $ owned ! usize (Is usize) (uint_Makes 𝓛 w64) n.inner (vint w64 n.inner ∷ []) (refl, okc.1.1.0.fits) $ join ! $
+    owned ! usize (Is usize) (uint_Makes 𝓛 w64) n.outer (vint w64 n.outer ∷ []) (refl, okc.1.0.fits) $ join ! $
     owned ! EndRow (Is EndRow) (row_Makes EndRow end_laws.the_row_plain 𝓛) end (e ∷ []) is_end $ join ! $ move ! (1 ∷ 0 ∷ []) $ join ! $ move ! (1 ∷ 0 ∷ []) $ join ! $
-    use0 𝓛 (raw (fact 𝓤 (k ≤ length x.now))) (fact_i 𝓤 (k ≤ length x.now) (emp 𝓤) within) $ use0 𝓛 (raw (fact 𝓤 (κT ⊑ T.lives))) (fact_i 𝓤 (κT ⊑ T.lives) (emp 𝓤) le) $ join ! $
-    move ! (1 ∷ 0 ∷ []) $ by ! (id⊢ 𝓤 _) in
-    use2 𝓛 (raw (G.pre (at_cut s.cells n.outer))) (asks s.cells n.outer okc.1.0.fits (omega (arith, is_outer, outer_within sp xs lies one end))) $
-    calls_at ! fm G (parting.met 𝓤 𝓛 𝓜 𝓡 (compiled.calls-image_rows::parts::part 𝓡.env wired) T L) (at_cut s.cells n.outer) (and_then ! (get ! refl) (and_then ! (get ! refl) (and_then ! (get_in ! (fld ! refl (stop !)) (sub ! 0 refl (whole !))) (no_more !)))) (λ v.
-    use1 𝓛 (Parted s.cells n.outer v) (id⊢ 𝓤 _) $
-    await ! tt $ pick ! (λ r. split ! $ split ! $ move ! (2 ∷ []) $ pick ! (λ ws. split ! $ drop ! $ split ! $ move ! (1 ∷ []) $ split ! $ heard ! (r.0.now ≡ near end n.outer xs) (λ is_piece. heard ! (r.1.now ≡ far end n.outer xs) (λ is_kept.
-    -- [what follows; the tokens; the two parts]
-    move ! (2 ∷ []) $ peeks ! Two (Is Two) (shows 𝓛 Two) r (v ∷ []) (λ is. let is_both = pair_told Slice Slice r.0 r.1 (lent_val r.0) (lent_val r.1) (told r.0) (told r.1) (v ∷ []) is in
-    let piece_ok : WT (lent_val r.0) = (tt, (record { fits = is.1.1.0.0.1.0 }, tt)) in
-    let kept_ok : WT (lent_val r.1) = (tt, (record { fits = is.1.1.1.0.0.1.0 }, tt)) in
-    lands_as ! (ap only is_both) refl (tt, (piece_ok, (kept_ok, tt))) $
-    use1 𝓛 (‵ (Slice.own_val r.0 (lent_val r.0 ∷ [])) ⊛ ‵ (Slice.own_val r.1 (lent_val r.1 ∷ []))) (pair_out Slice Slice r.0 r.1 (lent_val r.0) (lent_val r.1) (told r.0) (told r.1) (v ∷ []) 𝓛) $ split ! $
-    -- [the piece; what is kept; what follows; the tokens]
-    sets ! (of_opd ! (get_in ! (fld ! refl (stop !)) (sub ! 0 refl (whole !)))) refl (tt, piece_ok) $
-    sets ! (of_opd ! (get_in ! (fld ! refl (stop !)) (sub ! 1 refl (whole !)))) refl (tt, kept_ok) $
-    sets ! (addr ! (from ! (fld ! refl (hop ! (look_in_at ! 4 (sub ! 0 refl (whole !))) (stop !))))) refl (tt, tt) $
-    sets ! (agg ! (and_then ! (get ! refl) (and_then ! (get_in ! (fld ! refl (stop !)) (sub ! 1 refl (whole !))) (no_more !)))) refl (tt, piece_ok) $
-    move ! (0 ∷ 3 ∷ []) $
-    -- [the piece; the tokens; what is kept; what follows]
-    use2 𝓛 (raw (G.pre (at_cut r.0 n.inner))) (asks r.0 n.inner okc.1.1.0.fits (rw (is_piece, is_outer, is_inner) (inner_within sp xs lies one end))) $
-    calls_at ! fm G (parting.met 𝓤 𝓛 𝓜 𝓡 (compiled.calls-image_rows::parts::part 𝓡.env wired) T L) (at_cut r.0 n.inner) (and_then ! (get ! refl) (and_then ! (get ! refl) (and_then ! (get_in ! (fld ! refl (stop !)) (sub ! 1 refl (whole !))) (no_more !)))) (λ v₂.
-    use1 𝓛 (Parted r.0 n.inner v₂) (id⊢ 𝓤 _) $
-    await ! tt $ pick ! (λ r₂. split ! $ split ! $ move ! (2 ∷ []) $ pick ! (λ ws₂. split ! $ drop ! $ split ! $ move ! (1 ∷ []) $ split ! $ heard ! (r₂.0.now ≡ near end n.inner r.0.now) (λ is_gone. heard ! (r₂.1.now ≡ far end n.inner r.0.now) (λ is_row.
-    move ! (2 ∷ []) $ peeks ! Two (Is Two) (shows 𝓛 Two) r₂ (v₂ ∷ []) (λ is₂. let is_both₂ = pair_told Slice Slice r₂.0 r₂.1 (lent_val r₂.0) (lent_val r₂.1) (told r₂.0) (told r₂.1) (v₂ ∷ []) is₂ in
-    let row_ok : WT (lent_val r₂.1) = (tt, (record { fits = is₂.1.1.1.0.0.1.0 }, tt)) in
-    lands_as ! (ap only is_both₂) refl (tt, ((tt, (record { fits = is₂.1.1.0.0.1.0 }, tt)), (row_ok, tt))) $
-    use1 𝓛 (‵ (Slice.own_val r₂.0 (lent_val r₂.0 ∷ [])) ⊛ ‵ (Slice.own_val r₂.1 (lent_val r₂.1 ∷ []))) (pair_out Slice Slice r₂.0 r₂.1 (lent_val r₂.0) (lent_val r₂.1) (told r₂.0) (told r₂.1) (v₂ ∷ []) 𝓛) $ split ! $
-    use1 𝓛 (‵ (fres r₂.0.ghost_name ((coded_list R.coded).code r₂.0.now))) (given_up 𝓛 R (named 0) κ r₂.0 (lent_val r₂.0 ∷ [])) $
-    -- [what is let go; the row; what follows the piece; the tokens; what is kept; what follows]
-    move ! (5 ∷ 0 ∷ 2 ∷ []) $
-    use3 𝓛 (‵ (follows_both (Array R 0) (Array R 0) (Array R 0) s.cells.ghost_name r₂.1.ghost_name r.1.ghost_name (λ w us. beside end (beside end r₂.0.now w) us))) (cut_within 𝓛 R s.cells.ghost_name r.0.ghost_name r.1.ghost_name r₂.0.ghost_name r₂.1.ghost_name (beside end) (beside end) r₂.0.now) $
+    use0 𝓛 (raw (fact 𝓤 Inner)) (fact_i 𝓤 Inner (emp 𝓤) (rw (is_outer, is_inner) (inner_within sp xs lies one end))) $ use0 𝓛 (raw (fact 𝓤 Outer)) (fact_i 𝓤 Outer (emp 𝓤) (omega (arith, is_outer, outer_within sp xs lies one end))) $ join ! $
+    use0 𝓛 (raw (fact 𝓤 (κT ⊑ T.lives))) (fact_i 𝓤 (κT ⊑ T.lives) (emp 𝓤) le) $ join ! $ move ! (1 ∷ 0 ∷ []) $ use2 𝓛 (raw (G.pre z₁)) (id⊢ 𝓤 _) $
+    calls_at ! fm G (parting.met 𝓤 𝓛 𝓜 𝓡 (compiled.calls-image_rows::parts::cut_out 𝓡.env wired) T L) z₁ (and_then ! (get ! refl) (and_then ! (get ! refl) (and_then ! (get_in ! (fld ! refl (stop !)) (sub ! 0 refl (whole !))) (and_then ! (get_in ! (fld ! refl (stop !)) (sub ! 1 refl (whole !))) (no_more !))))) (λ v.
+    use1 𝓛 (later (some (λ (r : Pair). (Tok ⊛ ‵ (Two.own_val r (v ∷ []))) ⊛ some (λ (ws : Unit {0} × (Unit {0} × (Unit {0} × (Unit {0} × Unit {0})))). ‵ (lasts (f.ended T) z₁.0.0 z₁.0.3 ws)
+    ⊛ (‵ (follows_both (Array R 0) (Array R 0) (Array R 0) s.cells.ghost_name r.0.ghost_name r.1.ghost_name (λ w ws. beside end (beside end gone w) ws)) ⊛ raw (fact 𝓤 (r.0.now ≡ far end n.inner (near end n.outer xs))) ⊛ raw (fact 𝓤 (r.1.now ≡ far end n.outer xs))))))) (id⊢ 𝓤 _) $
+    await ! tt $ pick ! (λ r. split ! $ split ! $ move ! (2 ∷ []) $ pick ! (λ ws. split ! $ drop ! $ split ! $ move ! (1 ∷ []) $ split ! $ heard ! (r.0.now ≡ far end n.inner (near end n.outer xs)) (λ is_row. heard ! (r.1.now ≡ far end n.outer xs) (λ is_kept.
+    -- [what follows; the tokens; the row and what is kept]
+    move ! (2 ∷ []) $ peeks ! Two (Is Two) (shows 𝓛 Two) r (v ∷ []) (λ is. let both = slices_told κ R r v is in
+    lands_as ! (ap only both.0) refl (tt, (both.1, (both.2, tt))) $
+    use1 𝓛 (‵ (Slice.own_val r.0 (lent_val r.0 ∷ [])) ⊛ ‵ (Slice.own_val r.1 (lent_val r.1 ∷ []))) (slices_out κ R r v 𝓛) $ split ! $
+    -- [the row; what is kept; what follows; the tokens]
+    move ! (2 ∷ 0 ∷ 3 ∷ 1 ∷ []) $
     -- [what follows; the row; the tokens; what is kept]
-    let let_go_is : r₂.0.now ≡ let_go end sp xs = rw (is_gone, is_piece, is_outer, is_inner) (gone_is sp xs lies one end) in
-    rewrite ! 0 (λ (us : List T.Denot). ‵ (follows_both (Array R 0) (Array R 0) (Array R 0) s.cells.ghost_name r₂.1.ghost_name r.1.ghost_name (λ w ws. beside end (beside end us w) ws))) let_go_is refl $
+    rewrite ! 0 (λ (us : List T.Denot). ‵ (follows_both (Array R 0) (Array R 0) (Array R 0) s.cells.ghost_name r.0.ghost_name r.1.ghost_name (λ w ws. beside end (beside end us w) ws))) (rw (is_outer, is_inner) (gone_is sp xs lies one end)) refl $
+    sets ! (of_opd ! (get_in ! (fld ! refl (stop !)) (sub ! 0 refl (whole !)))) refl (tt, both.1) $
+    sets ! (of_opd ! (get_in ! (fld ! refl (stop !)) (sub ! 1 refl (whole !)))) refl (tt, both.2) $
     let okm = okc.1.1.1.0 in
-    sets ! (of_opd ! (get_in ! (fld ! refl (stop !)) (sub ! 1 refl (whole !)))) refl (tt, row_ok) $
     sets ! (addr ! (from ! (fld ! refl (hop ! (look_in_at ! 5 (sub ! 0 refl (whole !))) (stop !))))) refl (tt, tt) $
-    sets ! (agg ! (and_then ! (get ! refl) (and_then ! (get_in ! (fld ! refl (stop !)) (sub ! 1 refl (whole !))) (no_more !)))) refl (tt, kept_ok) $
+    sets ! (agg ! (and_then ! (get ! refl) (and_then ! (get_in ! (fld ! refl (stop !)) (sub ! 1 refl (whole !))) (no_more !)))) refl (tt, both.2) $
     sets ! (of_opd ! (get_in ! (fld ! refl (stop !)) (sub ! 2 refl (whole !)))) refl (tt, okm) $
-    sets ! (agg ! (and_then ! (get ! refl) (and_then ! (get ! refl) (no_more !)))) refl (tt, (kept_ok, (okm, tt))) $
-    sets ! (addr ! (from ! (fld ! refl (hop ! (look_in_at ! 6 (sub ! 0 refl (whole !))) (stop !))))) refl (tt, tt) $
-    sets ! (agg ! (and_then ! (get ! refl) (and_then ! (get_in ! (fld ! refl (stop !)) (sub ! 1 refl (whole !))) (no_more !)))) refl (tt, row_ok) $
-    sets ! (agg ! (and_then ! (lit ! tt) (and_then ! (get ! refl) (no_more !)))) refl (tt, (record { fits = lit< tt }, (row_ok, tt))) $
-    sets ! (of_opd ! (get ! refl)) refl (tt, (kept_ok, (okm, tt))) $
-    sets ! (agg ! (and_then ! (get ! refl) (and_then ! (get ! refl) (no_more !)))) refl (tt, ((record { fits = lit< tt }, (row_ok, tt)), ((kept_ok, (okm, tt)), tt))) $
+    sets ! (agg ! (and_then ! (get ! refl) (and_then ! (get ! refl) (no_more !)))) refl (tt, (both.2, (okm, tt))) $
+    sets ! (addr ! (from ! (fld ! refl (hop ! (look_in_at ! 4 (sub ! 0 refl (whole !))) (stop !))))) refl (tt, tt) $
+    sets ! (agg ! (and_then ! (get ! refl) (and_then ! (get_in ! (fld ! refl (stop !)) (sub ! 1 refl (whole !))) (no_more !)))) refl (tt, both.1) $
+    sets ! (agg ! (and_then ! (lit ! tt) (and_then ! (get ! refl) (no_more !)))) refl (tt, (record { fits = lit< tt }, (both.1, tt))) $
+    sets ! (of_opd ! (get ! refl)) refl (tt, (both.2, (okm, tt))) $
+    sets ! (agg ! (and_then ! (get ! refl) (and_then ! (get ! refl) (no_more !)))) refl (tt, ((record { fits = lit< tt }, (both.1, tt)), ((both.2, (okm, tt)), tt))) $
     returns ! (look_at ! 0 refl) $ free_all ! refl $
     let rest : Lies n.rest (length r.1.now) = rw (is_rest, is_kept, is_outer) (rest_lies sp xs lies one end) in
     let left : RowsIterMut T.Denot = record { cells = r.1; spacing = n.rest; some = rest.0; wide = rest.1; fits = rest.2 } in
-    let row_word : Val = lent_val r₂.1 in
+    let row_word : Val = lent_val r.0 in
     let some_row : Val = live 1 (of_list (row_word ∷ [])) in
     let word : Val = pair_val some_row (low left) in
-    let Steps : Type 0 = Yields end s (Some r₂.1) left in
-    let steps : Steps = given_at end s left r₂.1 one (rw (is_row, is_piece, is_outer, is_inner) refl) (rw (is_kept, is_outer) refl) is_rest in
-    let Moved : Type 0 = Moves end s (Some r₂.1) left in
-    let moved : Moved = (rw (is_kept, is_row, is_piece, is_outer, is_inner) (whole_is sp xs lies one end _ _ _ _ refl refl (sym (gone_is sp xs lies one end)) refl), is_rest) in
+    let Steps : Type 0 = Yields end s (Some r.0) left in
+    let steps : Steps = given_at end s left r.0 one (rw (is_row, is_outer, is_inner) refl) (rw (is_kept, is_outer) refl) is_rest in
+    let Moved : Type 0 = Moves end s (Some r.0) left in
+    let moved : Moved = (rw (is_kept, is_row, is_outer, is_inner) (whole_is sp xs lies one end _ _ _ _ refl refl (sym (gone_is sp xs lies one end)) refl), is_rest) in
     -- [what follows; the row; the tokens; what is kept]
-    move ! (1 ∷ []) $ use1 𝓛 (‵ (Row.own_val (Some r₂.1) (some_row ∷ []))) (Some-of 𝓛 Slice r₂.1 row_word) $
+    move ! (1 ∷ []) $ use1 𝓛 (‵ (Row.own_val (Some r.0) (some_row ∷ []))) (Some-of 𝓛 Slice r.0 row_word) $
     move ! (3 ∷ []) $ use1 𝓛 (‵ (It.own_val left (low left ∷ []))) (cells_in α R LR 𝓛 left (is_low Sp spacing_laws.the_row_laws spacing_laws.lowers 𝓛 n.rest _ isc.1.1.1.1.0)) $
-    move ! (1 ∷ 0 ∷ []) $ use2 𝓛 (‵ ((Tuple (Row ∷ It ∷ [])).own_val (Some r₂.1, left) (word ∷ []))) (pair_made Row It (Some r₂.1) left some_row (low left) 𝓛) $
+    move ! (1 ∷ 0 ∷ []) $ use2 𝓛 (‵ ((Tuple (Row ∷ It ∷ [])).own_val (Some r.0, left) (word ∷ []))) (pair_made Row It (Some r.0) left some_row (low left) 𝓛) $
     -- [the result; what follows; the tokens]
     use0 𝓛 (raw (fact 𝓤 Moved)) (fact_i 𝓤 Moved (emp 𝓤) moved) $ use0 𝓛 (raw (fact 𝓤 Steps)) (fact_i 𝓤 Steps (emp 𝓤) steps) $ join ! $ move ! (2 ∷ 0 ∷ []) $ join ! $
     nothing ! $ nothing ! $ fjoin ! $ nothing ! $ fjoin ! $
     -- [the parameters; the ensures; the result; the tokens]
-    move ! (3 ∷ 0 ∷ 2 ∷ 1 ∷ []) $ by ! (leaves 𝓛 En stays c z word (Some r₂.1, left) ((tt, tt), (tt, tt)) (tt, (tt, tt))))))))))))))))))))))))))
+    move ! (3 ∷ 0 ∷ 2 ∷ 1 ∷ []) $ by ! (leaves 𝓛 En stays c z word (Some r.0, left) ((tt, tt), (tt, tt)) (tt, (tt, tt))))))))))))))))))))

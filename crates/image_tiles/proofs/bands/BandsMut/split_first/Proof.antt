@@ -1,14 +1,13 @@
--- `split_first` cuts the cells that are kept off the others, and the band off those before it, and the cells follow the band and what is kept: its MIR, proved by hand.
-use Rattle.std.proofs.Common.{◌≡◌, refl, sym, ap, ◌∙◌, ℕ, ◌+◌, ◌-◌, ◌*◌, ◌^◌, ◌<◌, ◌≤◌, arith, List, [], ◌∷◌, ◌++◌, eqb→eq, lit<, length, take, drop as drop_list, w64, MutBor, None, Some}
+-- `split_first` cuts the band out of the cells, which follow the band and what is kept: its MIR, proved by hand.
+use Rattle.std.proofs.Common.{◌≡◌, refl, sym, ap, ◌∙◌, ◌+◌, ◌-◌, ◌*◌, ◌^◌, ◌<◌, ◌≤◌, arith, List, [], ◌∷◌, ◌++◌, eqb→eq, lit<, length, take, drop as drop_list, w64, MutBor, None, Some}
 use Rattle.std.proofs.alloc.Shapes.{after}
-use Rattle.std.proofs.option.Made.{Some-of, none_of}
+use Rattle.std.proofs.option.Made.{Some-of}
 use Rattle.std.specs.contracts.option.Option as opt
-use Rattle.borrow_laws.proofs.Walking.{SProp, ent, sep, emp, id⊢, Lft, GName, Share, ftrue, flft, fres, coded_list, Args, Fn, named, inst_fn, Val, WT, vint, of_list, WpFn, ◌⊑◌, ⊑_refl, ⊑_trans, ⊑_meet, fact, fact_i, tables, Item, ‵, ◌⊛◌, raw, later, some, prop, at_ret, ◌$◌, ◌∵◌, !, qed, by, move, keep, drop, split, split3, join, fsplit, fjoin, rewrite, regoal, use0, use1, use2, use3, await, pick, updating, now, done, sem, live, whole, sub, agg, stop, fld, hop, from, lit, addr, bin, of_opd, and_then, no_more, first, branches, skips, exec, returns, returns_within, enter, alloc_all, pass_all, free_all, look_at, look_in_at, get, get_in, sets, lands_as, env, Array, usize, follows_both, shows, Is, row_Makes, param, param_laws, uint_Makes, RattleType, owns, named_lft, types_at, MutSlice, nothing, heard, peeks, owned, only, Tuple, calls_at, lasts, triple_of, framed, Stays, stay_dropped, walk_of, proved_at, leaves}
+use Rattle.borrow_laws.proofs.Walking.{SProp, emp, id⊢, Lft, GName, Share, ftrue, flft, Args, Fn, named, inst_fn, Val, WT, vint, of_list, WpFn, ◌⊑◌, ⊑_refl, ⊑_trans, ⊑_meet, fact, fact_i, tables, Item, ‵, ◌⊛◌, raw, later, some, prop, at_ret, ◌$◌, ◌∵◌, !, qed, by, move, keep, drop, split, split3, join, fsplit, fjoin, rewrite, regoal, use0, use1, use2, await, pick, updating, now, done, live, whole, sub, agg, stop, fld, hop, from, lit, addr, bin, of_opd, and_then, no_more, first, branches, skips, exec, returns, returns_within, enter, alloc_all, pass_all, free_all, look_at, look_in_at, get, get_in, sets, lands_as, env, Array, usize, follows_both, shows, Is, row_Makes, param, param_laws, uint_Makes, RattleType, owns, named_lft, types_at, MutSlice, nothing, heard, peeks, owned, only, Tuple, calls_at, lasts, triple_of, framed, Stays, stay_dropped, walk_of, proved_at, leaves}
 use Rattle.borrow_laws.proofs.Bodies.{of_one}
 use Rattle.borrow_laws.proofs.Declared.{is_low, typed}
 use Rattle.borrow_laws.proofs.Options.{lent_val}
-use Rattle.borrow_laws.proofs.Pairs.{pair_val, pair_made, pair_told, pair_out}
-use Rattle.borrow_laws.proofs.Parts.{given_up, cut_within}
+use Rattle.borrow_laws.proofs.Pairs.{pair_val, pair_made, slices_told, slices_out, none_beside}
 use Rattle.std.specs.Iterator.{YieldsFirstBy}
 use Rattle.image_shape.specs.contracts.shape.Shape as shape_type
 use Rattle.image_shape.proofs.shape.Shape.TheLaws as shape_laws
@@ -30,8 +29,11 @@ use Rattle.image_tiles.proofs.bands.BandsMut.TheLaws as iter_laws
 use Rattle.image_tiles.proofs.BandsCut.{Lies, cut_end, end_within, skip_within, gone_is, rest_lies, whole_is, given, none_at}
 use Rattle.borrow_laws.proofs.Tests.{one_at_least}
 use Rattle.image_tiles.proofs.BandValues.{cells_out, cells_in}
-use Rattle.image_tiles.specs.contracts.bands.part as f
-use Rattle.image_tiles.proofs.bands.part.Met as parting
+use Rattle.image_rows.specs.contracts.cut_out as f
+use Rattle.image_rows.proofs.cut_out.Met as parting
+use Rattle.image_rows.specs.declared.ends.End.TheVariants.{First}
+use Rattle.image_rows.specs.contracts.ends.End as end_type
+use Rattle.image_rows.proofs.ends.End.TheLaws as end_laws
 use Rattle.image_tiles.specs.contracts.bands.BandSpacing.cut as g
 use Rattle.image_tiles.proofs.bands.BandSpacing.cut.Met as counting
 use Rattle.image_tiles.specs.contracts.bands.BandsMut.split_first.{ended, clauses}
@@ -79,8 +81,7 @@ split_first_spec 𝓤 𝓛 𝓜 𝓡 wired T L =
     sets ! (of_opd ! (get ! refl)) refl ok $
     sets ! (agg ! (and_then ! (get ! refl) (and_then ! (get ! refl) (no_more !)))) refl (tt, ((record { fits = lit< tt }, tt), (ok.1, tt))) $
     returns_within ! Post refl (look_at ! 0 refl) $ free_all ! refl $
-    use0 𝓛 (‵ (Row.own_val None (no_band ∷ []))) (none_of 𝓛 Image) $ join ! $
-    use1 𝓛 (‵ ((Tuple (Row ∷ It ∷ [])).own_val (None, s) (pair_val no_band (low s) ∷ []))) (pair_made Row It None s no_band (low s) 𝓛) $
+    use1 𝓛 (‵ ((Tuple (Row ∷ It ∷ [])).own_val (None, s) (pair_val no_band (low s) ∷ []))) (none_beside 𝓛 Image It s (low s)) $
     -- [the result; the tokens]
     use0 𝓛 (raw (fact 𝓤 Moves₀)) (fact_i 𝓤 Moves₀ (emp 𝓤) refl) $
     use0 𝓛 (raw (fact 𝓤 Steps₀)) (fact_i 𝓤 Steps₀ (emp 𝓤) (none_at s none)) $ join ! $ nothing ! $ join ! $
@@ -123,69 +124,49 @@ split_first_spec 𝓤 𝓛 𝓜 𝓡 wired T L =
     await ! tt $ pick ! (λ n. split ! $ split ! $ drop ! $ move ! (1 ∷ []) $ pick ! (λ wsc. split ! $ drop ! $
     split ! $ heard ! (Skip n) (λ is_skip. split ! $ heard ! (End n) (λ is_end. split ! $ heard ! (Width n) (λ is_wide. split ! $ heard ! (Height n) (λ is_tall. split ! $ heard ! (Stride n) (λ is_apart. heard ! (Rest n) (λ is_rest.
     -- [the numbers; the iterator; the tokens]
-    peeks ! CutRow (Is CutRow) (shows 𝓛 CutRow) n (vc ∷ []) (λ isc. drop ! $
-    let okc = (typed CutRow cut_laws.the_row_laws cut_laws.lowers 𝓛 n (vc ∷ []) isc).0 in
+    peeks ! CutRow (Is CutRow) (shows 𝓛 CutRow) n (vc ∷ []) (λ isc. drop ! $ let okc = (typed CutRow cut_laws.the_row_laws cut_laws.lowers 𝓛 n (vc ∷ []) isc).0 in
     lands_as ! (ap only (cut_laws.lowers.val_is n (vc ∷ []) isc)) refl okc $
     use1 𝓛 (‵ (Slice.own_val s.cells (lent_val s.cells ∷ []))) (cells_out α R LR 𝓛 s (low s ∷ [])) $
     sets ! (addr ! (from ! (fld ! refl (fld ! refl (hop ! (look_in_at ! 1 (sub ! 0 refl (sub ! 0 refl (whole !)))) (stop !)))))) refl (tt, tt) $
     sets ! (agg ! (and_then ! (get ! refl) (and_then ! (get_in ! (fld ! refl (fld ! refl (stop !))) (sub ! 1 refl (sub ! 0 refl (whole !)))) (no_more !)))) refl (tt, ok.1.0) $
+    sets ! (agg ! (and_then ! (lit ! tt) (no_more !))) refl (tt, (record { fits = lit< tt }, tt)) $
     -- [the cells; the tokens]
     let Pair : Type 0 = MutBor (List T.Denot) × MutBor (List T.Denot) in
     let Two : RattleType = Tuple (Slice ∷ Slice ∷ []) in
-    let told : (x : MutBor (List T.Denot)) (us : List Val) → Is Slice x us → us ≡ lent_val x ∷ [] = λ x us is. is.0.0 in
+    let EndRow : RattleType = end_type.the_row in
+    let e : Val = end_laws.lowered First in
     let G = triple_of 𝓛 (f.signature T) (f.spec T 𝓛 𝓜.mem 𝓡.returns) in
-    -- a call of `part` on these cells, and what it leaves
-    let at_cut : MutBor (List T.Denot) → ℕ → G.Ghost = λ x k. (((κ, (κT, tt)), (q, (qT, tt)), z.0.2, (x, (k, tt)), (lent_val x ∷ [], (vint w64 k ∷ [], tt))), tt) in
-    let Parts : MutBor (List T.Denot) → Pair → Item 𝓤 = λ x r. ‵ (follows_both (Array R 0) (Array R 0) (Array R 0) x.ghost_name r.0.ghost_name r.1.ghost_name ◌++◌) in
-    let Parted : MutBor (List T.Denot) → ℕ → Val → Item 𝓤 = λ x k v. later (some (λ (r : Pair). (Tok ⊛ ‵ (Two.own_val r (v ∷ [])))
-    ⊛ some (λ (ws : Unit {0} × (Unit {0} × Unit {0})). ‵ (lasts (f.ended T) (at_cut x k).0.0 (at_cut x k).0.3 ws) ⊛ (Parts x r ⊛ raw (fact 𝓤 (r.0.now ≡ take k x.now)) ⊛ raw (fact 𝓤 (r.1.now ≡ drop_list k x.now)))))) in
-    let asks : (x : MutBor (List T.Denot)) (k : ℕ) → k < 2 ^ 64 → k ≤ length x.now → ent 𝓤 (sep 𝓤 (sem 𝓛 (Slice.own_val x (lent_val x ∷ []))) (sep 𝓤 (𝓛.A.lft κ q) (sep 𝓤 (𝓛.A.lft κT qT) (sem 𝓛 ftrue)))) (G.pre (at_cut x k)) = λ x k fits within.
-    qed 𝓛 (‵ (Slice.own_val x (lent_val x ∷ [])) ∷ Tok ∷ []) ∵ nothing ! $ owned ! usize (Is usize) (uint_Makes 𝓛 w64) k (vint w64 k ∷ []) (refl, fits) $ join ! $
-    move ! (1 ∷ 0 ∷ []) $ join ! $ move ! (1 ∷ 0 ∷ []) $ join ! $
-    use0 𝓛 (raw (fact 𝓤 (k ≤ length x.now))) (fact_i 𝓤 (k ≤ length x.now) (emp 𝓤) within) $ use0 𝓛 (raw (fact 𝓤 (κT ⊑ T.lives))) (fact_i 𝓤 (κT ⊑ T.lives) (emp 𝓤) le) $ join ! $
-    move ! (1 ∷ 0 ∷ []) $ by ! (id⊢ 𝓤 _) in
-    use2 𝓛 (raw (G.pre (at_cut s.cells n.end))) (asks s.cells n.end okc.1.1.0.fits (omega (arith, is_end, end_within p xs lies one))) $
-    calls_at ! fm G (parting.met 𝓤 𝓛 𝓜 𝓡 (compiled.calls-image_tiles::bands::part 𝓡.env wired) T L) (at_cut s.cells n.end) (and_then ! (get ! refl) (and_then ! (get_in ! (fld ! refl (stop !)) (sub ! 1 refl (whole !))) (no_more !))) (λ v.
-    use1 𝓛 (Parted s.cells n.end v) (id⊢ 𝓤 _) $
-    await ! tt $ pick ! (λ r. split ! $ split ! $ move ! (2 ∷ []) $ pick ! (λ ws. split ! $ drop ! $ split ! $ move ! (1 ∷ []) $ split ! $ heard ! (r.0.now ≡ take n.end xs) (λ is_piece. heard ! (r.1.now ≡ drop_list n.end xs) (λ is_kept.
-    -- [what follows; the tokens; the two parts]
-    move ! (2 ∷ []) $ peeks ! Two (Is Two) (shows 𝓛 Two) r (v ∷ []) (λ is. let is_both = pair_told Slice Slice r.0 r.1 (lent_val r.0) (lent_val r.1) (told r.0) (told r.1) (v ∷ []) is in
-    let piece_ok : WT (lent_val r.0) = (tt, (record { fits = is.1.1.0.0.1.0 }, tt)) in
-    let kept_ok : WT (lent_val r.1) = (tt, (record { fits = is.1.1.1.0.0.1.0 }, tt)) in
-    lands_as ! (ap only is_both) refl (tt, (piece_ok, (kept_ok, tt))) $
-    use1 𝓛 (‵ (Slice.own_val r.0 (lent_val r.0 ∷ [])) ⊛ ‵ (Slice.own_val r.1 (lent_val r.1 ∷ []))) (pair_out Slice Slice r.0 r.1 (lent_val r.0) (lent_val r.1) (told r.0) (told r.1) (v ∷ []) 𝓛) $ split ! $
-    -- [the piece; what is kept; what follows; the tokens]
-    sets ! (of_opd ! (get_in ! (fld ! refl (stop !)) (sub ! 0 refl (whole !)))) refl (tt, piece_ok) $
-    sets ! (of_opd ! (get_in ! (fld ! refl (stop !)) (sub ! 1 refl (whole !)))) refl (tt, kept_ok) $
-    sets ! (addr ! (from ! (fld ! refl (hop ! (look_in_at ! 3 (sub ! 0 refl (whole !))) (stop !))))) refl (tt, tt) $
-    sets ! (agg ! (and_then ! (get ! refl) (and_then ! (get_in ! (fld ! refl (stop !)) (sub ! 1 refl (whole !))) (no_more !)))) refl (tt, piece_ok) $
-    move ! (0 ∷ 3 ∷ []) $
-    -- [the piece; the tokens; what is kept; what follows]
-    use2 𝓛 (raw (G.pre (at_cut r.0 n.skip))) (asks r.0 n.skip okc.1.0.fits (rw (is_piece, is_end, is_skip) (skip_within p xs lies one))) $
-    calls_at ! fm G (parting.met 𝓤 𝓛 𝓜 𝓡 (compiled.calls-image_tiles::bands::part 𝓡.env wired) T L) (at_cut r.0 n.skip) (and_then ! (get ! refl) (and_then ! (get_in ! (fld ! refl (stop !)) (sub ! 0 refl (whole !))) (no_more !))) (λ v₂.
-    use1 𝓛 (Parted r.0 n.skip v₂) (id⊢ 𝓤 _) $
-    await ! tt $ pick ! (λ r₂. split ! $ split ! $ move ! (2 ∷ []) $ pick ! (λ ws₂. split ! $ drop ! $ split ! $ move ! (1 ∷ []) $ split ! $ heard ! (r₂.0.now ≡ take n.skip r.0.now) (λ is_gone. heard ! (r₂.1.now ≡ drop_list n.skip r.0.now) (λ is_band.
-    move ! (2 ∷ []) $ peeks ! Two (Is Two) (shows 𝓛 Two) r₂ (v₂ ∷ []) (λ is₂. let is_both₂ = pair_told Slice Slice r₂.0 r₂.1 (lent_val r₂.0) (lent_val r₂.1) (told r₂.0) (told r₂.1) (v₂ ∷ []) is₂ in
-    let cells_ok : WT (lent_val r₂.1) = (tt, (record { fits = is₂.1.1.1.0.0.1.0 }, tt)) in
-    lands_as ! (ap only is_both₂) refl (tt, ((tt, (record { fits = is₂.1.1.0.0.1.0 }, tt)), (cells_ok, tt))) $
-    use1 𝓛 (‵ (Slice.own_val r₂.0 (lent_val r₂.0 ∷ [])) ⊛ ‵ (Slice.own_val r₂.1 (lent_val r₂.1 ∷ []))) (pair_out Slice Slice r₂.0 r₂.1 (lent_val r₂.0) (lent_val r₂.1) (told r₂.0) (told r₂.1) (v₂ ∷ []) 𝓛) $ split ! $
-    use1 𝓛 (‵ (fres r₂.0.ghost_name ((coded_list R.coded).code r₂.0.now))) (given_up 𝓛 R (named 0) κ r₂.0 (lent_val r₂.0 ∷ [])) $
-    -- [what is let go; the band's cells; what follows the piece; the tokens; what is kept; what follows]
-    move ! (5 ∷ 0 ∷ 2 ∷ []) $
-    use3 𝓛 (‵ (follows_both (Array R 0) (Array R 0) (Array R 0) s.cells.ghost_name r₂.1.ghost_name r.1.ghost_name (λ w us. (r₂.0.now ++ w) ++ us))) (cut_within 𝓛 R s.cells.ghost_name r.0.ghost_name r.1.ghost_name r₂.0.ghost_name r₂.1.ghost_name ◌++◌ ◌++◌ r₂.0.now) $
+    let z₁ : G.Ghost = (((κ, (κT, tt)), (q, (qT, tt)), z.0.2, (s.cells, (First, (n.end, (n.skip, tt)))), (lent_val s.cells ∷ [], (e ∷ [], (vint w64 n.end ∷ [], (vint w64 n.skip ∷ [], tt))))), tt) in
+    let Outer : Type 0 = n.end ≤ length xs in
+    let Inner : Type 0 = n.skip ≤ length (take n.end xs) in
+    nothing ! $ owned ! usize (Is usize) (uint_Makes 𝓛 w64) n.skip (vint w64 n.skip ∷ []) (refl, okc.1.0.fits) $ join ! $
+    owned ! usize (Is usize) (uint_Makes 𝓛 w64) n.end (vint w64 n.end ∷ []) (refl, okc.1.1.0.fits) $ join ! $
+    owned ! EndRow (Is EndRow) (row_Makes EndRow end_laws.the_row_plain 𝓛) First (e ∷ []) ([], (refl, (tt, (refl, tt)))) $ join ! $ move ! (1 ∷ 0 ∷ []) $ join ! $ move ! (1 ∷ 0 ∷ []) $ join ! $
+    use0 𝓛 (raw (fact 𝓤 Inner)) (fact_i 𝓤 Inner (emp 𝓤) (rw (is_end, is_skip) (skip_within p xs lies one))) $ use0 𝓛 (raw (fact 𝓤 Outer)) (fact_i 𝓤 Outer (emp 𝓤) (omega (arith, is_end, end_within p xs lies one))) $ join ! $
+    use0 𝓛 (raw (fact 𝓤 (κT ⊑ T.lives))) (fact_i 𝓤 (κT ⊑ T.lives) (emp 𝓤) le) $ join ! $ move ! (1 ∷ 0 ∷ []) $ use2 𝓛 (raw (G.pre z₁)) (id⊢ 𝓤 _) $
+    calls_at ! fm G (parting.met 𝓤 𝓛 𝓜 𝓡 (compiled.calls-image_rows::cut_out 𝓡.env wired) T L) z₁ (and_then ! (get ! refl) (and_then ! (get ! refl) (and_then ! (get_in ! (fld ! refl (stop !)) (sub ! 1 refl (whole !))) (and_then ! (get_in ! (fld ! refl (stop !)) (sub ! 0 refl (whole !))) (no_more !))))) (λ v.
+    use1 𝓛 (later (some (λ (r : Pair). (Tok ⊛ ‵ (Two.own_val r (v ∷ []))) ⊛ some (λ (ws : Unit {0} × (Unit {0} × (Unit {0} × (Unit {0} × Unit {0})))). ‵ (lasts (f.ended T) z₁.0.0 z₁.0.3 ws)
+    ⊛ (‵ (follows_both (Array R 0) (Array R 0) (Array R 0) s.cells.ghost_name r.0.ghost_name r.1.ghost_name (λ w ws. (take n.skip (take n.end xs) ++ w) ++ ws)) ⊛ raw (fact 𝓤 (r.0.now ≡ drop_list n.skip (take n.end xs))) ⊛ raw (fact 𝓤 (r.1.now ≡ drop_list n.end xs))))))) (id⊢ 𝓤 _) $
+    await ! tt $ pick ! (λ r. split ! $ split ! $ move ! (2 ∷ []) $ pick ! (λ ws. split ! $ drop ! $ split ! $ move ! (1 ∷ []) $ split ! $ heard ! (r.0.now ≡ drop_list n.skip (take n.end xs)) (λ is_band. heard ! (r.1.now ≡ drop_list n.end xs) (λ is_kept.
+    -- [what follows; the tokens; the band's cells and what is kept]
+    move ! (2 ∷ []) $ peeks ! Two (Is Two) (shows 𝓛 Two) r (v ∷ []) (λ is. let both = slices_told κ R r v is in
+    lands_as ! (ap only both.0) refl (tt, (both.1, (both.2, tt))) $
+    use1 𝓛 (‵ (Slice.own_val r.0 (lent_val r.0 ∷ [])) ⊛ ‵ (Slice.own_val r.1 (lent_val r.1 ∷ []))) (slices_out κ R r v 𝓛) $ split ! $
+    -- [the band's cells; what is kept; what follows; the tokens]
+    move ! (2 ∷ 0 ∷ 3 ∷ 1 ∷ []) $
     -- [what follows; the band's cells; the tokens; what is kept]
-    let let_go_is : r₂.0.now ≡ take p.skip xs = rw (is_gone, is_piece, is_end, is_skip) (gone_is p xs lies one) in
-    rewrite ! 0 (λ (us : List T.Denot). ‵ (follows_both (Array R 0) (Array R 0) (Array R 0) s.cells.ghost_name r₂.1.ghost_name r.1.ghost_name (λ w ws. (us ++ w) ++ ws))) let_go_is refl $
+    rewrite ! 0 (λ (us : List T.Denot). ‵ (follows_both (Array R 0) (Array R 0) (Array R 0) s.cells.ghost_name r.0.ghost_name r.1.ghost_name (λ w ws. (us ++ w) ++ ws))) (rw (is_end, is_skip) (gone_is p xs lies one)) refl $
+    sets ! (of_opd ! (get_in ! (fld ! refl (stop !)) (sub ! 0 refl (whole !)))) refl (tt, both.1) $
+    sets ! (of_opd ! (get_in ! (fld ! refl (stop !)) (sub ! 1 refl (whole !)))) refl (tt, both.2) $
     let okr = okc.1.1.1.1.0 in
-    sets ! (of_opd ! (get_in ! (fld ! refl (stop !)) (sub ! 1 refl (whole !)))) refl (tt, cells_ok) $
-    sets ! (addr ! (from ! (fld ! refl (hop ! (look_in_at ! 5 (sub ! 0 refl (whole !))) (stop !))))) refl (tt, tt) $
-    sets ! (agg ! (and_then ! (get ! refl) (and_then ! (get_in ! (fld ! refl (stop !)) (sub ! 1 refl (whole !))) (no_more !)))) refl (tt, cells_ok) $
+    sets ! (addr ! (from ! (fld ! refl (hop ! (look_in_at ! 3 (sub ! 0 refl (whole !))) (stop !))))) refl (tt, tt) $
+    sets ! (agg ! (and_then ! (get ! refl) (and_then ! (get_in ! (fld ! refl (stop !)) (sub ! 1 refl (whole !))) (no_more !)))) refl (tt, both.1) $
     sets ! (of_opd ! (get_in ! (fld ! refl (stop !)) (sub ! 2 refl (whole !)))) refl (tt, okc.1.1.1.0) $
     -- the image of the band's cells
     let X : RattleType = LentCells κ T in
     let lives : κ ⊑ X.lives = ⊑_meet κ κ T.lives (⊑_refl κ) (⊑_trans κ κT T.lives z.0.2.0 le) in
     let GM = triple_of 𝓛 (h.signature X) (h.spec X 𝓛 𝓜.mem 𝓡.returns) in
-    let zm : GM.Ghost = (((κ, tt), (q, tt), tt, (r₂.1, (n.shape, tt)), (lent_val r₂.1 ∷ [], (shape_laws.lowered n.shape ∷ [], tt))), tt) in
+    let zm : GM.Ghost = (((κ, tt), (q, tt), tt, (r.0, (n.shape, tt)), (lent_val r.0 ∷ [], (shape_laws.lowered n.shape ∷ [], tt))), tt) in
     let is_shape = is_low Sh shape_laws.the_row_laws shape_laws.lowers 𝓛 n.shape _ isc.1.1.1.1.0 in
     move ! (2 ∷ []) $ split3 ! $
     -- [the token of κ; the token of κT; nothing; what follows; the band's cells; what is kept]
@@ -195,8 +176,8 @@ split_first_spec 𝓤 𝓛 𝓜 𝓡 wired T L =
     nothing ! $ use0 𝓛 (raw (fact 𝓤 (κ ⊑ X.lives))) (fact_i 𝓤 (κ ⊑ X.lives) (emp 𝓤) lives) $ join ! $ move ! (1 ∷ 0 ∷ []) $ use2 𝓛 (raw (GM.pre zm)) (id⊢ 𝓤 _) $
     calls_at ! fm GM (making.met 𝓤 𝓛 𝓜 𝓡 (compiled.calls-imgref::img::Img::from_parts 𝓡.env wired) X (lent_cells_laws κ T L)) zm (and_then ! (get ! refl) (and_then ! (get ! refl) (no_more !))) (λ vm.
     use1 𝓛 (later (some (λ (b : Out). ((‵ (flft κ q) ⊛ ‵ ftrue) ⊛ ‵ (Image.own_val b (vm ∷ []))) ⊛ some (λ (us : Unit {0} × (Unit {0} × Unit {0})). ‵ (lasts (h.ended X) zm.0.0 zm.0.3 us)
-    ⊛ (raw (fact 𝓤 (b.buf ≡ r₂.1)) ⊛ raw (fact 𝓤 (shape_of b ≡ n.shape)) ⊛ raw (fact 𝓤 (b.width ≡ n.shape.width)) ⊛ raw (fact 𝓤 (b.height ≡ n.shape.height)) ⊛ raw (fact 𝓤 (b.stride ≡ n.shape.stride))))))) (id⊢ 𝓤 _) $
-    await ! tt $ pick ! (λ b. split ! $ split ! $ move ! (2 ∷ []) $ pick ! (λ us. split ! $ drop ! $ split ! $ heard ! (b.buf ≡ r₂.1) (λ same. split ! $ drop ! $
+    ⊛ (raw (fact 𝓤 (b.buf ≡ r.0)) ⊛ raw (fact 𝓤 (shape_of b ≡ n.shape)) ⊛ raw (fact 𝓤 (b.width ≡ n.shape.width)) ⊛ raw (fact 𝓤 (b.height ≡ n.shape.height)) ⊛ raw (fact 𝓤 (b.stride ≡ n.shape.stride))))))) (id⊢ 𝓤 _) $
+    await ! tt $ pick ! (λ b. split ! $ split ! $ move ! (2 ∷ []) $ pick ! (λ us. split ! $ drop ! $ split ! $ heard ! (b.buf ≡ r.0) (λ same. split ! $ drop ! $
     split ! $ heard ! (b.width ≡ n.shape.width) (λ as_wide. split ! $ heard ! (b.height ≡ n.shape.height) (λ as_tall. heard ! (b.stride ≡ n.shape.stride) (λ as_apart.
     -- [the token of κ with nothing; the image; the token of κT; nothing; what follows; what is kept]
     move ! (1 ∷ []) $ peeks ! Image (Is Image) (shows 𝓛 Image) b (vm ∷ []) (λ isb. let tb = img_told (named 0) κ R b (vm ∷ []) isb in
@@ -206,19 +187,19 @@ split_first_spec 𝓤 𝓛 𝓜 𝓡 wired T L =
     lands_as ! (ap only (tb.0)) refl (tt, band_ok) $
     -- [the image; the token of κ with nothing; the token of κT; nothing; what follows; what is kept]
     sets ! (addr ! (from ! (fld ! refl (hop ! (look_in_at ! 4 (sub ! 0 refl (whole !))) (stop !))))) refl (tt, tt) $
-    sets ! (agg ! (and_then ! (get ! refl) (and_then ! (get_in ! (fld ! refl (stop !)) (sub ! 1 refl (whole !))) (no_more !)))) refl (tt, kept_ok) $
+    sets ! (agg ! (and_then ! (get ! refl) (and_then ! (get_in ! (fld ! refl (stop !)) (sub ! 1 refl (whole !))) (no_more !)))) refl (tt, both.2) $
     sets ! (of_opd ! (get_in ! (fld ! refl (stop !)) (sub ! 3 refl (whole !)))) refl (tt, okr) $
-    sets ! (agg ! (and_then ! (get ! refl) (and_then ! (get ! refl) (no_more !)))) refl (tt, (kept_ok, (okr, tt))) $
+    sets ! (agg ! (and_then ! (get ! refl) (and_then ! (get ! refl) (no_more !)))) refl (tt, (both.2, (okr, tt))) $
     sets ! (of_opd ! (get ! refl)) refl (tt, band_ok) $
     sets ! (agg ! (and_then ! (lit ! tt) (and_then ! (get ! refl) (no_more !)))) refl (tt, (record { fits = lit< tt }, (band_ok, tt))) $
-    sets ! (of_opd ! (get ! refl)) refl (tt, (kept_ok, (okr, tt))) $
-    sets ! (agg ! (and_then ! (get ! refl) (and_then ! (get ! refl) (no_more !)))) refl (tt, ((record { fits = lit< tt }, (band_ok, tt)), ((kept_ok, (okr, tt)), tt))) $
+    sets ! (of_opd ! (get ! refl)) refl (tt, (both.2, (okr, tt))) $
+    sets ! (agg ! (and_then ! (get ! refl) (and_then ! (get ! refl) (no_more !)))) refl (tt, ((record { fits = lit< tt }, (band_ok, tt)), ((both.2, (okr, tt)), tt))) $
     returns ! (look_at ! 0 refl) $ free_all ! refl $
     let rest : Lies n.rest (length r.1.now) = rw (is_rest, is_kept, is_end) (rest_lies p xs lies one) in
     let left : BandsMut T.Denot = record { cells = r.1; spacing = n.rest; some = rest.0; stride_positive = rest.1; holds_width = rest.2; width_fits = rest.3; rows_fit = rest.4; high = rest.5; fits = rest.6 } in
     let some_band : Val = live 1 (of_list (band_word ∷ [])) in
     let word : Val = pair_val some_band (low left) in
-    let band_is : b.buf.now ≡ drop_list p.skip (take (cut_end p) xs) = ap (λ (u : MutBor (List T.Denot)). u.now) same ∙ rw (is_band, is_piece, is_end, is_skip) refl in
+    let band_is : b.buf.now ≡ drop_list p.skip (take (cut_end p) xs) = ap (λ (u : MutBor (List T.Denot)). u.now) same ∙ rw (is_band, is_end, is_skip) refl in
     let kept_is : r.1.now ≡ drop_list (cut_end p) xs = rw (is_kept, is_end) refl in
     let Steps : Type 0 = YieldsFirstBy mut_layout bands_left s (Some b) left in
     let steps : Steps = given s left b one band_is (as_wide ∙ is_wide) (as_tall ∙ is_tall) (as_apart ∙ is_apart) kept_is is_rest in
@@ -236,4 +217,4 @@ split_first_spec 𝓤 𝓛 𝓜 𝓡 wired T L =
     move ! (2 ∷ []) $ split ! $ move ! (4 ∷ 1 ∷ []) $ join ! $ move ! (1 ∷ 0 ∷ []) $ join ! $ move ! (3 ∷ []) $ drop ! $
     -- [the tokens; the ensures; the result]
     nothing ! $ nothing ! $ fjoin ! $
-    move ! (1 ∷ 0 ∷ 3 ∷ 2 ∷ []) $ by ! (leaves 𝓛 En stays c z word (Some b, left) ((tt, tt), tt) (tt, tt))))))))))))))))))))))))))))))))))))
+    move ! (1 ∷ 0 ∷ 3 ∷ 2 ∷ []) $ by ! (leaves 𝓛 En stays c z word (Some b, left) ((tt, tt), tt) (tt, tt))))))))))))))))))))))))))))))
