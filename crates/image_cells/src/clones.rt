@@ -39,7 +39,7 @@ pub fn joined_clones<T: Clone>(
     ensures joined { IfOk result (λ v. v.items ≡ joined_rows (shaped cells.now shape)) }
     ensures succeeds { shape_width shape * shape_height shape ≡ 0 → IsOk result }
 {
-    let mut pixels: Vec<T> = Vec::with_capacity(alloc, shape.width() * shape.height())?;
+    let mut pixels: Vec<T> = Vec::with_capacity(alloc, shape.pixel_count())?;
     for y in 0..shape.row_count() {
         pixels.extend_from_slice(row(cells, shape, y))?;
     }
@@ -63,10 +63,8 @@ pub fn contiguous<'a, T: Clone>(
     ensures succeeds { shape_width shape ≡ shape_stride shape → IsOk result }
     ensures no_pixel { shape_width shape * shape_height shape ≡ 0 → IsOk result }
 {
-    let width = shape.width();
-    let height = shape.height();
-    if width == shape.stride() {
-        return Ok(CowSlice::Borrowed(&cells[..width * height]));
+    if shape.width() == shape.stride() {
+        return Ok(CowSlice::Borrowed(&cells[..shape.pixel_count()]));
     }
     Ok(CowSlice::Owned(joined_clones(alloc, cells, shape)?))
 }

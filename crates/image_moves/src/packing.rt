@@ -43,9 +43,7 @@ pub fn pack<T: Copy>(buf: &mut Vec<T>, shape: Shape) -> Shape
     ensures grid { grid_of (packed (shaped buf.old.items shape)) ≡ shaped_grid buf.old.items shape }
     ensures capacity { vec_capacity buf.new ≡ vec_capacity buf.old }
 {
-    let width = shape.width();
-    let height = shape.height();
     join_rows(buf.as_mut_slice(), shape);
-    buf.truncate(width * height);
-    Shape::new(width, height, width.max(1))
+    buf.truncate(shape.pixel_count());
+    shape.packed()
 }

@@ -4,9 +4,9 @@ use Rattle.borrow_laws.proofs.Walking.{Ura, ent, Val, Logic, sem, Is, Laws, Ratt
 use Rattle.borrow_laws.proofs.Declared.{plain_made, held_cells, held_again}
 use Rattle.borrow_laws.proofs.Options.{lent_val}
 use Rattle.image_rows.specs.declared.writing.RowsIterMut.{RowsIterMut}
-use Rattle.image_rows.specs.contracts.spacing.Spacing as sp
+use Rattle.image_shape.specs.contracts.spacing.Spacing as sp
 use Rattle.image_rows.specs.contracts.writing.RowsIterMut.{the_row, the_type}
-use Rattle.image_rows.proofs.spacing.Spacing.TheLaws as sp_laws
+use Rattle.image_shape.proofs.spacing.Spacing.TheLaws as sp_laws
 use Rattle.image_rows.proofs.writing.RowsIterMut.TheLaws as it
 
 module _ (a : NamedLft) (R : RattleType) (L : Laws R) {M : Type 1} {𝓤 : Ura M} (𝓛 : Logic 𝓤) (s : RowsIterMut R.Denot) where

@@ -1,8 +1,7 @@
 -- The rows of a list of cells, taken off at either end.
-use Rattle.std.proofs.Common.{◌≡◌, ℕ, zero, suc, ◌+◌, ◌-◌, ◌*◌, ◌<◌, ◌≤◌, List, [], ◌∷◌, ◌++◌, All, length, get_or, take, drop, map, inl, inr, refl, sym, ap, subst, ◌∙◌, arith, suc-mul, ◌^◌, ap₂}
+use Rattle.std.proofs.Common.{◌≡◌, ℕ, zero, suc, ◌+◌, ◌-◌, ◌*◌, ◌<◌, ◌≤◌, List, [], ◌∷◌, ◌++◌, All, length, get_or, take, drop, map, refl, sym, ap, subst, ◌∙◌, arith, suc-mul, ◌^◌, ap₂}
 use Rattle.std.specs.List.{range_with_len}
-use Rattle.std.proofs.Math.Nat.{mul-le-mul_right, mul_comm, zero-mul}
-use Rattle.std.proofs.lemmas.Bool.{cases_lt}
+use Rattle.std.proofs.Math.Nat.{mul-le-mul_right}
 use Rattle.std.proofs.lemmas.List.{drop-drop, drop-take, take-take}
 use Rattle.std.proofs.lemmas.List.Elements.{All-map}
 use Rattle.std.proofs.lemmas.List.FromFn.{map-range_with_len_more, length-range_with_len, get_or-range_with_len}
@@ -116,15 +115,3 @@ pub are_rows : {T : Type 0} (l : Layout T) (left : List (List T)) → left ≡ r
 are_rows l left are small fits =
     let number : length left ≡ row_count l.width l.height = ap length are ∙ length-rows l in
     (are ∙ sym (grid_rows_of l), number, omega (arith, number, small), subst (All (λ r. length r ≡ l.width)) (sym are) (rows_wide l fits))
-
--- the cells of a fitting layout reach to the end of its last row
-pub rows_reach : {T : Type 0} (l : Layout T) → Fits l → l.width ≤ l.stride → row_count l.width l.height * l.stride + l.width ≤ length l.cells + l.stride
-rows_reach l fits narrow =
-    let n : ℕ = row_count l.width l.height in
-    elim (cases_lt 0 n) [
-      | inl some ↦
-          let wide : 0 < l.width = some_column l.width l.height 0 some in
-          let high : n ≡ l.height = row_count-wide l.width l.height wide in
-          omega (arith, fits wide (omega (arith, some, high)), suc_times n l.stride some, high, mul_comm l.stride (l.height - 1), ap (λ k. (k - 1) * l.stride) high)
-      | inr none ↦ let z : n * l.stride ≡ 0 = ap (λ k. k * l.stride) (let e : n ≡ 0 = omega (arith, none) in e) ∙ zero-mul l.stride in omega (arith, z, narrow)
-    ]

@@ -6,11 +6,11 @@ use Rattle.borrow_laws.proofs.Walking.{Ura, Fml, Lft, GName, Share, ftrue, fdead
 use Rattle.borrow_laws.proofs.Lifetimes.{Ends, begins}
 use Rattle.borrow_laws.proofs.Options.{none_told, some_told}
 use Rattle.image_rows.specs.Rows.{hands_on, Yields, Moves}
-use Rattle.image_rows.specs.declared.ends.End.{End}
+use Rattle.image_shape.specs.declared.ends.End.{End}
 use Rattle.image_rows.specs.declared.writing.RowsIterMut.{RowsIterMut}
-use Rattle.image_rows.specs.contracts.ends.End as end_type
+use Rattle.image_shape.specs.contracts.ends.End as end_type
 use Rattle.image_rows.specs.contracts.writing.RowsIterMut.{the_row}
-use Rattle.image_rows.proofs.ends.End.TheLaws as end_laws
+use Rattle.image_shape.proofs.ends.End.TheLaws as end_laws
 use Rattle.image_rows.specs.contracts.writing.RowsIterMut.step as S
 
 module _ (T : RattleType) {M : Type 1} {𝓤 : Ura M} (𝓛 : Logic 𝓤) (κ : Lft) where

@@ -3,33 +3,13 @@ use Rattle.std.specs.Prelude.{◌≡◌, ℕ, ◌+◌, ◌-◌, ◌*◌, List, �
 use Rattle.std.specs.Borrow.{MutBor, GName, Fml, RattleType, ftrue, follows_both, Array}
 use Rattle.std.specs.Iterator.{YieldsFirstMut, YieldsLastMut}
 use Rattle.image_model.specs.Layout.{layout}
-use Rattle.image_model.specs.Rows.{rows, row_count}
-use Rattle.image_rows.specs.declared.ends.End.{End}
-use Rattle.image_rows.specs.declared.ends.End.TheVariants.{First, Last}
-use Rattle.image_rows.specs.declared.spacing.Spacing.{Spacing}
+use Rattle.image_model.specs.Rows.{rows}
+use Rattle.image_shape.specs.declared.ends.End.{End}
+use Rattle.image_shape.specs.declared.ends.End.TheVariants.{First, Last}
+use Rattle.image_shape.specs.declared.spacing.Spacing.{Spacing}
+use Rattle.image_shape.specs.Spacing.{without}
 use Rattle.image_rows.specs.declared.reading.RowsIter.{RowsIter}
 use Rattle.image_rows.specs.declared.writing.RowsIterMut.{RowsIterMut}
-
--- ---- how rows lie in a list of cells: how many cells are skipped before the first, how many rows there are, how wide each is, and how far each begins after the one before it
-
--- the rows of a whole image
-abbrev pub whole_spacing : ℕ → ℕ → ℕ → Spacing
-whole_spacing width height stride = record { skip = 0; count = row_count width height; width = width; stride = stride }
-
--- without the row at that end; the padding behind a first row is skipped
-abbrev pub without : End → Spacing → Spacing
-without First s = record s { skip = s.stride - s.width; count = s.count - 1 }
-without Last s = record s { count = s.count - 1 }
-
--- the row at that end is cut off behind a first row, or before a last one
-abbrev pub outer_cut : End → Spacing → ℕ
-outer_cut First s = s.skip + s.width
-outer_cut Last s = s.skip + (s.count - 1) * s.stride
-
--- and in what is cut off, where the row begins or ends
-abbrev pub inner_cut : End → Spacing → ℕ
-inner_cut First s = s.skip
-inner_cut Last s = s.width
 
 module _ {T : Type 0} where
   -- ---- the two sides of a cell
@@ -90,7 +70,7 @@ module _ {T : Type 0} where
   -- the cells are those let go, the row's, and those kept; where there is no row nothing changes
   abbrev pub Moves : End → RowsIterMut T → Option (MutBor (List T)) → RowsIterMut T → Type 0
   Moves end s None t = t ≡ s
-  Moves end s (Some row) t = (cells_left s ≡ put_back end s row.now (cells_left t)) × (spacing_left t ≡ without end (spacing_left s))
+  Moves end s (Some row) t = (cells_left s ≡ put_back end s row.now (cells_left t)) × (spacing_left t ≡ without end 1 (spacing_left s))
 
 -- the final cells of s: those let go, the row's final cells, and the final cells of t
 abbrev pub hands_on : (R : RattleType) → End → RowsIterMut R.Denot → Option (MutBor (List R.Denot)) → RowsIterMut R.Denot → Fml

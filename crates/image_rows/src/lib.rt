@@ -4,13 +4,11 @@
 //! and no padding. Both are made of cells and a [`Shape`](image_shape::Shape) that these fit.
 #![tactic(auto)]
 
-mod ends;
 mod parts;
 mod reading;
-mod spacing;
 mod writing;
 
-pub use ends::End;
+pub use image_shape::End;
 pub use parts::cut_out;
 pub use reading::RowsIter;
 pub use writing::RowsIterMut;

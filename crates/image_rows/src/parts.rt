@@ -4,7 +4,7 @@ ghost use Rattle.std.specs.Prelude.{◌≡◌, ◌≤◌, length};
 ghost use Rattle.std.specs.Borrow.{sem, follows_both, Array};
 ghost use Rattle.image_rows.specs.Rows.{near, far, beside};
 
-use crate::ends::End;
+use image_shape::End;
 
 // The cells on that side of cell `at`, and those on the other side.
 pub(crate) fn part<T>(cells: &mut [T], end: End, at: usize) -> (&mut [T], &mut [T])

@@ -7,8 +7,7 @@ ghost use Rattle.image_model.specs.Layout.{Fits, layout};
 ghost use Rattle.image_model.specs.Rows.{rows as rows_of, row_count, grid_rows};
 ghost use Rattle.image_shape.specs.Shape.{shape_width, shape_height, shape_stride, shaped_grid, shaped};
 
-use crate::spacing::Spacing;
-use image_shape::Shape;
+use image_shape::{Shape, Spacing};
 use std::iter::{ExactSizeIterator, FusedIterator};
 
 /// The rows of an image for reading, from either end: each a slice of `width` cells, without the

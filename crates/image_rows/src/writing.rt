@@ -7,11 +7,10 @@ ghost use Rattle.std.specs.Iterator.SizeHint.{IsWithinCount};
 ghost use Rattle.image_model.specs.Layout.{Fits};
 ghost use Rattle.image_model.specs.Rows.{rows as rows_of, row_count, grid_rows};
 ghost use Rattle.image_shape.specs.Shape.{shape_width, shape_height, shape_stride, shaped_grid, shaped};
+ghost use Rattle.image_shape.specs.Spacing.{whole_spacing};
 
-use crate::ends::End;
 use crate::parts::cut_out;
-use crate::spacing::Spacing;
-use image_shape::Shape;
+use image_shape::{End, Shape, Spacing};
 use std::iter::{ExactSizeIterator, FusedIterator};
 
 /// The rows of an image for writing, from either end: each a slice of `width` cells, without the
@@ -23,11 +22,11 @@ pub struct RowsIterMut<'a, T> {
     spacing: Spacing,
     ghost some: { 0 < spacing.count → 0 < spacing.width },
     ghost wide: { spacing.width ≤ spacing.stride },
-    ghost fits: { spacing.skip + spacing.count * spacing.stride + spacing.width ≤ length cells.now + spacing.stride },
+    ghost fits: { 0 < spacing.count → spacing.skip + (spacing.stride * (spacing.count - 1) + spacing.width) ≤ length cells.now },
 }
 
 impl<'a, T> RowsIterMut<'a, T> {
-    ghost use Rattle.image_rows.specs.Rows.{muts_left, cells_left, name_of, spacing_left, whole_spacing, Yields, Moves, hands_on};
+    ghost use Rattle.image_rows.specs.Rows.{muts_left, cells_left, name_of, spacing_left, Yields, Moves, hands_on};
 
     /// The rows of cells in a shape that they fit, for writing.
     pub fn new(cells: &'a mut [T], shape: Shape) -> RowsIterMut<'a, T>
@@ -59,7 +58,7 @@ impl<'a, T> RowsIterMut<'a, T> {
         if self.spacing.count == 0 {
             return (None, self);
         }
-        let cuts = self.spacing.cuts(end);
+        let cuts = self.spacing.cuts(end, 1);
         let (row, kept) = cut_out(self.cells, end, cuts.outer, cuts.inner);
         let left = RowsIterMut {
             cells: kept,

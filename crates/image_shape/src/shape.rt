@@ -1,6 +1,7 @@
 //! A width, a height and a stride.
 
 ghost use Rattle.std.specs.Prelude.{◌≡◌, ◌+◌, ◌-◌, ◌*◌, ◌^◌, ◌≤◌, ◌<◌, ◌↔◌, IsTrue};
+ghost use Rattle.image_model.specs.Compaction.{least_stride};
 ghost use Rattle.image_model.specs.Layout.{Reaches};
 ghost use Rattle.image_model.specs.Rows.{row_count};
 ghost use Rattle.image_model.specs.Windows.{IsInside, IsWithin, exact_stretch, window_stretch};
@@ -87,6 +88,26 @@ impl Shape {
         match self.width {
             0 => 0,
             _ => self.height as usize,
+        }
+    }
+
+    /// The number of pixels.
+    pub fn pixel_count(&self) -> usize
+        ensures { result ≡ shape_width self.now * shape_height self.now }
+    {
+        self.width() * self.height()
+    }
+
+    /// The same size at the least stride: without padding between the rows.
+    pub fn packed(&self) -> Shape
+        ensures width { shape_width result ≡ shape_width self.now }
+        ensures height { shape_height result ≡ shape_height self.now }
+        ensures stride { shape_stride result ≡ least_stride (shape_width self.now) }
+    {
+        Shape {
+            width: self.width,
+            height: self.height,
+            stride: (self.width as usize).max(1),
         }
     }
 

@@ -1,7 +1,7 @@
 -- The bands of a list of cells, taken off at the front.
 use Rattle.std.proofs.Common.{◌≡◌, ℕ, zero, suc, ◌+◌, ◌-◌, ◌*◌, ◌/◌, ◌%◌, ◌<◌, ◌≤◌, false, inl, inr, List, [], ◌∷◌, All, get_or, take, drop, length, map, min, refl, sym, ap, subst, ◌∙◌, arith, suc-mul, ap₂, ◌==◌}
 use Rattle.std.specs.List.{range_with_len}
-use Rattle.std.proofs.Math.Nat.{mul-add, mul-suc, mul-le-mul_left}
+use Rattle.std.proofs.Math.Nat.{mul-add, mul-suc}
 use Rattle.std.proofs.lemmas.Bool.{cond-false, cases_lt}
 use Rattle.std.proofs.lemmas.Bool.Decides.{nat_tests}
 use Rattle.std.proofs.lemmas.List.{drop-drop}
@@ -111,15 +111,6 @@ module _ {T : Type 0} (xs : List T) (w n s bh : ℕ) (wide : 0 < w) (some : 0 < 
       cond_wide : (m : ℕ) → band_count w m bh ≡ tile_count bh m
       cond_wide m = cond-false (w == 0) 0 (tile_count bh m) (grind (arith, nat_tests))
 
-  -- behind the first band the cells reach to the end of the last one
-  pub reach_on : (count skip : ℕ) → skip + (s * (n - 1) + w) ≤ count → 0 < n - k → s - w + (s * (n - k - 1) + w) ≤ count - skip - len
-  reach_on count skip reach more =
-      let full : k ≡ bh = omega (arith, more) in
-      let last : n - 1 ≡ k + (n - k - 1) = omega (arith, more) in
-      let apart : s * (n - 1) ≡ s * k + s * (n - k - 1) = ap (λ i. s * i) last ∙ mul-add s k (n - k - 1) in
-      let one : s * k ≡ s * (k - 1) + s = let e : k ≡ suc (k - 1) = omega (arith, some, high) in ap (λ i. s * i) e ∙ mul-suc s (k - 1) in
-      omega (arith, reach, apart, one, narrow)
-
 band_count_none : (v bh : ℕ) → 0 < bh → band_count v 0 bh ≡ 0
 band_count_none zero bh high = refl
 band_count_none (suc v) bh high = cond-false (suc v == 0) 0 (tile_count bh 0) (grind (arith, nat_tests)) ∙ count_none bh high
@@ -160,10 +151,6 @@ bands_fit l bh fits high =
     ]
 
 -- an iterator gives as many bands as tiles stand along its rows
-pub counted_left : {T : Type 0} (s : BandsMut T) → length (bands_left s) ≡ tile_count s.spacing.band_height s.spacing.rows
+pub counted_left : {T : Type 0} (s : BandsMut T) → length (bands_left s) ≡ tile_count s.spacing.band_height s.spacing.rows.count
 unfolding bands_left
-counted_left s = length-bands (drop s.spacing.skip s.cells.now) s.spacing.width s.spacing.rows s.spacing.stride s.spacing.band_height s.some s.high
-
--- more rows reach further
-pub taller : (stride k n : ℕ) → k ≤ n → stride * (k - 1) ≤ stride * (n - 1)
-taller stride k n fewer = mul-le-mul_left stride (omega arith)
+counted_left s = let p = s.spacing.rows in length-bands (drop p.skip s.cells.now) p.width p.count p.stride s.spacing.band_height s.some s.high

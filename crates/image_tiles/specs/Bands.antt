@@ -1,15 +1,16 @@
 -- The bands of an image: full width, so many rows each, the last perhaps fewer; and what an iterator over them leaves.
-use Rattle.std.specs.Prelude.{◌≡◌, ℕ, ◌+◌, ◌-◌, ◌*◌, ◌==◌, if◌then◌else◌, List, ◌++◌, map, min, take, drop, Option, Some, None}
+use Rattle.std.specs.Prelude.{◌≡◌, ℕ, ◌-◌, ◌*◌, ◌==◌, if◌then◌else◌, List, ◌++◌, map, min, take, drop, Option, Some, None}
 use Rattle.std.specs.List.{range_with_len}
 use Rattle.std.specs.Borrow.{MutBor, GName, Fml, RattleType, ftrue, follows_both, Array}
 use Rattle.image_model.specs.Layout.{Layout, layout}
-use Rattle.image_model.specs.Rows.{row_count}
 use Rattle.image_model.specs.Tiles.{tile_count}
 use Rattle.image_model.specs.Windows.{Window, window, exact_window}
+use Rattle.image_shape.specs.declared.ends.End.TheVariants.{First}
+use Rattle.image_shape.specs.Spacing.{whole_spacing, without}
 use Rattle.imgref.specs.declared.img.Img.{Img}
 use Rattle.imgref.specs.Image.{buf_of}
-use Rattle.image_tiles.specs.declared.bands.BandsMut.{BandsMut}
 use Rattle.image_tiles.specs.declared.bands.BandSpacing.{BandSpacing}
+use Rattle.image_tiles.specs.declared.bands.BandsMut.{BandsMut}
 
 -- how many bands a size has: with no column there is none
 abbrev pub band_count : ℕ → ℕ → ℕ → ℕ
@@ -29,21 +30,17 @@ bands l band_height = map (λ j. exact_window l (band_window l.width l.height ba
 
 -- ---- how bands lie in a list of cells
 
--- all rows of a size, as bands of so many rows: without a column there is none
-abbrev pub whole_spacing : ℕ → ℕ → ℕ → ℕ → BandSpacing
-whole_spacing width height stride band_height = record { skip = 0; rows = row_count width height; width = width; stride = stride; band_height = band_height }
+-- all rows of a size, as bands of so many rows
+abbrev pub band_spacing : ℕ → ℕ → ℕ → ℕ → BandSpacing
+band_spacing width height stride band_height = record { rows = whole_spacing width height stride; band_height = band_height }
 
 -- how many rows the first band has
 abbrev pub band_rows : BandSpacing → ℕ
-band_rows s = min s.band_height s.rows
+band_rows s = min s.band_height s.rows.count
 
--- and how many cells
-abbrev pub band_len : BandSpacing → ℕ
-band_len s = s.stride * (band_rows s - 1) + s.width
-
--- without the first band: the padding behind it is skipped
+-- without the first band
 abbrev pub behind : BandSpacing → BandSpacing
-behind s = record s { skip = s.stride - s.width; rows = s.rows - band_rows s }
+behind s = record s { rows = without First (band_rows s) s.rows }
 
 module _ {T : Type 0} where
   -- the cells that an iterator still holds
@@ -60,11 +57,11 @@ module _ {T : Type 0} where
 
   -- the bands that an iterator still gives
   unfoldable pub bands_left : BandsMut T → List (Layout T)
-  bands_left s = bands (layout (drop s.spacing.skip (cells_left s)) s.spacing.width s.spacing.rows s.spacing.stride) s.spacing.band_height
+  bands_left s = let rows = s.spacing.rows in bands (layout (drop rows.skip (cells_left s)) rows.width rows.count rows.stride) s.spacing.band_height
 
   -- the cells of s, of which the first band and those behind it may have changed
   abbrev pub put_back : BandsMut T → List T → List T → List T
-  put_back s band kept = (take s.spacing.skip (cells_left s) ++ band) ++ kept
+  put_back s band kept = (take s.spacing.rows.skip (cells_left s) ++ band) ++ kept
 
   -- the cells are those before the band, the band's, and those kept; where there is no band nothing changes
   abbrev pub Moves : BandsMut T → Option (Img (MutBor (List T))) → BandsMut T → Type 0

@@ -6,88 +6,63 @@ ghost use Rattle.std.specs.Iterator.{YieldsFirstBy, item_count, UpTo};
 ghost use Rattle.std.specs.Iterator.SizeHint.{IsWithinCount};
 ghost use Rattle.image_model.specs.Layout.{Fits};
 ghost use Rattle.image_model.specs.Grid.{grid_of};
-ghost use Rattle.image_model.specs.Rows.{row_count};
 ghost use Rattle.image_model.specs.Tiles.{EachPlaceInOne};
 ghost use Rattle.image_model.specs.Windows.{IsInside, window_view};
-ghost use Rattle.imgref.specs.Shape.{shape_width, shape_height, shape_stride};
+ghost use Rattle.image_shape.specs.Shape.{shape_width, shape_height, shape_stride};
 ghost use Rattle.imgref.specs.Image.{buf_of, width_of, height_of, stride_of, mut_grid, mut_layout};
 
 use crate::tiling::tiles_along;
-use image_rows::{End, cut_out};
-use imgref::{ImgRefMut, Shape};
+use image_rows::cut_out;
+use image_shape::{End, Shape, Spacing};
+use imgref::ImgRefMut;
 use std::iter::{ExactSizeIterator, FusedIterator};
 
-// How bands lie in a list of cells.
+// How bands lie in a list of cells: how their rows do, and how many rows each has.
 #[derive(Clone, Copy)]
 struct BandSpacing {
-    // How many cells lie before the next band.
-    skip: usize,
-    // How many rows are left.
-    rows: usize,
-    width: usize,
-    stride: usize,
+    rows: Spacing,
     band_height: usize,
 }
 
 // Where the first band is cut off, its shape, and how the others lie in the cells behind it.
 #[derive(Clone, Copy)]
 struct Cut {
-    skip: usize,
-    end: usize,
+    outer: usize,
+    inner: usize,
     shape: Shape,
     rest: BandSpacing,
 }
 
 impl BandSpacing {
-    ghost use Rattle.image_tiles.specs.Bands.{band_rows, band_len, behind};
-
-    // The rows of a shape, as bands of so many rows: without a column there is none.
-    fn whole(shape: Shape, band_height: usize) -> BandSpacing
-        ensures skip { result.skip ≡ 0 }
-        ensures rows { result.rows ≡ row_count (shape_width shape) (shape_height shape) }
-        ensures width { result.width ≡ shape_width shape }
-        ensures stride { result.stride ≡ shape_stride shape }
-        ensures band_height { result.band_height ≡ band_height }
-        ensures stride_positive { 1 ≤ shape_stride shape }
-        ensures holds_width { shape_width shape ≤ shape_stride shape }
-        ensures width_fits { shape_width shape < 2 ^ 32 }
-        ensures rows_fit { result.rows < 2 ^ 32 }
-    {
-        BandSpacing {
-            skip: 0,
-            rows: shape.row_count(),
-            width: shape.width(),
-            stride: shape.stride(),
-            band_height,
-        }
-    }
+    ghost use Rattle.image_shape.specs.declared.ends.End.TheVariants.{First};
+    ghost use Rattle.image_shape.specs.Spacing.{outer_cut, inner_cut};
+    ghost use Rattle.image_tiles.specs.Bands.{band_rows, behind};
 
     // Where the first band is cut off.
     fn cut(self) -> Cut
-        requires some { 0 < self.rows }
-        requires stride_positive { 1 ≤ self.stride }
-        requires holds_width { self.width ≤ self.stride }
-        requires width_fits { self.width < 2 ^ 32 }
-        requires rows_fit { self.rows < 2 ^ 32 }
+        requires some { 0 < self.rows.count }
+        requires stride_positive { 1 ≤ self.rows.stride }
+        requires holds_width { self.rows.width ≤ self.rows.stride }
+        requires width_fits { self.rows.width < 2 ^ 32 }
+        requires rows_fit { self.rows.count < 2 ^ 32 }
         requires high { 0 < self.band_height }
-        requires reach { self.skip + (self.stride * (self.rows - 1) + self.width) < 2 ^ 64 }
-        ensures skip { result.skip ≡ self.skip }
-        ensures end { result.end ≡ self.skip + band_len self }
-        ensures width { shape_width result.shape ≡ self.width }
+        requires reach { self.rows.skip + (self.rows.stride * (self.rows.count - 1) + self.rows.width) < 2 ^ 64 }
+        ensures outer { result.outer ≡ outer_cut First (band_rows self) self.rows }
+        ensures inner { result.inner ≡ inner_cut First (band_rows self) self.rows }
+        ensures width { shape_width result.shape ≡ self.rows.width }
         ensures height { shape_height result.shape ≡ band_rows self }
-        ensures stride { shape_stride result.shape ≡ self.stride }
+        ensures stride { shape_stride result.shape ≡ self.rows.stride }
         ensures rest { result.rest ≡ behind self }
     {
-        let rows = self.band_height.min(self.rows);
-        let shape = Shape::new(self.width, rows, self.stride);
+        let rows = self.band_height.min(self.rows.count);
+        let cuts = self.rows.cuts(End::First, rows);
         Cut {
-            skip: self.skip,
-            end: self.skip + shape.reach(),
-            shape,
+            outer: cuts.outer,
+            inner: cuts.inner,
+            shape: Shape::new(self.rows.width, rows, self.rows.stride),
             rest: BandSpacing {
-                skip: shape.padding(),
-                rows: self.rows - rows,
-                ..self
+                rows: cuts.rest,
+                band_height: self.band_height,
             },
         }
     }
@@ -101,17 +76,17 @@ impl BandSpacing {
 pub struct BandsMut<'a, T> {
     cells: &'a mut [T],
     spacing: BandSpacing,
-    ghost some: { 0 < spacing.rows → 0 < spacing.width },
-    ghost stride_positive: { 1 ≤ spacing.stride },
-    ghost holds_width: { spacing.width ≤ spacing.stride },
-    ghost width_fits: { spacing.width < 2 ^ 32 },
-    ghost rows_fit: { spacing.rows < 2 ^ 32 },
+    ghost some: { 0 < spacing.rows.count → 0 < spacing.rows.width },
+    ghost stride_positive: { 1 ≤ spacing.rows.stride },
+    ghost holds_width: { spacing.rows.width ≤ spacing.rows.stride },
+    ghost width_fits: { spacing.rows.width < 2 ^ 32 },
+    ghost rows_fit: { spacing.rows.count < 2 ^ 32 },
     ghost high: { 0 < spacing.band_height },
-    ghost fits: { 0 < spacing.rows → spacing.skip + (spacing.stride * (spacing.rows - 1) + spacing.width) ≤ length cells.now },
+    ghost fits: { 0 < spacing.rows.count → spacing.rows.skip + (spacing.rows.stride * (spacing.rows.count - 1) + spacing.rows.width) ≤ length cells.now },
 }
 
 impl<'a, T> BandsMut<'a, T> {
-    ghost use Rattle.image_tiles.specs.Bands.{bands, band_windows, bands_left, name_of, cells_left, spacing_left, whole_spacing, hands_on, Moves};
+    ghost use Rattle.image_tiles.specs.Bands.{bands, band_windows, bands_left, name_of, cells_left, spacing_left, band_spacing, hands_on, Moves};
 
     /// The bands of an image, of `band_height` rows each. An image with no pixel has none.
     ///
@@ -124,7 +99,7 @@ impl<'a, T> BandsMut<'a, T> {
         requires high { 0 < band_height }
         ensures name { name_of result ≡ (buf_of img.entry).ghost_name }
         ensures cells { cells_left result ≡ (buf_of img.entry).now }
-        ensures spacing { spacing_left result ≡ whole_spacing (width_of img.entry) (height_of img.entry) (stride_of img.entry) band_height }
+        ensures spacing { spacing_left result ≡ band_spacing (width_of img.entry) (height_of img.entry) (stride_of img.entry) band_height }
         ensures bands { bands_left result ≡ bands (mut_layout img.entry) band_height }
         ensures fit { All Fits (bands_left result) }
         ensures views { map grid_of (bands_left result) ≡ map (window_view (mut_grid img.entry)) (band_windows (width_of img.entry) (height_of img.entry) band_height) }
@@ -134,7 +109,10 @@ impl<'a, T> BandsMut<'a, T> {
         let (cells, shape) = img.into_parts();
         BandsMut {
             cells,
-            spacing: BandSpacing::whole(shape, band_height),
+            spacing: BandSpacing {
+                rows: Spacing::whole(shape),
+                band_height,
+            },
         }
     }
 
@@ -147,11 +125,11 @@ impl<'a, T> BandsMut<'a, T> {
         ensures steps { YieldsFirstBy mut_layout bands_left self.entry result.0 result.1 }
         ensures moves { Moves self.entry result.0 result.1 }
     {
-        if self.spacing.rows == 0 {
+        if self.spacing.rows.count == 0 {
             return (None, self);
         }
         let cut = self.spacing.cut();
-        let (cells, kept) = cut_out(self.cells, End::First, cut.end, cut.skip);
+        let (cells, kept) = cut_out(self.cells, End::First, cut.outer, cut.inner);
         let band = ImgRefMut::from_parts(cells, cut.shape);
         let left = BandsMut {
             cells: kept,
@@ -178,7 +156,7 @@ impl<'a, T> BandsMut<'a, T> {
     fn count_left(&self) -> usize
         ensures { result ≡ length (bands_left self.now) }
     {
-        tiles_along(self.spacing.rows, self.spacing.band_height)
+        tiles_along(self.spacing.rows.count, self.spacing.band_height)
     }
 
     // The bands that are left, which leaves none.

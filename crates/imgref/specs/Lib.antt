@@ -1,4 +1,5 @@
 pub use Rattle.image_shape.specs.Shape
+pub use Rattle.image_shape.specs.Spacing
 pub use Rattle.image_shape.specs.Window
 pub use Rattle.image_cells.specs.Clones
 pub use Rattle.image_cells.specs.Pairs

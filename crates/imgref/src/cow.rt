@@ -43,10 +43,7 @@ impl<'a, T: Clone> Img<CowSlice<'a, T>> {
         match buf {
             CowSlice::Owned(buf) => Ok(Img::from_parts(buf, shape)),
             CowSlice::Borrowed(pixels) => match joined_clones(alloc, pixels, shape) {
-                Ok(buf) => Ok(Img::from_parts(
-                    buf,
-                    Shape::new(shape.width(), shape.height(), shape.width().max(1)),
-                )),
+                Ok(buf) => Ok(Img::from_parts(buf, shape.packed())),
                 Err(_) => Err(Img::from_parts(CowSlice::Borrowed(pixels), shape)),
             },
         }

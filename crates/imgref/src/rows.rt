@@ -4,7 +4,8 @@ ghost use Rattle.std.specs.Prelude.{◌≡◌, ◌^◌, ◌<◌, length, All};
 ghost use Rattle.std.specs.Borrow.{sem, follows, Array};
 ghost use Rattle.image_model.specs.Layout.{Fits};
 ghost use Rattle.image_model.specs.Rows.{rows as rows_of, row_count, grid_rows};
-ghost use Rattle.image_rows.specs.Rows.{refs_left, muts_left, cells_left, spacing_left, name_of, whole_spacing};
+ghost use Rattle.image_rows.specs.Rows.{refs_left, muts_left, cells_left, spacing_left, name_of};
+ghost use Rattle.image_shape.specs.Spacing.{whole_spacing};
 ghost use Rattle.imgref.specs.contracts.img.Img.{the_row};
 ghost use Rattle.imgref.specs.Image.{buf_of, width_of, height_of, stride_of, grid_by, layout_by, with_all, ref_grid, ref_layout};
 

@@ -13,8 +13,9 @@ use Rattle.image_model.proofs.OneRow.{row_has, row_grid, row_outside, one_row_of
 use Rattle.image_model.proofs.Places.{outside_refl}
 use Rattle.image_model.proofs.Rows.{row_count-wide, some_column}
 use Rattle.imgref.specs.Index.{row_start}
-use Rattle.imgref.specs.Rows.{whole_spacing, let_go, muts_left, cells_left, spacing_left, put_back, Yields, Moves}
-use Rattle.image_rows.specs.declared.ends.End.TheVariants.{Last}
+use Rattle.imgref.specs.Spacing.{whole_spacing}
+use Rattle.imgref.specs.Rows.{let_go, muts_left, cells_left, spacing_left, put_back, Yields, Moves}
+use Rattle.image_shape.specs.declared.ends.End.TheVariants.{Last}
 use Rattle.image_rows.specs.declared.writing.RowsIterMut.{RowsIterMut}
 use Rattle.imgref.specs.declared.img.Img.{Img}
 use Rattle.imgref.specs.Image.{buf_of, width_of, stride_of, with_all, grid_by, layout_by}

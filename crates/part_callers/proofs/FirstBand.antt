@@ -19,7 +19,7 @@ use Rattle.imgref.specs.declared.img.Img.{Img}
 use Rattle.imgref.specs.Image.{buf_of, width_of, height_of, layout_by, mut_layout, with_all}
 use Rattle.image_tiles.specs.declared.bands.BandSpacing.{BandSpacing}
 use Rattle.image_tiles.specs.declared.bands.BandsMut.{BandsMut}
-use Rattle.image_tiles.specs.Bands.{bands, band_count, band_window, bands_left, cells_left, spacing_left, whole_spacing, put_back, Moves}
+use Rattle.image_tiles.specs.Bands.{bands, band_count, band_window, bands_left, cells_left, spacing_left, band_spacing, put_back, Moves}
 use Rattle.imgref_examples.proofs.Replaced.{new_layout}
 use Rattle.part_callers.specs.Bands.{HasFirstBand}
 
@@ -79,7 +79,7 @@ module _ {T : Type 0} (l : Layout T) (bh : ℕ) (value : T) (high : 0 < bh) (nar
   pub no_band : bands l bh ≡ [] → HasFirstBand l bh value l
   no_band is = record { grid = same_grid is; outside = outside_refl l }
 
-  module _ (r t : BandsMut T) (cells : cells_left r ≡ l.cells) (spacing : spacing_left r ≡ whole_spacing l.width l.height l.stride bh) (all : bands_left r ≡ bands l bh)
+  module _ (r t : BandsMut T) (cells : cells_left r ≡ l.cells) (spacing : spacing_left r ≡ band_spacing l.width l.height l.stride bh) (all : bands_left r ≡ bands l bh)
       (band : Img (MutBor (List T))) (steps : YieldsFirstBy mut_layout bands_left r (Some band) t) (moved : Moves r (Some band) t) where
     is_band : mut_layout band ≡ table 0
     is_band = first_of table (band_count l.width l.height bh) (mut_layout band) (bands_left t) (sym all ∙ steps)
@@ -94,8 +94,8 @@ module _ {T : Type 0} (l : Layout T) (bh : ℕ) (value : T) (high : 0 < bh) (nar
       same : SameOutside (stretch_window l w s) left
       same = subst (λ (v : Layout T). SameOutside v left) is_band stays
 
-      no_skip : r.spacing.skip ≡ 0
-      no_skip = ap (λ (p : BandSpacing). p.skip) spacing
+      no_skip : r.spacing.rows.skip ≡ 0
+      no_skip = ap (λ (p : BandSpacing). p.rows.skip) spacing
 
       -- the band's cells, and behind them the others
       parts : l.cells ≡ (buf_of band).now ++ cells_left t

@@ -14,7 +14,7 @@ pub fn fill<T: Copy>(cells: &mut [T], shape: Shape, value: T)
     ensures grid { shaped_grid cells.new shape ≡ uniform (shape_width shape) (shape_height shape) value }
     ensures outside { SameOutside (shaped cells.old shape) (shaped cells.new shape) }
 {
-    let count = shape.width() * shape.height();
+    let count = shape.pixel_count();
     let mut image = ImgRefMut::from_parts(cells, shape);
     write_first(&mut image, count, value);
 }

@@ -9,7 +9,7 @@ slice_bounds-result-end g c =
     let cells = c.args.cells.now in
     let s = c.args.shape in
     let touch : 0 < shape_width s → 0 < shape_height s → shape_width s ≡ shape_stride s = λ _ _. omega arith in
-    rw (c.width-width.ensures.value, c.height-height.ensures.value)
+    rw c.pixel_count.ensures
     (sym (length-joined_rows cells (shape_width s) (shape_height s) (shape_stride s) c.requires.fits) ∙ ap length (joined_in_place cells (shape_width s) (shape_height s) (shape_stride s) c.requires.fits touch))
 
 pub returns-then-width-stride-clause-joined : goal.returns-then-width-stride-clause-joined
@@ -17,4 +17,4 @@ returns-then-width-stride-clause-joined g c =
     let cells = c.args.cells.now in
     let s = c.args.shape in
     let touch : 0 < shape_width s → 0 < shape_height s → shape_width s ≡ shape_stride s = λ _ _. omega arith in
-    rw (c.width-width.ensures.value, c.height-height.ensures.value) (sym (joined_in_place cells (shape_width s) (shape_height s) (shape_stride s) c.requires.fits touch))
+    rw c.pixel_count.ensures (sym (joined_in_place cells (shape_width s) (shape_height s) (shape_stride s) c.requires.fits touch))

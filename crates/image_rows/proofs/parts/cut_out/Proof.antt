@@ -7,9 +7,9 @@ use Rattle.borrow_laws.proofs.Options.{lent_val}
 use Rattle.borrow_laws.proofs.Pairs.{pair_val, pair_made, slices_told, slices_out}
 use Rattle.borrow_laws.proofs.Parts.{given_up, cut_within}
 use Rattle.image_rows.specs.Rows.{near, far, beside}
-use Rattle.image_rows.specs.declared.ends.End.{End}
-use Rattle.image_rows.specs.contracts.ends.End as end_type
-use Rattle.image_rows.proofs.ends.End.TheLaws as end_laws
+use Rattle.image_shape.specs.declared.ends.End.{End}
+use Rattle.image_shape.specs.contracts.ends.End as end_type
+use Rattle.image_shape.proofs.ends.End.TheLaws as end_laws
 use Rattle.image_rows.specs.contracts.parts.part as f
 use Rattle.image_rows.proofs.parts.part.Met as parting
 use Rattle.image_rows.specs.contracts.parts.cut_out.{ended, clauses}

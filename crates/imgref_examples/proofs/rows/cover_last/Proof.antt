@@ -17,14 +17,15 @@ use Rattle.borrow_laws.proofs.Endings.{ends_beside, ends_said}
 use Rattle.borrow_laws.proofs.Lifetimes.{Ends, begins}
 use Rattle.borrow_laws.proofs.Options.{none_or_some, none_told, some_told, some_slice, lent_val}
 use Rattle.borrow_laws.proofs.Parts.{given_up}
-use Rattle.image_rows.specs.declared.ends.End.TheVariants.{Last}
+use Rattle.image_shape.specs.declared.ends.End.TheVariants.{Last}
 use Rattle.image_rows.specs.declared.writing.RowsIterMut.{RowsIterMut}
 use Rattle.image_rows.specs.contracts.writing.RowsIterMut as P
 use Rattle.image_rows.proofs.writing.RowsIterMut.TheLaws as laws
 use Rattle.image_rows.proofs.IterValues.{cells_out}
 use Rattle.image_rows.specs.contracts.writing.RowsIterMut.next_back as N
 use Rattle.image_rows.proofs.writing.RowsIterMut.next_back.Met as stepping
-use Rattle.imgref.specs.Rows.{whole_spacing, cells_left, spacing_left, muts_left, name_of, put_back, hands_on, Yields, Moves}
+use Rattle.imgref.specs.Spacing.{whole_spacing}
+use Rattle.imgref.specs.Rows.{cells_left, spacing_left, muts_left, name_of, put_back, hands_on, Yields, Moves}
 use Rattle.imgref.specs.declared.img.Img.{Img}
 use Rattle.imgref.specs.contracts.img.Img.{the_row}
 use Rattle.imgref.specs.contracts.img.Img.rows_mut as M

@@ -26,7 +26,7 @@ use Rattle.image_tiles.proofs.bands.BandsMut.TheLaws as laws
 use Rattle.image_tiles.proofs.BandValues.{cells_out, band_val, band_ok, band_told}
 use Rattle.image_tiles.specs.contracts.bands.BandsMut.next as N
 use Rattle.image_tiles.proofs.bands.BandsMut.next.Met as stepping
-use Rattle.image_tiles.specs.Bands.{bands, bands_left, cells_left, spacing_left, whole_spacing, name_of, put_back, hands_on, Moves}
+use Rattle.image_tiles.specs.Bands.{bands, bands_left, cells_left, spacing_left, band_spacing, name_of, put_back, hands_on, Moves}
 use Rattle.imgref.specs.declared.img.Img.{Img}
 use Rattle.imgref.specs.contracts.img.Img.{the_row}
 use Rattle.imgref.specs.contracts.img.Img.into_parts as parts
@@ -82,7 +82,7 @@ cover_band_spec 𝓤 𝓛 𝓜 𝓡 wired X Y LX LY CY gh d gs ds gc dc bm bs bc
     let Rows : RattleType = P.the_row named_α (param 1 Y) in
     let Sort : Type 0 = BandsMut Y.Denot in
     let F : List Y.Denot → Img X.Denot = with_all gs.cells gh.with_cells x.now in
-    let Spaced : Sort → Type 0 = λ r. spacing_left r ≡ whole_spacing old.width old.height old.stride bh in
+    let Spaced : Sort → Type 0 = λ r. spacing_left r ≡ band_spacing old.width old.height old.stride bh in
     let Lists : Sort → Type 0 = λ r. bands_left r ≡ bands old bh in
     use1 𝓛 (later (some (λ (r : Sort). ((‵ (flft α qα) ⊛ ‵ (flft κ₁ q₁) ⊛ ‵ (flft κ₂ q₂) ⊛ ‵ ftrue) ⊛ ‵ (Rows.own_val r (v₁ ∷ []))) ⊛ some (λ (ws : Unit {0} × (Unit {0} × Unit {0})). ‵ (lasts (M.ended X Y gh d gs ds) z₁.0.0 z₁.0.3 ws)
     ⊛ (‵ (follows Whole (Array (param 1 Y) 0) δ (name_of r) F) ⊛ raw (fact 𝓤 (cells_left r ≡ old.cells)) ⊛ raw (fact 𝓤 (Spaced r)) ⊛ raw (fact 𝓤 (Lists r))))))) (id⊢ 𝓤 _) $

@@ -1,5 +1,5 @@
 -- The first pixels, as many as there are, are all of them.
-use Rattle.std.proofs.Common.{rules, ◌≡◌, ◌*◌, List, ap, sym, ◌∙◌}
+use Rattle.std.proofs.Common.{rules, ◌≡◌, List, ap, sym, ◌∙◌}
 use Rattle.std.specs.Borrow.{MutBor}
 use Rattle.image_model.specs.Layout.{Layout, layout}
 use Rattle.image_model.specs.Grid.{grid_of}
@@ -20,5 +20,5 @@ returns-clause-grid g c =
     ap (λ (cells : List g.row.T.Denot). grid_of (shaped cells c.args.shape)) (search rules)
     ∙ sym (ap (λ (v : Layout g.row.T.Denot). grid_of v) ends)
     ∙ c.write_first.ensures.grid
-    ∙ (λ k. with_first (grid_of (is k)) (c.width.ensures.value k * c.height.ensures.value k) c.args.value)
+    ∙ (λ k. with_first (grid_of (is k)) (c.pixel_count-count.ensures k) c.args.value)
     ∙ all_of_them l c.args.value

@@ -1,10 +1,10 @@
-use Rattle.std.proofs.Common.{arith, rules, ◌∙◌, drop, ap}
+use Rattle.std.proofs.Common.{arith, rules, ◌∙◌, ◌-◌, ◌*◌, ◌<◌, ◌≡◌, drop, ap}
 use Rattle.image_model.specs.Layout.{layout}
-use Rattle.image_model.specs.Rows.{rows}
-use Rattle.image_model.proofs.Rows.{some_column}
+use Rattle.image_model.specs.Rows.{rows, row_count}
+use Rattle.image_model.proofs.Rows.{some_column, row_count-wide}
 use Rattle.image_shape.specs.Shape.{shape_width, shape_height, shape_stride, shaped}
 use Rattle.image_rows.specs.Rows.{muts_left}
-use Rattle.image_rows.proofs.RowsLeft.{rows_counted, are_rows, rows_reach}
+use Rattle.image_rows.proofs.RowsLeft.{rows_counted, are_rows}
 use Rattle.image_rows.proofs.writing.RowsIterMut.new.Goals as goal
 
 pub invariant_of-result : goal.invariant_of-result
@@ -15,8 +15,11 @@ invariant_of-result g c =
     let is = c.whole.ensures.value in
     rw is record {
       some = λ more. some_column width height 0 more;
-      wide = c.whole.ensures.wide;
-      fits = omega (arith, rows_reach (shaped c.args.cells.now shape) c.requires.fits c.whole.ensures.wide);
+      wide = c.whole.ensures.holds_width;
+      fits = λ more.
+          let wide : 0 < width = some_column width height 0 more in
+          let high : row_count width height ≡ height = row_count-wide width height wide in
+          omega (arith, c.requires.fits wide (omega (arith, more, high)), ap (λ k. shape_stride shape * (k - 1)) high);
     }
 
 pub returns : goal.returns

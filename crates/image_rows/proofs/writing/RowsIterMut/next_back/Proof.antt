@@ -3,7 +3,7 @@ use Rattle.std.proofs.Common.{refl, List, [], ◌∷◌, lit<, MutBor, Option}
 use Rattle.borrow_laws.proofs.Walking.{Lft, Share, ftrue, flft, SProp, emp, ◌⊑◌, fact, fact_i, tables, inst_fn, Args, Fn, named, Val, vptr, alloc_all, pass_all, free_all, look_at, get, through, sets, lands_as, ‵, ◌⊛◌, raw, later, some, given, ◌$◌, ◌∵◌, !, qed, by, move, keep, drop, split, split3, join, fsplit, fjoin, use0, use1, group, learn, await, pick, agg, stop, lit, addr, and_then, no_more, returns, enter, shows, Is, param, RattleType, owns, MutRef, mut_vals, mut_Tells, plain, named_lft, types_at, nothing, heard, peeks, calls_at, framed, Stays, stay_ref, walk_of, Goes-ref, proved, leaves}
 use Rattle.borrow_laws.proofs.Bodies.{of_one}
 use Rattle.image_rows.specs.Rows.{hands_on, Yields, Moves}
-use Rattle.image_rows.specs.declared.ends.End.TheVariants.{Last}
+use Rattle.image_shape.specs.declared.ends.End.TheVariants.{Last}
 use Rattle.image_rows.specs.declared.writing.RowsIterMut.{RowsIterMut}
 use Rattle.image_rows.specs.contracts.writing.RowsIterMut.{the_row}
 use Rattle.image_rows.proofs.Stepping as stepping

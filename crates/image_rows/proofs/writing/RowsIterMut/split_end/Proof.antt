@@ -9,25 +9,26 @@ use Rattle.borrow_laws.proofs.Declared.{is_low, typed}
 use Rattle.borrow_laws.proofs.Options.{lent_val}
 use Rattle.borrow_laws.proofs.Pairs.{pair_val, pair_made, slices_told, slices_out, none_beside}
 use Rattle.borrow_laws.proofs.Tests.{one_at_least}
-use Rattle.image_rows.specs.Rows.{without, outer_cut, inner_cut, near, far, beside, Yields, Moves}
-use Rattle.image_rows.specs.declared.ends.End.{End}
-use Rattle.image_rows.specs.declared.spacing.Spacing.{Spacing}
-use Rattle.image_rows.specs.declared.spacing.Cuts.{Cuts}
+use Rattle.image_shape.specs.Spacing.{without, outer_cut, inner_cut}
+use Rattle.image_rows.specs.Rows.{near, far, beside, Yields, Moves}
+use Rattle.image_shape.specs.declared.ends.End.{End}
+use Rattle.image_shape.specs.declared.spacing.Spacing.{Spacing}
+use Rattle.image_shape.specs.declared.spacing.Cuts.{Cuts}
 use Rattle.image_rows.specs.declared.writing.RowsIterMut.{RowsIterMut}
-use Rattle.image_rows.specs.contracts.ends.End as end_type
-use Rattle.image_rows.specs.contracts.spacing.Spacing as spacing_type
-use Rattle.image_rows.specs.contracts.spacing.Cuts as cuts_type
+use Rattle.image_shape.specs.contracts.ends.End as end_type
+use Rattle.image_shape.specs.contracts.spacing.Spacing as spacing_type
+use Rattle.image_shape.specs.contracts.spacing.Cuts as cuts_type
 use Rattle.image_rows.specs.contracts.writing.RowsIterMut.{the_row}
-use Rattle.image_rows.proofs.ends.End.TheLaws as end_laws
-use Rattle.image_rows.proofs.spacing.Spacing.TheLaws as spacing_laws
-use Rattle.image_rows.proofs.spacing.Cuts.TheLaws as cuts_laws
+use Rattle.image_shape.proofs.ends.End.TheLaws as end_laws
+use Rattle.image_shape.proofs.spacing.Spacing.TheLaws as spacing_laws
+use Rattle.image_shape.proofs.spacing.Cuts.TheLaws as cuts_laws
 use Rattle.image_rows.proofs.writing.RowsIterMut.TheLaws as iter_laws
-use Rattle.image_rows.proofs.Cuts.{Lies, outer_within, inner_within, last_reaches, gone_is, rest_lies, whole_is, given_at, none_at}
+use Rattle.image_rows.proofs.Cuts.{Lies, outer_within, inner_within, gone_is, rest_lies, whole_is, given_at, none_at}
 use Rattle.image_rows.proofs.IterValues.{cells_out, cells_in}
 use Rattle.image_rows.specs.contracts.parts.cut_out as f
 use Rattle.image_rows.proofs.parts.cut_out.Met as parting
-use Rattle.image_rows.specs.contracts.spacing.Spacing.cuts as g
-use Rattle.image_rows.proofs.spacing.Spacing.cuts.Met as counting
+use Rattle.image_shape.specs.contracts.spacing.Spacing.cuts as g
+use Rattle.image_shape.proofs.spacing.Spacing.cuts.Met as counting
 use Rattle.image_rows.specs.contracts.writing.RowsIterMut.split_end.{ended, clauses}
 use Rattle.image_rows.specs.contracts.writing.RowsIterMut.split_end.Key.{name as #self}
 use Rattle.image_rows.proofs.writing.RowsIterMut.split_end.Statement.{statement}
@@ -83,24 +84,27 @@ split_end_spec 𝓤 𝓛 𝓜 𝓡 wired T L =
     sets ! (of_opd ! (get_in ! (fld ! refl (stop !)) (sub ! 1 refl (whole !)))) refl (tt, ok.1.1.0) $
     -- [the iterator; the tokens]
     let lies : Lies sp (length xs) = (s.some, s.wide, s.fits) in
-    let Some₀ : Type 0 = 0 < sp.count in
+    let Some₀ : Type 0 = 0 < 1 in
+    let There : Type 0 = 1 ≤ sp.count in
     let Wide : Type 0 = sp.width ≤ sp.stride in
-    let Reach : Type 0 = sp.skip + (sp.count - 1) * sp.stride + sp.width < 2 ^ 64 in
+    let Reach : Type 0 = sp.skip + (sp.stride * (sp.count - 1) + sp.width) < 2 ^ 64 in
     let fit : length xs < 2 ^ 64 = ok.1.0.1.0.fits in
     let is_sp = is_low Sp spacing_laws.the_row_laws spacing_laws.lowers 𝓛 sp _ are.0.1.1.1.0 in
     let GC = triple_of 𝓛 g.signature (g.spec 𝓛 𝓜.mem 𝓡.returns) in
-    let zc : GC.Ghost = ((tt, tt, tt, (sp, (end, tt)), (spacing_laws.lowered sp ∷ [], (e ∷ [], tt))), tt) in
-    nothing ! $ owned ! EndRow (Is EndRow) (row_Makes EndRow end_laws.the_row_plain 𝓛) end (e ∷ []) is_end $ join ! $
+    let zc : GC.Ghost = ((tt, tt, tt, (sp, (end, (1, tt))), (spacing_laws.lowered sp ∷ [], (e ∷ [], (vint w64 1 ∷ [], tt)))), tt) in
+    nothing ! $ owned ! usize (Is usize) (uint_Makes 𝓛 w64) 1 (vint w64 1 ∷ []) (refl, lit< tt) $ join ! $
+    owned ! EndRow (Is EndRow) (row_Makes EndRow end_laws.the_row_plain 𝓛) end (e ∷ []) is_end $ join ! $
     owned ! Sp (Is Sp) (row_Makes Sp spacing_laws.the_row_plain 𝓛) sp (spacing_laws.lowered sp ∷ []) is_sp $ join ! $ nothing ! $ join ! $
-    use0 𝓛 (raw (fact 𝓤 Reach)) (fact_i 𝓤 Reach (emp 𝓤) (omega (arith, last_reaches sp xs lies one, fit))) $
+    use0 𝓛 (raw (fact 𝓤 Reach)) (fact_i 𝓤 Reach (emp 𝓤) (omega (arith, s.fits one, fit))) $
     use0 𝓛 (raw (fact 𝓤 Wide)) (fact_i 𝓤 Wide (emp 𝓤) s.wide) $ join ! $
-    use0 𝓛 (raw (fact 𝓤 Some₀)) (fact_i 𝓤 Some₀ (emp 𝓤) one) $ join ! $ move ! (1 ∷ 0 ∷ []) $ use2 𝓛 (raw (GC.pre zc)) (id⊢ 𝓤 _) $
-    calls_at ! fm GC (counting.met 𝓤 𝓛 𝓜 𝓡 (compiled.calls-image_rows::spacing::Spacing::cuts 𝓡.env wired)) zc (and_then ! (get ! refl) (and_then ! (get ! refl) (no_more !))) (λ vc.
+    use0 𝓛 (raw (fact 𝓤 There)) (fact_i 𝓤 There (emp 𝓤) one) $ join ! $
+    use0 𝓛 (raw (fact 𝓤 Some₀)) (fact_i 𝓤 Some₀ (emp 𝓤) (lit< tt)) $ join ! $ move ! (1 ∷ 0 ∷ []) $ use2 𝓛 (raw (GC.pre zc)) (id⊢ 𝓤 _) $
+    calls_at ! fm GC (counting.met 𝓤 𝓛 𝓜 𝓡 (compiled.calls-image_shape::spacing::Spacing::cuts 𝓡.env wired)) zc (and_then ! (get ! refl) (and_then ! (get ! refl) (and_then ! (lit ! tt) (no_more !)))) (λ vc.
     let Cut : RattleType = cuts_type.the_row in
-    use1 𝓛 (later (some (λ (n : Cuts). (‵ ftrue ⊛ ‵ (Cut.own_val n (vc ∷ []))) ⊛ some (λ (ws : Unit {0} × (Unit {0} × Unit {0})). ‵ (lasts g.ended zc.0.0 zc.0.3 ws)
-    ⊛ (raw (fact 𝓤 (n.outer ≡ outer_cut end sp)) ⊛ raw (fact 𝓤 (n.inner ≡ inner_cut end sp)) ⊛ raw (fact 𝓤 (n.rest ≡ without end sp))))))) (id⊢ 𝓤 _) $
+    use1 𝓛 (later (some (λ (n : Cuts). (‵ ftrue ⊛ ‵ (Cut.own_val n (vc ∷ []))) ⊛ some (λ (ws : Unit {0} × (Unit {0} × (Unit {0} × Unit {0}))). ‵ (lasts g.ended zc.0.0 zc.0.3 ws)
+    ⊛ (raw (fact 𝓤 (n.outer ≡ outer_cut end 1 sp)) ⊛ raw (fact 𝓤 (n.inner ≡ inner_cut end 1 sp)) ⊛ raw (fact 𝓤 (n.rest ≡ without end 1 sp))))))) (id⊢ 𝓤 _) $
     await ! tt $ pick ! (λ n. split ! $ split ! $ drop ! $ move ! (1 ∷ []) $ pick ! (λ wsc. split ! $ drop ! $ split3 ! $
-    heard ! (n.outer ≡ outer_cut end sp) (λ is_outer. heard ! (n.inner ≡ inner_cut end sp) (λ is_inner. heard ! (n.rest ≡ without end sp) (λ is_rest.
+    heard ! (n.outer ≡ outer_cut end 1 sp) (λ is_outer. heard ! (n.inner ≡ inner_cut end 1 sp) (λ is_inner. heard ! (n.rest ≡ without end 1 sp) (λ is_rest.
     -- [the numbers; the iterator; the tokens]
     peeks ! Cut (Is Cut) (shows 𝓛 Cut) n (vc ∷ []) (λ isc. drop ! $ let okc = (typed Cut cuts_laws.the_row_laws cuts_laws.lowers 𝓛 n (vc ∷ []) isc).0 in
     lands_as ! (ap only (cuts_laws.lowers.val_is n (vc ∷ []) isc)) refl okc $
@@ -118,7 +122,7 @@ split_end_spec 𝓤 𝓛 𝓜 𝓡 wired T L =
     nothing ! $ owned ! usize (Is usize) (uint_Makes 𝓛 w64) n.inner (vint w64 n.inner ∷ []) (refl, okc.1.1.0.fits) $ join ! $
     owned ! usize (Is usize) (uint_Makes 𝓛 w64) n.outer (vint w64 n.outer ∷ []) (refl, okc.1.0.fits) $ join ! $
     owned ! EndRow (Is EndRow) (row_Makes EndRow end_laws.the_row_plain 𝓛) end (e ∷ []) is_end $ join ! $ move ! (1 ∷ 0 ∷ []) $ join ! $ move ! (1 ∷ 0 ∷ []) $ join ! $
-    use0 𝓛 (raw (fact 𝓤 Inner)) (fact_i 𝓤 Inner (emp 𝓤) (rw (is_outer, is_inner) (inner_within sp xs lies one end))) $ use0 𝓛 (raw (fact 𝓤 Outer)) (fact_i 𝓤 Outer (emp 𝓤) (omega (arith, is_outer, outer_within sp xs lies one end))) $ join ! $
+    use0 𝓛 (raw (fact 𝓤 Inner)) (fact_i 𝓤 Inner (emp 𝓤) (rw (is_outer, is_inner) (inner_within sp 1 xs lies (lit< tt) one end))) $ use0 𝓛 (raw (fact 𝓤 Outer)) (fact_i 𝓤 Outer (emp 𝓤) (omega (arith, is_outer, outer_within sp 1 xs lies (lit< tt) one end))) $ join ! $
     use0 𝓛 (raw (fact 𝓤 (κT ⊑ T.lives))) (fact_i 𝓤 (κT ⊑ T.lives) (emp 𝓤) le) $ join ! $ move ! (1 ∷ 0 ∷ []) $ use2 𝓛 (raw (G.pre z₁)) (id⊢ 𝓤 _) $
     calls_at ! fm G (parting.met 𝓤 𝓛 𝓜 𝓡 (compiled.calls-image_rows::parts::cut_out 𝓡.env wired) T L) z₁ (and_then ! (get ! refl) (and_then ! (get ! refl) (and_then ! (get_in ! (fld ! refl (stop !)) (sub ! 0 refl (whole !))) (and_then ! (get_in ! (fld ! refl (stop !)) (sub ! 1 refl (whole !))) (no_more !))))) (λ v.
     use1 𝓛 (later (some (λ (r : Pair). (Tok ⊛ ‵ (Two.own_val r (v ∷ []))) ⊛ some (λ (ws : Unit {0} × (Unit {0} × (Unit {0} × (Unit {0} × Unit {0})))). ‵ (lasts (f.ended T) z₁.0.0 z₁.0.3 ws)
@@ -131,7 +135,7 @@ split_end_spec 𝓤 𝓛 𝓜 𝓡 wired T L =
     -- [the row; what is kept; what follows; the tokens]
     move ! (2 ∷ 0 ∷ 3 ∷ 1 ∷ []) $
     -- [what follows; the row; the tokens; what is kept]
-    rewrite ! 0 (λ (us : List T.Denot). ‵ (follows_both (Array R 0) (Array R 0) (Array R 0) s.cells.ghost_name r.0.ghost_name r.1.ghost_name (λ w ws. beside end (beside end us w) ws))) (rw (is_outer, is_inner) (gone_is sp xs lies one end)) refl $
+    rewrite ! 0 (λ (us : List T.Denot). ‵ (follows_both (Array R 0) (Array R 0) (Array R 0) s.cells.ghost_name r.0.ghost_name r.1.ghost_name (λ w ws. beside end (beside end us w) ws))) (rw (is_outer, is_inner) (gone_is end sp xs)) refl $
     sets ! (of_opd ! (get_in ! (fld ! refl (stop !)) (sub ! 0 refl (whole !)))) refl (tt, both.1) $
     sets ! (of_opd ! (get_in ! (fld ! refl (stop !)) (sub ! 1 refl (whole !)))) refl (tt, both.2) $
     let okm = okc.1.1.1.0 in
@@ -145,7 +149,7 @@ split_end_spec 𝓤 𝓛 𝓜 𝓡 wired T L =
     sets ! (of_opd ! (get ! refl)) refl (tt, (both.2, (okm, tt))) $
     sets ! (agg ! (and_then ! (get ! refl) (and_then ! (get ! refl) (no_more !)))) refl (tt, ((record { fits = lit< tt }, (both.1, tt)), ((both.2, (okm, tt)), tt))) $
     returns ! (look_at ! 0 refl) $ free_all ! refl $
-    let rest : Lies n.rest (length r.1.now) = rw (is_rest, is_kept, is_outer) (rest_lies sp xs lies one end) in
+    let rest : Lies n.rest (length r.1.now) = rw (is_rest, is_kept, is_outer) (rest_lies sp 1 xs lies (lit< tt) one end) in
     let left : RowsIterMut T.Denot = record { cells = r.1; spacing = n.rest; some = rest.0; wide = rest.1; fits = rest.2 } in
     let row_word : Val = lent_val r.0 in
     let some_row : Val = live 1 (of_list (row_word ∷ [])) in
@@ -153,7 +157,7 @@ split_end_spec 𝓤 𝓛 𝓜 𝓡 wired T L =
     let Steps : Type 0 = Yields end s (Some r.0) left in
     let steps : Steps = given_at end s left r.0 one (rw (is_row, is_outer, is_inner) refl) (rw (is_kept, is_outer) refl) is_rest in
     let Moved : Type 0 = Moves end s (Some r.0) left in
-    let moved : Moved = (rw (is_kept, is_row, is_outer, is_inner) (whole_is sp xs lies one end _ _ _ _ refl refl (sym (gone_is sp xs lies one end)) refl), is_rest) in
+    let moved : Moved = (rw (is_kept, is_row, is_outer, is_inner) (whole_is end (outer_cut end 1 sp) (inner_cut end 1 sp) xs _ _ _ _ refl refl (sym (gone_is end sp xs)) refl), is_rest) in
     -- [what follows; the row; the tokens; what is kept]
     move ! (1 ∷ []) $ use1 𝓛 (‵ (Row.own_val (Some r.0) (some_row ∷ []))) (Some-of 𝓛 Slice r.0 row_word) $
     move ! (3 ∷ []) $ use1 𝓛 (‵ (It.own_val left (low left ∷ []))) (cells_in α R LR 𝓛 left (is_low Sp spacing_laws.the_row_laws spacing_laws.lowers 𝓛 n.rest _ isc.1.1.1.1.0)) $

@@ -10,11 +10,11 @@ use Rattle.borrow_laws.proofs.Lifetimes.{Ends, begins}
 use Rattle.borrow_laws.proofs.Options.{none_or_some, none_told, some_told, lent_val}
 use Rattle.borrow_laws.proofs.Pairs.{pair_told, pair_out}
 use Rattle.image_rows.specs.Rows.{hands_on, Yields, Moves}
-use Rattle.image_rows.specs.declared.ends.End.{End}
+use Rattle.image_shape.specs.declared.ends.End.{End}
 use Rattle.image_rows.specs.declared.writing.RowsIterMut.{RowsIterMut}
-use Rattle.image_rows.specs.contracts.ends.End as end_type
+use Rattle.image_shape.specs.contracts.ends.End as end_type
 use Rattle.image_rows.specs.contracts.writing.RowsIterMut.{the_row}
-use Rattle.image_rows.proofs.ends.End.TheLaws as end_laws
+use Rattle.image_shape.proofs.ends.End.TheLaws as end_laws
 use Rattle.image_rows.proofs.writing.RowsIterMut.TheLaws as laws
 use Rattle.image_rows.specs.contracts.writing.RowsIterMut.take as K
 use Rattle.image_rows.proofs.writing.RowsIterMut.take.Met as taking

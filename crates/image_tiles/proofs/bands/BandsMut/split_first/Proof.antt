@@ -1,5 +1,5 @@
 -- `split_first` cuts the band out of the cells, which follow the band and what is kept: its MIR, proved by hand.
-use Rattle.std.proofs.Common.{◌≡◌, refl, sym, ap, ◌∙◌, ◌+◌, ◌-◌, ◌*◌, ◌^◌, ◌<◌, ◌≤◌, arith, List, [], ◌∷◌, ◌++◌, eqb→eq, lit<, length, take, drop as drop_list, w64, MutBor, None, Some}
+use Rattle.std.proofs.Common.{◌≡◌, ℕ, refl, sym, ap, ◌∙◌, ◌+◌, ◌-◌, ◌*◌, ◌^◌, ◌<◌, ◌≤◌, arith, List, [], ◌∷◌, ◌++◌, eqb→eq, lit<, length, take, drop as drop_list, w64, MutBor, None, Some}
 use Rattle.std.proofs.alloc.Shapes.{after}
 use Rattle.std.proofs.option.Made.{Some-of}
 use Rattle.std.specs.contracts.option.Option as opt
@@ -26,14 +26,15 @@ use Rattle.image_tiles.specs.contracts.bands.BandsMut.{the_row}
 use Rattle.image_tiles.proofs.bands.BandSpacing.TheLaws as spacing_laws
 use Rattle.image_tiles.proofs.bands.Cut.TheLaws as cut_laws
 use Rattle.image_tiles.proofs.bands.BandsMut.TheLaws as iter_laws
-use Rattle.image_tiles.proofs.BandsCut.{Lies, cut_end, end_within, skip_within, gone_is, rest_lies, whole_is, given, none_at}
+use Rattle.image_rows.proofs.Cuts.{Lies, outer_within, inner_within, gone_first, rest_lies, whole_is}
+use Rattle.image_tiles.proofs.BandsCut.{cut_end, given, none_at}
 use Rattle.borrow_laws.proofs.Tests.{one_at_least}
 use Rattle.image_tiles.proofs.BandValues.{cells_out, cells_in}
 use Rattle.image_rows.specs.contracts.cut_out as f
 use Rattle.image_rows.proofs.cut_out.Met as parting
-use Rattle.image_rows.specs.declared.ends.End.TheVariants.{First}
-use Rattle.image_rows.specs.contracts.ends.End as end_type
-use Rattle.image_rows.proofs.ends.End.TheLaws as end_laws
+use Rattle.image_shape.specs.declared.ends.End.TheVariants.{First}
+use Rattle.image_shape.specs.contracts.ends.End as end_type
+use Rattle.image_shape.proofs.ends.End.TheLaws as end_laws
 use Rattle.image_tiles.specs.contracts.bands.BandSpacing.cut as g
 use Rattle.image_tiles.proofs.bands.BandSpacing.cut.Met as counting
 use Rattle.image_tiles.specs.contracts.bands.BandsMut.split_first.{ended, clauses}
@@ -70,10 +71,10 @@ split_first_spec 𝓤 𝓛 𝓜 𝓡 wired T L =
     regoal ! (λ (vs : List Val). prop (WpFn 𝓤 H 𝓣.C 𝓣.Λ fn vs Post)) (λ k. (iter_laws.lowers α R LR).val_is s vss.0 are.0 k ++ []) refl $
     enter ! 𝓣.C 𝓣.Λ fn (low s ∷ []) Post $
     alloc_all ! (λ l. pass_all ! refl (ok, tt) $
-    sets ! (of_opd ! (get_in ! (fld ! refl (fld ! refl (stop !))) (sub ! 1 refl (sub ! 1 refl (whole !))))) refl (tt, ok.1.1.0.1.0) $
+    sets ! (of_opd ! (get_in ! (fld ! refl (fld ! refl (fld ! refl (stop !)))) (sub ! 1 refl (sub ! 0 refl (sub ! 1 refl (whole !)))))) refl (tt, ok.1.1.0.0.1.0) $
     sets ! (bin ! (get ! refl) (lit ! tt) tt) refl (tt, tt) $
     first ! $ branches ! (get ! refl)
-    (λ t. let none : p.rows ≡ 0 = eqb→eq p.rows 0 t in
+    (λ t. let none : p.rows.count ≡ 0 = eqb→eq p.rows.count 0 t in
     let no_band : Val = live 0 (of_list []) in
     let Steps₀ : Type 0 = YieldsFirstBy mut_layout bands_left s None s in
     let Moves₀ : Type 0 = Moves s None s in
@@ -87,18 +88,21 @@ split_first_spec 𝓤 𝓛 𝓜 𝓡 wired T L =
     use0 𝓛 (raw (fact 𝓤 Steps₀)) (fact_i 𝓤 Steps₀ (emp 𝓤) (none_at s none)) $ join ! $ nothing ! $ join ! $
     nothing ! $ nothing ! $ fjoin ! $ move ! (3 ∷ 0 ∷ 2 ∷ 1 ∷ []) $
     by ! (leaves 𝓛 En stays c z (pair_val no_band (low s)) (None, s) ((tt, tt), tt) (tt, tt)))
-    (λ t. let one : 0 < p.rows = one_at_least p.rows t in
+    (λ t. let one : 0 < p.rows.count = one_at_least p.rows.count t in
     skips ! $ exec ! 𝓣.C 𝓣.Λ (env fn.locals l) (after 3 fn.body) (at_ret (env fn.locals l) Post) $
     sets ! (of_opd ! (get_in ! (fld ! refl (stop !)) (sub ! 1 refl (whole !)))) refl (tt, ok.1.1.0) $
     -- [the iterator; the tokens]
-    let lies : Lies p (length xs) = (s.some, s.stride_positive, s.holds_width, s.width_fits, s.rows_fit, s.high, s.fits) in
-    let Some₀ : Type 0 = 0 < p.rows in
-    let Positive : Type 0 = 1 ≤ p.stride in
-    let Holds : Type 0 = p.width ≤ p.stride in
-    let Wide : Type 0 = p.width < 2 ^ 32 in
-    let Tall : Type 0 = p.rows < 2 ^ 32 in
+    let lies : Lies p.rows (length xs) = (s.some, s.holds_width, s.fits) in
+    let k : ℕ = band_rows p in
+    let tall : 0 < k = omega (arith, one, s.high) in
+    let there : k ≤ p.rows.count = omega arith in
+    let Some₀ : Type 0 = 0 < p.rows.count in
+    let Positive : Type 0 = 1 ≤ p.rows.stride in
+    let Holds : Type 0 = p.rows.width ≤ p.rows.stride in
+    let Wide : Type 0 = p.rows.width < 2 ^ 32 in
+    let Tall : Type 0 = p.rows.count < 2 ^ 32 in
     let High : Type 0 = 0 < p.band_height in
-    let Reach : Type 0 = p.skip + (p.stride * (p.rows - 1) + p.width) < 2 ^ 64 in
+    let Reach : Type 0 = p.rows.skip + (p.rows.stride * (p.rows.count - 1) + p.rows.width) < 2 ^ 64 in
     let fit : length xs < 2 ^ 64 = ok.1.0.1.0.fits in
     let is_li = is_low Li spacing_laws.the_row_laws spacing_laws.lowers 𝓛 p _ are.0.1.1.1.0 in
     let GC = triple_of 𝓛 g.signature (g.spec 𝓛 𝓜.mem 𝓡.returns) in
@@ -113,16 +117,16 @@ split_first_spec 𝓤 𝓛 𝓜 𝓡 wired T L =
     use0 𝓛 (raw (fact 𝓤 Some₀)) (fact_i 𝓤 Some₀ (emp 𝓤) one) $ join ! $ move ! (1 ∷ 0 ∷ []) $ use2 𝓛 (raw (GC.pre zc)) (id⊢ 𝓤 _) $
     calls_at ! fm GC (counting.met 𝓤 𝓛 𝓜 𝓡 (compiled.calls-image_tiles::bands::BandSpacing::cut 𝓡.env wired)) zc (and_then ! (get ! refl) (no_more !)) (λ vc.
     let CutRow : RattleType = cut_type.the_row in
-    let Skip : Cut → Type 0 = λ n. n.skip ≡ p.skip in
-    let End : Cut → Type 0 = λ n. n.end ≡ cut_end p in
-    let Width : Cut → Type 0 = λ n. n.shape.width ≡ p.width in
+    let Outer : Cut → Type 0 = λ n. n.outer ≡ cut_end p in
+    let Inner : Cut → Type 0 = λ n. n.inner ≡ p.rows.skip in
+    let Width : Cut → Type 0 = λ n. n.shape.width ≡ p.rows.width in
     let Height : Cut → Type 0 = λ n. n.shape.height ≡ band_rows p in
-    let Stride : Cut → Type 0 = λ n. n.shape.stride ≡ p.stride in
+    let Stride : Cut → Type 0 = λ n. n.shape.stride ≡ p.rows.stride in
     let Rest : Cut → Type 0 = λ n. n.rest ≡ behind p in
     use1 𝓛 (later (some (λ (n : Cut). (‵ ftrue ⊛ ‵ (CutRow.own_val n (vc ∷ []))) ⊛ some (λ (ws : Unit {0} × Unit {0}). ‵ (lasts g.ended zc.0.0 zc.0.3 ws)
-    ⊛ (raw (fact 𝓤 (Skip n)) ⊛ raw (fact 𝓤 (End n)) ⊛ raw (fact 𝓤 (Width n)) ⊛ raw (fact 𝓤 (Height n)) ⊛ raw (fact 𝓤 (Stride n)) ⊛ raw (fact 𝓤 (Rest n))))))) (id⊢ 𝓤 _) $
+    ⊛ (raw (fact 𝓤 (Outer n)) ⊛ raw (fact 𝓤 (Inner n)) ⊛ raw (fact 𝓤 (Width n)) ⊛ raw (fact 𝓤 (Height n)) ⊛ raw (fact 𝓤 (Stride n)) ⊛ raw (fact 𝓤 (Rest n))))))) (id⊢ 𝓤 _) $
     await ! tt $ pick ! (λ n. split ! $ split ! $ drop ! $ move ! (1 ∷ []) $ pick ! (λ wsc. split ! $ drop ! $
-    split ! $ heard ! (Skip n) (λ is_skip. split ! $ heard ! (End n) (λ is_end. split ! $ heard ! (Width n) (λ is_wide. split ! $ heard ! (Height n) (λ is_tall. split ! $ heard ! (Stride n) (λ is_apart. heard ! (Rest n) (λ is_rest.
+    split ! $ heard ! (Outer n) (λ is_outer. split ! $ heard ! (Inner n) (λ is_inner. split ! $ heard ! (Width n) (λ is_wide. split ! $ heard ! (Height n) (λ is_tall. split ! $ heard ! (Stride n) (λ is_apart. heard ! (Rest n) (λ is_rest.
     -- [the numbers; the iterator; the tokens]
     peeks ! CutRow (Is CutRow) (shows 𝓛 CutRow) n (vc ∷ []) (λ isc. drop ! $ let okc = (typed CutRow cut_laws.the_row_laws cut_laws.lowers 𝓛 n (vc ∷ []) isc).0 in
     lands_as ! (ap only (cut_laws.lowers.val_is n (vc ∷ []) isc)) refl okc $
@@ -136,18 +140,18 @@ split_first_spec 𝓤 𝓛 𝓜 𝓡 wired T L =
     let EndRow : RattleType = end_type.the_row in
     let e : Val = end_laws.lowered First in
     let G = triple_of 𝓛 (f.signature T) (f.spec T 𝓛 𝓜.mem 𝓡.returns) in
-    let z₁ : G.Ghost = (((κ, (κT, tt)), (q, (qT, tt)), z.0.2, (s.cells, (First, (n.end, (n.skip, tt)))), (lent_val s.cells ∷ [], (e ∷ [], (vint w64 n.end ∷ [], (vint w64 n.skip ∷ [], tt))))), tt) in
-    let Outer : Type 0 = n.end ≤ length xs in
-    let Inner : Type 0 = n.skip ≤ length (take n.end xs) in
-    nothing ! $ owned ! usize (Is usize) (uint_Makes 𝓛 w64) n.skip (vint w64 n.skip ∷ []) (refl, okc.1.0.fits) $ join ! $
-    owned ! usize (Is usize) (uint_Makes 𝓛 w64) n.end (vint w64 n.end ∷ []) (refl, okc.1.1.0.fits) $ join ! $
+    let z₁ : G.Ghost = (((κ, (κT, tt)), (q, (qT, tt)), z.0.2, (s.cells, (First, (n.outer, (n.inner, tt)))), (lent_val s.cells ∷ [], (e ∷ [], (vint w64 n.outer ∷ [], (vint w64 n.inner ∷ [], tt))))), tt) in
+    let Below : Type 0 = n.outer ≤ length xs in
+    let Within : Type 0 = n.inner ≤ length (take n.outer xs) in
+    nothing ! $ owned ! usize (Is usize) (uint_Makes 𝓛 w64) n.inner (vint w64 n.inner ∷ []) (refl, okc.1.1.0.fits) $ join ! $
+    owned ! usize (Is usize) (uint_Makes 𝓛 w64) n.outer (vint w64 n.outer ∷ []) (refl, okc.1.0.fits) $ join ! $
     owned ! EndRow (Is EndRow) (row_Makes EndRow end_laws.the_row_plain 𝓛) First (e ∷ []) ([], (refl, (tt, (refl, tt)))) $ join ! $ move ! (1 ∷ 0 ∷ []) $ join ! $ move ! (1 ∷ 0 ∷ []) $ join ! $
-    use0 𝓛 (raw (fact 𝓤 Inner)) (fact_i 𝓤 Inner (emp 𝓤) (rw (is_end, is_skip) (skip_within p xs lies one))) $ use0 𝓛 (raw (fact 𝓤 Outer)) (fact_i 𝓤 Outer (emp 𝓤) (omega (arith, is_end, end_within p xs lies one))) $ join ! $
+    use0 𝓛 (raw (fact 𝓤 Within)) (fact_i 𝓤 Within (emp 𝓤) (rw (is_outer, is_inner) (inner_within p.rows k xs lies tall there First))) $ use0 𝓛 (raw (fact 𝓤 Below)) (fact_i 𝓤 Below (emp 𝓤) (omega (arith, is_outer, outer_within p.rows k xs lies tall there First))) $ join ! $
     use0 𝓛 (raw (fact 𝓤 (κT ⊑ T.lives))) (fact_i 𝓤 (κT ⊑ T.lives) (emp 𝓤) le) $ join ! $ move ! (1 ∷ 0 ∷ []) $ use2 𝓛 (raw (G.pre z₁)) (id⊢ 𝓤 _) $
-    calls_at ! fm G (parting.met 𝓤 𝓛 𝓜 𝓡 (compiled.calls-image_rows::cut_out 𝓡.env wired) T L) z₁ (and_then ! (get ! refl) (and_then ! (get ! refl) (and_then ! (get_in ! (fld ! refl (stop !)) (sub ! 1 refl (whole !))) (and_then ! (get_in ! (fld ! refl (stop !)) (sub ! 0 refl (whole !))) (no_more !))))) (λ v.
+    calls_at ! fm G (parting.met 𝓤 𝓛 𝓜 𝓡 (compiled.calls-image_rows::cut_out 𝓡.env wired) T L) z₁ (and_then ! (get ! refl) (and_then ! (get ! refl) (and_then ! (get_in ! (fld ! refl (stop !)) (sub ! 0 refl (whole !))) (and_then ! (get_in ! (fld ! refl (stop !)) (sub ! 1 refl (whole !))) (no_more !))))) (λ v.
     use1 𝓛 (later (some (λ (r : Pair). (Tok ⊛ ‵ (Two.own_val r (v ∷ []))) ⊛ some (λ (ws : Unit {0} × (Unit {0} × (Unit {0} × (Unit {0} × Unit {0})))). ‵ (lasts (f.ended T) z₁.0.0 z₁.0.3 ws)
-    ⊛ (‵ (follows_both (Array R 0) (Array R 0) (Array R 0) s.cells.ghost_name r.0.ghost_name r.1.ghost_name (λ w ws. (take n.skip (take n.end xs) ++ w) ++ ws)) ⊛ raw (fact 𝓤 (r.0.now ≡ drop_list n.skip (take n.end xs))) ⊛ raw (fact 𝓤 (r.1.now ≡ drop_list n.end xs))))))) (id⊢ 𝓤 _) $
-    await ! tt $ pick ! (λ r. split ! $ split ! $ move ! (2 ∷ []) $ pick ! (λ ws. split ! $ drop ! $ split ! $ move ! (1 ∷ []) $ split ! $ heard ! (r.0.now ≡ drop_list n.skip (take n.end xs)) (λ is_band. heard ! (r.1.now ≡ drop_list n.end xs) (λ is_kept.
+    ⊛ (‵ (follows_both (Array R 0) (Array R 0) (Array R 0) s.cells.ghost_name r.0.ghost_name r.1.ghost_name (λ w ws. (take n.inner (take n.outer xs) ++ w) ++ ws)) ⊛ raw (fact 𝓤 (r.0.now ≡ drop_list n.inner (take n.outer xs))) ⊛ raw (fact 𝓤 (r.1.now ≡ drop_list n.outer xs))))))) (id⊢ 𝓤 _) $
+    await ! tt $ pick ! (λ r. split ! $ split ! $ move ! (2 ∷ []) $ pick ! (λ ws. split ! $ drop ! $ split ! $ move ! (1 ∷ []) $ split ! $ heard ! (r.0.now ≡ drop_list n.inner (take n.outer xs)) (λ is_band. heard ! (r.1.now ≡ drop_list n.outer xs) (λ is_kept.
     -- [what follows; the tokens; the band's cells and what is kept]
     move ! (2 ∷ []) $ peeks ! Two (Is Two) (shows 𝓛 Two) r (v ∷ []) (λ is. let both = slices_told κ R r v is in
     lands_as ! (ap only both.0) refl (tt, (both.1, (both.2, tt))) $
@@ -155,7 +159,7 @@ split_first_spec 𝓤 𝓛 𝓜 𝓡 wired T L =
     -- [the band's cells; what is kept; what follows; the tokens]
     move ! (2 ∷ 0 ∷ 3 ∷ 1 ∷ []) $
     -- [what follows; the band's cells; the tokens; what is kept]
-    rewrite ! 0 (λ (us : List T.Denot). ‵ (follows_both (Array R 0) (Array R 0) (Array R 0) s.cells.ghost_name r.0.ghost_name r.1.ghost_name (λ w ws. (us ++ w) ++ ws))) (rw (is_end, is_skip) (gone_is p xs lies one)) refl $
+    rewrite ! 0 (λ (us : List T.Denot). ‵ (follows_both (Array R 0) (Array R 0) (Array R 0) s.cells.ghost_name r.0.ghost_name r.1.ghost_name (λ w ws. (us ++ w) ++ ws))) (rw (is_outer, is_inner) (gone_first p.rows k xs lies tall there)) refl $
     sets ! (of_opd ! (get_in ! (fld ! refl (stop !)) (sub ! 0 refl (whole !)))) refl (tt, both.1) $
     sets ! (of_opd ! (get_in ! (fld ! refl (stop !)) (sub ! 1 refl (whole !)))) refl (tt, both.2) $
     let okr = okc.1.1.1.1.0 in
@@ -195,16 +199,16 @@ split_first_spec 𝓤 𝓛 𝓜 𝓡 wired T L =
     sets ! (of_opd ! (get ! refl)) refl (tt, (both.2, (okr, tt))) $
     sets ! (agg ! (and_then ! (get ! refl) (and_then ! (get ! refl) (no_more !)))) refl (tt, ((record { fits = lit< tt }, (band_ok, tt)), ((both.2, (okr, tt)), tt))) $
     returns ! (look_at ! 0 refl) $ free_all ! refl $
-    let rest : Lies n.rest (length r.1.now) = rw (is_rest, is_kept, is_end) (rest_lies p xs lies one) in
-    let left : BandsMut T.Denot = record { cells = r.1; spacing = n.rest; some = rest.0; stride_positive = rest.1; holds_width = rest.2; width_fits = rest.3; rows_fit = rest.4; high = rest.5; fits = rest.6 } in
+    let rest : Lies n.rest.rows (length r.1.now) = rw (is_rest, is_kept, is_outer) (rest_lies p.rows k xs lies tall there First) in
+    let left : BandsMut T.Denot = record { cells = r.1; spacing = n.rest; some = rest.0; stride_positive = rw is_rest s.stride_positive; holds_width = rest.1; width_fits = rw is_rest s.width_fits; rows_fit = rw is_rest (omega (arith, s.rows_fit)); high = rw is_rest s.high; fits = rest.2 } in
     let some_band : Val = live 1 (of_list (band_word ∷ [])) in
     let word : Val = pair_val some_band (low left) in
-    let band_is : b.buf.now ≡ drop_list p.skip (take (cut_end p) xs) = ap (λ (u : MutBor (List T.Denot)). u.now) same ∙ rw (is_band, is_end, is_skip) refl in
-    let kept_is : r.1.now ≡ drop_list (cut_end p) xs = rw (is_kept, is_end) refl in
+    let band_is : b.buf.now ≡ drop_list p.rows.skip (take (cut_end p) xs) = ap (λ (u : MutBor (List T.Denot)). u.now) same ∙ rw (is_band, is_outer, is_inner) refl in
+    let kept_is : r.1.now ≡ drop_list (cut_end p) xs = rw (is_kept, is_outer) refl in
     let Steps : Type 0 = YieldsFirstBy mut_layout bands_left s (Some b) left in
     let steps : Steps = given s left b one band_is (as_wide ∙ is_wide) (as_tall ∙ is_tall) (as_apart ∙ is_apart) kept_is is_rest in
     let Moved : Type 0 = Moves s (Some b) left in
-    let moved : Moved = (whole_is p xs lies one (take (cut_end p) xs) (take p.skip xs) b.buf.now r.1.now refl kept_is (sym (gone_is p xs lies one)) band_is, is_rest) in
+    let moved : Moved = (whole_is First (cut_end p) p.rows.skip xs (take (cut_end p) xs) (take p.rows.skip xs) b.buf.now r.1.now refl kept_is (sym (gone_first p.rows k xs lies tall there)) band_is, is_rest) in
     -- [the image; the token of κ with nothing; the token of κT; nothing; what follows; what is kept]
     move ! (4 ∷ []) $ rewrite ! 0 (λ (m : GName). ‵ (follows_both (Array R 0) (Array R 0) (Array R 0) s.cells.ghost_name m r.1.ghost_name (put_back s))) (ap (λ (u : MutBor (List T.Denot)). u.ghost_name) (sym same)) refl $
     move ! (1 ∷ []) $ use1 𝓛 (‵ (Row.own_val (Some b) (some_band ∷ []))) (Some-of 𝓛 Image b band_word) $

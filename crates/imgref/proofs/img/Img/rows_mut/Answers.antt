@@ -4,7 +4,8 @@ use Rattle.std.proofs.lemmas.List.{take_all}
 use Rattle.image_model.specs.Grid.{grid_of}
 use Rattle.image_model.specs.Rows.{rows, row_count, grid_rows}
 use Rattle.image_model.specs.Windows.{stretch_cells}
-use Rattle.image_rows.specs.Rows.{muts_left, whole_spacing}
+use Rattle.image_rows.specs.Rows.{muts_left}
+use Rattle.image_shape.specs.Spacing.{whole_spacing}
 use Rattle.image_shape.specs.Shape.{shape_width, shape_height, shape_stride, shaped}
 use Rattle.imgref.proofs.SameImages.{same_image}
 use Rattle.imgref.proofs.img.Img.rows_mut.Goals as goal
