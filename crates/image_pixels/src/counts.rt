@@ -1,6 +1,6 @@
 //! How a cursor over a shape begins.
 
-ghost use Rattle.std.specs.Prelude.{◌≡◌, ◌-◌, ◌<◌, ◌≤◌, ◌^◌};
+ghost use Rattle.std.specs.Prelude.{◌≡◌, ◌+◌, ◌-◌, ◌*◌, ◌<◌, ◌≤◌, ◌^◌};
 ghost use Rattle.image_shape.specs.Shape.{shape_width, shape_height, shape_stride};
 ghost use Rattle.image_pixels.specs.Marks.{first_row, rows_after};
 
@@ -35,4 +35,12 @@ impl Counts {
             pad: shape.padding(),
         }
     }
+}
+
+// How many pixels are left: those of the row, and those of the rows after it.
+pub(crate) fn pixels_left(remaining: usize, rows_left: usize, width: usize) -> usize
+    requires { remaining + rows_left * width < 2 ^ 64 }
+    ensures { result ≡ remaining + rows_left * width }
+{
+    remaining + Shape::cells_of_rows(rows_left, width)
 }

@@ -11,7 +11,7 @@ ghost use Rattle.image_model.specs.Layout.{Fits};
 ghost use Rattle.image_shape.specs.Shape.{shaped};
 
 use crate::cells::Cells;
-use crate::counts::Counts;
+use crate::counts::{Counts, pixels_left};
 use crate::folding::fold_one;
 use image_shape::Shape;
 use std::iter::{ExactSizeIterator, FusedIterator};
@@ -68,7 +68,7 @@ impl<'a, T> PixelsRefIter<'a, T> {
     fn count_left(&self) -> usize
         ensures { result ≡ length (refs_left self.now) }
     {
-        self.remaining + self.rows_left * self.width
+        pixels_left(self.remaining, self.rows_left, self.width)
     }
 
     // Goes on to the next row, past the padding before it.

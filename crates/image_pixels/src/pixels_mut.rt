@@ -8,7 +8,7 @@ ghost use Rattle.image_model.specs.Layout.{Fits};
 ghost use Rattle.image_shape.specs.Shape.{shape_width, shape_height, shape_stride, shaped};
 ghost use Rattle.image_pixels.specs.Loans.{lent};
 
-use crate::counts::Counts;
+use crate::counts::{Counts, pixels_left};
 use image_shape::Shape;
 use std::iter::{ExactSizeIterator, FusedIterator};
 use std::marker::{Model, PhantomData};
@@ -131,7 +131,7 @@ impl<'a, T> Iterator for PixelsIterMut<'a, T> {
         ensures upper { IfSome result.1 (UpTo (item_count muts_left self.now)) }
         ensures exact { (result.0 ≡ length (muts_left self.now)) × (result.1 ≡ Some (length (muts_left self.now))) }
     {
-        let items = self.remaining + self.rows_left * self.width;
+        let items = pixels_left(self.remaining, self.rows_left, self.width);
         (items, Some(items))
     }
 }

@@ -1,7 +1,7 @@
 //! Windows and stretches, as values.
 
-ghost use Rattle.std.specs.Prelude.{◌≡◌};
-ghost use Rattle.image_model.specs.Windows.{window, is_inside};
+ghost use Rattle.std.specs.Prelude.{◌≡◌, ◌+◌, ◌^◌, ◌≤◌, ◌<◌};
+ghost use Rattle.image_model.specs.Windows.{window, is_inside, IsWithin, stretch_within};
 
 /// A window of an image or of another window: its corner and its size, in pixels.
 #[derive(Clone, Copy, PartialEq, Eq)]
@@ -48,5 +48,42 @@ impl Window {
             && self.width <= width - self.left
             && self.top <= height
             && self.height <= height - self.top
+    }
+
+    /// The column and the row, in what this is a window of, of column `x` of row `y` of the window.
+    pub fn place(&self, x: usize, y: usize) -> (usize, usize)
+        requires column_counts { self.now.left + x < 2 ^ 64 }
+        requires row_counts { self.now.top + y < 2 ^ 64 }
+        ensures column { result.0 ≡ self.now.left + x }
+        ensures row { result.1 ≡ self.now.top + y }
+    {
+        (self.left + x, self.top + y)
+    }
+
+    /// A window of this one, as a window of what this is a window of.
+    pub fn nested(&self, inner: Window) -> Window
+        requires column_counts { self.now.left + inner.left < 2 ^ 64 }
+        requires row_counts { self.now.top + inner.top < 2 ^ 64 }
+        ensures { as_window result ≡ window (self.now.left + inner.left) (self.now.top + inner.top) inner.width inner.height }
+    {
+        let (left, top) = self.place(inner.left, inner.top);
+        Window::new(left, top, inner.width, inner.height)
+    }
+}
+
+impl Stretch {
+    ghost use Rattle.image_shape.specs.Window.{as_stretch};
+
+    /// A stretch of the cells of this one, as one of all cells.
+    pub fn nested(&self, inner: Stretch) -> Stretch
+        requires room { IsWithin self.now.len (as_stretch inner) }
+        requires counts { self.now.start + self.now.len < 2 ^ 64 }
+        ensures value { as_stretch result ≡ stretch_within (as_stretch self.now) (as_stretch inner) }
+        ensures inside { result.start + result.len ≤ self.now.start + self.now.len }
+    {
+        Stretch {
+            start: self.start + inner.start,
+            len: inner.len,
+        }
     }
 }

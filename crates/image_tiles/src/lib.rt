@@ -11,4 +11,4 @@ mod tiling;
 
 pub use bands::BandsMut;
 pub use tiles::{TileCursor, TilesMut};
-pub use tiling::{Tiling, tiles_along};
+pub use tiling::{Tiling, tile_at, tiles_along};

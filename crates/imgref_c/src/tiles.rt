@@ -5,7 +5,7 @@ ghost use Rattle.imgref_c.specs.Words.{code, from_c, tile_status, tiles, tiles_s
 
 use crate::status::Status;
 use crate::window::ImgrefWindow;
-use image_tiles::tiles_along;
+use image_tiles::{tile_at, tiles_along};
 
 // How many tiles a size has.
 #[tactic(auto, using(crate::proofs::Numbering::count_fits, crate::proofs::Numbering::counted))]
@@ -49,14 +49,15 @@ fn window_of(
     ensures { slice_get (tiles width height tile_width tile_height) number ≡ Some (from_c result) }
 {
     let columns = columns_of(width, height, tile_width, tile_height, number);
-    let left = number % columns * tile_width;
-    let top = number / columns * tile_height;
-    ImgrefWindow {
-        left,
-        top,
-        width: tile_width.min(width - left),
-        height: tile_height.min(height - top),
-    }
+    let tile = tile_at(
+        width,
+        height,
+        tile_width,
+        tile_height,
+        number % columns,
+        number / columns,
+    );
+    ImgrefWindow::from_window(tile)
 }
 
 // Whether this is the size of an image, and a tile has a pixel.

@@ -28,4 +28,16 @@ impl ImgrefWindow {
     {
         Window::new(self.left, self.top, self.width, self.height)
     }
+
+    /// The same window for C.
+    pub(crate) fn from_window(window: Window) -> ImgrefWindow
+        ensures { from_c result ≡ as_window window }
+    {
+        ImgrefWindow {
+            left: window.left,
+            top: window.top,
+            width: window.width,
+            height: window.height,
+        }
+    }
 }

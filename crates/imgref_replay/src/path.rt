@@ -1,10 +1,10 @@
 //! Windows of windows: a path of them is one window of the image.
 
-ghost use Rattle.std.specs.Prelude.{◌≡◌, ◌+◌, ◌≤◌, ◌<◌, ◌^◌, IfOk};
+ghost use Rattle.std.specs.Prelude.{◌≡◌, ◌≤◌, IfOk};
 ghost use Rattle.std.specs.Result.{result_err};
 ghost use Rattle.std.specs.Borrow.{sem, follows, follows_if, Array};
 ghost use Rattle.image_model.specs.Layout.{Fits, Reaches};
-ghost use Rattle.image_model.specs.Windows.{IsInside, IsWithin, first_outside, stretch_within, with_stretch, path_window, path_stretch, path_layout, path_view, whole};
+ghost use Rattle.image_model.specs.Windows.{IsInside, IsWithin, first_outside, with_stretch, path_window, path_stretch, path_layout, path_view, whole};
 ghost use Rattle.imgref.specs.Shape.{shape_width, shape_height, shape_stride};
 ghost use Rattle.imgref.specs.Window.{as_window, as_path, as_stretch};
 ghost use Rattle.imgref.specs.Image.{buf_of, width_of, height_of, stride_of, mut_grid, mut_layout, ref_grid, ref_layout};
@@ -24,24 +24,9 @@ pub(crate) fn path_window(width: usize, height: usize, path: &[Window]) -> Resul
         if !window.is_inside(found.width, found.height) {
             return Err(index);
         }
-        let left = found.left + window.left;
-        let top = found.top + window.top;
-        found = Window::new(left, top, window.width, window.height);
+        found = found.nested(*window);
     }
     Ok(found)
-}
-
-// A stretch of the cells of another, as one of all cells.
-fn within(outer: Stretch, inner: Stretch) -> Stretch
-    requires room { IsWithin outer.len (as_stretch inner) }
-    requires bounded { outer.start + outer.len < 2 ^ 64 }
-    ensures value { as_stretch result ≡ stretch_within (as_stretch outer) (as_stretch inner) }
-    ensures inside { result.start + result.len ≤ outer.start + outer.len }
-{
-    Stretch {
-        start: outer.start + inner.start,
-        len: inner.len,
-    }
 }
 
 /// Where a path leads in so many cells of this shape, as the cells that are left, taken window by
@@ -64,7 +49,7 @@ fn region_at(cells: usize, shape: Shape, path: &[Window]) -> Result<(Stretch, Sh
         if !window.is_inside(inner.width(), inner.height()) {
             return Err(index);
         }
-        stretch = within(stretch, inner.stretch(true, stretch.len, *window));
+        stretch = stretch.nested(inner.stretch(true, stretch.len, *window));
         inner = inner.window(*window);
     }
     Ok((stretch, inner))

@@ -90,7 +90,7 @@ fn locate_pixel<T>(
 {
     let window = locate(images, spot)?;
     if x < window.width && y < window.height {
-        Ok((window.left + x, window.top + y))
+        Ok(window.place(x, y))
     } else {
         Err(Refusal::PlaceOutside)
     }

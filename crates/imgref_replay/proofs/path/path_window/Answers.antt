@@ -8,4 +8,4 @@ returns-then-not-is_inside-clause-outside c =
 
 pub loop-index-preserved : goal.loop-index-preserved
 loop-index-preserved c =
-    goes_on c.args.width c.args.height c.args.path.now c.loop-index.index c.loop-index.found _ c.loop-index-test.true c.loop-index.invariant _ (sym c.is_inside.ensures ∙ c.if-not-is_inside.false) c.new-found-in-loop-index.ensures
+    goes_on c.args.width c.args.height c.args.path.now c.loop-index.index c.loop-index.found _ c.loop-index-test.true c.loop-index.invariant _ (sym c.is_inside.ensures ∙ c.if-not-is_inside.false) c.nested-found.ensures
