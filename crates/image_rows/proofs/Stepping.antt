@@ -1,9 +1,8 @@
 -- An iterator for writing is lent to `step` and comes back after it: what `next` and `next_back` share. Assumes `Logic`.
-use base.Share
 use Rattle.std.proofs.Common.{sym, subst, ℕ, List, [], ◌∷◌, lit<, MutBor, Option, Some, None}
 use Rattle.std.specs.contracts.option.Option as opt
-use Rattle.borrow_laws.proofs.Walking.{Ura, Fml, Lft, GName, Share, ftrue, fdead, fsep, fres, fbor, flft, SProp, ent, sep, emp, ex, guard, id⊢, apply∗, ◌⊑◌, ⊑_trans, meet_⊑_right, Fun, fact, fact_i, named, Val, vptr, Memory, Routine, ‵, ◌⊛◌, raw, later, some, ◌$◌, ◌∵◌, !, qed, move, keep, split, split3, join, fsplit, use0, use1, use2, use3, await, pick, updating, show, check, done, at_once, Logic, sem, Body, Is, Typed, LentAgain, lends_again, comes_back, mem, row_Makes, param, RattleType, MutRef, named_lft, MutSlice, nothing, owned, heard, triple_of, Contract}
-use Rattle.borrow_laws.proofs.Lifetimes.{Ends, begins}
+use Rattle.borrow_laws.proofs.Walking.{Ura, Fml, Lft, GName, Share, ftrue, fsep, fres, fbor, flft, SProp, ent, sep, emp, ex, guard, id⊢, ◌⊑◌, ⊑_trans, meet_⊑_right, Fun, fact, fact_i, named, Val, vptr, Memory, Routine, ‵, ◌⊛◌, raw, later, some, ◌$◌, ◌∵◌, !, qed, move, keep, split, split3, join, fsplit, use0, use1, use2, use3, await, pick, updating, show, check, done, at_once, Logic, sem, Body, Is, Typed, mem, row_Makes, param, RattleType, named_lft, MutSlice, nothing, owned, heard, triple_of, Contract}
+use Rattle.borrow_laws.proofs.Lifetimes as again
 use Rattle.borrow_laws.proofs.Options.{none_told, some_told}
 use Rattle.image_rows.specs.Rows.{hands_on, Yields, Moves}
 use Rattle.image_shape.specs.declared.ends.End.{End}
@@ -53,14 +52,16 @@ module _ (T : RattleType) {M : Type 1} {𝓤 : Ura M} (𝓛 : Logic 𝓤) (at_me
   It = the_row (named_lft 3 1 tt (κ₀, (κ₁, (κ₂, tt)))) (param 0 T)
 
   abbrev lent : Lft → GName → Sort → Fml
-  lent κ δ s = (MutRef (named 0) κ It).own_val (record { ref_ptr = (b, o); ghost_name = δ; now = s }) (vptr b o ∷ [])
+  lent = again.lent It b o
 
   abbrev pub Step : Contract 𝓤
   Step = triple_of 𝓛 (S.signature T) (S.spec T 𝓛 at_mem run)
 
-  -- a lifetime inside that of the reference, with a share of its token, and the name of the loan
   abbrev pub Loan : Type 0
-  Loan = ℕ × Share × GName
+  Loan = again.Loan
+
+  abbrev pub Kept : Loan → SProp 𝓤
+  Kept = again.Kept 𝓛 It κ₀ q₀ b o γ h
 
   module _ (d : Loan) where
     abbrev inner : Lft
@@ -72,28 +73,19 @@ module _ (T : RattleType) {M : Type 1} {𝓤 : Ura M} (𝓛 : Logic 𝓤) (at_me
     abbrev pub at_step : Step.Ghost
     at_step = (((inner, (κ₁, (κ₂, tt))), (d.1, (q₁, (q₂, tt))), (within, (⊑_trans inner κ₁ κ₂ within above, (above, tt))), (record { ref_ptr = (b, o); ghost_name = d.2; now = h }, (end, tt)), (vptr b o ∷ [], (end_laws.lowered end ∷ [], tt))), tt)
 
-    abbrev pub Kept : SProp 𝓤
-    Kept = sep 𝓤 (sem 𝓛 (LentAgain It κ₀ inner (Share.right q₀) γ b o d.2 h)) (Ends 𝓛 κ₀ (Share.left q₀) d.0 d.1)
-
   abbrev pub Lent : Loan → SProp 𝓤
   Lent d = sep 𝓤 (Step.pre (at_step d)) (Kept d)
 
   pub lends : κ₂ ⊑ T.lives → Is end_type.the_row end (end_laws.lowered end ∷ []) → ent 𝓤 (sep 𝓤 (A.lft κ₀ q₀) (sep 𝓤 (A.lft κ₁ q₁) (sep 𝓤 (A.lft κ₂ q₂) (sem 𝓛 (lent κ₀ γ h))))) (H.⇛ (ex 𝓤 Lent))
   lends le is =
       qed 𝓛 (‵ (flft κ₀ q₀) ∷ ‵ (flft κ₁ q₁) ∷ ‵ (flft κ₂ q₂) ∷ ‵ (lent κ₀ γ h) ∷ []) ∵ updating ! $
-      use1 𝓛 (‵ (flft κ₀ (Share.left q₀)) ⊛ ‵ (flft κ₀ (Share.right q₀))) (𝓛.lfts.lft_split κ₀ q₀) $ split ! $
-      use1 𝓛 (later (some (λ (p : ℕ × Share). ‵ (flft (p.0 ∷ κ₀) p.1) ⊛ raw (Ends 𝓛 κ₀ (Share.left q₀) p.0 p.1)))) (begins 𝓛 κ₀ (Share.left q₀)) $ await ! tt $ pick ! (λ p. split ! $
-      let α : Lft = p.0 ∷ κ₀ in
-      -- [α; its end; κ₀; κ₁; κ₂; the reference]
-      move ! (5 ∷ 2 ∷ []) $ use2 𝓛 (later (some (λ (δ : GName). ‵ (lent α δ h) ⊛ ‵ (LentAgain It κ₀ α (Share.right q₀) γ b o δ h)))) (lends_again 𝓛 It (named 0) κ₀ α (Share.right q₀) γ b o (named 0) h) $ await ! tt $ pick ! (λ δ. split ! $
-      -- [the borrow; what is kept; α; its end; κ₁; κ₂]
-      let d : Loan = (p.0, p.1, δ) in
-      move ! (1 ∷ 3 ∷ []) $ join ! $ move ! (1 ∷ []) $
-      -- [the borrow; what is kept; α; κ₁; κ₂]
+      move ! (0 ∷ 3 ∷ []) $ use2 𝓛 (later (some (λ (d : Loan). ‵ (lent (inner d) d.2 h) ⊛ ‵ (flft (inner d) d.1) ⊛ raw (Kept d)))) (again.lends 𝓛 It κ₀ q₀ b o γ h) $ await ! tt $ pick ! (λ d. split3 ! $
+      -- [the borrow; the lifetime inside; what is kept; κ₁; κ₂]
+      move ! (0 ∷ 2 ∷ 1 ∷ []) $
       nothing ! $ owned ! end_type.the_row (Is end_type.the_row) (row_Makes end_type.the_row end_laws.the_row_plain 𝓛) end (end_laws.lowered end ∷ []) is $ join ! $ move ! (1 ∷ 0 ∷ []) $ join ! $
       nothing ! $ move ! (5 ∷ 0 ∷ []) $ join ! $ move ! (4 ∷ 0 ∷ []) $ join ! $ move ! (3 ∷ 0 ∷ []) $ join ! $ join ! $
       nothing ! $ use0 𝓛 (raw (fact 𝓤 (κ₂ ⊑ T.lives))) (fact_i 𝓤 (κ₂ ⊑ T.lives) (emp 𝓤) le) $ join ! $ move ! (1 ∷ 0 ∷ []) $ use2 𝓛 (raw (Step.pre (at_step d))) (id⊢ 𝓤 _) $
-      at_once ! $ show ! Lent d $ done !))
+      at_once ! $ show ! Lent d $ done !)
 
   abbrev pub Gave : Val → Given × Sort → SProp 𝓤
   Gave v r = guard 𝓤 (Yields end h r.0 r.1 × Moves end h r.0 r.1) (sep 𝓤 (sem 𝓛 ((Row T 𝓛 κ₁).own_val r.0 (v ∷ []))) (sep 𝓤 (sem 𝓛 (hands_on (param 0 T) end h r.0 r.1)) (sep 𝓤 (sem 𝓛 (lent κ₀ γ r.1)) (sep 𝓤 (A.lft κ₀ q₀) (sep 𝓤 (A.lft κ₁ q₁) (A.lft κ₂ q₂))))))
@@ -101,7 +93,7 @@ module _ (T : RattleType) {M : Type 1} {𝓤 : Ura M} (𝓛 : Logic 𝓤) (at_me
   pub gives : (d : Loan) (v : Val) → ent 𝓤 (sep 𝓤 (Step.post (at_step d) v) (Kept d)) (H.⇛ (ex 𝓤 (Gave v)))
   gives d v =
       let α : Lft = inner d in
-      qed 𝓛 (raw (Step.post (at_step d) v) ∷ (‵ (LentAgain It κ₀ α (Share.right q₀) γ b o d.2 h) ⊛ raw (Ends 𝓛 κ₀ (Share.left q₀) d.0 d.1)) ∷ []) ∵ updating ! $
+      qed 𝓛 (raw (Step.post (at_step d) v) ∷ raw (Kept d) ∷ []) ∵ updating ! $
       use1 𝓛 (later (some (λ (m : Given). ((‵ (flft α d.1) ⊛ ‵ (flft κ₁ q₁) ⊛ ‵ (flft κ₂ q₂) ⊛ ‵ ftrue) ⊛ ‵ ((Row T 𝓛 κ₁).own_val m (v ∷ [])))
       ⊛ some (λ (ws : Sort × (Unit {0} × Unit {0})). ‵ (fsep (fsep (fres d.2 (It.coded.code ws.0)) (fbor α (Body (mem It) b o d.2))) (fsep ftrue ftrue))
       ⊛ (‵ (hands_on (param 0 T) end h m ws.0) ⊛ (raw (fact 𝓤 (Yields end h m ws.0)) ⊛ raw (fact 𝓤 (Moves end h m ws.0)))))))) (id⊢ 𝓤 _) $
@@ -110,12 +102,6 @@ module _ (T : RattleType) {M : Type 1} {𝓤 : Ura M} (𝓛 : Logic 𝓤) (at_me
       -- [what follows the row; how the place ends; its borrow; nothing; the tokens and the row; what is kept]
       move ! (4 ∷ []) $ split ! $ split3 ! $ move ! (2 ∷ []) $ split ! $
       -- [κ₂; nothing; α; κ₁; the row; what follows the row; how the place ends; its borrow; nothing; what is kept]
-      move ! (9 ∷ []) $ split ! $
-      -- [what is kept; the end of α; κ₂; nothing; α; κ₁; the row; what follows the row; how the place ends; its borrow; nothing]
-      move ! (4 ∷ 1 ∷ []) $ use2 𝓛 (later (‵ (fdead α) ⊛ ‵ (flft κ₀ (Share.left q₀)))) (apply∗ 𝓤 (A.lft α d.1) _) $ await ! tt $ split ! $
-      -- [α is over; κ₀; what is kept; κ₂; nothing; κ₁; the row; what follows the row; how the place ends; its borrow; nothing]
-      move ! (0 ∷ 2 ∷ 8 ∷ []) $ use3 𝓛 (later (‵ (lent κ₀ γ t) ⊛ ‵ (flft κ₀ (Share.right q₀)))) (comes_back 𝓛 It (named 0) κ₀ α (Share.right q₀) γ b o d.2 h t) $ await ! tt $ split ! $
-      -- [the reference; κ₀; κ₀; κ₂; nothing; κ₁; the row; what follows the row; its borrow; nothing]
-      move ! (2 ∷ 1 ∷ []) $ use2 𝓛 (‵ (flft κ₀ q₀)) (𝓛.lfts.lft_join κ₀ q₀) $
+      move ! (2 ∷ 9 ∷ 6 ∷ []) $ use3 𝓛 (later (‵ (flft κ₀ q₀) ⊛ ‵ (lent κ₀ γ t))) (again.ends 𝓛 It κ₀ q₀ b o γ h d t) $ await ! tt $ split ! $
       -- [κ₀; the reference; κ₂; nothing; κ₁; the row; what follows the row; its borrow; nothing]
       at_once ! $ show ! (Gave v) (m, t) $ check ! (steps, moved) $ keep ! (5 ∷ 6 ∷ 1 ∷ 0 ∷ 4 ∷ 2 ∷ []) $ done !))))

@@ -6,10 +6,10 @@ use Rattle.std.proofs.Common.{◌≡◌, refl, ap, subst, ℕ, ◌*◌, ◌<◌,
 use Rattle.image_model.specs.Layout.{Layout, Fits}
 use Rattle.image_model.specs.Grid.{grid_of}
 use Rattle.image_model.specs.Rows.{pixels, grid_pixels}
-use Rattle.borrow_laws.proofs.Walking.{Lft, GName, Share, ftrue, fdead, fres, flft, flent, fat, full_share, SProp, emp, id⊢, apply∗, coded_list, Args, Dict, Fn, Ty, named, dnil, tcons, tnil, inst_fn, Val, vint, vptr, vunit, ◌⊑◌, ⊑_trans, meet_⊑_right, fact, fact_i, tables, ‵, ◌⊛◌, raw, later, some, ◌$◌, ◌∵◌, !, qed, by, move, keep, drop, split, split3, join, fsplit, fjoin, fpick, feq_l, feq_i, rewrite, use0, use1, use2, use3, await, pick, stop, from, addr, of_opd, unit_lit, and_then, no_more, returns, enter, alloc_all, pass_all, free_all, look_at, get, through, sets, lands_as, take_at, give_at, Body, part_in_at, part_out_at, Array, unit, usize, no, yes, uint_Makes, uint_vals, uint_Tells, follows, followed, shows, Is, LentAgain, lends_again, comes_back, lends_ref, ref_back, part_at, mem, param, copied, layout, param_laws, copied_laws, copied_copy, RattleType, owns, MutRef, mut_vals, mut_Tells, plain, named_lft, types_at, nothing, heard, owned, peeks, only, calls_at, lasts, triple_of, framed, Stays, stay_ref, stay_dropped, walk_of, Goes-ref, Goes-dropped, proved, leaves}
+use Rattle.borrow_laws.proofs.Walking.{Lft, GName, Share, ftrue, fdead, fres, flft, flent, fat, full_share, SProp, emp, id⊢, apply∗, coded_list, Args, Dict, Fn, Ty, named, dnil, tcons, tnil, inst_fn, Val, vint, vptr, vunit, ◌⊑◌, ⊑_trans, meet_⊑_right, fact, fact_i, tables, ‵, ◌⊛◌, raw, later, some, ◌$◌, ◌∵◌, !, qed, by, move, keep, drop, split, split3, join, fsplit, fjoin, fpick, feq_l, feq_i, rewrite, use0, use1, use2, use3, await, pick, stop, from, addr, of_opd, unit_lit, and_then, no_more, returns, enter, alloc_all, pass_all, free_all, look_at, get, through, sets, lands_as, take_at, give_at, Body, part_in_at, part_out_at, Array, unit, usize, no, yes, uint_Makes, uint_vals, uint_Tells, follows, followed, shows, Is, lends_ref, ref_back, part_at, mem, param, copied, layout, param_laws, copied_laws, copied_copy, RattleType, owns, MutRef, mut_vals, mut_Tells, plain, named_lft, types_at, nothing, heard, owned, peeks, only, calls_at, lasts, triple_of, framed, Stays, stay_ref, stay_dropped, walk_of, Goes-ref, Goes-dropped, proved, leaves}
 use Rattle.borrow_laws.proofs.Bodies.{of_copied}
 use Rattle.borrow_laws.proofs.Endings.{ends_said}
-use Rattle.borrow_laws.proofs.Lifetimes.{Ends, begins}
+use Rattle.borrow_laws.proofs.Lifetimes.{Ends, begins, Loan, Kept, lent, lends, ends}
 use Rattle.image_pixels.specs.Marks.{marks_of}
 use Rattle.image_pixels.specs.Pixels.{cells_left, marks_left, muts_left, name_of}
 use Rattle.image_pixels.specs.declared.pixels_mut.PixelsIterMut.{PixelsIterMut}
@@ -51,21 +51,17 @@ cover_first_spec 𝓤 𝓛 𝓜 𝓡 wired X Y LX LY CY gh d gs ds gc dc bm bs b
     -- [the image's reference; the value; the tokens]
     enter ! 𝓣.C 𝓣.Λ fn (vptr b o ∷ vint w64 count ∷ v ∷ []) Post $ alloc_all ! (λ l. pass_all ! refl ((tt, tt), ((tt, record { fits = low_count }), (good, tt))) $
     sets ! (addr ! (through ! refl (stop !))) refl (tt, tt) $
-    move ! (2 ∷ []) $ split3 ! $ move ! (2 ∷ []) $ split ! $ move ! (1 ∷ []) $ drop ! $ move ! (1 ∷ []) $
-    use1 𝓛 (‵ (flft κ₀ (Share.left q₀)) ⊛ ‵ (flft κ₀ (Share.right q₀))) (𝓛.lfts.lft_split κ₀ q₀) $ split ! $
-    use1 𝓛 (later (some (λ (p : ℕ × Share). ‵ (flft (p.0 ∷ κ₀) p.1) ⊛ raw (Ends 𝓛 κ₀ (Share.left q₀) p.0 p.1)))) (begins 𝓛 κ₀ (Share.left q₀)) $ await ! tt $ pick ! (λ p. split ! $
-    let α : Lft = p.0 ∷ κ₀ in let qα : Share = p.1 in let below : α ⊑ κ₀ = meet_⊑_right (p.0 ∷ []) κ₀ in let in₁ : α ⊑ κ₁ = ⊑_trans α κ₀ κ₁ below bounds.1.0 in let in₂ : α ⊑ κ₂ = ⊑_trans α κ₀ κ₂ below bounds.0 in
-    -- [α; its end; κ₀; κ₂; κ₁; the image; the value]
-    move ! (5 ∷ 2 ∷ []) $ use2 𝓛 (later (some (λ (δ : GName). ‵ ((MutRef (named 0) α Whole).own_val (record { ref_ptr = (b, o); ghost_name = δ; now = x.now }) (vptr b o ∷ [])) ⊛ ‵ (LentAgain Whole κ₀ α (Share.right q₀) γ b o δ x.now))))
-    (lends_again 𝓛 Whole (named 0) κ₀ α (Share.right q₀) γ b o (named 0) x.now) $ await ! tt $ pick ! (λ δ. split ! $
-    -- [the borrow; what is kept; α; its end; κ₂; κ₁; the value]
+    move ! (2 ∷ []) $ split3 ! $ move ! (2 ∷ []) $ split ! $ move ! (1 ∷ []) $ drop ! $ move ! (1 ∷ 3 ∷ []) $
+    use2 𝓛 (later (some (λ (d : Loan). ‵ (lent Whole b o (d.0 ∷ κ₀) d.2 x.now) ⊛ ‵ (flft (d.0 ∷ κ₀) d.1) ⊛ raw (Kept 𝓛 Whole κ₀ q₀ b o γ x.now d)))) (lends 𝓛 Whole κ₀ q₀ b o γ x.now) $ await ! tt $ pick ! (λ d₀. split3 ! $
+    let α : Lft = d₀.0 ∷ κ₀ in let qα : Share = d₀.1 in let δ : GName = d₀.2 in let below : α ⊑ κ₀ = meet_⊑_right (d₀.0 ∷ []) κ₀ in let in₁ : α ⊑ κ₁ = ⊑_trans α κ₀ κ₁ below bounds.1.0 in let in₂ : α ⊑ κ₂ = ⊑_trans α κ₀ κ₂ below bounds.0 in
+    -- [the borrow; α; what is kept; κ₂; κ₁; the value]
     let G₁ = triple_of 𝓛 (M.signature X Y) (M.spec X Y gh d gs ds 𝓛 𝓜.mem 𝓡.returns) in
     let x₁ : MutBor (Img X.Denot) = record { ref_ptr = (b, o); ghost_name = δ; now = x.now } in
     let z₁ : G₁.Ghost = (((α, (κ₁, (κ₂, tt))), (qα, (q₁, (q₂, tt))), (in₁, (in₂, tt)), (x₁, tt), (mut_vals x₁, tt)), tt) in
-    nothing ! $ move ! (1 ∷ 0 ∷ []) $ join ! $ nothing ! $ move ! (5 ∷ 0 ∷ []) $ join ! $ move ! (5 ∷ 0 ∷ []) $ join ! $ move ! (3 ∷ 0 ∷ []) $ join ! $ join ! $
+    nothing ! $ move ! (1 ∷ 0 ∷ []) $ join ! $ nothing ! $ move ! (4 ∷ 0 ∷ []) $ join ! $ move ! (4 ∷ 0 ∷ []) $ join ! $ move ! (2 ∷ 0 ∷ []) $ join ! $ join ! $
     use0 𝓛 (raw (fact 𝓤 Fit)) (fact_i 𝓤 Fit (emp 𝓤) fits) $ use0 𝓛 (raw (fact 𝓤 (κ₂ ⊑ Y.lives))) (fact_i 𝓤 (κ₂ ⊑ Y.lives) (emp 𝓤) inY) $ join ! $ use0 𝓛 (raw (fact 𝓤 (κ₁ ⊑ X.lives))) (fact_i 𝓤 (κ₁ ⊑ X.lives) (emp 𝓤) inX) $ join ! $
     move ! (1 ∷ 0 ∷ []) $ use2 𝓛 (raw (G₁.pre z₁)) (id⊢ 𝓤 _) $
-    -- [what the call asks; what is kept; the end of α; the value]
+    -- [what the call asks; what is kept; the value]
     calls_at ! fm G₁ (making.met 𝓤 𝓛 𝓜 𝓡 (compiled.calls-imgref::img::Img::exact_pixels_mut 𝓡.env wired) X Y LX LY gh d gs ds bm bs) z₁ (and_then ! (get ! refl) (no_more !)) (λ v₁.
     let cursor : RattleType = P.the_row (named_lft 3 0 tt (α, (κ₁, (κ₂, tt)))) (param 1 Y) in
     let Sort : Type 0 = PixelsIterMut Y.Denot in
@@ -75,7 +71,7 @@ cover_first_spec 𝓤 𝓛 𝓜 𝓡 wired X Y LX LY CY gh d gs ds gc dc bm bs b
     ⊛ (‵ (follows Whole (Array (param 1 Y) 0) δ (name_of r) F) ⊛ raw (fact 𝓤 (cells_left r ≡ old.cells)) ⊛ raw (fact 𝓤 (marks_left r ≡ marked)) ⊛ raw (fact 𝓤 (muts_left r ≡ pixels old)) ⊛ raw (fact 𝓤 (muts_left r ≡ grid_pixels (grid_of old)))
     ⊛ raw (fact 𝓤 (length (muts_left r) ≡ x.now.width * x.now.height)) ⊛ raw (fact 𝓤 (length (muts_left r) < 2 ^ 64))))))) (id⊢ 𝓤 _) $
     await ! tt $ pick ! (λ r. split ! $ split ! $ move ! (2 ∷ []) $ pick ! (λ ws₁. split ! $ drop ! $ split ! $ move ! (1 ∷ []) $ split ! $ heard ! (cells_left r ≡ old.cells) (λ cells. split ! $ heard ! (marks_left r ≡ marked) (λ marked_is. drop ! $
-    -- [what follows; the tokens; the cursor; what is kept; the end of α; the value]
+    -- [what follows; the tokens; the cursor; what is kept; the value]
     let lowered : Sort → Val = laws.lowered (named_lft 3 0 tt (α, (κ₁, (κ₂, tt)))) (param 1 Y) (param_laws 1 Y LY) in
     let low = laws.lowers (named_lft 3 0 tt (α, (κ₁, (κ₂, tt)))) (param 1 Y) (param_laws 1 Y LY) in
     let typed = ((laws.the_row_laws (named_lft 3 0 tt (α, (κ₁, (κ₂, tt)))) (param 1 Y) (param_laws 1 Y LY)).lawful 𝓛).typed in
@@ -85,64 +81,61 @@ cover_first_spec 𝓤 𝓛 𝓜 𝓡 wired X Y LX LY CY gh d gs ds gc dc bm bs b
     rewrite ! 0 (λ (us : List Val). ‵ (cursor.own_val r us)) told₁ refl $
     lands_as ! (ap only told₁) refl (fit r (v₁ ∷ []) is₁) $
     sets ! (of_opd ! (get ! refl)) refl (fit r (v₁ ∷ []) is₁) $
-    -- [the cursor; what follows; the tokens; what is kept; the end of α; the value]
+    -- [the cursor; what follows; the tokens; what is kept; the value]
     move ! (2 ∷ []) $ split3 ! $ move ! (2 ∷ []) $ split ! $ move ! (1 ∷ []) $ drop ! $ move ! (1 ∷ []) $
     use1 𝓛 (‵ (flft α (Share.left qα)) ⊛ ‵ (flft α (Share.right qα))) (𝓛.lfts.lft_split α qα) $ split ! $
     use1 𝓛 (later (some (λ (p' : ℕ × Share). ‵ (flft (p'.0 ∷ α) p'.1) ⊛ raw (Ends 𝓛 α (Share.left qα) p'.0 p'.1)))) (begins 𝓛 α (Share.left qα)) $ await ! tt $ pick ! (λ p'. split ! $
     let β : Lft = p'.0 ∷ α in let qβ : Share = p'.1 in let inside : β ⊑ α = meet_⊑_right (p'.0 ∷ []) α in
-    -- [β; its end; α; κ₂; κ₁; the cursor; what follows; what is kept; the end of α; the value]
+    -- [β; its end; α; κ₂; κ₁; the cursor; what follows; what is kept; the value]
     take_at ! 4 $ move ! (0 ∷ 6 ∷ []) $
-    -- [local 4; the cursor; β; its end; α; κ₂; κ₁; what follows; what is kept; the end of α; the value]
+    -- [local 4; the cursor; β; its end; α; κ₂; κ₁; what follows; what is kept; the value]
     let spelled : Ty = low.mir in
     use2 𝓛 (‵ (part_at cursor full_share r (l 4) 0)) (part_in_at 𝓛 cursor refl full_share r (l 4) 0 spelled refl (lowered r)) $
     use1 𝓛 (later (some (λ (ε : GName). ‵ ((MutRef (named 0) β cursor).own_val (record { ref_ptr = (l 4, 0); ghost_name = ε; now = r }) (vptr (l 4) 0 ∷ [])) ⊛ ‵ (flent β (Body (mem cursor) (l 4) 0 ε)))))
     (lends_ref 𝓛 cursor (named 0) β r (l 4) 0) $ await ! tt $ pick ! (λ ε. split ! $
-    -- [the borrow; what is kept of it; β; its end; α; κ₂; κ₁; what follows; what is kept; the end of α; the value]
+    -- [the borrow; what is kept of it; β; its end; α; κ₂; κ₁; what follows; what is kept; the value]
     sets ! (addr ! (from ! (stop !))) refl (tt, tt) $
     let G₂ = triple_of 𝓛 (W.signature Y) (W.spec Y gc dc 𝓛 𝓜.mem 𝓡.returns) in
     let x₂ : MutBor Sort = record { ref_ptr = (l 4, 0); ghost_name = ε; now = r } in
     let z₂ : G₂.Ghost = (((β, (α, (κ₂, tt))), (qβ, (Share.right qα, (q₂, tt))), (inside, (⊑_trans β α κ₂ inside in₂, (in₂, tt))), (x₂, (count, (value, tt))), (mut_vals x₂, (vint w64 count ∷ [], (v ∷ [], tt)))), tt) in
-    nothing ! $ move ! (11 ∷ 0 ∷ []) $ fjoin ! $ owned ! usize (Is usize) (uint_Makes 𝓛 w64) count (vint w64 count ∷ []) (refl, low_count) $ fjoin ! $ move ! (1 ∷ 0 ∷ []) $ fjoin ! $
+    nothing ! $ move ! (10 ∷ 0 ∷ []) $ fjoin ! $ owned ! usize (Is usize) (uint_Makes 𝓛 w64) count (vint w64 count ∷ []) (refl, low_count) $ fjoin ! $ move ! (1 ∷ 0 ∷ []) $ fjoin ! $
     nothing ! $ move ! (6 ∷ 0 ∷ []) $ join ! $ move ! (5 ∷ 0 ∷ []) $ join ! $ move ! (3 ∷ 0 ∷ []) $ join ! $ join ! $
     nothing ! $ use0 𝓛 (raw (fact 𝓤 (κ₂ ⊑ Y.lives))) (fact_i 𝓤 (κ₂ ⊑ Y.lives) (emp 𝓤) inY) $ join ! $ move ! (1 ∷ 0 ∷ []) $ use2 𝓛 (raw (G₂.pre z₂)) (id⊢ 𝓤 _) $
-    -- [what the call asks; what is kept of the loan; the end of β; κ₁; what follows; what is kept; the end of α]
+    -- [what the call asks; what is kept of the loan; the end of β; κ₁; what follows; what is kept]
     calls_at ! fm G₂ (writing.met 𝓤 𝓛 𝓜 𝓡 (compiled.calls-imgref_examples::pixels::write_next 𝓡.env wired) Y LY CY gc dc bc) z₂ (and_then ! (get ! refl) (and_then ! (get ! refl) (and_then ! (get ! refl) (no_more !)))) (λ v₂.
     use1 𝓛 (later (some (λ (u : Unit {0}). ((‵ (flft β qβ) ⊛ ‵ (flft α (Share.right qα)) ⊛ ‵ (flft κ₂ q₂) ⊛ ‵ ftrue) ⊛ ‵ (unit.own_val u (v₂ ∷ []))) ⊛ some (λ (ws : Sort × (Unit {0} × (Unit {0} × Unit {0}))). ‵ (lasts (W.ended Y gc dc) z₂.0.0 z₂.0.3 ws) ⊛ ‵ (writes_first R count value r ws.0))))) (id⊢ 𝓤 _) $
     await ! tt $ pick ! (λ u. split ! $ split ! $ move ! (1 ∷ []) $ feq_l ! (λ is_unit. lands_as ! (ap only is_unit) refl (tt, tt) $
     move ! (1 ∷ []) $ pick ! (λ ws₂. let t : Sort = ws₂.0 in split ! $ fsplit ! $ fsplit ! $
-    -- [the cursor's last value; its borrow; nothing; what it fills; the tokens; what is kept of the loan; the end of β; κ₁; what follows; what is kept; the end of α]
+    -- [the cursor's last value; its borrow; nothing; what it fills; the tokens; what is kept of the loan; the end of β; κ₁; what follows; what is kept]
     move ! (4 ∷ []) $ split3 ! $ move ! (0 ∷ 8 ∷ []) $ use2 𝓛 (later (‵ (fdead β) ⊛ ‵ (flft α (Share.left qα)))) (apply∗ 𝓤 (𝓛.A.lft β qβ) _) $ await ! tt $ split ! $
     move ! (1 ∷ 2 ∷ []) $ use2 𝓛 (‵ (flft α qα)) (𝓛.lfts.lft_join α qα) $
-    -- [α; β is over; κ₂; the cursor's last value; its borrow; nothing; what it fills; what is kept of the loan; κ₁; what follows; what is kept; the end of α]
+    -- [α; β is over; κ₂; the cursor's last value; its borrow; nothing; what it fills; what is kept of the loan; κ₁; what follows; what is kept]
     move ! (1 ∷ 7 ∷ 3 ∷ []) $ use3 𝓛 (later (‵ (part_at cursor full_share t (l 4) 0))) (ref_back 𝓛 cursor β ε t (l 4) 0) $ await ! tt $
     use1 𝓛 (some (λ (v₃ : Val). ‵ (fat full_share spelled (l 4) 0 v₃) ⊛ ‵ (cursor.own_val t (v₃ ∷ [])))) (part_out_at 𝓛 cursor refl full_share t (l 4) 0 spelled refl) $ pick ! (λ v₃. split ! $
     move ! (1 ∷ []) $ peeks ! cursor (Is cursor) (shows 𝓛 cursor) t (v₃ ∷ []) (λ is₃.
     let told₃ : v₃ ∷ [] ≡ lowered t ∷ [] = low.val_is t (v₃ ∷ []) is₃ in
     rewrite ! 0 (λ (us : List Val). ‵ (cursor.own_val t us)) told₃ refl $ move ! (1 ∷ []) $ rewrite ! 0 (λ (us : Val). ‵ (fat full_share spelled (l 4) 0 us)) (ap only told₃) refl $ give_at ! 4 $
-    -- [the cursor; α; κ₂; its borrow; nothing; what it fills; κ₁; what follows; what is kept; the end of α]
+    -- [the cursor; α; κ₂; its borrow; nothing; what it fills; κ₁; what follows; what is kept]
     sets ! (of_opd ! (unit_lit !)) refl (tt, tt) $ sets ! (of_opd ! (get ! refl)) refl (fit t (v₃ ∷ []) is₃) $
     let let_go : Dict = impl ("imgref_examples::Destruct++none::drop" ∷ []) (tcons (layout Y) tnil) dnil in
     let G₃ = triple_of 𝓛 (D.signature Y) (D.spec Y let_go 𝓛 𝓜.mem 𝓡.returns) in
     let z₃ : G₃.Ghost = (((α, (κ₂, tt)), (qα, (q₂, tt)), (in₂, tt), (t, tt), (lowered t ∷ [], tt)), tt) in
     nothing ! $ move ! (1 ∷ 0 ∷ []) $ fjoin ! $ move ! (1 ∷ 2 ∷ []) $ join ! $ join ! $
     nothing ! $ use0 𝓛 (raw (fact 𝓤 (κ₂ ⊑ Y.lives))) (fact_i 𝓤 (κ₂ ⊑ Y.lives) (emp 𝓤) inY) $ join ! $ move ! (1 ∷ 0 ∷ []) $ use2 𝓛 (raw (G₃.pre z₃)) (id⊢ 𝓤 _) $
-    -- [what the call asks; the borrow of the cursor; nothing; what it fills; κ₁; what follows; what is kept; the end of α]
+    -- [what the call asks; the borrow of the cursor; nothing; what it fills; κ₁; what follows; what is kept]
     calls_at ! fm G₃ (dropping.met 𝓤 𝓛 𝓜 𝓡 (compiled.calls-image_pixels::pixels_mut::PixelsIterMut::drop 𝓡.env wired) Y LY let_go (glues "imgref_examples::Destruct++none::drop" 𝓡.env (compiled.calls-imgref_examples::Destruct++none::drop 𝓡.env wired) Y LY _ 𝓤 𝓛 𝓜 𝓡)) z₃ (and_then ! (get ! refl) (no_more !)) (λ v₄.
     use1 𝓛 (later (some (λ (u₃ : Unit {0}). ((‵ (flft α qα) ⊛ ‵ (flft κ₂ q₂) ⊛ ‵ ftrue) ⊛ ‵ (unit.own_val u₃ (v₄ ∷ []))) ⊛ some (λ (ws : Unit {0} × Unit {0}). ‵ (lasts (D.ended Y let_go) z₃.0.0 z₃.0.3 ws) ⊛ ‵ (fres (name_of t) ((coded_list R.coded).code (cells_left t))))))) (id⊢ 𝓤 _) $
     await ! tt $ pick ! (λ u₃. split ! $ split ! $ move ! (1 ∷ []) $ feq_l ! (λ was_unit. lands_as ! (ap only was_unit) refl (tt, tt) $
     move ! (1 ∷ []) $ pick ! (λ ws₃. split ! $ drop ! $ move ! (1 ∷ []) $ split3 ! $
-    -- [α; κ₂; nothing; how the cells that are left end; the borrow of the cursor; nothing; what it fills; κ₁; what follows; what is kept; the end of α]
-    move ! (0 ∷ 10 ∷ []) $ use2 𝓛 (later (‵ (fdead α) ⊛ ‵ (flft κ₀ (Share.left q₀)))) (apply∗ 𝓤 (𝓛.A.lft α qα) _) $ await ! tt $ split ! $
-    move ! (7 ∷ []) $ fpick ! (λ done. fsplit ! $ feq_l ! (λ all.
-    -- [how the cells end; α is over; κ₀; κ₂; nothing; how the cells that are left end; the borrow of the cursor; nothing; κ₁; what follows; what is kept]
+    -- [α; κ₂; nothing; how the cells that are left end; the borrow of the cursor; nothing; what it fills; κ₁; what follows; what is kept]
+    move ! (6 ∷ []) $ fpick ! (λ done. fsplit ! $ feq_l ! (λ all.
+    -- [how the cells end; α; κ₂; nothing; how the cells that are left end; the borrow of the cursor; nothing; κ₁; what follows; what is kept]
     let A₀ : RattleType = Array R 0 in let zs : List Y.Denot = first_covered count (marks_left r) value (cells_left r) in
-    move ! (0 ∷ 5 ∷ []) $ use2 𝓛 (‵ (fres (name_of r) (A₀.coded.code (done ++ cells_left t)))) (ends_said 𝓛 A₀ A₀ (name_of r) (name_of t) (λ ws. done ++ ws) (cells_left t)) $
+    move ! (0 ∷ 4 ∷ []) $ use2 𝓛 (‵ (fres (name_of r) (A₀.coded.code (done ++ cells_left t)))) (ends_said 𝓛 A₀ A₀ (name_of r) (name_of t) (λ ws. done ++ ws) (cells_left t)) $
     rewrite ! 0 (λ (ys : List Y.Denot). ‵ (fres (name_of r) (A₀.coded.code ys))) all refl $
-    move ! (8 ∷ 0 ∷ []) $ use2 𝓛 (‵ (fres δ (Whole.coded.code (F zs)))) (followed 𝓛 Whole A₀ F δ (name_of r) zs) $
-    -- [how the image ends; α is over; κ₀; κ₂; nothing; the borrow of the cursor; nothing; κ₁; what is kept]
-    move ! (1 ∷ 8 ∷ 0 ∷ []) $ use3 𝓛 (later (‵ ((MutRef (named 0) κ₀ Whole).own_val (record { ref_ptr = (b, o); ghost_name = γ; now = F zs }) (vptr b o ∷ [])) ⊛ ‵ (flft κ₀ (Share.right q₀))))
-    (comes_back 𝓛 Whole (named 0) κ₀ α (Share.right q₀) γ b o δ x.now (F zs)) $ await ! tt $ split ! $
-    move ! (2 ∷ 1 ∷ []) $ use2 𝓛 (‵ (flft κ₀ q₀)) (𝓛.lfts.lft_join κ₀ q₀) $
+    move ! (7 ∷ 0 ∷ []) $ use2 𝓛 (‵ (fres δ (Whole.coded.code (F zs)))) (followed 𝓛 Whole A₀ F δ (name_of r) zs) $
+    -- [how the image ends; α; κ₂; nothing; the borrow of the cursor; nothing; κ₁; what is kept]
+    move ! (1 ∷ 7 ∷ 0 ∷ []) $ use3 𝓛 (later (‵ (flft κ₀ q₀) ⊛ ‵ (lent Whole b o κ₀ γ (F zs)))) (ends 𝓛 Whole κ₀ q₀ b o γ x.now d₀ (F zs)) $ await ! tt $ split ! $
     returns ! (look_at ! 0 refl) $ free_all ! refl $
     -- [κ₀; the image; κ₂; nothing; the borrow of the cursor; nothing; κ₁]
     let Is_written : Type 0 = F zs ≡ F (first_covered count marked value old.cells) in
@@ -150,4 +143,4 @@ cover_first_spec 𝓤 𝓛 𝓜 𝓡 wired X Y LX LY CY gh d gs ds gc dc bm bs b
     feq_i ! (List Val) (vunit ∷ []) (vunit ∷ []) refl $ nothing ! $ nothing ! $ fjoin ! $ nothing ! $ fjoin ! $ move ! (4 ∷ 0 ∷ []) $ fjoin ! $
     nothing ! $ move ! (5 ∷ 0 ∷ []) $ join ! $ move ! (8 ∷ 0 ∷ []) $ join ! $ move ! (4 ∷ 0 ∷ []) $ join ! $
     -- [the tokens; the image; (); the ensures]
-    keep ! (0 ∷ 1 ∷ 2 ∷ 3 ∷ []) $ by ! (leaves 𝓛 En hs c bound vunit tt (F zs, (tt, (tt, tt))) (tt, (tt, (tt, tt)))))))))))))))))))))))))))))))
+    keep ! (0 ∷ 1 ∷ 2 ∷ 3 ∷ []) $ by ! (leaves 𝓛 En hs c bound vunit tt (F zs, (tt, (tt, tt))) (tt, (tt, (tt, tt))))))))))))))))))))))))))))))

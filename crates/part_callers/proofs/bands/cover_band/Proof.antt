@@ -12,12 +12,12 @@ use Rattle.image_shape.specs.declared.shape.Shape.{Shape}
 use Rattle.image_shape.specs.contracts.shape.Shape as shape
 use Rattle.imgref.specs.Image.{with_all, layout_by, mut_layout, shape_of}
 use Rattle.imgref.proofs.ImageValues.{shape_val, shape_made, img_row, LentCells, lent_cells_laws, ImgParts, img_parts_told}
-use Rattle.borrow_laws.proofs.Walking.{full_share, Lft, GName, Share, ftrue, fdead, fres, fat, flft, flent, SProp, ent, emp, id⊢, apply∗, sem, Args, Fn, Ty, named, ty_unit, skip, inst_fn, vint, Val, WT, has_ty, vptr, vunit, of_list, Wp, after_seq, at_return, ◌⊑◌, ⊑_refl, ⊑_meet, ⊑_trans, meet_⊑_right, fact, fact_i, tables, Item, Sq, any_q, ‵, ◌⊛◌, raw, later, some, at_ret, runs, ◌$◌, ◌∵◌, !, qed, by, move, keep, drop, split, split3, join, fsplit, fpick, fjoin, feq_l, feq_i, rewrite, use0, use1, use2, use3, await, pick, live, vrt, in_variant, all_of, sub, agg, stop, fld, hop, from, addr, of_opd, unit_lit, and_then, no_more, first, switches_on, skips, exec, returns, enter, alloc_all, pass_all, free_all, look_at, look_in_at, get, get_in, get_tag, through, sets, lands_as, lands_last, env, holding, forget_but, take_at, give_at, Array, unit, usize, no, yes, follows, followed, finally-res, shows, Is, uint_Makes, uint_vals, uint_Tells, LentAgain, lends_again, comes_back, lends_ref, ref_back, part_at, mem, part_in_at, part_out_at, param, copied, param_laws, copied_laws, copied_copy, RattleType, owns, MutRef, mut_vals, mut_Tells, plain, named_lft, types_at, MutSlice, slice_val, nothing, heard, owned, peeks, only, calls_at, calls_at_last, lasts, triple_of, framed, Stays, stay_ref, stay_dropped, walk_of, Goes-ref, Goes-dropped, proved, leaves}
+use Rattle.borrow_laws.proofs.Walking.{full_share, Lft, GName, Share, ftrue, fdead, fres, fat, flft, flent, SProp, ent, emp, id⊢, apply∗, sem, Args, Fn, Ty, named, ty_unit, skip, inst_fn, vint, Val, WT, has_ty, vptr, vunit, of_list, Wp, after_seq, at_return, ◌⊑◌, ⊑_refl, ⊑_meet, ⊑_trans, meet_⊑_right, fact, fact_i, tables, Item, Sq, any_q, ‵, ◌⊛◌, raw, later, some, at_ret, runs, ◌$◌, ◌∵◌, !, qed, by, move, keep, drop, split, split3, join, fsplit, fpick, fjoin, feq_l, feq_i, rewrite, use0, use1, use2, use3, await, pick, live, vrt, in_variant, all_of, sub, agg, stop, fld, hop, from, addr, of_opd, unit_lit, and_then, no_more, first, switches_on, skips, exec, returns, enter, alloc_all, pass_all, free_all, look_at, look_in_at, get, get_in, get_tag, through, sets, lands_as, lands_last, env, holding, forget_but, take_at, give_at, Array, unit, usize, no, yes, follows, followed, finally-res, shows, Is, uint_Makes, uint_vals, uint_Tells, lends_ref, ref_back, part_at, mem, part_in_at, part_out_at, param, copied, param_laws, copied_laws, copied_copy, RattleType, owns, MutRef, mut_vals, mut_Tells, plain, named_lft, types_at, MutSlice, slice_val, nothing, heard, owned, peeks, only, calls_at, calls_at_last, lasts, triple_of, framed, Stays, stay_ref, stay_dropped, walk_of, Goes-ref, Goes-dropped, proved, leaves}
 use Rattle.borrow_laws.proofs.Bodies.{of_copied, first_arm, type_of}
 use Rattle.borrow_laws.proofs.Declared.{typed}
 use Rattle.borrow_laws.specs.Endings.{ends_as}
 use Rattle.borrow_laws.proofs.Endings.{ends_beside, ends_said}
-use Rattle.borrow_laws.proofs.Lifetimes.{Ends, begins}
+use Rattle.borrow_laws.proofs.Lifetimes.{Ends, begins, Loan, Kept, lent, lends, ends}
 use Rattle.borrow_laws.proofs.Options.{none_or_some, none_told, lent_val}
 use Rattle.borrow_laws.proofs.Parts.{given_up}
 use Rattle.image_tiles.specs.declared.bands.BandsMut.{BandsMut}
@@ -62,21 +62,17 @@ cover_band_spec 𝓤 𝓛 𝓜 𝓡 wired X Y LX LY CY gh d gs ds gc dc bm bs bc
     -- [the image's reference; the value; the tokens]
     enter ! 𝓣.C 𝓣.Λ fn (vptr b o ∷ vint w64 bh ∷ v ∷ []) Post $ alloc_all ! (λ l. pass_all ! refl ((tt, tt), ((tt, record { fits = low }), (good, tt))) $
     sets ! (addr ! (through ! refl (stop !))) refl (tt, tt) $
-    move ! (2 ∷ []) $ split3 ! $ move ! (2 ∷ []) $ split ! $ move ! (1 ∷ []) $ drop ! $ move ! (1 ∷ []) $
-    use1 𝓛 (‵ (flft κ₀ (Share.left q₀)) ⊛ ‵ (flft κ₀ (Share.right q₀))) (𝓛.lfts.lft_split κ₀ q₀) $ split ! $
-    use1 𝓛 (later (some (λ (p : ℕ × Share). ‵ (flft (p.0 ∷ κ₀) p.1) ⊛ raw (Ends 𝓛 κ₀ (Share.left q₀) p.0 p.1)))) (begins 𝓛 κ₀ (Share.left q₀)) $ await ! tt $ pick ! (λ p. split ! $
-    let α : Lft = p.0 ∷ κ₀ in let qα : Share = p.1 in let below : α ⊑ κ₀ = meet_⊑_right (p.0 ∷ []) κ₀ in let in₁ : α ⊑ κ₁ = ⊑_trans α κ₀ κ₁ below bounds.1.0 in let in₂ : α ⊑ κ₂ = ⊑_trans α κ₀ κ₂ below bounds.0 in
-    -- [α; its end; κ₀; κ₂; κ₁; the image; the value]
-    move ! (5 ∷ 2 ∷ []) $ use2 𝓛 (later (some (λ (δ : GName). ‵ ((MutRef (named 0) α Whole).own_val (record { ref_ptr = (b, o); ghost_name = δ; now = x.now }) (vptr b o ∷ [])) ⊛ ‵ (LentAgain Whole κ₀ α (Share.right q₀) γ b o δ x.now))))
-    (lends_again 𝓛 Whole (named 0) κ₀ α (Share.right q₀) γ b o (named 0) x.now) $ await ! tt $ pick ! (λ δ. split ! $
-    -- [the borrow; what is kept; α; its end; κ₂; κ₁; the value]
+    move ! (2 ∷ []) $ split3 ! $ move ! (2 ∷ []) $ split ! $ move ! (1 ∷ []) $ drop ! $ move ! (1 ∷ 3 ∷ []) $
+    use2 𝓛 (later (some (λ (d : Loan). ‵ (lent Whole b o (d.0 ∷ κ₀) d.2 x.now) ⊛ ‵ (flft (d.0 ∷ κ₀) d.1) ⊛ raw (Kept 𝓛 Whole κ₀ q₀ b o γ x.now d)))) (lends 𝓛 Whole κ₀ q₀ b o γ x.now) $ await ! tt $ pick ! (λ d₀. split3 ! $
+    let α : Lft = d₀.0 ∷ κ₀ in let qα : Share = d₀.1 in let δ : GName = d₀.2 in let below : α ⊑ κ₀ = meet_⊑_right (d₀.0 ∷ []) κ₀ in let in₁ : α ⊑ κ₁ = ⊑_trans α κ₀ κ₁ below bounds.1.0 in let in₂ : α ⊑ κ₂ = ⊑_trans α κ₀ κ₂ below bounds.0 in
+    -- [the borrow; α; what is kept; κ₂; κ₁; the value]
     let G₁ = triple_of 𝓛 (M.signature X Y) (M.spec X Y gh d gs ds 𝓛 𝓜.mem 𝓡.returns) in
     let x₁ : MutBor (Img X.Denot) = record { ref_ptr = (b, o); ghost_name = δ; now = x.now } in
     let z₁ : G₁.Ghost = (((α, (κ₁, (κ₂, tt))), (qα, (q₁, (q₂, tt))), (in₁, (in₂, tt)), (x₁, (bh, tt)), (mut_vals x₁, (vint w64 bh ∷ [], tt))), tt) in
-    nothing ! $ owned ! usize (Is usize) (uint_Makes 𝓛 w64) bh (vint w64 bh ∷ []) (refl, low) $ fjoin ! $ move ! (1 ∷ 0 ∷ []) $ fjoin ! $ nothing ! $ move ! (5 ∷ 0 ∷ []) $ join ! $ move ! (5 ∷ 0 ∷ []) $ join ! $ move ! (3 ∷ 0 ∷ []) $ join ! $ join ! $
+    nothing ! $ owned ! usize (Is usize) (uint_Makes 𝓛 w64) bh (vint w64 bh ∷ []) (refl, low) $ fjoin ! $ move ! (1 ∷ 0 ∷ []) $ fjoin ! $ nothing ! $ move ! (4 ∷ 0 ∷ []) $ join ! $ move ! (4 ∷ 0 ∷ []) $ join ! $ move ! (2 ∷ 0 ∷ []) $ join ! $ join ! $
     use0 𝓛 (raw (fact 𝓤 High)) (fact_i 𝓤 High (emp 𝓤) high) $ use0 𝓛 (raw (fact 𝓤 Fit)) (fact_i 𝓤 Fit (emp 𝓤) fits) $ join ! $ use0 𝓛 (raw (fact 𝓤 (κ₂ ⊑ Y.lives))) (fact_i 𝓤 (κ₂ ⊑ Y.lives) (emp 𝓤) inY) $ join ! $ use0 𝓛 (raw (fact 𝓤 (κ₁ ⊑ X.lives))) (fact_i 𝓤 (κ₁ ⊑ X.lives) (emp 𝓤) inX) $ join ! $
     move ! (1 ∷ 0 ∷ []) $ use2 𝓛 (raw (G₁.pre z₁)) (id⊢ 𝓤 _) $
-    -- [what the call asks; what is kept; the end of α; the value]
+    -- [what the call asks; what is kept; the value]
     calls_at ! fm G₁ (making.met 𝓤 𝓛 𝓜 𝓡 (compiled.calls-part_callers::bands::bands_of 𝓡.env wired) X Y LX LY gh d gs ds bm bs) z₁ (and_then ! (get ! refl) (and_then ! (get ! refl) (no_more !))) (λ v₁.
     let named_α = named_lft 3 0 tt (α, (κ₁, (κ₂, tt))) in
     let Rows : RattleType = P.the_row named_α (param 1 Y) in
@@ -87,7 +83,7 @@ cover_band_spec 𝓤 𝓛 𝓜 𝓡 wired X Y LX LY CY gh d gs ds gc dc bm bs bc
     use1 𝓛 (later (some (λ (r : Sort). ((‵ (flft α qα) ⊛ ‵ (flft κ₁ q₁) ⊛ ‵ (flft κ₂ q₂) ⊛ ‵ ftrue) ⊛ ‵ (Rows.own_val r (v₁ ∷ []))) ⊛ some (λ (ws : Unit {0} × (Unit {0} × Unit {0})). ‵ (lasts (M.ended X Y gh d gs ds) z₁.0.0 z₁.0.3 ws)
     ⊛ (‵ (follows Whole (Array (param 1 Y) 0) δ (name_of r) F) ⊛ raw (fact 𝓤 (cells_left r ≡ old.cells)) ⊛ raw (fact 𝓤 (Spaced r)) ⊛ raw (fact 𝓤 (Lists r))))))) (id⊢ 𝓤 _) $
     await ! tt $ pick ! (λ r. split ! $ split ! $ move ! (2 ∷ []) $ pick ! (λ ws₁. split ! $ drop ! $ split ! $ move ! (1 ∷ []) $ split ! $ heard ! (cells_left r ≡ old.cells) (λ cells. split ! $ heard ! (Spaced r) (λ spacing. heard ! (Lists r) (λ lists.
-    -- [what follows; the tokens; the iterator; what is kept; the end of α; the value]
+    -- [what follows; the tokens; the iterator; what is kept; the value]
     let LY₁ = param_laws 1 Y LY in
     let lowers = laws.lowers named_α (param 1 Y) LY₁ in
     let word : Sort → Val = lowers.lowered in
@@ -97,19 +93,19 @@ cover_band_spec 𝓤 𝓛 𝓜 𝓡 wired X Y LX LY CY gh d gs ds gc dc bm bs bc
     rewrite ! 0 (λ (us : List Val). ‵ (Rows.own_val r us)) t₁ refl $
     lands_as ! (ap only t₁) refl (fit r (v₁ ∷ []) is₁) $
     sets ! (of_opd ! (get ! refl)) refl (fit r (v₁ ∷ []) is₁) $
-    -- [the iterator; what follows; the tokens; what is kept; the end of α; the value]
+    -- [the iterator; what follows; the tokens; what is kept; the value]
     move ! (2 ∷ []) $ split3 ! $ move ! (2 ∷ []) $ split ! $ move ! (1 ∷ []) $ drop ! $ move ! (1 ∷ []) $
     use1 𝓛 (‵ (flft α (Share.left qα)) ⊛ ‵ (flft α (Share.right qα))) (𝓛.lfts.lft_split α qα) $ split ! $
     use1 𝓛 (later (some (λ (p' : ℕ × Share). ‵ (flft (p'.0 ∷ α) p'.1) ⊛ raw (Ends 𝓛 α (Share.left qα) p'.0 p'.1)))) (begins 𝓛 α (Share.left qα)) $ await ! tt $ pick ! (λ p'. split ! $
     let β : Lft = p'.0 ∷ α in let qβ : Share = p'.1 in let inside : β ⊑ α = meet_⊑_right (p'.0 ∷ []) α in
-    -- [β; its end; α; κ₂; κ₁; the iterator; what follows; what is kept; the end of α; the value]
+    -- [β; its end; α; κ₂; κ₁; the iterator; what follows; what is kept; the value]
     take_at ! 4 $ move ! (0 ∷ 6 ∷ []) $
-    -- [local 4; the iterator; β; its end; α; κ₂; κ₁; what follows; what is kept; the end of α; the value]
+    -- [local 4; the iterator; β; its end; α; κ₂; κ₁; what follows; what is kept; the value]
     let spelled : Ty = type_of 4 fn.locals in
     use2 𝓛 (‵ (part_at Rows full_share r (l 4) 0)) (part_in_at 𝓛 Rows refl full_share r (l 4) 0 spelled refl (word r)) $
     use1 𝓛 (later (some (λ (ε : GName). ‵ ((MutRef (named 0) β Rows).own_val (record { ref_ptr = (l 4, 0); ghost_name = ε; now = r }) (vptr (l 4) 0 ∷ [])) ⊛ ‵ (flent β (BorBody (mem Rows) (l 4) 0 ε)))))
     (lends_ref 𝓛 Rows (named 0) β r (l 4) 0) $ await ! tt $ pick ! (λ ε. split ! $
-    -- [the borrow; what is kept of it; β; its end; α; κ₂; κ₁; what follows; what is kept; the end of α; the value]
+    -- [the borrow; what is kept of it; β; its end; α; κ₂; κ₁; what follows; what is kept; the value]
     sets ! (addr ! (from ! (stop !))) refl (tt, tt) $
     let G₂ = triple_of 𝓛 (N.signature Y) (N.spec Y 𝓛 𝓜.mem 𝓡.returns) in
     let x₂ : MutBor Sort = record { ref_ptr = (l 4, 0); ghost_name = ε; now = r } in
@@ -117,7 +113,7 @@ cover_band_spec 𝓤 𝓛 𝓜 𝓡 wired X Y LX LY CY gh d gs ds gc dc bm bs bc
     nothing ! $ move ! (1 ∷ 0 ∷ []) $ fjoin ! $
     nothing ! $ move ! (6 ∷ 0 ∷ []) $ join ! $ move ! (5 ∷ 0 ∷ []) $ join ! $ move ! (3 ∷ 0 ∷ []) $ join ! $ join ! $
     nothing ! $ use0 𝓛 (raw (fact 𝓤 (κ₂ ⊑ Y.lives))) (fact_i 𝓤 (κ₂ ⊑ Y.lives) (emp 𝓤) inY) $ join ! $ move ! (1 ∷ 0 ∷ []) $ use2 𝓛 (raw (G₂.pre z₂)) (id⊢ 𝓤 _) $
-    -- [what the call asks; what is kept of the loan; the end of β; κ₁; what follows; what is kept; the end of α; the value]
+    -- [what the call asks; what is kept of the loan; the end of β; κ₁; what follows; what is kept; the value]
     calls_at ! fm G₂ (stepping.met 𝓤 𝓛 𝓜 𝓡 (compiled.calls-image_tiles::bands::BandsMut::next 𝓡.env wired) Y LY) z₂ (and_then ! (get ! refl) (no_more !)) (λ v₂.
     let Slice : RattleType = MutSlice (named 0) α R in
     let Image : RattleType = img_row (named 0) α R in
@@ -128,16 +124,16 @@ cover_band_spec 𝓤 𝓛 𝓜 𝓡 wired X Y LX LY CY gh d gs ds gc dc bm bs bc
     ⊛ (‵ (hands_on R r m ws.0) ⊛ raw (fact 𝓤 (YieldsFirstBy mut_layout bands_left r m ws.0)) ⊛ raw (fact 𝓤 (Moves r m ws.0))))))) (id⊢ 𝓤 _) $
     await ! tt $ pick ! (λ m. split ! $ split ! $ move ! (2 ∷ []) $ pick ! (λ ws₂. let t : Sort = ws₂.0 in split ! $ fsplit ! $ fsplit ! $ move ! (3 ∷ []) $ split3 ! $ move ! (1 ∷ []) $
     heard ! (YieldsFirstBy mut_layout bands_left r m t) (λ steps. move ! (1 ∷ []) $ heard ! (Moves r m t) (λ moved.
-    -- [what follows the row; how the iterator ends; its borrow; nothing; the tokens; the row; what is kept of the loan; the end of β; κ₁; what follows; what is kept; the end of α; the value]
+    -- [what follows the row; how the iterator ends; its borrow; nothing; the tokens; the row; what is kept of the loan; the end of β; κ₁; what follows; what is kept; the value]
     move ! (4 ∷ []) $ split3 ! $ move ! (2 ∷ []) $ split ! $ move ! (1 ∷ []) $ drop ! $
     move ! (1 ∷ 9 ∷ []) $ use2 𝓛 (later (‵ (fdead β) ⊛ ‵ (flft α (Share.left qα)))) (apply∗ 𝓤 (𝓛.A.lft β qβ) _) $ await ! tt $ split ! $
     move ! (1 ∷ 3 ∷ []) $ use2 𝓛 (‵ (flft α qα)) (𝓛.lfts.lft_join α qα) $
-    -- [α; β is over; κ₂; what follows the row; how the iterator ends; its borrow; nothing; the row; what is kept of the loan; κ₁; what follows; what is kept; the end of α; the value]
+    -- [α; β is over; κ₂; what follows the row; how the iterator ends; its borrow; nothing; the row; what is kept of the loan; κ₁; what follows; what is kept; the value]
     move ! (1 ∷ 8 ∷ 4 ∷ []) $ use3 𝓛 (later (‵ (part_at Rows full_share t (l 4) 0))) (ref_back 𝓛 Rows β ε t (l 4) 0) $ await ! tt $
     use1 𝓛 (some (λ (v₃ : Val). ‵ (fat full_share spelled (l 4) 0 v₃) ⊛ ‵ (Rows.own_val t (v₃ ∷ [])))) (part_out_at 𝓛 Rows refl full_share t (l 4) 0 spelled refl) $ pick ! (λ v₃. split ! $
     move ! (1 ∷ []) $ peeks ! Rows (Is Rows) (shows 𝓛 Rows) t (v₃ ∷ []) (λ is₃. let t₃ = told t (v₃ ∷ []) is₃ in
     rewrite ! 0 (λ (us : List Val). ‵ (Rows.own_val t us)) t₃ refl $ move ! (1 ∷ []) $ rewrite ! 0 (λ (us : Val). ‵ (fat full_share spelled (l 4) 0 us)) (ap only t₃) refl $ give_at ! 4 $
-    -- [the iterator; α; κ₂; what follows the row; its borrow; nothing; the row; κ₁; what follows; what is kept; the end of α; the value]
+    -- [the iterator; α; κ₂; what follows the row; its borrow; nothing; the row; κ₁; what follows; what is kept; the value]
     move ! (4 ∷ 5 ∷ []) $ drop ! $ drop ! $
     let A₀ : RattleType = Array R 0 in
     let Res : GName → List Y.Denot → Item 𝓤 = λ ν ys. ‵ (fres ν (A₀.coded.code ys)) in
@@ -145,19 +141,15 @@ cover_band_spec 𝓤 𝓛 𝓜 𝓡 wired X Y LX LY CY gh d gs ds gc dc bm bs bc
     qed 𝓛 (‵ (Rows.own_val t (word t ∷ [])) ∷ []) ∵ use1 𝓛 (‵ ((MutSlice named_α.mir α (param 1 Y)).own_val t.cells (lent_val t.cells ∷ []))) (cells_out named_α (param 1 Y) LY₁ 𝓛 t (word t ∷ [])) $
     by ! (given_up 𝓛 (param 1 Y) named_α.mir α t.cells (lent_val t.cells ∷ [])) in
     use1 𝓛 (Res (name_of t) (cells_left t)) given_back $ move ! (4 ∷ []) $
-    -- [the row; how the iterator's cells end; α; κ₂; what follows the row; κ₁; what follows; what is kept; the end of α; the value]
+    -- [the row; how the iterator's cells end; α; κ₂; what follows the row; κ₁; what follows; what is kept; the value]
     let E = env fn.locals l in
     let rest : Body = after 6 fn.body in
     let next = any_q (after_seq 𝓤 H (Wp 𝓤 H 𝓣.C 𝓣.Λ E rest (at_return 𝓤 H E Post)) (at_return 𝓤 H E Post)) in
-    let tail : (zs : List Y.Denot) → HasFirstBand old bh value (record old { cells = zs }) → Sq 𝓛 (Res (name_of r) zs ∷ ‵ (flft α qα) ∷ ‵ (flft κ₂ q₂) ∷ ‵ (flft κ₁ q₁) ∷ ‵ (follows Whole (Array (param 1 Y) 0) δ (name_of r) F) ∷ ‵ (LentAgain Whole κ₀ α (Share.right q₀) γ b o δ x.now)
-    ∷ raw (Ends 𝓛 κ₀ (Share.left q₀) p.0 p.1) ∷ holding 𝓛 E ((1, vptr b o) ∷ (2, vint w64 bh) ∷ (3, v) ∷ [])) (runs 𝓣.C 𝓣.Λ E rest (at_ret E Post)) = λ zs has.
-    move ! (1 ∷ 6 ∷ []) $ use2 𝓛 (later (‵ (fdead α) ⊛ ‵ (flft κ₀ (Share.left q₀)))) (apply∗ 𝓤 (𝓛.A.lft α qα) _) $ await ! tt $ split ! $
-    -- [α is over; κ₀; how the cells end; κ₂; κ₁; what follows; what is kept]
-    move ! (5 ∷ 2 ∷ []) $ use2 𝓛 (‵ (fres δ (Whole.coded.code (F zs)))) (followed 𝓛 Whole A₀ F δ (name_of r) zs) $
-    -- [how the image ends; α is over; κ₀; κ₂; κ₁; what is kept]
-    move ! (1 ∷ 5 ∷ 0 ∷ []) $ use3 𝓛 (later (‵ ((MutRef (named 0) κ₀ Whole).own_val (record { ref_ptr = (b, o); ghost_name = γ; now = F zs }) (vptr b o ∷ [])) ⊛ ‵ (flft κ₀ (Share.right q₀))))
-    (comes_back 𝓛 Whole (named 0) κ₀ α (Share.right q₀) γ b o δ x.now (F zs)) $ await ! tt $ split ! $
-    move ! (2 ∷ 1 ∷ []) $ use2 𝓛 (‵ (flft κ₀ q₀)) (𝓛.lfts.lft_join κ₀ q₀) $
+    let tail : (zs : List Y.Denot) → HasFirstBand old bh value (record old { cells = zs }) → Sq 𝓛 (Res (name_of r) zs ∷ ‵ (flft α qα) ∷ ‵ (flft κ₂ q₂) ∷ ‵ (flft κ₁ q₁) ∷ ‵ (follows Whole (Array (param 1 Y) 0) δ (name_of r) F) ∷ raw (Kept 𝓛 Whole κ₀ q₀ b o γ x.now d₀)
+    ∷ holding 𝓛 E ((1, vptr b o) ∷ (2, vint w64 bh) ∷ (3, v) ∷ [])) (runs 𝓣.C 𝓣.Λ E rest (at_ret E Post)) = λ zs has.
+    move ! (4 ∷ 0 ∷ []) $ use2 𝓛 (‵ (fres δ (Whole.coded.code (F zs)))) (followed 𝓛 Whole A₀ F δ (name_of r) zs) $
+    -- [how the image ends; α; κ₂; κ₁; what is kept]
+    move ! (1 ∷ 4 ∷ 0 ∷ []) $ use3 𝓛 (later (‵ (flft κ₀ q₀) ⊛ ‵ (lent Whole b o κ₀ γ (F zs)))) (ends 𝓛 Whole κ₀ q₀ b o γ x.now d₀ (F zs)) $ await ! tt $ split ! $
     sets ! (of_opd ! (unit_lit !)) refl (tt, tt) $ returns ! (look_at ! 0 refl) $ free_all ! refl $
     -- [κ₀; the image; κ₂; κ₁]
     let Is_filled : Type 0 = HasFirstBand old bh value (layout_by gs.cells (F zs)) in
@@ -176,10 +168,10 @@ cover_band_spec 𝓤 𝓛 𝓜 𝓡 wired X Y LX LY CY gh d gs ds gc dc bm bs bc
     lands_as ! (ap only (none_told Image (v₂ ∷ []) is)) refl (tt, (record { fits = lit< tt }, tt)) $ drop ! $
     first ! $ switches_on ! (get_tag ! (vrt ! refl (fld ! refl (stop !))) (all_of !)) $ exec ! 𝓣.C 𝓣.Λ E skip next $ skips ! $
     exec ! 𝓣.C 𝓣.Λ E rest (at_ret E Post) $ forget_but ! E (1 ∷ 2 ∷ 3 ∷ []) refl $
-    -- [how the iterator's cells end; α; κ₂; what follows the row; κ₁; what follows; what is kept; the end of α; the value]
+    -- [how the iterator's cells end; α; κ₂; what follows the row; κ₁; what follows; what is kept; the value]
     rewrite ! 0 (λ (s : Sort). Res (name_of s) (cells_left t)) at_end refl $
     rewrite ! 0 (Res (name_of r)) (ap (λ (q : Sort). cells_left q) at_end ∙ cells) refl $
-    move ! (3 ∷ 8 ∷ []) $ drop ! $ drop ! $ tail old.cells (no_band old bh value high narrow fits none_left)))
+    move ! (3 ∷ 7 ∷ []) $ drop ! $ drop ! $ tail old.cells (no_band old bh value high narrow fits none_left)))
     (λ (found : (y : Out) × (m ≡ Some y)). let y : Out = found.0 in let e : m ≡ Some y = found.1 in
     let ν : GName = y.buf.ghost_name in let inner : Shape = shape_of y in let sv : Val = slice_val y.buf.ref_ptr (length y.buf.now) in
     let yields : YieldsFirstBy mut_layout bands_left r (Some y) t = subst (λ (m' : Given). YieldsFirstBy mut_layout bands_left r m' t) e steps in
@@ -190,7 +182,7 @@ cover_band_spec 𝓤 𝓛 𝓜 𝓡 wired X Y LX LY CY gh d gs ds gc dc bm bs bc
     let band_is_ok : WT (band_val y) = band_ok (named 0) α R y _ is.1.1.1.1.0 in
     lands_as ! (ap only told_y) refl (tt, (record { fits = lit< tt }, (band_is_ok, tt))) $
     use1 𝓛 (‵ (Image.own_val y (band_val y ∷ []))) (some_image (named 0) α R y 𝓛 v₂) $
-    -- [the band; how the iterator's cells end; α; κ₂; what follows the band; κ₁; what follows; what is kept; the end of α; the value]
+    -- [the band; how the iterator's cells end; α; κ₂; what follows the band; κ₁; what follows; what is kept; the value]
     first ! $ switches_on ! (get_tag ! (vrt ! refl (fld ! refl (stop !))) (all_of !)) $ exec ! 𝓣.C 𝓣.Λ E (first_arm (after 5 fn.body)) next $
     sets ! (of_opd ! (get_in ! (vrt ! refl (fld ! refl (stop !))) (in_variant ! 1 0 refl refl (all_of !)))) refl (tt, band_is_ok) $
     sets ! (of_opd ! (get ! refl)) refl (tt, band_is_ok) $
@@ -200,13 +192,13 @@ cover_band_spec 𝓤 𝓛 𝓜 𝓡 wired X Y LX LY CY gh d gs ds gc dc bm bs bc
     let z₃ : G₃.Ghost = (((α, tt), (qα, tt), tt, (y, tt), (band_val y ∷ [], tt)), tt) in
     nothing ! $ move ! (1 ∷ 0 ∷ []) $ join ! $ nothing ! $ move ! (3 ∷ 0 ∷ []) $ join ! $ join ! $
     nothing ! $ use0 𝓛 (raw (fact 𝓤 (α ⊑ Held.lives))) (fact_i 𝓤 (α ⊑ Held.lives) (emp 𝓤) lives) $ join ! $ move ! (1 ∷ 0 ∷ []) $ use2 𝓛 (raw (G₃.pre z₃)) (id⊢ 𝓤 _) $
-    -- [what the call asks; how the iterator's cells end; κ₂; what follows the band; κ₁; what follows; what is kept; the end of α; the value]
+    -- [what the call asks; how the iterator's cells end; κ₂; what follows the band; κ₁; what follows; what is kept; the value]
     calls_at ! fm G₃ (apart.met 𝓤 𝓛 𝓜 𝓡 (compiled.calls-imgref::img::Img::into_parts 𝓡.env wired) Held (lent_cells_laws α Y LY)) z₃ (and_then ! (get ! refl) (no_more !)) (λ v₃.
     let Parted : Type 0 = MutBor (List Y.Denot) × Shape in
     use1 𝓛 (later (some (λ (p₃ : Parted). ((‵ (flft α qα) ⊛ ‵ ftrue) ⊛ ‵ (Two.own_val p₃ (v₃ ∷ []))) ⊛ some (λ (us₃ : (Unit {0} × Unit {0}) × Unit {0}). ‵ (lasts (parts.ended Held) z₃.0.0 z₃.0.3 us₃)
     ⊛ raw (fact 𝓤 (p₃.0 ≡ y.buf)) ⊛ raw (fact 𝓤 (p₃.1 ≡ inner)))))) (id⊢ 𝓤 _) $
     await ! tt $ pick ! (λ p₃. split ! $ split ! $ move ! (2 ∷ []) $ pick ! (λ us₃. split ! $ drop ! $ split ! $ heard ! (p₃.0 ≡ y.buf) (λ e₁. heard ! (p₃.1 ≡ inner) (λ e₂.
-    -- [α; the parts; how the iterator's cells end; κ₂; what follows the band; κ₁; what follows; what is kept; the end of α; the value]
+    -- [α; the parts; how the iterator's cells end; κ₂; what follows the band; κ₁; what follows; what is kept; the value]
     let both : Parted = (y.buf, inner) in let known : p₃ ≡ both = λ k. (e₁ k, e₂ k) in
     split ! $ move ! (1 ∷ []) $ drop ! $ move ! (1 ∷ []) $ rewrite ! 0 (λ (q : Parted). ‵ (Two.own_val q (v₃ ∷ []))) known refl $
     peeks ! Two (Is Two) (shows 𝓛 Two) both (v₃ ∷ []) (λ is₃'. let pt = img_parts_told α R both (v₃ ∷ []) is₃' in
@@ -214,7 +206,7 @@ cover_band_spec 𝓤 𝓛 𝓜 𝓡 wired X Y LX LY CY gh d gs ds gc dc bm bs bc
     lands_as ! (ap only (pt.0)) refl (tt, (slice_ok, (shape_ok, tt))) $
     fpick ! (λ vs₃. fsplit ! $ drop ! $ fsplit ! $ move ! (1 ∷ []) $ drop ! $
     peeks ! Slice (Is Slice) (shows 𝓛 Slice) y.buf (vs₃.0) (λ isS. rewrite ! 0 (λ (vs : List Val). ‵ (Slice.own_val y.buf vs)) (isS.0.0) refl $
-    -- [the band's cells; α; how the iterator's cells end; κ₂; what follows the band; κ₁; what follows; what is kept; the end of α; the value]
+    -- [the band's cells; α; how the iterator's cells end; κ₂; what follows the band; κ₁; what follows; what is kept; the value]
     sets ! (of_opd ! (get_in ! (fld ! refl (stop !)) (sub ! 0 refl (all_of !)))) refl (tt, slice_ok) $
     sets ! (of_opd ! (get_in ! (fld ! refl (stop !)) (sub ! 1 refl (all_of !)))) refl (tt, shape_ok) $
     sets ! (addr ! (from ! (fld ! refl (hop ! (look_in_at ! 6 (sub ! 0 refl (all_of !))) (stop !))))) refl (tt, tt) $
@@ -222,10 +214,10 @@ cover_band_spec 𝓤 𝓛 𝓜 𝓡 wired X Y LX LY CY gh d gs ds gc dc bm bs bc
     let Fit_y : Type 0 = Fits (mut_layout y) in let fit_y : Fit_y = first_fits old bh value high narrow fits r t cells spacing lists y yields moves in
     let G₄ = triple_of 𝓛 (W.signature Y) (W.spec Y gc dc 𝓛 𝓜.mem 𝓡.returns) in
     let z₄ : G₄.Ghost = (((α, (κ₂, tt)), (qα, (q₂, tt)), (in₂, tt), (y.buf, (inner, (value, tt))), (sv ∷ [], (shape_val inner ∷ [], (v ∷ [], tt)))), tt) in
-    nothing ! $ move ! (10 ∷ 0 ∷ []) $ fjoin ! $ use0 𝓛 (‵ (shape.the_row.own_val inner (shape_val inner ∷ []))) (shape_made 𝓛 inner pt.2 pt.3 pt.4) $ fjoin ! $ move ! (1 ∷ 0 ∷ []) $ fjoin ! $
+    nothing ! $ move ! (9 ∷ 0 ∷ []) $ fjoin ! $ use0 𝓛 (‵ (shape.the_row.own_val inner (shape_val inner ∷ []))) (shape_made 𝓛 inner pt.2 pt.3 pt.4) $ fjoin ! $ move ! (1 ∷ 0 ∷ []) $ fjoin ! $
     nothing ! $ move ! (4 ∷ 0 ∷ []) $ join ! $ move ! (2 ∷ 0 ∷ []) $ join ! $ join ! $
     use0 𝓛 (raw (fact 𝓤 Fit_y)) (fact_i 𝓤 Fit_y (emp 𝓤) fit_y) $ use0 𝓛 (raw (fact 𝓤 (κ₂ ⊑ Y.lives))) (fact_i 𝓤 (κ₂ ⊑ Y.lives) (emp 𝓤) inY) $ join ! $ move ! (1 ∷ 0 ∷ []) $ use2 𝓛 (raw (G₄.pre z₄)) (id⊢ 𝓤 _) $
-    -- [what the call asks; how the iterator's cells end; what follows the band; κ₁; what follows; what is kept; the end of α]
+    -- [what the call asks; how the iterator's cells end; what follows the band; κ₁; what follows; what is kept]
     calls_at_last ! fm G₄ (writing.met 𝓤 𝓛 𝓜 𝓡 (compiled.calls-part_callers::fills::fill 𝓡.env wired) Y LY CY gc dc bc) z₄ (and_then ! (get ! refl) (and_then ! (get ! refl) (and_then ! (get ! refl) (no_more !)))) (λ v₄.
     let Left : List Y.Denot → Layout Y.Denot = λ ys. record (mut_layout y) { cells = ys } in
     let One : List Y.Denot → Type 0 = λ ys. grid_of (Left ys) ≡ uniform y.width y.height value in
@@ -235,11 +227,11 @@ cover_band_spec 𝓤 𝓛 𝓜 𝓡 wired X Y LX LY CY gh d gs ds gc dc bm bs bc
     lands_last ! refl (subst (λ (v' : Val). T (has_ty ty_unit v') × WT v') (sym (ap only is_unit)) (tt, tt)) $
     exec ! 𝓣.C 𝓣.Λ E rest (at_ret E Post) $
     move ! (1 ∷ []) $ pick ! (λ ws₄. split ! $ move ! (1 ∷ []) $ split ! $ heard ! (One ws₄.0) (λ one. heard ! (Stays_out ws₄.0) (λ stays. fsplit ! $ fsplit ! $ fsplit ! $
-    -- [how the band's cells end; their number; its borrow; the rest; the tokens; how the iterator's cells end; what follows the band; κ₁; what follows; what is kept; the end of α]
+    -- [how the band's cells end; their number; its borrow; the rest; the tokens; how the iterator's cells end; what follows the band; κ₁; what follows; what is kept]
     use1 𝓛 (Res ν ws₄.0) (finally-res 𝓛 R ν ws₄.0) $
     move ! (0 ∷ 6 ∷ []) $ use2 𝓛 (‵ (ends_as A₀ A₀ (name_of r) (name_of t) (put_back r ws₄.0))) (ends_beside 𝓛 A₀ A₀ A₀ (name_of r) ν (name_of t) (put_back r) ws₄.0) $
     move ! (0 ∷ 5 ∷ []) $ use2 𝓛 (Res (name_of r) (put_back r ws₄.0 (cells_left t))) (ends_said 𝓛 A₀ A₀ (name_of r) (name_of t) (put_back r ws₄.0) (cells_left t)) $
-    -- [how the cells end; the number; the borrow; the rest; the tokens; κ₁; what follows; what is kept; the end of α]
+    -- [how the cells end; the number; the borrow; the rest; the tokens; κ₁; what follows; what is kept]
     move ! (1 ∷ 2 ∷ 3 ∷ []) $ drop ! $ drop ! $ drop ! $ move ! (1 ∷ []) $ split3 ! $ move ! (2 ∷ []) $ drop ! $ forget_but ! E (1 ∷ 2 ∷ 3 ∷ []) refl $ move ! (2 ∷ 0 ∷ 1 ∷ []) $
     tail (put_back r ws₄.0 (cells_left t)) (first_band old bh value high narrow fits r t cells spacing lists y yields moves ws₄.0 stays one)))))))))))))))))
-    (none_or_some m)))))))))))))))))))))))))
+    (none_or_some m))))))))))))))))))))))))

@@ -1,13 +1,12 @@
 -- `next` takes the iterator out of its place, parts a band off and puts the others back: its MIR, proved by hand. Assumes `Logic`.
-use base.Share
 use Rattle.std.proofs.Common.{⊎_elim, ◌≡◌, refl, sym, ap, ℕ, List, [], ◌∷◌, lit<, MutBor, Option, Some, None}
 use Rattle.std.proofs.alloc.Shapes.{after}
 use Rattle.std.specs.Iterator.{YieldsFirstBy}
 use Rattle.std.specs.contracts.option.Option as opt
-use Rattle.borrow_laws.proofs.Walking.{Lft, GName, Share, ftrue, fdead, flft, full_share, SProp, emp, id⊢, apply∗, ◌⊑◌, ⊑_trans, meet_⊑_right, fact, fact_i, tables, inst_fn, Args, Fn, named, Val, WT, vptr, of_list, alloc_all, pass_all, free_all, look_at, get, get_in, through, sets, lands_as, env, holding, forget_but, Sq, ‵, ◌⊛◌, raw, later, some, at_ret, runs, ◌$◌, ◌∵◌, !, qed, by, move, keep, drop, split, split3, join, fsplit, fsplit3, fjoin, fjoin3, feq_i, rewrite, use0, use1, use2, use3, await, pick, live, whole, sub, stop, fld, addr, of_opd, and_then, no_more, assigns, store_raw, returns, enter, shows, Is, Typed, LentAgain, lends_again, comes_back, cell_at, param, param_laws, RattleType, owns, MutRef, mut_vals, mut_Tells, plain, named_lft, types_at, nothing, heard, peeks, facts, opens, closes, only, Tuple, calls_at, lasts, triple_of, framed, Stays, stay_ref, walk_of, Goes-ref, proved, leaves}
+use Rattle.borrow_laws.proofs.Walking.{Lft, GName, Share, ftrue, flft, full_share, SProp, emp, id⊢, ◌⊑◌, ⊑_trans, meet_⊑_right, fact, fact_i, tables, inst_fn, Args, Fn, named, Val, WT, vptr, of_list, alloc_all, pass_all, free_all, look_at, get, get_in, through, sets, lands_as, env, holding, forget_but, Sq, ‵, ◌⊛◌, raw, later, some, at_ret, runs, ◌$◌, ◌∵◌, !, qed, by, move, keep, drop, split, split3, join, fsplit, fsplit3, fjoin, fjoin3, feq_i, rewrite, use0, use1, use2, use3, await, pick, live, whole, sub, stop, fld, addr, of_opd, and_then, no_more, assigns, store_raw, returns, enter, shows, Is, Typed, cell_at, param, param_laws, RattleType, owns, mut_vals, mut_Tells, plain, named_lft, types_at, nothing, heard, peeks, facts, opens, closes, only, Tuple, calls_at, lasts, triple_of, framed, Stays, stay_ref, walk_of, Goes-ref, proved, leaves}
 use Rattle.borrow_laws.proofs.Bodies.{of_one}
 use Rattle.borrow_laws.proofs.Declared.{typed}
-use Rattle.borrow_laws.proofs.Lifetimes.{Ends, begins}
+use Rattle.borrow_laws.proofs.Lifetimes.{Loan, Kept, lent, lends, ends}
 use Rattle.borrow_laws.proofs.Options.{none_or_some, none_told}
 use Rattle.borrow_laws.proofs.Pairs.{pair_told, pair_out}
 use Rattle.image_tiles.specs.Bands.{bands_left, hands_on, Moves}
@@ -51,30 +50,23 @@ next_spec 𝓤 𝓛 𝓜 𝓡 wired T' L =
     -- [self; the tokens]
     enter ! 𝓣.C 𝓣.Λ fn (vptr b o ∷ []) Post $ alloc_all ! (λ l. pass_all ! refl ((tt, tt), tt) $
     sets ! (addr ! (through ! refl (stop !))) refl (tt, tt) $
-    move ! (1 ∷ []) $ split3 ! $ move ! (2 ∷ []) $ split ! $ move ! (1 ∷ []) $ drop ! $ move ! (1 ∷ []) $
-    use1 𝓛 (‵ (flft κ₀ (Share.left q₀)) ⊛ ‵ (flft κ₀ (Share.right q₀))) (𝓛.lfts.lft_split κ₀ q₀) $ split ! $
-    use1 𝓛 (later (some (λ (p : ℕ × Share). ‵ (flft (p.0 ∷ κ₀) p.1) ⊛ raw (Ends 𝓛 κ₀ (Share.left q₀) p.0 p.1)))) (begins 𝓛 κ₀ (Share.left q₀)) $ await ! tt $ pick ! (λ p. split ! $
-    let α : Lft = p.0 ∷ κ₀ in let qα : Share = p.1 in let below : α ⊑ κ₁ = ⊑_trans α κ₀ κ₁ (meet_⊑_right (p.0 ∷ []) κ₀) bounds.0 in let above : κ₁ ⊑ κ₂ = bounds.1.1.0 in
-    -- [α; its end; κ₀; κ₂; κ₁; self]
-    move ! (5 ∷ 2 ∷ []) $ use2 𝓛 (later (some (λ (δ : GName). ‵ ((MutRef (named 0) α It).own_val (record { ref_ptr = (b, o); ghost_name = δ; now = h }) (vptr b o ∷ [])) ⊛ ‵ (LentAgain It κ₀ α (Share.right q₀) γ b o δ h))))
-    (lends_again 𝓛 It (named 0) κ₀ α (Share.right q₀) γ b o (named 0) h) $ await ! tt $ pick ! (λ δ. split ! $
-    -- [the borrow; what is kept; α; its end; κ₂; κ₁]
+    move ! (1 ∷ []) $ split3 ! $ move ! (2 ∷ []) $ split ! $ move ! (1 ∷ []) $ drop ! $ move ! (1 ∷ 3 ∷ []) $
+    use2 𝓛 (later (some (λ (d : Loan). ‵ (lent It b o (d.0 ∷ κ₀) d.2 h) ⊛ ‵ (flft (d.0 ∷ κ₀) d.1) ⊛ raw (Kept 𝓛 It κ₀ q₀ b o γ h d)))) (lends 𝓛 It κ₀ q₀ b o γ h) $ await ! tt $ pick ! (λ d. split3 ! $
+    let α : Lft = d.0 ∷ κ₀ in let qα : Share = d.1 in let δ : GName = d.2 in let below : α ⊑ κ₁ = ⊑_trans α κ₀ κ₁ (meet_⊑_right (d.0 ∷ []) κ₀) bounds.0 in let above : κ₁ ⊑ κ₂ = bounds.1.1.0 in
+    -- [the borrow; α; what is kept; κ₂; κ₁]
     let G₁ = triple_of 𝓛 (K.signature T') (K.spec T' 𝓛 𝓜.mem 𝓡.returns) in
     let x₁ : MutBor Sort = record { ref_ptr = (b, o); ghost_name = δ; now = h } in
     let z₁ : G₁.Ghost = (((α, (κ₁, (κ₂, tt))), (qα, (q₁, (q₂, tt))), (below, (⊑_trans α κ₁ κ₂ below above, (above, tt))), (x₁, tt), (mut_vals x₁, tt)), tt) in
-    nothing ! $ move ! (1 ∷ 0 ∷ []) $ join ! $ nothing ! $ move ! (5 ∷ 0 ∷ []) $ join ! $ move ! (5 ∷ 0 ∷ []) $ join ! $ move ! (3 ∷ 0 ∷ []) $ join ! $ join ! $
+    nothing ! $ move ! (1 ∷ 0 ∷ []) $ join ! $ nothing ! $ move ! (4 ∷ 0 ∷ []) $ join ! $ move ! (4 ∷ 0 ∷ []) $ join ! $ move ! (2 ∷ 0 ∷ []) $ join ! $ join ! $
     nothing ! $ use0 𝓛 (raw (fact 𝓤 (κ₂ ⊑ T'.lives))) (fact_i 𝓤 (κ₂ ⊑ T'.lives) (emp 𝓤) le) $ join ! $ move ! (1 ∷ 0 ∷ []) $ use2 𝓛 (raw (G₁.pre z₁)) (id⊢ 𝓤 _) $
-    -- [what the call asks; what is kept; the end of α]
+    -- [what the call asks; what is kept]
     calls_at ! fm G₁ (taking.met 𝓤 𝓛 𝓜 𝓡 (compiled.calls-image_tiles::bands::BandsMut::take 𝓡.env wired) T' L) z₁ (and_then ! (get ! refl) (no_more !)) (λ v₁.
     use1 𝓛 (later (some (λ (r : Sort). ((‵ (flft α qα) ⊛ ‵ (flft κ₁ q₁) ⊛ ‵ (flft κ₂ q₂) ⊛ ‵ ftrue) ⊛ ‵ (It.own_val r (v₁ ∷ []))) ⊛ some (λ (ws : Sort × Unit {0}). ‵ (lasts (K.ended T') z₁.0.0 z₁.0.3 ws) ⊛ raw (fact 𝓤 (r ≡ h)))))) (id⊢ 𝓤 _) $
     await ! tt $ pick ! (λ r. split ! $ split ! $ move ! (2 ∷ []) $ pick ! (λ ws₁. let n : Sort = ws₁.0 in split ! $ fsplit ! $ fsplit ! $ move ! (3 ∷ []) $ heard ! (r ≡ h) (λ same.
-    -- [how the place ends; its borrow; nothing; the tokens; the bands; what is kept; the end of α]
+    -- [how the place ends; its borrow; nothing; the tokens; the bands; what is kept]
     move ! (3 ∷ []) $ split3 ! $ move ! (2 ∷ []) $ split ! $ move ! (1 ∷ []) $ drop ! $
-    move ! (1 ∷ 8 ∷ []) $ use2 𝓛 (later (‵ (fdead α) ⊛ ‵ (flft κ₀ (Share.left q₀)))) (apply∗ 𝓤 (𝓛.A.lft α qα) _) $ await ! tt $ split ! $
-    -- [α is over; κ₀; κ₂; κ₁; how the place ends; its borrow; nothing; the bands; what is kept]
-    move ! (0 ∷ 8 ∷ 4 ∷ []) $ use3 𝓛 (later (‵ ((MutRef (named 0) κ₀ It).own_val (record { ref_ptr = (b, o); ghost_name = γ; now = n }) (vptr b o ∷ [])) ⊛ ‵ (flft κ₀ (Share.right q₀))))
-    (comes_back 𝓛 It (named 0) κ₀ α (Share.right q₀) γ b o δ h n) $ await ! tt $ split ! $
-    move ! (2 ∷ 1 ∷ []) $ use2 𝓛 (‵ (flft κ₀ q₀)) (𝓛.lfts.lft_join κ₀ q₀) $ move ! (4 ∷ 5 ∷ []) $ drop ! $ drop ! $
+    -- [κ₂; α; κ₁; how the place ends; its borrow; nothing; the bands; what is kept]
+    move ! (1 ∷ 7 ∷ 3 ∷ []) $ use3 𝓛 (later (‵ (flft κ₀ q₀) ⊛ ‵ (lent It b o κ₀ γ n))) (ends 𝓛 It κ₀ q₀ b o γ h d n) $ await ! tt $ split ! $ move ! (4 ∷ 5 ∷ []) $ drop ! $ drop ! $
     -- [κ₀; self; κ₂; κ₁; the bands]
     move ! (4 ∷ []) $ rewrite ! 0 (λ (s : Sort). ‵ (It.own_val s (v₁ ∷ []))) same refl $
     peeks ! It (Is It) (shows 𝓛 It) h (v₁ ∷ []) (λ is₁. let t₁ = told h (v₁ ∷ []) is₁ in
@@ -100,7 +92,7 @@ next_spec 𝓤 𝓛 𝓜 𝓡 wired T' L =
     let E = env fn.locals l in
     -- the iterator goes back to its place, and the band is handed out
     let tail : (v : Val) → Typed Row.mir (v ∷ []) → Typed It.mir (word t ∷ []) → Sq 𝓛 (‵ (Row.own_val m (v ∷ [])) ∷ ‵ (It.own_val t (word t ∷ [])) ∷ ‵ (hands_on R h m t) ∷ (‵ (flft κ₁ q₁) ⊛ ‵ (flft κ₂ q₂) ⊛ ‵ ftrue)
-    ∷ ‵ (flft κ₀ q₀) ∷ ‵ ((MutRef (named 0) κ₀ It).own_val (record { ref_ptr = (b, o); ghost_name = γ; now = n }) (vptr b o ∷ [])) ∷ holding 𝓛 E ((1, vptr b o) ∷ (2, v) ∷ (3, word t) ∷ [])) (runs 𝓣.C 𝓣.Λ E (after 5 fn.body) (at_ret E Post)) = λ v band_is_ok t_ok.
+    ∷ ‵ (flft κ₀ q₀) ∷ ‵ (lent It b o κ₀ γ n) ∷ holding 𝓛 E ((1, vptr b o) ∷ (2, v) ∷ (3, word t) ∷ [])) (runs 𝓣.C 𝓣.Λ E (after 5 fn.body) (at_ret E Post)) = λ v band_is_ok t_ok.
     sets ! (of_opd ! (get ! refl)) refl t_ok.0 $
     move ! (5 ∷ 4 ∷ []) $ fsplit3 ! $ drop ! $ move ! (0 ∷ 1 ∷ 2 ∷ []) $ opens ! tt It {h = n} b o (λ us. move ! (1 ∷ []) $ facts ! It (Is It) (shows 𝓛 It) n us (λ is.
     rewrite ! 0 (λ (vs : List Val). ‵ (cell_at full_share It.mir vs b o)) (told n us is) refl $
@@ -136,4 +128,4 @@ next_spec 𝓤 𝓛 𝓜 𝓡 wired T' L =
     use1 𝓛 (‵ (Row.own_val (Some w) (some_band ∷ [])) ⊛ ‵ (It.own_val t (word t ∷ []))) (pair_out Row It (Some w) t some_band (word t) (band_told (named 1) κ₁ R w) (told t) (v₂ ∷ []) 𝓛) $ split ! $
     rewrite ! 0 (λ (m' : Given). ‵ (Row.own_val m' (some_band ∷ []))) (sym is_some) refl $
     forget_but ! E (1 ∷ 2 ∷ 3 ∷ []) refl $ tail some_band ((tt, (record { fits = lit< tt }, (band_is_ok, tt))), tt) (fit_t, tt)))
-    (none_or_some m))))))))))))))))
+    (none_or_some m)))))))))))))))
