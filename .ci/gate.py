@@ -28,7 +28,7 @@ from checking import ROOT, crates, says
 # The checks. Those in `built` run what `rt ci` built, and those in `proofs` go over the proofs that the planted bugs keep.
 CHECKS = ROOT / ".ci/checks"
 # What it takes from nothing on four processors, in minutes.
-MINUTES, QUICK_MINUTES = 40, 15
+MINUTES, QUICK_MINUTES = 60, 15
 COUNT = re.compile(r"(\d+) passed, (\d+) failed")
 # What is shown of a long part while it goes on: each proof that has ended, and what failed.
 ENDED = re.compile(r"== (\w+(?:: its tests)?)$")
