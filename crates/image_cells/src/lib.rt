@@ -18,5 +18,5 @@ pub use containers::AsSlice;
 pub use equality::are_equal;
 pub use hashing::hash_pixels;
 pub use pairs::agree_at_places;
-pub use rows::{row, row_start};
+pub use rows::row;
 pub use windows::{padded_part, padded_stretch_mut};

@@ -19,10 +19,7 @@ pub fn padded_part<T>(cells: &[T], shape: Shape, window: Window) -> (&[T], Shape
     ensures view { shaped_grid result.0.now result.1 ≡ window_view (shaped_grid cells.now shape) (as_window window) }
 {
     let part = shape.stretch(true, cells.len(), window);
-    (
-        &cells[part.start..part.start + part.len],
-        shape.window(window),
-    )
+    (&cells[part.range()], shape.window(window))
 }
 
 /// The cells as they were lent, and the stretch and the shape of a window of them: whole strides

@@ -1,5 +1,5 @@
 -- A row as a window of one line, and what an image shows once other pixels, as many, are in its place.
-use Rattle.std.proofs.Common.{◌≡◌, ℕ, ◌+◌, ◌*◌, ◌<◌, ◌≤◌, inl, inr, List, length, replicate, Some, refl, sym, ap, ◌∙◌, subst, arith}
+use Rattle.std.proofs.Common.{◌≡◌, ℕ, ◌+◌, ◌*◌, ◌<◌, ◌≤◌, inl, inr, List, length, take, drop, replicate, Some, refl, sym, ap, ◌∙◌, subst, arith}
 use Rattle.std.specs.List.{slice_get}
 use Rattle.std.proofs.lemmas.Bool.{cases_lt}
 use Rattle.std.proofs.lemmas.Bool.Decides.{nat_tests}
@@ -8,9 +8,11 @@ use Rattle.std.proofs.lemmas.Option.{slice_get_past}
 use Rattle.std.proofs.Math.Nat.{mul_comm, zero-mul}
 use Rattle.image_model.specs.Layout.{Layout, Fits, SameOutside, layout, pixel}
 use Rattle.image_model.specs.Grid.{grid, grid_of, patch, uniform, one_row}
+use Rattle.image_model.specs.Rows.{row}
 use Rattle.image_model.specs.Windows.{Window, Stretch, window, window_start, exact_len}
 use Rattle.image_model.proofs.Cells.{slice_get-replicate}
 use Rattle.image_model.proofs.Grids.{same_grids}
+use Rattle.image_model.proofs.Rows.{row_stretch as row_cells}
 use Rattle.image_model.proofs.Stretches.{length-stretch_cells}
 use Rattle.image_model.proofs.Windows.{HasWindow, exact_has, stretch_window, handed_on, handed_on_grid, handed_on_outside}
 
@@ -42,6 +44,14 @@ module _ {T : Type 0} (l : Layout T) (y : ℕ) (fits : Fits l) (below : y < l.he
 
   pub row_has : HasWindow (length l.cells) l.stride (window 0 y l.width 1) (record { start = window_start l.stride (window 0 y l.width 1); len = l.width })
   row_has = subst (λ n. HasWindow (length l.cells) l.stride line (record { start = window_start l.stride line; len = n })) (one_line l.stride y l.width) (exact_has (length l.cells) l.stride l.width l.height line fits (omega arith, omega (arith, below)))
+
+  -- they have the row's pixels
+  pub row_is : take l.width (drop row_stretch.start l.cells) ≡ row l y
+  row_is =
+      elim (cases_lt 0 l.width) [
+        | inl wide ↦ ap (λ n. take l.width (drop n l.cells)) (row_has.begins wide (omega arith) ∙ omega (arith, mul_comm l.stride y)) ∙ sym (row_cells l y)
+        | inr none ↦ let narrow : l.width ≡ 0 = omega (arith, none) in ap (λ n. take n (drop row_stretch.start l.cells)) narrow ∙ sym (row_cells l y ∙ ap (λ n. take n (drop (y * l.stride) l.cells)) narrow)
+      ]
 
   -- other pixels, as many, leave its outside
   pub row_same : (cells : List T) → length cells ≡ l.width → SameOutside (stretch_window l (window 0 y l.width 1) row_stretch) (layout cells l.width 1 l.stride)

@@ -35,39 +35,37 @@ module _ {T : Type 0} (old : List T) (s : Shape) (tw th : ℕ) where
   abbrev pub Shown : List T → ℕ → Type 0
   Shown now y = RowsDone (λ x j p. p ≡ corner_of x j) old now s y
 
-  module _ (now : List T) (y : ℕ) (so : Shown now y) (fits : Fits (shaped old s)) (below : y < row_count s.width s.height) (row : part.Stretch) (from : row.start ≡ y * s.stride) (count : row.len ≡ s.width) where
-    abbrev cells : List T
-    cells = row_cells (λ x j p. p ≡ corner_of x j) old now s y so fits below row from count
-
+  module _ (now : List T) (y : ℕ) (so : Shown now y) (fits : Fits (shaped old s)) (below : y < row_count s.width s.height) where
     -- with the first row of a tile spread
-    pub row_spread : (line : List T) → y % th ≡ 0 → IsSpread tw cells line → Shown (take row.start now ++ (line ++ drop (row.start + row.len - row.start) (drop row.start now))) (y + 1)
-    row_spread line first spread =
-        let many : length cells ≡ s.width = row_length _ old now s y so fits below row from count in
+    pub row_spread : (from upto : ℕ) (begins : from ≡ y * s.stride) (ends : upto ≡ from + s.width) (line : List T) → y % th ≡ 0
+        → IsSpread tw (take (upto - from) (drop from now)) line → Shown (take from now ++ (line ++ drop (upto - from) (drop from now))) (y + 1)
+    row_spread from upto begins ends line first spread =
+        let many : length (take (upto - from) (drop from now)) ≡ s.width = row_length _ old now s y so fits below from upto begins ends in
         let own : y ≡ tile_start th y = omega (arith, first) in
-        row_written _ old now s y so fits below row from count line (spread.as_many ∙ many)
+        row_written _ old now s y so fits below from upto begins ends line (spread.as_many ∙ many)
         (λ x column.
         spread.each x (omega (arith, column, many))
-        ∙ slice_get-take (row.start + row.len - row.start) (drop row.start now) (tile_start tw x) (omega (arith, column, count))
-        ∙ slice_get-drop row.start now (tile_start tw x)
-        ∙ ap (λ n. slice_get now (n + tile_start tw x)) from
+        ∙ slice_get-take (upto - from) (drop from now) (tile_start tw x) (omega (arith, column, ends))
+        ∙ slice_get-drop from now (tile_start tw x)
+        ∙ ap (λ n. slice_get now (n + tile_start tw x)) begins
         ∙ still _ old now s y so (tile_start tw x) (omega (arith, column))
         ∙ ap (in_row x) own)
 
     -- with another row of it copied from the row above
-    pub row_repeated : (above : ℕ) → 0 < th → 0 < y % th → above ≡ row.start - s.stride → Shown (shifted now above row.len row.start) (y + 1)
-    row_repeated above high later at =
+    pub row_repeated : (above row : part.Stretch) → 0 < th → 0 < y % th → above.start ≡ (y - 1) * s.stride → above.len ≡ s.width → row.start ≡ y * s.stride
+        → Shown (shifted now above.start above.len row.start) (y + 1)
+    row_repeated above row high later same count from =
         let before : y ≡ y - 1 + 1 = omega (arith, later) in
         let lines : y * s.stride ≡ (y - 1) * s.stride + s.stride = ap (λ n. n * s.stride) before ∙ (let e : (y - 1 + 1) * s.stride ≡ suc (y - 1) * s.stride = omega arith in e ∙ suc-mul (y - 1) s.stride) in
-        let same : above ≡ (y - 1) * s.stride = omega (arith, at, from, lines) in
         let reached : y * s.stride + s.width ≤ length now = omega (arith, row_reached (length old) s.width s.height s.stride y fits below, so.as_many) in
-        let copied : List T = take row.len (drop above now) in
-        let many : length copied ≡ s.width = omega (arith, count, same, lines, s.width_within, reached, length-take row.len (drop above now), length-drop above now) in
+        let copied : List T = take above.len (drop above.start now) in
+        let many : length copied ≡ s.width = omega (arith, count, same, lines, s.width_within, reached, length-take above.len (drop above.start now), length-drop above.start now) in
         subst (λ cells. Shown cells (y + 1))
-        ((λ i. take (sym from i) now ++ (copied ++ drop (sym from i + sym count i) now)) ∙ sym (append_assoc (take row.start now) copied (drop (row.start + row.len) now)))
+        ((λ i. take (sym from i) now ++ (copied ++ drop (sym from i + sym count i) now)) ∙ sym (append_assoc (take row.start now) copied (drop (row.start + above.len) now)))
         (one_row_more _ old now s y so fits below copied many
         (λ x column.
-        slice_get-take row.len (drop above now) x (omega (arith, column, count))
-        ∙ slice_get-drop above now x
+        slice_get-take above.len (drop above.start now) x (omega (arith, column, count))
+        ∙ slice_get-drop above.start now x
         ∙ ap (λ n. slice_get now (n + x)) same
         ∙ so.each x (y - 1) column (omega (arith, before))
         ∙ ap (in_row x) (start_before th y high later)))

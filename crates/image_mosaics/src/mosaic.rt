@@ -8,7 +8,7 @@ ghost use Rattle.image_shape.specs.Shape.{shaped};
 ghost use Rattle.image_mosaics.specs.Mosaic.{mosaic, IsSpread};
 
 use image_pixels::fill_cells;
-use image_shape::Shape;
+use image_shape::{Shape, Stretch};
 
 // From this width on a tile's part of a row is filled by one call.
 const WIDE: usize = 16;
@@ -61,14 +61,14 @@ fn spread<T: Copy>(row: &mut [T], tile_width: usize)
     }
 }
 
-// Copies a stretch to a place behind its end.
-fn repeat_row<T: Copy>(cells: &mut [T], start: usize, len: usize, target: usize)
-    requires apart { start + len ≤ target }
-    requires target { target + len ≤ length cells.old }
-    ensures { cells.new ≡ shifted cells.old start len target }
+// Copies a row to a cell behind its end.
+fn repeat_row<T: Copy>(cells: &mut [T], row: Stretch, target: usize)
+    requires apart { row.start + row.len ≤ target }
+    requires target { target + row.len ≤ length cells.old }
+    ensures { cells.new ≡ shifted cells.old row.start row.len target }
 {
     let (front, back) = cells.split_at_mut(target);
-    back[..len].copy_from_slice(&front[start..start + len]);
+    back[..row.len].copy_from_slice(&front[row.range()]);
 }
 
 /// Writes at every place that cells have in a shape the pixel, as it was, at the corner of its tile.
@@ -94,9 +94,10 @@ pub fn mosaic_cells<T: Copy>(cells: &mut [T], shape: Shape, tile_width: usize, t
     for y in 0..shape.row_count() {
         let row = shape.row(cells.len(), y);
         if y % tile_height == 0 {
-            spread(&mut cells[row.start..row.start + row.len], tile_width);
+            spread(&mut cells[row.range()], tile_width);
         } else {
-            repeat_row(cells, row.start - shape.stride(), row.len, row.start);
+            let above = shape.row(cells.len(), y - 1);
+            repeat_row(cells, above, row.start);
         }
     }
 }

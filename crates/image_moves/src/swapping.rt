@@ -5,16 +5,17 @@ ghost use Rattle.image_model.specs.Layout.{Fits, SameOutside};
 ghost use Rattle.image_model.specs.Swaps.{StretchesSwapped, rows_swapped};
 ghost use Rattle.image_shape.specs.Shape.{shape_height, shaped_grid, shaped};
 
-use image_shape::Shape;
+use image_shape::{Shape, Stretch};
 
-// The `len` cells from `first` on and those from `second` on change places.
-fn swap_stretches<T>(cells: &mut [T], first: usize, second: usize, len: usize)
-    requires apart { first + len ≤ second }
-    requires inside { second + len ≤ length cells.old }
-    ensures { StretchesSwapped cells.old cells.new first second len }
+// Two stretches of one length change places.
+fn swap_stretches<T>(cells: &mut [T], first: Stretch, second: Stretch)
+    requires same { first.len ≡ second.len }
+    requires apart { first.start + first.len ≤ second.start }
+    requires inside { second.start + second.len ≤ length cells.old }
+    ensures { StretchesSwapped cells.old cells.new first.start second.start second.len }
 {
-    let (front, back) = cells.split_at_mut(second);
-    front[first..first + len].swap_with_slice(&mut back[..len]);
+    let (front, back) = cells.split_at_mut(second.start);
+    front[first.range()].swap_with_slice(&mut back[..second.len]);
 }
 
 // The same of two rows, the upper one first.
@@ -31,7 +32,7 @@ fn swap_apart<T>(cells: &mut [T], shape: Shape, upper: usize, lower: usize)
     }
     let first = shape.row(cells.len(), upper);
     let second = shape.row(cells.len(), lower);
-    swap_stretches(cells, first.start, second.start, second.len);
+    swap_stretches(cells, first, second);
 }
 
 /// The pixels of rows `y` and `z` of `shape` in `cells` change places, and the padding stays. The

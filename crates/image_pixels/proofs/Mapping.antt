@@ -3,7 +3,6 @@ use Rattle.std.proofs.Common.{◌≡◌, ℕ, ◌+◌, ◌-◌, ◌*◌, ◌<◌
 use Rattle.std.specs.List.{slice_get}
 use Rattle.image_model.proofs.Cells.{slice_get-take, slice_get-drop}
 use Rattle.image_shape.specs.declared.shape.Shape.{Shape}
-use Rattle.image_shape.specs.declared.window.Stretch.{Stretch}
 use Rattle.image_pixels.specs.Mapping.{AreAnswers}
 use Rattle.image_pixels.proofs.RowsWritten.{RowsDone, still}
 
@@ -18,12 +17,12 @@ abbrev pub IsAnswer : {T : Type 0} → (T → T → Type 0) → List T → ℕ �
 IsAnswer {T} answers old s x y new = (p q : T) → slice_get old (y * s + x) ≡ Some p → new ≡ Some q → answers p q
 
 -- the answers at the cells of a row are answers at its places
-pub row_answers : {T : Type 0} (answers : T → T → Type 0) (old now line : List T) (s : Shape) (y : ℕ) (row : Stretch) (x : ℕ)
-    → RowsDone (IsAnswer answers old s.stride) old now s y → row.start ≡ y * s.stride → row.len ≡ s.width → x < s.width
-    → AreAnswers answers (take (row.start + row.len - row.start) (drop row.start now)) line
+pub row_answers : {T : Type 0} (answers : T → T → Type 0) (old now line : List T) (s : Shape) (y : ℕ) (from upto x : ℕ)
+    → RowsDone (IsAnswer answers old s.stride) old now s y → from ≡ y * s.stride → upto ≡ from + s.width → x < s.width
+    → AreAnswers answers (take (upto - from) (drop from now)) line
     → IsAnswer answers old s.stride x y (slice_get line x)
-row_answers answers old now line s y row x so from count column made p q was is =
-    let inside : x < row.start + row.len - row.start = omega (arith, column, count) in
+row_answers answers old now line s y from upto x so begins ends column made p q was is =
+    let inside : x < upto - from = omega (arith, column, ends) in
     made.each x p q
-    (slice_get-take (row.start + row.len - row.start) (drop row.start now) x inside ∙ slice_get-drop row.start now x ∙ ap (λ n. slice_get now (n + x)) from ∙ still (IsAnswer answers old s.stride) old now s y so x column ∙ was)
+    (slice_get-take (upto - from) (drop from now) x inside ∙ slice_get-drop from now x ∙ ap (λ n. slice_get now (n + x)) begins ∙ still (IsAnswer answers old s.stride) old now s y so x column ∙ was)
     is

@@ -12,7 +12,6 @@ use Rattle.image_model.proofs.Rows.{row_reached, row_count-le, row_count-wide}
 use Rattle.image_model.proofs.Stretches.{length-with_stretch, with_stretch_at, with_stretch_beside}
 use Rattle.image_shape.specs.Shape.{shaped, shaped_grid}
 use Rattle.image_shape.specs.declared.shape.Shape.{Shape}
-use Rattle.image_shape.specs.declared.window.Stretch as part
 
 -- one cell more
 pub filled_more : {T : Type 0} (n : ℕ) (value : T) (xs : List T) → n < length xs → set (replicate n value ++ drop n xs) n value ≡ replicate (n + 1) value ++ drop (n + 1) xs
@@ -76,22 +75,22 @@ module _ {T : Type 0} (IsRight : ℕ → ℕ → Option T → Type 0) (old now :
         }
 
     -- the cells of the row, which a loop writes over
-    module _ (row : part.Stretch) (from : row.start ≡ y * s.stride) (count : row.len ≡ s.width) where
+    module _ (from upto : ℕ) (begins : from ≡ y * s.stride) (ends : upto ≡ from + s.width) where
       abbrev pub row_cells : List T
-      row_cells = take (row.start + row.len - row.start) (drop row.start now)
+      row_cells = take (upto - from) (drop from now)
 
       -- are as many as a row has
       pub row_length : length row_cells ≡ s.width
       row_length =
-          omega (arith, from, count, row_reached (length old) s.width s.height s.stride y fits below, so.as_many, length-take (row.start + row.len - row.start) (drop row.start now), length-drop row.start now)
+          omega (arith, begins, ends, row_reached (length old) s.width s.height s.stride y fits below, so.as_many, length-take (upto - from) (drop from now), length-drop from now)
 
       -- one row more, of the cells that a loop leaves: those before the row, the row, and those behind it
       pub row_written : (line : List T) → length line ≡ s.width → ((x : ℕ) → x < s.width → IsRight x y (slice_get line x))
-          → RowsDone IsRight old (take row.start now ++ (line ++ drop (row.start + row.len - row.start) (drop row.start now))) s (y + 1)
+          → RowsDone IsRight old (take from now ++ (line ++ drop (upto - from) (drop from now))) s (y + 1)
       row_written line long right =
-          let back : row.start + row.len - row.start ≡ s.width = omega (arith, count) in
-          let rest : drop (row.start + row.len - row.start) (drop row.start now) ≡ drop (y * s.stride + s.width) now = ap (λ n. drop n (drop row.start now)) back ∙ drop-drop s.width row.start now ∙ ap (λ n. drop (n + s.width) now) from in
-          subst (λ cells. RowsDone IsRight old cells s (y + 1)) (λ i. take (sym from i) now ++ (line ++ sym rest i)) (one_row_more line long right)
+          let back : upto - from ≡ s.width = omega (arith, ends) in
+          let rest : drop (upto - from) (drop from now) ≡ drop (y * s.stride + s.width) now = ap (λ n. drop n (drop from now)) back ∙ drop-drop s.width from now ∙ ap (λ n. drop (n + s.width) now) begins in
+          subst (λ cells. RowsDone IsRight old cells s (y + 1)) (λ i. take (sym begins i) now ++ (line ++ sym rest i)) (one_row_more line long right)
 
   module _ (all : y ≡ row_count s.width s.height) where
     -- all rows are written, and what is outside the places stays

@@ -1,19 +1,10 @@
 //! The pixels of one image over those of another.
 
-ghost use Rattle.std.specs.Prelude.{◌≡◌, ◌+◌, ◌≤◌, ◌++◌, length, take, drop};
+ghost use Rattle.std.specs.Prelude.{◌≡◌};
 ghost use Rattle.image_model.specs.Layout.{Fits, SameOutside};
 ghost use Rattle.image_shape.specs.Shape.{shape_width, shape_height, shaped_grid, shaped};
 
 use image_shape::Shape;
-
-// The cells from number `start` on become those of the row.
-fn put_row<T: Copy>(cells: &mut [T], start: usize, row: &[T])
-    requires { start + length row.now ≤ length cells.old }
-    ensures { cells.new ≡ take start cells.old ++ (row.now ++ drop (start + length row.now) cells.old) }
-{
-    let end = start + row.len();
-    cells[start..end].copy_from_slice(row);
-}
 
 /// Every pixel of `shape` in `cells` becomes that of the source at its place, row by row; the
 /// padding stays. Both fit, as `Shape::fits` tells, and have one size; their strides may differ.
@@ -28,6 +19,6 @@ pub fn copy_pixels<T: Copy>(cells: &mut [T], shape: Shape, source: &[T], source_
     for y in 0..shape.row_count() {
         let row = shape.row(cells.len(), y);
         let from = source_shape.row(source.len(), y);
-        put_row(cells, row.start, &source[from.start..from.start + from.len]);
+        cells[row.range()].copy_from_slice(&source[from.range()]);
     }
 }

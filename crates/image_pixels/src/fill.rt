@@ -25,6 +25,6 @@ pub fn fill_pixels<T: Copy>(cells: &mut [T], shape: Shape, value: T)
 {
     for y in 0..shape.row_count() {
         let row = shape.row(cells.len(), y);
-        fill_cells(&mut cells[row.start..row.start + row.len], value);
+        fill_cells(&mut cells[row.range()], value);
     }
 }

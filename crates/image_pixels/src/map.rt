@@ -28,6 +28,6 @@ pub fn map_pixels<T: Copy, F: Fn(T) -> T>(cells: &mut [T], shape: Shape, f: &F)
 {
     for y in 0..shape.row_count() {
         let row = shape.row(cells.len(), y);
-        map_cells(&mut cells[row.start..row.start + row.len], f);
+        map_cells(&mut cells[row.range()], f);
     }
 }

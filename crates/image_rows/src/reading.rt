@@ -7,7 +7,7 @@ ghost use Rattle.image_model.specs.Layout.{Fits, layout};
 ghost use Rattle.image_model.specs.Rows.{rows as rows_of, row_count, grid_rows};
 ghost use Rattle.image_shape.specs.Shape.{shape_width, shape_height, shape_stride, shaped_grid, shaped};
 
-use image_shape::{Shape, Spacing};
+use image_shape::{Shape, Spacing, Stretch};
 use std::iter::{ExactSizeIterator, FusedIterator};
 
 /// The rows of an image for reading, from either end: each a slice of `width` cells, without the
@@ -90,7 +90,9 @@ impl<'a, T> DoubleEndedIterator for RowsIter<'a, T> {
         }
         self.count -= 1;
         let start = Shape::cells_of_rows(self.count, self.stride);
-        Some(&self.cells[start..start + self.width])
+        let len = self.width;
+        let last = Stretch { start, len };
+        Some(&self.cells[last.range()])
     }
 }
 

@@ -4,7 +4,7 @@ ghost use Rattle.std.specs.Prelude.{◌≡◌, ◌+◌, ◌-◌, ◌*◌, ◌^�
 ghost use Rattle.image_model.specs.Compaction.{least_stride};
 ghost use Rattle.image_model.specs.Layout.{Reaches};
 ghost use Rattle.image_model.specs.Rows.{row_count};
-ghost use Rattle.image_model.specs.Windows.{IsInside, IsWithin, exact_stretch, window_stretch};
+ghost use Rattle.image_model.specs.Windows.{IsInside, IsWithin, exact_stretch, window, window_start, window_stretch};
 ghost use Rattle.image_shape.specs.Window.{as_window, as_stretch};
 
 use crate::window::{Stretch, Window};
@@ -149,6 +149,22 @@ impl Shape {
         Stretch {
             start: Shape::cells_of_rows(y, self.stride),
             len: self.width as usize,
+        }
+    }
+
+    /// The cells of row `y`, of `cells` cells that fit. Without a column they are none, from the first
+    /// cell on: where the row would begin might be no number.
+    pub fn any_row(&self, cells: usize, y: usize) -> Stretch
+        requires below { y < shape_height self.now }
+        requires fits { Reaches cells (shape_width self.now) (shape_height self.now) (shape_stride self.now) }
+        ensures start { result.start ≡ window_start (shape_stride self.now) (window 0 y (shape_width self.now) 1) }
+        ensures len { result.len ≡ shape_width self.now }
+        ensures inside { result.start + result.len ≤ cells }
+    {
+        if y < self.row_count() {
+            self.row(cells, y)
+        } else {
+            Stretch { start: 0, len: 0 }
         }
     }
 

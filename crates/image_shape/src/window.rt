@@ -3,6 +3,8 @@
 ghost use Rattle.std.specs.Prelude.{◌≡◌, ◌+◌, ◌^◌, ◌≤◌, ◌<◌};
 ghost use Rattle.image_model.specs.Windows.{window, is_inside, IsWithin, stretch_within};
 
+use std::ops::Range;
+
 /// A window of an image or of another window: its corner and its size, in pixels.
 #[derive(Clone, Copy, PartialEq, Eq)]
 pub struct Window {
@@ -73,6 +75,15 @@ impl Window {
 
 impl Stretch {
     ghost use Rattle.image_shape.specs.Window.{as_stretch};
+
+    /// The numbers of its cells, by which a slice of them is taken.
+    pub fn range(&self) -> Range<usize>
+        requires counts { self.now.start + self.now.len < 2 ^ 64 }
+        ensures start { result.start ≡ self.now.start }
+        ensures end { result.end ≡ self.now.start + self.now.len }
+    {
+        self.start..self.start + self.len
+    }
 
     /// A stretch of the cells of this one, as one of all cells.
     pub fn nested(&self, inner: Stretch) -> Stretch

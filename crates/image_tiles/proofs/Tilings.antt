@@ -15,16 +15,6 @@ use Rattle.image_model.proofs.Tiles.{tile_begins, tile_at, length-tiles}
 use Rattle.image_tiles.specs.declared.tiling.Tiling.{Tiling}
 use Rattle.image_tiles.specs.Tiling.{windows_left, has_tile, tile_now, goes_right, stepped}
 
--- as many tiles as end before the last place, and one
-pub along : (len tile : ℕ) → 0 < len → 0 < tile → (len - 1) / tile + 1 ≡ tile_count tile len
-along len tile some_len some =
-    let q : ℕ = (len - 1) / tile in
-    let parts = div-add-mod' (len - 1) tile in
-    let rest = mod_below (len - 1) tile some in
-    let e : suc q * tile + (len - 1) % tile ≡ len + (tile - 1) = omega (arith, parts, suc-mul q tile) in
-    let one : q + 1 ≡ suc q = omega arith in
-    one ∙ sym (div-mul-add (suc q) tile ((len - 1) % tile) rest) ∙ ap (λ n. n / tile) e
-
 module _ (width height tile_width tile_height : ℕ) (wide : 0 < tile_width) (high : 0 < tile_height) where
   abbrev all : List Window
   all = tiles width height tile_width tile_height

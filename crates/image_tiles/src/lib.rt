@@ -10,5 +10,6 @@ mod tiles;
 mod tiling;
 
 pub use bands::BandsMut;
+pub use image_shape::{tile_at, tiles_along};
 pub use tiles::{TileCursor, TilesMut};
-pub use tiling::{Tiling, tile_at, tiles_along};
+pub use tiling::Tiling;

@@ -1,57 +1,13 @@
 //! The tiles of a size, by their numbers alone.
 
 ghost use Rattle.std.specs.Prelude.{◌≡◌, ◌*◌, ◌≤◌, ◌<◌, ◌^◌, ◌∷◌, [], All, IsTrue, not, length, IfSome, None};
-ghost use Rattle.image_model.specs.Tiles.{tiles, tile, tile_count, EachPlaceInOne};
+ghost use Rattle.image_model.specs.Tiles.{tiles, tile_count, EachPlaceInOne};
 ghost use Rattle.image_model.specs.Windows.{IsInside};
 ghost use Rattle.imgref.specs.Window.{as_window};
 
+use image_shape::{tile_at, tiles_along};
 use imgref::Window;
 use std::iter::FusedIterator;
-
-/// How many tiles begin below a length, in pixels.
-///
-/// # Requires
-///
-/// By comparing numbers: the tile's length is positive.
-pub fn tiles_along(len: usize, tile: usize) -> usize
-    requires { 0 < tile }
-    ensures value { result ≡ tile_count tile len }
-    ensures few { result ≤ len }
-{
-    if len == 0 { 0 } else { (len - 1) / tile + 1 }
-}
-
-/// The tile in tile column `column` of tile row `row` of a size: its corner is a multiple of the tile
-/// size, and it is cut at the right and the lower edge.
-///
-/// # Requires
-///
-/// By comparing numbers: both tile sizes are positive, and the tile's corner is inside.
-pub fn tile_at(
-    width: usize,
-    height: usize,
-    tile_width: usize,
-    tile_height: usize,
-    column: usize,
-    row: usize,
-) -> Window
-    requires wide { 0 < tile_width }
-    requires high { 0 < tile_height }
-    requires column_inside { column * tile_width < width }
-    requires row_inside { row * tile_height < height }
-    ensures value { as_window result ≡ tile width height tile_width tile_height column row }
-    ensures some_width { 0 < result.width }
-    ensures some_height { 0 < result.height }
-{
-    let left = column * tile_width;
-    let top = row * tile_height;
-    Window::new(
-        left,
-        top,
-        tile_width.min(width - left),
-        tile_height.min(height - top),
-    )
-}
 
 /// The windows that cover a size, in pixels: their corners are the multiples of the tile size, and
 /// they are cut at the right and the lower edge. Row by row, from left to right.

@@ -10,7 +10,7 @@ ghost use Rattle.imgref.specs.Index.{HasCell, with_cell_at, with_row, PatchesGri
 
 use crate::containers::AsMutSlice;
 use crate::img::Img;
-use image_cells::{AsSlice, row, row_start};
+use image_cells::{AsSlice, row};
 use std::ops::{Index, IndexMut};
 
 /// The cell at column `x` of row `y`, by `img[(x, y)]`: cell `y * stride + x`. It may be padding, or
@@ -120,8 +120,7 @@ impl<C: AsMutSlice> Img<C> {
         ensures outside { RowKeepsOutside C.AsSlice.cells C.with_cells self.old y }
         ensures fits { RowKeepsFit C.AsSlice.cells C.with_cells self.old y }
     {
-        let start = row_start(self.buf.as_slice(), self.shape(), y);
-        let width = self.width();
-        self.buf.stretch_mut(start, width)
+        let row = self.shape().any_row(self.buf.as_slice().len(), y);
+        self.buf.stretch_mut(row.start, row.len)
     }
 }

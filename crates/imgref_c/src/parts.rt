@@ -35,8 +35,7 @@ pub(crate) fn fill_part<T: Copy>(cells: &mut [T], shape: Shape, window: Window, 
     ensures outside { SameOutside (shaped cells.old shape) (shaped cells.new shape) }
 {
     let (part, inner) = part_of(cells.len(), shape, window);
-    let end = part.start + part.len;
-    fill_pixels(&mut cells[part.start..end], inner, value);
+    fill_pixels(&mut cells[part.range()], inner, value);
 }
 
 /// The window gets the pixels of `source`, which has its size.
@@ -57,8 +56,7 @@ pub(crate) fn copy_part<T: Copy>(
     ensures outside { SameOutside (shaped cells.old shape) (shaped cells.new shape) }
 {
     let (part, inner) = part_of(cells.len(), shape, window);
-    let end = part.start + part.len;
-    copy_pixels(&mut cells[part.start..end], inner, source, source_shape);
+    copy_pixels(&mut cells[part.range()], inner, source, source_shape);
 }
 
 /// Each tile of the window, from its corner on, gets the pixel that stood at the tile's corner.
@@ -78,6 +76,5 @@ pub(crate) fn mosaic_part<T: Copy>(
     ensures outside { SameOutside (shaped cells.old shape) (shaped cells.new shape) }
 {
     let (part, inner) = part_of(cells.len(), shape, window);
-    let end = part.start + part.len;
-    mosaic_cells(&mut cells[part.start..end], inner, tile_width, tile_height);
+    mosaic_cells(&mut cells[part.range()], inner, tile_width, tile_height);
 }

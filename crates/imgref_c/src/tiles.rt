@@ -5,7 +5,7 @@ ghost use Rattle.imgref_c.specs.Words.{code, from_c, tile_status, tiles, tiles_s
 
 use crate::status::Status;
 use crate::window::ImgrefWindow;
-use image_tiles::{tile_at, tiles_along};
+use image_shape::{tile_at, tiles_along};
 
 // How many tiles a size has.
 #[tactic(auto, using(crate::proofs::Numbering::count_fits, crate::proofs::Numbering::counted))]

@@ -75,8 +75,7 @@ pub fn window_at<'s, T>(img: ImgRef<'s, T>, path: &[Window]) -> Result<ImgRef<'s
 {
     let (cells, shape) = img.into_parts();
     let (stretch, inner) = region_at(cells.len(), shape, path)?;
-    let end = stretch.start + stretch.len;
-    Ok(ImgRef::from_parts(&cells[stretch.start..end], inner))
+    Ok(ImgRef::from_parts(&cells[stretch.range()], inner))
 }
 
 /// The window of `window_at` for writing, in place of the image. Once the borrow ends, the image

@@ -27,11 +27,12 @@ loop-y-preserved g c =
     let below : y < row_count s.width s.height = omega (arith, c.row_count-y-end.ensures.value, c.loop-y-test.true) in
     elim c.if-y-tile_height-eq0.branch [
       | goal.then-y-tile_height-eq0 w ↦
-          rw w.cells-is (row_spread old s tw th c.loop-y.cells y c.loop-y.invariant c.requires.fits below row.result row.ensures.start row.ensures.len w.spread.new.row w.if-y-tile_height-eq0.true w.spread.ensures)
+          let cut = w.range in
+          rw w.cells-is (row_spread old s tw th c.loop-y.cells y c.loop-y.invariant c.requires.fits below cut.result.start cut.result.end (cut.ensures.start ∙ row.ensures.start) (omega (arith, cut.ensures.start, cut.ensures.end, row.ensures.len)) w.spread.new.row w.if-y-tile_height-eq0.true w.spread.ensures)
       | goal.else-y-tile_height-eq0 w ↦
           let later : 0 < y % th = omega (arith, w.if-y-tile_height-eq0.false) in
-          let above : row.result.start - w.stride.result ≡ row.result.start - s.stride = ap (λ n. row.result.start - n) w.stride.ensures.value in
-          rw (w.cells-is, w.repeat_row.ensures) (row_repeated old s tw th c.loop-y.cells y c.loop-y.invariant c.requires.fits below row.result row.ensures.start row.ensures.len (row.result.start - w.stride.result) c.requires.high later above)
+          let above = w.row-above in
+          rw (w.cells-is, w.repeat_row.ensures) (row_repeated old s tw th c.loop-y.cells y c.loop-y.invariant c.requires.fits below above.result row.result c.requires.high later above.ensures.start above.ensures.len row.ensures.start)
     ]
 
 pub returns-clause-grid : goal.returns-clause-grid

@@ -11,11 +11,11 @@ unfolding refs_left
 returns-clause-steps g c =
     let s = c.args.self.now in
     let some : 0 < s.count = omega (arith, c.if-self-eq0.false) in
-    let start = c.cells_of_rows-start.result in
+    let start = c.range.result.start in
     let earlier = rows (layout s.cells.now s.width (s.count - 1) s.stride) in
-    let long : s.width ≡ start + s.width - start = omega arith in
+    let long : s.width ≡ c.range.result.end - start = omega (arith, c.range.ensures.start, c.range.ensures.end) in
     rows_last s.cells.now s.width s.stride s.count (s.some some) some
-    ∙ ap (λ n. earlier ++ take s.width (drop n s.cells.now) ∷ []) (sym c.cells_of_rows-start.ensures.value)
+    ∙ ap (λ n. earlier ++ take s.width (drop n s.cells.now) ∷ []) (sym (c.range.ensures.start ∙ c.cells_of_rows-start.ensures.value))
     ∙ ap (λ n. earlier ++ take n (drop start s.cells.now) ∷ []) long
 
 pub returns-clause-goes : goal.returns-clause-goes
