@@ -1,7 +1,8 @@
 //! A plane of a frame, and what is done to it.
 
-ghost use Rattle.std.specs.Prelude.{◌≡◌, ◌≤◌, ◌<◌, ◌^◌, length, IsTrue, IfSome};
+ghost use Rattle.std.specs.Prelude.{◌≡◌, ◌≤◌, ◌<◌, ◌^◌, length, IsTrue};
 ghost use Rattle.std.specs.Option.{option_map};
+ghost use Rattle.imgref.specs.Shape.{shape_width, shape_height, shape_stride};
 ghost use Rattle.image_planes.specs.Changes.{is_change_of, are_inside, job_for, changed_plane};
 
 use crate::change::{Change, Step};
@@ -43,19 +44,20 @@ impl Plane {
         })
     }
 
-    /// How many bytes it has.
-    pub fn len(&self) -> usize
-        requires { plane_len self.now < 2 ^ 64 }
-        ensures { result ≡ plane_len self.now }
+    // Its size, without padding.
+    fn shape(&self) -> Shape
+        ensures width { shape_width result ≡ (job_of self.now).width }
+        ensures height { shape_height result ≡ (job_of self.now).height }
+        ensures stride { shape_stride result ≡ (job_of self.now).width }
     {
-        self.width * self.height
+        Shape::new(self.width, self.height, self.width)
     }
 
-    /// The same, or `None` where it is no number of this machine.
-    pub(crate) fn checked_len(&self) -> Option<usize>
-        ensures { IfSome result (λ n. n ≡ plane_len self.now) }
+    /// How many bytes it has.
+    pub fn len(&self) -> usize
+        ensures { result ≡ plane_len self.now }
     {
-        self.width.checked_mul(self.height)
+        self.shape().pixel_count()
     }
 
     /// Does the steps of the frame of this number to the plane that these cells are.
@@ -63,8 +65,7 @@ impl Plane {
         requires { length cells.old ≡ plane_len self.now }
         ensures { cells.new ≡ changed_plane number (job_of self.now) cells.old }
     {
-        let shape = Shape::new(self.width, self.height, self.width);
-        do_steps(cells, shape, &self.steps, number);
+        do_steps(cells, self.shape(), &self.steps, number);
     }
 }
 

@@ -16,7 +16,7 @@ pub fn planes_len(planes: &[Plane]) -> Option<usize>
 {
     match planes {
         [] => Some(0),
-        [plane, others @ ..] => plane.checked_len()?.checked_add(planes_len(others)?),
+        [plane, others @ ..] => plane.len().checked_add(planes_len(others)?),
     }
 }
 
@@ -41,7 +41,7 @@ pub fn targets_len(targets: &[Target]) -> Option<usize>
 {
     match targets {
         [] => Some(0),
-        [target, others @ ..] => target.checked_len()?.checked_add(targets_len(others)?),
+        [target, others @ ..] => target.len().checked_add(targets_len(others)?),
     }
 }
 

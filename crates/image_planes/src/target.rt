@@ -1,13 +1,13 @@
 //! Planes of another size, copied out of a frame.
 
-ghost use Rattle.std.specs.Prelude.{◌≡◌, ◌<◌, ◌^◌, ◌*◌, length, IfSome, IsTrue};
+ghost use Rattle.std.specs.Prelude.{◌≡◌, ◌<◌, ◌^◌, ◌*◌, length, IsTrue};
 ghost use Rattle.std.specs.Option.{option_map};
 ghost use Rattle.image_model.specs.Layout.{Fits, SameOutside};
 ghost use Rattle.image_model.specs.Grid.{grid_of, patch, uniform};
 ghost use Rattle.image_model.specs.Rows.{grid_pixels};
 ghost use Rattle.image_model.specs.Windows.{IsInside, is_inside, window_view};
 ghost use Rattle.imgref.specs.Image.{ref_layout, width_of, height_of};
-ghost use Rattle.imgref.specs.Shape.{shaped, shape_width, shape_height};
+ghost use Rattle.imgref.specs.Shape.{shaped, shape_width, shape_height, shape_stride};
 ghost use Rattle.imgref.specs.Window.{as_window};
 ghost use Rattle.image_planes.specs.Surrounds.{bordered};
 ghost use Rattle.image_planes.specs.Resized.{is_resize_of, resizing_for, resized_plane, source_len, target_len};
@@ -95,7 +95,7 @@ fn fill_border(cells: &mut [u8], shape: Shape, place: Window, value: u8)
     ensures outside { SameOutside (shaped cells.old shape) (shaped cells.new shape) }
 {
     let (width, height) = (shape.width(), shape.height());
-    let (right, bottom) = (place.left + place.width, place.top + place.height);
+    let (right, bottom) = place.place(place.width, place.height);
     let mut image = ImgRefMut::from_parts(cells, shape);
     image.fill_window(0, 0, width, place.top, value);
     image.fill_window(0, bottom, width, height - bottom, value);
@@ -150,6 +150,19 @@ impl Resize {
         }
     }
 
+    // The size then, without padding.
+    fn shape(&self, width: usize, height: usize) -> Shape
+        requires width_fits { width < 2 ^ 32 }
+        requires height_fits { height < 2 ^ 32 }
+        requires wide { 0 < width }
+        requires inside { IsTrue (is_resize_of width height self.now) }
+        ensures width { shape_width result ≡ new_width self.now }
+        ensures height { shape_height result ≡ new_height self.now }
+        ensures stride { shape_stride result ≡ new_width self.now }
+    {
+        Shape::new(self.width(), self.height(), self.width())
+    }
+
     // Whether it is one of a plane of this size.
     fn is_of(&self, width: usize, height: usize) -> bool
         ensures { result ≡ is_resize_of width height self.now }
@@ -189,28 +202,18 @@ impl Target {
         })
     }
 
-    /// How many bytes the plane has in its other size, or `None` where that is no number of this
-    /// machine.
-    pub(crate) fn checked_len(&self) -> Option<usize>
-        ensures { IfSome result (λ n. n ≡ target_len (resizing_of self.now)) }
-    {
-        self.resize.width().checked_mul(self.resize.height())
-    }
-
     /// How many bytes the plane has.
     pub(crate) fn source_len(&self) -> usize
-        requires { source_len (resizing_of self.now) < 2 ^ 64 }
         ensures { result ≡ source_len (resizing_of self.now) }
     {
-        self.width * self.height
+        Shape::new(self.width, self.height, self.width).pixel_count()
     }
 
     /// How many bytes the plane has in its other size.
     pub(crate) fn len(&self) -> usize
-        requires { target_len (resizing_of self.now) < 2 ^ 64 }
         ensures { result ≡ target_len (resizing_of self.now) }
     {
-        self.resize.width() * self.resize.height()
+        self.resize.shape(self.width, self.height).pixel_count()
     }
 
     /// Copies the plane that the source is, in its other size, over the target.

@@ -11,9 +11,8 @@ ghost use Rattle.image_model.specs.Windows.{IsInside, window_view};
 ghost use Rattle.image_shape.specs.Shape.{shape_width, shape_height, shape_stride};
 ghost use Rattle.imgref.specs.Image.{buf_of, width_of, height_of, stride_of, mut_grid, mut_layout};
 
-use crate::tiling::tiles_along;
 use image_rows::cut_out;
-use image_shape::{End, Shape, Spacing};
+use image_shape::{End, Shape, Spacing, tiles_along};
 use imgref::ImgRefMut;
 use std::iter::{ExactSizeIterator, FusedIterator};
 

@@ -1,20 +1,15 @@
-//! Each call for pixels of any size, and its exports for pixels of one byte and of four.
+//! Each call that reads, for pixels of any size, and its exports for pixels of one byte and of four.
 
 ghost use Rattle.std.specs.Prelude.{◌<◌};
 ghost use Rattle.image_model.specs.Layout.{Fits};
 ghost use Rattle.image_model.specs.Rows.{joined_rows};
 ghost use Rattle.imgref.specs.Clones.{ClonesEqual};
 ghost use Rattle.imgref.specs.Image.{ref_layout};
-ghost use Rattle.imgref.specs.Shape.{shaped};
 ghost use Rattle.bench_exports.specs.Cells.{IsImage};
 
-use image_tiles::{BandsMut, TilesMut};
-use imgref::{Img, ImgRef, ImgRefMut, Shape};
+use imgref::{Img, ImgRef};
 use std::alloc::Global;
 use std::hash::{DefaultHasher, Hash, Hasher};
-
-// The side of a tile and the height of a band.
-const TILE: usize = 16;
 
 // The sum of the pixels, row by row.
 fn rows<T: Copy + Into<u64>>(image: &ImgRef<'_, T>) -> u64
@@ -240,160 +235,4 @@ pub extern "C" fn bench_u32_to_contiguous_buf(
     requires image { IsImage cells.now width height stride }
 {
     to_contiguous_buf(alloc, &Img::new_stride(cells, width, height, stride))
-}
-
-// Every pixel becomes this one, by one loop over all.
-fn pixels_mut<T: Copy>(cells: &mut [T], shape: Shape, value: T)
-    requires fits { Fits (shaped cells.old shape) }
-{
-    let mut image = ImgRefMut::from_parts(cells, shape);
-    for pixel in image.pixels_mut() {
-        *pixel = value;
-    }
-}
-
-/// Every pixel becomes 7, by one loop over all.
-#[unsafe(no_mangle)]
-pub extern "C" fn bench_u8_pixels_mut(cells: &mut [u8], width: usize, height: usize, stride: usize)
-    requires image { IsImage cells.old width height stride }
-{
-    pixels_mut(cells, Shape::new(width, height, stride), 7);
-}
-
-/// Every pixel becomes 7, by one loop over all.
-#[unsafe(no_mangle)]
-pub extern "C" fn bench_u32_pixels_mut(
-    cells: &mut [u32],
-    width: usize,
-    height: usize,
-    stride: usize,
-)
-    requires image { IsImage cells.old width height stride }
-{
-    pixels_mut(cells, Shape::new(width, height, stride), 7);
-}
-
-// Every pixel becomes this one, tile by tile.
-fn tiles<T: Copy>(cells: &mut [T], shape: Shape, value: T)
-    requires fits { Fits (shaped cells.old shape) }
-{
-    let mut tiles = TilesMut::new(ImgRefMut::from_parts(cells, shape), TILE, TILE);
-    for _ in 0..usize::MAX {
-        match tiles.next_tile() {
-            Some(mut tile) => {
-                if tile.is_valid() {
-                    tile.fill(value);
-                }
-            }
-            None => break,
-        }
-    }
-}
-
-/// Every pixel becomes 7, tile by tile.
-#[unsafe(no_mangle)]
-pub extern "C" fn bench_u8_tiles(cells: &mut [u8], width: usize, height: usize, stride: usize)
-    requires image { IsImage cells.old width height stride }
-{
-    tiles(cells, Shape::new(width, height, stride), 7);
-}
-
-/// Every pixel becomes 7, tile by tile.
-#[unsafe(no_mangle)]
-pub extern "C" fn bench_u32_tiles(cells: &mut [u32], width: usize, height: usize, stride: usize)
-    requires image { IsImage cells.old width height stride }
-{
-    tiles(cells, Shape::new(width, height, stride), 7);
-}
-
-// Every pixel becomes this one, band by band.
-fn bands<T: Copy>(cells: &mut [T], shape: Shape, value: T)
-    requires fits { Fits (shaped cells.old shape) }
-{
-    let mut bands = BandsMut::new(ImgRefMut::from_parts(cells, shape), TILE);
-    for _ in 0..usize::MAX {
-        match bands.next() {
-            Some(mut band) => {
-                if band.is_valid() {
-                    band.fill(value);
-                }
-            }
-            None => break,
-        }
-    }
-}
-
-/// Every pixel becomes 7, band by band.
-#[unsafe(no_mangle)]
-pub extern "C" fn bench_u8_bands(cells: &mut [u8], width: usize, height: usize, stride: usize)
-    requires image { IsImage cells.old width height stride }
-{
-    bands(cells, Shape::new(width, height, stride), 7);
-}
-
-/// Every pixel becomes 7, band by band.
-#[unsafe(no_mangle)]
-pub extern "C" fn bench_u32_bands(cells: &mut [u32], width: usize, height: usize, stride: usize)
-    requires image { IsImage cells.old width height stride }
-{
-    bands(cells, Shape::new(width, height, stride), 7);
-}
-
-/// Every pixel is turned bit by bit.
-#[unsafe(no_mangle)]
-pub extern "C" fn bench_u8_map_pixels(cells: &mut [u8], width: usize, height: usize, stride: usize)
-    requires image { IsImage cells.old width height stride }
-{
-    let mut image: ImgRefMut<'_, u8> = Img::new_stride(cells, width, height, stride);
-    image.map_pixels(|pixel: u8| !pixel);
-}
-
-/// Every pixel is turned bit by bit.
-#[unsafe(no_mangle)]
-pub extern "C" fn bench_u32_map_pixels(
-    cells: &mut [u32],
-    width: usize,
-    height: usize,
-    stride: usize,
-)
-    requires image { IsImage cells.old width height stride }
-{
-    let mut image: ImgRefMut<'_, u32> = Img::new_stride(cells, width, height, stride);
-    image.map_pixels(|pixel: u32| !pixel);
-}
-
-/// Row `y` and row `z` change places.
-#[unsafe(no_mangle)]
-pub extern "C" fn bench_u8_swap_rows(
-    cells: &mut [u8],
-    width: usize,
-    height: usize,
-    stride: usize,
-    y: usize,
-    z: usize,
-)
-    requires image { IsImage cells.old width height stride }
-    requires first { y < height }
-    requires second { z < height }
-{
-    let mut image: ImgRefMut<'_, u8> = Img::new_stride(cells, width, height, stride);
-    image.swap_rows(y, z);
-}
-
-/// Row `y` and row `z` change places.
-#[unsafe(no_mangle)]
-pub extern "C" fn bench_u32_swap_rows(
-    cells: &mut [u32],
-    width: usize,
-    height: usize,
-    stride: usize,
-    y: usize,
-    z: usize,
-)
-    requires image { IsImage cells.old width height stride }
-    requires first { y < height }
-    requires second { z < height }
-{
-    let mut image: ImgRefMut<'_, u32> = Img::new_stride(cells, width, height, stride);
-    image.swap_rows(y, z);
 }
