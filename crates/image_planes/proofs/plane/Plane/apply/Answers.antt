@@ -10,7 +10,7 @@ use Rattle.image_planes.proofs.plane.Plane.apply.Goals as goal
 pub returns : goal.returns
 returns c =
     let p = c.args.self.now in
-    let e = c.new-shape.ensures in
+    let e = c.shape.ensures in
     let old : List ℕ = c.args.cells.now in
     let new : List ℕ = c.do_steps.new.cells in
     let long : length new ≡ p.width * p.height = c.do_steps.ensures.outside.length_stays ∙ c.requires in
