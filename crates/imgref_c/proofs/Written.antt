@@ -1,5 +1,5 @@
 -- The part of an image that a window is, written.
-use Rattle.std.proofs.Common.{◌≡◌, ◌+◌, ◌-◌, List, ◌++◌, length, take, drop, drop-drop, sym, ap, ◌∙◌, subst, arith}
+use Rattle.std.proofs.Common.{◌≡◌, ℕ, ◌-◌, List, ◌++◌, length, take, drop-drop, sym, ap, ◌∙◌, subst}
 use borrow.Rule.Slice.PartMut.{mid_of, put_mid}
 use Rattle.image_model.specs.Layout.{Layout, layout, SameOutside}
 use Rattle.image_model.specs.Grid.{grid_of, patch}
@@ -7,28 +7,25 @@ use Rattle.image_model.specs.Windows.{Window, Stretch, exact_window, window_view
 use Rattle.image_model.proofs.Windows.{HasWindow, stretch_window, exact_has, handed_on, handed_on_grid, handed_on_outside, exact_grid}
 use Rattle.image_shape.specs.declared.shape.Shape.{Shape}
 use Rattle.image_shape.specs.Shape.{shaped}
-use Rattle.imgref_c.specs.Part.{IsPart}
+use Rattle.imgref_c.specs.Part.{IsPart, from_upto}
 
--- the window's stretch, in its shape
-module _ {T : Type 0} (cells : List T) (outer inner : Shape) (w : Window) (s : Stretch) (p : IsPart (length cells) outer inner w s) where
+-- the cells of a window, in its shape
+module _ {T : Type 0} (cells : List T) (outer inner : Shape) (w : Window) (from upto : ℕ) (p : IsPart (length cells) outer inner w from upto) where
   abbrev l : Layout T
   l = shaped cells outer
 
-  count : s.start + s.len - s.start ≡ s.len
-  count = omega arith
+  abbrev s : Stretch
+  s = from_upto from upto
 
   -- its cells
   abbrev part : Layout T
-  part = shaped (mid_of s.start (s.start + s.len - s.start) cells) inner
+  part = shaped (mid_of from (upto - from) cells) inner
 
   sized : (n : List T) → shaped n inner ≡ layout n w.width w.height l.stride
   sized n = λ i. layout n (p.wide i) (p.high i) (p.same_stride i)
 
   part_is : part ≡ exact_window l w
-  part_is =
-      sized (mid_of s.start (s.start + s.len - s.start) cells)
-      ∙ ap (λ n. layout (take n (drop s.start cells)) w.width w.height l.stride) count
-      ∙ ap (stretch_window l w) p.is
+  part_is = sized (mid_of from (upto - from) cells) ∙ ap (stretch_window l w) p.is
 
   pub part_shows : grid_of part ≡ window_view (grid_of l) w
   part_shows = ap (λ (m : Layout T). grid_of m) part_is ∙ exact_grid l w p.fits p.inside
@@ -36,15 +33,13 @@ module _ {T : Type 0} (cells : List T) (outer inner : Shape) (w : Window) (s : S
   -- other cells in their place
   module _ (n : List T) (same : SameOutside part (shaped n inner)) where
     abbrev left : List T
-    left = put_mid s.start (s.start + s.len - s.start) cells n
+    left = put_mid from (upto - from) cells n
 
     has : HasWindow (length cells) l.stride w s
     has = subst (HasWindow (length cells) l.stride w) (sym p.is) (exact_has (length cells) l.stride l.width l.height w p.fits p.inside)
 
     left_is : shaped left outer ≡ handed_on l s n
-    left_is =
-        let behind : drop (s.start + s.len - s.start) (drop s.start cells) ≡ drop (s.start + s.len) cells = ap (λ k. drop k (drop s.start cells)) count ∙ drop-drop s.len s.start cells in
-        ap (λ m. shaped (take s.start cells ++ (n ++ m)) outer) behind
+    left_is = ap (λ behind. shaped (take from cells ++ (n ++ behind)) outer) (drop-drop (upto - from) from cells)
 
     stays : SameOutside (stretch_window l w s) (shaped n inner)
     stays = subst (λ (m : Layout T). SameOutside m (shaped n inner)) (part_is ∙ sym (ap (stretch_window l w) p.is)) same

@@ -1,16 +1,20 @@
 -- The part of an image that a window is.
-use Rattle.std.specs.Prelude.{◌≡◌, ℕ, ◌≤◌}
+use Rattle.std.specs.Prelude.{◌≡◌, ℕ, ◌-◌, ◌≤◌}
 use Rattle.image_model.specs.Layout.{Reaches}
 use Rattle.image_model.specs.Windows.{Window, Stretch, IsInside, exact_stretch}
 use Rattle.image_shape.specs.declared.shape.Shape.{Shape}
 use Rattle.image_shape.specs.Shape.{shape_width, shape_height, shape_stride}
 
--- a window that is inside a shape of so many cells, with its own shape and its stretch
-pub record IsPart (count : ℕ) (outer inner : Shape) (w : Window) (s : Stretch) : Type 0 where
+-- the cells from one number up to another, as a stretch
+abbrev pub from_upto : ℕ → ℕ → Stretch
+from_upto from upto = record { start = from; len = upto - from }
+
+-- a window that is inside a shape of so many cells, with its own shape and the numbers of its cells
+pub record IsPart (count : ℕ) (outer inner : Shape) (w : Window) (from upto : ℕ) : Type 0 where
   pub narrow : shape_width outer ≤ shape_stride outer
   pub fits : Reaches count (shape_width outer) (shape_height outer) (shape_stride outer)
   pub inside : IsInside (shape_width outer) (shape_height outer) w
   pub wide : shape_width inner ≡ w.width
   pub high : shape_height inner ≡ w.height
   pub same_stride : shape_stride inner ≡ shape_stride outer
-  pub is : s ≡ exact_stretch (shape_stride outer) w
+  pub is : from_upto from upto ≡ exact_stretch (shape_stride outer) w

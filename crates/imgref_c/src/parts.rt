@@ -3,27 +3,30 @@
 //! They are out of line: what a call tests first holds so many numbers that the loop over the rows
 //! would have no register left, which costs a third of the time at rows of 64 bytes.
 
-ghost use Rattle.std.specs.Prelude.{◌≡◌, ◌<◌};
+ghost use Rattle.std.specs.Prelude.{◌≡◌, ◌<◌, ◌≤◌};
 ghost use Rattle.image_model.specs.Layout.{Fits, Reaches, SameOutside};
 ghost use Rattle.image_model.specs.Grid.{patch, uniform};
-ghost use Rattle.image_model.specs.Windows.{IsInside, IsWithin, window_view};
+ghost use Rattle.image_model.specs.Windows.{IsInside, window_view};
 ghost use Rattle.image_mosaics.specs.Mosaic.{mosaic};
 ghost use Rattle.image_shape.specs.Shape.{shape_width, shape_height, shape_stride, shaped_grid, shaped};
-ghost use Rattle.image_shape.specs.Window.{as_window, as_stretch};
+ghost use Rattle.image_shape.specs.Window.{as_window};
 ghost use Rattle.imgref_c.specs.Part.{IsPart};
 
 use image_mosaics::mosaic_cells;
 use image_pixels::{copy_pixels, fill_pixels};
-use image_shape::{Shape, Stretch, Window};
+use image_shape::{Shape, Window};
+use std::ops::Range;
 
-// The stretch that a window has of so many cells, and its shape.
-fn part_of(count: usize, shape: Shape, window: Window) -> (Stretch, Shape)
+// The cells that a window has of so many, by their numbers, and its shape.
+fn part_of(count: usize, shape: Shape, window: Window) -> (Range<usize>, Shape)
     requires fits { Reaches count (shape_width shape) (shape_height shape) (shape_stride shape) }
     requires inside { IsInside (shape_width shape) (shape_height shape) (as_window window) }
-    ensures part { IsPart count shape result.1 (as_window window) (as_stretch result.0) }
-    ensures within { IsWithin count (as_stretch result.0) }
+    ensures part { IsPart count shape result.1 (as_window window) result.0.start result.0.end }
+    ensures order { result.0.start ≤ result.0.end }
+    ensures within { result.0.end ≤ count }
 {
-    (shape.stretch(false, count, window), shape.window(window))
+    let part = shape.stretch(false, count, window);
+    (part.range(), shape.window(window))
 }
 
 /// Every pixel of the window becomes `value`.
@@ -35,7 +38,7 @@ pub(crate) fn fill_part<T: Copy>(cells: &mut [T], shape: Shape, window: Window, 
     ensures outside { SameOutside (shaped cells.old shape) (shaped cells.new shape) }
 {
     let (part, inner) = part_of(cells.len(), shape, window);
-    fill_pixels(&mut cells[part.range()], inner, value);
+    fill_pixels(&mut cells[part], inner, value);
 }
 
 /// The window gets the pixels of `source`, which has its size.
@@ -56,7 +59,7 @@ pub(crate) fn copy_part<T: Copy>(
     ensures outside { SameOutside (shaped cells.old shape) (shaped cells.new shape) }
 {
     let (part, inner) = part_of(cells.len(), shape, window);
-    copy_pixels(&mut cells[part.range()], inner, source, source_shape);
+    copy_pixels(&mut cells[part], inner, source, source_shape);
 }
 
 /// Each tile of the window, from its corner on, gets the pixel that stood at the tile's corner.
@@ -76,5 +79,5 @@ pub(crate) fn mosaic_part<T: Copy>(
     ensures outside { SameOutside (shaped cells.old shape) (shaped cells.new shape) }
 {
     let (part, inner) = part_of(cells.len(), shape, window);
-    mosaic_cells(&mut cells[part.range()], inner, tile_width, tile_height);
+    mosaic_cells(&mut cells[part], inner, tile_width, tile_height);
 }

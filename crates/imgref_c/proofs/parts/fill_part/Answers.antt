@@ -8,8 +8,8 @@ use Rattle.imgref_c.proofs.parts.fill_part.Goals as goal
 pub returns-clause-grid : goal.returns-clause-grid
 returns-clause-grid g c =
     let a = c.args in
-    part_grid _ _ _ _ _ c.part_of.ensures.part c.fill_pixels.new.cells c.fill_pixels.ensures.outside
+    part_grid _ _ _ _ _ _ c.part_of.ensures.part c.fill_pixels.new.cells c.fill_pixels.ensures.outside
     ∙ ap (patch (grid_of (shaped a.cells.now a.shape)) a.window.left a.window.top) (c.fill_pixels.ensures.grid ∙ (λ i. uniform (c.part_of.ensures.part.wide i) (c.part_of.ensures.part.high i) a.value))
 
 pub returns-clause-outside : goal.returns-clause-outside
-returns-clause-outside g c = part_outside _ _ _ _ _ c.part_of.ensures.part c.fill_pixels.new.cells c.fill_pixels.ensures.outside
+returns-clause-outside g c = part_outside _ _ _ _ _ _ c.part_of.ensures.part c.fill_pixels.new.cells c.fill_pixels.ensures.outside

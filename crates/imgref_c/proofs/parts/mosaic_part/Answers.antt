@@ -9,8 +9,8 @@ use Rattle.imgref_c.proofs.parts.mosaic_part.Goals as goal
 pub returns-clause-grid : goal.returns-clause-grid
 returns-clause-grid g c =
     let a = c.args in
-    part_grid _ _ _ _ _ c.part_of.ensures.part c.mosaic_cells.new.cells c.mosaic_cells.ensures.outside
-    ∙ ap (patch (grid_of (shaped a.cells.now a.shape)) a.window.left a.window.top) (c.mosaic_cells.ensures.grid ∙ ap (mosaic a.tile_width a.tile_height) (part_shows _ _ _ _ _ c.part_of.ensures.part))
+    part_grid _ _ _ _ _ _ c.part_of.ensures.part c.mosaic_cells.new.cells c.mosaic_cells.ensures.outside
+    ∙ ap (patch (grid_of (shaped a.cells.now a.shape)) a.window.left a.window.top) (c.mosaic_cells.ensures.grid ∙ ap (mosaic a.tile_width a.tile_height) (part_shows _ _ _ _ _ _ c.part_of.ensures.part))
 
 pub returns-clause-outside : goal.returns-clause-outside
-returns-clause-outside g c = part_outside _ _ _ _ _ c.part_of.ensures.part c.mosaic_cells.new.cells c.mosaic_cells.ensures.outside
+returns-clause-outside g c = part_outside _ _ _ _ _ _ c.part_of.ensures.part c.mosaic_cells.new.cells c.mosaic_cells.ensures.outside
