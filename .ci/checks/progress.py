@@ -1,7 +1,7 @@
 #!/usr/bin/env python3
 """Shows that what `make run` says of its progress moves, on a log that was recorded (.ci/recorded/build.log).
 
-It is the log of the proofs of image_cells and the crates below it, from nothing. Each line has the second, the crate, and
+It is the log of the proofs of a crate and of those below it, from nothing. Each line has the second, the crate, and
 what the prover said, or that the proof of the crate begins or ends. They are given to the same class that `make run` shows,
 second by second.
 """

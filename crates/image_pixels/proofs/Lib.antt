@@ -5,6 +5,4 @@ pub mod Reading
 pub mod Writing
 pub mod Runs
 pub mod Folds
-pub mod RowsWritten
 pub mod Lenders
-pub mod Mapping

@@ -1,4 +1,3 @@
 pub mod Loans
 pub mod Marks
 pub mod Pixels
-pub mod Mapping

@@ -9,7 +9,7 @@ use Rattle.image_model.specs.Tiles.{tile_start}
 use Rattle.image_model.specs.Windows.{window_view}
 use Rattle.image_model.proofs.Grids.{same_grids, covers_decides}
 use Rattle.image_model.proofs.Tiles.{tile_start-is}
-use Rattle.image_mosaics.specs.Mosaic.{mosaic}
+use Rattle.image_ops.specs.Mosaic.{mosaic}
 use Rattle.imgref.specs.Window.{as_window}
 use Rattle.image_planes.specs.Changes.{Job, job_len, changed, changed_plane, changed_planes, stepped, names}
 use Rattle.image_planes.specs.Unseen.{PlanesAlike, hidden_by, is_hidden, is_corner}

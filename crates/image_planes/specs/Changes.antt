@@ -5,7 +5,7 @@ use Rattle.image_model.specs.Grid.{Grid, grid_of, patch, uniform}
 use Rattle.image_model.specs.Rows.{grid_pixels}
 use Rattle.image_model.specs.Windows.{IsInside, is_inside, window, window_view}
 use Rattle.imgref.specs.Window.{as_window}
-use Rattle.image_mosaics.specs.Mosaic.{mosaic}
+use Rattle.image_ops.specs.Mosaic.{mosaic}
 use Rattle.std.specs.List.{list_all}
 use Rattle.image_planes.specs.declared.change.Step.{Step}
 use Rattle.image_planes.specs.declared.change.Change.{Change}

@@ -7,7 +7,7 @@ ghost use Rattle.imgref.specs.Image.{buf_of, width_of, height_of, mut_grid, mut_
 ghost use Rattle.imgref.specs.Shape.{shaped, shape_width, shape_height};
 ghost use Rattle.image_planes.specs.Changes.{IsChangeOf, changed};
 
-use image_mosaics::mosaic_cells;
+use image_ops::mosaic_cells;
 use imgref::{ImgRefMut, Shape, Window};
 
 /// What is done to an image, where a place gets values of this kind.

@@ -9,11 +9,9 @@ ghost use Rattle.image_model.specs.Windows.{IsInside, window, window_view};
 ghost use Rattle.image_shape.specs.Window.{as_window};
 ghost use Rattle.imgref.specs.Image.{width_of, height_of, grid_by, layout_by, OnlyCellsChange, ref_grid, ref_layout};
 
-use crate::containers::AsMutSlice;
+use crate::containers::{AsMutSlice, AsSlice};
 use crate::img::{Img, ImgRef};
-use image_cells::AsSlice;
-use image_moves::{move_pixels, swap_rows};
-use image_pixels::copy_pixels;
+use image_ops::{copy_pixels, move_pixels, swap_rows};
 use image_shape::Window;
 
 impl<C: AsMutSlice> Img<C> {

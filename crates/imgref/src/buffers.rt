@@ -5,9 +5,8 @@ ghost use Rattle.std.specs.Slice.Iter.{iter_rest};
 ghost use Rattle.std.specs.Iterator.Adapters.{IterYieldsInOrder, IterYieldsInReverse};
 ghost use Rattle.imgref.specs.Image.{buf_of, shape_of, layout_by};
 
-use crate::containers::AsMutSlice;
+use crate::containers::{AsMutSlice, AsSlice};
 use crate::img::Img;
-use image_cells::AsSlice;
 use std::slice::Iter;
 
 impl<C: AsSlice> Img<C> {

@@ -1,12 +1,25 @@
-//! Containers whose cells can be written, as images take them.
+//! Containers whose cells can be read or written, as images take them.
 
 ghost use Rattle.std.specs.Prelude.{◌≡◌, refl, Bool, true, false, ℕ, ◌+◌, ◌≤◌, ◌<◌, List, length, slice_set, slice_get, Some};
 ghost use Rattle.std.specs.Borrow.{sem, Lends, Array};
+ghost use Rattle.std.specs.Cow.{cow_slice_items};
 ghost use Rattle.std.specs.Vec.{with_items_from, with_item};
 ghost use Rattle.imgref.specs.Containers.{others_of_vec, stretch_of_vec, cell_of_vec, stretch_of_slice, cell_of_slice};
 ghost use Rattle.image_model.specs.Windows.{Stretch, whole, stretch_cells, with_stretch};
 
-use image_cells::AsSlice;
+use std::borrow::CowSlice;
+
+/// A container whose cells can be read as a slice.
+pub trait AsSlice {
+    type Item;
+
+    /// The cells, in their order.
+    ghost cells: { Self → List Self.Item };
+
+    /// The cells as a slice.
+    fn as_slice(&self) -> &[Self::Item]
+        ensures { result.now ≡ cells self.now };
+}
 
 /// A container whose cells can be written: a stretch of them, as an image lends its windows, or one,
 /// as it does by index. It stands for the Rust crate's bound `AsMut`.
@@ -57,6 +70,46 @@ pub trait AsMutSlice: AsSlice {
 
     /// So does a cell.
     ghost cell_is_cells: { (c : Self) (at : ℕ) (value : Self.Item) → at < length (Self.cells c) → with_cell c at value ≡ with_cells c (whole (Self.cells c)) (slice_set (Self.cells c) at value) };
+}
+
+impl<T> AsSlice for Vec<T> {
+    type Item = T;
+
+    ghost cells = { λ v. v.items };
+
+    fn as_slice(&self) -> &[T] {
+        self.as_slice()
+    }
+}
+
+impl<'a, T> AsSlice for &'a [T] {
+    type Item = T;
+
+    ghost cells = { λ s. s.now };
+
+    fn as_slice(&self) -> &[T] {
+        &self[..]
+    }
+}
+
+impl<'a, T> AsSlice for &'a mut [T] {
+    type Item = T;
+
+    ghost cells = { λ s. s.now };
+
+    fn as_slice(&self) -> &[T] {
+        &**self
+    }
+}
+
+impl<'a, T: Clone> AsSlice for CowSlice<'a, T> {
+    type Item = T;
+
+    ghost cells = { cow_slice_items };
+
+    fn as_slice(&self) -> &[T] {
+        self.as_ref()
+    }
 }
 
 impl<T> AsMutSlice for Vec<T> {

@@ -8,13 +8,12 @@ ghost use Rattle.image_model.specs.Layout.{Fits};
 ghost use Rattle.image_model.specs.Grid.{grid_of};
 ghost use Rattle.image_model.specs.Rows.{joined_rows};
 ghost use Rattle.image_model.specs.Compaction.{IsPacked, packed};
-ghost use Rattle.image_cells.specs.Clones.{ClonesEqual};
+ghost use Rattle.image_ops.specs.Clones.{ClonesEqual};
 ghost use Rattle.imgref.specs.Image.{buf_of, width_of, height_of, stride_of, vec_grid, vec_layout, ref_layout};
 ghost use Rattle.imgref.specs.Contiguous.{Rests, IsPackedFrom, vec_image};
 
 use crate::img::{ImgRef, ImgVec};
-use image_cells::contiguous;
-use image_moves::pack;
+use image_ops::{contiguous, pack};
 use std::alloc::{AllocError, Global};
 use std::borrow::CowSlice;
 

@@ -1,11 +1,12 @@
 //! Copies of images, padding included.
 
 ghost use Rattle.std.specs.Prelude.{◌≡◌, length, IsOk, IfOk};
-ghost use Rattle.image_cells.specs.Clones.{ClonesEqual};
+ghost use Rattle.image_ops.specs.Clones.{ClonesEqual};
 ghost use Rattle.imgref.specs.Image.{buf_of, layout_by, vec_layout};
 
+use crate::containers::AsSlice;
 use crate::img::{Img, ImgVec};
-use image_cells::{AsSlice, cloned};
+use image_ops::cloned;
 use std::alloc::{AllocError, Global};
 
 impl<C: AsSlice> Img<C> {

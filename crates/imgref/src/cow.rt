@@ -5,12 +5,12 @@ ghost use Rattle.std.specs.Cow.{IsBorrowedSlice, IsOwnedSlice};
 ghost use Rattle.image_model.specs.Layout.{Fits};
 ghost use Rattle.image_model.specs.Rows.{joined_rows};
 ghost use Rattle.image_model.specs.Compaction.{packed};
-ghost use Rattle.image_cells.specs.Clones.{ClonesEqual};
+ghost use Rattle.image_ops.specs.Clones.{ClonesEqual};
 ghost use Rattle.imgref.specs.Image.{buf_of, width_of, height_of, vec_layout};
 ghost use Rattle.imgref.specs.Copies.{cow_layout, IsBufferOf, IsOwnedAs, IsLentAs};
 
 use crate::img::{Img, ImgRef, ImgVec};
-use image_cells::{cloned, joined_clones};
+use image_ops::{cloned, joined_clones};
 use image_shape::Shape;
 use std::alloc::Global;
 use std::borrow::CowSlice;

@@ -5,8 +5,9 @@ ghost use Rattle.image_model.specs.Alike.{Alike, is_alike};
 ghost use Rattle.imgref.specs.Image.{layout_by, ref_layout};
 ghost use Rattle.imgref.specs.Eqhash.{equal_by, equal_per, equal_equiv, equal_fed, fed_image};
 
+use crate::containers::AsSlice;
 use crate::img::{Img, ImgRef};
-use image_cells::{AsSlice, are_equal, hash_pixels};
+use image_ops::{are_equal, hash_pixels};
 use std::hash::{Hash, Hasher};
 
 impl<C: AsSlice> Img<C> {

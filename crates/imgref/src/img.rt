@@ -5,7 +5,7 @@ ghost use Rattle.std.specs.Borrow.{sem, Lends};
 ghost use Rattle.image_model.specs.Layout.{Fits};
 ghost use Rattle.image_model.specs.Windows.{IsInside, window};
 
-use image_cells::AsSlice;
+use crate::containers::AsSlice;
 use image_shape::{Shape, Window};
 use std::alloc::AllocError;
 

@@ -8,9 +8,9 @@ ghost use Rattle.imgref.specs.contracts.img.Img.{the_row};
 ghost use Rattle.imgref.specs.Image.{width_of, height_of, layout_by};
 ghost use Rattle.imgref.specs.Index.{HasCell, with_cell_at, with_row, PatchesGrid, KeepsOutside, KeepsFit, RowPatchesGrid, RowKeepsOutside, RowKeepsFit};
 
-use crate::containers::AsMutSlice;
+use crate::containers::{AsMutSlice, AsSlice};
 use crate::img::Img;
-use image_cells::{AsSlice, row};
+use image_rows::row;
 use std::ops::{Index, IndexMut};
 
 /// The cell at column `x` of row `y`, by `img[(x, y)]`: cell `y * stride + x`. It may be padding, or

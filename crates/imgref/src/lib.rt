@@ -30,9 +30,9 @@ mod places;
 mod rows;
 mod window;
 
-pub use containers::AsMutSlice;
-pub use image_cells::AsSlice;
-pub use image_pixels::{PixelsIter, PixelsIterMut, PixelsRefIter, fill_pixels};
+pub use containers::{AsMutSlice, AsSlice};
+pub use image_ops::fill_pixels;
+pub use image_pixels::{PixelsIter, PixelsIterMut, PixelsRefIter};
 pub use image_rows::{End, RowsIter, RowsIterMut};
 pub use image_shape::{Shape, Stretch, Window};
 pub use img::{Img, ImgRef, ImgRefMut, ImgVec};

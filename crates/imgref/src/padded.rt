@@ -7,9 +7,8 @@ ghost use Rattle.std.specs.Iterator.Runs.{EveryRun, IsChunksRun, IsChunksRunBack
 ghost use Rattle.image_model.specs.Layout.{Layout};
 ghost use Rattle.imgref.specs.Image.{buf_of, layout_by, with_all, ref_layout, mut_layout};
 
-use crate::containers::AsMutSlice;
+use crate::containers::{AsMutSlice, AsSlice};
 use crate::img::{Img, ImgRef, ImgRefMut};
-use image_cells::AsSlice;
 use std::slice::{Chunks, ChunksMut};
 
 /// An image read as its whole buffer, cut into strides. It need not fit.

@@ -2,11 +2,11 @@
 
 ghost use Rattle.std.specs.Prelude.{MatchBool};
 ghost use Rattle.image_model.specs.Layout.{Fits};
-ghost use Rattle.image_cells.specs.Pairs.{TakesPlaces, AllPlacesAnswer, SomePlaceDiffers};
+ghost use Rattle.image_ops.specs.Pairs.{TakesPlaces, AllPlacesAnswer, SomePlaceDiffers};
 ghost use Rattle.imgref.specs.Image.{ref_layout};
 
 use crate::img::{Img, ImgRef};
-use image_cells::agree_at_places;
+use image_ops::agree_at_places;
 
 impl<'s, T> Img<&'s [T]> {
     /// Whether this image and another have one size and `f` is true of their pixels at every

@@ -11,10 +11,10 @@ ghost use Rattle.image_model.specs.Rows.{pixels as pixels_of, grid_pixels};
 ghost use Rattle.image_pixels.specs.Pixels.{refs_left, copies_left};
 ghost use Rattle.imgref.specs.Image.{buf_of, width_of, height_of, grid_by, layout_by, OnlyCellsChange, with_all, ref_grid, ref_layout};
 
-use crate::containers::AsMutSlice;
+use crate::containers::{AsMutSlice, AsSlice};
 use crate::img::Img;
-use image_cells::AsSlice;
-use image_pixels::{PixelsIter, PixelsIterMut, PixelsRefIter, fill_pixels, map_pixels};
+use image_ops::{fill_pixels, map_pixels};
+use image_pixels::{PixelsIter, PixelsIterMut, PixelsRefIter};
 use image_shape::Shape;
 
 impl<'s, T> Img<&'s [T]> {

@@ -7,10 +7,9 @@ ghost use Rattle.image_model.specs.Windows.{IsInside, window};
 ghost use Rattle.image_shape.specs.Window.{as_window};
 ghost use Rattle.imgref.specs.Image.{width_of, height_of, grid_by, layout_by, OnlyCellsChange};
 
-use crate::containers::AsMutSlice;
+use crate::containers::{AsMutSlice, AsSlice};
 use crate::img::Img;
-use image_cells::AsSlice;
-use image_pixels::fill_pixels;
+use image_ops::fill_pixels;
 use image_shape::Window;
 
 impl<C: AsSlice> Img<C> {

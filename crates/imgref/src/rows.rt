@@ -9,9 +9,8 @@ ghost use Rattle.image_shape.specs.Spacing.{whole_spacing};
 ghost use Rattle.imgref.specs.contracts.img.Img.{the_row};
 ghost use Rattle.imgref.specs.Image.{buf_of, width_of, height_of, stride_of, grid_by, layout_by, with_all, ref_grid, ref_layout};
 
-use crate::containers::AsMutSlice;
+use crate::containers::{AsMutSlice, AsSlice};
 use crate::img::Img;
-use image_cells::AsSlice;
 use image_rows::{RowsIter, RowsIterMut};
 
 impl<'s, T> Img<&'s [T]> {

@@ -10,9 +10,9 @@ ghost use Rattle.imgref.specs.contracts.img.Img.{the_row};
 ghost use Rattle.imgref.specs.Written.{WindowPatchesGrid, WindowKeepsOutside, WindowKeepsFit, WindowKeepsContainer};
 ghost use Rattle.imgref.specs.Image.{buf_of, width_of, height_of, stride_of, grid_by, layout_by, with_all, with_window, ref_grid, ref_layout, mut_grid, mut_layout};
 
-use crate::containers::AsMutSlice;
+use crate::containers::{AsMutSlice, AsSlice};
 use crate::img::{Img, ImgRef, ImgRefMut};
-use image_cells::{AsSlice, padded_part, padded_stretch_mut};
+use image_ops::{padded_part, padded_stretch_mut};
 use image_shape::{Shape, Stretch, Window};
 
 impl<'s, T> Img<&'s [T]> {

@@ -5,7 +5,7 @@ ghost use Rattle.imgref_c.specs.Words.{code, image_status, layout, Packs};
 
 use crate::images::ClaimedShape;
 use crate::status::Status;
-use image_moves::join_rows;
+use image_ops::join_rows;
 
 // The rows come one after the other at the front of the cells; the cells behind them stay.
 fn pack<T: Copy>(cells: &mut [T], claimed: ClaimedShape) -> Status

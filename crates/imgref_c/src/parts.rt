@@ -7,13 +7,12 @@ ghost use Rattle.std.specs.Prelude.{◌≡◌, ◌<◌, ◌≤◌};
 ghost use Rattle.image_model.specs.Layout.{Fits, Reaches, SameOutside};
 ghost use Rattle.image_model.specs.Grid.{patch, uniform};
 ghost use Rattle.image_model.specs.Windows.{IsInside, window_view};
-ghost use Rattle.image_mosaics.specs.Mosaic.{mosaic};
+ghost use Rattle.image_ops.specs.Mosaic.{mosaic};
 ghost use Rattle.image_shape.specs.Shape.{shape_width, shape_height, shape_stride, shaped_grid, shaped};
 ghost use Rattle.image_shape.specs.Window.{as_window};
 ghost use Rattle.imgref_c.specs.Part.{IsPart};
 
-use image_mosaics::mosaic_cells;
-use image_pixels::{copy_pixels, fill_pixels};
+use image_ops::{copy_pixels, fill_pixels, mosaic_cells};
 use image_shape::{Shape, Window};
 use std::ops::Range;
 

@@ -7,7 +7,7 @@ use crate::images::ClaimedShape;
 use crate::parts::{fill_part, mosaic_part};
 use crate::status::Status;
 use crate::window::ImgrefWindow;
-use image_moves::move_pixels;
+use image_ops::move_pixels;
 use image_shape::Window;
 
 // Every pixel of the window becomes `value`.

@@ -6,9 +6,9 @@ ghost use Rattle.image_model.specs.Grid.{patch};
 ghost use Rattle.image_model.specs.Windows.{IsInside, window_view};
 ghost use Rattle.imgref.specs.Image.{vec_grid, vec_layout, width_of, height_of};
 ghost use Rattle.imgref.specs.Window.{as_window};
-ghost use Rattle.image_mosaics.specs.Mosaic.{mosaic};
+ghost use Rattle.image_ops.specs.Mosaic.{mosaic};
 
-use image_mosaics::mosaic_cells;
+use image_ops::mosaic_cells;
 use imgref::{ImgVec, Window};
 
 /// Writes at every place of a window of an image the pixel, as it was, at the corner of its tile.

@@ -1,7 +1,7 @@
 -- The image shows at the window what was written there.
 use Rattle.std.proofs.Common.{ap, ◌∙◌}
 use Rattle.image_model.specs.Grid.{grid_of, patch}
-use Rattle.image_mosaics.specs.Mosaic.{mosaic}
+use Rattle.image_ops.specs.Mosaic.{mosaic}
 use Rattle.image_shape.specs.Shape.{shaped}
 use Rattle.imgref_c.proofs.Written.{part_shows, part_grid, part_outside}
 use Rattle.imgref_c.proofs.parts.mosaic_part.Goals as goal

@@ -2,7 +2,7 @@
 use Rattle.std.proofs.Common.{ap, ◌∙◌}
 use Rattle.image_model.specs.Grid.{grid_of, patch}
 use Rattle.imgref.specs.Image.{vec_layout}
-use Rattle.image_mosaics.specs.Mosaic.{mosaic}
+use Rattle.image_ops.specs.Mosaic.{mosaic}
 use Rattle.imgref_replay.proofs.mosaic.mosaic_window.Goals as goal
 
 pub returns-clause-grid : goal.returns-clause-grid

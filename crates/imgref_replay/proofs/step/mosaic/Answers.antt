@@ -3,7 +3,7 @@ use Rattle.image_model.specs.Grid.{patch, view}
 use Rattle.image_model.specs.Windows.{window_view}
 use Rattle.imgref.specs.Window.{as_window}
 use Rattle.imgref_replay.specs.Commands.{grids_of, sizes_of}
-use Rattle.image_mosaics.specs.Mosaic.{mosaic}
+use Rattle.image_ops.specs.Mosaic.{mosaic}
 use Rattle.imgref_replay.proofs.Images.{fits_at, inside_at}
 use Rattle.imgref_replay.proofs.Steps.{no_tile_fault, wrote}
 use Rattle.imgref_replay.proofs.step.mosaic.Goals as goal

@@ -3,7 +3,7 @@ use Rattle.std.proofs.Common.{sym, subst, ◌∙◌}
 use Rattle.std.specs.Cow.{IsBorrowedSlice, cow_slice_items}
 use Rattle.image_model.specs.Rows.{joined_rows}
 use Rattle.image_shape.specs.Shape.{shaped}
-use Rattle.image_cells.specs.Clones.{ClonesEqual}
+use Rattle.image_ops.specs.Clones.{ClonesEqual}
 use Rattle.imgref.proofs.SameImages.{image_is}
 use Rattle.imgref.proofs.cow.Img+CowSlice+T.into_owned.Goals as goal
 

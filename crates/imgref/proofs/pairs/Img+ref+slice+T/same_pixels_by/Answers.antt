@@ -1,6 +1,6 @@
 -- The cells in the shapes of the two images are the images.
 use Rattle.std.proofs.Common.{Bool, Bor, MatchBool, subst}
-use Rattle.image_cells.specs.Pairs.{AllPlacesAnswer, SomePlaceDiffers}
+use Rattle.image_ops.specs.Pairs.{AllPlacesAnswer, SomePlaceDiffers}
 use Rattle.image_shape.specs.declared.shape.Shape.{Shape}
 use Rattle.image_shape.specs.Shape.{shaped}
 use Rattle.imgref.proofs.pairs.Img+ref+slice+T.same_pixels_by.Goals as goal

@@ -1,8 +1,0 @@
-use Rattle.std.proofs.Common.{◌≡◌}
-use Rattle.std.specs.List.{fold}
-use Rattle.image_shape.specs.Shape.{shaped}
-use Rattle.image_cells.proofs.FirstRows.{fed_upto}
-use Rattle.image_cells.proofs.hashing.hash_pixels.Given as goal
-
-abbrev pub invariant-loop-y : goal.invariant-loop-y
-invariant-loop-y g l = l.state ≡ fold g.H.Hasher.write l.initial.state (fed_upto g.H.Hasher.write g.T.Hash.hash_input (shaped l.cells l.shape) l.y)

@@ -1,6 +1,0 @@
-use Rattle.std.proofs.Common.{◌<◌, ℕ, true}
-use Rattle.image_cells.specs.Pairs.{PairAnswers}
-use Rattle.image_cells.proofs.pairs.agree.Given as goal
-
-abbrev pub invariant-loop-k : goal.invariant-loop-k
-invariant-loop-k g l = (k : ℕ) → k < l.k → PairAnswers (goal.F-post g l.f) l.first l.second k true

@@ -1,2 +1,0 @@
-pub mod Clones
-pub mod Pairs

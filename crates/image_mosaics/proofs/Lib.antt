@@ -1,3 +1,0 @@
-pub mod Corners
-pub mod Spreading
-pub mod Mosaics

@@ -1,6 +1,0 @@
--- The rows so far show the mosaic.
-use Rattle.image_mosaics.proofs.Mosaics.{Shown}
-use Rattle.image_mosaics.proofs.mosaic.mosaic_cells.Given as goal
-
-abbrev pub invariant-loop-y : goal.invariant-loop-y
-invariant-loop-y g l = Shown l.initial.cells l.shape l.tile_width l.tile_height l.cells l.y

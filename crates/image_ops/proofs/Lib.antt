@@ -1,0 +1,10 @@
+pub mod FirstRows
+pub mod Elements
+pub mod EqualClones
+pub mod RowsWritten
+pub mod Mapping
+pub mod Moves
+pub mod Swaps
+pub mod Corners
+pub mod Spreading
+pub mod Mosaics

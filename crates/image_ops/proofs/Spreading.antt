@@ -1,0 +1,113 @@
+-- A row whose cells become the first ones of their tiles, from left to right.
+use Rattle.std.proofs.Common.{◌≡◌, ℕ, ◌+◌, ◌-◌, ◌<◌, ◌≤◌, ◌⊎◌, inl, inr, List, ◌++◌, length, set, take, drop, replicate, Some, refl, sym, ap, subst, ◌∙◌, arith, drop-drop}
+use Rattle.std.specs.List.{slice_get}
+use Rattle.std.proofs.lemmas.Bool.{cases_lt}
+use Rattle.std.proofs.lemmas.List.{length-set, length-replicate}
+use Rattle.image_model.specs.Tiles.{tile_start}
+use Rattle.image_model.specs.Windows.{Stretch, with_stretch}
+use Rattle.image_model.proofs.Cells.{slice_get-set_same, slice_get-set_other, slice_get-replicate}
+use Rattle.image_model.proofs.Stretches.{length-with_stretch, with_stretch_at, with_stretch_beside}
+use Rattle.image_ops.specs.Mosaic.{IsSpread}
+use Rattle.image_ops.proofs.Corners.{own_start, first_start, start_of, next_start}
+
+-- the cells before number x are spread, and those from it on are as before; a tile begins at the corner, which shows the pixel
+pub record SpreadUpto {T : Type 0} (tile : ℕ) (old now : List T) (corner x : ℕ) : Type 0 where
+  pub as_many : length now ≡ length old
+  pub each : (k : ℕ) → k < x → slice_get now k ≡ slice_get old (tile_start tile k)
+  pub others : (k : ℕ) → x ≤ k → slice_get now k ≡ slice_get old k
+  pub starts : corner < length old → tile_start tile corner ≡ corner
+  pub from : corner ≤ x
+  pub within : x ≤ corner + tile
+
+-- tiles of one cell are spread as they are
+pub single_cells : {T : Type 0} (tile : ℕ) (old : List T) → tile ≡ 1 → IsSpread tile old old
+single_cells tile old one = record { as_many = refl; each = λ x below. ap (slice_get old) (sym (ap (λ n. tile_start n x) one ∙ own_start x)) }
+
+module _ {T : Type 0} (tile : ℕ) (some : 0 < tile) (old : List T) where
+  -- none yet
+  pub none_spread : SpreadUpto tile old old 0 0
+  none_spread = record {
+    as_many = refl;
+    each = λ k below. absurd (omega (arith, below));
+    others = λ k above. refl;
+    starts = λ _. first_start tile;
+    from = omega arith;
+    within = omega arith;
+  }
+
+  -- all
+  pub all_spread : (now : List T) (corner x : ℕ) → x ≡ length old → SpreadUpto tile old now corner x → IsSpread tile old now
+  all_spread now corner x all so = record { as_many = so.as_many; each = λ k below. so.each k (omega (arith, below, all)) }
+
+  -- the next tile begins where the one before it ends
+  pub new_corner : (now : List T) (corner x : ℕ) → x ≡ corner + tile → SpreadUpto tile old now corner x → SpreadUpto tile old now x x
+  new_corner now corner x ends so = record {
+    as_many = so.as_many;
+    each = so.each;
+    others = so.others;
+    starts = λ below. ap (tile_start tile) ends ∙ next_start tile corner some (so.starts (omega (arith, below, so.from))) ∙ sym ends;
+    from = omega arith;
+    within = omega arith;
+  }
+
+  module _ (now : List T) (corner x : ℕ) (pixel : T) (so : SpreadUpto tile old now corner x) (shows : slice_get old corner ≡ Some pixel) where
+    -- one cell more
+    pub one_cell_more : x < corner + tile → x < length old → SpreadUpto tile old (set now x pixel) corner (x + 1)
+    one_cell_more inside here = record {
+      as_many = length-set now x pixel ∙ so.as_many;
+      each = λ k upto.
+          elim (cases_lt k x) [
+            | inl before ↦ slice_get-set_other now x k pixel (λ e. omega (arith, e, before)) ∙ so.each k before
+            | inr last ↦
+                let this : k ≡ x = omega (arith, upto, last) in
+                ap (slice_get (set now x pixel)) this
+                ∙ slice_get-set_same now x pixel (omega (arith, here, so.as_many))
+                ∙ sym shows
+                ∙ ap (slice_get old) (sym (start_of tile corner some (so.starts (omega (arith, here, so.from))) k (omega (arith, last, so.from)) (omega (arith, upto, inside))))
+          ];
+      others = λ k above. slice_get-set_other now x k pixel (λ e. omega (arith, e, above)) ∙ so.others k (omega (arith, above));
+      starts = so.starts;
+      from = omega (arith, so.from);
+      within = omega (arith, inside);
+    }
+
+  module _ (now : List T) (corner len : ℕ) (pixel : T) (so : SpreadUpto tile old now corner corner) (shows : slice_get old corner ≡ Some pixel) (below : corner < length old) (few : len ≤ tile) (inside : corner + len ≤ length old) (last : len ≡ tile ⊎ corner + len ≡ length old) where
+    abbrev part : Stretch
+    part = record { start = corner; len = len }
+
+    abbrev filled : List T
+    filled = with_stretch now part (replicate len pixel)
+
+    -- one tile more
+    one_tile : SpreadUpto tile old filled (corner + len) (corner + len)
+    one_tile =
+        let within : corner + len ≤ length now = omega (arith, inside, so.as_many) in
+        let long : length (replicate len pixel) ≡ len = length-replicate len pixel in
+        record {
+          as_many = length-with_stretch now part (replicate len pixel) within long ∙ so.as_many;
+          each = λ k upto.
+              elim (cases_lt k corner) [
+                | inl before ↦ with_stretch_beside now part (replicate len pixel) within long k (inl before) ∙ so.each k before
+                | inr here ↦
+                    let at : corner + (k - corner) ≡ k = omega (arith, here) in
+                    sym (ap (slice_get filled) at)
+                    ∙ with_stretch_at now part (replicate len pixel) within (k - corner) (omega (arith, upto, here, long))
+                    ∙ slice_get-replicate len (k - corner) pixel (omega (arith, upto, here))
+                    ∙ sym shows
+                    ∙ ap (slice_get old) (sym (start_of tile corner some (so.starts below) k here (omega (arith, upto, few))))
+              ];
+          others = λ k above. with_stretch_beside now part (replicate len pixel) within long k (inr above) ∙ so.others k (omega (arith, above));
+          starts = λ more. elim last [
+            | inl whole ↦ ap (λ n. tile_start tile (corner + n)) whole ∙ next_start tile corner some (so.starts below) ∙ ap (λ n. corner + n) (sym whole)
+            | inr end ↦ absurd (omega (arith, more, end))
+          ];
+          from = omega arith;
+          within = omega arith;
+        }
+
+    -- the same of the cells that a loop leaves: those before the tile, the tile, and those behind it
+    pub one_tile_more : SpreadUpto tile old (take corner now ++ (replicate len pixel ++ drop (corner + len - corner) (drop corner now))) (corner + len) (corner + len)
+    one_tile_more =
+        let back : corner + len - corner ≡ len = omega arith in
+        let rest : drop (corner + len - corner) (drop corner now) ≡ drop (corner + len) now = ap (λ n. drop n (drop corner now)) back ∙ drop-drop len corner now in
+        subst (λ cells. SpreadUpto tile old cells (corner + len) (corner + len)) (λ i. take corner now ++ (replicate len pixel ++ sym rest i)) one_tile

@@ -1,0 +1,4 @@
+pub mod Clones
+pub mod Mapping
+pub mod Mosaic
+pub mod Pairs

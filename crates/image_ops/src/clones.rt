@@ -1,0 +1,70 @@
+//! Copies of cells, and of the rows without padding.
+
+ghost use Rattle.std.specs.Prelude.{◌≡◌, ◌*◌, ◌↔◌, IsOk, IfOk, length};
+ghost use Rattle.std.specs.Cow.{cow_slice_items, IsBorrowedSlice};
+ghost use Rattle.image_model.specs.Layout.{Fits};
+ghost use Rattle.image_model.specs.Rows.{joined_rows};
+ghost use Rattle.image_shape.specs.Shape.{shape_width, shape_height, shape_stride, shaped};
+ghost use Rattle.image_ops.specs.Clones.{ClonesEqual};
+
+use image_rows::row;
+use image_shape::Shape;
+use std::alloc::{AllocError, Global};
+use std::borrow::CowSlice;
+use std::vec::VecCloneMethods;
+
+/// The cells in a buffer of their own, whose room is taken once. Of no cell none is taken.
+pub fn cloned<T: Clone>(alloc: Global, cells: &[T]) -> Result<Vec<T>, AllocError>
+    requires clones_equal { ClonesEqual T.is_clone cells.now }
+    ensures cells { IfOk result (λ v. v.items ≡ cells.now) }
+    ensures succeeds { length cells.now ≡ 0 → IsOk result }
+{
+    let mut buf: Vec<T> = Vec::with_capacity(alloc, cells.len())?;
+    if cells.is_empty() {
+        return Ok(buf);
+    }
+    buf.extend_from_slice(cells)?;
+    Ok(buf)
+}
+
+/// The rows one after the other in a buffer of their own, whose room is taken once. Of no pixel none
+/// is taken. The cells fit.
+pub fn joined_clones<T: Clone>(
+    alloc: Global,
+    cells: &[T],
+    shape: Shape,
+) -> Result<Vec<T>, AllocError>
+    requires fits { Fits (shaped cells.now shape) }
+    requires clones_equal { ClonesEqual T.is_clone (joined_rows (shaped cells.now shape)) }
+    ensures joined { IfOk result (λ v. v.items ≡ joined_rows (shaped cells.now shape)) }
+    ensures succeeds { shape_width shape * shape_height shape ≡ 0 → IsOk result }
+{
+    let mut pixels: Vec<T> = Vec::with_capacity(alloc, shape.pixel_count())?;
+    for y in 0..shape.row_count() {
+        pixels.extend_from_slice(row(cells, shape, y))?;
+    }
+    Ok(pixels)
+}
+
+/// The rows one after the other. The cells fit.
+///
+/// Where the width equals the stride the rows are lent, as the first `width * height` cells, and no
+/// memory is taken. Else they are cloned row by row; `AllocError` is then out of memory, or a
+/// pixel's own `clone` that refused. It never comes where there is no pixel.
+pub fn contiguous<'a, T: Clone>(
+    alloc: Global,
+    cells: &'a [T],
+    shape: Shape,
+) -> Result<CowSlice<'a, T>, AllocError>
+    requires fits { Fits (shaped cells.now shape) }
+    requires clones_equal { ClonesEqual T.is_clone (joined_rows (shaped cells.now shape)) }
+    ensures joined { IfOk result (λ pixels. cow_slice_items pixels ≡ joined_rows (shaped cells.now shape)) }
+    ensures borrowed { IfOk result (λ pixels. IsBorrowedSlice pixels ↔ (shape_width shape ≡ shape_stride shape)) }
+    ensures succeeds { shape_width shape ≡ shape_stride shape → IsOk result }
+    ensures no_pixel { shape_width shape * shape_height shape ≡ 0 → IsOk result }
+{
+    if shape.width() == shape.stride() {
+        return Ok(CowSlice::Borrowed(&cells[..shape.pixel_count()]));
+    }
+    Ok(CowSlice::Owned(joined_clones(alloc, cells, shape)?))
+}

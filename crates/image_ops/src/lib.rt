@@ -1,0 +1,33 @@
+//! What is done with cells in a shape as a whole: windows of them, equality and hash, comparison by
+//! a closure, copies without padding; fills, copies, maps and mosaics of the pixels; moves in place.
+//!
+//! Cells are a slice or a `Vec`, and a [`Shape`](image_shape::Shape) says how an image lies in
+//! them. The crate hides how the rows are gone through, and that pixels are moved in place by shifts
+//! of a [`RowMover`](row_mover::RowMover).
+#![tactic(auto)]
+
+mod clones;
+mod copy;
+mod equality;
+mod fill;
+mod hashing;
+mod map;
+mod mosaic;
+mod moving;
+mod packing;
+mod pairs;
+mod swapping;
+mod windows;
+
+pub use clones::{cloned, contiguous, joined_clones};
+pub use copy::copy_pixels;
+pub use equality::are_equal;
+pub use fill::{fill_cells, fill_pixels};
+pub use hashing::hash_pixels;
+pub use map::map_pixels;
+pub use mosaic::mosaic_cells;
+pub use moving::move_pixels;
+pub use packing::{join_rows, pack};
+pub use pairs::agree_at_places;
+pub use swapping::swap_rows;
+pub use windows::{padded_part, padded_stretch_mut};

@@ -1,0 +1,103 @@
+//! The mosaic of cells in a shape: each tile gets the pixel at its corner.
+
+ghost use Rattle.std.specs.Prelude.{◌≡◌, ◌+◌, ◌≤◌, ◌<◌, length};
+ghost use Rattle.image_model.specs.Layout.{Fits, SameOutside};
+ghost use Rattle.image_model.specs.Grid.{grid_of};
+ghost use Rattle.image_model.specs.Shifts.{shifted};
+ghost use Rattle.image_shape.specs.Shape.{shaped};
+ghost use Rattle.image_ops.specs.Mosaic.{mosaic, IsSpread};
+
+use crate::fill::fill_cells;
+use image_shape::{Shape, Stretch};
+
+// From this width on a tile's part of a row is filled by one call.
+const WIDE: usize = 16;
+
+// Each cell becomes the first one of its tile, cell by cell.
+fn spread_by_cells<T: Copy>(row: &mut [T], tile_width: usize)
+    requires wide { 0 < tile_width }
+    ensures { IsSpread tile_width row.old row.new }
+{
+    let Some(first) = row.first() else {
+        return;
+    };
+    let mut pixel = *first;
+    let mut corner = 0;
+    for x in 0..row.len() {
+        if x - corner == tile_width {
+            corner = x;
+            pixel = row[x];
+        }
+        row[x] = pixel;
+    }
+}
+
+// The same, tile by tile.
+fn spread_by_tiles<T: Copy>(row: &mut [T], tile_width: usize)
+    requires wide { 0 < tile_width }
+    ensures { IsSpread tile_width row.old row.new }
+{
+    let mut corner = 0;
+    while corner < row.len() {
+        let len = tile_width.min(row.len() - corner);
+        let pixel = row[corner];
+        fill_cells(&mut row[corner..corner + len], pixel);
+        corner += len;
+    }
+}
+
+// The same, by what is faster for such tiles. A tile of one cell shows that cell.
+fn spread<T: Copy>(row: &mut [T], tile_width: usize)
+    requires wide { 0 < tile_width }
+    ensures { IsSpread tile_width row.old row.new }
+{
+    if tile_width == 1 {
+        return;
+    }
+    if tile_width < WIDE {
+        spread_by_cells(row, tile_width);
+    } else {
+        spread_by_tiles(row, tile_width);
+    }
+}
+
+// Copies a row to a cell behind its end.
+fn repeat_row<T: Copy>(cells: &mut [T], row: Stretch, target: usize)
+    requires apart { row.start + row.len ≤ target }
+    requires target { target + row.len ≤ length cells.old }
+    ensures { cells.new ≡ shifted cells.old row.start row.len target }
+{
+    let (front, back) = cells.split_at_mut(target);
+    back[..row.len].copy_from_slice(&front[row.range()]);
+}
+
+/// Writes at every place that cells have in a shape the pixel, as it was, at the corner of its tile.
+/// The padding stays.
+///
+/// It goes row by row. The first row of a tile is spread, and each other one is a copy of the row
+/// above it.
+///
+/// # Requires
+///
+/// The cells fit the shape, and a tile has columns and rows.
+pub fn mosaic_cells<T: Copy>(cells: &mut [T], shape: Shape, tile_width: usize, tile_height: usize)
+    requires fits { Fits (shaped cells.old shape) }
+    requires wide { 0 < tile_width }
+    requires high { 0 < tile_height }
+    ensures grid { grid_of (shaped cells.new shape) ≡ mosaic tile_width tile_height (grid_of (shaped cells.old shape)) }
+    ensures outside { SameOutside (shaped cells.old shape) (shaped cells.new shape) }
+{
+    // A tile of one pixel shows that pixel.
+    if tile_width == 1 && tile_height == 1 {
+        return;
+    }
+    for y in 0..shape.row_count() {
+        let row = shape.row(cells.len(), y);
+        if y % tile_height == 0 {
+            spread(&mut cells[row.range()], tile_width);
+        } else {
+            let above = shape.row(cells.len(), y - 1);
+            repeat_row(cells, above, row.start);
+        }
+    }
+}

@@ -1,5 +1,0 @@
-use Rattle.image_pixels.proofs.Mapping.{AnsweredUpto}
-use Rattle.image_pixels.proofs.map.map_cells.Given as goal
-
-abbrev pub invariant-loop-cell : goal.invariant-loop-cell
-invariant-loop-cell g l = goal.F-IsAlwaysCallable g l.f × AnsweredUpto (goal.F-post g l.f) l.initial.cells l.cells l.cell-index

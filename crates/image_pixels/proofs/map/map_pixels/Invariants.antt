@@ -1,7 +1,0 @@
-use Rattle.image_shape.specs.Shape.{shape_stride}
-use Rattle.image_pixels.proofs.Mapping.{IsAnswer}
-use Rattle.image_pixels.proofs.RowsWritten.{RowsDone}
-use Rattle.image_pixels.proofs.map.map_pixels.Given as goal
-
-abbrev pub invariant-loop-y : goal.invariant-loop-y
-invariant-loop-y g l = RowsDone (IsAnswer (goal.F-post g l.f) l.initial.cells (shape_stride l.shape)) l.initial.cells l.cells l.shape l.y
