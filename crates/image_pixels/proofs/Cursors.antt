@@ -1,6 +1,6 @@
 -- What the walks of both pixel cursors over a pointer share: their machine value, an `if`'s first arm, and a count behind a `&`. Assumes `Logic`.
 use Rattle.std.proofs.Common.{refl, ℕ, ◌<◌, ◌^◌, List, [], ◌∷◌, w64}
-use Rattle.borrow_laws.proofs.Walking.{Ura, ty_int, skip, seq, assign, block, loop, cond, switch, exit, return, call, call_v, unreachable, lend_static, Val, vint, vptr, vstruct, vcons, vnil, Lft, Share, flft, fat, Logic, Item, flt_i, flt_l, ‵, ◌$◌, move, drop, rewrite, fsplit, fjoin, feq_i, feq_l, post, any_q, usize, cell_at, part_at, hidden_shr, Wp, Env, Calls, Loops, after_seq}
+use Rattle.borrow_laws.proofs.Walking.{Ura, ty_int, skip, cond, Val, vint, vptr, vstruct, vcons, vnil, Lft, Share, flft, fat, Logic, Item, flt_i, flt_l, ‵, ◌$◌, move, drop, rewrite, fsplit, fjoin, feq_i, feq_l, post, any_q, usize, cell_at, part_at, hidden_shr, Wp, Env, Calls, Loops, after_seq}
 use mir.Syntax as syntax
 use types.Kit.{Goal, Soaks, Step, step, Seq, Post}
 use denote.Copied.{uint_Copied}
@@ -19,19 +19,8 @@ module _ {M : Type 1} {𝓤 : Ura M} (𝓛 : Logic 𝓤) where
   then_runs C Λ E b q = any_q (after_seq 𝓤 H (Wp 𝓤 H C Λ E b (post 𝓤 H q)) (post 𝓤 H q))
 
 abbrev pub then_arm : syntax.Body → syntax.Body
-then_arm skip = skip
-then_arm (seq x₀ x₁) = skip
-then_arm (assign x₀ x₁) = skip
-then_arm (block x₀) = skip
-then_arm (loop x₀) = skip
 then_arm (cond x₀ x₁ x₂) = x₁
-then_arm (switch x₀ x₁) = skip
-then_arm (exit x₀) = skip
-then_arm return = skip
-then_arm (call x₀ x₁ x₂) = skip
-then_arm (call_v x₀ x₁ x₂ x₃) = skip
-then_arm unreachable = skip
-then_arm (lend_static x₀ x₁ x₂) = skip
+then_arm x₀ = skip
 
 -- a `usize` behind a `&` is looked at: [the word; the way back]
 module _ {M : Type 1} {𝓤 : Ura M} {𝓛 : Logic 𝓤} {K : Type 0} {Γ : List (Item 𝓤)} {G : Goal 𝓤 𝓛.H} where

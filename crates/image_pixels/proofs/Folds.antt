@@ -1,7 +1,8 @@
 -- A fold that is under way over the items of a cursor, taken a row at a time.
-use Rattle.std.proofs.Common.{◌≡◌, ◌<◌, ◌≤◌, ◌^◌, ◌*◌, ◌+◌, ℕ, zero, suc, true, Some, List, [], ◌∷◌, ◌++◌, length, drop, get_or, replicate, refl, sym, ap, ◌∙◌, arith, mul-le-mul_left}
+use Rattle.std.proofs.Common.{◌≡◌, ◌<◌, ◌≤◌, ◌^◌, ◌*◌, ◌+◌, ℕ, true, Some, List, [], ◌∷◌, ◌++◌, length, drop, get_or, replicate, refl, sym, ap, ◌∙◌, arith, mul-le-mul_left}
 use Rattle.std.proofs.iter.Next.{served, Serves-on, Yields-more}
 use Rattle.std.proofs.slice.Lists.{chained_more}
+use Rattle.std.proofs.lemmas.List.{drop_more, drop_all}
 use Rattle.std.specs.Fn.{Called, Takes}
 use Rattle.std.specs.List.{FoldsTo}
 use Rattle.std.specs.Iterator.{CallableInFold, FoldsItems, FoldTurn, YieldsFirstBy, Yields}
@@ -55,18 +56,11 @@ module _ {S A X F B : Type 0} (view : A → X) (rest : S → List X) (after : (s
 
 -- the items from the i-th on are that one and those after it
 pub from_item : {X : Type 0} (xs ys : List X) (i : ℕ) (x : X) → i < length xs → x ≡ get_or xs i x → drop i xs ++ ys ≡ x ∷ (drop (i + 1) xs ++ ys)
-from_item [] ys i x within e = absurd (omega (arith, within))
-from_item (z ∷ xs) ys zero x within e = ap (λ y. y ∷ (xs ++ ys)) (sym e)
-from_item (z ∷ xs) ys (suc i) x within e =
-    let on : suc i + 1 ≡ suc (i + 1) = omega arith in
-    from_item xs ys i x (omega (arith, within)) e ∙ ap (λ k. x ∷ (drop k (z ∷ xs) ++ ys)) (sym on)
+from_item xs ys i x within e = ap (λ zs. zs ++ ys) (drop_more xs i x within ∙ ap (λ y. y ∷ drop (i + 1) xs) (sym e))
 
 -- from the end on there is none
 pub from_end : {X : Type 0} (xs ys : List X) (i : ℕ) → length xs ≤ i → drop i xs ++ ys ≡ ys
-from_end [] ys zero past = refl
-from_end [] ys (suc i) past = refl
-from_end (z ∷ xs) ys zero past = absurd (omega (arith, past))
-from_end (z ∷ xs) ys (suc i) past = from_end xs ys i (omega (arith, past))
+from_end xs ys i past = ap (λ zs. zs ++ ys) (drop_all i xs past)
 
 -- ---- the pixel cursors for reading
 

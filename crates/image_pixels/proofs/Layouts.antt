@@ -38,10 +38,10 @@ module _ {X : Type 0} (l : Layout X) (wide : l.width ≤ l.stride) where
 
 -- ---- the marks of a size
 
-some_first : (w h : ℕ) → first_row w (suc h) ≡ w
+pub some_first : (w h : ℕ) → first_row w (suc h) ≡ w
 some_first w h = let some : (suc h == 0) ≡ false = grind (arith, nat_tests) in ap (λ b. cond b 0 w) some
 
-some_after : (w h : ℕ) → rows_after (suc w) h ≡ h - 1
+pub some_after : (w h : ℕ) → rows_after (suc w) h ≡ h - 1
 some_after w h = let some : (suc w == 0) ≡ false = grind (arith, nat_tests) in ap (λ b. cond b 0 (h - 1)) some
 
 -- the marks of a size reach no further than the cells that fit it

@@ -42,11 +42,7 @@ module _ {T : Type 0} (s : Spacing) (k : ℕ) (xs : List T) (lies : Lies s (leng
 
   -- the others lie in the cells that are kept
   pub rest_lies : (end : End) → Lies (without end k s) (length (far end (outer_cut end k s) xs))
-  rest_lies First = (
-    λ more. lies.0 (omega (arith, more)),
-    lies.1,
-    λ more. omega (arith, lies.1, reaches, apart, before, suc_times (s.count - k) s.stride more, mul_comm (s.count - k - 1) s.stride, length-drop (outer_cut First k s) xs),
-  )
+  rest_lies First = grind (arith, reaches, apart, before, suc_times, mul_comm, length-drop)
   rest_lies Last = (
     λ more. lies.0 (omega (arith, more)),
     lies.1,
@@ -62,8 +58,7 @@ module _ {T : Type 0} where
   -- the cells are put together again
   pub whole_is : (end : End) (outer inner : ℕ) (xs piece gone row kept : List T) → piece ≡ near end outer xs → kept ≡ far end outer xs
       → gone ≡ near end inner piece → row ≡ far end inner piece → xs ≡ beside end (beside end gone row) kept
-  whole_is end outer inner xs piece gone row kept is_piece is_kept is_gone is_row =
-      sym (two_sides end outer xs) ∙ ap₂ (beside end) (sym is_piece ∙ sym (two_sides end inner piece) ∙ ap₂ (beside end) (sym is_gone) (sym is_row)) (sym is_kept)
+  whole_is end outer inner xs piece gone row kept is_piece is_kept is_gone is_row = grind (arith, two_sides)
 
 -- ---- one row
 

@@ -2,7 +2,8 @@
 use Rattle.std.proofs.Common.{◌≡◌, ℕ, zero, suc, ◌+◌, ◌-◌, ◌*◌, ◌<◌, ◌≤◌, List, [], ◌∷◌, ◌++◌, All, length, get_or, take, drop, map, refl, sym, ap, subst, ◌∙◌, arith, suc-mul, ◌^◌, ap₂}
 use Rattle.std.specs.List.{range_with_len}
 use Rattle.std.proofs.Math.Nat.{mul-le-mul_right}
-use Rattle.std.proofs.lemmas.List.{drop-drop, drop-take, take-take}
+use Rattle.std.proofs.lemmas.List.{drop-drop, drop-take, take-take, take_all, length-drop}
+use Rattle.std.proofs.iter.Next.{firm}
 use Rattle.std.proofs.lemmas.List.Elements.{All-map}
 use Rattle.std.proofs.lemmas.List.FromFn.{map-range_with_len_more, length-range_with_len, get_or-range_with_len}
 use Rattle.image_model.specs.Grid.{grid_of}
@@ -94,9 +95,7 @@ module _ {T : Type 0} (cells : List T) (skip w s n : ℕ) (wide : 0 < w) (some :
       ∙ ap₂ (λ xs x. xs ++ take w x ∷ []) (sym earlier ∙ ap (λ xs. rows (layout xs w (n - 1) s)) (sym (drop-take skip before cells))) (drop-drop before skip cells)
 
 wide_row : {T : Type 0} (l : Layout T) → Fits l → (y : ℕ) → y < row_count l.width l.height → length (row l y) ≡ l.width
-wide_row l fits y below =
-    let wide : 0 < l.width = some_column l.width l.height y below in
-    length-row l y (rows_from_fits l fits wide y (omega (arith, row_count-le l.width l.height)))
+wide_row l fits y below = grind (arith, some_column, length-row, rows_from_fits, row_count-le)
 
 -- each row of a fitting layout is as long as it is wide
 rows_wide : {T : Type 0} (l : Layout T) → Fits l → All (λ r. length r ≡ l.width) (rows l)
@@ -112,6 +111,9 @@ abbrev pub AreRows : {T : Type 0} → Layout T → List (List T) → Type 0
 AreRows l left = (left ≡ grid_rows (grid_of l)) × (length left ≡ row_count l.width l.height) × (length left < 2 ^ 64) × All (λ r. length r ≡ l.width) left
 
 pub are_rows : {T : Type 0} (l : Layout T) (left : List (List T)) → left ≡ rows l → row_count l.width l.height < 2 ^ 32 → Fits l → AreRows l left
-are_rows l left are small fits =
-    let number : length left ≡ row_count l.width l.height = ap length are ∙ length-rows l in
-    (are ∙ sym (grid_rows_of l), number, omega (arith, number, small), subst (All (λ r. length r ≡ l.width)) (sym are) (rows_wide l fits))
+are_rows l left are small fits = grind (arith, length-rows, grid_rows_of, rows_wide)
+
+-- what the proofs of iterators go by: how many rows are left, and a row that comes off at either end
+pub ruleset counting = (length-rows_left)
+
+pub ruleset ends = (rows_first, rows_last, length-rows_left, take_all, length-drop, firm)

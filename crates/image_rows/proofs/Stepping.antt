@@ -1,5 +1,5 @@
 -- An iterator for writing is lent to `step` and comes back after it: what `next` and `next_back` share. Assumes `Logic`.
-use Rattle.std.proofs.Common.{sym, subst, ℕ, List, [], ◌∷◌, lit<, MutBor, Option, Some, None}
+use Rattle.std.proofs.Common.{arith, sym, subst, ℕ, List, [], ◌∷◌, lit<, MutBor, Option, Some, None}
 use Rattle.std.specs.contracts.option.Option as opt
 use Rattle.borrow_laws.proofs.Walking.{Ura, Fml, Lft, GName, Share, ftrue, fsep, fres, fbor, flft, SProp, ent, sep, emp, ex, guard, id⊢, ◌⊑◌, ⊑_trans, meet_⊑_right, Fun, fact, fact_i, named, Val, vptr, Memory, Routine, ‵, ◌⊛◌, raw, later, some, ◌$◌, ◌∵◌, !, qed, move, keep, split, split3, join, fsplit, use0, use1, use2, use3, await, pick, updating, show, check, done, at_once, Logic, sem, Body, Is, Typed, mem, row_Makes, param, RattleType, named_lft, MutSlice, nothing, owned, heard, triple_of, Contract}
 use Rattle.borrow_laws.proofs.Lifetimes as again
@@ -19,8 +19,7 @@ module _ (T : RattleType) {M : Type 1} {𝓤 : Ura M} (𝓛 : Logic 𝓤) (κ : 
   -- the machine value of a row that may be there has its type
   pub row_typed : (m : Option (MutBor (List T.Denot))) (v : Val) → Is Row m (v ∷ []) → Typed Row.mir (v ∷ [])
   row_typed None v is = subst (Typed Row.mir) (sym (none_told (MutSlice (named 1) κ (param 0 T)) (v ∷ []) is)) ((tt, (record { fits = lit< tt }, tt)), tt)
-  row_typed (Some w) v is =
-      subst (Typed Row.mir) (sym (some_told 𝓛 (named 1) κ (param 0 T) w (v ∷ []) is)) ((tt, (record { fits = lit< tt }, ((tt, (record { fits = is.1.1.1.1.0.0.1.0 }, tt)), tt))), tt)
+  row_typed (Some w) v is = grind (arith, some_told, lit<)
 
 -- where a step is taken: the lifetimes of the reference, of the cells and of their type, with shares of their tokens; where the iterator lies, under which name, and which it is; and the end
 pub record Turn (X : Type 0) : Type 0 where

@@ -55,7 +55,7 @@ impl<'a, T> Iterator for RowsIter<'a, T> {
 
     ghost remaining = { item_count refs_left };
 
-    #[tactic(auto, unfolding(crate::specs::Rows::refs_left))]
+    #[tactic(auto, using(crate::proofs::RowsLeft::ends), unfolding(crate::specs::Rows::refs_left))]
     fn next(&mut self) -> Option<&'a [T]> {
         if self.count == 0 {
             return None;
@@ -68,7 +68,7 @@ impl<'a, T> Iterator for RowsIter<'a, T> {
         Some(&cells[..self.width])
     }
 
-    #[tactic(auto, unfolding(crate::specs::Rows::refs_left))]
+    #[tactic(auto, using(crate::proofs::RowsLeft::counting), unfolding(crate::specs::Rows::refs_left))]
     fn size_hint(&self) -> (usize, Option<usize>)
         ensures lower { IsWithinCount result.0 (item_count refs_left self.now) }
         ensures upper { IfSome result.1 (UpTo (item_count refs_left self.now)) }
@@ -83,7 +83,7 @@ impl<'a, T> DoubleEndedIterator for RowsIter<'a, T> {
 
     ghost next_back_gives = { YieldsLastRef refs_left };
 
-    #[tactic(auto, unfolding(crate::specs::Rows::refs_left))]
+    #[tactic(auto, using(crate::proofs::RowsLeft::ends), unfolding(crate::specs::Rows::refs_left))]
     fn next_back(&mut self) -> Option<&'a [T]> {
         if self.count == 0 {
             return None;

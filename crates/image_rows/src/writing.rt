@@ -121,7 +121,7 @@ impl<'a, T> Iterator for RowsIterMut<'a, T> {
         RowsIterMut::next(self)
     }
 
-    #[tactic(auto, unfolding(crate::specs::Rows::muts_left))]
+    #[tactic(auto, using(crate::proofs::RowsLeft::counting), unfolding(crate::specs::Rows::muts_left))]
     fn size_hint(&self) -> (usize, Option<usize>)
         ensures lower { IsWithinCount result.0 (item_count muts_left self.now) }
         ensures upper { IfSome result.1 (UpTo (item_count muts_left self.now)) }

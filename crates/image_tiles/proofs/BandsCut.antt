@@ -1,5 +1,5 @@
 -- A band taken off the cells: it and what is kept are a step of the iterator.
-use Rattle.std.proofs.Common.{◌≡◌, ℕ, ◌-◌, ◌<◌, List, ◌∷◌, drop, take, None, Some, MutBor, sym, ap, ◌∙◌, ap₂}
+use Rattle.std.proofs.Common.{arith, ◌≡◌, ℕ, ◌<◌, List, drop, take, None, Some, MutBor}
 use Rattle.std.proofs.lemmas.List.{drop-drop, drop-take}
 use Rattle.std.specs.Iterator.{YieldsFirstBy}
 use Rattle.image_model.specs.Layout.{Layout, layout}
@@ -27,16 +27,7 @@ pub given : {T : Type 0} (s t : BandsMut T) (band : Img (MutBor (List T))) (one 
     → band.buf.now ≡ drop s.spacing.rows.skip (take (cut_end s.spacing) s.cells.now) → band.width ≡ s.spacing.rows.width → band.height ≡ band_rows s.spacing → band.stride ≡ s.spacing.rows.stride
     → t.cells.now ≡ drop (cut_end s.spacing) s.cells.now → t.spacing ≡ behind s.spacing → YieldsFirstBy mut_layout bands_left s (Some band) t
 unfolding bands_left
-given s t band one is_band wide tall apart is_kept is_rest =
-    let p = s.spacing in
-    let r = p.rows in
-    let xs = s.cells.now in
-    let same : layout (take (len p) (drop r.skip xs)) r.width (band_rows p) r.stride ≡ mut_layout band =
-    λ i. layout (sym (is_band ∙ drop-take r.skip (len p) xs) i) (sym wide i) (sym tall i) (sym apart i) in
-    let others : bands (layout (drop (r.stride - r.width) (drop (len p) (drop r.skip xs))) r.width (r.count - band_rows p) r.stride) p.band_height ≡ bands_in t.spacing t.cells.now =
-    ap (λ ys. bands_in (behind p) ys) (drop-drop (len p) r.skip xs ∙ sym is_kept) ∙ ap (λ q. bands_in q t.cells.now) (sym is_rest) in
-    first_off (drop r.skip xs) r.width r.count r.stride p.band_height (s.some one) one s.high s.holds_width
-    ∙ ap₂ (λ b bs. b ∷ bs) same others
+given s t band one is_band wide tall apart is_kept is_rest = grind (arith, drop-take, drop-drop, first_off)
 
 -- without a row there is no step
 pub none_at : {T : Type 0} (s : BandsMut T) → s.spacing.rows.count ≡ 0 → YieldsFirstBy mut_layout bands_left s None s

@@ -1,5 +1,5 @@
 -- The bands of a list of cells, taken off at the front.
-use Rattle.std.proofs.Common.{◌≡◌, ℕ, zero, suc, ◌+◌, ◌-◌, ◌*◌, ◌/◌, ◌%◌, ◌<◌, ◌≤◌, false, inl, inr, List, [], ◌∷◌, All, get_or, take, drop, length, map, min, refl, sym, ap, subst, ◌∙◌, arith, suc-mul, ap₂, ◌==◌}
+use Rattle.std.proofs.Common.{◌≡◌, ℕ, zero, suc, ◌+◌, ◌-◌, ◌*◌, ◌/◌, ◌<◌, ◌≤◌, inl, inr, List, [], ◌∷◌, All, get_or, take, drop, length, min, refl, sym, ap, subst, ◌∙◌, arith, suc-mul, ◌==◌}
 use Rattle.std.specs.List.{range_with_len}
 use Rattle.std.proofs.Math.Nat.{mul-add, mul-suc}
 use Rattle.std.proofs.lemmas.Bool.{cond-false, cases_lt}
@@ -11,7 +11,7 @@ use Rattle.std.proofs.lemmas.List.Elements.{All-map}
 use Rattle.image_model.proofs.Windows.{exact_fits}
 use Rattle.image_model.specs.Layout.{Layout, Fits, layout}
 use Rattle.image_model.specs.Tiles.{tile_count}
-use Rattle.image_model.specs.Windows.{window, is_empty, exact_window}
+use Rattle.image_model.specs.Windows.{window, exact_window}
 use Rattle.image_model.proofs.Tables.{map_along}
 use Rattle.image_model.proofs.Tiles.{tile_begins}
 use Rattle.image_tiles.specs.declared.bands.BandsMut.{BandsMut}
@@ -19,12 +19,7 @@ use Rattle.image_tiles.specs.Bands.{band_count, band_window, bands, bands_left}
 
 -- one tile more, where as many places come before the others
 count_more : (tile n : ℕ) → 0 < tile → tile_count tile (n + tile) ≡ suc (tile_count tile n)
-count_more tile n some =
-    let m : ℕ = n + (tile - 1) in
-    let parts = div-add-mod' m tile in
-    let rest = mod_below m tile some in
-    let e : n + tile + (tile - 1) ≡ suc (m / tile) * tile + m % tile = omega (arith, parts, suc-mul (m / tile) tile) in
-    ap (λ k. k / tile) e ∙ div-mul-add (suc (m / tile)) tile (m % tile) rest
+count_more tile n some = grind (arith, div-add-mod', mod_below, suc-mul, div-mul-add)
 
 -- no place, no tile
 count_none : (tile : ℕ) → 0 < tile → tile_count tile 0 ≡ 0
@@ -36,12 +31,7 @@ count_one tile n some high low = let e : n + (tile - 1) ≡ 1 * tile + (n - 1) =
 
 -- a window with a place has its exact cells
 with_place : {T : Type 0} (xs : List T) (w n s top h : ℕ) → 0 < w → 0 < h → exact_window (layout xs w n s) (window 0 top w h) ≡ layout (take (s * (h - 1) + w) (drop (s * top) xs)) w h s
-with_place xs w n s top h wide high =
-    let some : is_empty (window 0 top w h) ≡ false = grind (arith, nat_tests) in
-    let start = cond-false (is_empty (window 0 top w h)) 0 (s * top + 0) some in
-    let len = cond-false (is_empty (window 0 top w h)) 0 (s * (h - 1) + w) some in
-    let at : s * top + 0 ≡ s * top = omega arith in
-    ap₂ (λ i m. layout (take m (drop i xs)) w h s) (start ∙ at) len
+with_place xs w n s top h wide high = grind (arith, cond-false, nat_tests)
 
 module _ {T : Type 0} (xs : List T) (w n s bh : ℕ) (wide : 0 < w) (some : 0 < n) (high : 0 < bh) (narrow : w ≤ s) where
   abbrev k : ℕ
@@ -63,19 +53,10 @@ module _ {T : Type 0} (xs : List T) (w n s bh : ℕ) (wide : 0 < w) (some : 0 < 
   left = tile_count bh (n - k)
 
   counted : tile_count bh n ≡ suc left
-  counted =
-      elim (cases_lt bh n) [
-        | inl more ↦ let e : n ≡ n - k + bh = omega arith in ap (tile_count bh) e ∙ count_more bh (n - k) high
-        | inr last ↦ let e : 0 ≡ n - k = omega arith in count_one bh n high some (omega arith) ∙ ap suc (sym (count_none bh high) ∙ ap (tile_count bh) e)
-      ]
+  counted = grind (arith, count_more, count_one, count_none)
 
   first : band 0 ≡ layout (take len xs) w k s
-  first =
-      let top : s * (0 * bh) ≡ 0 = ap (λ t. s * t) (let e : 0 * bh ≡ 0 = omega arith in e) ∙ (let e : s * 0 ≡ 0 = omega arith in e) in
-      let h : min bh (n - 0 * bh) ≡ k = let e : n - 0 * bh ≡ n = omega arith in ap (min bh) e in
-      ap (λ m. exact_window (layout xs w n s) (window 0 (0 * bh) w m)) h
-      ∙ with_place xs w n s (0 * bh) k wide (omega (arith, some, high))
-      ∙ ap (λ i. layout (take len (drop i xs)) w k s) top
+  first = grind (arith, with_place)
 
   further : (j : ℕ) → j < left → band (1 + j) ≡ later (0 + j)
   further j below =
@@ -102,14 +83,7 @@ module _ {T : Type 0} (xs : List T) (w n s bh : ℕ) (wide : 0 < w) (some : 0 < 
 
   -- the first band comes off, and the padding behind it is skipped next
   pub first_off : bands (layout xs w n s) bh ≡ layout (take len xs) w k s ∷ bands (layout rest w (n - k) s) bh
-  first_off =
-      let count : band_count w n bh ≡ suc left = cond_wide n ∙ counted in
-      let count' : band_count w (n - k) bh ≡ left = cond_wide (n - k) in
-      ap (λ c. map band (range_with_len 0 c)) count
-      ∙ ap₂ (λ x ys. x ∷ ys) first (map_along band later 1 0 left further ∙ ap (λ c. map later (range_with_len 0 c)) (sym count'))
-    where
-      cond_wide : (m : ℕ) → band_count w m bh ≡ tile_count bh m
-      cond_wide m = cond-false (w == 0) 0 (tile_count bh m) (grind (arith, nat_tests))
+  first_off = grind (arith, counted, first, map_along, further, cond-false, nat_tests)
 
 band_count_none : (v bh : ℕ) → 0 < bh → band_count v 0 bh ≡ 0
 band_count_none zero bh high = refl
@@ -117,9 +91,7 @@ band_count_none (suc v) bh high = cond-false (suc v == 0) 0 (tile_count bh 0) (g
 
 -- with no row there is no band
 pub no_bands : {T : Type 0} (xs : List T) (w n s bh : ℕ) → 0 < bh → n ≡ 0 → bands (layout xs w n s) bh ≡ []
-no_bands xs w n s bh high none =
-    let count : band_count w n bh ≡ 0 = ap (λ m. band_count w m bh) none ∙ band_count_none w bh high in
-    ap (λ c. map (λ j. exact_window (layout xs w n s) (band_window w n bh j)) (range_with_len 0 c)) count
+no_bands xs w n s bh high none = grind (arith, band_count_none)
 
 -- as many bands as tiles along the height, if there is a column
 pub length-bands : {T : Type 0} (xs : List T) (w n s bh : ℕ) → (0 < n → 0 < w) → 0 < bh → length (bands (layout xs w n s) bh) ≡ tile_count bh n

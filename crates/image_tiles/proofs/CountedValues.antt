@@ -1,6 +1,6 @@
 -- What the proof by hand of `next_tile` passes on: a reference with a number, as machine values. Assumes `Logic`.
-use Rattle.std.proofs.Common.{◌≡◌, refl, ◌∙◌, ℕ, ◌^◌, ◌<◌, List, [], ◌∷◌, ◌++◌, w64, MutBor}
-use Rattle.borrow_laws.proofs.Walking.{Ura, Lft, ent, Lifetime, Val, vint, vptr, vstruct, vcons, vnil, of_list, Logic, sem, ‵, ◌$◌, ◌∵◌, !, qed, keep, drop, fsplit, fpick, rewrite, done, usize, Is, shows, RattleType, MutRef, mut_Tells, peeks, Tuple}
+use Rattle.std.proofs.Common.{arith, ◌≡◌, refl, ℕ, ◌^◌, ◌<◌, List, [], ◌∷◌, w64, MutBor}
+use Rattle.borrow_laws.proofs.Walking.{Ura, Lft, ent, Lifetime, Val, vint, vptr, vstruct, vcons, vnil, Logic, sem, ‵, ◌$◌, ◌∵◌, !, qed, keep, drop, fsplit, fpick, rewrite, done, usize, Is, shows, RattleType, MutRef, mut_Tells, peeks, Tuple}
 
 abbrev pub counted_val : ℕ × ℕ → ℕ → Val
 counted_val p n = vstruct (vcons (vptr p.0 p.1) (vcons (vint w64 n) vnil))
@@ -13,9 +13,7 @@ module _ (ℓ : Lifetime) (κ : Lft) (R : RattleType) where
   Counted = Tuple (Ref ∷ usize ∷ [])
 
   pub counted_told : (x : MutBor R.Denot × ℕ) (vs : List Val) → Is Counted x vs → (vs ≡ counted_val x.0.ref_ptr x.1 ∷ []) × (x.1 < 2 ^ 64)
-  counted_told x vs s =
-      let p = mut_Tells ℓ κ R x.0 s.0.0 s.1.1.0 in
-      (s.1.0 ∙ (λ i. vstruct (of_list (p i ++ (s.1.1.1.0.0 i ++ []))) ∷ []), s.1.1.1.0.1)
+  counted_told x vs s = grind arith
 
   module _ {M : Type 1} {𝓤 : Ura M} (𝓛 : Logic 𝓤) where
     pub counted_out : (x : MutBor R.Denot × ℕ) (vs : List Val) → ent 𝓤 (sem 𝓛 (Counted.own_val x vs)) (sem 𝓛 (Ref.own_val x.0 (vptr x.0.ref_ptr.0 x.0.ref_ptr.1 ∷ [])))

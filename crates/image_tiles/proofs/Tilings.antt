@@ -1,10 +1,11 @@
 -- A tiling by the tile column and the tile row of its next window.
-use Rattle.std.proofs.Common.{◌≡◌, ℕ, zero, suc, ◌+◌, ◌-◌, ◌*◌, ◌/◌, ◌%◌, ◌<◌, ◌≤◌, true, false, inl, inr, List, [], ◌∷◌, drop, length, length-drop, Option, Some, None, refl, sym, ap, ◌∙◌, subst, arith, Bool, if◌then◌else◌, ◌^◌, IfSome, ap₂}
+use Rattle.std.proofs.lemmas.Bool.Decides.{nat_tests}
+use Rattle.std.proofs.lemmas.List.{places, drop_more, drop_all}
+use Rattle.std.proofs.Common.{◌≡◌, ℕ, ◌+◌, ◌-◌, ◌*◌, ◌/◌, ◌<◌, ◌≤◌, true, false, inl, inr, List, [], ◌∷◌, drop, length, length-drop, Option, Some, None, sym, ap, ◌∙◌, subst, arith, if◌then◌else◌, ◌^◌, IfSome}
 use Rattle.std.specs.List.{slice_get}
 use Rattle.std.specs.Option.{SomeIff}
 use Rattle.std.proofs.lemmas.Bool.{cases_lt, cond-true, cond-false, lt-ltb, ltb-true, false_from_ne_true}
 use Rattle.std.proofs.lemmas.Nat.{div-add-mod', mod_below, div-mul-add}
-use Rattle.std.proofs.lemmas.List.{drop_more, drop_all}
 use Rattle.std.proofs.lemmas.Option.{slice_get_within, get_or_from_slice_get, none-some}
 use Rattle.std.proofs.Math.Nat.{suc-mul, add-mul, mul-le-mul}
 use Rattle.image_model.specs.Grid.{is_place}
@@ -13,7 +14,7 @@ use Rattle.image_model.specs.Tiles.{tile_count, tile, tiles}
 use Rattle.image_model.proofs.Grids.{is_place_decides}
 use Rattle.image_model.proofs.Tiles.{tile_begins, tile_at, length-tiles}
 use Rattle.image_tiles.specs.declared.tiling.Tiling.{Tiling}
-use Rattle.image_tiles.specs.Tiling.{windows_left, has_tile, tile_now, goes_right, stepped}
+use Rattle.image_tiles.specs.Tiling.{windows_left, has_tile, tile_now, stepped}
 
 module _ (width height tile_width tile_height : ℕ) (wide : 0 < tile_width) (high : 0 < tile_height) where
   abbrev all : List Window
@@ -29,28 +30,7 @@ module _ (width height tile_width tile_height : ℕ) (wide : 0 < tile_width) (hi
 
     -- at the first tile all are left
     pub all_left : left_at tile_columns tile_rows 0 0 ≡ all
-    all_left =
-        elim (cases_lt 0 (length all)) [
-          | inl some ↦ cond-true (is_place tile_columns tile_rows 0 0) (drop (0 * tile_columns + 0) all) [] ((is_place_decides tile_columns tile_rows 0 0).1 (positive tile_columns tile_rows (omega (arith, some, length-all)), positive_left tile_columns tile_rows (omega (arith, some, length-all))))
-              ∙ (let e : 0 * tile_columns + 0 ≡ 0 = omega arith in ap (λ n. drop n all) e)
-          | inr none ↦ either (is_place tile_columns tile_rows 0 0) (drop (0 * tile_columns + 0) all) (drop_all (0 * tile_columns + 0) all (omega (arith, none))) ∙ sym (no_tile all (omega (arith, none)))
-        ]
-      where
-        positive : (m n : ℕ) → 0 < n * m → 0 < m
-        positive zero n h = absurd (omega (arith, h))
-        positive (suc m) n h = omega arith
-
-        positive_left : (m n : ℕ) → 0 < n * m → 0 < n
-        positive_left m zero h = absurd (omega (arith, h))
-        positive_left m (suc n) h = omega arith
-
-        no_tile : (ws : List Window) → length ws ≤ 0 → ws ≡ []
-        no_tile [] h = refl
-        no_tile (w ∷ ws) h = absurd (omega (arith, h))
-
-        either : (b : Bool) (ws : List Window) → ws ≡ [] → (if b then ws else []) ≡ []
-        either true ws e = e
-        either false ws e = refl
+    all_left = grind (arith, cond-true, is_place_decides, length-all, drop_all)
 
     module _ (tile_column tile_row : ℕ) (here : is_place tile_columns tile_rows tile_column tile_row ≡ true) where
       abbrev k : ℕ
@@ -90,46 +70,20 @@ module _ (width height tile_width tile_height : ℕ) (wide : 0 < tile_width) (hi
 
       -- so many are left
       pub count : length (left_at tile_columns tile_rows tile_column tile_row) ≡ (tile_rows - tile_row - 1) * tile_columns + (tile_columns - tile_column)
-      count =
-          let parts : tile_rows * tile_columns ≡ (tile_rows - tile_row - 1) * tile_columns + (tile_columns + tile_row * tile_columns) = ap (λ l. l * tile_columns) (omega (arith, in_tile_row)) ∙ both in
-          ap length (cond-true (is_place tile_columns tile_rows tile_column tile_row) (drop k all) [] here) ∙ length-drop k all ∙ omega (arith, length-all, parts, in_tile_column)
-        where
-          both : (tile_rows - tile_row - 1 + suc tile_row) * tile_columns ≡ (tile_rows - tile_row - 1) * tile_columns + (tile_columns + tile_row * tile_columns)
-          both = add-mul (tile_rows - tile_row - 1) (suc tile_row) tile_columns ∙ ap (λ n. (tile_rows - tile_row - 1) * tile_columns + n) (let e = suc-mul tile_row tile_columns in omega (arith, e))
+      count = grind (arith, places, nat_tests, cond-true, length-drop, length-all, add-mul, suc-mul)
 
       -- with a tile column behind it, the next tile stands there
       pub right : tile_column + 1 < tile_columns → left_at tile_columns tile_rows tile_column tile_row ≡ it ∷ left_at tile_columns tile_rows (tile_column + 1) tile_row
-      right more =
-          let e : k + 1 ≡ tile_row * tile_columns + (tile_column + 1) = omega arith in
-          first ∙ ap (λ n. it ∷ drop n all) e ∙ ap (λ ws. it ∷ ws) (sym (cond-true (is_place tile_columns tile_rows (tile_column + 1) tile_row) _ _ ((is_place_decides tile_columns tile_rows (tile_column + 1) tile_row).1 (more, in_tile_row))))
+      right more = grind (arith, first, cond-true, is_place_decides)
 
       -- behind the last tile column it is the first one of the tile row below
       pub down : tile_columns ≤ tile_column + 1 → left_at tile_columns tile_rows tile_column tile_row ≡ it ∷ left_at tile_columns tile_rows 0 (tile_row + 1)
-      down last =
-          let e : k + 1 ≡ (tile_row + 1) * tile_columns + 0 = let up : tile_row + 1 ≡ suc tile_row = omega arith in omega (arith, suc-mul tile_row tile_columns, ap (λ l. l * tile_columns) up, last, in_tile_column) in
-          first ∙ ap (λ n. it ∷ drop n all) e ∙ ap (λ ws. it ∷ ws) (sym (elim (cases_lt (tile_row + 1) tile_rows) [
-            | inl more ↦ cond-true (is_place tile_columns tile_rows 0 (tile_row + 1)) _ _ ((is_place_decides tile_columns tile_rows 0 (tile_row + 1)).1 (omega (arith, in_tile_column), more))
-            | inr none ↦ cond-false (is_place tile_columns tile_rows 0 (tile_row + 1)) _ _ (false_from_ne_true (is_place tile_columns tile_rows 0 (tile_row + 1)) (λ h. absurd (omega (arith, none, ((is_place_decides tile_columns tile_rows 0 (tile_row + 1)).0 h).1)))) ∙ sym (drop_all ((tile_row + 1) * tile_columns + 0) all (past none))
-          ]))
-        where
-          past : tile_rows ≤ tile_row + 1 → length all ≤ (tile_row + 1) * tile_columns + 0
-          past none = let same : tile_rows ≡ tile_row + 1 = omega (arith, none, in_tile_row) in omega (arith, length-all, ap (λ l. l * tile_columns) same)
+      down last = grind (arith, suc-mul, first, cond-true, is_place_decides, cond-false, false_from_ne_true, drop_all, length-all)
 
 -- the windows that are left are the next one and those behind it
 pub goes_on : (t : Tiling) → has_tile t ≡ true → windows_left t ≡ tile_now t ∷ windows_left (stepped t)
 unfolding windows_left
-goes_on t here =
-    elim (cases_lt (t.tile_column + 1) t.tile_columns) [
-      | inl more ↦ let to : goes_right t ≡ true = lt-ltb (t.tile_column + 1) t.tile_columns more in
-          right t.width t.height t.tile_width t.tile_height t.wide t.high t.tile_columns t.tile_rows t.tile_columns_are t.tile_rows_are t.tile_column t.tile_row here more
-          ∙ ap (λ ws. tile_now t ∷ ws) (sym (ap₂ (λ i j. left t i j) (cond-true (goes_right t) (t.tile_column + 1) 0 to) (cond-true (goes_right t) t.tile_row (t.tile_row + 1) to)))
-      | inr last ↦ let to : goes_right t ≡ false = false_from_ne_true (goes_right t) (λ h. absurd (omega (arith, last, ltb-true (t.tile_column + 1) t.tile_columns h))) in
-          down t.width t.height t.tile_width t.tile_height t.wide t.high t.tile_columns t.tile_rows t.tile_columns_are t.tile_rows_are t.tile_column t.tile_row here last
-          ∙ ap (λ ws. tile_now t ∷ ws) (sym (ap₂ (λ i j. left t i j) (cond-false (goes_right t) (t.tile_column + 1) 0 to) (cond-false (goes_right t) t.tile_row (t.tile_row + 1) to)))
-    ]
-  where
-    left : Tiling → ℕ → ℕ → List Window
-    left t i j = if is_place t.tile_columns t.tile_rows i j then drop (j * t.tile_columns + i) (tiles t.width t.height t.tile_width t.tile_height) else []
+goes_on t here = grind (arith, lt-ltb, right, cond-true, false_from_ne_true, ltb-true, down, cond-false)
 
 -- where none is left, the list is empty
 pub at_end : (t : Tiling) → has_tile t ≡ false → windows_left t ≡ []
@@ -155,29 +109,13 @@ sum_past (Some k) n m len so is none = absurd (none-some k (sym none))
 -- no more are left than there are
 pub few_left : (t : Tiling) → length (windows_left t) ≤ t.tile_rows * t.tile_columns
 unfolding windows_left
-few_left t =
-    let all = tiles t.width t.height t.tile_width t.tile_height in
-    let k : ℕ = t.tile_row * t.tile_columns + t.tile_column in
-    let long : length all ≡ t.tile_rows * t.tile_columns = length-all t.width t.height t.tile_width t.tile_height t.wide t.high t.tile_columns t.tile_rows t.tile_columns_are t.tile_rows_are in
-    either (has_tile t) (drop k all) (t.tile_rows * t.tile_columns) (omega (arith, length-drop k all, long))
-  where
-    either : (b : Bool) (ws : List Window) (n : ℕ) → length ws ≤ n → length (if b then ws else []) ≤ n
-    either true ws n few = few
-    either false ws n few = omega arith
+few_left t = grind (arith, length-all, length-drop)
 
 -- those of a size below 2 ^ 32 can be counted
 pub countable : (t : Tiling) → t.width < 2 ^ 32 → t.height < 2 ^ 32 → length (windows_left t) < 2 ^ 64
-countable t narrow low =
-    let tile_rows : t.tile_rows ≤ 4294967295 = omega (arith, low, t.few_tile_rows) in
-    let tile_columns : t.tile_columns ≤ 4294967295 = omega (arith, narrow, t.few_tile_columns) in
-    let product : t.tile_rows * t.tile_columns ≤ 4294967295 * 4294967295 = mul-le-mul tile_rows tile_columns in
-    omega (arith, few_left t, product)
+countable t narrow low = grind (arith, mul-le-mul, few_left)
 
 -- where some are left, the next one is
 pub some_left : (t : Tiling) → 0 < length (windows_left t) → has_tile t ≡ true
 unfolding windows_left
-some_left t some = either (has_tile t) (drop (t.tile_row * t.tile_columns + t.tile_column) (tiles t.width t.height t.tile_width t.tile_height)) some
-  where
-    either : (b : Bool) (ws : List Window) → 0 < length (if b then ws else []) → b ≡ true
-    either true ws some = refl
-    either false ws some = absurd (omega (arith, some))
+some_left t some = grind arith

@@ -40,7 +40,7 @@ impl Tiling {
     /// # Requires
     ///
     /// By comparing numbers: both tile sizes are positive.
-    #[tactic(auto, unfolding(crate::specs::Tiling::windows_left))]
+    #[tactic(auto, using(crate::proofs::Tilings::all_left, image_model::proofs::Tiles::tiles_cover, image_model::proofs::Tiles::tiles_inside), unfolding(crate::specs::Tiling::windows_left))]
     pub fn new(width: usize, height: usize, tile_width: usize, tile_height: usize) -> Tiling
         requires wide { 0 < tile_width }
         requires high { 0 < tile_height }
@@ -63,6 +63,7 @@ impl Tiling {
     }
 
     // How many tiles of an image are left: its sizes are below 2 ^ 32, so the number fits.
+    #[tactic(auto, using(crate::proofs::Tilings::countable, crate::proofs::Tilings::some_left))]
     pub(crate) fn number_left(&self) -> usize
         requires narrow { tiling_width self.now < 2 ^ 32 }
         requires low { tiling_height self.now < 2 ^ 32 }
@@ -85,6 +86,7 @@ impl Tiling {
     }
 
     // The next window.
+    #[tactic(auto, using(crate::proofs::Tilings::begins))]
     fn window_now(&self) -> Window
         requires more { IsTrue (has_tile self.now) }
         ensures value { as_window result ≡ tile_now self.now }
@@ -115,6 +117,7 @@ impl Tiling {
     }
 
     // The next window, which is taken.
+    #[tactic(auto, using(crate::proofs::Tilings::goes_on))]
     pub(crate) fn next_window(&mut self) -> Window
         requires more { IsTrue (has_tile self.old) }
         ensures value { as_window result ≡ tile_now self.old }

@@ -18,9 +18,6 @@ module _ {T : Type 0} (cells others : List T) where
 module _ {C T : Type 0} (cells : C → List T) (with_cells : C → Stretch → List T → C)
     (others_stay : (c : C) (s : Stretch) (ws : List T) → s.start + s.len ≤ length (cells c) → length ws ≡ s.len → cells (with_cells c s ws) ≡ with_stretch (cells c) s ws)
     (i : Img C) where
-  old : List T
-  old = cells (buf_of i)
-
   -- the image has the cells that it was given, as many as before
   pub has_given : (ws : List T) → length ws ≡ length (cells (buf_of i)) → cells (buf_of (with_all cells with_cells i ws)) ≡ ws
   has_given ws same = others_stay (buf_of i) (whole (cells (buf_of i))) ws (omega arith) same ∙ with_whole (cells (buf_of i)) ws

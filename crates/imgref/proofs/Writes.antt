@@ -88,9 +88,5 @@ module _ {C T : Type 0} (cells : C → List T) (with_cell : C → ℕ → T → 
   pub cell_outside : x < width_of i → y < height_of i → SameOutside (layout_by cells i) (layout_by cells (with_buf i (with_cell (buf_of i) (y * stride_of i + x) value)))
   cell_outside column line = subst (SameOutside (layout_by cells i)) (sym is_written) (written_outside (layout_by cells i) x y value column line)
 
-  pub cell_contains : (with_cells : C → Stretch → List T → C) → (with_cell (buf_of i) (y * stride_of i + x) value ≡ with_cells (buf_of i) (whole (cells (buf_of i))) (slice_set (cells (buf_of i)) (y * stride_of i + x) value))
-      → with_buf i (with_cell (buf_of i) (y * stride_of i + x) value) ≡ with_all cells with_cells i (cells (with_cell (buf_of i) (y * stride_of i + x) value))
-  cell_contains with_cells is = ap (λ (c : C). with_buf i c) (is ∙ ap (with_cells (buf_of i) (whole (cells (buf_of i)))) (sym (other_cells_stay (buf_of i) (y * stride_of i + x) value within)))
-
   pub cell_fits : Fits (layout_by cells i) → Fits (layout_by cells (with_buf i (with_cell (buf_of i) (y * stride_of i + x) value)))
   cell_fits fits = subst Fits (sym is_written) (written_fits (layout_by cells i) x y value fits)

@@ -1,5 +1,5 @@
 -- The mean of nine pixels, and images that become blurred place by place.
-use Rattle.std.proofs.Common.{◌≡◌, ℕ, ◌+◌, ◌-◌, ◌<◌, ◌≤◌, ◌/◌, inl, inr, List, [], ◌++◌, true, Option, Some, refl, sym, ap, ◌∙◌, arith, ⊎_elim, sum, if◌then◌else◌}
+use Rattle.std.proofs.Common.{◌≡◌, ℕ, ◌+◌, ◌-◌, ◌<◌, ◌≤◌, ◌/◌, inl, inr, List, [], ◌++◌, true, Option, Some, sym, ap, ◌∙◌, arith, ⊎_elim, sum, if◌then◌else◌}
 use Rattle.std.specs.List.{cons_option}
 use Rattle.std.proofs.lemmas.List.{append-nil}
 use Rattle.std.proofs.lemmas.List.Sums.{sum_by-append}
@@ -9,6 +9,7 @@ use Rattle.image_model.specs.Layout.{Layout, pixel}
 use Rattle.image_model.specs.Grid.{Grid, grid_of, covers, patch, uniform, view}
 use Rattle.image_model.specs.Rows.{grid_pixels}
 use Rattle.image_model.proofs.Grids.{covers_decides, at_place, pixel_at}
+use Rattle.image_model.proofs.Places.{outside_refl, outside_trans}
 use Rattle.imgref_examples.specs.Blur.{sum_of_three, mean_of_nine, blurred}
 use Rattle.imgref_examples.specs.Swept.{is_before, swept}
 use Rattle.imgref_examples.proofs.Swept.{same_sweep, none_swept, all_swept, one_swept}
@@ -21,20 +22,7 @@ now src l x y = if covers 1 1 (l.width - 2) (l.height - 2) x y then Some (mean_o
 pub three_pixels : (l : Layout ℕ) (x y p q r : ℕ) → x + 2 < l.width → y < l.height
     → pixel l x y ≡ Some p → pixel l (x + 1) y ≡ Some q → pixel l (x + 2) y ≡ Some r → sum_of_three (grid_of l) x y ≡ p + q + r
 unfolding view
-three_pixels l x y p q r column line first second third = rw (a, b, c) (omega arith)
-  where
-    at : (m u n s : ℕ) → m ≡ u → n ≡ y → u < l.width → pixel l u y ≡ Some s → (grid_of l).pixel m n ≡ Some s
-    at m u n s same_column same_row inside e =
-        ap (λ k. (grid_of l).pixel k n) same_column ∙ ap ((grid_of l).pixel u) same_row ∙ pixel_at l u y inside line ∙ e
-
-    a : (grid_of l).pixel (x + 0) (y + 0) ≡ Some p
-    a = at (x + 0) x (y + 0) p (omega arith) (omega arith) (omega (arith, column)) first
-
-    b : (grid_of l).pixel (x + 1) (y + 0) ≡ Some q
-    b = at (x + 1) (x + 1) (y + 0) q refl (omega arith) (omega (arith, column)) second
-
-    c : (grid_of l).pixel (x + 2) (y + 0) ≡ Some r
-    c = at (x + 2) (x + 2) (y + 0) r refl (omega arith) column third
+three_pixels l x y p q r column line first second third = grind (arith, pixel_at)
 
 -- the pixels of three columns of a row
 abbrev across : Grid ℕ → ℕ → ℕ → List ℕ
@@ -47,23 +35,11 @@ sum_across g x y n e = ap sum (sym (append-nil (across g x n))) ∙ ap (λ m. su
 -- the sum of nine pixels by their rows
 nine_by_rows : (g : Grid ℕ) (x y : ℕ) → sum (grid_pixels (view g x y 3 3)) ≡ sum_of_three g x y + sum_of_three g x (y + 1) + sum_of_three g x (y + 2)
 unfolding view
-nine_by_rows g x y =
-    let first : sum (across g x (y + 0)) ≡ sum_of_three g x y = sum_across g x y (y + 0) (omega arith) in
-    let second : sum (across g x (y + 1)) ≡ sum_of_three g x (y + 1) = sum_across g x (y + 1) (y + 1) (omega arith) in
-    let third : sum (across g x (y + 2) ++ []) ≡ sum_of_three g x (y + 2) = ap sum (append-nil (across g x (y + 2))) ∙ sum_across g x (y + 2) (y + 2) (omega arith) in
-    sum_by-append (λ p. p) (across g x (y + 0)) (across g x (y + 1) ++ (across g x (y + 2) ++ []))
-    ∙ ap (λ n. sum (across g x (y + 0)) + n) (sum_by-append (λ p. p) (across g x (y + 1)) (across g x (y + 2) ++ []))
-    ∙ omega (arith, first, second, third)
+nine_by_rows g x y = grind (arith, sum_across, append-nil, sum_by-append)
 
 -- the mean of a pixel and its neighbours by the rows about it
 pub mean_by_rows : (g : Grid ℕ) (x y : ℕ) → 0 < y → mean_of_nine g x y ≡ (sum_of_three g (x - 1) (y - 1) + sum_of_three g (x - 1) y + sum_of_three g (x - 1) (y + 1)) / 9
-mean_by_rows g x y line =
-    let beside : y - 1 + 1 ≡ y = omega (arith, line) in
-    let below : y - 1 + 2 ≡ y + 1 = omega (arith, line) in
-    ap (λ n. n / 9) (
-    nine_by_rows g (x - 1) (y - 1)
-    ∙ ap (λ n. sum_of_three g (x - 1) (y - 1) + sum_of_three g (x - 1) n + sum_of_three g (x - 1) (y - 1 + 2)) beside
-    ∙ ap (λ n. sum_of_three g (x - 1) (y - 1) + sum_of_three g (x - 1) y + sum_of_three g (x - 1) n) below)
+mean_by_rows g x y line = grind (arith, nine_by_rows)
 
 -- a blur that goes on over the edges alone changes nothing
 same_blur : (x y m n : ℕ) (src : Grid ℕ) (l : Layout ℕ)
@@ -105,3 +81,6 @@ one_blurred x y src l k e wide high left above right below =
 
     there : (blurred src (grid_of l)).pixel x y ≡ Some (mean_of_nine src x y)
     there = at_place l.width l.height (now src l) x y (omega (arith, right)) (omega (arith, below)) ∙ cond-true (covers 1 1 (l.width - 2) (l.height - 2) x y) _ _ hit
+
+-- what the proof of a blur goes by
+pub ruleset blurs = (outside_refl, outside_trans, none_blurred, row_begins, one_blurred, row_ends, all_blurred)

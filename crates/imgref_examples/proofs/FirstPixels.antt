@@ -1,5 +1,5 @@
 -- One value in the first marked cells: what a step of a cursor leaves to do, and what the image shows then.
-use Rattle.std.proofs.Common.{◌≡◌, ◌≢◌, ℕ, zero, suc, ◌+◌, ◌*◌, ◌<◌, ◌≤◌, Bool, true, false, List, [], ◌∷◌, ◌++◌, length, replicate, Some, refl, sym, ap, subst, ◌∙◌, arith, inl, inr, nat_lt, if◌then◌else◌}
+use Rattle.std.proofs.Common.{◌≡◌, ◌≢◌, ℕ, zero, suc, ◌+◌, ◌*◌, ◌<◌, ◌≤◌, Bool, true, false, List, [], ◌∷◌, ◌++◌, length, replicate, Some, refl, sym, ap, ◌∙◌, arith, inl, inr, nat_lt, if◌then◌else◌}
 use Rattle.std.proofs.Math.Nat.{mul-le-mul_right, mul_comm}
 use Rattle.std.specs.List.{slice_get}
 use Rattle.std.proofs.lemmas.Bool.{cases_lt, cond-true, cond-false, lt-ltb, le-ltb}
@@ -17,7 +17,7 @@ use Rattle.imgref.specs.declared.img.Img.{Img}
 use Rattle.imgref.specs.Image.{buf_of, width_of, stride_of, with_all, grid_by, layout_by}
 use Rattle.imgref_examples.specs.Pixels.{first_covered, with_first}
 use Rattle.imgref_examples.proofs.Padding.{padding_unmarked}
-use Rattle.imgref_examples.proofs.Replaced.{new_layout, new_container}
+use Rattle.imgref_examples.proofs.Replaced.{shows}
 
 module _ {X : Type 0} (v : X) where
   pub covered_past : (n k : ℕ) (ms : List Bool) (front : List X) (y : X) (back : List X) → length front ≡ k → first_covered (suc n) (replicate k false ++ true ∷ ms) v (front ++ y ∷ back) ≡ front ++ v ∷ first_covered n ms v back
@@ -86,13 +86,7 @@ module _ {T : Type 0} (l : Layout T) (narrow : l.width ≤ l.stride) (fits : Fit
   written = record l { cells = first_covered count marks value l.cells }
 
   written_outside : SameOutside l written
-  written_outside = record {
-    width_stays = refl;
-    height_stays = refl;
-    stride_stays = refl;
-    length_stays = length-covered value count marks l.cells;
-    padding_stays = λ k padding. covered_other value count marks l.cells k (padding_unmarked l.width l.height l.stride k narrow padding);
-  }
+  written_outside = grind (arith, length-covered, covered_other, padding_unmarked)
 
   written_fits : Fits written
   written_fits = outside_fits l written written_outside fits
@@ -132,17 +126,5 @@ module _ {C T : Type 0} (cells : C → List T) (with_cells : C → Stretch → L
   abbrev ys : List T
   ys = first_covered count (marks_of i.width i.height i.stride) value (cells (buf_of i))
 
-  as_many : length ys ≡ length (cells (buf_of i))
-  as_many = length-covered value count (marks_of i.width i.height i.stride) (cells (buf_of i))
-
-  new : layout_by cells j ≡ record old { cells = ys }
-  new = new_layout cells with_cells others_stay i j ys is as_many
-
-  pub image_grid : grid_by cells j ≡ with_first (grid_of old) count value
-  image_grid = ap grid_of new ∙ written_grid old narrow fits count value
-
-  pub image_outside : SameOutside old (layout_by cells j)
-  image_outside = subst (SameOutside old) (sym new) (written_outside old narrow fits count value)
-
-  pub image_container : j ≡ with_all cells with_cells i (cells (buf_of j))
-  image_container = new_container cells with_cells others_stay i j ys is as_many
+  pub image_shows : (grid_by cells j ≡ with_first (grid_of old) count value) × SameOutside old (layout_by cells j) × (j ≡ with_all cells with_cells i (cells (buf_of j)))
+  image_shows = let outside = written_outside old narrow fits count value in shows cells with_cells others_stay i j ys is outside.length_stays _ (written_grid old narrow fits count value) outside

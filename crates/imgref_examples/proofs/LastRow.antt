@@ -20,16 +20,14 @@ use Rattle.image_rows.specs.declared.writing.RowsIterMut.{RowsIterMut}
 use Rattle.imgref.specs.declared.img.Img.{Img}
 use Rattle.imgref.specs.Image.{buf_of, width_of, stride_of, with_all, grid_by, layout_by}
 use Rattle.imgref_examples.specs.Rows.{with_last_row, with_last_of}
-use Rattle.imgref_examples.proofs.Replaced.{new_layout, new_container}
+use Rattle.imgref_examples.proofs.Replaced.{shows}
 
 -- ---- what a step from the back says, of an iterator over all rows
 
 module _ {T : Type 0} (l : Layout T) (s t : RowsIterMut T) (value : T) (cells : cells_left s ≡ l.cells) (spacing : spacing_left s ≡ whole_spacing l.width l.height l.stride) (counted : length (muts_left s) ≡ row_count l.width l.height) where
   -- at the end there is no row
   pub none_left : Yields Last s None t → Moves Last s None t → cells_left t ≡ with_last_row l value
-  none_left steps moved =
-      let none : 0 ≡ row_count l.width l.height = sym (ap length steps.0) ∙ counted in
-      ap (λ (r : RowsIterMut T). cells_left r) moved ∙ cells ∙ ap (λ n. with_last_of n l value) none
+  none_left steps moved = grind arith
 
   -- and else the step gives the last one
   pub last_left : Fits l → All (λ row. length row ≡ l.width) (muts_left s) → (row : MutBor (List T)) → Yields Last s (Some row) t → Moves Last s (Some row) t
@@ -88,10 +86,7 @@ module _ {T : Type 0} (l : Layout T) (narrow : l.width ≤ l.stride) (fits : Fit
     from k = record l { cells = with_stretch l.cells (record { start = k; len = l.width }) (replicate l.width value) }
 
     filled_grid : grid_of (with_rows (suc n)) ≡ patch (grid_of l) 0 (l.height - 1) (uniform l.width 1 value)
-    filled_grid =
-        ap (λ k. grid_of (from k)) (sym same)
-        ∙ row_grid l (l.height - 1) fits below narrow (replicate l.width value) (length-replicate l.width value)
-        ∙ ap (patch (grid_of l) 0 (l.height - 1)) (one_row_of_one l.width value)
+    filled_grid = grind (arith, same, row_grid, below, length-replicate, one_row_of_one)
 
     filled_outside : SameOutside l (with_rows (suc n))
     filled_outside = subst (λ k. SameOutside l (from k)) same (row_outside l (l.height - 1) fits below (replicate l.width value) (length-replicate l.width value))
@@ -128,17 +123,5 @@ module _ {C T : Type 0} (cells : C → List T) (with_cells : C → Stretch → L
   abbrev old : Layout T
   old = layout_by cells i
 
-  as_many : length (with_last_row old value) ≡ length old.cells
-  as_many = (last_row_outside old narrow fits value).length_stays
-
-  new : layout_by cells j ≡ record old { cells = with_last_row old value }
-  new = new_layout cells with_cells others_stay i j (with_last_row old value) is as_many
-
-  pub image_grid : grid_by cells j ≡ patch (grid_of old) 0 (old.height - 1) (uniform old.width 1 value)
-  image_grid = ap grid_of new ∙ last_row_grid old narrow fits value
-
-  pub image_outside : SameOutside old (layout_by cells j)
-  image_outside = subst (SameOutside old) (sym new) (last_row_outside old narrow fits value)
-
-  pub image_container : j ≡ with_all cells with_cells i (cells (buf_of j))
-  image_container = new_container cells with_cells others_stay i j (with_last_row old value) is as_many
+  pub image_shows : (grid_by cells j ≡ patch (grid_of old) 0 (old.height - 1) (uniform old.width 1 value)) × SameOutside old (layout_by cells j) × (j ≡ with_all cells with_cells i (cells (buf_of j)))
+  image_shows = let outside = last_row_outside old narrow fits value in shows cells with_cells others_stay i j (with_last_row old value) is outside.length_stays _ (last_row_grid old narrow fits value) outside

@@ -1,19 +1,13 @@
 -- Padding has no mark.
-use Rattle.std.proofs.Common.{◌≡◌, ◌≢◌, ℕ, zero, suc, ◌+◌, ◌-◌, ◌*◌, ◌<◌, ◌≤◌, Bool, true, false, List, ◌++◌, replicate, Some, refl, sym, ap, ap₂, ◌∙◌, arith, inl, inr, cond, ◌==◌}
+use Rattle.std.proofs.Common.{◌≡◌, ◌≢◌, ℕ, zero, suc, ◌+◌, ◌-◌, ◌*◌, ◌<◌, ◌≤◌, Bool, true, false, List, ◌++◌, replicate, Some, refl, sym, ap, ap₂, ◌∙◌, arith, inl, inr}
 use Rattle.std.specs.List.{slice_get}
 use Rattle.std.proofs.lemmas.List.{length-replicate}
 use Rattle.std.proofs.lemmas.Bool.{cases_lt, true≢false}
-use Rattle.std.proofs.lemmas.Bool.Decides.{nat_tests}
 use Rattle.std.proofs.lemmas.Option.{same_Some, none-some}
 use Rattle.image_model.specs.Layout.{IsPadding}
 use Rattle.image_model.proofs.Cells.{slice_get-append_right}
-use Rattle.image_pixels.specs.Marks.{marks, marks_of, rows_from, first_row, rows_after}
-
-some_first : (w h : ℕ) → first_row w (suc h) ≡ w
-some_first w h = let some : (suc h == 0) ≡ false = grind (arith, nat_tests) in ap (λ b. cond b 0 w) some
-
-some_after : (w h : ℕ) → rows_after (suc w) h ≡ h - 1
-some_after w h = let some : (suc w == 0) ≡ false = grind (arith, nat_tests) in ap (λ b. cond b 0 (h - 1)) some
+use Rattle.image_pixels.proofs.Layouts.{some_first, some_after}
+use Rattle.image_pixels.specs.Marks.{marks, marks_of, rows_from}
 
 repeated : (b : Bool) (n : ℕ) (ms : List Bool) (k : ℕ) → k < n → slice_get (replicate n b ++ ms) k ≡ Some b
 repeated b zero ms k below = absurd (omega (arith, below))
@@ -41,22 +35,19 @@ row_of_mark (suc n) w pad k marked =
           ]
     ]
 
-unmarked : (w h s k : ℕ) → w ≤ s → ((x y : ℕ) → x < w → y < h → y * s + x ≢ k) → slice_get (marks_of w h s) k ≢ Some true
-unmarked zero zero s k wide padding marked = none-some true marked
-unmarked zero (suc h) s k wide padding marked = none-some true (ap (λ n. slice_get (marks n 0 0 (s - 0)) k) (sym (some_first zero h)) ∙ marked)
-unmarked (suc w) zero s k wide padding marked = none-some true (ap (λ n. slice_get (marks 0 n (suc w) (s - suc w)) k) (sym (some_after w zero)) ∙ marked)
-unmarked (suc w) (suc h) s k wide padding marked =
+pub padding_unmarked : (w h s k : ℕ) → w ≤ s → IsPadding w h s k → slice_get (marks_of w h s) k ≢ Some true
+padding_unmarked zero zero s k wide padding marked = none-some true marked
+padding_unmarked zero (suc h) s k wide padding marked = none-some true (ap (λ n. slice_get (marks n 0 0 (s - 0)) k) (sym (some_first zero h)) ∙ marked)
+padding_unmarked (suc w) zero s k wide padding marked = none-some true (ap (λ n. slice_get (marks 0 n (suc w) (s - suc w)) k) (sym (some_after w zero)) ∙ marked)
+padding_unmarked (suc w) (suc h) s k wide padding marked =
     let least : suc h - 1 ≡ h = omega arith in
     let mark = ap₂ (λ n m. slice_get (marks n m (suc w) (s - suc w)) k) (sym (some_first (suc w) h)) (sym (some_after w (suc h) ∙ least)) ∙ marked in
     elim (cases_lt k (suc w)) [
-      | inl here ↦ padding k 0 here (omega arith) (omega arith)
+      | inl here ↦ padding.no_place k 0 here (omega arith) (omega arith)
       | inr later ↦
           let on : suc w + (k - suc w) ≡ k = omega arith in
           let found = row_of_mark h (suc w) (s - suc w) (k - suc w) (sym (beyond true (suc w) (rows_from h (suc w) (s - suc w)) (k - suc w)) ∙ ap (λ j. slice_get (marks (suc w) h (suc w) (s - suc w)) j) on ∙ mark) in
           let back : s - suc w + suc w ≡ s = omega arith in
           let at : k - suc w ≡ s - suc w + (found.1 * s + found.0) = found.4 ∙ ap (λ t. s - suc w + (found.1 * t + found.0)) back in
-          padding found.0 (suc found.1) found.2 (omega (arith, found.3)) (omega (arith, at, later))
+          padding.no_place found.0 (suc found.1) found.2 (omega (arith, found.3)) (omega (arith, at, later))
     ]
-
-pub padding_unmarked : (w h s k : ℕ) → w ≤ s → IsPadding w h s k → slice_get (marks_of w h s) k ≢ Some true
-padding_unmarked w h s k wide padding = unmarked w h s k wide padding.no_place

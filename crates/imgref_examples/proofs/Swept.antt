@@ -1,5 +1,5 @@
 -- Places that are written one after the other.
-use Rattle.std.proofs.Common.{◌≡◌, ℕ, ◌+◌, ◌-◌, ◌<◌, ◌≤◌, ◌⊎◌, inl, Bool, true, false, cond, Option, Some, refl, sym, ap, ◌∙◌, arith, ⊎_elim, if◌then◌else◌}
+use Rattle.std.proofs.Common.{◌≡◌, ℕ, ◌+◌, ◌-◌, ◌<◌, ◌≤◌, ◌⊎◌, inl, true, false, Option, Some, sym, ap, ◌∙◌, arith, if◌then◌else◌}
 use Rattle.std.proofs.lemmas.Bool.{cond-true, cond-false, true≢false}
 use Rattle.std.proofs.lemmas.Bool.Decides.{nat_tests}
 use Rattle.image_model.specs.Layout.{Layout, pixel}
@@ -7,21 +7,13 @@ use Rattle.image_model.specs.Grid.{Grid, grid, grid_of, covers, patch, uniform}
 use Rattle.image_model.proofs.Grids.{covers_decides, at_place, pixel_at, same_grids, is_patch}
 use Rattle.imgref_examples.specs.Swept.{is_before, swept}
 
-either : {A : Type 0} (b : Bool) (p q : A) → p ≡ q → cond b p q ≡ q
-either true p q e = e
-either false p q e = refl
-
 module _ {T : Type 0} where
   -- two ends of the sweep give one grid if each place comes before both or neither, or has one pixel in both grids
   pub same_sweep : (x y m n : ℕ) (new : Grid T) (l : Layout T)
       → ((u v : ℕ) → u < l.width → v < l.height → (is_before x y u v ≡ is_before m n u v) ⊎ (new.pixel u v ≡ (grid_of l).pixel u v))
       → swept x y new (grid_of l) ≡ swept m n new (grid_of l)
   unfolding grid_of swept
-  same_sweep x y m n new l each = same_grids l.width l.height _ _ (λ u v column line.
-      ⊎_elim
-      (λ one. ap (λ b. if b then new.pixel u v else (grid_of l).pixel u v) one)
-      (λ alike. either (is_before x y u v) _ _ alike ∙ sym (either (is_before m n u v) _ _ alike))
-      (each u v column line))
+  same_sweep x y m n new l each = grind (arith, same_grids)
 
   -- no place is written yet
   pub none_swept : (new : Grid T) (l : Layout T) → swept 0 0 new (grid_of l) ≡ grid_of l
@@ -31,8 +23,7 @@ module _ {T : Type 0} where
   -- all are
   pub all_swept : (x y : ℕ) (f : ℕ → ℕ → Option T) (l : Layout T) → l.height ≤ y → swept x y (grid l.width l.height f) (grid_of l) ≡ grid l.width l.height f
   unfolding grid_of swept
-  all_swept x y f l high = same_grids l.width l.height _ f (λ u v column line.
-      cond-true (is_before x y u v) _ _ (grind (arith, nat_tests)) ∙ at_place l.width l.height f u v column line)
+  all_swept x y f l high = grind (arith, same_grids, cond-true, at_place, nat_tests)
 
   -- a row is at its end where the next one begins
   pub row_swept : (x y : ℕ) (new : Grid T) (l : Layout T) → l.width ≤ x → swept x y new (grid_of l) ≡ swept 0 (y + 1) new (grid_of l)

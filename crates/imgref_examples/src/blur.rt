@@ -18,6 +18,7 @@ fn three_from(src: ImgRef<'_, u8>, x: usize, y: usize) -> u16
 }
 
 // The mean of the pixel at column `x` of row `y` and its eight neighbours, rounded down.
+#[tactic(auto, using(crate::proofs::Blurred::mean_by_rows))]
 fn mean_around(src: ImgRef<'_, u8>, x: usize, y: usize) -> u8
     requires fits { Fits (ref_layout src) }
     requires left { 0 < x }
@@ -34,6 +35,7 @@ fn mean_around(src: ImgRef<'_, u8>, x: usize, y: usize) -> u8
 
 /// Writes the mean of each interior pixel's three by three neighbours to `dst`, rounded down. The
 /// pixels on the edges of `dst` stay, and its padding.
+#[tactic(auto, using(crate::proofs::Blurred::blurs))]
 pub fn box_blur_3x3(src: ImgRef<'_, u8>, dst: &mut ImgVec<u8>)
     requires src_fits { Fits (ref_layout src) }
     requires dst_fits { Fits (vec_layout dst.old) }

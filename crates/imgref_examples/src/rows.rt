@@ -9,6 +9,7 @@ ghost use Rattle.imgref_examples.specs.Rows.{with_last_row};
 use imgref::{AsMutSlice, Img};
 
 // Every cell becomes `value`. The slice's own `fill` asks for a `clone` that cannot fail.
+#[tactic(auto, using(std::proofs::lemmas::List::take_more_set, std::proofs::lemmas::List::replicate_more, std::proofs::lemmas::List::take_all))]
 fn fill_row<T: Copy>(row: &mut [T], value: T)
     ensures { row.new ≡ replicate (length row.old) value }
 {

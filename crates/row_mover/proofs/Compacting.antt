@@ -44,21 +44,12 @@ compacted_upto-more l y fits some covers below =
 
 -- the row at the front is there from the beginning
 compacted_upto-one : {T : Type 0} (l : Layout T) → Fits l → 0 < l.width → 0 < l.height → compacted_upto l 1 ≡ l.cells
-compacted_upto-one l fits some_column some_line =
-    let zeroth : 0 * l.stride ≡ 0 = omega arith in
-    let first : row l 0 ≡ take l.width l.cells = row_is l 0 (rows_from_fits l fits some_column 0 some_line) ∙ ap (λ k. take l.width (drop k l.cells)) zeroth in
-    let one : 1 * l.width ≡ l.width = omega arith in
-    ap (λ k. joined_upto l 1 ++ drop k l.cells) one ∙ ap (λ xs. xs ++ drop l.width l.cells) (append-nil (row l 0) ∙ first) ∙ take-append-drop l.width l.cells
+compacted_upto-one l fits some_column some_line = grind (arith, row_is, rows_from_fits, joined_upto, append-nil, take-append-drop)
 
 module _ {T : Type 0} (old : State T) (w h s : ℕ) (fits : Fits (layout old.cells w h s)) (some : 0 < w) where
   -- at first one row is joined
   pub compacted_first : 0 < h → IsCompactedUpto old old w h s 1
-  compacted_first some_line = record {
-    cells_are = sym (compacted_upto-one (layout old.cells w h s) fits some some_line);
-    length_stays = refl;
-    count_is = refl;
-    lender_stays = refl;
-  }
+  compacted_first some_line = search (arith, compacted_upto-one)
 
   -- the shift of a row joins it
   pub compacted_after : (now new : State T) (y : ℕ) → IsCompactedUpto old now w h s y → w ≤ s → y < h → IsShifted now new (y * s) w (y * w) → IsCompactedUpto old new w h s (y + 1)
@@ -71,8 +62,7 @@ module _ {T : Type 0} (old : State T) (w h s : ℕ) (fits : Fits (layout old.cel
 
 -- where the rows touch, or there is no pixel, there is nothing to do
 pub compacted_already : {T : Type 0} (cells : List T) (w h s : ℕ) → Fits (layout cells w h s) → (0 < w → 0 < h → w ≡ s) → cells ≡ joined_rows (layout cells w h s) ++ drop (w * h) cells
-compacted_already cells w h s fits touch =
-    sym (take-append-drop (w * h) cells) ∙ ap (λ xs. xs ++ drop (w * h) cells) (sym (joined_in_place cells w h s fits touch))
+compacted_already cells w h s fits touch = grind (arith, take-append-drop, joined_in_place)
 
 -- what the proof of a compaction goes by
 pub ruleset compacting = (compacted_first, compacted_after, compacted_already)

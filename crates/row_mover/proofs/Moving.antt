@@ -16,9 +16,7 @@ pub record IsMovedPart {T : Type 0} (old now : State T) (stride from to width lo
 
 -- a row ends before a later one begins
 row_gap : (j y s : ℕ) → j < y → j * s + s ≤ y * s
-row_gap j y s lt =
-    let le : j + 1 ≤ y = omega arith in
-    omega (arith, mul-le-mul_right s le)
+row_gap j y s lt = grind (arith, mul-le-mul_right)
 
 -- the window's rows from this corner on end before the list does
 abbrev pub HasWindow : ℕ → ℕ → ℕ → ℕ → ℕ → Type 0
@@ -27,9 +25,7 @@ HasWindow count corner stride width height = 0 < width → 0 < height → corner
 -- one row of the window is shifted, where others were moved before
 module _ {T : Type 0} (old now new : State T) (s from to w h y : ℕ) (covers : w ≤ s) (some : 0 < w) (below : y < h) (source : HasWindow (length old.cells) from s w h) (target : HasWindow (length old.cells) to s w h) (shift : IsShifted now new (from + y * s) w (to + y * s)) where
   row_inside : (corner : ℕ) → HasWindow (length old.cells) corner s w h → length now.cells ≡ length old.cells → corner + y * s + w ≤ length now.cells
-  row_inside corner inside kept =
-      let le : y ≤ h - 1 = omega arith in
-      omega (arith, mul-le-mul_left s le, inside some (omega arith))
+  row_inside corner inside kept = grind (arith, mul-le-mul_left)
 
   -- row y has the cells that the source has now
   there : length now.cells ≡ length old.cells → (x : ℕ) → x < w → slice_get new.cells (to + y * s + x) ≡ slice_get now.cells (from + y * s + x)
@@ -84,9 +80,7 @@ module _ {T : Type 0} (old now new : State T) (s from to w h y : ℕ) (covers : 
 
 -- the same, with the row numbered as a loop that counts down has it
 pub moved_before : {T : Type 0} (old now new : State T) (s from to w h y : ℕ) → w ≤ s → 0 < w → y ≤ h → 0 < y → HasWindow (length old.cells) from s w h → HasWindow (length old.cells) to s w h → IsShifted now new (from + (y - 1) * s) w (to + (y - 1) * s) → IsMovedPart old now s from to w y h → from ≤ to → IsMovedPart old new s from to w (y - 1) h
-moved_before old now new s from to w h y covers some below above source target shift part order =
-    let turned : y ≡ y - 1 + 1 = omega arith in
-    moved_before_row old now new s from to w h (y - 1) covers some (omega arith) source target shift (subst (λ k. IsMovedPart old now s from to w k h) turned part) order
+moved_before old now new s from to w h y covers some below above source target shift part order = grind (arith, moved_before_row)
 
 -- what the proof of a move goes by
 pub ruleset moving = (moved_after, moved_before)

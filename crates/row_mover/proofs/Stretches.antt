@@ -16,30 +16,29 @@ module _ {T : Type 0} (cells : List T) (start len target : ℕ) (source : start 
   pub ends_shifted : (n : ℕ) → n ≤ len → len ≤ 2 * n → with_block (with_block cells target n (take n (drop start cells))) (target + len - n) n (take n (drop (start + len - n) cells)) ≡ shifted cells start len target
   ends_shifted n enough few = same_lists _ _ (grind (arith, places)) (λ k d below. grind (arith, places))
 
-  -- towards the back the last cells are copied first, and no cell before them is written
-  pub back_none : cells ≡ back_copied cells start len target len
-  back_none = same_lists _ _ (grind (arith, places)) (λ k d below. grind (arith, places))
+-- towards the back the last cells are copied first, and no cell before them is written
+module _ {T : Type 0} (cells : List T) (start len target : ℕ) (up : start ≤ target) (inside : target + len ≤ length cells) where
+  pub back_more : (left n : ℕ) → n ≤ left → left ≤ len → shifted (back_copied cells start len target left) (start + (left - n)) n (target + (left - n)) ≡ back_copied cells start len target (left - n)
+  back_more left n enough within = same_lists _ _ (grind (arith, places)) (λ k d below. grind (arith, places))
 
-  pub back_more : (left n : ℕ) → start ≤ target → n ≤ left → left ≤ len → shifted (back_copied cells start len target left) (start + (left - n)) n (target + (left - n)) ≡ back_copied cells start len target (left - n)
-  back_more left n up enough within = same_lists _ _ (grind (arith, places)) (λ k d below. grind (arith, places))
-
-  pub back_closed : (left : ℕ) → start ≤ target → left ≤ len → shifted (back_copied cells start len target left) start left target ≡ shifted cells start len target
-  back_closed left up within = same_lists _ _ (grind (arith, places)) (λ k d below. grind (arith, places))
+  pub back_closed : (left : ℕ) → left ≤ len → shifted (back_copied cells start len target left) start left target ≡ shifted cells start len target
+  back_closed left within = same_lists _ _ (grind (arith, places)) (λ k d below. grind (arith, places))
 
   -- the last n, and then the others
-  pub back_first : (n : ℕ) → start ≤ target → n ≤ len → shifted (shifted cells (start + (len - n)) n (target + (len - n))) start (len - n) target ≡ shifted cells start len target
-  back_first n up enough = same_lists _ _ (grind (arith, places)) (λ k d below. grind (arith, places))
+  pub back_first : (n : ℕ) → n ≤ len → shifted (shifted cells (start + (len - n)) n (target + (len - n))) start (len - n) target ≡ shifted cells start len target
+  back_first n enough = same_lists _ _ (grind (arith, places)) (λ k d below. grind (arith, places))
 
-  -- towards the front the first cells are copied first, and no cell behind them is written
-  pub front_none : cells ≡ shifted cells start 0 target
-  front_none = same_lists _ _ (grind (arith, places)) (λ k d below. grind (arith, places))
+-- towards the front the first cells are copied first, and no cell behind them is written
+module _ {T : Type 0} (cells : List T) (start len target : ℕ) (down : target ≤ start) (source : start + len ≤ length cells) where
+  pub front_more : (done n : ℕ) → done + n ≤ len → shifted (shifted cells start done target) (start + done) n (target + done) ≡ shifted cells start (done + n) target
+  front_more done n within = same_lists _ _ (grind (arith, places)) (λ k d below. grind (arith, places))
 
-  pub front_more : (done n : ℕ) → target ≤ start → done + n ≤ len → shifted (shifted cells start done target) (start + done) n (target + done) ≡ shifted cells start (done + n) target
-  front_more done n down within = same_lists _ _ (grind (arith, places)) (λ k d below. grind (arith, places))
-
-  pub front_closed : (done : ℕ) → target ≤ start → done ≤ len → shifted (shifted cells start done target) (start + done) (len - done) (target + done) ≡ shifted cells start len target
-  front_closed done down within = same_lists _ _ (grind (arith, places)) (λ k d below. grind (arith, places))
+  pub front_closed : (done : ℕ) → done ≤ len → shifted (shifted cells start done target) (start + done) (len - done) (target + done) ≡ shifted cells start len target
+  front_closed done within = same_lists _ _ (grind (arith, places)) (λ k d below. grind (arith, places))
 
   -- the first n, and then the others
-  pub front_first : (n : ℕ) → target ≤ start → n ≤ len → shifted (shifted cells start n target) (start + n) (len - n) (target + n) ≡ shifted cells start len target
-  front_first n down enough = same_lists _ _ (grind (arith, places)) (λ k d below. grind (arith, places))
+  pub front_first : (n : ℕ) → n ≤ len → shifted (shifted cells start n target) (start + n) (len - n) (target + n) ≡ shifted cells start len target
+  front_first n enough = same_lists _ _ (grind (arith, places)) (λ k d below. grind (arith, places))
+
+-- what the proofs of copies by blocks go by
+pub ruleset by_blocks = (ends_shifted, back_closed, front_closed)

@@ -3,6 +3,7 @@
 //! The library's `copy_within` goes cell by cell behind its last whole vector. A block has a length
 //! that the compiler knows, so vectors alone read and write it. Two blocks that overlap copy the
 //! rest.
+#![tactic(auto, using(crate::proofs::Stretches::by_blocks))]
 
 ghost use Rattle.std.specs.Prelude.{◌≡◌, ◌+◌, ◌*◌, ◌<◌, ◌≤◌, length};
 ghost use Rattle.image_model.specs.Shifts.{shifted};

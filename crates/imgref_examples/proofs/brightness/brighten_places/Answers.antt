@@ -1,5 +1,5 @@
 -- One pixel more, the end of a row, and all pixels.
-use Rattle.std.proofs.Common.{◌≡◌, ℕ, ◌<◌, Some, sym, ap, ◌∙◌, arith}
+use Rattle.std.proofs.Common.{rules, ◌≡◌, ℕ, ◌<◌, Some, sym, ap, ◌∙◌, arith}
 use Rattle.std.specs.Option.{option_map}
 use Rattle.image_model.specs.Grid.{grid_of, patch, uniform}
 use Rattle.image_model.specs.Layout.{Layout}
@@ -12,9 +12,7 @@ use Rattle.imgref_examples.proofs.Swept.{none_swept, one_swept, next_is_old, row
 use Rattle.imgref_examples.proofs.brightness.brighten_places.Goals as goal
 
 pub loop-y-init : goal.loop-y-init
-loop-y-init c =
-    let l : Layout ℕ = vec_layout c.args.image.now in
-    (c.requires, outside_refl l, sym (none_swept (brightened c.args.by (grid_of l)) l))
+loop-y-init c = search (rules, outside_refl, none_swept)
 
 -- a pixel that was there is brighter afterwards
 brighter_at : (by : ℕ) (l : Layout ℕ) (x y p : ℕ) → x < l.width → y < l.height → (grid_of l).pixel x y ≡ Some p → (brightened by (grid_of l)).pixel x y ≡ Some (brighter by p)
@@ -41,10 +39,7 @@ loop-x-preserved c =
     )
 
 pub loop-y-preserved : goal.loop-y-preserved
-loop-y-preserved c =
-    let l : Layout ℕ = vec_layout c.args.image.now in
-    let inv = c.loop-x.invariant in
-    (inv.0, inv.1, inv.2 ∙ row_swept c.loop-x.x c.loop-y.y (brightened c.args.by (grid_of l)) l (omega arith))
+loop-y-preserved c = search (rules, row_swept)
 
 pub returns-clause-grid : goal.returns-clause-grid
 unfolding grid_of mapped

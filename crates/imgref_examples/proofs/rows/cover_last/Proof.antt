@@ -155,7 +155,6 @@ cover_last_spec 𝓤 𝓛 𝓜 𝓡 wired X Y LX LY CY gh d gs ds gc dc bm bs bc
     by ! (leaves 𝓛 En hs c bound vunit tt (F zs, (tt, tt)) (tt, (tt, tt))) in
     ⊎_elim
     (λ (e : m ≡ None).
-    let none : Val = live 0 (of_list []) in
     let at_end : t ≡ r = subst (λ (m' : Given). Moves Last r m' t) e moved in
     rewrite ! 0 (λ (m' : Given). ‵ (Row.own_val m' (v₂ ∷ []))) e refl $
     peeks ! Row (Is Row) (shows 𝓛 Row) None (v₂ ∷ []) (λ is.

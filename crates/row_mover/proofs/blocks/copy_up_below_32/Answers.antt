@@ -1,9 +1,7 @@
-use Rattle.std.proofs.Common.{◌+◌, ◌≤◌, length, arith}
 use Rattle.row_mover.proofs.Stretches.{back_first}
 use Rattle.row_mover.proofs.blocks.copy_up_below_32.Goals as goal
 
 pub returns-then-len-ge16 : goal.returns-then-len-ge16
 returns-then-len-ge16 g c =
-    let source : c.args.start + c.args.len ≤ length c.args.cells.now = omega (arith, c.requires.up, c.requires.target) in
     rw (c.copy_few.ensures, c.copy_block.ensures)
-    (back_first c.args.cells.now c.args.start c.args.len c.args.target source c.requires.target 16 c.requires.up c.if-len-ge16.true)
+    (back_first c.args.cells.now c.args.start c.args.len c.args.target c.requires.up c.requires.target 16 c.if-len-ge16.true)

@@ -12,7 +12,7 @@ use Rattle.imgref.specs.Image.{layout_by, shape_of}
 use Rattle.imgref.proofs.ImageValues.{img_val, img_row, img_told}
 use Rattle.imgref.specs.declared.img.Img.{Img}
 use Rattle.image_tiles.specs.Lending.{image_of, tiling_of, after_tile, name_of, IsNext, NextTile, tiles_left}
-use Rattle.image_tiles.specs.Tiling.{tile_now, windows_left, has_tile}
+use Rattle.image_tiles.specs.Tiling.{windows_left, has_tile}
 use Rattle.image_tiles.specs.declared.tiles.TileCursor.{TileCursor}
 use Rattle.image_tiles.specs.contracts.tiles.TileCursor.{the_row}
 use Rattle.image_tiles.specs.contracts.tiles.TileCursor.counted as f
@@ -20,7 +20,8 @@ use Rattle.image_tiles.proofs.tiles.TileCursor.counted.Met as counting
 use Rattle.image_tiles.specs.contracts.tiles.TileCursor.tile as g
 use Rattle.image_tiles.proofs.tiles.TileCursor.tile.Met as lending
 use Rattle.image_tiles.proofs.CountedValues.{Counted, counted_told, counted_out}
-use Rattle.image_tiles.proofs.Left.{tiles_all_left, none_of_length}
+use Rattle.std.proofs.lemmas.List.{nil_from_length}
+use Rattle.image_tiles.proofs.Left.{tiles_all_left}
 use Rattle.borrow_laws.proofs.Tests.{one_at_least}
 use Rattle.image_tiles.specs.contracts.tiles.TileCursor.next_tile.{ended, clauses}
 use Rattle.image_tiles.specs.contracts.tiles.TileCursor.next_tile.Key.{name as #self}
@@ -39,7 +40,6 @@ next_tile_spec 𝓤 𝓛 𝓜 𝓡 wired X Y LX LY gh d gs ds bm bs =
     let γ : GName = x.ghost_name in
     let li : Layout Y.Denot = layout_by gs.cells (image_of h) in
     let before : List Window = tiles_left gs.cells h in
-    let here : Window = tile_now (tiling_of h) in
     let padded = gh.padded_windows in
     let FitsIn : Type 0 = Fits li in
     let More : Type 0 = IsTrue (has_tile (tiling_of h)) in
@@ -90,7 +90,7 @@ next_tile_spec 𝓤 𝓛 𝓜 𝓡 wired X Y LX LY gh d gs ds bm bs =
     sets ! (bin ! (get ! refl) (lit ! tt) tt) refl (tt, tt) $
     -- [the cursor's reference; the tokens]
     first ! $ branches ! (get ! refl)
-    (λ t. let none_left : Gives None = none_of_length before (sym counts ∙ eqb→eq k 0 t) in
+    (λ t. let none_left : Gives None = nil_from_length before (sym counts ∙ eqb→eq k 0 t) in
     fsplit3 ! $ drop ! $ move ! (1 ∷ []) $ drop ! $ name_done ! tt $
     sets ! (agg ! (and_then ! (lit ! tt) (no_more !))) refl (tt, (record { fits = lit< tt }, tt)) $
     returns_within ! Post refl (look_at ! 0 refl) $ free_all ! refl $
