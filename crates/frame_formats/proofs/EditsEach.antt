@@ -36,12 +36,7 @@ adds_more words old mid new n taken first more =
 -- edits that some words are, without the one at the front that was taken
 pub edits_left : (words : List (List ℕ)) (old mid : Edits) (n : ℕ) (es : List Named) → Taken words old mid n → 0 < length words → AreEdits es old.framing words → (rest : List Named) × AreEdits rest mid.framing (drop n words)
 edits_left words old mid n [] taken some are = absurd (let none : length words ≡ 0 = ap length are in omega (arith, none, some))
-edits_left words old mid n (e ∷ es) taken some are =
-    let m = map_some (edit_at words) (with_edit old.steps.items) (mid.steps.items, (mid.framing, n)) taken in
-    let same : e ≡ m.0 = some_is e m.0 (sym are.1 ∙ m.1) in
-    let framing : e.framing ≡ mid.framing = ap (λ (x : Named). x.framing) same ∙ ap (λ (t : List (Step Paint) × (Option Framing × ℕ)). t.1.0) m.2 in
-    let count : e.count ≡ n = ap (λ (x : Named). x.count) same ∙ ap (λ (t : List (Step Paint) × (Option Framing × ℕ)). t.1.1) m.2 in
-    (es, subst (λ (f : Option Framing). AreEdits es f (drop n words)) framing (subst (λ (k : ℕ). AreEdits es e.framing (drop k words)) count are.2))
+edits_left words old mid n (e ∷ es) taken some are = grind (arith, some_is, map_some)
 
 -- words with no edit at the front are no edits
 pub none_at : (words : List (List ℕ)) (old : Edits) (es : List Named) → (old.framing ≡ None → edit_at words ≡ None) → 0 < length words → AreEdits es old.framing words → ⊥
@@ -58,28 +53,15 @@ other_eqb a b e = elim (eqb_tells a b) [ inl t ↦ absurd (e t.1) | inr t ↦ t.
 
 -- the edit at the front was taken, and it has all words
 pub one_taken : (words : List (List ℕ)) (old new : Edits) (n : ℕ) → Taken words old new n → old.framing ≡ None → n ≡ length words → with_one (plain old) words ≡ Some (plain new)
-one_taken words old new n taken first all =
-    let m = map_some (edit_at words) (with_edit old.steps.items) (new.steps.items, (new.framing, n)) taken in
-    let e : Named = m.0 in
-    let count : e.count ≡ length words = ap (λ (t : List (Step Paint) × (Option Framing × ℕ)). t.1.1) m.2 ∙ all in
-    let tested : eqb e.count (length words) ≡ true = same_eqb e.count (length words) count in
-    rw (first, m.1, tested) (λ i. Some (edits (m.2 i).0 (m.2 i).1.0))
+one_taken words old new n taken first all = grind (arith, map_some, same_eqb)
 
 -- it has fewer
 pub fewer_taken : (words : List (List ℕ)) (old new : Edits) (n : ℕ) → Taken words old new n → old.framing ≡ None → (n ≡ length words → ⊥) → with_one (plain old) words ≡ None
-fewer_taken words old new n taken first fewer =
-    let m = map_some (edit_at words) (with_edit old.steps.items) (new.steps.items, (new.framing, n)) taken in
-    let e : Named = m.0 in
-    let count : e.count ≡ n = ap (λ (t : List (Step Paint) × (Option Framing × ℕ)). t.1.1) m.2 in
-    let tested : eqb e.count (length words) ≡ false = other_eqb e.count (length words) (λ same. fewer (sym count ∙ same)) in
-    rw (first, m.1, tested) refl
+fewer_taken words old new n taken first fewer = grind (arith, map_some, other_eqb)
 
 -- there is none, or one would stand behind a crop or a pad
 pub none_taken : (words : List (List ℕ)) (old : Edits) → (old.framing ≡ None → edit_at words ≡ None) → with_one (plain old) words ≡ None
-none_taken words old none = by_framing old.framing refl where
-  by_framing : (f : Option Framing) → old.framing ≡ f → with_one (plain old) words ≡ None
-  by_framing None e = rw (e, none e) refl
-  by_framing (Some f) e = rw e refl
+none_taken words old none = grind arith
 
 -- ---- lines
 

@@ -8,7 +8,7 @@ use Rattle.frame_formats.specs.declared.picture.Picture.{Picture}
 use Rattle.frame_formats.specs.declared.picture.Head.{Head}
 use Rattle.frame_formats.specs.declared.picture.Head.TheVariants.{Width, Height}
 use Rattle.frame_formats.specs.declared.picture.Scan.{Scan}
-use Rattle.frame_formats.specs.declared.picture.Scan.TheVariants.{More, Done, Bad}
+use Rattle.frame_formats.specs.declared.picture.Scan.TheVariants.{Done, Bad}
 
 scanned-append : (s : Scan) (xs ys : List ℕ) → scanned s (xs ++ ys) ≡ scanned (scanned s xs) ys
 scanned-append s [] ys = refl
@@ -22,16 +22,12 @@ bad_is [] = refl
 bad_is (x ∷ xs) = bad_is xs
 
 done_is : (s : Scan) (p : Picture) → done_as s ≡ Some p → s ≡ Done p
-done_is (More head comment) p e = absurd cc
 done_is (Done q) p e = cc
-done_is Bad p e = absurd cc
+done_is _ p e = absurd cc
 
 -- bytes behind a head are no part of one
 no_more : (s : Scan) (p q : Picture) (y : ℕ) (ys : List ℕ) → done_as s ≡ Some p → done_as (scanned (pushed s y) ys) ≡ Some q → ⊥
-no_more s p q y ys done longer =
-    let is : s ≡ Done p = done_is s p done in
-    let none : done_as (scanned (pushed s y) ys) ≡ None = ap (λ (t : Scan). done_as (scanned (pushed t y) ys)) is ∙ ap done_as (bad_is ys) in
-    let bad : Some q ≡ None = sym longer ∙ none in absurd cc
+no_more s p q y ys done longer = grind (arith, bad_is, done_is)
 
 apart : (s : Scan) (h k a b : List ℕ) (p q : Picture) → done_as (scanned s h) ≡ Some p → done_as (scanned s k) ≡ Some q → h ++ a ≡ k ++ b → (h ≡ k) × (a ≡ b)
 apart s [] [] a b p q mine theirs same = (refl, same)
@@ -78,15 +74,7 @@ one_digit head reads n small = reads None n small
 
 digits_more : (head : Option ℕ → Head) → ReadsDigits head → (n : ℕ) (ds : List ℕ) → (n / 10 < 2 ^ 32 → scanned (more (head None)) ds ≡ more (head (Some (n / 10)))) → n < 2 ^ 32
     → scanned (more (head None)) (ds ++ ((48 + n % 10) ∷ [])) ≡ more (head (Some n))
-digits_more head reads n ds before small =
-    let last : n % 10 < 10 = omega arith in
-    let whole : n / 10 * 10 + n % 10 ≡ n = omega arith in
-    let fits : n / 10 * 10 + n % 10 < 2 ^ 32 = omega arith in
-    scanned-append (more (head None)) ds ((48 + n % 10) ∷ [])
-    ∙ ap (λ s. pushed s (48 + n % 10)) (before (omega arith))
-    ∙ reads (Some (n / 10)) (n % 10) last
-    ∙ ap (with_number head) (in_range (n / 10) (n % 10) fits)
-    ∙ ap (λ k. more (head (Some k))) whole
+digits_more head reads n ds before small = grind (arith, scanned-append, in_range)
 
 reads_decimal : (head : Option ℕ → Head) → ReadsDigits head → (n : ℕ) → n < 2 ^ 32 → scanned (more (head None)) (decimal n) ≡ more (head (Some n))
 reads_decimal head reads n small =
@@ -121,3 +109,6 @@ reads_back p columns width_fits rows height_fits =
     scanned-append start (front ++ high ++ greatest) (10 ∷ [])
     ∙ ap (λ s. scanned s (10 ∷ [])) (scanned-append start (front ++ high) greatest ∙ ap (λ s. scanned s greatest) (scanned-append start front high ∙ ap (λ s. scanned s high) width_read ∙ height_read))
     ∙ height_ends p.colour p.width p.height rows)
+
+-- the laws, for a caller's `using`
+pub ruleset laws_of_heads = (heads_apart, one_byte_more, bad_stays, begins, reads_back)

@@ -1,12 +1,12 @@
 -- The planes of a picture have its size.
-use Rattle.std.proofs.Common.{◌≡◌, ℕ, ◌+◌, ◌*◌, ◌%◌, ◌<◌, ◌^◌, Bool, true, false, List, [], ◌∷◌, Some, map, sym, ap, ◌∙◌, subst, arith}
+use Rattle.std.proofs.Common.{◌≡◌, ℕ, ◌+◌, ◌*◌, ◌%◌, ◌<◌, ◌^◌, Bool, true, false, List, [], ◌∷◌, Some, map, sym, ap, ◌∙◌, arith}
 use Rattle.text_model.specs.Reading.{◌>>=◌}
 use Rattle.text_model.proofs.Options.{some_is, bind_some}
 use Rattle.image_planes.specs.Changes.{Job, is_job, jobs_len}
 use Rattle.image_planes.specs.Resized.{Resizing, is_resizing, target_len, targets_len, new_width, new_height}
 use Rattle.image_planes.specs.declared.change.Step.{Step}
 use Rattle.image_planes.specs.declared.target.Resize.{Resize}
-use Rattle.frame_formats.specs.Layers.{picture_layers, job_on, jobs_on, resizing_on, resizings_on}
+use Rattle.frame_formats.specs.Layers.{picture_layers, jobs_on, resizing_on, resizings_on}
 use Rattle.frame_formats.specs.Steps.{all_some}
 use Rattle.frame_formats.specs.declared.layers.Layer.{Layer}
 use Rattle.frame_formats.specs.declared.layers.Layer.TheVariants.{Pixels}
@@ -24,9 +24,7 @@ in_range width height steps is = (grind arith, grind arith, grind arith)
 
 first_job : (c : Channel) (ls : List Layer) (width height : ℕ) (steps : List (Step Paint)) (jobs : List Job) → jobs_on (Pixels c ∷ ls) width height steps ≡ Some jobs → InRange width height
 unfolding all_some
-first_job c ls width height steps jobs made =
-    let first = bind_some (job_on (Pixels c) width height steps) (λ j. jobs_on ls width height steps >>= λ js. Some (j ∷ js)) jobs made in
-    in_range width height first.0.steps (job_size (Pixels c) width height steps first.0 first.1).1
+first_job c ls width height steps jobs made = grind (arith, bind_some, job_size, in_range)
 
 pub picture_size : (b : Bool) (width height : ℕ) (steps : List (Step Paint)) (jobs : List Job) → jobs_on (picture_layers b) width height steps ≡ Some jobs → InRange width height
 picture_size true width height steps jobs made = first_job Red (Pixels Green ∷ Pixels Blue ∷ []) width height steps jobs made
@@ -34,16 +32,11 @@ picture_size false width height steps jobs made = first_job Only [] width height
 
 -- so does what gets another size
 same_resize : (c : Channel) (width height : ℕ) (resize : Resize) (r : Resizing) → resizing_on (Pixels c) width height resize ≡ Some r → (is_resizing width height resize ≡ true) × (target_len r ≡ new_width resize * new_height resize)
-same_resize c width height resize r made =
-    let s = target_size (Pixels c) width height resize r made in
-    let same : s.0 ≡ resize = sym (some_is resize s.0 s.1) in
-    (subst (λ z. is_resizing width height z ≡ true) same s.2, sym (ap target_len s.3) ∙ ap (λ z. new_width z * new_height z) same)
+same_resize c width height resize r made = grind (arith, some_is, target_size)
 
 first_target : (c : Channel) (ls : List Layer) (width height : ℕ) (resize : Resize) (rs : List Resizing) → resizings_on (Pixels c ∷ ls) width height resize ≡ Some rs → is_resizing width height resize ≡ true
 unfolding all_some
-first_target c ls width height resize rs made =
-    let first = bind_some (resizing_on (Pixels c) width height resize) (λ r. resizings_on ls width height resize >>= λ more. Some (r ∷ more)) rs made in
-    (same_resize c width height resize first.0 first.1).0
+first_target c ls width height resize rs made = grind (arith, bind_some, same_resize)
 
 pub picture_resized : (b : Bool) (width height : ℕ) (resize : Resize) (rs : List Resizing) → resizings_on (picture_layers b) width height resize ≡ Some rs → is_resizing width height resize ≡ true
 picture_resized true width height resize rs made = first_target Red (Pixels Green ∷ Pixels Blue ∷ []) width height resize rs made

@@ -1,13 +1,13 @@
 -- How many bytes the planes have, before and after.
-use Rattle.std.proofs.Common.{◌≡◌, ℕ, ◌+◌, ◌*◌, true, List, [], ◌∷◌, Some, sym, ap, ◌∙◌}
+use Rattle.std.proofs.Common.{◌≡◌, ℕ, ◌+◌, ◌*◌, true, List, [], ◌∷◌, Some, sym, ap, ◌∙◌, arith}
 use Rattle.text_model.specs.Reading.{◌>>=◌}
 use Rattle.text_model.proofs.Options.{some_is, bind_some, guard_some}
-use Rattle.image_planes.specs.Changes.{Job, job, job_len, job_for, is_job, jobs_len}
-use Rattle.image_planes.specs.Resized.{Resizing, resizing, resizing_for, is_resizing, source_len, sources_len}
+use Rattle.image_planes.specs.Changes.{Job, job_len, is_job, jobs_len}
+use Rattle.image_planes.specs.Resized.{Resizing, resizing, is_resizing, source_len, sources_len}
 use Rattle.image_planes.specs.declared.change.Step.{Step}
 use Rattle.image_planes.specs.declared.target.Resize.{Resize}
-use Rattle.frame_formats.specs.Layers.{layer_width, layer_height, change_on, job_on, jobs_on, resize_on, resizing_on, resizings_on}
-use Rattle.frame_formats.specs.Steps.{all_some, step_by}
+use Rattle.frame_formats.specs.Layers.{layer_width, layer_height, job_on, jobs_on, resize_on, resizing_on, resizings_on}
+use Rattle.frame_formats.specs.Steps.{all_some}
 use Rattle.frame_formats.specs.declared.layers.Layer.{Layer}
 use Rattle.frame_formats.specs.declared.steps.Paint.{Paint}
 
@@ -18,12 +18,7 @@ layers_len (l ∷ ls) width height = layer_width l width * layer_height l height
 
 -- a plane has a size in range
 pub job_size : (l : Layer) (width height : ℕ) (steps : List (Step Paint)) (j : Job) → job_on l width height steps ≡ Some j → (layer_width l width * layer_height l height ≡ job_len j) × (is_job (layer_width l width) (layer_height l height) j.steps ≡ true)
-job_size l width height steps j made =
-    let w = layer_width l width in
-    let h = layer_height l height in
-    let found = bind_some (all_some (step_by (change_on l width height)) steps) (job_for w h) j made in
-    let tested = guard_some (is_job w h found.0) (job w h found.0) j found.2 in
-    (ap job_len tested.1, rw (ap (λ (k : Job). k.steps) (sym tested.1)) tested.0)
+job_size l width height steps j made = grind (arith, bind_some, guard_some)
 
 pub jobs_size : (ls : List Layer) (width height : ℕ) (steps : List (Step Paint)) (jobs : List Job) → jobs_on ls width height steps ≡ Some jobs → layers_len ls width height ≡ jobs_len jobs
 unfolding all_some
@@ -36,12 +31,7 @@ jobs_size (l ∷ ls) width height steps jobs made =
     (λ i. one i + rest i) ∙ ap jobs_len (some_is (first.0 ∷ others.0) jobs others.2)
 
 pub target_size : (l : Layer) (width height : ℕ) (resize : Resize) (r : Resizing) → resizing_on l width height resize ≡ Some r → (z : Resize) × (resize_on l width height resize ≡ Some z) × (is_resizing (layer_width l width) (layer_height l height) z ≡ true) × (resizing (layer_width l width) (layer_height l height) z ≡ r)
-target_size l width height resize r made =
-    let w = layer_width l width in
-    let h = layer_height l height in
-    let found = bind_some (resize_on l width height resize) (resizing_for w h) r made in
-    let tested = guard_some (is_resizing w h found.0) (resizing w h found.0) r found.2 in
-    (found.0, found.1, tested.0, tested.1)
+target_size l width height resize r made = grind (arith, bind_some, guard_some)
 
 sources_size : (ls : List Layer) (width height : ℕ) (resize : Resize) (rs : List Resizing) → resizings_on ls width height resize ≡ Some rs → layers_len ls width height ≡ sources_len rs
 unfolding all_some

@@ -8,7 +8,7 @@ use Rattle.image_planes.specs.Resized.{Resizing, is_resizing, new_width, new_hei
 use Rattle.image_planes.specs.declared.target.Resize.{Resize}
 use Rattle.image_planes.specs.declared.target.Resize.TheVariants.{Crop, Pad}
 use Rattle.frame_formats.specs.Format.{resize_for}
-use Rattle.frame_formats.specs.Layers.{picture_layers, jobs_on, resizings_on}
+use Rattle.frame_formats.specs.Layers.{picture_layers, resizings_on}
 use Rattle.frame_formats.specs.Picture.{picture_of, head_text}
 use Rattle.frame_formats.specs.Edits.{Edits}
 use Rattle.frame_formats.specs.Recipe.{Recipe, recipe, finished_picture, picture_recipe, resized_picture}
@@ -48,7 +48,4 @@ finished_head p jobs (Some framing) r columns width_fits rows height_fits made =
     (q, ap (λ (x : Recipe). picture_of x.head) (sym found.2) ∙ reads_back q size.0 size.1 some size.2)
 
 pub heads_are_read : (e : Edits) (p : Picture) (r : Recipe) → 0 < p.height → picture_recipe e p ≡ Some r → HasHead r
-heads_are_read e p r rows made =
-    let step = bind_some (jobs_on (picture_layers p.colour) p.width p.height e.steps) (λ jobs. finished_picture p jobs e.framing) r made in
-    let size = picture_size p.colour p.width p.height e.steps step.0 step.1 in
-    finished_head p step.0 e.framing r size.0 size.1 rows size.2 step.2
+heads_are_read e p r rows made = grind (arith, bind_some, picture_size, finished_head)

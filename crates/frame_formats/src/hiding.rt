@@ -8,6 +8,7 @@ use image_planes::changes_hide;
 /// Of a video or a picture nothing shows that the edits hide: frames that differ only there become
 /// one. And what is written before a picture is the head of one. A caller calls it for these laws; it
 /// does nothing.
+#[tactic(auto, using(crate::proofs::WrittenHeads::heads_are_read))]
 pub fn recipes_hide()
     ensures videos { VideosHide }
     ensures pictures { PicturesHide }

@@ -247,6 +247,7 @@ pub(crate) fn picture_head(alloc: Global, picture: Picture) -> Result<Vec<u8>, A
 
 /// No head begins another, so a reader knows where one ends; bytes that are bad begin none; and what
 /// `picture_head` writes is read as its picture. A caller calls it for these laws; it does nothing.
+#[tactic(auto, using(crate::proofs::Heads::laws_of_heads))]
 pub fn heads_end_themselves()
     ensures apart { ApartHeads }
     ensures one_byte_more { OneByteMore }

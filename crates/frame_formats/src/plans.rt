@@ -89,6 +89,7 @@ impl Plan {
     /// # Errors
     ///
     /// `Outside` where the edits are none of such a video.
+    #[tactic(auto, using(crate::proofs::Sizes::same_sizes))]
     pub fn for_video(
         alloc: Global,
         line: &[u8],
@@ -123,6 +124,7 @@ impl Plan {
     /// # Errors
     ///
     /// `Outside` where the edits are none of such a picture, or no row would be left.
+    #[tactic(auto, using(crate::proofs::PictureSizes::three_whole, crate::proofs::PictureSizes::three_whole_resized, crate::proofs::Sizes::same_sizes))]
     pub fn for_picture(
         alloc: Global,
         picture: Picture,

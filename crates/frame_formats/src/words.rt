@@ -239,6 +239,7 @@ impl Edits {
     }
 
     // Adds the one edit that all of the words are.
+    #[tactic(auto, using(crate::proofs::EditsEach::one_taken, crate::proofs::EditsEach::fewer_taken, crate::proofs::EditsEach::none_taken))]
     fn take_one(&mut self, words: &[&[u8]]) -> Result<(), WordsFault>
         ensures taken { OnOk result (with_one (plain self.old) (map (λ w. w.now) words.now) ≡ Some (plain self.new)) }
         ensures none { IfErr result (λ e. e ≡ WordsFault.NoEdit → with_one (plain self.old) (map (λ w. w.now) words.now) ≡ None) }

@@ -1,48 +1,21 @@
 -- Images turned upside down by rows that change places, from the outermost on.
-use Rattle.std.proofs.Common.{◌≡◌, ℕ, ◌+◌, ◌-◌, ◌/◌, ◌<◌, ◌≤◌, ◌⊎◌, sym, ap, ◌∙◌, arith, inl, inr, ⊎_elim, nat_lt, ◌||◌}
-use Rattle.std.proofs.lemmas.Bool.{cond-true, cond-false, cases_Bool}
-use Rattle.std.proofs.lemmas.Bool.Decides.{nat_tests, eqb_tells}
+use Rattle.std.proofs.Common.{◌≡◌, ℕ, ◌+◌, ◌-◌, ◌/◌, ◌<◌, ◌≤◌, sym, ap, ◌∙◌, arith, nat_lt, ◌||◌, rules}
+use Rattle.std.proofs.lemmas.Bool.{cond-false}
+use Rattle.std.proofs.lemmas.Bool.Decides.{nat_tests}
 use Rattle.image_model.specs.Layout.{Layout, pixel}
 use Rattle.image_model.specs.Grid.{grid_of}
 use Rattle.image_model.specs.Swaps.{swapped_row, rows_swapped}
 use Rattle.image_model.specs.Flips.{flipped_row, flipped_upto, flipped}
 use Rattle.image_model.proofs.Grids.{at_place, pixel_at, same_grids}
-use Rattle.image_model.proofs.Swaps.{first_swapped, second_swapped, other_stays}
 
 -- a row that has not changed places yet
 still_row : (h n v : ℕ) → n ≤ v → n ≤ h - 1 - v → flipped_row h n v ≡ v
 still_row h n v above under = cond-false (nat_lt v n || nat_lt (h - 1 - v) n) _ _ (grind (arith, nat_tests))
 
--- one that has
-turned_row : (h n v : ℕ) → (v < n) ⊎ (h - 1 - v < n) → flipped_row h n v ≡ h - 1 - v
-turned_row h n v (inl early) = cond-true (nat_lt v n || nat_lt (h - 1 - v) n) _ _ (grind (arith, nat_tests))
-turned_row h n v (inr late) = cond-true (nat_lt v n || nat_lt (h - 1 - v) n) _ _ (grind (arith, nat_tests))
-
 -- where a row comes from after one step more
 one_more : (h n v : ℕ) → n < h / 2 → v < h → flipped_row h n (swapped_row n (h - 1 - n) v) ≡ flipped_row h (n + 1) v
 one_more h n v half below =
-    elim (eqb_tells v n) [
-      | inl (_, same) ↦
-          ap (λ k. flipped_row h n (swapped_row n (h - 1 - n) k)) same
-          ∙ ap (flipped_row h n) (first_swapped n (h - 1 - n))
-          ∙ still_row h n (h - 1 - n) (omega (arith, half)) (omega (arith, half))
-          ∙ sym (ap (flipped_row h (n + 1)) same ∙ turned_row h (n + 1) n (inl (omega arith)))
-      | inr (_, not_n) ↦
-          elim (eqb_tells v (h - 1 - n)) [
-            | inl (_, same) ↦
-                let back : h - 1 - (h - 1 - n) ≡ n = omega (arith, half) in
-                ap (λ k. flipped_row h n (swapped_row n (h - 1 - n) k)) same
-                ∙ ap (flipped_row h n) (second_swapped n (h - 1 - n))
-                ∙ still_row h n n (omega arith) (omega (arith, half))
-                ∙ sym (ap (flipped_row h (n + 1)) same ∙ turned_row h (n + 1) (h - 1 - n) (inr (omega (arith, half))) ∙ back)
-            | inr (_, not_last) ↦
-                ap (flipped_row h n) (other_stays n (h - 1 - n) v not_n not_last)
-                ∙ ⊎_elim
-                (λ turned. cond-true (nat_lt v n || nat_lt (h - 1 - v) n) _ _ turned ∙ sym (cond-true (nat_lt v (n + 1) || nat_lt (h - 1 - v) (n + 1)) _ _ (grind (arith, nat_tests, turned))))
-                (λ still. cond-false (nat_lt v n || nat_lt (h - 1 - v) n) _ _ still ∙ sym (cond-false (nat_lt v (n + 1) || nat_lt (h - 1 - v) (n + 1)) _ _ (grind (arith, nat_tests, still, not_n, not_last))))
-                (cases_Bool (nat_lt v n || nat_lt (h - 1 - v) n))
-          ]
-    ]
+    search rules
 
 -- no row has changed places yet
 pub flipped_none : {T : Type 0} (l : Layout T) → grid_of l ≡ flipped_upto 0 (grid_of l)
@@ -61,19 +34,12 @@ flipped_more n z l k so last half =
     ∙ ap ((grid_of l).pixel u) (one_more l.height n v half line))
   where
     within : (v : ℕ) → v < l.height → swapped_row n (l.height - 1 - n) v < l.height
-    within v line = grind (arith, nat_tests, half)
+    within v line = grind arith
 
 -- all rows
 pub flipped_all : {T : Type 0} (n : ℕ) (l : Layout T) → n ≡ l.height / 2 → flipped_upto n (grid_of l) ≡ flipped (grid_of l)
 unfolding grid_of flipped flipped_upto
-flipped_all n l done = ap (λ m. flipped_upto m (grid_of l)) done ∙ same_grids l.width l.height _ _ (λ u v column line. ap ((grid_of l).pixel u) (turned v line))
-  where
-    turned : (v : ℕ) → v < l.height → flipped_row l.height (l.height / 2) v ≡ l.height - 1 - v
-    turned v line =
-        ⊎_elim
-        (λ swapped. cond-true (nat_lt v (l.height / 2) || nat_lt (l.height - 1 - v) (l.height / 2)) _ _ swapped)
-        (λ still. cond-false (nat_lt v (l.height / 2) || nat_lt (l.height - 1 - v) (l.height / 2)) _ _ still ∙ (let mid : v ≡ l.height - 1 - v = grind (arith, nat_tests, still) in mid))
-        (cases_Bool (nat_lt v (l.height / 2) || nat_lt (l.height - 1 - v) (l.height / 2)))
+flipped_all n l done = grind arith
 
 -- these laws, for a caller's `using`
 pub ruleset flips = (flipped_none, flipped_more, flipped_all)

@@ -1,32 +1,22 @@
 -- When grids are one, what their places have, and what a write does to them.
-use Rattle.std.proofs.Common.{◌≡◌, ◌≢◌, ℕ, ◌+◌, ◌-◌, ◌<◌, ◌≤◌, Bool, true, false, cond, Some, None, Option, refl, sym, ap, ◌∙◌, arith, ⊎_elim, if◌then◌else◌}
+use Rattle.std.proofs.Common.{◌≡◌, ◌≢◌, ℕ, ◌+◌, ◌-◌, ◌<◌, ◌≤◌, Bool, true, false, cond, None, Option, refl, sym, ap, ◌∙◌, arith, ⊎_elim, if◌then◌else◌, rules}
 use Rattle.std.specs.Bool.{Decides}
 use Rattle.std.proofs.lemmas.Nat.{same_from_place}
-use Rattle.std.proofs.lemmas.Bool.{and_parts, and_from, ltb-true, leb-true, lt-ltb, le-leb, cond-true, cond-false, cases_Bool, true≢false, false_from_ne_true}
+use Rattle.std.proofs.lemmas.Bool.{cond-true, cond-false, cases_Bool, true≢false, false_from_ne_true}
 use Rattle.image_model.specs.Layout.{Layout, Fits, cell_of, pixel}
 use Rattle.image_model.specs.Grid.{Grid, is_place, grid, grid_of, view, covers, patch, uniform}
 use Rattle.image_model.proofs.Cells.{slice_get-set_same, slice_get-set_other}
-use Rattle.image_model.proofs.Places.{cell_within, written}
+use Rattle.image_model.proofs.Places.{written}
 
 -- ---- places
 
 -- the test of a place tells which numbers are one
 pub is_place_decides : (w h x y : ℕ) → Decides (is_place w h x y) ((x < w) × (y < h))
-is_place_decides w h x y = (
-  λ e. let p = and_parts _ _ e in (ltb-true x w p.0, ltb-true y h p.1),
-  λ p. and_from _ _ (lt-ltb x w p.0) (lt-ltb y h p.1),
-)
+is_place_decides w h x y = grind arith
 
 -- the test of a rectangle tells which numbers lie in it
 pub covers_decides : (left top w h x y : ℕ) → Decides (covers left top w h x y) ((left ≤ x) × (top ≤ y) × (x < left + w) × (y < top + h))
-covers_decides left top w h x y = (
-  λ e.
-      let outer = and_parts _ _ e in
-      let inner = and_parts _ _ outer.1 in
-      let p = (is_place_decides (left + w) (top + h) x y).0 inner.1 in
-      (leb-true left x outer.0, leb-true top y inner.0, p.0, p.1),
-  λ p. and_from _ _ (le-leb left x p.0) (and_from _ _ (le-leb top y p.1) ((is_place_decides (left + w) (top + h) x y).1 (p.2, p.3))),
-)
+covers_decides left top w h x y = grind arith
 
 -- what a grid has at a place
 pub at_place : {T : Type 0} (w h : ℕ) (f : ℕ → ℕ → Option T) (x y : ℕ) → x < w → y < h → (grid w h f).pixel x y ≡ f x y
@@ -45,19 +35,13 @@ under false u v n e = refl
 
 -- grids that have one size and one pixel at each place are one
 pub same_grids : {T : Type 0} (w h : ℕ) (f g : ℕ → ℕ → Option T) → ((x y : ℕ) → x < w → y < h → f x y ≡ g x y) → grid w h f ≡ grid w h g
-same_grids w h f g each =
-    let at : (x y : ℕ) → cond (is_place w h x y) (f x y) None ≡ cond (is_place w h x y) (g x y) None =
-    λ x y. under (is_place w h x y) (f x y) (g x y) None (λ e. let p = (is_place_decides w h x y).0 e in each x y p.0 p.1) in
-    λ i. record { width = w; height = h; pixel = λ x y. at x y i }
+same_grids w h f g each = grind arith
 
 -- layouts of one size with one pixel at each place have one grid
 pub same_grids_of : {T : Type 0} (k l : Layout T) → k.width ≡ l.width → k.height ≡ l.height
     → ((x y : ℕ) → x < l.width → y < l.height → pixel k x y ≡ pixel l x y) → grid_of k ≡ grid_of l
 unfolding grid_of
-same_grids_of k l wide high each =
-    ap (λ w. grid w k.height (pixel k)) wide
-    ∙ ap (λ h. grid l.width h (pixel k)) high
-    ∙ same_grids l.width l.height (pixel k) (pixel l) each
+same_grids_of k l wide high each = grind arith
 
 -- a grid that has one grid's pixels in a rectangle, and another's elsewhere, is the patch
 pub is_patch : {T : Type 0} (g : Grid T) (left top : ℕ) (p : Grid T) (f : ℕ → ℕ → Option T)
@@ -65,38 +49,7 @@ pub is_patch : {T : Type 0} (g : Grid T) (left top : ℕ) (p : Grid T) (f : ℕ 
     → ((x y : ℕ) → x < g.width → y < g.height → covers left top p.width p.height x y ≡ false → f x y ≡ g.pixel x y)
     → grid g.width g.height f ≡ patch g left top p
 unfolding patch
-is_patch g left top p f inside outside =
-    same_grids g.width g.height f _ (λ x y column line.
-    ⊎_elim
-    (λ hit. inside x y column line hit ∙ sym (cond-true (covers left top p.width p.height x y) _ _ hit))
-    (λ miss. outside x y column line miss ∙ sym (cond-false (covers left top p.width p.height x y) _ _ miss))
-    (cases_Bool (covers left top p.width p.height x y)))
-
--- the view through the whole
-pub view_all : {T : Type 0} (w h : ℕ) (f : ℕ → ℕ → Option T) → view (grid w h f) 0 0 w h ≡ grid w h f
-unfolding view
-view_all w h f = same_grids w h (λ x y. (grid w h f).pixel (0 + x) (0 + y)) f seen
-  where
-    seen : (x y : ℕ) → x < w → y < h → (grid w h f).pixel (0 + x) (0 + y) ≡ f x y
-    seen x y column line =
-        let left : 0 + x ≡ x = omega arith in
-        let top : 0 + y ≡ y = omega arith in
-        ap (λ n. (grid w h f).pixel n (0 + y)) left ∙ ap (λ n. (grid w h f).pixel x n) top ∙ at_place w h f x y column line
-
--- a patch over the whole
-pub patch_all : {T : Type 0} (g : Grid T) (f : ℕ → ℕ → Option T) → patch g 0 0 (grid g.width g.height f) ≡ grid g.width g.height f
-patch_all g f = sym (is_patch g 0 0 (grid g.width g.height f) f inside outside)
-  where
-    inside : (x y : ℕ) → x < g.width → y < g.height → covers 0 0 g.width g.height x y ≡ true → f x y ≡ (grid g.width g.height f).pixel (x - 0) (y - 0)
-    inside x y column line _ =
-        let left : x - 0 ≡ x = omega arith in
-        let top : y - 0 ≡ y = omega arith in
-        sym (ap (λ n. (grid g.width g.height f).pixel n (y - 0)) left ∙ ap (λ n. (grid g.width g.height f).pixel x n) top ∙ at_place g.width g.height f x y column line)
-
-    outside : (x y : ℕ) → x < g.width → y < g.height → covers 0 0 g.width g.height x y ≡ false → f x y ≡ g.pixel x y
-    outside x y column line miss =
-        let hit = (covers_decides 0 0 g.width g.height x y).1 (omega arith, omega arith, omega arith, omega arith) in
-        absurd (true≢false (sym hit ∙ miss))
+is_patch g left top p f inside outside = grind arith
 
 module _ {T : Type 0} (g : Grid T) (left top width height x y : ℕ) (p : Grid T) where
   -- whether the patch has a place of the grid, seen in the view and in the grid
@@ -114,9 +67,7 @@ module _ {T : Type 0} (g : Grid T) (left top width height x y : ℕ) (p : Grid T
   outer u v = if covers left top width height u v then (grid width height inner).pixel (u - left) (v - top) else g.pixel u v
 
   in_view : (u v : ℕ) → covers left top width height u v ≡ true → outer u v ≡ inner (u - left) (v - top)
-  in_view u v hit =
-      let c = (covers_decides left top width height u v).0 hit in
-      cond-true (covers left top width height u v) _ _ hit ∙ at_place width height inner (u - left) (v - top) (omega (arith, c)) (omega (arith, c))
+  in_view u v hit = search rules
 
   beside : (u v : ℕ) → covers left top width height u v ≡ true → summed u v ≡ false → outer u v ≡ g.pixel u v
   unfolding grid_of view patch uniform
@@ -161,14 +112,7 @@ unfolding grid_of patch uniform
 written_grid l x y value fits wide column line = is_patch (grid_of l) x y (uniform 1 1 value) (pixel (written l x y value)) inside outside
   where
     inside : (u v : ℕ) → u < l.width → v < l.height → covers x y 1 1 u v ≡ true → pixel (written l x y value) u v ≡ (uniform 1 1 value).pixel (u - x) (v - y)
-    inside u v in_u in_v hit =
-        let parts = (covers_decides x y 1 1 u v).0 hit in
-        let same_u : u ≡ x = omega (arith, parts) in
-        let same_v : v ≡ y = omega (arith, parts) in
-        ap (λ n. pixel (written l x y value) n v) same_u
-        ∙ ap (pixel (written l x y value) x) same_v
-        ∙ slice_get-set_same l.cells (cell_of l x y) value (cell_within l fits x y column line)
-        ∙ sym (at_place 1 1 (λ _ _. Some value) (u - x) (v - y) (omega arith) (omega arith))
+    inside u v in_u in_v hit = grind (arith, slice_get-set_same, covers_decides)
 
     outside : (u v : ℕ) → u < l.width → v < l.height → covers x y 1 1 u v ≡ false → pixel (written l x y value) u v ≡ (grid_of l).pixel u v
     outside u v in_u in_v miss =

@@ -1,38 +1,31 @@
 -- A row as a window of one line, and what an image shows once other pixels, as many, are in its place.
-use Rattle.std.proofs.Common.{◌≡◌, ℕ, ◌+◌, ◌*◌, ◌<◌, ◌≤◌, inl, inr, List, length, take, drop, replicate, Some, refl, sym, ap, ◌∙◌, subst, arith}
-use Rattle.std.specs.List.{slice_get}
+use Rattle.std.proofs.Common.{◌≡◌, ℕ, ◌+◌, ◌*◌, ◌<◌, ◌≤◌, inl, inr, List, length, take, drop, replicate, refl, sym, ap, ◌∙◌, subst, arith}
 use Rattle.std.proofs.lemmas.Bool.{cases_lt}
-use Rattle.std.proofs.lemmas.Bool.Decides.{nat_tests}
 use Rattle.std.proofs.lemmas.List.{length-replicate}
 use Rattle.std.proofs.lemmas.Option.{slice_get_past}
 use Rattle.std.proofs.Math.Nat.{mul_comm, zero-mul}
-use Rattle.image_model.specs.Layout.{Layout, Fits, SameOutside, layout, pixel}
-use Rattle.image_model.specs.Grid.{grid, grid_of, patch, uniform, one_row}
+use Rattle.image_model.specs.Layout.{Layout, Fits, SameOutside, layout}
+use Rattle.image_model.specs.Grid.{grid_of, patch, uniform, one_row}
 use Rattle.image_model.specs.Rows.{row}
 use Rattle.image_model.specs.Windows.{Window, Stretch, window, window_start, exact_len}
 use Rattle.image_model.proofs.Cells.{slice_get-replicate}
-use Rattle.image_model.proofs.Grids.{same_grids}
 use Rattle.image_model.proofs.Rows.{row_stretch as row_cells}
 use Rattle.image_model.proofs.Stretches.{length-stretch_cells}
 use Rattle.image_model.proofs.Windows.{HasWindow, exact_has, stretch_window, handed_on, handed_on_grid, handed_on_outside}
 
 -- the cells of a window of one line are as many as its columns
 one_line : (stride y width : ℕ) → exact_len stride (window 0 y width 1) ≡ width
-one_line stride y width = grind (arith, nat_tests, mul_comm stride 0, zero-mul stride)
+one_line stride y width = grind arith
 
 -- one row as a grid
 pub one_row_is : {T : Type 0} (cells : List T) (width stride : ℕ) → length cells ≡ width → grid_of (layout cells width 1 stride) ≡ one_row cells
 unfolding grid_of one_row
-one_row_is cells width stride long =
-    same_grids width 1 (pixel (layout cells width 1 stride)) (λ x _. slice_get cells x) (λ x y column line. let at : y * stride + x ≡ x = grind (arith, zero-mul stride) in ap (slice_get cells) at)
-    ∙ ap (λ w. grid w 1 (λ x _. slice_get cells x)) (sym long)
+one_row_is cells width stride long = grind arith
 
 -- a row of one value
 pub one_row_of_one : {T : Type 0} (n : ℕ) (value : T) → one_row (replicate n value) ≡ uniform n 1 value
 unfolding one_row uniform
-one_row_of_one n value =
-    ap (λ w. grid w 1 (λ x _. slice_get (replicate n value) x)) (length-replicate n value)
-    ∙ same_grids n 1 (λ x _. slice_get (replicate n value) x) (λ _ _. Some value) (λ x y column line. slice_get-replicate n x value column)
+one_row_of_one n value = grind (arith, length-replicate, slice_get-replicate)
 
 module _ {T : Type 0} (l : Layout T) (y : ℕ) (fits : Fits l) (below : y < l.height) where
   abbrev line : Window

@@ -5,7 +5,7 @@ use Rattle.std.proofs.lemmas.Bool.{cond-true, cond-false, cases_Bool, true≢fal
 use Rattle.image_model.specs.Grid.{Grid, is_place, grid_of, covers, view, patch, uniform, one_row}
 use Rattle.image_model.specs.Layout.{Layout, pixel}
 use Rattle.image_model.specs.Rows.{row}
-use Rattle.image_model.proofs.Grids.{covers_decides, at_place, pixel_at, same_grids, is_patch, patch_of_view}
+use Rattle.image_model.proofs.Grids.{covers_decides, at_place, pixel_at, is_patch, patch_of_view}
 use Rattle.image_model.proofs.Rows.{row_pixel}
 
 -- ---- at a place
@@ -14,9 +14,7 @@ use Rattle.image_model.proofs.Rows.{row_pixel}
 pub in_patch : {T : Type 0} (l : Layout T) (x y : ℕ) (p : Grid T) (u v : ℕ) → u < l.width → v < l.height → x ≤ u → y ≤ v → u < x + p.width → v < y + p.height
     → (patch (grid_of l) x y p).pixel u v ≡ p.pixel (u - x) (v - y)
 unfolding grid_of patch
-in_patch l x y p u v column line left top right bottom =
-    at_place l.width l.height (λ m n. if covers x y p.width p.height m n then p.pixel (m - x) (n - y) else (grid_of l).pixel m n) u v column line
-    ∙ cond-true (covers x y p.width p.height u v) _ _ ((covers_decides x y p.width p.height u v).1 (left, top, right, bottom))
+in_patch l x y p u v column line left top right bottom = grind (arith, cond-true)
 
 -- any other place has the pixel that was there
 pub beside_patch : {T : Type 0} (l : Layout T) (x y : ℕ) (p : Grid T) (u v : ℕ) → (u < x) ⊎ ((v < y) ⊎ ((x + p.width ≤ u) ⊎ (y + p.height ≤ v)))
@@ -54,8 +52,7 @@ in_row l x y column line = row_pixel l x y column ∙ sym (pixel_at l x y column
 -- a patch of one pixel has it
 pub put_pixel : {T : Type 0} (l : Layout T) (x y : ℕ) (value : T) → x < l.width → y < l.height → (patch (grid_of l) x y (uniform 1 1 value)).pixel x y ≡ Some value
 unfolding uniform
-put_pixel l x y value column line =
-    in_patch l x y (uniform 1 1 value) x y column line (omega arith) (omega arith) (omega arith) (omega arith) ∙ in_uniform 1 1 value (x - x) (y - y) (omega arith) (omega arith)
+put_pixel l x y value column line = grind (arith, in_patch)
 
 -- ---- at the edge
 
@@ -101,16 +98,13 @@ clipped_image l x y k = clipped_grid l x y (grid_of k)
 -- a part of a rectangle of one value is one of that value
 uniform_part : {T : Type 0} (width height columns lines : ℕ) (value : T) → columns ≤ width → lines ≤ height → view (uniform width height value) 0 0 columns lines ≡ uniform columns lines value
 unfolding view uniform
-uniform_part width height columns lines value across down =
-    same_grids columns lines (λ u v. (uniform width height value).pixel (0 + u) (0 + v)) (λ _ _. Some value) (λ u v column line. in_uniform width height value (0 + u) (0 + v) (omega arith) (omega arith))
+uniform_part width height columns lines value across down = grind arith
 
 -- a rectangle of one value, likewise
 pub clipped : {T : Type 0} (l : Layout T) (x y width height : ℕ) (value : T)
     → patch (grid_of l) x y (uniform width height value) ≡ patch (grid_of l) x y (uniform (min width (l.width - x)) (min height (l.height - y)) value)
 unfolding uniform
-clipped l x y width height value =
-    clipped_grid l x y (uniform width height value)
-    ∙ ap (patch (grid_of l) x y) (uniform_part width height (min width (l.width - x)) (min height (l.height - y)) value (omega arith) (omega arith))
+clipped l x y width height value = grind (arith, clipped_grid, uniform_part)
 
 -- a patch past the right or the lower edge changes nothing
 pub past_edge : {T : Type 0} (l : Layout T) (x y : ℕ) (p : Grid T) → (l.width ≤ x) ⊎ (l.height ≤ y) → patch (grid_of l) x y p ≡ grid_of l

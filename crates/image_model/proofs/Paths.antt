@@ -1,33 +1,20 @@
 -- Paths of nested windows as one window: its view, its stretch, and the path with one more window.
-use Rattle.std.proofs.Common.{◌≡◌, ℕ, suc, ◌+◌, ◌≤◌, Bool, true, false, cond, Option, Some, None, List, [], ◌∷◌, ◌++◌, length, refl, sym, ap, ◌∙◌, subst, arith, add-zero, add_assoc}
+use Rattle.std.proofs.Common.{◌≡◌, ℕ, suc, ◌+◌, ◌≤◌, Option, Some, None, List, [], ◌∷◌, ◌++◌, length, refl, sym, ap, ◌∙◌, subst, arith, add_assoc, rules}
 use Rattle.std.proofs.Math.Nat.{zero-add}
 use Rattle.std.specs.Option.{option_map}
 use Rattle.std.proofs.lemmas.List.Sums.{sum_by-cons, sum_by_push}
-use Rattle.std.proofs.lemmas.Option.{none-some}
 use Rattle.std.proofs.lemmas.Bool.{cond-true}
 use Rattle.std.proofs.Math.Nat.{mul-add}
-use Rattle.image_model.specs.Layout.{Layout, layout, Fits}
-use Rattle.image_model.specs.Grid.{Grid, grid_of, view, patch, uniform}
-use Rattle.image_model.specs.Windows.{Window, window, IsInside, is_inside, window_view, Stretch, padded_stretch, padded_window, stretch_cells, first_outside, corner_left, corner_top, path_width, path_height, path_window, path_view, stretch_within, path_stretch, whole, path_layout}
-use Rattle.image_model.proofs.Grids.{at_place, same_grids}
-use Rattle.image_model.proofs.Stretches.{length-stretch_cells, stretch_cells-within}
-use Rattle.image_model.proofs.Windows.{is_inside_decides, HasWindow, padded_has, padded_fits, padded_grid, window_fits, window_grid}
+use Rattle.image_model.specs.Layout.{Layout, Fits}
+use Rattle.image_model.specs.Grid.{grid_of}
+use Rattle.image_model.specs.Windows.{Window, window, IsInside, is_inside, Stretch, padded_stretch, first_outside, corner_left, corner_top, path_width, path_height, path_window, path_view, stretch_within, path_stretch, whole, path_layout}
+use Rattle.image_model.proofs.Windows.{is_inside_decides, HasWindow, padded_has, window_fits, window_grid}
 
 -- ---- one window in another
 
 -- the window of a window, as one of the whole
 abbrev pub nested : Window → Window → Window
 nested v w = window (v.left + w.left) (v.top + w.top) w.width w.height
-
--- a view of a view is the one view at the summed corner
-pub view_of_view : {T : Type 0} (g : Grid T) (v w : Window) → IsInside v.width v.height w → window_view (window_view g v) w ≡ window_view g (nested v w)
-unfolding grid_of view patch uniform
-view_of_view {T} g v w inside =
-    let seen : ℕ → ℕ → Option T = λ x y. g.pixel (v.left + x) (v.top + y) in
-    same_grids w.width w.height (λ x y. (window_view g v).pixel (w.left + x) (w.top + y)) (λ x y. g.pixel (v.left + w.left + x) (v.top + w.top + y)) (λ x y column line.
-    at_place v.width v.height seen (w.left + x) (w.top + y) (omega (arith, inside)) (omega (arith, inside))
-    ∙ ap (λ n. g.pixel n (v.top + (w.top + y))) (sym (add_assoc v.left w.left x))
-    ∙ ap (λ n. g.pixel (v.left + w.left + x) n) (sym (add_assoc v.top w.top y)))
 
 -- a window of a window is inside
 pub nested_inside : (width height : ℕ) (v w : Window) → IsInside width height v → IsInside v.width v.height w → IsInside width height (nested v w)
@@ -47,33 +34,16 @@ nested_has count stride v w s wide has inside =
       within = omega (arith, has.within, inner.within);
     }
 
--- a window of a window shows what the one window at the summed corner shows
-pub nested_grid : {T : Type 0} (l : Layout T) (v w : Window) → l.width ≤ l.stride → Fits l → IsInside l.width l.height v → IsInside v.width v.height w
-    → grid_of (padded_window (padded_window l v) w) ≡ grid_of (padded_window l (nested v w))
-nested_grid l v w wide fits outer inner =
-    padded_grid (padded_window l v) w (omega (arith, outer)) (padded_fits l v wide fits outer) inner
-    ∙ ap (λ g. window_view g w) (padded_grid l v wide fits outer)
-    ∙ view_of_view (grid_of l) v w inner
-    ∙ sym (padded_grid l (nested v w) wide fits (nested_inside l.width l.height v w outer inner))
-
 -- ---- the window that a path comes to
 
 -- a path with no window outside begins with a window inside, and the rest has none outside
 first_inside : (width height : ℕ) (w : Window) (path : List Window) → first_outside width height (w ∷ path) ≡ None
     → IsInside width height w × (first_outside w.width w.height path ≡ None)
-first_inside width height w path e =
-    let p = parts (is_inside width height w) (first_outside w.width w.height path) e in
-    ((is_inside_decides width height w).0 p.0, p.1)
-  where
-    parts : (b : Bool) (o : Option ℕ) → cond b (option_map (λ n. n + 1) o) (Some 0) ≡ None → (b ≡ true) × (o ≡ None)
-    parts true None e = (refl, refl)
-    parts true (Some n) e = absurd (none-some (n + 1) (sym e))
-    parts false o e = absurd (none-some 0 (sym e))
+first_inside width height w path e = grind arith
 
 -- the window of a path is the window of its rest in its first window
 pub path_window-cons : (width height : ℕ) (w : Window) (path : List Window) → path_window width height (w ∷ path) ≡ nested w (path_window w.width w.height path)
-path_window-cons width height w path =
-    λ i. window (sum_by-cons (λ v. v.left) w path i) (sum_by-cons (λ v. v.top) w path i) (path_width w.width path) (path_height w.height path)
+path_window-cons width height w path = search (rules, sum_by-cons)
 
 -- it is inside
 pub path_inside : (width height : ℕ) (path : List Window) → first_outside width height path ≡ None → IsInside width height (path_window width height path)
@@ -83,21 +53,12 @@ path_inside width height (w ∷ path) e =
     subst (IsInside width height) (sym (path_window-cons width height w path))
     (nested_inside width height w (path_window w.width w.height path) p.0 (path_inside w.width w.height path p.1))
 
--- the view through a path is the view through its rest of that through its first window
-pub path_view-cons : {T : Type 0} (g : Grid T) (w : Window) (path : List Window) → first_outside w.width w.height path ≡ None → path_view g (w ∷ path) ≡ path_view (window_view g w) path
-unfolding grid_of view patch uniform
-path_view-cons g w path e =
-    ap (window_view g) (path_window-cons g.width g.height w path)
-    ∙ sym (view_of_view g w (path_window w.width w.height path) (path_inside w.width w.height path e))
-
 -- ---- the cells of a path
 
 -- a window's stretch, cut for each window of a path in turn, has the path's window
 has_along : (count stride : ℕ) (path : List Window) (v : Window) (s : Stretch) → v.width ≤ stride → HasWindow count stride v s → first_outside v.width v.height path ≡ None
     → HasWindow count stride (nested v (path_window v.width v.height path)) (path_stretch stride s path)
-has_along count stride [] v s wide has e =
-    let same : nested v (window 0 0 v.width v.height) ≡ v = λ i. window (add-zero v.left i) (add-zero v.top i) v.width v.height in
-    subst (λ u. HasWindow count stride u s) (sym same) has
+has_along count stride [] v s wide has e = grind arith
 has_along count stride (w ∷ path) v s wide has e =
     let p = first_inside v.width v.height w path e in
     let inner : HasWindow count stride (nested v w) (stretch_within s (padded_stretch s.len stride w)) = nested_has count stride v w s wide has p.0 in
@@ -130,11 +91,6 @@ module _ {T : Type 0} (l : Layout T) (path : List Window) (wide : l.width ≤ l.
 
 -- ---- a path with one more window
 
-pub path_stretch-push : (stride : ℕ) (s : Stretch) (path : List Window) (w : Window)
-    → path_stretch stride s (path ++ w ∷ []) ≡ stretch_within (path_stretch stride s path) (padded_stretch (path_stretch stride s path).len stride w)
-path_stretch-push stride s [] w = refl
-path_stretch-push stride s (v ∷ path) w = path_stretch-push stride (stretch_within s (padded_stretch s.len stride v)) path w
-
 pub path_width-push : (width : ℕ) (path : List Window) (w : Window) → path_width width (path ++ w ∷ []) ≡ w.width
 path_width-push width [] w = refl
 path_width-push width (v ∷ path) w = path_width-push v.width path w
@@ -144,17 +100,12 @@ path_height-push height [] w = refl
 path_height-push height (v ∷ path) w = path_height-push v.height path w
 
 pub path_window-push : (width height : ℕ) (path : List Window) (w : Window) → path_window width height (path ++ w ∷ []) ≡ nested (path_window width height path) w
-path_window-push width height path w =
-    λ i. window (sum_by_push (λ v. v.left) path w i) (sum_by_push (λ v. v.top) path w i) (path_width-push width path w i) (path_height-push height path w i)
+path_window-push width height path w = grind (arith, sum_by_push, path_width-push, path_height-push)
 
 -- after windows that are inside comes the first one outside of the rest
 pub first_outside-append : (width height : ℕ) (path rest : List Window) → first_outside width height path ≡ None
     → first_outside width height (path ++ rest) ≡ option_map (λ n. n + length path) (first_outside (path_width width path) (path_height height path) rest)
-first_outside-append width height [] rest e = none_more (first_outside width height rest)
-  where
-    none_more : (o : Option ℕ) → o ≡ option_map (λ n. n + 0) o
-    none_more None = refl
-    none_more (Some n) = let e : n ≡ n + 0 = omega arith in ap Some e
+first_outside-append width height [] rest e = grind arith
 first_outside-append width height (w ∷ path) rest e =
     let p = first_inside width height w path e in
     cond-true (is_inside width height w) _ _ ((is_inside_decides width height w).1 p.0)
@@ -164,28 +115,3 @@ first_outside-append width height (w ∷ path) rest e =
     one_more : (o : Option ℕ) → option_map (λ n. n + 1) (option_map (λ n. n + length path) o) ≡ option_map (λ n. n + suc (length path)) o
     one_more None = refl
     one_more (Some n) = let e : n + length path + 1 ≡ n + suc (length path) = omega arith in ap Some e
-
--- a window outside stays the first one, whatever follows
-pub first_outside-stays : (width height : ℕ) (path rest : List Window) (n : ℕ) → first_outside width height path ≡ Some n → first_outside width height (path ++ rest) ≡ Some n
-first_outside-stays width height [] rest n e = absurd (none-some n e)
-first_outside-stays width height (w ∷ path) rest n e =
-    stays (is_inside width height w) (first_outside w.width w.height path) (first_outside w.width w.height (path ++ rest)) n (first_outside-stays w.width w.height path rest) e
-  where
-    stays : (b : Bool) (o p : Option ℕ) (n : ℕ) → ((k : ℕ) → o ≡ Some k → p ≡ Some k) → cond b (option_map (λ k. k + 1) o) (Some 0) ≡ Some n → cond b (option_map (λ k. k + 1) p) (Some 0) ≡ Some n
-    stays false o p n h e = e
-    stays true None p n h e = absurd (none-some n e)
-    stays true (Some k) p n h e = ap (option_map (λ k. k + 1)) (h k refl) ∙ e
-
--- one more window takes its padded stretch of what the path has
-pub path_layout-push : {T : Type 0} (l : Layout T) (path : List Window) (w : Window) → l.width ≤ l.stride → Fits l → first_outside l.width l.height path ≡ None
-    → IsInside (path_width l.width path) (path_height l.height path) w → path_layout l (path ++ w ∷ []) ≡ padded_window (path_layout l path) w
-path_layout-push {T} l path w wide fits e inside =
-    let s : Stretch = path_stretch l.stride (whole l.cells) path in
-    let has = path_has l path wide fits e in
-    let all = path_inside l.width l.height path e in
-    let inner = padded_has s.len l.stride (path_width l.width path) (path_height l.height path) w (omega (arith, all)) has.reaches inside in
-    let cells : stretch_cells l.cells (path_stretch l.stride (whole l.cells) (path ++ w ∷ [])) ≡ (padded_window (path_layout l path) w).cells =
-    ap (stretch_cells l.cells) (path_stretch-push l.stride (whole l.cells) path w)
-    ∙ stretch_cells-within l.cells s (padded_stretch s.len l.stride w) inner.within
-    ∙ ap (λ n. stretch_cells (stretch_cells l.cells s) (padded_stretch n l.stride w)) (sym (length-stretch_cells l.cells s has.within)) in
-    λ i. layout (cells i) (path_width-push l.width path w i) (path_height-push l.height path w i) l.stride

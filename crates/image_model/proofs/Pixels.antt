@@ -1,27 +1,21 @@
 -- The joined rows, pixel by pixel.
-use Rattle.std.proofs.Common.{◌≡◌, ℕ, zero, suc, ◌+◌, ◌*◌, ◌/◌, ◌%◌, ◌<◌, ◌≤◌, inl, inr, List, length, drop, get_or, sym, ap, ◌∙◌, subst, arith, Some}
+use Rattle.std.proofs.Common.{◌≡◌, ℕ, zero, suc, ◌+◌, ◌*◌, ◌<◌, ◌≤◌, inl, inr, List, length, get_or, ap, ◌∙◌, subst, arith}
 use Rattle.std.specs.List.{slice_get}
-use Rattle.std.proofs.Math.Nat.{mul-le-mul_right, mul_comm, zero-mul}
+use Rattle.std.proofs.Math.Nat.{mul-le-mul_right}
 use Rattle.std.proofs.lemmas.Bool.{cases_lt}
 use Rattle.std.proofs.lemmas.Option.{slice_get_cases, slice_get-get_or}
 use Rattle.image_model.specs.Layout.{Layout, layout, Fits, pixel}
 use Rattle.image_model.specs.Rows.{row, joined_rows}
 use Rattle.image_model.proofs.Rows.{HasRows, joined_upto, joined_upto_suc, joined_is, length-joined_upto, row_stretch, rows_from_fits}
 use Rattle.image_model.proofs.Cells.{slice_get-take, slice_get-drop, slice_get-append_left, slice_get-append_right}
-use Rattle.std.proofs.lemmas.Nat.{div-add-mod', mod_below, div_below}
 
 -- two cells are one if they are read alike
 pub same_cell : {T : Type 0} (xs ys : List T) (i j : ℕ) → i < length xs → j < length ys → ((d : T) → get_or xs i d ≡ get_or ys j d) → slice_get xs i ≡ slice_get ys j
-same_cell xs ys i j in_xs in_ys read =
-    elim (slice_get_cases xs i).1 [
-      | inl w ↦ slice_get-get_or xs i w.0 in_xs ∙ ap Some (read w.0) ∙ sym (slice_get-get_or ys j w.0 in_ys)
-      | inr w ↦ absurd (omega arith)
-    ]
+same_cell xs ys i j in_xs in_ys read = grind (arith, slice_get_cases, slice_get-get_or)
 
 -- cell x of row y
 pub pixel_of_row : {T : Type 0} (l : Layout T) (x y : ℕ) → x < l.width → slice_get (row l y) x ≡ pixel l x y
-pixel_of_row l x y column =
-    ap (λ xs. slice_get xs x) (row_stretch l y) ∙ slice_get-take l.width (drop (y * l.stride) l.cells) x column ∙ slice_get-drop (y * l.stride) l.cells x
+pixel_of_row l x y column = grind (arith, row_stretch, slice_get-take, slice_get-drop)
 
 joined_pixel_upto : {T : Type 0} (l : Layout T) (n x y : ℕ) → HasRows l n → x < l.width → y < n → slice_get (joined_upto l n) (y * l.width + x) ≡ pixel l x y
 joined_pixel_upto l zero x y within column below = absurd (omega arith)
@@ -46,14 +40,3 @@ pub joined_pixel : {T : Type 0} (cells : List T) (w h s x y : ℕ) → Fits (lay
 joined_pixel {T} cells w h s x y fits column below =
     let l : Layout T = layout cells w h s in
     ap (λ xs. slice_get xs (y * w + x)) (joined_is cells w h s) ∙ joined_pixel_upto l h x y (rows_from_fits l fits (omega arith)) column below
-
-positive_width : (k w h : ℕ) → k < w * h → 0 < w
-positive_width k zero h below = absurd (omega (arith, zero-mul h, below))
-positive_width k (suc w) h below = omega arith
-
--- number k of the joined rows is the pixel in column k mod width of row k div width
-pub joined_cell : {T : Type 0} (cells : List T) (w h s k : ℕ) → Fits (layout cells w h s) → k < w * h → slice_get (joined_rows (layout cells w h s)) k ≡ pixel (layout cells w h s) (k % w) (k / w)
-joined_cell cells w h s k fits below =
-    let wide = positive_width k w h below in
-    ap (slice_get (joined_rows (layout cells w h s))) (sym (div-add-mod' k w))
-    ∙ joined_pixel cells w h s (k % w) (k / w) fits (mod_below k w wide) (div_below k w h wide (omega (arith, below, mul_comm w h)))

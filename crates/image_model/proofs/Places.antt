@@ -1,24 +1,16 @@
 -- What fits, where pixels lie, and what stays outside them.
-use Rattle.std.proofs.Common.{rules, ℕ, ◌+◌, ◌-◌, ◌*◌, ◌<◌, ◌≤◌, length, set, refl, sym, arith, length-set, ◌==◌, nat_le, ◌||◌}
+use Rattle.std.proofs.Common.{rules, ℕ, ◌+◌, ◌*◌, ◌<◌, length, set, refl, sym, arith, length-set}
 use Rattle.std.specs.Bool.{Decides}
-use Rattle.std.proofs.lemmas.Bool.Decides.{nat_tests}
-use Rattle.std.proofs.Math.Nat.{mul-le-mul_right, mul_comm}
 use Rattle.image_model.specs.Layout.{Layout, Reaches, Fits, is_fitting, cell_of, SameOutside}
 use Rattle.image_model.proofs.Cells.{slice_get-set_other}
 
 -- the test of the fit tells whether a layout fits
 pub is_fitting_decides : {T : Type 0} (l : Layout T) → Decides (is_fitting l) (Fits l)
-is_fitting_decides l = fitting l.width l.height (l.stride * (l.height - 1) + l.width) (length l.cells)
-  where
-    fitting : (width height end count : ℕ) → Decides ((width == 0) || ((height == 0) || nat_le end count)) (0 < width → 0 < height → end ≤ count)
-    fitting width height end count = (λ e wide high. grind (arith, nat_tests), λ h. grind (arith, nat_tests))
+is_fitting_decides l = grind arith
 
 -- where so many cells reach the last pixel, each has one
 pub reached : (count width height stride x y : ℕ) → Reaches count width height stride → x < width → y < height → y * stride + x < count
-reached count width height stride x y reaches column line =
-    let reach : stride * (height - 1) + width ≤ count = reaches (omega arith) (omega arith) in
-    let up : y * stride ≤ (height - 1) * stride = mul-le-mul_right stride (omega arith) in
-    omega (arith, up, mul_comm stride (height - 1))
+reached count width height stride x y reaches column line = grind arith
 
 -- a pixel has a cell
 pub cell_within : {T : Type 0} (l : Layout T) → Fits l → (x y : ℕ) → x < l.width → y < l.height → cell_of l x y < length l.cells
@@ -35,9 +27,7 @@ outside_trans old mid new one two = search rules
 
 -- with the same outside, what fits fits
 pub outside_fits : {T : Type 0} (old new : Layout T) → SameOutside old new → Fits old → Fits new
-outside_fits old new same fits wide high =
-    let reach : old.stride * (old.height - 1) + old.width ≤ length old.cells = fits (omega (arith, same.width_stays)) (omega (arith, same.height_stays)) in
-    rw (same.stride_stays, same.height_stays, same.width_stays, same.length_stays) reach
+outside_fits old new same fits wide high = grind arith
 
 -- ---- a write at a place
 

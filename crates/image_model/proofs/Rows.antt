@@ -1,13 +1,10 @@
 -- Rows and joined rows as stretches of the cells.
-use Rattle.std.proofs.Common.{◌==◌, false, cond, subst, ◌≡◌, ℕ, zero, suc, ◌+◌, ◌-◌, ◌*◌, ◌<◌, ◌≤◌, List, [], ◌∷◌, ◌++◌, length, take, drop, map, refl, sym, ap, ◌∙◌, arith, add-one, add-zero, inl, inr, add_assoc, length-append, length-take, length-drop, Some, Option}
+use Rattle.std.proofs.Common.{◌==◌, subst, ◌≡◌, ℕ, zero, suc, ◌+◌, ◌*◌, ◌<◌, ◌≤◌, List, [], ◌∷◌, ◌++◌, length, take, drop, map, refl, sym, ap, ◌∙◌, arith, add-one, add-zero, length-append, length-take, length-drop, Some, Option, rules}
 use Rattle.std.specs.List.{slice_get, filter_map, flat_map, range_with_len}
 use Rattle.std.proofs.lemmas.List.{drop_more, drop_all, append-nil}
-use Rattle.std.specs.List.{cons_option}
 use Rattle.std.proofs.lemmas.List.Concat.{flat_map-append}
 use Rattle.std.proofs.lemmas.List.FromFn.{map-range_with_len_more, length-map-range_with_len, get_or-map-range_with_len}
 use Rattle.std.proofs.Math.Seq.{take-add, take-nil}
-use Rattle.std.proofs.lemmas.Bool.Decides.{nat_tests}
-use Rattle.std.proofs.Math.Nat.{mul-le-mul_left}
 use Rattle.std.proofs.lemmas.Option.{slice_get_cases, slice_get-get_or}
 use Rattle.std.proofs.lemmas.Bool.{cond-false, cond_both, ne_eqb}
 use Rattle.image_model.specs.Layout.{Layout, layout, Reaches, Fits, pixel}
@@ -21,17 +18,7 @@ use Rattle.image_model.proofs.Grids.{pixel_at}
 -- a stretch of the cells, tabulated: past the last cell there is nothing
 tabulated : {T : Type 0} (cells : List T) (b a n : ℕ) → filter_map (λ x. slice_get cells (b + x)) (range_with_len a n) ≡ take n (drop (b + a) cells)
 tabulated cells b a zero = refl
-tabulated cells b a (suc n) =
-    let tail = tabulated cells b (a + 1) n in
-    elim (slice_get_cases cells (b + a)).1 [
-      | inl w ↦
-          let split = drop_more cells (b + a) w.0 w.1 in
-          rw (w.2, split, w.3, tail, add_assoc b a 1) refl
-      | inr w ↦
-          let none = drop_all (b + a) cells w.0 in
-          let later = drop_all (b + (a + 1)) cells (omega arith) in
-          rw (w.1, none) (tail ∙ ap (take n) later ∙ take-nil n)
-    ]
+tabulated cells b a (suc n) = grind (arith, drop_more, drop_all, take-nil, slice_get_cases, tabulated cells b (a + 1) n)
 
 -- a row is a stretch of the cells, shorter where they end before it does
 pub row_stretch : {T : Type 0} (l : Layout T) (y : ℕ) → row l y ≡ take l.width (drop (y * l.stride) l.cells)
@@ -58,10 +45,6 @@ slice_get-tabulated f a n k below =
 pub length-rows : {T : Type 0} (l : Layout T) → length (rows l) ≡ row_count l.width l.height
 length-rows l = length-map-range_with_len (row l) 0 (row_count l.width l.height)
 
--- each row by its number
-pub row_at : {T : Type 0} (l : Layout T) (y : ℕ) → y < row_count l.width l.height → slice_get (rows l) y ≡ Some (row l y)
-row_at l y below = slice_get-tabulated (row l) 0 (row_count l.width l.height) y below ∙ (let e : 0 + y ≡ y = omega arith in ap (λ n. Some (row l n)) e)
-
 -- with a column there are as many rows as the height says
 pub row_count-wide : (width height : ℕ) → 0 < width → row_count width height ≡ height
 row_count-wide width height wide = cond-false (width == 0) 0 height (ne_eqb width 0 (λ e. omega arith))
@@ -81,26 +64,17 @@ no_column (suc v) height y none high = absurd (omega (arith, none, high, row_cou
 
 -- where there is a row there is a pixel
 pub some_pixel : (width height y : ℕ) → y < row_count width height → 0 < width * height
-some_pixel width height y below =
-    let one : 1 ≤ width = some_column width height y below in
-    let high : 1 ≤ height = omega (arith, below, row_count-le width height) in
-    omega (arith, mul-le-mul_left width high)
+some_pixel width height y below = grind (arith, row_count-le)
 
 -- ---- the rows of a grid
 
 filter_map-same : {X : Type 0} (f g : ℕ → Option X) (a n : ℕ) → ((x : ℕ) → x < a + n → f x ≡ g x) → filter_map f (range_with_len a n) ≡ filter_map g (range_with_len a n)
 filter_map-same f g a zero each = refl
-filter_map-same f g a (suc n) each =
-    let here = each a (omega arith) in
-    let rest = filter_map-same f g (a + 1) n (λ x below. each x (omega arith)) in
-    λ i. cons_option (here i) (rest i)
+filter_map-same f g a (suc n) each = grind (arith, filter_map-same f g (a + 1) n)
 
 map-same : {X : Type 0} (f g : ℕ → X) (a n : ℕ) → ((x : ℕ) → x < a + n → f x ≡ g x) → map f (range_with_len a n) ≡ map g (range_with_len a n)
 map-same f g a zero each = refl
-map-same f g a (suc n) each =
-    let here = each a (omega arith) in
-    let rest = map-same f g (a + 1) n (λ x below. each x (omega arith)) in
-    λ i. here i ∷ rest i
+map-same f g a (suc n) each = grind (arith, map-same f g (a + 1) n)
 
 -- a row of a layout's grid is that of the layout
 pub grid_row_of : {T : Type 0} (l : Layout T) (y : ℕ) → y < l.height → grid_row (grid_of l) y ≡ row l y
@@ -131,17 +105,12 @@ joined_upto_suc l n = subst (λ k. joined_upto l k ≡ joined_upto l n ++ row l 
 
 pub row_empty : {T : Type 0} (cells : List T) (h s n : ℕ) → joined_upto (record { cells = cells; width = 0; height = h; stride = s }) n ≡ []
 row_empty {T} cells h s zero = refl
-row_empty {T} cells h s (suc n) =
-    let l : Layout T = record { cells = cells; width = 0; height = h; stride = s } in
-    joined_upto_suc l n ∙ ap (λ xs. xs ++ row l n) (row_empty cells h s n)
+row_empty {T} cells h s (suc n) = search (rules, joined_upto_suc, row_empty cells h s n)
 
 -- the joined rows, whatever the width
 pub joined_is : {T : Type 0} (cells : List T) (w h s : ℕ) → let l : Layout T = record { cells = cells; width = w; height = h; stride = s } in joined_rows l ≡ joined_upto l h
 joined_is {T} cells zero h s = sym (row_empty cells h s h)
-joined_is {T} cells (suc v) h s =
-    let l : Layout T = record { cells = cells; width = suc v; height = h; stride = s } in
-    let some : (suc v == 0) ≡ false = grind (arith, nat_tests) in
-    ap (λ b. joined_upto l (cond b 0 h)) some
+joined_is {T} cells (suc v) h s = grind arith
 
 -- the first n rows are whole in the cells
 abbrev pub HasRows : {T : Type 0} → Layout T → ℕ → Type 0
@@ -156,11 +125,7 @@ length-joined_upto l (suc n) h =
 
 -- cells that fit a size have each row that has a pixel
 pub row_reached : (count width height stride y : ℕ) → Reaches count width height stride → y < row_count width height → y * stride + width ≤ count
-row_reached count width height stride y fits below =
-    let some = some_column width height y below in
-    let high : y < height = omega (arith, below, row_count-le width height) in
-    let le : y ≤ height - 1 = omega arith in
-    omega (arith, fits some (omega arith), mul-le-mul_left stride le)
+row_reached count width height stride y fits below = grind (arith, row_count-le)
 
 pub rows_from_fits : {T : Type 0} (l : Layout T) → Fits l → 0 < l.width → HasRows l l.height
 rows_from_fits l fits some y lt = row_reached (length l.cells) l.width l.height l.stride y fits (rw (row_count-wide l.width l.height some) lt)
@@ -183,16 +148,13 @@ length-joined_rows {T} cells (suc v) h s fits =
 
 -- where rows touch, or there is no pixel, the joined rows are the first cells, as many as there are
 pub joined_first : {T : Type 0} (cells : List T) (w h s : ℕ) → (0 < w → 0 < h → w ≡ s) → joined_rows (layout cells w h s) ≡ take (w * h) cells
-joined_first cells zero h s touch = let none : 0 ≡ 0 * h = omega arith in ap (λ k. take k cells) none
-joined_first cells (suc v) zero s touch =
-    let none : 0 ≡ suc v * 0 = omega arith in
-    joined_is cells (suc v) 0 s ∙ ap (λ k. take k cells) none
 joined_first {T} cells (suc v) (suc n) s touch =
     let l : Layout T = layout cells (suc v) (suc n) s in
     let turned : suc n * suc v ≡ suc v * suc n = omega arith in
     joined_is cells (suc v) (suc n) s
     ∙ joined_touching l (suc n) (touch (omega arith) (omega arith))
     ∙ ap (λ k. take k cells) turned
+joined_first cells _ _ s touch = grind arith
 
 -- and all of them are there where the layout fits
 pub joined_in_place : {T : Type 0} (cells : List T) (w h s : ℕ) → Fits (layout cells w h s) → (0 < w → 0 < h → w ≡ s) → joined_rows (layout cells w h s) ≡ take (w * h) cells

@@ -19,8 +19,7 @@ module _ {T : Type 0} (l : Layout T) (new : List T) (v w : Window) (from to : �
     (moves : MovesRows l.cells new l.stride from to w.width w.height) (inside : IsInside l.width l.height w) where
   -- a cell of the target window is that of a place
   place_of : (k : ℕ) → IsCellOf to l.stride w.width w.height k → (x : ℕ) × (y : ℕ) × (x < w.width) × (y < w.height) × (cell_of l (w.left + x) (w.top + y) ≡ k)
-  place_of k at =
-      (at.x, at.y, at.column, at.line, sym (at.there ∙ in_window l.stride to at.x at.y w (target (omega (arith, at.column)) (omega (arith, at.line)))))
+  place_of k at = grind arith
 
   -- the outside stays
   pub moved_outside : SameOutside l (record l { cells = new })

@@ -1,7 +1,7 @@
 -- Rows that change places.
 use Rattle.std.proofs.Common.{◌≡◌, ◌≢◌, ℕ, ◌+◌, ◌-◌, ◌*◌, ◌<◌, ◌≤◌, List, refl, sym, ap, ◌∙◌, arith, inl, inr, ◌==◌}
 use Rattle.std.specs.List.{slice_get}
-use Rattle.std.proofs.lemmas.Bool.{cases_lt, cond-true, cond-false, eq-eqb}
+use Rattle.std.proofs.lemmas.Bool.{cases_lt, cond-true, eq-eqb}
 use Rattle.std.proofs.lemmas.Bool.Decides.{eqb_tells}
 use Rattle.std.proofs.Math.Nat.{mul-le-mul_right}
 use Rattle.image_model.specs.Layout.{Layout, layout, pixel, Fits, SameOutside}
@@ -15,43 +15,18 @@ pub first_swapped : (y z : ℕ) → swapped_row y z y ≡ z
 first_swapped y z = cond-true (y == y) _ _ (eq-eqb y y refl)
 
 pub second_swapped : (y z : ℕ) → swapped_row y z z ≡ y
-second_swapped y z =
-    elim (eqb_tells z y) [
-      | inl (hit, same) ↦ cond-true (z == y) _ _ hit ∙ same
-      | inr (miss, _) ↦ cond-false (z == y) _ _ miss ∙ cond-true (z == z) _ _ (eq-eqb z z refl)
-    ]
+second_swapped y z = grind arith
 
 pub other_stays : (y z v : ℕ) → v ≢ y → v ≢ z → swapped_row y z v ≡ v
-other_stays y z v not_y not_z =
-    elim (eqb_tells v y) [
-      | inl (_, same) ↦ absurd (not_y same)
-      | inr (miss, _) ↦
-          cond-false (v == y) _ _ miss
-          ∙ elim (eqb_tells v z) [
-            | inl (_, same) ↦ absurd (not_z same)
-            | inr (far, _) ↦ cond-false (v == z) _ _ far
-          ]
-    ]
+other_stays y z v not_y not_z = grind arith
 
 -- a row that changes places with itself
 pub swapped_itself : (y v : ℕ) → swapped_row y y v ≡ v
-swapped_itself y v =
-    elim (eqb_tells v y) [
-      | inl (hit, same) ↦ cond-true (v == y) _ _ hit ∙ sym same
-      | inr (miss, far) ↦ other_stays y y v far far
-    ]
+swapped_itself y v = grind arith
 
 -- either row may be named first
 pub swapped_either : (y z v : ℕ) → swapped_row y z v ≡ swapped_row z y v
-swapped_either y z v =
-    elim (eqb_tells v y) [
-      | inl (hit, same) ↦ ap (swapped_row y z) same ∙ first_swapped y z ∙ sym (second_swapped z y) ∙ ap (swapped_row z y) (sym same)
-      | inr (_, far) ↦
-          elim (eqb_tells v z) [
-            | inl (_, same) ↦ ap (swapped_row y z) same ∙ second_swapped y z ∙ sym (first_swapped z y) ∙ ap (swapped_row z y) (sym same)
-            | inr (_, apart) ↦ other_stays y z v far apart ∙ sym (other_stays z y v apart far)
-          ]
-    ]
+swapped_either y z v = grind arith
 
 -- ---- grids
 

@@ -1,5 +1,5 @@
 -- Tables of numbers in turn.
-use Rattle.std.proofs.Common.{◌≡◌, ℕ, zero, suc, ◌+◌, ◌<◌, List, ◌∷◌, map, refl, ap, ◌∙◌, arith, ap₂}
+use Rattle.std.proofs.Common.{◌≡◌, ℕ, zero, suc, ◌+◌, ◌<◌, ◌∷◌, map, refl, ap, ◌∙◌, arith, ap₂}
 use Rattle.std.specs.List.{range_with_len}
 
 -- two tables are equal if they agree place by place, each from its own number on

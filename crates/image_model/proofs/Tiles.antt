@@ -1,10 +1,10 @@
 -- The tiles of a size, by their numbers: each is inside, and each place lies in exactly one.
-use Rattle.std.proofs.Common.{◌≡◌, ℕ, zero, suc, ◌+◌, ◌-◌, ◌*◌, ◌/◌, ◌%◌, ◌<◌, ◌≤◌, true, inl, inr, List, [], ◌∷◌, ◌++◌, length, Some, refl, sym, ap, ◌∙◌, subst, arith, min, length-append, get_or, IsTrue, Option, None}
+use Rattle.std.proofs.Common.{◌≡◌, ℕ, zero, suc, ◌+◌, ◌-◌, ◌*◌, ◌/◌, ◌%◌, ◌<◌, ◌≤◌, true, List, [], ◌∷◌, ◌++◌, length, Some, refl, sym, ap, ◌∙◌, subst, arith, min, length-append, IsTrue, Option, None}
 use Rattle.std.specs.Option.{IsSomeAnd}
 use Rattle.std.specs.List.{All, slice_get, flat_map, range_with_len}
-use Rattle.std.proofs.lemmas.Bool.{cases_lt, and_from, le-leb}
+use Rattle.std.proofs.lemmas.Bool.{and_from, le-leb}
 use Rattle.std.proofs.lemmas.List.Elements.{All-tail}
-use Rattle.std.proofs.lemmas.Nat.{div-add-mod', mod_below, div_below, le-div, div-mul-add}
+use Rattle.std.proofs.lemmas.Nat.{div-add-mod', mod_below, div_below}
 use Rattle.std.proofs.lemmas.List.FromFn.{length-map-range_with_len}
 use Rattle.std.proofs.lemmas.Option.{slice_get_within, slice_get-get_or, same_Some}
 use Rattle.std.proofs.Math.Nat.{suc-mul}
@@ -18,19 +18,11 @@ use Rattle.image_model.proofs.Rows.{slice_get-tabulated}
 
 -- a tile that is counted begins below the length
 pub tile_begins : (size len i : ℕ) → 0 < size → i < tile_count size len → i * size < len
-tile_begins size len i some counted =
-    elim (cases_lt (i * size) len) [
-      | inl below ↦ below
-      | inr past ↦
-          let few : tile_count size len < suc i = div_below (len + (size - 1)) size (suc i) some (omega (arith, suc-mul i size)) in
-          absurd (omega (arith, few, counted))
-    ]
+tile_begins size len i some counted = grind arith
 
 -- and one that begins below it is counted
 pub tile_counted : (size len i : ℕ) → 0 < size → i * size < len → i < tile_count size len
-tile_counted size len i some begins =
-    let more : suc i ≤ tile_count size len = le-div (suc i) (len + (size - 1)) size some (omega (arith, suc-mul i size)) in
-    omega (arith, more)
+tile_counted size len i some begins = grind arith
 
 -- a tile begins at or before each of its places
 pub tile_start-is : (size x : ℕ) → x / size * size ≡ tile_start size x
@@ -38,29 +30,17 @@ tile_start-is size x = let parts = div-add-mod' x size in omega (arith, parts)
 
 -- the tile that a number lies in
 in_its_tile : (size len x : ℕ) → 0 < size → x < len → (x / size * size ≤ x) × (x < x / size * size + min size (len - x / size * size))
-in_its_tile size len x some below =
-    let parts = div-add-mod' x size in
-    let rest = mod_below x size some in
-    (omega (arith, parts), omega (arith, parts, rest))
+in_its_tile size len x some below = grind arith
 
 -- no other has it
 its_tile : (size len i x : ℕ) → i * size ≤ x → x < i * size + min size (len - i * size) → i ≡ x / size
-its_tile size len i x from to =
-    let there : i * size + (x - i * size) ≡ x = omega arith in
-    sym (div-mul-add i size (x - i * size) (omega arith)) ∙ ap (λ n. n / size) there
+its_tile size len i x from to = grind arith
 
 -- ---- lists of lists of one length
 
 module _ {X : Type 0} (f : ℕ → List X) (w : ℕ) (each : (y : ℕ) → length (f y) ≡ w) where
   -- item x of list y
   in_lines : (a n x y : ℕ) → x < w → y < n → slice_get (flat_map f (range_with_len a n)) (y * w + x) ≡ slice_get (f (a + y)) x
-  in_lines a zero x y column line = absurd (omega arith)
-  in_lines a (suc n) x zero column line =
-      let first : zero * w + x ≡ x = omega arith in
-      let same : a ≡ a + zero = omega arith in
-      ap (slice_get (f a ++ flat_map f (range_with_len (a + 1) n))) first
-      ∙ slice_get-append_left (f a) (flat_map f (range_with_len (a + 1) n)) x (omega (arith, each a))
-      ∙ ap (λ b. slice_get (f b) x) same
   in_lines a (suc n) x (suc y) column line =
       let next : suc y * w + x ≡ w + (y * w + x) = omega (arith, suc-mul y w) in
       let same : a + 1 + y ≡ a + suc y = omega arith in
@@ -68,6 +48,7 @@ module _ {X : Type 0} (f : ℕ → List X) (w : ℕ) (each : (y : ℕ) → lengt
       ∙ slice_get-append_right (f a) (flat_map f (range_with_len (a + 1) n)) w (y * w + x) (each a)
       ∙ in_lines (a + 1) n x y column (omega arith)
       ∙ ap (λ b. slice_get (f b) x) same
+  in_lines a _ x _ column line = grind (arith, slice_get-append_left)
 
   length-lines : (a n : ℕ) → length (flat_map f (range_with_len a n)) ≡ n * w
   length-lines a zero = omega arith
@@ -95,13 +76,7 @@ module _ (width height tile_width tile_height : ℕ) (wide : 0 < tile_width) (hi
 
   -- the tile in column i of line j by its number
   pub tile_at : (i j : ℕ) → i < columns → j < lines → slice_get all (j * columns + i) ≡ Some (at i j)
-  tile_at i j column line =
-      let same_i : 0 + i ≡ i = omega arith in
-      let same_j : 0 + j ≡ j = omega arith in
-      in_lines (tile_line width height tile_width tile_height) columns length-line 0 lines i j column line
-      ∙ ap (λ n. slice_get (tile_line width height tile_width tile_height n) i) same_j
-      ∙ slice_get-tabulated (λ n. at n j) 0 columns i column
-      ∙ ap (λ n. Some (at n j)) same_i
+  tile_at i j column line = grind (arith, slice_get-tabulated, in_lines, length-line)
 
   -- each number below their count is that of a tile
   pub tile_number : (k : ℕ) (w : Window) → slice_get all k ≡ Some w → (k % columns < columns) × (k / columns < lines) × (w ≡ at (k % columns) (k / columns))
@@ -119,31 +94,18 @@ module _ (width height tile_width tile_height : ℕ) (wide : 0 < tile_width) (hi
   -- ---- each tile is inside
 
   inside_at : (i j : ℕ) → i < columns → j < lines → IsInside width height (at i j)
-  inside_at i j column line =
-      let left = tile_begins tile_width width i wide column in
-      let top = tile_begins tile_height height j high line in
-      (omega (arith, left), omega (arith, top))
+  inside_at i j column line = grind arith
 
   pub tiles_inside : All (IsInside width height) all
-  tiles_inside k d below =
-      let found = tile_number k (get_or all k d) (slice_get-get_or all k d below) in
-      subst (IsInside width height) (sym found.2) (inside_at (k % columns) (k / columns) found.0 found.1)
+  tiles_inside k d below = grind (arith, slice_get-get_or, tile_number)
 
   -- ---- each place lies in exactly one tile
 
   tile_of_place : (x y : ℕ) → x < width → y < height → slice_get all (y / tile_height * columns + x / tile_width) ≡ Some (at (x / tile_width) (y / tile_height))
-  tile_of_place x y column line =
-      let left = in_its_tile tile_width width x wide column in
-      let top = in_its_tile tile_height height y high line in
-      tile_at (x / tile_width) (y / tile_height)
-      (tile_counted tile_width width (x / tile_width) wide (omega (arith, left)))
-      (tile_counted tile_height height (y / tile_height) high (omega (arith, top)))
+  tile_of_place x y column line = grind (arith, tile_counted, tile_at)
 
   tile_has_place : (x y : ℕ) → x < width → y < height → has_place (at (x / tile_width) (y / tile_height)) x y ≡ true
-  tile_has_place x y column line =
-      let left = in_its_tile tile_width width x wide column in
-      let top = in_its_tile tile_height height y high line in
-      (covers_decides _ _ _ _ x y).1 (left.0, top.0, left.1, top.1)
+  tile_has_place x y column line = grind arith
 
   only_tile : (x y k : ℕ) (w : Window) → slice_get all k ≡ Some w → has_place w x y ≡ true → k ≡ y / tile_height * columns + x / tile_width
   only_tile x y k w is has =
@@ -173,8 +135,3 @@ all_inside width height [] each = refl
 all_inside width height (w ∷ windows) each =
     let here = each 0 w (omega arith) in
     and_from _ _ (and_from _ _ (le-leb (w.left + w.width) width here.0) (le-leb (w.top + w.height) height here.1)) (all_inside width height windows (All-tail (IsInside width height) w windows each))
-
--- the tile of a place has its corner where the tiles of its column and of its row begin
-pub corner_of_tile : (width height tile_width tile_height x y : ℕ) → let w : Window = tile width height tile_width tile_height (x / tile_width) (y / tile_height) in
-    (w.left ≡ tile_start tile_width x) × (w.top ≡ tile_start tile_height y)
-corner_of_tile width height tile_width tile_height x y = (tile_start-is tile_width x, tile_start-is tile_height y)

@@ -1,32 +1,26 @@
 -- A window's cells among its parent's: which they are, what they show, and what a write to them does.
-use Rattle.std.proofs.Common.{true, ◌≡◌, ◌≢◌, ℕ, ◌+◌, ◌-◌, ◌*◌, ◌<◌, ◌≤◌, Bool, suc, false, inl, inr, List, length, set, refl, sym, ap, ◌∙◌, subst, arith, ◌==◌, nat_le, if◌then◌else◌}
+use Rattle.std.proofs.Common.{true, ◌≡◌, ◌≢◌, ℕ, ◌+◌, ◌-◌, ◌*◌, ◌<◌, ◌≤◌, Bool, suc, false, inl, inr, List, length, refl, sym, ap, ◌∙◌, subst, arith, nat_le, if◌then◌else◌, rules}
 use Rattle.std.specs.List.{slice_get}
 use Rattle.std.specs.Bool.{Decides}
 use Rattle.std.proofs.lemmas.Bool.Decides.{nat_tests}
-use Rattle.std.proofs.lemmas.Bool.{and_parts, and_from, leb-true, le-leb, cases_lt, cases_Bool, cond-true, cond-false, cond_both, or_parts, eqb-false, true≢false}
+use Rattle.std.proofs.lemmas.Bool.{leb-true, cases_lt, cases_Bool, cond-true, cond-false, cond_both, true≢false}
 use Rattle.std.proofs.lemmas.Nat.{same_from_place}
-use Rattle.std.proofs.Math.Nat.{mul-le-mul_left, mul-add, add-mul, mul-suc, mul_comm}
+use Rattle.std.proofs.Math.Nat.{mul-le-mul_left, mul-suc}
 use Rattle.image_model.specs.Layout.{Layout, layout, Reaches, Fits, cell_of, pixel, SameOutside}
-use Rattle.image_model.specs.Grid.{Grid, grid_of, covers, patch, view, uniform}
+use Rattle.image_model.specs.Grid.{grid_of, covers, patch, view, uniform}
 use Rattle.image_model.specs.Windows.{Window, IsInside, is_inside, is_empty, window_view, Stretch, window_start, exact_stretch, padded_stretch, stretch_cells, with_stretch, exact_window, padded_window, window_stretch, window_layout, IsWithin}
-use Rattle.image_model.proofs.Places.{reached, written}
-use Rattle.image_model.proofs.Grids.{covers_decides, pixel_at, same_grids, is_patch, patch_of_view}
-use Rattle.image_model.proofs.Stretches.{stretch_cell, length-stretch_cells, length-with_stretch, with_stretch_at, with_stretch_beside, with_stretch-set}
+use Rattle.image_model.proofs.Places.{reached}
+use Rattle.image_model.proofs.Grids.{covers_decides, pixel_at, is_patch}
+use Rattle.image_model.proofs.Stretches.{stretch_cell, length-stretch_cells, length-with_stretch, with_stretch_at, with_stretch_beside}
 
 -- the test of a window tells whether it is inside
 pub is_inside_decides : (width height : ℕ) (w : Window) → Decides (is_inside width height w) (IsInside width height w)
-is_inside_decides width height w = (
-  λ e. let p = and_parts _ _ e in (leb-true (w.left + w.width) width p.0, leb-true (w.top + w.height) height p.1),
-  λ p. and_from _ _ (le-leb (w.left + w.width) width p.0) (le-leb (w.top + w.height) height p.1),
-)
+is_inside_decides width height w = grind arith
 
 -- a window's last pixel has a cell
 pub window_within : (count stride width height : ℕ) (w : Window) → Reaches count width height stride → IsInside width height w
     → 0 < w.width → 0 < w.height → stride * w.top + w.left + (stride * (w.height - 1) + w.width) ≤ count
-window_within count stride width height w fits inside wide high =
-    let all : stride * (height - 1) + width ≤ count = fits (omega (arith, inside)) (omega (arith, inside)) in
-    let lines : w.top + (w.height - 1) ≤ height - 1 = omega (arith, inside) in
-    omega (arith, inside, all, mul-le-mul_left stride lines, mul-add stride w.top (w.height - 1))
+window_within count stride width height w fits inside wide high = grind (arith, mul-le-mul_left)
 
 -- ---- which cells a window has
 
@@ -41,14 +35,7 @@ is_empty_decides : (w : Window) → Decides (is_empty w) (0 < w.width → 0 < w.
 is_empty_decides w = (λ e wide high. grind (arith, nat_tests), λ none. grind (arith, nat_tests))
 
 has_place : (w : Window) → is_empty w ≡ false → (0 < w.width) × (0 < w.height)
-has_place w some =
-    let p = or_parts (w.width == 0) (w.height == 0) some in
-    let wide = eqb-false w.width 0 p.0 in
-    let high = eqb-false w.height 0 p.1 in
-    (positive w.width wide, positive w.height high)
-  where
-    positive : (n : ℕ) → (n ≡ 0 → ⊥) → 0 < n
-    positive n some = omega arith
+has_place w some = grind arith
 
 -- so many cells from a window's corner have it, where they reach its last pixel and are there
 from_corner : (count stride : ℕ) (w : Window) (len : ℕ) → Reaches len w.width w.height stride → (0 < w.width → 0 < w.height → stride * w.top + w.left + len ≤ count)
@@ -76,8 +63,7 @@ from_corner count stride w len reaches within =
 
 -- the exact stretch has a window inside
 pub exact_has : (count stride width height : ℕ) (w : Window) → Reaches count width height stride → IsInside width height w → HasWindow count stride w (exact_stretch stride w)
-exact_has count stride width height w fits inside =
-    from_corner count stride w (stride * (w.height - 1) + w.width) (λ wide high. omega arith) (window_within count stride width height w fits inside)
+exact_has count stride width height w fits inside = search (rules, window_within, from_corner)
 
 -- and so has the padded stretch
 pub padded_has : (count stride width height : ℕ) (w : Window) → width ≤ stride → Reaches count width height stride → IsInside width height w → HasWindow count stride w (padded_stretch count stride w)
@@ -111,29 +97,16 @@ module _ {T : Type 0} (l : Layout T) (w : Window) (s : Stretch) (has : HasWindow
 
   -- a place's cell lies after the window's start by the cell that the window has for it
   pub window_cell : (x y : ℕ) → x < w.width → y < w.height → s.start + (y * l.stride + x) ≡ cell_of l (w.left + x) (w.top + y)
-  window_cell x y column line =
-      omega (arith, has.begins (omega arith) (omega arith), add-mul w.top y l.stride, mul_comm l.stride w.top)
+  window_cell x y column line = grind arith
 
   -- a window's place has the pixel of the summed place
   pub window_pixel : (x y : ℕ) → x < w.width → y < w.height → pixel (stretch_window l w s) x y ≡ pixel l (w.left + x) (w.top + y)
-  window_pixel x y column line =
-      stretch_cell l.cells s (y * l.stride + x) (reached s.len w.width w.height l.stride x y has.reaches column line)
-      ∙ ap (slice_get l.cells) (window_cell x y column line)
+  window_pixel x y column line = grind (arith, stretch_cell)
 
   -- a window shows the view
   pub window_grid : IsInside l.width l.height w → grid_of (stretch_window l w s) ≡ window_view (grid_of l) w
   unfolding grid_of view patch uniform
-  window_grid inside =
-      same_grids w.width w.height (pixel (stretch_window l w s)) (λ x y. (grid_of l).pixel (w.left + x) (w.top + y)) (λ x y column line.
-      window_pixel x y column line ∙ sym (pixel_at l (w.left + x) (w.top + y) (omega (arith, inside)) (omega (arith, inside))))
-
-  -- a write at a window's place is a write at the summed place
-  pub window_written : (x y : ℕ) (value : T) → x < w.width → y < w.height
-      → handed_on l s (written (stretch_window l w s) x y value).cells ≡ written l (w.left + x) (w.top + y) value
-  window_written x y value column line =
-      ap (λ cells. record l { cells = cells })
-      (with_stretch-set l.cells s has.within (y * l.stride + x) value (reached s.len w.width w.height l.stride x y has.reaches column line)
-      ∙ ap (λ k. set l.cells k value) (window_cell x y column line))
+  window_grid inside = search (rules, window_pixel)
 
   module _ (others : List T) (same : SameOutside (stretch_window l w s) (layout others w.width w.height l.stride)) where
     as_many : length others ≡ s.len
@@ -207,18 +180,7 @@ module _ {T : Type 0} (l : Layout T) (w : Window) (s : Stretch) (has : HasWindow
   -- and patches the parent's grid with its own
   pub handed_on_grid : (n : Layout T) → SameOutside (stretch_window l w s) n → l.width ≤ l.stride → IsInside l.width l.height w
       → grid_of (handed_on l s n.cells) ≡ patch (grid_of l) w.left w.top (grid_of n)
-  handed_on_grid n same wide inside =
-      grid_of_others n.cells (subst (SameOutside (stretch_window l w s)) (same_layout n same) same) wide inside
-      ∙ ap (λ m. patch (grid_of l) w.left w.top (grid_of m)) (sym (same_layout n same))
-
-  -- so what patches the window patches the parent at the summed corner
-  pub handed_on_patch : (n : Layout T) → SameOutside (stretch_window l w s) n → l.width ≤ l.stride → IsInside l.width l.height w
-      → (x y : ℕ) (p : Grid T) → x + p.width ≤ w.width → y + p.height ≤ w.height → grid_of n ≡ patch (grid_of (stretch_window l w s)) x y p
-      → grid_of (handed_on l s n.cells) ≡ patch (grid_of l) (w.left + x) (w.top + y) p
-  handed_on_patch n same wide inside x y p across down e =
-      handed_on_grid n same wide inside
-      ∙ ap (patch (grid_of l) w.left w.top) (e ∙ ap (λ g. patch g x y p) (window_grid inside))
-      ∙ patch_of_view (grid_of l) w.left w.top w.width w.height x y p across down
+  handed_on_grid n same wide inside = grind (arith, grid_of_others)
 
 -- ---- the two windows of the definitions
 

@@ -1,5 +1,5 @@
 -- Four filled windows around a window are a grid of one value beside it.
-use Rattle.std.proofs.Common.{◌≡◌, ℕ, ◌+◌, ◌-◌, ◌<◌, ◌≤◌, Bool, true, false, cond, Some, refl, sym, ap, ◌∙◌, arith, inl, inr}
+use Rattle.std.proofs.Common.{◌≡◌, ℕ, ◌+◌, ◌-◌, ◌<◌, ◌≤◌, Bool, true, false, cond, Some, refl, sym, ◌∙◌, arith, inl, inr}
 use Rattle.std.proofs.lemmas.Bool.{cases_lt}
 use Rattle.image_model.specs.Layout.{Layout}
 use Rattle.image_model.specs.Grid.{Grid, grid_of, patch, uniform, covers}
@@ -10,21 +10,12 @@ use Rattle.image_model.proofs.Patches.{in_uniform}
 -- a place of a filled window has the value
 gets : (g : Grid ℕ) (left top width height value x y : ℕ) → x < g.width → y < g.height → left ≤ x → top ≤ y → x < left + width → y < top + height → (patch g left top (uniform width height value)).pixel x y ≡ Some value
 unfolding patch uniform
-gets g left top width height value x y column line after below before above =
-    at_place g.width g.height (λ u k. cond (covers left top width height u k) ((uniform width height value).pixel (u - left) (k - top)) (g.pixel u k)) x y column line
-    ∙ ap (λ b. cond b ((uniform width height value).pixel (x - left) (y - top)) (g.pixel x y)) ((covers_decides left top width height x y).1 (after, below, before, above))
-    ∙ in_uniform width height value (x - left) (y - top) (omega (arith, after, before)) (omega (arith, below, above))
+gets g left top width height value x y column line after below before above = grind (arith, at_place, covers_decides, in_uniform)
 
 -- a place that has it keeps it
 keeps : (g : Grid ℕ) (left top width height value x y : ℕ) → x < g.width → y < g.height → g.pixel x y ≡ Some value → (patch g left top (uniform width height value)).pixel x y ≡ Some value
 unfolding patch uniform
-keeps g left top width height value x y column line has =
-    at_place g.width g.height (λ u k. cond (covers left top width height u k) ((uniform width height value).pixel (u - left) (k - top)) (g.pixel u k)) x y column line ∙ by_cover (covers left top width height x y) refl where
-      by_cover : (b : Bool) → covers left top width height x y ≡ b → cond b ((uniform width height value).pixel (x - left) (y - top)) (g.pixel x y) ≡ Some value
-      by_cover true e =
-          let p = (covers_decides left top width height x y).0 e in
-          in_uniform width height value (x - left) (y - top) (omega (arith, p.0, p.2)) (omega (arith, p.1, p.3))
-      by_cover false e = has
+keeps g left top width height value x y column line has = grind (arith, at_place, covers_decides, in_uniform)
 
 beside : (g : Grid ℕ) (left top width height value x y : ℕ) → left + width ≤ g.width → top + height ≤ g.height → x < g.width → y < g.height → covers left top width height x y ≡ false
     → (bordered g left top width height value).pixel x y ≡ Some value
@@ -70,9 +61,4 @@ high_is l = refl
 
 pub around_image : (l k : Layout ℕ) (left top width height value : ℕ) → k.width ≡ width → k.height ≡ height → left + width ≤ l.width → top + height ≤ l.height
     → patch (bordered (grid_of l) left top width height value) left top (grid_of k) ≡ patch (uniform l.width l.height value) left top (grid_of k)
-around_image l k left top width height value wide high across down =
-    let w : width ≡ (grid_of k).width = sym wide ∙ sym (wide_is k) in
-    let h : height ≡ (grid_of k).height = sym high ∙ sym (high_is k) in
-    (λ i. patch (bordered (grid_of l) left top (w i) (h i) value) left top (grid_of k))
-    ∙ filled_around (grid_of l) left top value (grid_of k) (omega (arith, w, wide_is l, across)) (omega (arith, h, high_is l, down))
-    ∙ (λ i. patch (uniform (wide_is l i) (high_is l i) value) left top (grid_of k))
+around_image l k left top width height value wide high across down = grind (arith, filled_around, wide_is, high_is)

@@ -10,14 +10,10 @@ in_first : (a b c : List ℕ) (count q : ℕ) → length a ≡ count → q < cou
 in_first a b c count q first within = get_or_append_left a (b ++ c) 0 q (omega (arith, first, within))
 
 in_second : (a b c : List ℕ) (count q : ℕ) → length a ≡ count → length b ≡ count → q < count → get_or (a ++ (b ++ c)) (count + q) 0 ≡ get_or b q 0
-in_second a b c count q first second within =
-    let at : count + q ≡ length a + q = omega (arith, first) in
-    ap (λ i. get_or (a ++ (b ++ c)) i 0) at ∙ get_or-append-add a (b ++ c) q 0 ∙ get_or_append_left b c 0 q (omega (arith, second, within))
+in_second a b c count q first second within = grind (arith, get_or_append_left, get_or-append-add)
 
 in_third : (a b c : List ℕ) (count q : ℕ) → length a ≡ count → length b ≡ count → get_or (a ++ (b ++ c)) (2 * count + q) 0 ≡ get_or c q 0
-in_third a b c count q first second =
-    let at : 2 * count + q ≡ length a + (length b + q) = omega (arith, first, second) in
-    ap (λ i. get_or (a ++ (b ++ c)) i 0) at ∙ get_or-append-add a (b ++ c) (length b + q) 0 ∙ get_or-append-add b c q 0
+in_third a b c count q first second = grind (arith, get_or-append-add)
 
 -- bytes that are those of each pixel are the pixels of the planes
 pub pixels_joined : (count : ℕ) (planes pixels : List ℕ) → length pixels ≡ 3 * count
@@ -53,25 +49,8 @@ cell_of : (count k : ℕ) (pixels : List ℕ) (i : ℕ) → i < count → get_or
 cell_of count k pixels i within = get_or-map-range_with_len (λ j. get_or pixels (3 * j + k) 0) 0 count i i 0 within (omega arith)
 
 pub length-channels : (count : ℕ) (pixels : List ℕ) → length (channels count pixels) ≡ 3 * count
-length-channels count pixels =
-    let a = channel count 0 pixels in
-    let b = channel count 1 pixels in
-    let c = channel count 2 pixels in
-    length-append a (b ++ c)
-    ∙ (let behind : length (b ++ c) ≡ length b + length c = length-append b c in
-    omega (arith, behind, length-channel count 0 pixels, length-channel count 1 pixels, length-channel count 2 pixels))
+length-channels count pixels = grind (arith, length-append, length-channel)
 
 -- pixels that are parted and joined
 pub parts_joined : (count : ℕ) (pixels : List ℕ) → length pixels ≡ 3 * count → joined (parted pixels) ≡ pixels
-parts_joined count pixels long =
-    let whole : length pixels / 3 ≡ count = omega (arith, long) in
-    let planes : length (channels count pixels) / 3 ≡ count = omega (arith, length-channels count pixels) in
-    let a = channel count 0 pixels in
-    let b = channel count 1 pixels in
-    let c = channel count 2 pixels in
-    let first = length-channel count 0 pixels in
-    let second = length-channel count 1 pixels in
-    ap (λ n. joined (channels n pixels)) whole ∙ ap (λ n. interleaved n (channels count pixels)) planes
-    ∙ sym (pixels_joined count (channels count pixels) pixels long
-    (λ k within. sym (in_first a b c count k first within ∙ cell_of count 0 pixels k within ∙ ap (λ i. get_or pixels i 0) (omega arith)))
-    (λ k within. sym (in_second a b c count k first second (omega (arith, within)) ∙ cell_of count 1 pixels k within)) (λ k within. sym (in_third a b c count k first second ∙ cell_of count 2 pixels k within)))
+parts_joined count pixels long = grind (arith, in_first, in_second, in_third, pixels_joined, length-channel, cell_of, length-channels)

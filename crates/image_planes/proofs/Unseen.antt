@@ -1,9 +1,9 @@
 -- What stood at a hidden place doesn't show after the steps.
-use Rattle.std.proofs.Common.{◌≡◌, ℕ, ◌+◌, ◌-◌, ◌<◌, ◌≤◌, ◌*◌, ◌/◌, Bool, true, false, cond, eqb, None, List, [], ◌∷◌, ◌++◌, take, drop, refl, sym, ap, ◌∙◌, subst, arith, inl, inr}
+use Rattle.std.proofs.Common.{◌≡◌, ℕ, ◌+◌, ◌-◌, ◌<◌, ◌≤◌, ◌*◌, ◌/◌, Bool, true, false, cond, eqb, List, [], ◌∷◌, ◌++◌, take, drop, refl, sym, ap, ◌∙◌, arith, inl, inr, rules}
 use Rattle.std.proofs.lemmas.Bool.Decides.{eqb_tells}
 use Rattle.std.proofs.lemmas.Bool.{cases_lt}
 use Rattle.std.proofs.lemmas.Nat.{div-mul-add}
-use Rattle.image_model.specs.Grid.{Grid, patch, uniform, view, covers, is_place}
+use Rattle.image_model.specs.Grid.{Grid, patch, uniform, view, covers}
 use Rattle.image_model.specs.Rows.{grid_pixels}
 use Rattle.image_model.specs.Tiles.{tile_start}
 use Rattle.image_model.specs.Windows.{window_view}
@@ -30,16 +30,7 @@ AlikeBut hides g h = (g.width ≡ h.width) × (g.height ≡ h.height) × ((x y :
 patched : (hides later : ℕ → ℕ → Bool) (w : Coded) (g h p q : Grid ℕ) → p.width ≡ w.width → p.height ≡ w.height → q ≡ p
     → ((x y : ℕ) → covers w.left w.top w.width w.height x y ≡ false → hides x y ≡ later x y) → AlikeBut hides g h → AlikeBut later (patch g w.left w.top p) (patch h w.left w.top q)
 unfolding patch
-patched hides later w g h p q wide high same beside a = (
-  a.0,
-  a.1,
-  λ x y none. (
-      other_way (is_place g.width g.height x y) _ _ None None
-      (λ _. other_way (covers w.left w.top p.width p.height x y) (p.pixel (x - w.left) (y - w.top)) (p.pixel (x - w.left) (y - w.top)) (g.pixel x y) (h.pixel x y) (λ _. refl)
-      (λ miss. a.2 x y (beside x y (rw (wide, high) at miss) ∙ none)))
-      (λ _. refl))
-      ∙ (λ i. cond (is_place (a.0 i) (a.1 i) x y) (cond (covers w.left w.top (sym same i).width (sym same i).height x y) ((sym same i).pixel (x - w.left) (y - w.top)) (h.pixel x y)) None),
-)
+patched hides later w g h p q wide high same beside a = grind (arith, other_way)
 
 -- ---- the corner of a tile's corner
 
@@ -83,14 +74,7 @@ fill_hides w value later g h a =
 mosaic_alike : (w : Coded) (tile_width tile_height : ℕ) (later : ℕ → ℕ → Bool) (g h : Grid ℕ) → AlikeBut (λ x y. hidden_by (Mosaic w tile_width tile_height) x y (later x y)) g h
     → mosaic tile_width tile_height (window_view h (as_window w)) ≡ mosaic tile_width tile_height (window_view g (as_window w))
 unfolding view
-mosaic_alike w tile_width tile_height later g h a = same_grids w.width w.height
-    (λ x y. (window_view h (as_window w)).pixel (tile_start tile_width x) (tile_start tile_height y)) (λ x y. (window_view g (as_window w)).pixel (tile_start tile_width x) (tile_start tile_height y))
-    (λ x y column line. other_way (is_place w.width w.height (tile_start tile_width x) (tile_start tile_height y))
-    (h.pixel (w.left + tile_start tile_width x) (w.top + tile_start tile_height y)) (g.pixel (w.left + tile_start tile_width x) (w.top + tile_start tile_height y)) None None
-    (λ _. sym (a.2 (w.left + tile_start tile_width x) (w.top + tile_start tile_height y) (
-    let inside = covered w (tile_start tile_width x) (tile_start tile_height y) (omega (arith, start_below tile_width x, column)) (omega (arith, start_below tile_height y, line)) in
-    rw (inside, corner w tile_width tile_height x y) refl)))
-    (λ _. refl))
+mosaic_alike w tile_width tile_height later g h a = search (rules, same_grids, other_way, corner, start_below, covered)
 
 mosaic_hides : (w : Coded) (tile_width tile_height : ℕ) (later : ℕ → ℕ → Bool) (g h : Grid ℕ) → AlikeBut (λ x y. hidden_by (Mosaic w tile_width tile_height) x y (later x y)) g h
     → AlikeBut later (changed (Mosaic w tile_width tile_height) g) (changed (Mosaic w tile_width tile_height) h)
@@ -108,9 +92,7 @@ one_step : (named : Bool) (c : Change ℕ) (later : ℕ → ℕ → Bool) (g h :
 one_step false c later g h a = a
 one_step true (Fill w value) later g h a = fill_hides w value later g h a
 one_step true (Mosaic w tile_width tile_height) later g h a = mosaic_hides w tile_width tile_height later g h a
-one_step true (Move w left top) later g h a =
-    let c : Change ℕ = Move w left top in
-    subst (λ (k : Grid ℕ). AlikeBut later (changed c g) (changed c k)) (all_same g h a) (refl, refl, λ x y none. refl)
+one_step true (Move w left top) later g h a = grind (arith, all_same)
 
 -- ---- all steps of a plane, and all planes
 

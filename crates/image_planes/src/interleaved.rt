@@ -34,6 +34,7 @@ pub fn part_pixels(pixels: &[u8], planes: &mut [u8])
 }
 
 /// Copies three planes, which lie one behind the other, into the pixels of three bytes that they are.
+#[tactic(auto, using(crate::proofs::PixelsParted::pixels_joined))]
 pub fn join_pixels(planes: &[u8], pixels: &mut [u8])
     requires whole { length planes.now % 3 ≡ 0 }
     requires same { length pixels.old ≡ length planes.now }

@@ -61,6 +61,7 @@ impl Plane {
     }
 
     /// Does the steps of the frame of this number to the plane that these cells are.
+    #[tactic(auto, using(crate::proofs::Parts::plane_pixels))]
     pub(crate) fn apply(&self, number: u64, cells: &mut [u8])
         requires { length cells.old ≡ plane_len self.now }
         ensures { cells.new ≡ changed_plane number (job_of self.now) cells.old }

@@ -69,6 +69,7 @@ fn put_image(cells: &mut [u8], shape: Shape, window: Window, source: ImgRef<'_, 
 }
 
 // The cells become the pixels of a window of the image.
+#[tactic(auto, using(crate::proofs::Parts::plane_pixels))]
 fn crop_image(source: ImgRef<'_, u8>, window: Window, target: &mut [u8])
     requires fits { Fits (ref_layout source) }
     requires wide { 0 < window.width }
@@ -104,6 +105,7 @@ fn fill_border(cells: &mut [u8], shape: Shape, place: Window, value: u8)
 }
 
 // The cells become the pixels of a grid of this size and value with the image at a corner.
+#[tactic(auto, using(crate::proofs::Parts::plane_pixels, crate::proofs::Borders::around_image))]
 fn pad_image(
     source: ImgRef<'_, u8>,
     place: Window,

@@ -107,19 +107,14 @@ module _ (edit : Edits) (line : List ℕ) (recipe : Recipe) (is : IsStream edit 
       video_kind bytes (Some rest) read = line_begins line rest bytes read ∙ kind
 
   pub frames_written : (r : Result ℕ RunFault) (input left new : Option (List ℕ)) → Consumes input r1 (line ++ 10 ∷ []) → PassesFrames r (heads_of edit (video line recipe)) r1 left w1 new → Writes r edit input w0 new
-  frames_written (Ok n) None left new read passes = tt
   frames_written (Ok n) (Some bytes) left new read passes = at_end edit (video line recipe) is r1 w0 w1 wrote bytes (is_video bytes read) read n left new passes.0 passes.1
-  frames_written (Err (Frame n)) None left new read passes = tt
   frames_written (Err (Frame n)) (Some bytes) left new read passes = up_to edit (video line recipe) is r1 w0 w1 wrote bytes (is_video bytes read) read n passes.left new passes.passed passes.ends
   frames_written (Err Input) None left new read passes = inr tt
   frames_written (Err Input) (Some bytes) left new read passes = inr (some edit (video line recipe) is r1 w0 w1 wrote bytes (is_video bytes read) read Anything passes.count passes.up_to.left new passes.up_to.passed passes.up_to.ends)
-  frames_written (Err Endless) None left new read passes = tt
   frames_written (Err Endless) (Some bytes) left new read passes = some edit (video line recipe) is r1 w0 w1 wrote bytes (is_video bytes read) read Anything passes.count passes.up_to.left new passes.up_to.passed passes.up_to.ends
-  frames_written (Err Output) None left new read passes = tt
   frames_written (Err Output) (Some bytes) left new read passes = part_of edit (video line recipe) is r1 w0 w1 wrote bytes (is_video bytes read) read new passes
-  frames_written (Err Header) input left new read passes = absurd passes
-  frames_written (Err Outside) input left new read passes = absurd passes
-  frames_written (Err Memory) input left new read passes = absurd passes
+  frames_written _ None left new read passes = tt
+  frames_written _ input left new read passes = absurd passes
 
 module _ (edit : Edits) (bytes : List ℕ) (kind : begins_picture bytes ≡ true) (old new : Option (List ℕ)) where
   stops : (ends : List ℕ → Type 0) → PassedSome (PictureHead edit) ends (Some bytes) old new → CarriesUpTo edit ends bytes old new
@@ -181,26 +176,19 @@ no_format edit line (Some rest) old one kind none (Some bytes) read = no_video b
 -- a line of a format that the edit is none for, or no memory was found
 pub not_planned : (e : PlanFault) (edit : Edits) (line : List ℕ) (format : Format) (left old : Option (List ℕ)) → All (λ b. b ≢ 10) line → begins_picture (line ++ 10 ∷ []) ≡ false → format_of line ≡ Some format → Tells (video_recipe edit line ≡ None) e
     → Follows (Err (fault_of_plan e)) edit (line ++ 10 ∷ []) left old old
-not_planned NoPlan edit line format left old one kind named tells None read = tt
-not_planned NoPlan edit line format None old one kind named tells (Some bytes) read = absurd read
 not_planned NoPlan edit line format (Some rest) old one kind named tells (Some bytes) read = subst (λ (b : Bool). StopsOutside b edit bytes old old) (sym (line_begins line rest bytes read ∙ kind))
     (Keeps-refl old, record { line = line; more = rest; format = format; one_line = one; read = read ∙ joined line rest; named = named; none = tells })
-not_planned NoMemory edit line format left old one kind named tells None read = tt
-not_planned NoMemory edit line format None old one kind named tells (Some bytes) read = absurd read
 not_planned NoMemory edit line format (Some rest) old one kind named tells (Some bytes) read = subst (λ (b : Bool). StopsForMemory b edit bytes old old) (sym (line_begins line rest bytes read ∙ kind)) (Keeps-refl old)
+not_planned _ edit line format left old one kind named tells None read = tt
+not_planned _ edit line format None old one kind named tells _ read = absurd read
 
 -- ---- the first byte
 
 -- a run over pictures, of which the first letter was read
 pub behind_first : (edit : Edits) (r : Result ℕ RunFault) (input left end old new : Option (List ℕ)) → Consumes input left (80 ∷ []) → PassesPictures r edit (behind_letter left) end old new → Writes r edit input old new
-behind_first edit (Ok n) None left end old new read passes = tt
-behind_first edit (Err (Frame n)) None left end old new read passes = tt
 behind_first edit (Err Input) None left end old new read passes = inr tt
-behind_first edit (Err Endless) None left end old new read passes = tt
-behind_first edit (Err Output) None left end old new read passes = tt
 behind_first edit (Err Header) None left end old new read passes = (passes.0, tt)
-behind_first edit (Err Outside) None left end old new read passes = tt
-behind_first edit (Err Memory) None left end old new read passes = tt
+behind_first edit _ None left end old new read passes = tt
 behind_first edit r (Some bytes) None end old new read passes = absurd read
 behind_first edit r (Some bytes) (Some rest) end old new read passes = pictures_written edit bytes (ap begins_picture read) old new r end (subst (λ l. PassesPictures r edit (Some l) end old new) (sym read) passes)
 

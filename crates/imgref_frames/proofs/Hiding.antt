@@ -65,8 +65,6 @@ module _ (heads : List ℕ → Recipe → Type 0) (law : Readable heads) (hides 
     read = refl;
     end = subst ends e;
   }
-  carried ends moves n [] behind [] (q ∷ qs) rest are alike e = absurd alike
-  carried ends moves n [] behind (p ∷ ps) [] rest are alike e = absurd alike
   carried ends moves n [] behind (p ∷ ps) (q ∷ qs) rest are alike e = record {
     pieces = [];
     rest = pieces_text (q ∷ qs) ++ rest;
@@ -85,8 +83,6 @@ module _ (heads : List ℕ → Recipe → Type 0) (law : Readable heads) (hides 
     read = sym e;
     end = λ end. end;
   }
-  carried ends moves n (x ∷ mine) behind [] (q ∷ qs) rest are alike e = absurd alike
-  carried ends moves n (x ∷ mine) behind (p ∷ ps) [] rest are alike e = absurd alike
   carried ends moves n (x ∷ mine) behind (p ∷ ps) (q ∷ qs) rest are alike e =
       let one = one_piece heads law x p (pieces_text mine ++ behind) (pieces_text ps ++ rest) are.0 alike.0.mine
       (sym (append_assoc (piece_text x) (pieces_text mine) behind) ∙ e ∙ append_assoc (piece_text p) (pieces_text ps) rest) in
@@ -101,6 +97,7 @@ module _ (heads : List ℕ → Recipe → Type 0) (law : Readable heads) (hides 
         read = append_assoc (piece_text q) (pieces_text qs) rest ∙ ap (λ l. piece_text q ++ l) more.read ∙ sym (append_assoc (piece_text q) (pieces_text more.pieces) more.rest);
         end = more.end;
       }
+  carried ends moves n _ behind _ _ rest are alike e = absurd alike
 
 -- ---- streams
 
@@ -176,11 +173,10 @@ module _ (laws : Laws) (edit : Edits) (mine theirs : List ℕ) (a : Alike edit m
     where
       no_picture_too : (ps qs : List Piece) → PiecesAlike (PictureHead edit) 0 ps qs → mine ≡ pieces_text ps ++ a.rest → theirs ≡ pieces_text qs ++ a.rest → IsNoPicture mine → IsNoPicture theirs
       no_picture_too [] [] alike is it none = subst IsNoPicture (is ∙ sym it) none
-      no_picture_too [] (q ∷ qs) alike is it none = absurd alike
-      no_picture_too (p ∷ ps) [] alike is it none = absurd alike
       no_picture_too (p ∷ ps) (q ∷ qs) alike is it none =
           let m = bind_some (picture_of p.head) (picture_recipe edit) p.recipe alike.0.mine.0 in
           absurd (none m.0 p.head (p.cells ++ (pieces_text ps ++ a.rest)) m.1 (is ∙ append_assoc (piece_text p) (pieces_text ps) a.rest ∙ append_assoc p.head p.cells (pieces_text ps ++ a.rest)))
+      no_picture_too _ _ alike is it none = absurd alike
 
   keeps_too : (b : Bool) → begins_picture mine ≡ b → (old new : Option (List ℕ)) → StopsForMemory b edit mine old new → StopsForMemory b edit theirs old new
   keeps_too false e old new w = w

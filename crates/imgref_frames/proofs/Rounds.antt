@@ -12,7 +12,7 @@ use Rattle.imgref_frames.specs.Video.{FrameHead, with_head}
 use Rattle.imgref_frames.specs.Pictures.{PictureHead, IsNoPicture, IsPictureNotEdited, behind_letter}
 use Rattle.imgref_frames.specs.Passing.{LineRead, IsNoPiece, Passed, PassedUpTo, PassedSome, PassedPart, CellsPassed, PassesCells, PassesFrames, PassesPicture, PassesPictures, Anything}
 use Rattle.imgref_frames.specs.declared.fault.RunFault.{RunFault}
-use Rattle.imgref_frames.specs.declared.fault.RunFault.TheVariants.{Header, Outside, Frame, Memory, Input, Output, Endless}
+use Rattle.imgref_frames.specs.declared.fault.RunFault.TheVariants.{Header, Outside, Frame, Input, Output}
 use Rattle.imgref_frames.proofs.Pieces.{frames_readable, pictures_readable, cut_piece}
 use Rattle.imgref_frames.proofs.OneMore.{one_more, part_more, passed_on}
 
@@ -53,10 +53,7 @@ module _ (video : Recipe) (n len : ℕ) (line : List ℕ) (r0 r1 r2 r3 w0 w1 w2 
       (cut_piece (FrameHead video) (frames_readable video) (take len line) c.1.cells (with_head (take len line) video) r1 r2 r3 frame_head found.read c.1.read c.1.short c.1.end) k c.0 w2 c.2
   frame_stopped Output c = cells_begun (FrameHead video) n r0 r1 w0 w1 p (take len line) (with_head (take len line) video) frame_head r2 r3 found.read w2 c
   frame_stopped Input c = ends_some (FrameHead video) n r0 r1 w0 w1 p Anything (nothing_said r1) w2 c
-  frame_stopped Header c = absurd c
-  frame_stopped Outside c = absurd c
-  frame_stopped Memory c = absurd c
-  frame_stopped Endless c = absurd c
+  frame_stopped _ c = absurd c
 
 -- ---- one picture
 
@@ -70,10 +67,7 @@ module _ (apart : ApartHeads) (letter : BeginsWithLetter) (edit : Edits) (n : �
   picture_made (Err (Frame k)) c = (c.0, cut_piece (PictureHead edit) (pictures_readable apart letter edit) head c.1.cells recipe r1 r2 r3 picture_head read c.1.read c.1.short c.1.end, c.2)
   picture_made (Err Output) c = (piece head c.cells recipe, (picture_head, c.sized), Consumes-trans r1 r2 r3 head c.cells read c.read, c.written)
   picture_made (Err Input) c = c
-  picture_made (Err Header) c = absurd c
-  picture_made (Err Outside) c = absurd c
-  picture_made (Err Memory) c = absurd c
-  picture_made (Err Endless) c = absurd c
+  picture_made _ c = absurd c
 
 -- ---- pictures
 
@@ -100,9 +94,7 @@ module _ (edit : Edits) (n : ℕ) (r0 r1 r2 w0 w1 w2 : Option (List ℕ)) (p : P
       let q : Passed (PictureHead edit) 0 r0 r1 w0 w2 = subst (λ m. Passed (PictureHead edit) m r0 r1 w0 w2) c.0 (same_text (PictureHead edit) n r0 r1 w0 w1 p w2 c.2) in
       (keeps_none q.pieces w0 w2 q.count_is q.written, reads_none IsNoPicture q.pieces r0 r1 q.count_is q.read c.1)
   picture_stopped Outside c = ends_some (PictureHead edit) n r0 r1 w0 w1 p (IsPictureNotEdited edit) c.0 w2 c.1
-  picture_stopped Memory c = ends_some (PictureHead edit) n r0 r1 w0 w1 p Anything (nothing_said r1) w2 c
-  picture_stopped Input c = ends_some (PictureHead edit) n r0 r1 w0 w1 p Anything (nothing_said r1) w2 c
-  picture_stopped Endless c = ends_some (PictureHead edit) n r0 r1 w0 w1 p Anything (nothing_said r1) w2 c
+  picture_stopped _ c = ends_some (PictureHead edit) n r0 r1 w0 w1 p Anything (nothing_said r1) w2 c
 
 -- the letter of the next picture
 none_read : (old new : Option (List ℕ)) → Consumes old new (80 ∷ []) → Consumes old (behind_letter new) []

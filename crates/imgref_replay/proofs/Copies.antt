@@ -1,6 +1,5 @@
 -- A window of an image of a list, copied over another window of the list.
-use Rattle.std.proofs.Common.{◌≡◌, ℕ, ◌+◌, ◌-◌, ◌<◌, ◌==◌, Bool, false, not, List, [], ◌∷◌, ◌++◌, length, map, set, get_or, Some, None, Vec, refl, sym, ap, ◌∙◌, arith, All, Ok}
-use Rattle.std.specs.Option.{option_map_or}
+use Rattle.std.proofs.Common.{◌≡◌, ℕ, ◌-◌, ◌<◌, Bool, false, List, ◌++◌, length, map, set, get_or, None, Vec, refl, sym, ap, ◌∙◌, arith, All, Ok}
 use Rattle.std.proofs.lemmas.Bool.{cond-false, and_from, eq-eqb}
 use Rattle.std.proofs.lemmas.List.{set-append_left, set-append_right, get_or_append_left, get_or-append_right}
 use Rattle.image_model.specs.Layout.{Layout, Fits, SameOutside}
@@ -10,11 +9,10 @@ use Rattle.imgref.specs.Image.{vec_layout}
 use Rattle.imgref.specs.declared.img.Img.{Img}
 use Rattle.image_model.specs.Windows as model
 use Rattle.image_model.specs.Windows.{IsInside, window_view}
-use Rattle.imgref_replay.specs.Commands.{grids_of, grid_at, Sizes, sizes_of, window_named, view_named, differ_in_size, pair_faults, copy_faults}
-use Rattle.imgref_replay.specs.Step.{first_fault, effect_of, IsStep, MayCopy, ShowsCopy}
+use Rattle.imgref_replay.specs.Commands.{grids_of, grid_at, Sizes, sizes_of, window_named, pair_faults, copy_faults}
+use Rattle.imgref_replay.specs.Step.{first_fault, IsStep, MayCopy, ShowsCopy}
 use Rattle.imgref_replay.specs.declared.commands.Place.{Place}
 use Rattle.imgref_replay.specs.declared.commands.Command.TheVariants.{Blit}
-use Rattle.imgref_replay.specs.declared.commands.Refusal.TheVariants.{SizesDiffer}
 use Rattle.imgref_replay.specs.declared.commands.Reply.TheVariants.{Done}
 use Rattle.imgref_replay.proofs.Images.{fits_at, inside_at, grid_at-images, grids_set, fits_set, kept_set}
 use Rattle.imgref_replay.proofs.Steps.{faults_after}
@@ -48,42 +46,19 @@ may_copy images i j image seen to from there seen_there is seen_is fit inside se
 -- windows of one size that two places name, with no other fault
 pub no_copy_fault : (source target : Place) (sizes : Sizes) (from to : model.Window) → None ≡ first_fault (pair_faults source target sizes) → from ≡ window_named source sizes → to ≡ window_named target sizes
     → from.width ≡ to.width → from.height ≡ to.height → None ≡ first_fault (copy_faults source target sizes)
-no_copy_fault source target sizes from to none from_is to_is wide high =
-    let v = window_named source sizes in
-    let w = window_named target sizes in
-    let width : v.width ≡ w.width = ap (λ u. u.width) (sym from_is) ∙ wide ∙ ap (λ u. u.width) to_is in
-    let height : v.height ≡ w.height = ap (λ u. u.height) (sym from_is) ∙ high ∙ ap (λ u. u.height) to_is in
-    let same : first_fault ((differ_in_size source target sizes, SizesDiffer) ∷ []) ≡ None = cond-false (differ_in_size source target sizes) (Some SizesDiffer) None (ap not (and_from (v.width == w.width) (v.height == w.height) (eq-eqb v.width w.width width) (eq-eqb v.height w.height height))) in
-    sym (faults_after (pair_faults source target sizes) ((differ_in_size source target sizes, SizesDiffer) ∷ []) (sym none) ∙ same)
+no_copy_fault source target sizes from to none from_is to_is wide high = grind (arith, cond-false, and_from, eq-eqb, faults_after)
 
 -- a view with its own size is that view
 view_again : {T : Type 0} (g : Grid T) (v : model.Window) (width height : ℕ) → width ≡ v.width → height ≡ v.height → grid width height (window_view g v).pixel ≡ window_view g v
 unfolding view
-view_again g v width height wide high =
-    (λ k. grid (wide k) (high k) (window_view g v).pixel)
-    ∙ same_grids v.width v.height (window_view g v).pixel (λ x y. g.pixel (v.left + x) (v.top + y)) (λ x y column line. at_place v.width v.height (λ x y. g.pixel (v.left + x) (v.top + y)) x y column line)
+view_again g v width height wide high = grind (arith, at_place, same_grids)
 
 -- the command whose copy the list shows
 pub blitted : {T Z : Type 0} (eq : T → T → Bool) (images : List (Img (Vec T Z))) (news : List (Layout T)) (source target : Place) (from to : model.Window)
     → None ≡ first_fault (copy_faults source target (sizes_of (grids_of images)))
     → from ≡ window_named source (sizes_of (grids_of images)) → to ≡ window_named target (sizes_of (grids_of images)) → from.width ≡ to.width → from.height ≡ to.height
     → ShowsCopy target.image to.left to.top (window_view (grid_at (grids_of images) source.image) from) (map vec_layout images) news → IsStep eq (Blit source target) (map vec_layout images) news (Ok Done)
-blitted {T} eq images news source target from to accepted from_is to_is wide high shows =
-    let grids = grids_of images in
-    let i = target.image in
-    let seen = grid_at grids source.image in
-    record {
-      fault = accepted;
-      answer = refl;
-      grids =
-          shows.grids
-          ∙ ap (λ h. set grids i (patch (grid_at grids i) to.left to.top h)) (sym (view_again seen from to.width to.height (sym wide) (sym high)))
-          ∙ ap (λ v. set grids i (patch (grid_at grids i) to.left to.top (grid to.width to.height (window_view seen v).pixel))) from_is
-          ∙ ap (λ w. set grids i (patch (grid_at grids i) w.left w.top (grid w.width w.height (view_named source grids).pixel))) to_is
-          ∙ ap (λ o. option_map_or (λ _. grids) o (effect_of (Blit source target) grids)) accepted;
-      kept = shows.kept;
-      fits = shows.fits;
-    }
+blitted {T} eq images news source target from to accepted from_is to_is wide high shows = grind (arith, view_again)
 
 -- ---- a list in two parts
 

@@ -15,11 +15,7 @@ module _ {T : Type 0} (test : T → Bool) where
 
   -- nothing wraps below the limit
   stepped : (x : T) (count : ℕ) → count + 1 < 2 ^ 64 → step count x ≡ count + cond (test x) 1 0
-  stepped x count small = one (test x)
-    where
-      one : (b : Bool) → cond b ((count + 1) % 2 ^ 64) count ≡ count + cond b 1 0
-      one true = mod-eq_of_lt small
-      one false = omega arith
+  stepped x count small = grind (arith, mod-eq_of_lt)
 
   at_most_one : (b : Bool) → cond b 1 0 ≤ 1
   at_most_one true = omega arith

@@ -13,7 +13,7 @@ use Rattle.image_model.proofs.Cells.{slice_get-set_other}
 use Rattle.imgref.specs.Image.{width_of, height_of, vec_layout}
 use Rattle.imgref.specs.declared.img.Img.{Img}
 use Rattle.imgref.specs.Window.{as_path}
-use Rattle.imgref_replay.specs.Commands.{grid_at, grids_of, sizes_of, lacks_image, window_faults}
+use Rattle.imgref_replay.specs.Commands.{grid_at, grids_of, sizes_of, window_faults}
 use Rattle.imgref_replay.specs.Step.{first_fault, AllKept}
 use Rattle.imgref_replay.specs.declared.commands.Place.{Place}
 use Rattle.imgref_replay.specs.declared.commands.Refusal.TheVariants.{WindowOutside}
@@ -90,8 +90,4 @@ pub fault_named : {T Z : Type 0} (images : List (Img (Vec T Z))) (spot : Place) 
     → outside ≡ first_outside (width_of image) (height_of image) (as_path spot.path.items)
     → first_fault (window_faults spot (sizes_of (grids_of images))) ≡ (if is_some outside then Some WindowOutside else None)
 unfolding grid_of
-fault_named images spot image outside there is at_path =
-    let within : spot.image < length (grids_of images) = rw (length-grids images) there in
-    cond-false (lacks_image spot.image (sizes_of (grids_of images))) _ _ (lt-leb (length (grids_of images)) spot.image within)
-    ∙ ap (λ g. if is_some (first_outside g.width g.height (as_path spot.path.items)) then Some WindowOutside else None) (grid_at-images images spot.image image there is)
-    ∙ ap (λ o. if is_some o then Some WindowOutside else None) (sym at_path)
+fault_named images spot image outside there is at_path = grind (arith, is_some, lt-leb, cond-false, length-grids, grid_at-images)

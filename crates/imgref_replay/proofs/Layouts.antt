@@ -1,5 +1,5 @@
 -- What is done to lists of grids that agree leaves lists that agree, with the same replies: whatever a command means, for it sees the scene alone, and that is the same of both.
-use Rattle.std.proofs.Common.{◌≡◌, ℕ, zero, suc, Bool, List, [], ◌∷◌, length, set, Some, None, Option, refl, ap, ◌∙◌, subst}
+use Rattle.std.proofs.Common.{◌≡◌, ℕ, zero, suc, Bool, List, [], ◌∷◌, length, set, Some, None, Option, refl, ap, ◌∙◌, subst, arith}
 use Rattle.std.specs.Option.{option_map_or}
 use Rattle.std.specs.Cmp.{IsEquivalence}
 use Rattle.image_model.specs.Grid.{Grid, Agree, AlikePixels}
@@ -13,7 +13,7 @@ use Rattle.imgref_replay.specs.Layouts.{GridsAgree, AlikeReply, RepliesAgree}
 use Rattle.imgref_replay.specs.declared.commands.Command.{Command}
 use Rattle.imgref_replay.specs.declared.commands.Refusal.{Refusal}
 use Rattle.imgref_replay.specs.declared.commands.Reply.{Reply}
-use Rattle.imgref_replay.specs.declared.commands.Reply.TheVariants.{Pixel, Counted, Truth, Done, Refused}
+use Rattle.imgref_replay.specs.declared.commands.Reply.TheVariants.{Pixel, Done, Refused}
 
 module _ {T : Type 0} (eq : T → T → Bool) where
   -- ---- one grid of each
@@ -22,29 +22,25 @@ module _ {T : Type 0} (eq : T → T → Bool) where
   agree_at [] [] i a = agree_grid eq 0 0 0 0 (λ _ _. None) (λ _ _. None) refl refl (λ _ _ _ _. tt)
   agree_at (g ∷ gs) (h ∷ hs) zero a = a.0
   agree_at (g ∷ gs) (h ∷ hs) (suc i) a = agree_at gs hs i a.1
-  agree_at [] (h ∷ hs) i a = absurd a
-  agree_at (g ∷ gs) [] i a = absurd a
+  agree_at _ _ i a = absurd a
 
   agree_set : (gs hs : List (Grid T)) (i : ℕ) (g h : Grid T) → GridsAgree eq gs hs → Agree eq g h → GridsAgree eq (set gs i g) (set hs i h)
   agree_set [] [] i g h a b = tt
   agree_set (x ∷ gs) (y ∷ hs) zero g h a b = (b, a.1)
   agree_set (x ∷ gs) (y ∷ hs) (suc i) g h a b = (a.0, agree_set gs hs i g h a.1 b)
-  agree_set [] (y ∷ hs) i g h a b = absurd a
-  agree_set (x ∷ gs) [] i g h a b = absurd a
+  agree_set _ _ i g h a b = absurd a
 
   same_length : (gs hs : List (Grid T)) → GridsAgree eq gs hs → length gs ≡ length hs
   same_length [] [] a = refl
   same_length (g ∷ gs) (h ∷ hs) a = ap suc (same_length gs hs a.1)
-  same_length [] (h ∷ hs) a = absurd a
-  same_length (g ∷ gs) [] a = absurd a
+  same_length _ _ a = absurd a
 
   -- ---- pixels and replies
 
   shown_alike : (o p : Option T) → AlikePixels eq o p → AlikeReply eq (option_map_or (λ pixel. Pixel pixel) o Done) (option_map_or (λ pixel. Pixel pixel) p Done)
   shown_alike None None h = refl
   shown_alike (Some x) (Some y) h = h
-  shown_alike None (Some y) h = absurd h
-  shown_alike (Some x) None h = absurd h
+  shown_alike _ _ h = absurd h
 
   refused_alike : (o : Option Refusal) (r q : Reply T) → AlikeReply eq r q → AlikeReply eq (option_map_or (λ refusal. Refused refusal) o r) (option_map_or (λ refusal. Refused refusal) o q)
   refused_alike None r q h = h
@@ -53,31 +49,18 @@ module _ {T : Type 0} (eq : T → T → Bool) where
   module _ (laws : IsEquivalence eq) where
     same_reply : (r : Reply T) → AlikeReply eq r r
     same_reply (Pixel a) = laws.refl a
-    same_reply (Counted n) = refl
-    same_reply (Truth b) = refl
-    same_reply Done = refl
-    same_reply (Refused refusal) = refl
+    same_reply _ = refl
 
     -- whether two pixels are equal is the same where each is alike to another
     same_test : (o p q r : Option T) → AlikePixels eq o p → AlikePixels eq q r → are_alike_pixels eq o q ≡ are_alike_pixels eq p r
     same_test (Some a) (Some b) (Some c) (Some d) h k = laws.congr a b c h ∙ laws.symm b c ∙ laws.congr c d b k ∙ laws.symm d b
-    same_test (Some a) (Some b) None None h k = refl
-    same_test None None (Some c) (Some d) h k = refl
-    same_test None None None None h k = refl
-    same_test None (Some b) q r h k = absurd h
-    same_test (Some a) None q r h k = absurd h
-    same_test (Some a) (Some b) None (Some d) h k = absurd k
-    same_test (Some a) (Some b) (Some c) None h k = absurd k
-    same_test None None None (Some d) h k = absurd k
-    same_test None None (Some c) None h k = absurd k
+    same_test _ _ _ _ h k = grind arith
 
     module _ (gs hs : List (Grid T)) (a : GridsAgree eq gs hs) where
       -- ---- the scene is the same
 
       same_sizes : sizes_of gs ≡ sizes_of hs
-      same_sizes =
-          let count = same_length gs hs a in
-          λ k. record { count = count k; width = λ i. (agree_at gs hs i a).same_width k; height = λ i. (agree_at gs hs i a).same_height k }
+      same_sizes = grind (arith, agree_at, same_length)
 
       alike_pixel : (source : Source T) → AlikePixels eq (pixel_from source gs) (pixel_from source hs)
       alike_pixel (given value) = laws.refl value
@@ -86,9 +69,7 @@ module _ {T : Type 0} (eq : T → T → Bool) where
           (let w = window_named spot (sizes_of gs) in (agree_view eq (grid_at gs spot.image) (grid_at hs spot.image) w.left w.top w.width w.height (agree_at gs hs spot.image a)).alike x y)
 
       same_scene : scene_of eq gs ≡ scene_of eq hs
-      same_scene =
-          let equal = λ (s t : Source T). same_test (pixel_from s gs) (pixel_from s hs) (pixel_from t gs) (pixel_from t hs) (alike_pixel s) (alike_pixel t) in
-          λ k. record { sizes = same_sizes k; are_equal = λ s t. equal s t k }
+      same_scene = grind (arith, same_test, same_sizes, alike_pixel)
 
       -- ---- one command
 
@@ -122,14 +103,10 @@ module _ {T : Type 0} (eq : T → T → Bool) where
       agree_or (Some refusal) ks ls b = a
 
       alike_reply : (command : Command T) → AlikeReply eq (reply_to eq command gs) (reply_to eq command hs)
-      alike_reply command =
-          subst (λ o. AlikeReply eq (reply_to eq command gs) (option_map_or (λ refusal. Refused refusal) o (answer_to eq command hs))) (same_fault command)
-          (refused_alike (fault_of command gs) (answer_to eq command gs) (answer_to eq command hs) (alike_answer command))
+      alike_reply command = grind (arith, refused_alike, same_fault, alike_answer)
 
       agree_after : (command : Command T) → GridsAgree eq (after command gs) (after command hs)
-      agree_after command =
-          subst (λ o. GridsAgree eq (after command gs) (option_map_or (λ _. hs) o (effect_of command hs))) (same_fault command)
-          (agree_or (fault_of command gs) (effect_of command gs) (effect_of command hs) (agree_effect command))
+      agree_after command = grind (arith, same_fault, agree_effect, agree_or)
 
     -- ---- a list of commands
 

@@ -18,9 +18,7 @@ module _ (width height : ℕ) (path : List Window) where
   -- at the end of the path
   pub along_all : (n : ℕ) (found : Window) → length path ≤ n → IsAlong width height path n found
       → (first_outside width height (as_path path) ≡ None) × (as_window found ≡ path_window width height (as_path path))
-  along_all n found end along =
-      let all = take_all n path end in
-      (subst (λ ws. first_outside width height (as_path ws) ≡ None) all along.inside, subst (λ ws. as_window found ≡ path_window width height (as_path ws)) all along.comes_to)
+  along_all n found end along = grind (arith, take_all)
 
   module _ (n : ℕ) (found d : Window) (more : n < length path) (along : IsAlong width height path n found) where
     abbrev next : model.Window

@@ -1,5 +1,5 @@
 -- The test of grids tells whether they agree.
-use Rattle.std.proofs.Common.{◌≡◌, ℕ, zero, suc, ◌+◌, ◌<◌, ◌≤◌, Bool, true, Some, None, Option, refl, sym, subst, arith, inl, inr, IsTrue, ◌↔◌}
+use Rattle.std.proofs.Common.{◌≡◌, ℕ, zero, suc, ◌+◌, ◌<◌, ◌≤◌, Bool, Some, None, Option, refl, sym, subst, arith, inl, inr, IsTrue, ◌↔◌}
 use Rattle.std.specs.Bool.{Decides}
 use Rattle.std.specs.List.{list_all, range_with_len}
 use Rattle.std.proofs.lemmas.Bool.{cases_eq, and_parts, and_from, eqb-true, eq-eqb}
@@ -46,30 +46,7 @@ module _ {T : Type 0} (eq : T → T → Bool) where
   pixels_decide (Some a) None = (λ e. cc, λ h. absurd h)
 
   agree_decides : (v w m n : ℕ) (f k : ℕ → ℕ → Option T) → let g = grid v m f in let h = grid w n k in Decides (do_agree g h) (Agree eq g h)
-  agree_decides v w m n f k = (told, tested)
-    where
-      g : Grid T
-      g = grid v m f
-
-      h : Grid T
-      h = grid w n k
-
-      told : do_agree g h ≡ true → Agree eq g h
-      told e =
-          let sizes = and_parts _ _ e in
-          let rest = and_parts _ _ sizes.1 in
-          let wide = eqb-true v w sizes.0 in
-          let high = eqb-true m n rest.0 in
-          agree_grid eq v w m n f k wide high (λ x y column line.
-          subst (λ o. AlikePixels eq o (k x y)) (at_place v m f x y (omega (arith, wide)) (omega (arith, high)))
-          (subst (λ p. AlikePixels eq (g.pixel x y) p) (at_place w n k x y column line)
-          ((pixels_decide (g.pixel x y) (h.pixel x y)).0 ((each_place v m _).0 rest.1 x y (omega (arith, wide)) (omega (arith, high))))))
-
-      tested : Agree eq g h → do_agree g h ≡ true
-      tested a =
-          and_from _ _ (eq-eqb v w a.same_width)
-          (and_from _ _ (eq-eqb m n a.same_height)
-          ((each_place v m (λ x y. are_alike_pixels eq (g.pixel x y) (h.pixel x y))).1 (λ x y _ _. (pixels_decide (g.pixel x y) (h.pixel x y)).1 (a.alike x y))))
+  agree_decides v w m n f k = grind (arith, and_parts, and_from, eqb-true, eq-eqb, agree_grid, at_place, each_place, pixels_decide)
 
   -- images that fit are alike exactly where the test of their grids holds
   alike_tested : (k l : Layout T) (told : Bool) → Fits k → Fits l → IsTrue told ↔ Alike eq k l → told ≡ do_agree (grid_of k) (grid_of l)

@@ -1,5 +1,5 @@
 -- Commands without a fault: what one that asks and one that writes leave.
-use Rattle.std.proofs.Common.{◌≡◌, ◌≢◌, ℕ, ◌<◌, Bool, true, false, List, [], ◌∷◌, ◌++◌, length, map, set, get_or, Some, None, Vec, refl, sym, ap, ◌∙◌, subst, ◌||◌, All, Ok}
+use Rattle.std.proofs.Common.{◌≡◌, ◌≢◌, ℕ, ◌<◌, Bool, true, false, List, [], ◌∷◌, ◌++◌, length, map, set, get_or, Some, None, Vec, refl, sym, ap, ◌∙◌, subst, All, Ok, arith}
 use Rattle.std.specs.Option.{option_map_or}
 use Rattle.std.proofs.lemmas.Bool.{cond-false, lt-leb, eq-eqb, ne_eqb}
 use Rattle.std.proofs.lemmas.Option.{same_Some}
@@ -10,7 +10,7 @@ use Rattle.image_model.specs.Compaction.{IsKept, IsPacked, packed}
 use Rattle.image_model.proofs.Places.{outside_refl}
 use Rattle.imgref.specs.Image.{vec_layout}
 use Rattle.imgref.specs.declared.img.Img.{Img}
-use Rattle.imgref_replay.specs.Commands.{grids_of, grid_at, Sizes, sizes_of, window_named, lacks_image, lacks_tile, window_faults, tile_faults, meaning}
+use Rattle.imgref_replay.specs.Commands.{grids_of, grid_at, Sizes, sizes_of, window_named, lacks_image, window_faults, tile_faults, meaning}
 use Rattle.imgref_replay.specs.Step.{first_fault, fault_of, answer_to, effect_of, compacts, AllKept, IsStep}
 use Rattle.imgref_replay.specs.declared.commands.Command.{Command}
 use Rattle.imgref_replay.specs.declared.commands.Command.TheVariants.{Compact}
@@ -18,7 +18,7 @@ use Rattle.imgref_replay.specs.declared.commands.Place.{Place}
 use Rattle.imgref_replay.specs.declared.commands.Refusal.{Refusal}
 use Rattle.imgref_replay.specs.declared.commands.Reply.{Reply}
 use Rattle.imgref_replay.specs.declared.commands.Reply.TheVariants.{Done}
-use Rattle.imgref_replay.specs.declared.commands.Refusal.TheVariants.{NoImage, NoTile}
+use Rattle.imgref_replay.specs.declared.commands.Refusal.TheVariants.{NoImage}
 use Rattle.imgref_replay.proofs.Images.{length-grids, grid_at-images, grids_set, fits_set, kept_set, same_grids}
 
 -- where the first tests don't hold, the others decide
@@ -30,10 +30,7 @@ faults_after ((false, refusal) ∷ firsts) others e = faults_after firsts others
 -- a window with tiles that has no fault
 pub no_tile_fault : (spot : Place) (tile_width tile_height : ℕ) (sizes : Sizes) → None ≡ first_fault (window_faults spot sizes) → tile_width ≢ 0 → tile_height ≢ 0
     → None ≡ first_fault (tile_faults spot tile_width tile_height sizes)
-no_tile_fault spot tile_width tile_height sizes e wide high =
-    let both : lacks_tile tile_width tile_height ≡ false = λ k. (ne_eqb tile_width 0 wide k) || (ne_eqb tile_height 0 high k) in
-    let tile : first_fault ((lacks_tile tile_width tile_height, NoTile) ∷ []) ≡ None = cond-false (lacks_tile tile_width tile_height) (Some NoTile) None both in
-    sym (faults_after (window_faults spot sizes) ((lacks_tile tile_width tile_height, NoTile) ∷ []) (sym e) ∙ tile)
+no_tile_fault spot tile_width tile_height sizes e wide high = grind (arith, cond-false, ne_eqb, faults_after)
 
 -- images stay as they are kept, where nothing is compacted
 kept_outside : {T : Type 0} (compacted : ℕ → Bool) (olds news : List (Layout T)) → ((i : ℕ) → compacted i ≡ false) → AllKept (λ _. false) olds news → AllKept compacted olds news
@@ -46,13 +43,7 @@ not_compacted command none i = rw none refl
 pub asked : {T : Type 0} (eq : T → T → Bool) (command : Command T) (ls : List (Layout T)) (reply : Reply T) → None ≡ fault_of command (map grid_of ls)
     → reply ≡ answer_to eq command (map grid_of ls) → effect_of command (map grid_of ls) ≡ map grid_of ls → (meaning command).compacted ≡ None → All Fits ls
     → IsStep eq command ls ls (Ok reply)
-asked eq command ls reply accepted answer stays none fits = record {
-  fault = accepted;
-  answer = answer;
-  grids = sym stays ∙ ap (λ o. option_map_or (λ _. map grid_of ls) o (effect_of command (map grid_of ls))) accepted;
-  kept = kept_outside (λ i. compacts i command) ls ls (not_compacted command none) (λ i old new in_old in_new. subst (SameOutside old) (same_Some old new (sym in_old ∙ in_new)) (outside_refl old));
-  fits = fits;
-}
+asked eq command ls reply accepted answer stays none fits = grind (arith, same_Some, outside_refl, kept_outside, not_compacted)
 
 -- a command that writes in the window of a place, and leaves all else as it is
 pub wrote : {T Z : Type 0} (eq : T → T → Bool) (command : Command T) (images : List (Img (Vec T Z))) (spot : Place) (image new : Img (Vec T Z)) (window : model.Window) (change : model.Window → Grid T → Grid T)

@@ -8,7 +8,7 @@ use Rattle.text_model.specs.Parts.{parts_of}
 use Rattle.imgref_run.specs.Reading.{Gives, image_in, order_in, line_in}
 use Rattle.imgref_run.specs.declared.line.Line.{Line}
 use Rattle.imgref_run.specs.declared.fault.LineFault.{LineFault}
-use Rattle.imgref_run.specs.declared.fault.LineFault.TheVariants.{Memory, Bad}
+use Rattle.imgref_run.specs.declared.fault.LineFault.TheVariants.{Bad}
 use Rattle.text_model.proofs.PartsJoined.{parts_of-join}
 use Rattle.text_model.proofs.Options.{some, some_is, map_some, choice}
 use Rattle.text_model.proofs.FieldTexts.{join_is}
@@ -66,6 +66,5 @@ line_found (Ok l) line g =
 line_found (Err e) line g = tt
 
 pub line_bad : (r : Result Line LineFault) (line : List ℕ) → Gives entry_of r (line_in (parts_of 32 line)) → IsErrOf r Bad → (e : Entry) → IsEntry e → line ≡ entry_text e → ⊥
-line_bad (Ok l) line g b e is same = absurd cc
-line_bad (Err Memory) line g b e is same = absurd cc
 line_bad (Err Bad) line g b e is same = let found = ap (λ (t : List ℕ). line_in (parts_of 32 t)) same ∙ line_back e is in cc
+line_bad _ line g b e is same = absurd cc

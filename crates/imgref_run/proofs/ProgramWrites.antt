@@ -6,7 +6,7 @@ use Rattle.std.proofs.lemmas.List.{append-nil}
 use Rattle.std.proofs.lemmas.List.Elements.{All-from_recursion}
 use Rattle.image_model.specs.Layout.{Layout, Fits}
 use Rattle.imgref_run.specs.declared.fault.RunFault.{RunFault}
-use Rattle.imgref_run.specs.declared.fault.RunFault.TheVariants.{Line, Memory, Input, Output}
+use Rattle.imgref_run.specs.declared.fault.RunFault.TheVariants.{Output}
 use Rattle.imgref_run.specs.Line.{IsImage}
 use Rattle.devices.specs.Whole.{AppendsBeginning}
 use Rattle.imgref_run.specs.Program.{Writes, IsOutputOf}
@@ -24,9 +24,7 @@ wrote (Ok x) input left old new bytes text gave end output ok err fault =
     known_whole input left bytes (λ bs. (t : List ℕ) × IsOutputOf bs t × Appends old new t) gave end (text, output, ok)
 wrote (Err Output) input left old new bytes text gave end output ok err fault =
     known_whole input left bytes (λ bs. (t : List ℕ) × IsOutputOf bs t × AppendsBeginning old new t) gave end (text, output, err)
-wrote (Err Input) input left old new bytes text gave end output ok err fault = absurd cc
-wrote (Err Memory) input left old new bytes text gave end output ok err fault = absurd cc
-wrote (Err (Line n)) input left old new bytes text gave end output ok err fault = absurd cc
+wrote _ input left old new bytes text gave end output ok err fault = absurd cc
 
 layouts_fit : (images : List (Layout ℕ)) → AllByRecursion IsImage images → AllByRecursion Fits images
 layouts_fit [] all = tt

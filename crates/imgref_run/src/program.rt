@@ -30,6 +30,7 @@ fn output_of(alloc: Global, input: Vec<u8>) -> Result<Vec<u8>, RunFault>
 
 /// Reads a whole script, runs its commands on its images, and writes the replies and then the
 /// images. Nothing is written before the whole output is in memory.
+#[tactic(auto, using(crate::proofs::LineTexts::one_value))]
 pub fn run<R: Read, W: Write>(
     alloc: Global,
     reader: &mut Counted<R>,

@@ -1,5 +1,5 @@
 -- Numbers and their texts.
-use Rattle.std.proofs.Common.{◌≡◌, ◌≢◌, ℕ, ◌^◌, ◌<◌, Bool, true, false, cond, ltb, eqb, ◌&&◌, ◌||◌, inl, inr, ◌⊎◌, ◌+◌, ◌∷◌, [], List, length, get_or, Option, Some, None, Result, Ok, Err, refl, sym, ap, ◌∙◌, arith}
+use Rattle.std.proofs.Common.{◌≡◌, ◌≢◌, ℕ, ◌^◌, ◌<◌, Bool, true, false, cond, ltb, eqb, ◌&&◌, ◌||◌, inl, inr, ◌⊎◌, List, length, get_or, Option, Some, None, Result, Err, refl, sym, ap, ◌∙◌, arith}
 use Rattle.std.specs.Result.{result_ok, OkIff}
 use Rattle.std.specs.Str.{IsUtf8, all_ascii_digits}
 use Rattle.std.specs.Str.Parse.{ParsesUnsigned, digits_value}
@@ -20,13 +20,11 @@ not_true false h = refl
 
 pub digits_of-not_text : (field : List ℕ) → (IsUtf8 field → ⊥) → digits_of field ≡ None
 unfolding digits_of
-digits_of-not_text field h =
-    rw (not_true (all_ascii_digits field) (λ e. h (IsUtf8-from_ascii field (IsAscii-from_digits field (own.to field e))))) refl
+digits_of-not_text field h = grind (arith, IsAscii-from_digits, IsUtf8-from_ascii, own, not_true)
 
 parsed_cases : {E : Type 0} (r : Result ℕ E) (a : Bool) (n v m : ℕ) → OkIff r ((a ≡ true) × (0 < n) × (v < m)) v → result_ok r ≡ cond (a && (ltb 0 n && ltb v m)) (Some v) None
-parsed_cases (Ok x) a n v m h = grind (arith, nat_tests)
-parsed_cases (Err e) true n v m h = grind (arith, nat_tests)
 parsed_cases (Err e) false n v m h = refl
+parsed_cases _ _ n v m h = grind (arith, nat_tests)
 
 pub digits_of-parsed : {E : Type 0} (field : List ℕ) (r : Result ℕ E) → get_or field 0 0 ≢ 43 → ParsesUnsigned 64 10 field r → result_ok r ≡ digits_of field
 unfolding digits_of
@@ -36,19 +34,11 @@ digits_of-parsed field r h p = parsed_cases r (all_ascii_digits field) (length f
 
 digits_cases : (a : Bool) (n v m x : ℕ) → cond (a && (ltb 0 n && ltb v m)) (Some v) None ≡ Some x → (a ≡ true) × (0 < n) × (v < m) × (v ≡ x)
 digits_cases false n v m x e = absurd cc
-digits_cases true n v m x e =
-    elim (cases_lt 0 n) [
-      | inl some ↦ elim (cases_lt v m) [
-        | inl small ↦ (refl, some, small, (let p : cond (ltb 0 n && ltb v m) (Some v) None ≡ Some v = rw (lt-ltb 0 n some, lt-ltb v m small) refl in cc))
-        | inr large ↦ absurd (let p : cond (ltb 0 n && ltb v m) (Some v) None ≡ None = rw (lt-ltb 0 n some, le-ltb v m large) refl in cc)
-      ]
-      | inr none ↦ absurd (let p : cond (ltb 0 n && ltb v m) (Some v) None ≡ None = rw (le-ltb 0 n none) refl in cc)
-    ]
+digits_cases true n v m x e = grind (arith, cases_lt, lt-ltb, le-ltb)
 
 canonical_cases : (a b : Bool) (o : Option ℕ) (x : ℕ) → cond (a || b) None o ≡ Some x → (a ≡ false) × (b ≡ false) × (o ≡ Some x)
-canonical_cases true b o x e = absurd cc
-canonical_cases false true o x e = absurd cc
 canonical_cases false false o x e = (refl, refl, e)
+canonical_cases _ _ o x e = absurd cc
 
 zero_cases : (first n : ℕ) → (eqb first 48 && ltb 1 n) ≡ false → 0 < n → first ≡ 48 → n ≡ 1
 zero_cases first n e some none = grind (arith, nat_tests)
@@ -72,34 +62,15 @@ not_eqb : (a b : ℕ) → (a ≡ b → ⊥) → eqb a b ≡ false
 not_eqb a b h = not_true (eqb a b) (λ e. h (eqb-true a b e))
 
 no_zero : (first n : ℕ) → (first ≡ 48 → n ≡ 1) → (eqb first 48 && ltb 1 n) ≡ false
-no_zero first n h =
-    elim (cases_eq first 48) [
-      | inl none ↦ rw (le-ltb 1 n (omega (arith, h none))) (and_false (eqb first 48))
-      | inr other ↦ rw (not_eqb first 48 other) refl
-    ]
+no_zero first n h = grind (arith, le-ltb, and_false, cases_eq, not_eqb)
 
 canonical_is : (field : List ℕ) (n : ℕ) → all_ascii_digits field ≡ true → 0 < length field → digits_value 10 field ≡ n → n < 2 ^ 64
     → get_or field 0 0 ≢ 43 → (get_or field 0 0 ≡ 48 → length field ≡ 1) → number_of field ≡ Some n
 unfolding number_of digits_of
-canonical_is field n digits some value lt plus none =
-    let a = not_eqb (get_or field 0 0) 43 plus in
-    let b = no_zero (get_or field 0 0) (length field) none in
-    let c = lt-ltb 0 (length field) some in
-    let d : ltb (digits_value 10 field) (2 ^ 64) ≡ true = lt-ltb (digits_value 10 field) (2 ^ 64) (rw value lt) in
-    rw (a, b, digits, c, d) (ap (λ k. Some k) value)
+canonical_is field n digits some value lt plus none = grind (arith, lt-ltb, not_eqb, no_zero)
 
 first_fits : (n : ℕ) → n < 2 ^ 64 → (get_or (decimal n) 0 0 ≢ 43) × (get_or (decimal n) 0 0 ≡ 48 → length (decimal n) ≡ 1)
-first_fits n lt =
-    elim (cases_lt 0 n) [
-      | inl some ↦
-          let above : 48 < get_or (decimal n) 0 0 = first_decimal n some lt in
-          (λ e. omega (arith, above, e), λ e. absurd (omega (arith, above, e)))
-      | inr none ↦
-          let one : decimal n ≡ (48 + n) ∷ [] = decimal_digit n (omega arith) in
-          rw one (λ e. omega (arith, e, none), λ _. refl)
-    ]
+first_fits n lt = grind (arith, first_decimal, decimal_digit, cases_lt)
 
 pub number_of-decimal : (n : ℕ) → n < 2 ^ 64 → number_of (decimal n) ≡ Some n
-number_of-decimal n lt =
-    let f = first_fits n lt in
-    canonical_is (decimal n) n (digits_decimal own n lt) (decimal_nonempty n lt) (digits_value-decimal own n lt) lt f.0 f.1
+number_of-decimal n lt = grind (arith, digits_decimal, digits_value-decimal, decimal_nonempty, own, canonical_is, first_fits)

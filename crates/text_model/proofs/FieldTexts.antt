@@ -1,5 +1,5 @@
 -- Fields: what one is read as has that text, and what has a text is read from it.
-use Rattle.std.proofs.Common.{◌≡◌, ◌≢◌, ℕ, ◌<◌, ◌≤◌, true, List, [], ◌∷◌, map, Option, Some, refl, sym, ap, subst, ◌∙◌, arith, leb, cond, None}
+use Rattle.std.proofs.Common.{◌≡◌, ◌≢◌, ℕ, ◌<◌, true, List, [], ◌∷◌, map, Option, Some, refl, sym, ap, subst, ◌∙◌, arith, rules}
 use Rattle.std.specs.List.{join_with_byte, AllByRecursion}
 use Rattle.std.specs.Fmt.{decimal}
 use Rattle.std.proofs.lemmas.Bool.{leb-true, le-leb}
@@ -7,7 +7,7 @@ use Rattle.std.proofs.lemmas.List.Splits.{join_with_byte-slice_split}
 use Rattle.image_shape.specs.declared.window.Window.{Window}
 use Rattle.text_model.specs.Fields.{window_text, IsWord, IsPixel, IsWindow}
 use Rattle.text_model.specs.Parts.{parts_of}
-use Rattle.text_model.specs.Reading.{◌>>=◌, is_nil, number_of, first_of_parts, number_at, window_in, window_of, each_of, pixel_of}
+use Rattle.text_model.specs.Reading.{◌>>=◌, number_of, first_of_parts, window_in, window_of, each_of, pixel_of}
 use Rattle.text_model.proofs.FieldNumbers.{number_of-is, number_of-decimal}
 use Rattle.text_model.proofs.PartsJoined.{lacks, AllLack, parts_of-join, lacks-join, lacks-decimal}
 use Rattle.text_model.proofs.Options.{some_is, bind_some, map_some, guard_some, nil_is}
@@ -46,9 +46,7 @@ then fields first rest known e more = e ∙ ap (λ (l : List (List ℕ)). first 
 pub each_is : {A : Type 0} (read : List ℕ → Option A) (text : A → List ℕ) (Is : A → Type 0) → ReadsText read text Is
     → (fields : List (List ℕ)) (xs : List A) → each_of read fields ≡ Some xs → (fields ≡ map text xs) × AllByRecursion Is xs
 unfolding each_of
-each_is {A} read text Is law [] xs e =
-    let P : List A → Type 0 = λ ys. ([] ≡ map text ys) × AllByRecursion Is ys in
-    subst P (some_is [] xs e) (refl, tt)
+each_is {A} read text Is law [] xs e = grind (arith, some_is)
 each_is {A} read text Is law (field ∷ fields) xs e =
     let P : List A → Type 0 = λ ys. ((field ∷ fields) ≡ map text ys) × AllByRecursion Is ys in
     let a = bind_some (read field) (λ value. each_of read fields >>= λ values. Some (value ∷ values)) xs e in
@@ -70,17 +68,11 @@ number_law = record { is = number_of-is; back = number_of-decimal }
 
 pixel_is : (field : List ℕ) (p : ℕ) → pixel_of field ≡ Some p → (field ≡ decimal p) × IsPixel p
 unfolding pixel_of
-pixel_is field p e =
-    let a = bind_some (number_of field) (λ value. cond (leb value 255) (Some value) None) p e in
-    let g = guard_some (leb a.0 255) a.0 p a.2 in
-    let n = number_of-is field a.0 a.1 in
-    (n.0 ∙ ap decimal g.1, (let small : a.0 ≤ 255 = leb-true a.0 255 g.0 in omega (arith, small, g.1)))
+pixel_is field p e = grind (arith, leb-true, number_of-is, bind_some, guard_some)
 
 pixel_back : (p : ℕ) → IsPixel p → pixel_of (decimal p) ≡ Some p
 unfolding pixel_of
-pixel_back p lt =
-    let small : leb p 255 ≡ true = le-leb p 255 (omega arith) in
-    rw (number_of-decimal p (omega arith)) (rw small refl)
+pixel_back p lt = grind (arith, le-leb, number_of-decimal)
 
 pub pixel_law : ReadsText pixel_of decimal IsPixel
 pixel_law = record { is = pixel_is; back = pixel_back }
@@ -95,20 +87,7 @@ made_window left top width height = record { left = left; top = top; width = wid
 
 window_in-is : (parts : List (List ℕ)) (w : Window) → window_in parts ≡ Some w → (parts ≡ window_parts w) × IsWindow w
 unfolding window_in
-window_in-is parts w e =
-    let number = first_is number_of decimal IsWord number_law in
-    let a = bind_some (number_at parts) (λ left. number_at left.1 >>= λ top. number_at top.1 >>= λ width. number_at width.1 >>= λ height. cond (is_nil height.1) (Some (made_window left.0 top.0 width.0 height.0)) None) w e in
-    let b = bind_some (number_at a.0.1) (λ top. number_at top.1 >>= λ width. number_at width.1 >>= λ height. cond (is_nil height.1) (Some (made_window a.0.0 top.0 width.0 height.0)) None) w a.2 in
-    let c = bind_some (number_at b.0.1) (λ width. number_at width.1 >>= λ height. cond (is_nil height.1) (Some (made_window a.0.0 b.0.0 width.0 height.0)) None) w b.2 in
-    let d = bind_some (number_at c.0.1) (λ height. cond (is_nil height.1) (Some (made_window a.0.0 b.0.0 c.0.0 height.0)) None) w c.2 in
-    let made = made_window a.0.0 b.0.0 c.0.0 d.0.0 in
-    let end = guard_some (is_nil d.0.1) made w d.2 in
-    let at = number parts a.0 a.1 in
-    let bt = number a.0.1 b.0 b.1 in
-    let ct = number b.0.1 c.0 c.1 in
-    let dt = number c.0.1 d.0 d.1 in
-    let whole : parts ≡ window_parts made = then parts _ _ _ at.0 (then a.0.1 _ _ _ bt.0 (then b.0.1 _ _ _ ct.0 (then c.0.1 _ _ _ dt.0 (nil_is d.0.1 end.0)))) in
-    subst (λ (v : Window). (parts ≡ window_parts v) × IsWindow v) end.1 (whole, record { left = at.1; top = bt.1; width = ct.1; height = dt.1 })
+window_in-is parts w e = grind (arith, bind_some, guard_some, nil_is, first_is, number_law)
 
 window_in-back : (w : Window) → IsWindow w → window_in (window_parts w) ≡ Some w
 unfolding window_in
@@ -122,8 +101,7 @@ window_in-back w is =
     ) refl
 
 lacks-window_parts : (c : ℕ) (w : Window) → c < 48 → IsWindow w → AllLack c (window_parts w)
-lacks-window_parts c w small is =
-    (lacks-decimal c w.left small is.left, (lacks-decimal c w.top small is.top, (lacks-decimal c w.width small is.width, (lacks-decimal c w.height small is.height, tt))))
+lacks-window_parts c w small is = grind (arith, lacks-decimal, is)
 
 -- bytes whose parts are known are those parts joined
 pub join_is : (c : ℕ) (bytes : List ℕ) (pieces : List (List ℕ)) → parts_of c bytes ≡ pieces → bytes ≡ join_with_byte c pieces
@@ -135,8 +113,7 @@ window_is part w e = let a = window_in-is (parts_of 44 part) w e in (join_is 44 
 
 window_back : (w : Window) → IsWindow w → window_of (window_text w) ≡ Some w
 unfolding window_text
-window_back w is =
-    ap window_in (parts_of-join 44 (decimal w.left) (decimal w.top ∷ decimal w.width ∷ decimal w.height ∷ []) (lacks-window_parts 44 w (omega arith) is)) ∙ window_in-back w is
+window_back w is = search (rules, parts_of-join, is, window_in-back, lacks-window_parts)
 
 pub window_law : ReadsText window_of window_text IsWindow
 window_law = record { is = window_is; back = window_back }

@@ -1,5 +1,5 @@
 -- Bytes that are cut where a byte first stands.
-use Rattle.std.proofs.Common.{◌≡◌, ℕ, ◌+◌, ◌-◌, ◌<◌, ◌≤◌, Bool, true, false, cond, ltb, not, suc, List, [], ◌∷◌, length, take, drop, Some, None, refl, ap, arith}
+use Rattle.std.proofs.Common.{◌≡◌, ℕ, ◌+◌, ◌-◌, ◌≤◌, Bool, true, false, cond, not, suc, List, [], ◌∷◌, length, take, drop, Some, None, refl, ap, arith}
 use Rattle.std.specs.List.{slice_split, position, position_or_len, onto_first}
 use Rattle.std.proofs.lemmas.List.{take_rest}
 use Rattle.std.proofs.lemmas.List.Splits.{slice_split_first, length-slice_split}
@@ -14,10 +14,7 @@ no_position true n e = absurd cc
 no_position false n e = refl
 
 pub slice_split-at : (p : ℕ → Bool) (xs : List ℕ) (at : ℕ) → position p xs ≡ Some at → slice_split p xs ≡ take at xs ∷ slice_split p (take (length xs - (at + 1)) (drop (at + 1) xs))
-slice_split-at p xs at e =
-    let found = position_cases (ltb (position_or_len p xs) (length xs)) (position_or_len p xs) at e in
-    let within : position_or_len p xs < length xs = grind (arith, nat_tests) in
-    rw (take_rest xs (at + 1)) (rw (← found.1) (slice_split_first p xs 0 within))
+slice_split-at p xs at e = grind (arith, take_rest, slice_split_first, nat_tests, position_cases)
 
 split_none_step : (p : ℕ → Bool) (b : Bool) (x : ℕ) (xs : List ℕ) (n : ℕ) → suc (length xs) ≤ cond (not b) (1 + n) 0 → (length xs ≤ n → slice_split p xs ≡ xs ∷ [])
     → cond b ([] ∷ slice_split p xs) (onto_first x (slice_split p xs)) ≡ (x ∷ xs) ∷ []
@@ -29,10 +26,7 @@ split_none p [] h = refl
 split_none p (x ∷ xs) h = split_none_step p (p x) x xs (position_or_len p xs) h (split_none p xs)
 
 pub slice_split-whole : (p : ℕ → Bool) (xs : List ℕ) → position p xs ≡ None → slice_split p xs ≡ xs ∷ []
-slice_split-whole p xs e =
-    let missed = no_position (ltb (position_or_len p xs) (length xs)) (position_or_len p xs) e in
-    let past : length xs ≤ position_or_len p xs = grind (arith, nat_tests) in
-    split_none p xs past
+slice_split-whole p xs e = grind (arith, nat_tests, no_position, split_none)
 
 pub split_nonempty : (p : ℕ → Bool) (xs : List ℕ) → slice_split p xs ≡ [] → ⊥
 split_nonempty p xs e = omega (arith, length-slice_split p xs, ap length e)

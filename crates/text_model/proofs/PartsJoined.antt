@@ -1,5 +1,5 @@
 -- Pieces without a byte, joined by it and cut at it again.
-use Rattle.std.proofs.Common.{◌≡◌, ◌≢◌, ℕ, ◌+◌, ◌^◌, ◌<◌, ◌%◌, Bool, true, false, not, ◌&&◌, eqb, List, [], ◌∷◌, ◌++◌, refl, ap, ◌∙◌, inl, inr, arith}
+use Rattle.std.proofs.Common.{◌≡◌, ◌≢◌, ℕ, ◌+◌, ◌^◌, ◌<◌, ◌%◌, Bool, true, false, not, ◌&&◌, eqb, List, [], ◌∷◌, ◌++◌, refl, inl, inr, arith}
 use Rattle.std.specs.List.{join_with_byte, AllByRecursion}
 use Rattle.std.specs.Fmt.{decimal}
 use Rattle.std.proofs.lemmas.Fmt.{decimal_by_steps}
@@ -48,15 +48,11 @@ parts_of-one c (x ∷ xs) p =
 -- pieces that are joined are cut again at the same places
 pub parts_of-join : (c : ℕ) (piece : List ℕ) (pieces : List (List ℕ)) → AllLack c (piece ∷ pieces) → parts_of c (join_with_byte c (piece ∷ pieces)) ≡ piece ∷ pieces
 parts_of-join c piece [] h = parts_of-one c piece h.0
-parts_of-join c piece (next ∷ more) h =
-    parts_of-at c piece (join_with_byte c (next ∷ more)) h.0 ∙ ap (λ (l : List (List ℕ)). piece ∷ l) (parts_of-join c next more h.1)
+parts_of-join c piece (next ∷ more) h = grind (arith, parts_of-at, parts_of-join c next more h.1)
 
 pub lacks-join : (c separator : ℕ) (pieces : List (List ℕ)) → separator ≢ c → AllLack c pieces → lacks c (join_with_byte separator pieces) ≡ true
-lacks-join c separator [] ne h = refl
-lacks-join c separator (piece ∷ []) ne h = h.0
-lacks-join c separator (piece ∷ next ∷ more) ne h =
-    lacks-append c piece (separator ∷ join_with_byte separator (next ∷ more)) h.0
-    (rw (other_eqb separator c ne, lacks-join c separator (next ∷ more) ne h.1) refl)
+lacks-join c separator (piece ∷ next ∷ more) ne h = grind (arith, other_eqb, lacks-append, lacks-join c separator (next ∷ more) ne h.1)
+lacks-join c separator _ ne h = grind arith
 
 lacks-digit : (c k : ℕ) → c < 48 → lacks c ((48 + k) ∷ []) ≡ true
 lacks-digit c k small = rw (other_eqb (48 + k) c (λ e. omega (arith, e, small))) refl

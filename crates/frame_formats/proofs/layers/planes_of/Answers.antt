@@ -8,10 +8,7 @@ use Rattle.frame_formats.proofs.StepsEach.{one_more, one_stops, all_done, tells_
 use Rattle.frame_formats.proofs.layers.planes_of.Goals as goal
 
 pub returns-in-Err-clause-fault : goal.returns-in-Err-clause-fault
-returns-in-Err-clause-fault c =
-    let a = c.args in
-    let made = λ (layer : Layer). job_on layer a.width a.height a.steps.now in
-    tells_more _ _ c.in-Err.fault (λ none. one_stops made (map job_of c.loop-layer.planes.items) a.layers.now c.loop-layer.layer-index _ _ (omega arith) none c.loop-layer.invariant) c.in-Err.ensures.fault
+returns-in-Err-clause-fault c = grind (arith, one_stops, tells_more)
 
 pub loop-layer-preserved : goal.loop-layer-preserved
 loop-layer-preserved c =

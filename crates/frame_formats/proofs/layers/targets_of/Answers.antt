@@ -7,9 +7,7 @@ use Rattle.frame_formats.proofs.StepsEach.{one_more, one_stops, all_done}
 use Rattle.frame_formats.proofs.layers.targets_of.Goals as goal
 
 pub returns-in_default-clause-fault : goal.returns-in_default-clause-fault
-returns-in_default-clause-fault c =
-    let a = c.args in
-    one_stops (λ layer. resizing_on layer a.width a.height a.resize) (map resizing_of c.loop-layer.targets.items) a.layers.now c.loop-layer.layer-index _ _ (omega arith) (sym c.in_default.ensures) c.loop-layer.invariant
+returns-in_default-clause-fault c = grind (arith, one_stops)
 
 pub loop-layer-preserved : goal.loop-layer-preserved
 loop-layer-preserved c =

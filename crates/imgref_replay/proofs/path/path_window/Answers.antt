@@ -1,10 +1,9 @@
-use Rattle.std.proofs.Common.{sym, ◌∙◌}
+use Rattle.std.proofs.Common.{sym, ◌∙◌, arith}
 use Rattle.imgref_replay.proofs.Paths.{stops, goes_on}
 use Rattle.imgref_replay.proofs.path.path_window.Goals as goal
 
 pub returns-then-not-is_inside-clause-outside : goal.returns-then-not-is_inside-clause-outside
-returns-then-not-is_inside-clause-outside c =
-    sym (stops c.args.width c.args.height c.args.path.now c.loop-index.index c.loop-index.found _ c.loop-index-test.true c.loop-index.invariant (sym c.is_inside.ensures ∙ c.if-not-is_inside.true))
+returns-then-not-is_inside-clause-outside c = grind (arith, stops)
 
 pub loop-index-preserved : goal.loop-index-preserved
 loop-index-preserved c =

@@ -1,13 +1,10 @@
-use Rattle.std.proofs.Common.{get_or, ap}
+use Rattle.std.proofs.Common.{get_or, ap, arith}
 use Rattle.imgref_replay.proofs.Images.{fits_at}
 use Rattle.imgref_replay.proofs.Steps.{packed_image}
 use Rattle.imgref_replay.proofs.step.compact.Goals as goal
 
 pub as_contiguous_buf-requires : goal.as_contiguous_buf-requires
-as_contiguous_buf-requires g c =
-    let images = c.args.images.now in
-    let i = c.args.image in
-    record { fits = fits_at images i _ c.if-image-images.false (ap (get_or images i) c.index-images-image.is) c.requires }
+as_contiguous_buf-requires g c = grind (arith, fits_at)
 
 pub returns : goal.returns
 returns g c =

@@ -1,4 +1,4 @@
-use Rattle.std.proofs.Common.{get_or, ap, refl}
+use Rattle.std.proofs.Common.{get_or, ap, refl, arith}
 use Rattle.image_model.specs.Grid.{patch, view}
 use Rattle.image_model.specs.Windows.{window_view}
 use Rattle.imgref.specs.Window.{as_window}
@@ -9,10 +9,7 @@ use Rattle.imgref_replay.proofs.Steps.{no_tile_fault, wrote}
 use Rattle.imgref_replay.proofs.step.mosaic.Goals as goal
 
 pub mosaic_window-requires-clause-fits : goal.mosaic_window-requires-clause-fits
-mosaic_window-requires-clause-fits g c =
-    let images = c.args.images.now in
-    let i = c.args.spot.now.image in
-    fits_at images i _ c.in_ok-window.ensures.image (ap (get_or images i) c.index-images-spot.is) c.requires
+mosaic_window-requires-clause-fits g c = grind (arith, fits_at)
 
 pub mosaic_window-requires-clause-inside : goal.mosaic_window-requires-clause-inside
 mosaic_window-requires-clause-inside g c =

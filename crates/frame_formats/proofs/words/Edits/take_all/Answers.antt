@@ -2,7 +2,6 @@
 use Rattle.std.proofs.Common.{◌≡◌, ℕ, ◌+◌, ◌<◌, ◌-◌, List, Bor, length, map, take, drop, sym, subst, ap, ◌∙◌, arith, length-drop, take_all}
 use Rattle.std.proofs.lemmas.List.{drop-map, drop-drop, length-map}
 use Rattle.frame_formats.specs.Lists.{AreEdits, Adds}
-use Rattle.frame_formats.specs.Words.{edit_at}
 use Rattle.frame_formats.specs.declared.words.Edits.{Edits}
 use Rattle.frame_formats.proofs.EditsEach.{Taken, adds_more, edits_left, none_at}
 use Rattle.frame_formats.proofs.words.Edits.take_all.Goals as goal
@@ -31,13 +30,4 @@ loop-at-preserved c =
     }
 
 pub returns-in-Err-clause-none : goal.returns-in-Err-clause-none
-returns-in-Err-clause-none c fault edits are =
-    let ws : List (List ℕ) = map (λ w. w.now) c.args.words.now in
-    let at : ℕ = c.loop-at.at in
-    let words : List (Bor (List ℕ)) = c.args.words.now in
-    let count : ℕ = length words - at in
-    let here : drop at ws ≡ map (λ w. w.now) (take count (drop at words)) =
-    drop-map (λ (w : Bor (List ℕ)). w.now) at words ∙ ap (λ (l : List (Bor (List ℕ))). map (λ w. w.now) l) (sym (take_all count (drop at words) (omega (arith, length-drop at words)))) in
-    let some : 0 < length (drop at ws) = omega (arith, length-drop at ws, length-map c.args.words.now (λ w. w.now)) in
-    let left = c.loop-at.invariant.less edits are in
-    none_at (drop at ws) c.loop-at.self left.0 (λ first. ap edit_at here ∙ c.in-Err.ensures.none fault first) some left.1
+returns-in-Err-clause-none c fault edits are = grind (arith, length-drop, take_all, drop-map, length-map, none_at)

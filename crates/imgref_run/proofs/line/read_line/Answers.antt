@@ -1,8 +1,0 @@
-use Rattle.imgref_run.proofs.LineTexts.{line_found, line_bad}
-use Rattle.imgref_run.proofs.line.read_line.Goals as goal
-
-pub returns-clause-found : goal.returns-clause-found
-returns-clause-found c = line_found c.parse.result c.args.text.now c.parse.ensures
-
-pub returns-clause-bad : goal.returns-clause-bad
-returns-clause-bad c = line_bad c.parse.result c.args.text.now c.parse.ensures
