@@ -34,7 +34,7 @@ CASES = [
     ("row_mover", "moves", "move_rows", ["cells"], "image_ops", "moving::with_moved_window", []),
     ("image_ops", "moving", "with_moved_window", ["grid"], "image_ops", "moving::move_pixels", []),
     ("image_ops", "moving", "move_pixels", ["grid"], "imgref", "img::Img::move_inside", []),
-    ("imgref", "blit", "move_inside", ["grid"], "imgref_replay", "copy::copy_window", ["move_window"]),
+    ("imgref", "blit", "move_inside", ["grid"], "imgref_replay", "copy::copy_between", ["move_window"]),
     ("imgref", "blit", "copy_window", ["grid"], "imgref_replay", "copy::copy_over", []),
 ]
 

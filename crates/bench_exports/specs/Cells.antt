@@ -5,7 +5,7 @@ use Rattle.image_model.specs.Layout.{layout, Fits}
 -- cells that are an image of this size and stride, as `Img::new_stride` and each call on it ask
 pub record IsImage {T : Type 0} (cells : List T) (width height stride : ℕ) : Type 0 where
   pub stride_positive : 1 ≤ stride
-  pub width_within : width ≤ stride
-  pub width_fits : width < 2 ^ 32
-  pub height_fits : height < 2 ^ 32
+  pub holds_width : width ≤ stride
+  pub width_bound : width < 2 ^ 32
+  pub height_bound : height < 2 ^ 32
   pub fits : Fits (layout cells width height stride)

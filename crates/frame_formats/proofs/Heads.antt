@@ -97,14 +97,14 @@ height_ends : (colour : Bool) (width height : ℕ) → 0 < height → scanned (s
 height_ends colour width height some = let no : eqb height 0 ≡ false = grind arith in rw no refl
 
 pub reads_back : (p : Picture) → 0 < p.width → p.width < 2 ^ 32 → 0 < p.height → p.height < 2 ^ 32 → picture_of (head_text p) ≡ Some p
-reads_back p columns width_fits rows height_fits =
+reads_back p columns width_bound rows height_bound =
     let wide = 10 ∷ decimal p.width in
     let high = 32 ∷ decimal p.height in
     let greatest = 10 ∷ codes "255" in
     let front = kind_text p.colour ++ wide in
-    let width_read : scanned start front ≡ more (Width p.colour (Some p.width)) = kind_read p.colour (decimal p.width) ∙ reads_decimal (Width p.colour) (reads_width p.colour) p.width width_fits in
+    let width_read : scanned start front ≡ more (Width p.colour (Some p.width)) = kind_read p.colour (decimal p.width) ∙ reads_decimal (Width p.colour) (reads_width p.colour) p.width width_bound in
     let height_read : scanned (more (Width p.colour (Some p.width))) high ≡ more (Height p.colour p.width (Some p.height)) =
-    ap (λ s. scanned s (decimal p.height)) (width_ends p.colour p.width columns) ∙ reads_decimal (Height p.colour p.width) (reads_height p.colour p.width) p.height height_fits in
+    ap (λ s. scanned s (decimal p.height)) (width_ends p.colour p.width columns) ∙ reads_decimal (Height p.colour p.width) (reads_height p.colour p.width) p.height height_bound in
     ap done_as (
     scanned-append start (front ++ high ++ greatest) (10 ∷ [])
     ∙ ap (λ s. scanned s (10 ∷ [])) (scanned-append start (front ++ high) greatest ∙ ap (λ s. scanned s greatest) (scanned-append start front high ∙ ap (λ s. scanned s high) width_read ∙ height_read))

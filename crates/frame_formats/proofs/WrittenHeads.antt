@@ -34,10 +34,10 @@ with_rows true o r e = absurd cc
 with_rows false o r e = (refl, e)
 
 finished_head : (p : Picture) (jobs : List Job) (f : Option Framing) (r : Recipe) → 0 < p.width → p.width < 2 ^ 32 → 0 < p.height → p.height < 2 ^ 32 → finished_picture p jobs f ≡ Some r → HasHead r
-finished_head p jobs None r columns width_fits rows height_fits made =
+finished_head p jobs None r columns width_bound rows height_bound made =
     let same : recipe (head_text p) p.colour jobs None ≡ r = cc in
-    (p, ap (λ (x : Recipe). picture_of x.head) (sym same) ∙ reads_back p columns width_fits rows height_fits)
-finished_head p jobs (Some framing) r columns width_fits rows height_fits made =
+    (p, ap (λ (x : Recipe). picture_of x.head) (sym same) ∙ reads_back p columns width_bound rows height_bound)
+finished_head p jobs (Some framing) r columns width_bound rows height_bound made =
     let step = bind_some (resize_for p.width p.height framing) (λ resize. cond (eqb (new_height resize) 0) None (option_map (resized_recipe p jobs resize) (resizings_on (picture_layers p.colour) p.width p.height resize))) r made in
     let resize : Resize = step.0 in
     let left = with_rows (eqb (new_height resize) 0) (option_map (resized_recipe p jobs resize) (resizings_on (picture_layers p.colour) p.width p.height resize)) r step.2 in

@@ -59,7 +59,7 @@ module _ {T : Type 0} (old : List T) (s : Shape) (tw th : ℕ) where
         let lines : y * s.stride ≡ (y - 1) * s.stride + s.stride = ap (λ n. n * s.stride) before ∙ (let e : (y - 1 + 1) * s.stride ≡ suc (y - 1) * s.stride = omega arith in e ∙ suc-mul (y - 1) s.stride) in
         let reached : y * s.stride + s.width ≤ length now = omega (arith, row_reached (length old) s.width s.height s.stride y fits below, so.as_many) in
         let copied : List T = take above.len (drop above.start now) in
-        let many : length copied ≡ s.width = omega (arith, count, same, lines, s.width_within, reached, length-take above.len (drop above.start now), length-drop above.start now) in
+        let many : length copied ≡ s.width = omega (arith, count, same, lines, s.holds_width, reached, length-take above.len (drop above.start now), length-drop above.start now) in
         subst (λ cells. Shown cells (y + 1))
         ((λ i. take (sym from i) now ++ (copied ++ drop (sym from i + sym count i) now)) ∙ sym (append_assoc (take row.start now) copied (drop (row.start + above.len) now)))
         (one_row_more _ old now s y so fits below copied many

@@ -39,7 +39,7 @@ module _ {T : Type 0} (IsRight : ℕ → ℕ → Option T → Type 0) (old now :
       so.others (y * s.stride + x) (record {
         no_place = λ u j inside line at.
             let next : (j + 1) * s.stride ≤ y * s.stride = mul-le-mul_right s.stride (omega arith) in
-            absurd (omega (arith, next, at, inside, s.width_within));
+            absurd (omega (arith, next, at, inside, s.holds_width));
       })
 
   module _ (fits : Fits (shaped old s)) (below : y < row_count s.width s.height) where
@@ -57,7 +57,7 @@ module _ {T : Type 0} (IsRight : ℕ → ℕ → Option T → Type 0) (old now :
               elim (cases_lt j y) [
                 | inl earlier ↦
                     let next : (j + 1) * s.stride ≤ y * s.stride = mul-le-mul_right s.stride (omega arith) in
-                    subst (IsRight x j) (sym (with_stretch_beside now row line inside long (j * s.stride + x) (inl (omega (arith, next, s.width_within))))) (so.each x j column earlier)
+                    subst (IsRight x j) (sym (with_stretch_beside now row line inside long (j * s.stride + x) (inl (omega (arith, next, s.holds_width))))) (so.each x j column earlier)
                 | inr last ↦
                     let this : y ≡ j = omega (arith, upto, last) in
                     subst (λ n. IsRight x n (slice_get new (n * s.stride + x))) this (subst (IsRight x y) (sym (with_stretch_at now row line inside x (omega (arith, long)))) (right x column))

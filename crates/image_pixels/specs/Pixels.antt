@@ -45,8 +45,8 @@ module _ {T : Type 0} where
   muts_left s = pick (marks_left s) (cells_left s)
 
   -- the borrow of these cells
-  abbrev pub name_of : PixelsIterMut T → GName
-  name_of s = s.name
+  abbrev pub pixels_name : PixelsIterMut T → GName
+  pixels_name s = s.name
 
   -- what lent them
   abbrev pub lender_of : PixelsIterMut T → GName
@@ -69,8 +69,8 @@ module _ {T : Type 0} where
 -- the final cells of s: those passed over, the pixel's final value, and the final cells of t
 abbrev pub hands_on : (R : RattleType) → PixelsIterMut R.Denot → Option (MutBor R.Denot) → PixelsIterMut R.Denot → Fml
 hands_on R s None t = ftrue
-hands_on R s (Some x) t = follows_both (Array R 0) R (Array R 0) (name_of s) x.ghost_name (name_of t) (λ w ws. passed s ++ w ∷ ws)
+hands_on R s (Some x) t = follows_both (Array R 0) R (Array R 0) (pixels_name s) x.ghost_name (pixels_name t) (λ w ws. passed s ++ w ∷ ws)
 
 -- the final cells of s are those that it has now
 abbrev pub leaves_as : (R : RattleType) → PixelsIterMut R.Denot → Fml
-leaves_as R s = fres (name_of s) ((coded_list R.coded).code (cells_left s))
+leaves_as R s = fres (pixels_name s) ((coded_list R.coded).code (cells_left s))

@@ -23,9 +23,9 @@ impl Counts {
         ensures rows_left { result.rows_left ≡ rows_after (shape_width shape) (shape_height shape) }
         ensures width { result.width ≡ shape_width shape }
         ensures pad { result.pad ≡ shape_stride shape - shape_width shape }
-        ensures narrow { shape_width shape ≤ shape_stride shape }
-        ensures width_fits { shape_width shape < 2 ^ 32 }
-        ensures height_fits { shape_height shape < 2 ^ 32 }
+        ensures holds_width { shape_width shape ≤ shape_stride shape }
+        ensures width_bound { shape_width shape < 2 ^ 32 }
+        ensures height_bound { shape_height shape < 2 ^ 32 }
     {
         let width = shape.width();
         Counts {

@@ -41,7 +41,7 @@ impl<'a, T> Model for PixelsIterMut<'a, T> {
 
 impl<'a, T> PixelsIterMut<'a, T> {
     ghost use Rattle.image_pixels.specs.Marks.{pick, marks, marks_of};
-    ghost use Rattle.image_pixels.specs.Pixels.{muts_left, cells_left, marks_left, name_of, hands_on, ArePixels, Moves};
+    ghost use Rattle.image_pixels.specs.Pixels.{muts_left, cells_left, marks_left, pixels_name, hands_on, ArePixels, Moves};
 
     // The first `remaining` cells, and then `rows_left` rows of `width` cells with `pad` before each.
     fn from_counts(
@@ -53,7 +53,7 @@ impl<'a, T> PixelsIterMut<'a, T> {
     ) -> PixelsIterMut<'a, T>
         requires reaches { remaining + rows_left * (pad + width) ≤ length cells.old }
         requires wide { 0 < rows_left → 0 < width }
-        ensures name { name_of result ≡ cells.entry.ghost_name }
+        ensures name { pixels_name result ≡ cells.entry.ghost_name }
         ensures cells { cells_left result ≡ cells.old }
         ensures marks { marks_left result ≡ marks remaining rows_left width pad }
         ensures pixels { muts_left result ≡ pick (marks remaining rows_left width pad) cells.old }
@@ -74,7 +74,7 @@ impl<'a, T> PixelsIterMut<'a, T> {
     /// The cursor holds the borrow of the cells: the final cells are those that it and its items leave.
     pub fn new(cells: &'a mut [T], shape: Shape) -> PixelsIterMut<'a, T>
         requires fits { Fits (shaped cells.old shape) }
-        ensures name { name_of result ≡ cells.entry.ghost_name }
+        ensures name { pixels_name result ≡ cells.entry.ghost_name }
         ensures cells { cells_left result ≡ cells.old }
         ensures marks { marks_left result ≡ marks_of (shape_width shape) (shape_height shape) (shape_stride shape) }
         ensures whole { ArePixels (shaped cells.old shape) (muts_left result) }

@@ -16,8 +16,8 @@ pub struct Plane {
     height: usize,
     steps: Vec<Step<u8>>,
     ghost wide: { 0 < width },
-    ghost width_fits: { width < 2 ^ 32 },
-    ghost height_fits: { height < 2 ^ 32 },
+    ghost width_bound: { width < 2 ^ 32 },
+    ghost height_bound: { height < 2 ^ 32 },
     ghost inside: { IsTrue (are_inside width height steps.items) },
 }
 

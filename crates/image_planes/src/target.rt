@@ -36,8 +36,8 @@ pub struct Target {
     height: usize,
     resize: Resize,
     ghost wide: { 0 < width },
-    ghost width_fits: { width < 2 ^ 32 },
-    ghost height_fits: { height < 2 ^ 32 },
+    ghost width_bound: { width < 2 ^ 32 },
+    ghost height_bound: { height < 2 ^ 32 },
     ghost inside: { IsTrue (is_resize_of width height resize) },
 }
 
@@ -73,8 +73,8 @@ fn put_image(cells: &mut [u8], shape: Shape, window: Window, source: ImgRef<'_, 
 fn crop_image(source: ImgRef<'_, u8>, window: Window, target: &mut [u8])
     requires fits { Fits (ref_layout source) }
     requires wide { 0 < window.width }
-    requires width_fits { window.width < 2 ^ 32 }
-    requires height_fits { window.height < 2 ^ 32 }
+    requires width_bound { window.width < 2 ^ 32 }
+    requires height_bound { window.height < 2 ^ 32 }
     requires inside { IsInside (width_of source) (height_of source) (as_window window) }
     requires room { length target.old ≡ window.width * window.height }
     ensures { target.new ≡ grid_pixels (window_view (grid_of (ref_layout source.entry)) (as_window window)) }
@@ -118,8 +118,8 @@ fn pad_image(
     requires same_width { width_of source ≡ place.width }
     requires same_height { height_of source ≡ place.height }
     requires wide { 0 < width }
-    requires width_fits { width < 2 ^ 32 }
-    requires height_fits { height < 2 ^ 32 }
+    requires width_bound { width < 2 ^ 32 }
+    requires height_bound { height < 2 ^ 32 }
     requires inside { IsInside width height (as_window place) }
     requires room { length target.old ≡ width * height }
     ensures { target.new ≡ grid_pixels (patch (uniform width height value) place.left place.top (grid_of (ref_layout source.entry))) }
@@ -154,8 +154,8 @@ impl Resize {
 
     // The size then, without padding.
     fn shape(&self, width: usize, height: usize) -> Shape
-        requires width_fits { width < 2 ^ 32 }
-        requires height_fits { height < 2 ^ 32 }
+        requires width_bound { width < 2 ^ 32 }
+        requires height_bound { height < 2 ^ 32 }
         requires wide { 0 < width }
         requires inside { IsTrue (is_resize_of width height self.now) }
         ensures width { shape_width result ≡ new_width self.now }

@@ -83,11 +83,11 @@ module _ {T : Type 0} where
   given_at First s t row one is_row is_kept is_rest =
       let p = s.spacing in
       let end : p.skip + p.width ≡ outer_cut First 1 p = ap (λ n. p.skip + n) (sym (one_row p)) in
-      first_off s.cells.now p.skip p.width p.stride p.count (s.some one) one s.wide
+      first_off s.cells.now p.skip p.width p.stride p.count (s.some one) one s.holds_width
       ∙ ap₂ (λ r rs. r ∷ rs) (ap (λ n. drop p.skip (take n s.cells.now)) end ∙ sym is_row) (ap (λ n. rows_in (without First 1 p) (drop n s.cells.now)) end ∙ ap₂ rows_in (sym is_rest) (sym is_kept))
   given_at Last s t row one is_row is_kept is_rest =
       let p = s.spacing in
-      last_off s.cells.now p.skip p.width p.stride p.count (s.some one) one s.wide
+      last_off s.cells.now p.skip p.width p.stride p.count (s.some one) one s.holds_width
       ∙ ap₂ (λ r rs. rs ++ r ∷ []) (ap (λ n. take n (drop (outer_cut Last 1 p) s.cells.now)) (sym (one_row p)) ∙ sym is_row) (ap₂ rows_in (sym is_rest) (sym is_kept))
 
   -- without a row there is no step

@@ -45,8 +45,8 @@ module _ {T : Type 0} where
   cells_left s = s.cells.now
 
   -- the borrow of these cells
-  abbrev pub name_of : RowsIterMut T → GName
-  name_of s = s.cells.ghost_name
+  abbrev pub rows_name : RowsIterMut T → GName
+  rows_name s = s.cells.ghost_name
 
   -- how the rows lie in these cells
   abbrev pub spacing_left : RowsIterMut T → Spacing
@@ -75,4 +75,4 @@ module _ {T : Type 0} where
 -- the final cells of s: those let go, the row's final cells, and the final cells of t
 abbrev pub hands_on : (R : RattleType) → End → RowsIterMut R.Denot → Option (MutBor (List R.Denot)) → RowsIterMut R.Denot → Fml
 hands_on R end s None t = ftrue
-hands_on R end s (Some row) t = follows_both (Array R 0) (Array R 0) (Array R 0) (name_of s) row.ghost_name (name_of t) (put_back end s)
+hands_on R end s (Some row) t = follows_both (Array R 0) (Array R 0) (Array R 0) (rows_name s) row.ghost_name (rows_name t) (put_back end s)

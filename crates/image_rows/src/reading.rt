@@ -19,7 +19,7 @@ pub struct RowsIter<'a, T> {
     width: usize,
     stride: usize,
     ghost some: { 0 < count → 0 < width },
-    ghost wide: { width ≤ stride },
+    ghost holds_width: { width ≤ stride },
     ghost fits: { Fits (layout cells.now width count stride) },
 }
 

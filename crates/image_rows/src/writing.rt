@@ -21,17 +21,17 @@ pub struct RowsIterMut<'a, T> {
     cells: &'a mut [T],
     spacing: Spacing,
     ghost some: { 0 < spacing.count → 0 < spacing.width },
-    ghost wide: { spacing.width ≤ spacing.stride },
+    ghost holds_width: { spacing.width ≤ spacing.stride },
     ghost fits: { 0 < spacing.count → spacing.skip + (spacing.stride * (spacing.count - 1) + spacing.width) ≤ length cells.now },
 }
 
 impl<'a, T> RowsIterMut<'a, T> {
-    ghost use Rattle.image_rows.specs.Rows.{muts_left, cells_left, name_of, spacing_left, Yields, Moves, hands_on};
+    ghost use Rattle.image_rows.specs.Rows.{muts_left, cells_left, rows_name, spacing_left, Yields, Moves, hands_on};
 
     /// The rows of cells in a shape that they fit, for writing.
     pub fn new(cells: &'a mut [T], shape: Shape) -> RowsIterMut<'a, T>
         requires fits { Fits (shaped cells.old shape) }
-        ensures name { name_of result ≡ cells.entry.ghost_name }
+        ensures name { rows_name result ≡ cells.entry.ghost_name }
         ensures cells { cells_left result ≡ cells.old }
         ensures spacing { spacing_left result ≡ whole_spacing (shape_width shape) (shape_height shape) (shape_stride shape) }
         ensures rows { muts_left result ≡ rows_of (shaped cells.old shape) }

@@ -20,7 +20,7 @@ pub struct Shape {
     height: u32,
     stride: usize,
     ghost stride_positive: { 1 ≤ stride },
-    ghost width_within: { width ≤ stride },
+    ghost holds_width: { width ≤ stride },
 }
 
 impl Shape {
@@ -30,9 +30,9 @@ impl Shape {
     /// The shape of `width` by `height` pixels whose rows begin `stride` cells apart.
     pub fn new(width: usize, height: usize, stride: usize) -> Shape
         requires stride_positive { 1 ≤ stride }
-        requires width_within { width ≤ stride }
-        requires width_fits { width < 2 ^ 32 }
-        requires height_fits { height < 2 ^ 32 }
+        requires holds_width { width ≤ stride }
+        requires width_bound { width < 2 ^ 32 }
+        requires height_bound { height < 2 ^ 32 }
         ensures width { shape_width result ≡ width }
         ensures height { shape_height result ≡ height }
         ensures stride { shape_stride result ≡ stride }
@@ -47,8 +47,8 @@ impl Shape {
     /// The number of pixels in a row.
     pub fn width(&self) -> usize
         ensures value { result ≡ shape_width self.now }
-        ensures within { shape_width self.now ≤ shape_stride self.now }
-        ensures fits { shape_width self.now < 2 ^ 32 }
+        ensures holds_width { shape_width self.now ≤ shape_stride self.now }
+        ensures bound { shape_width self.now < 2 ^ 32 }
     {
         self.width as usize
     }
@@ -56,7 +56,7 @@ impl Shape {
     /// The number of rows.
     pub fn height(&self) -> usize
         ensures value { result ≡ shape_height self.now }
-        ensures fits { shape_height self.now < 2 ^ 32 }
+        ensures bound { shape_height self.now < 2 ^ 32 }
     {
         self.height as usize
     }
@@ -66,7 +66,7 @@ impl Shape {
         ensures value { result ≡ shape_stride self.now }
         ensures positive { 1 ≤ shape_stride self.now }
         ensures holds_width { shape_width self.now ≤ shape_stride self.now }
-        ensures fits { shape_stride self.now < 2 ^ 64 }
+        ensures bound { shape_stride self.now < 2 ^ 64 }
     {
         self.stride
     }
@@ -83,7 +83,7 @@ impl Shape {
     /// The number of rows that have a pixel: without a column there is none.
     pub fn row_count(&self) -> usize
         ensures value { result ≡ row_count (shape_width self.now) (shape_height self.now) }
-        ensures fits { row_count (shape_width self.now) (shape_height self.now) < 2 ^ 32 }
+        ensures bound { row_count (shape_width self.now) (shape_height self.now) < 2 ^ 32 }
     {
         match self.width {
             0 => 0,

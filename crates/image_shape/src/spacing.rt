@@ -40,7 +40,7 @@ impl Spacing {
         ensures small { row_count (shape_width shape) (shape_height shape) < 2 ^ 32 }
         ensures positive { 1 ≤ shape_stride shape }
         ensures holds_width { shape_width shape ≤ shape_stride shape }
-        ensures width_fits { shape_width shape < 2 ^ 32 }
+        ensures width_bound { shape_width shape < 2 ^ 32 }
     {
         Spacing {
             skip: 0,

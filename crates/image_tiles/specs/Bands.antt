@@ -48,8 +48,8 @@ module _ {T : Type 0} where
   cells_left s = s.cells.now
 
   -- the borrow of these cells
-  abbrev pub name_of : BandsMut T → GName
-  name_of s = s.cells.ghost_name
+  abbrev pub bands_name : BandsMut T → GName
+  bands_name s = s.cells.ghost_name
 
   -- how the bands lie in these cells
   abbrev pub spacing_left : BandsMut T → BandSpacing
@@ -71,4 +71,4 @@ module _ {T : Type 0} where
 -- the final cells of s: those before the band, the band's final cells, and the final cells of t
 abbrev pub hands_on : (R : RattleType) → BandsMut R.Denot → Option (Img (MutBor (List R.Denot))) → BandsMut R.Denot → Fml
 hands_on R s None t = ftrue
-hands_on R s (Some band) t = follows_both (Array R 0) (Array R 0) (Array R 0) (name_of s) (buf_of band).ghost_name (name_of t) (put_back s)
+hands_on R s (Some band) t = follows_both (Array R 0) (Array R 0) (Array R 0) (bands_name s) (buf_of band).ghost_name (bands_name t) (put_back s)

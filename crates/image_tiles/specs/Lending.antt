@@ -30,9 +30,9 @@ module _ {C : Type 0} where
     after_tile with_cells padded s others = record s { img = with_window cells with_cells padded s.img (tile_now s.tiling) others; tiling = stepped s.tiling }
 
 -- the name under which the cells of the answered image are lent
-abbrev pub name_of : {T : Type 0} → Option (Img (MutBor (List T))) → maybe.Option GName
-name_of (Some i) = maybe.some (buf_of i).ghost_name
-name_of None = maybe.none
+abbrev pub tile_name : {T : Type 0} → Option (Img (MutBor (List T))) → maybe.Option GName
+tile_name (Some i) = maybe.some (buf_of i).ghost_name
+tile_name None = maybe.none
 
 -- how an image's container is read and written, a cursor, the windows that it still gives
 module _ {C T : Type 0} (cells : C → List T) (with_cells : C → Stretch → List T → C) (padded : Bool) (s : TileCursor C) (before : List Window) where

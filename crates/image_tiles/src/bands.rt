@@ -42,7 +42,7 @@ impl BandSpacing {
         requires some { 0 < self.rows.count }
         requires stride_positive { 1 ≤ self.rows.stride }
         requires holds_width { self.rows.width ≤ self.rows.stride }
-        requires width_fits { self.rows.width < 2 ^ 32 }
+        requires width_bound { self.rows.width < 2 ^ 32 }
         requires rows_fit { self.rows.count < 2 ^ 32 }
         requires high { 0 < self.band_height }
         requires reach { self.rows.skip + (self.rows.stride * (self.rows.count - 1) + self.rows.width) < 2 ^ 64 }
@@ -78,14 +78,14 @@ pub struct BandsMut<'a, T> {
     ghost some: { 0 < spacing.rows.count → 0 < spacing.rows.width },
     ghost stride_positive: { 1 ≤ spacing.rows.stride },
     ghost holds_width: { spacing.rows.width ≤ spacing.rows.stride },
-    ghost width_fits: { spacing.rows.width < 2 ^ 32 },
+    ghost width_bound: { spacing.rows.width < 2 ^ 32 },
     ghost rows_fit: { spacing.rows.count < 2 ^ 32 },
     ghost high: { 0 < spacing.band_height },
     ghost fits: { 0 < spacing.rows.count → spacing.rows.skip + (spacing.rows.stride * (spacing.rows.count - 1) + spacing.rows.width) ≤ length cells.now },
 }
 
 impl<'a, T> BandsMut<'a, T> {
-    ghost use Rattle.image_tiles.specs.Bands.{bands, band_windows, bands_left, name_of, cells_left, spacing_left, band_spacing, hands_on, Moves};
+    ghost use Rattle.image_tiles.specs.Bands.{bands, band_windows, bands_left, bands_name, cells_left, spacing_left, band_spacing, hands_on, Moves};
 
     /// The bands of an image, of `band_height` rows each. An image with no pixel has none.
     ///
@@ -96,7 +96,7 @@ impl<'a, T> BandsMut<'a, T> {
     pub fn new(img: ImgRefMut<'a, T>, band_height: usize) -> BandsMut<'a, T>
         requires fits { Fits (mut_layout img) }
         requires high { 0 < band_height }
-        ensures name { name_of result ≡ (buf_of img.entry).ghost_name }
+        ensures name { bands_name result ≡ (buf_of img.entry).ghost_name }
         ensures cells { cells_left result ≡ (buf_of img.entry).now }
         ensures spacing { spacing_left result ≡ band_spacing (width_of img.entry) (height_of img.entry) (stride_of img.entry) band_height }
         ensures bands { bands_left result ≡ bands (mut_layout img.entry) band_height }

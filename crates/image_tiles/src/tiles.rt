@@ -27,7 +27,7 @@ pub type TilesMut<'a, T> = TileCursor<&'a mut [T]>;
 
 impl<C: AsMutSlice> TileCursor<C> {
     ghost use Rattle.image_tiles.specs.contracts.tiles.TileCursor.{the_row};
-    ghost use Rattle.image_tiles.specs.Lending.{image_of, tiling_of, after_tile, name_of, IsNext, NextTile, tiles_left};
+    ghost use Rattle.image_tiles.specs.Lending.{image_of, tiling_of, after_tile, tile_name, IsNext, NextTile, tiles_left};
 
     /// The tiles of `tile_width` by `tile_height` pixels of an image: the windows of [`Tiling`], in
     /// its order.
@@ -127,7 +127,7 @@ impl<C: AsMutSlice> TileCursor<C> {
     /// Nothing is asked. An image whose cells no longer fit, since a tile was replaced by other
     /// cells, has no tile left.
     pub fn next_tile(&mut self) -> Option<Img<&mut [C::Item]>>
-        ensures* hands_on { sem 𝓛 (follows_if (the_row C.row) (Array C.Item.row 0) self.entry.ghost_name (name_of result) (after_tile C.AsSlice.cells C.with_cells C.padded_windows self.old) self.old) }
+        ensures* hands_on { sem 𝓛 (follows_if (the_row C.row) (Array C.Item.row 0) self.entry.ghost_name (tile_name result) (after_tile C.AsSlice.cells C.with_cells C.padded_windows self.old) self.old) }
         ensures gives { NextTile C.AsSlice.cells C.with_cells C.padded_windows self.old (tiles_left C.AsSlice.cells self.old) result }
     {
         let (this, left) = self.counted();

@@ -18,7 +18,7 @@ module _ {C : Type 0} where
 
   -- the size and the stride
   abbrev pub shape_of : Img C → Shape
-  shape_of i = record { width = i.width; height = i.height; stride = i.stride; stride_positive = i.stride_positive; width_within = i.width_within }
+  shape_of i = record { width = i.width; height = i.height; stride = i.stride; stride_positive = i.stride_positive; holds_width = i.holds_width }
 
   -- the number of columns
   abbrev pub width_of : Img C → ℕ

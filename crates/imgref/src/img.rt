@@ -23,7 +23,7 @@ pub struct Img<Container> {
     pub(crate) height: u32,
     pub(crate) stride: usize,
     ghost stride_positive: { 1 ≤ stride },
-    ghost width_within: { width ≤ stride },
+    ghost holds_width: { width ≤ stride },
 }
 
 /// An image that owns its pixels.
@@ -62,9 +62,9 @@ impl<Container> Img<Container> {
     /// height of at most `u32::MAX`. (The Rust crate panics else.)
     pub fn new_stride(buf: Container, width: usize, height: usize, stride: usize) -> Self
         requires stride_positive { 1 ≤ stride }
-        requires width_within { width ≤ stride }
-        requires width_fits { width < 2 ^ 32 }
-        requires height_fits { height < 2 ^ 32 }
+        requires holds_width { width ≤ stride }
+        requires width_bound { width < 2 ^ 32 }
+        requires height_bound { height < 2 ^ 32 }
         ensures buf { buf_of result ≡ buf }
         ensures width { width_of result ≡ width }
         ensures height { height_of result ≡ height }
@@ -86,8 +86,8 @@ impl<Container> Img<Container> {
     /// By comparing the numbers: a width of at least 1, a width and a height of at most `u32::MAX`.
     pub fn new(buf: Container, width: usize, height: usize) -> Self
         requires width_positive { 1 ≤ width }
-        requires width_fits { width < 2 ^ 32 }
-        requires height_fits { height < 2 ^ 32 }
+        requires width_bound { width < 2 ^ 32 }
+        requires height_bound { height < 2 ^ 32 }
         ensures buf { buf_of result ≡ buf }
         ensures width { width_of result ≡ width }
         ensures height { height_of result ≡ height }
@@ -131,8 +131,8 @@ impl<Container> Img<Container> {
     /// The number of pixels in a row.
     pub fn width(&self) -> usize
         ensures value { result ≡ width_of self.now }
-        ensures within { width_of self.now ≤ stride_of self.now }
-        ensures fits { width_of self.now < 2 ^ 32 }
+        ensures holds_width { width_of self.now ≤ stride_of self.now }
+        ensures bound { width_of self.now < 2 ^ 32 }
     {
         self.width as usize
     }
@@ -140,7 +140,7 @@ impl<Container> Img<Container> {
     /// The number of rows.
     pub fn height(&self) -> usize
         ensures value { result ≡ height_of self.now }
-        ensures fits { height_of self.now < 2 ^ 32 }
+        ensures bound { height_of self.now < 2 ^ 32 }
     {
         self.height as usize
     }
@@ -150,7 +150,7 @@ impl<Container> Img<Container> {
         ensures value { result ≡ stride_of self.now }
         ensures positive { 1 ≤ stride_of self.now }
         ensures holds_width { width_of self.now ≤ stride_of self.now }
-        ensures fits { stride_of self.now < 2 ^ 64 }
+        ensures bound { stride_of self.now < 2 ^ 64 }
     {
         self.stride
     }

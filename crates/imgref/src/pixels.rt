@@ -122,7 +122,7 @@ impl<C: AsMutSlice> Img<C> {
 
 impl<C: AsMutSlice> Img<C> {
     ghost use Rattle.image_pixels.specs.Marks.{marks_of};
-    ghost use Rattle.image_pixels.specs.Pixels.{muts_left, cells_left, marks_left, name_of, lender_of};
+    ghost use Rattle.image_pixels.specs.Pixels.{muts_left, cells_left, marks_left, pixels_name, lender_of};
     ghost use Rattle.imgref.specs.contracts.img.Img.{the_row};
     ghost use Rattle.imgref.specs.Image.{shape_of, stride_of, with_cells_of, KeepsCount, AnyCellsFit};
 
@@ -171,7 +171,7 @@ impl<C: AsMutSlice> Img<C> {
     /// The image fits: `is_valid`.
     pub fn exact_pixels_mut(&mut self) -> PixelsIterMut<'_, C::Item>
         requires fits { Fits (layout_by C.AsSlice.cells self.old) }
-        ensures* writes_back { sem 𝓛 (follows (the_row C.row) (Array C.Item.row 0) self.entry.ghost_name (name_of result) (with_all C.AsSlice.cells C.with_cells self.old)) }
+        ensures* writes_back { sem 𝓛 (follows (the_row C.row) (Array C.Item.row 0) self.entry.ghost_name (pixels_name result) (with_all C.AsSlice.cells C.with_cells self.old)) }
         ensures cells { cells_left result ≡ C.AsSlice.cells (buf_of self.old) }
         ensures marks { marks_left result ≡ marks_of (width_of self.old) (height_of self.old) (stride_of self.old) }
         ensures pixels { muts_left result ≡ pixels_of (layout_by C.AsSlice.cells self.old) }

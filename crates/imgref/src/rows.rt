@@ -4,7 +4,7 @@ ghost use Rattle.std.specs.Prelude.{◌≡◌, ◌^◌, ◌<◌, length, All};
 ghost use Rattle.std.specs.Borrow.{sem, follows, Array};
 ghost use Rattle.image_model.specs.Layout.{Fits};
 ghost use Rattle.image_model.specs.Rows.{rows as rows_of, row_count, grid_rows};
-ghost use Rattle.image_rows.specs.Rows.{refs_left, muts_left, cells_left, spacing_left, name_of};
+ghost use Rattle.image_rows.specs.Rows.{refs_left, muts_left, cells_left, spacing_left, rows_name};
 ghost use Rattle.image_shape.specs.Spacing.{whole_spacing};
 ghost use Rattle.imgref.specs.contracts.img.Img.{the_row};
 ghost use Rattle.imgref.specs.Image.{buf_of, width_of, height_of, stride_of, grid_by, layout_by, with_all, ref_grid, ref_layout};
@@ -60,7 +60,7 @@ impl<C: AsMutSlice> Img<C> {
     /// The image fits: `is_valid`.
     pub fn rows_mut(&mut self) -> RowsIterMut<'_, C::Item>
         requires fits { Fits (layout_by C.AsSlice.cells self.old) }
-        ensures* writes_back { sem 𝓛 (follows (the_row C.row) (Array C.Item.row 0) self.entry.ghost_name (name_of result) (with_all C.AsSlice.cells C.with_cells self.old)) }
+        ensures* writes_back { sem 𝓛 (follows (the_row C.row) (Array C.Item.row 0) self.entry.ghost_name (rows_name result) (with_all C.AsSlice.cells C.with_cells self.old)) }
         ensures cells { cells_left result ≡ C.AsSlice.cells (buf_of self.old) }
         ensures spacing { spacing_left result ≡ whole_spacing (width_of self.old) (height_of self.old) (stride_of self.old) }
         ensures rows { muts_left result ≡ rows_of (layout_by C.AsSlice.cells self.old) }

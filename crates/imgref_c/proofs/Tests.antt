@@ -10,9 +10,9 @@ unfolding is_image
 is_image_decides count width height stride = (
   λ e. record {
     stride_positive = grind (arith, nat_tests);
-    width_within = grind (arith, nat_tests);
-    width_fits = grind (arith, nat_tests);
-    height_fits = grind (arith, nat_tests);
+    holds_width = grind (arith, nat_tests);
+    width_bound = grind (arith, nat_tests);
+    height_bound = grind (arith, nat_tests);
     reaches = λ wide high. grind (arith, nat_tests);
   },
   λ h. grind (arith, nat_tests),

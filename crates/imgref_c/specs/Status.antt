@@ -19,9 +19,9 @@ code NoTile = 5
 -- so many cells are an image of this size and stride
 pub record IsImage (count width height stride : ℕ) : Type 0 where
   pub stride_positive : 1 ≤ stride
-  pub width_within : width ≤ stride
-  pub width_fits : width < 2 ^ 32
-  pub height_fits : height < 2 ^ 32
+  pub holds_width : width ≤ stride
+  pub width_bound : width < 2 ^ 32
+  pub height_bound : height < 2 ^ 32
   pub reaches : Reaches count width height stride
 
 -- the same as a test

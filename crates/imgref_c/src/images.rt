@@ -50,9 +50,9 @@ impl ClaimedShape {
     /// The same as a shape, where the numbers are those of one: `is_image` tells.
     pub(crate) fn shape(self) -> Shape
         requires stride_positive { 1 ≤ self.stride }
-        requires width_within { self.width ≤ self.stride }
-        requires width_fits { self.width < 2 ^ 32 }
-        requires height_fits { self.height < 2 ^ 32 }
+        requires holds_width { self.width ≤ self.stride }
+        requires width_bound { self.width < 2 ^ 32 }
+        requires height_bound { self.height < 2 ^ 32 }
         ensures width { shape_width result ≡ self.width }
         ensures height { shape_height result ≡ self.height }
         ensures stride { shape_stride result ≡ self.stride }

@@ -10,8 +10,8 @@ use image_shape::{tile_at, tiles_along};
 // How many tiles a size has.
 #[tactic(auto, using(crate::proofs::Numbering::count_fits, crate::proofs::Numbering::counted))]
 fn count_of(width: usize, height: usize, tile_width: usize, tile_height: usize) -> usize
-    requires width_fits { width < 2 ^ 32 }
-    requires height_fits { height < 2 ^ 32 }
+    requires width_bound { width < 2 ^ 32 }
+    requires height_bound { height < 2 ^ 32 }
     requires wide { 0 < tile_width }
     requires high { 0 < tile_height }
     ensures { result ≡ length (tiles width height tile_width tile_height) }

@@ -4,7 +4,7 @@ use Rattle.std.specs.Borrow.{Fml, RattleType, Array}
 use base.Fml.{fex, fsep, feq}
 use Rattle.borrow_laws.specs.Endings.{ends_as}
 use Rattle.image_model.specs.Grid.{Grid, grid}
-use Rattle.image_pixels.specs.Pixels.{cells_left, marks_left, name_of}
+use Rattle.image_pixels.specs.Pixels.{cells_left, marks_left, pixels_name}
 use Rattle.image_pixels.specs.declared.pixels_mut.PixelsIterMut.{PixelsIterMut}
 
 -- the grid with one value in its first pixels, row by row and from left to right: place (x, y) is number y * width + x
@@ -22,4 +22,4 @@ first_covered (suc n) (false ∷ ms) v (x ∷ xs) = x ∷ first_covered (suc n) 
 -- the cells of s end as some cells and then as those of t, which together are those of s with one value in the first pixels
 abbrev pub writes_first : (R : RattleType) → ℕ → R.Denot → PixelsIterMut R.Denot → PixelsIterMut R.Denot → Fml
 writes_first R n v s t = fex (List R.Denot) (λ done. fsep (feq (List R.Denot) (done ++ cells_left t) (first_covered n (marks_left s) v (cells_left s)))
-    (ends_as (Array R 0) (Array R 0) (name_of s) (name_of t) (λ ws. done ++ ws)))
+    (ends_as (Array R 0) (Array R 0) (pixels_name s) (pixels_name t) (λ ws. done ++ ws)))

@@ -23,6 +23,6 @@ abbrev pub BeginsAtCorner : {T : Type 0} → Layout T → List Window → Type 0
 BeginsAtCorner l path = 0 < path_width l.width path → 0 < path_height l.height path → (path_stretch l.stride (whole l.cells) path).start ≡ l.stride * corner_top path + corner_left path
 
 -- the name under which the cells of the answered image are lent
-abbrev pub name_of : {T : Type 0} → Result (Img (MutBor (List T))) ℕ → maybe.Option GName
-name_of (Ok i) = maybe.some (buf_of i).ghost_name
-name_of (Err n) = maybe.none
+abbrev pub window_name : {T : Type 0} → Result (Img (MutBor (List T))) ℕ → maybe.Option GName
+window_name (Ok i) = maybe.some (buf_of i).ghost_name
+window_name (Err n) = maybe.none

@@ -24,7 +24,7 @@ fn copy_over<T: Copy>(image: &mut ImgVec<T>, to: Window, source: &ImgVec<T>, fro
 
 /// Copies a window of an image of a list over a window of its size in the same or another image.
 /// Of two images the list is split, so that one is read and the other written.
-pub(crate) fn copy_window<T: Copy>(
+pub(crate) fn copy_between<T: Copy>(
     images: &mut [ImgVec<T>],
     target: usize,
     to: Window,

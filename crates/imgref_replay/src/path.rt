@@ -8,7 +8,7 @@ ghost use Rattle.image_model.specs.Windows.{IsInside, IsWithin, first_outside, w
 ghost use Rattle.imgref.specs.Shape.{shape_width, shape_height, shape_stride};
 ghost use Rattle.imgref.specs.Window.{as_window, as_path, as_stretch};
 ghost use Rattle.imgref.specs.Image.{buf_of, width_of, height_of, stride_of, mut_grid, mut_layout, ref_grid, ref_layout};
-ghost use Rattle.imgref_replay.specs.Path.{BeginsAtCorner, LeadsTo, name_of};
+ghost use Rattle.imgref_replay.specs.Path.{BeginsAtCorner, LeadsTo, window_name};
 
 use imgref::{ImgRef, ImgRefMut, Shape, Stretch, Window};
 
@@ -93,7 +93,7 @@ pub fn into_window_at<'s, T>(
     path: &[Window],
 ) -> Result<ImgRefMut<'s, T>, usize>
     requires fits { Fits (mut_layout img) }
-    ensures* hands_on { sem 𝓛 (follows_if (Array T.row 0) (Array T.row 0) (buf_of img.entry).ghost_name (name_of result) (with_stretch (buf_of img.entry).now (path_stretch (stride_of img.entry) (whole (buf_of img.entry).now) (as_path path.now))) (buf_of img.entry).now) }
+    ensures* hands_on { sem 𝓛 (follows_if (Array T.row 0) (Array T.row 0) (buf_of img.entry).ghost_name (window_name result) (with_stretch (buf_of img.entry).now (path_stretch (stride_of img.entry) (whole (buf_of img.entry).now) (as_path path.now))) (buf_of img.entry).now) }
     ensures outside { result_err result ≡ first_outside (width_of img.entry) (height_of img.entry) (as_path path.now) }
     ensures layout { IfOk result (λ w. mut_layout w ≡ path_layout (mut_layout img.entry) (as_path path.now)) }
     ensures corner { IfOk result (λ _. BeginsAtCorner (mut_layout img.entry) (as_path path.now)) }

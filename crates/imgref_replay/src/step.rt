@@ -11,7 +11,7 @@ ghost use Rattle.imgref_replay.specs.Step.{first_fault, IsStep};
 ghost use Rattle.imgref_replay.specs.Run.{IsRun};
 
 use crate::commands::{Command, Place, Refusal, Reply};
-use crate::copy::copy_window;
+use crate::copy::copy_between;
 use crate::mosaic::mosaic_window;
 use crate::path::path_window;
 use imgref::{ImgRef, ImgVec, Window};
@@ -186,7 +186,7 @@ fn blit<T: Copy + Eq>(
     if from.width != to.width || from.height != to.height {
         return Err(Refusal::SizesDiffer);
     }
-    copy_window(images, target.image, to, source.image, from);
+    copy_between(images, target.image, to, source.image, from);
     Ok(Reply::Done)
 }
 

@@ -28,14 +28,14 @@ sized_is i e stride cells =
       height = leb-true i.height 4294967295 b.0;
       stride = stride;
       stride_positive = leb-true 1 i.stride c.0;
-      width_within = leb-true i.width i.stride d.0;
+      holds_width = leb-true i.width i.stride d.0;
       cells = cells;
       fits = (is_fitting_decides i).0 d.1;
     }
 
 is_sized-image : (i : Layout ℕ) → IsImage i → is_sized i ≡ true
 is_sized-image i is =
-    rw (le-leb i.width 4294967295 is.width, le-leb i.height 4294967295 is.height, le-leb 1 i.stride is.stride_positive, le-leb i.width i.stride is.width_within)
+    rw (le-leb i.width 4294967295 is.width, le-leb i.height 4294967295 is.height, le-leb 1 i.stride is.stride_positive, le-leb i.width i.stride is.holds_width)
     ((is_fitting_decides i).1 is.fits)
 
 pub image_is : (fields : List (List ℕ)) (i : Layout ℕ) → image_in fields ≡ Some i → (codes "image" ∷ fields ≡ entry_fields (image_line i)) × IsImage i

@@ -119,7 +119,7 @@ pub record IsImage (i : Layout ℕ) : Type 0 where
   pub height : i.height ≤ 4294967295
   pub stride : IsWord i.stride
   pub stride_positive : 1 ≤ i.stride
-  pub width_within : i.width ≤ i.stride
+  pub holds_width : i.width ≤ i.stride
   pub cells : AllByRecursion IsPixel i.cells
   pub fits : Fits i
 

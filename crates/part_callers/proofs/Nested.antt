@@ -24,7 +24,7 @@ module _ {C T : Type 0} (cells : C → List T) (with_cells : C → Stretch → L
   s = path_stretch l.stride (whole l.cells) path
 
   narrow : width_of i ≤ stride_of i
-  narrow = i.width_within
+  narrow = i.holds_width
 
   has : HasWindow (length l.cells) l.stride w s
   has = path_has l path narrow fits inside

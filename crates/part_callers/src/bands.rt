@@ -6,7 +6,7 @@ ghost use Rattle.image_model.specs.Layout.{Fits, SameOutside};
 ghost use Rattle.image_model.specs.Grid.{patch, uniform};
 ghost use Rattle.imgref.specs.Image.{buf_of, width_of, height_of, stride_of, grid_by, layout_by, with_all};
 ghost use Rattle.imgref.specs.contracts.img.Img.{the_row};
-ghost use Rattle.image_tiles.specs.Bands.{bands, bands_left, cells_left, spacing_left, band_spacing, name_of};
+ghost use Rattle.image_tiles.specs.Bands.{bands, bands_left, cells_left, spacing_left, band_spacing, bands_name};
 ghost use Rattle.part_callers.specs.Bands.{HasFirstBand};
 
 use crate::fills::fill;
@@ -17,7 +17,7 @@ use imgref::{AsMutSlice, Img};
 fn bands_of<'a, C: AsMutSlice>(image: &'a mut Img<C>, band_height: usize) -> BandsMut<'a, C::Item>
     requires fits { Fits (layout_by C.AsSlice.cells image.old) }
     requires high { 0 < band_height }
-    ensures* lent { sem 𝓛 (follows (the_row C.row) (Array C.Item.row 0) image.entry.ghost_name (name_of result) (with_all C.AsSlice.cells C.with_cells image.old)) }
+    ensures* lent { sem 𝓛 (follows (the_row C.row) (Array C.Item.row 0) image.entry.ghost_name (bands_name result) (with_all C.AsSlice.cells C.with_cells image.old)) }
     ensures cells { cells_left result ≡ C.AsSlice.cells (buf_of image.old) }
     ensures spacing { spacing_left result ≡ band_spacing (width_of image.old) (height_of image.old) (stride_of image.old) band_height }
     ensures bands { bands_left result ≡ bands (layout_by C.AsSlice.cells image.old) band_height }

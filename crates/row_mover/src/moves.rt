@@ -14,7 +14,7 @@ impl<T: Copy> RowMover<'_, T> {
     pub fn compact_rows(&mut self, width: usize, height: usize, stride: usize)
         requires fits { Fits (layout self.old.cells width height stride) }
         requires stride_positive { 1 ≤ stride }
-        requires stride_covers_width { width ≤ stride }
+        requires holds_width { width ≤ stride }
         requires count { self.old.shifts + height ≤ u64.MAX }
         ensures cells { self.new.cells ≡ joined_rows (layout self.old.cells width height stride) ++ drop (width * height) self.old.cells }
         ensures length { length self.new.cells ≡ length self.old.cells }
@@ -38,7 +38,7 @@ impl<T: Copy> RowMover<'_, T> {
     #[tactic(auto, using(crate::proofs::Moving::moving))]
     pub fn move_rows(&mut self, stride: usize, from: usize, to: usize, width: usize, height: usize)
         requires stride_positive { 1 ≤ stride }
-        requires stride_covers_width { width ≤ stride }
+        requires holds_width { width ≤ stride }
         requires count { self.old.shifts + height ≤ u64.MAX }
         requires source { 0 < width → 0 < height → from + (stride * (height - 1) + width) ≤ length self.old.cells }
         requires target { 0 < width → 0 < height → to + (stride * (height - 1) + width) ≤ length self.old.cells }

@@ -11,7 +11,7 @@ use Rattle.borrow_laws.proofs.Bodies.{of_copied}
 use Rattle.borrow_laws.proofs.Endings.{ends_said}
 use Rattle.borrow_laws.proofs.Lifetimes.{Ends, begins, Loan, Kept, lent, lends, ends}
 use Rattle.image_pixels.specs.Marks.{marks_of}
-use Rattle.image_pixels.specs.Pixels.{cells_left, marks_left, muts_left, name_of}
+use Rattle.image_pixels.specs.Pixels.{cells_left, marks_left, muts_left, pixels_name}
 use Rattle.image_pixels.specs.declared.pixels_mut.PixelsIterMut.{PixelsIterMut}
 use Rattle.image_pixels.specs.contracts.pixels_mut.PixelsIterMut as P
 use Rattle.image_pixels.proofs.pixels_mut.PixelsIterMut.TheLaws as laws
@@ -68,7 +68,7 @@ cover_first_spec 𝓤 𝓛 𝓜 𝓡 wired X Y LX LY CY gh d gs ds gc dc bm bs b
     let F : List Y.Denot → Img X.Denot = with_all gs.cells gh.with_cells x.now in
     let marked = marks_of x.now.width x.now.height x.now.stride in
     use1 𝓛 (later (some (λ (r : Sort). ((‵ (flft α qα) ⊛ ‵ (flft κ₁ q₁) ⊛ ‵ (flft κ₂ q₂) ⊛ ‵ ftrue) ⊛ ‵ (cursor.own_val r (v₁ ∷ []))) ⊛ some (λ (ws : Unit {0} × Unit {0}). ‵ (lasts (M.ended X Y gh d gs ds) z₁.0.0 z₁.0.3 ws)
-    ⊛ (‵ (follows Whole (Array (param 1 Y) 0) δ (name_of r) F) ⊛ raw (fact 𝓤 (cells_left r ≡ old.cells)) ⊛ raw (fact 𝓤 (marks_left r ≡ marked)) ⊛ raw (fact 𝓤 (muts_left r ≡ pixels old)) ⊛ raw (fact 𝓤 (muts_left r ≡ grid_pixels (grid_of old)))
+    ⊛ (‵ (follows Whole (Array (param 1 Y) 0) δ (pixels_name r) F) ⊛ raw (fact 𝓤 (cells_left r ≡ old.cells)) ⊛ raw (fact 𝓤 (marks_left r ≡ marked)) ⊛ raw (fact 𝓤 (muts_left r ≡ pixels old)) ⊛ raw (fact 𝓤 (muts_left r ≡ grid_pixels (grid_of old)))
     ⊛ raw (fact 𝓤 (length (muts_left r) ≡ x.now.width * x.now.height)) ⊛ raw (fact 𝓤 (length (muts_left r) < 2 ^ 64))))))) (id⊢ 𝓤 _) $
     await ! tt $ pick ! (λ r. split ! $ split ! $ move ! (2 ∷ []) $ pick ! (λ ws₁. split ! $ drop ! $ split ! $ move ! (1 ∷ []) $ split ! $ heard ! (cells_left r ≡ old.cells) (λ cells. split ! $ heard ! (marks_left r ≡ marked) (λ marked_is. drop ! $
     -- [what follows; the tokens; the cursor; what is kept; the value]
@@ -124,16 +124,16 @@ cover_first_spec 𝓤 𝓛 𝓜 𝓡 wired X Y LX LY CY gh d gs ds gc dc bm bs b
     nothing ! $ use0 𝓛 (raw (fact 𝓤 (κ₂ ⊑ Y.lives))) (fact_i 𝓤 (κ₂ ⊑ Y.lives) (emp 𝓤) inY) $ join ! $ move ! (1 ∷ 0 ∷ []) $ use2 𝓛 (raw (G₃.pre z₃)) (id⊢ 𝓤 _) $
     -- [what the call asks; the borrow of the cursor; nothing; what it fills; κ₁; what follows; what is kept]
     calls_at ! fm G₃ (dropping.met 𝓤 𝓛 𝓜 𝓡 (compiled.calls-image_pixels::pixels_mut::PixelsIterMut::drop 𝓡.env wired) Y LY let_go (glues "imgref_examples::Destruct++none::drop" 𝓡.env (compiled.calls-imgref_examples::Destruct++none::drop 𝓡.env wired) Y LY _ 𝓤 𝓛 𝓜 𝓡)) z₃ (and_then ! (get ! refl) (no_more !)) (λ v₄.
-    use1 𝓛 (later (some (λ (u₃ : Unit {0}). ((‵ (flft α qα) ⊛ ‵ (flft κ₂ q₂) ⊛ ‵ ftrue) ⊛ ‵ (unit.own_val u₃ (v₄ ∷ []))) ⊛ some (λ (ws : Unit {0} × Unit {0}). ‵ (lasts (D.ended Y let_go) z₃.0.0 z₃.0.3 ws) ⊛ ‵ (fres (name_of t) ((coded_list R.coded).code (cells_left t))))))) (id⊢ 𝓤 _) $
+    use1 𝓛 (later (some (λ (u₃ : Unit {0}). ((‵ (flft α qα) ⊛ ‵ (flft κ₂ q₂) ⊛ ‵ ftrue) ⊛ ‵ (unit.own_val u₃ (v₄ ∷ []))) ⊛ some (λ (ws : Unit {0} × Unit {0}). ‵ (lasts (D.ended Y let_go) z₃.0.0 z₃.0.3 ws) ⊛ ‵ (fres (pixels_name t) ((coded_list R.coded).code (cells_left t))))))) (id⊢ 𝓤 _) $
     await ! tt $ pick ! (λ u₃. split ! $ split ! $ move ! (1 ∷ []) $ feq_l ! (λ was_unit. lands_as ! (ap only was_unit) refl (tt, tt) $
     move ! (1 ∷ []) $ pick ! (λ ws₃. split ! $ drop ! $ move ! (1 ∷ []) $ split3 ! $
     -- [α; κ₂; nothing; how the cells that are left end; the borrow of the cursor; nothing; what it fills; κ₁; what follows; what is kept]
     move ! (6 ∷ []) $ fpick ! (λ done. fsplit ! $ feq_l ! (λ all.
     -- [how the cells end; α; κ₂; nothing; how the cells that are left end; the borrow of the cursor; nothing; κ₁; what follows; what is kept]
     let A₀ : RattleType = Array R 0 in let zs : List Y.Denot = first_covered count (marks_left r) value (cells_left r) in
-    move ! (0 ∷ 4 ∷ []) $ use2 𝓛 (‵ (fres (name_of r) (A₀.coded.code (done ++ cells_left t)))) (ends_said 𝓛 A₀ A₀ (name_of r) (name_of t) (λ ws. done ++ ws) (cells_left t)) $
-    rewrite ! 0 (λ (ys : List Y.Denot). ‵ (fres (name_of r) (A₀.coded.code ys))) all refl $
-    move ! (7 ∷ 0 ∷ []) $ use2 𝓛 (‵ (fres δ (Whole.coded.code (F zs)))) (followed 𝓛 Whole A₀ F δ (name_of r) zs) $
+    move ! (0 ∷ 4 ∷ []) $ use2 𝓛 (‵ (fres (pixels_name r) (A₀.coded.code (done ++ cells_left t)))) (ends_said 𝓛 A₀ A₀ (pixels_name r) (pixels_name t) (λ ws. done ++ ws) (cells_left t)) $
+    rewrite ! 0 (λ (ys : List Y.Denot). ‵ (fres (pixels_name r) (A₀.coded.code ys))) all refl $
+    move ! (7 ∷ 0 ∷ []) $ use2 𝓛 (‵ (fres δ (Whole.coded.code (F zs)))) (followed 𝓛 Whole A₀ F δ (pixels_name r) zs) $
     -- [how the image ends; α; κ₂; nothing; the borrow of the cursor; nothing; κ₁; what is kept]
     move ! (1 ∷ 7 ∷ 0 ∷ []) $ use3 𝓛 (later (‵ (flft κ₀ q₀) ⊛ ‵ (lent Whole b o κ₀ γ (F zs)))) (ends 𝓛 Whole κ₀ q₀ b o γ x.now d₀ (F zs)) $ await ! tt $ split ! $
     returns ! (look_at ! 0 refl) $ free_all ! refl $

@@ -25,7 +25,7 @@ use Rattle.image_rows.proofs.IterValues.{cells_out}
 use Rattle.image_rows.specs.contracts.writing.RowsIterMut.next_back as N
 use Rattle.image_rows.proofs.writing.RowsIterMut.next_back.Met as stepping
 use Rattle.imgref.specs.Spacing.{whole_spacing}
-use Rattle.imgref.specs.Rows.{cells_left, spacing_left, muts_left, name_of, put_back, hands_on, Yields, Moves}
+use Rattle.imgref.specs.Rows.{cells_left, spacing_left, muts_left, rows_name, put_back, hands_on, Yields, Moves}
 use Rattle.imgref.specs.declared.img.Img.{Img}
 use Rattle.imgref.specs.contracts.img.Img.{the_row}
 use Rattle.imgref.specs.contracts.img.Img.rows_mut as M
@@ -75,7 +75,7 @@ cover_last_spec 𝓤 𝓛 𝓜 𝓡 wired X Y LX LY CY gh d gs ds gc dc bm bs bc
     let Sort : Type 0 = RowsIterMut Y.Denot in
     let F : List Y.Denot → Img X.Denot = with_all gs.cells gh.with_cells x.now in
     use1 𝓛 (later (some (λ (r : Sort). ((‵ (flft α qα) ⊛ ‵ (flft κ₁ q₁) ⊛ ‵ (flft κ₂ q₂) ⊛ ‵ ftrue) ⊛ ‵ (Rows.own_val r (v₁ ∷ []))) ⊛ some (λ (ws : Unit {0} × Unit {0}). ‵ (lasts (M.ended X Y gh d gs ds) z₁.0.0 z₁.0.3 ws)
-    ⊛ (‵ (follows Whole (Array (param 1 Y) 0) δ (name_of r) F) ⊛ raw (fact 𝓤 (cells_left r ≡ old.cells)) ⊛ raw (fact 𝓤 (spacing_left r ≡ whole_spacing old.width old.height old.stride)) ⊛ raw (fact 𝓤 (muts_left r ≡ rows old)) ⊛ raw (fact 𝓤 (muts_left r ≡ grid_rows (grid_of old)))
+    ⊛ (‵ (follows Whole (Array (param 1 Y) 0) δ (rows_name r) F) ⊛ raw (fact 𝓤 (cells_left r ≡ old.cells)) ⊛ raw (fact 𝓤 (spacing_left r ≡ whole_spacing old.width old.height old.stride)) ⊛ raw (fact 𝓤 (muts_left r ≡ rows old)) ⊛ raw (fact 𝓤 (muts_left r ≡ grid_rows (grid_of old)))
     ⊛ raw (fact 𝓤 (length (muts_left r) ≡ row_count old.width old.height)) ⊛ raw (fact 𝓤 (length (muts_left r) < 2 ^ 64)) ⊛ raw (fact 𝓤 (All (λ row. length row ≡ old.width) (muts_left r)))))))) (id⊢ 𝓤 _) $
     await ! tt $ pick ! (λ r. split ! $ split ! $ move ! (2 ∷ []) $ pick ! (λ ws₁. split ! $ drop ! $ split ! $ move ! (1 ∷ []) $ split ! $ heard ! (cells_left r ≡ old.cells) (λ cells. split ! $ heard ! (spacing_left r ≡ whole_spacing old.width old.height old.stride) (λ spacing.
     split ! $ drop ! $ split ! $ drop ! $ split ! $ heard ! (length (muts_left r) ≡ row_count old.width old.height) (λ counted. split ! $ drop ! $ heard ! (All (λ row. length row ≡ old.width) (muts_left r)) (λ wide.
@@ -131,18 +131,18 @@ cover_last_spec 𝓤 𝓛 𝓜 𝓡 wired X Y LX LY CY gh d gs ds gc dc bm bs bc
     move ! (4 ∷ 5 ∷ []) $ drop ! $ drop ! $
     let A₀ : RattleType = Array R 0 in
     let Res : GName → List Y.Denot → Item 𝓤 = λ ν ys. ‵ (fres ν (A₀.coded.code ys)) in
-    let given_back : ent 𝓤 (sem 𝓛 (Rows.own_val t (word t ∷ []))) (sem 𝓛 (fres (name_of t) (A₀.coded.code (cells_left t)))) =
+    let given_back : ent 𝓤 (sem 𝓛 (Rows.own_val t (word t ∷ []))) (sem 𝓛 (fres (rows_name t) (A₀.coded.code (cells_left t)))) =
     qed 𝓛 (‵ (Rows.own_val t (word t ∷ [])) ∷ []) ∵ use1 𝓛 (‵ ((MutSlice named_α.mir α (param 1 Y)).own_val t.cells (lent_val t.cells ∷ []))) (cells_out named_α (param 1 Y) LY₁ 𝓛 t (word t ∷ [])) $
     by ! (given_up 𝓛 (param 1 Y) named_α.mir α t.cells (lent_val t.cells ∷ [])) in
-    use1 𝓛 (Res (name_of t) (cells_left t)) given_back $ move ! (4 ∷ []) $
+    use1 𝓛 (Res (rows_name t) (cells_left t)) given_back $ move ! (4 ∷ []) $
     -- [the row; how the iterator's cells end; α; κ₂; what follows the row; κ₁; what follows; what is kept; the value]
     let E = env fn.locals l in
     let rest : Body = after 6 fn.body in
     let next = any_q (after_seq 𝓤 H (Wp 𝓤 H 𝓣.C 𝓣.Λ E rest (at_return 𝓤 H E Post)) (at_return 𝓤 H E Post)) in
     let zs : List Y.Denot = with_last_row old value in
-    let tail : Sq 𝓛 (Res (name_of r) zs ∷ ‵ (flft α qα) ∷ ‵ (flft κ₂ q₂) ∷ ‵ (flft κ₁ q₁) ∷ ‵ (follows Whole (Array (param 1 Y) 0) δ (name_of r) F) ∷ raw (Kept 𝓛 Whole κ₀ q₀ b o γ x.now d₀)
+    let tail : Sq 𝓛 (Res (rows_name r) zs ∷ ‵ (flft α qα) ∷ ‵ (flft κ₂ q₂) ∷ ‵ (flft κ₁ q₁) ∷ ‵ (follows Whole (Array (param 1 Y) 0) δ (rows_name r) F) ∷ raw (Kept 𝓛 Whole κ₀ q₀ b o γ x.now d₀)
     ∷ holding 𝓛 E ((1, vptr b o) ∷ (2, v) ∷ [])) (runs 𝓣.C 𝓣.Λ E rest (at_ret E Post)) =
-    move ! (4 ∷ 0 ∷ []) $ use2 𝓛 (‵ (fres δ (Whole.coded.code (F zs)))) (followed 𝓛 Whole A₀ F δ (name_of r) zs) $
+    move ! (4 ∷ 0 ∷ []) $ use2 𝓛 (‵ (fres δ (Whole.coded.code (F zs)))) (followed 𝓛 Whole A₀ F δ (rows_name r) zs) $
     -- [how the image ends; α; κ₂; κ₁; what is kept]
     move ! (1 ∷ 4 ∷ 0 ∷ []) $ use3 𝓛 (later (‵ (flft κ₀ q₀) ⊛ ‵ (lent Whole b o κ₀ γ (F zs)))) (ends 𝓛 Whole κ₀ q₀ b o γ x.now d₀ (F zs)) $ await ! tt $ split ! $
     sets ! (of_opd ! (unit_lit !)) refl (tt, tt) $ returns ! (look_at ! 0 refl) $ free_all ! refl $
@@ -162,8 +162,8 @@ cover_last_spec 𝓤 𝓛 𝓜 𝓡 wired X Y LX LY CY gh d gs ds gc dc bm bs bc
     first ! $ switches_on ! (get_tag ! (vrt ! refl (fld ! refl (stop !))) (all_of !)) $ exec ! 𝓣.C 𝓣.Λ E skip next $ skips ! $
     exec ! 𝓣.C 𝓣.Λ E rest (at_ret E Post) $ forget_but ! E (1 ∷ 2 ∷ []) refl $
     -- [how the iterator's cells end; α; κ₂; what follows the row; κ₁; what follows; what is kept; the value]
-    rewrite ! 0 (λ (s : Sort). Res (name_of s) (cells_left t)) at_end refl $
-    rewrite ! 0 (Res (name_of r)) (none_left old r t value cells spacing counted (subst (λ (m' : Given). Yields Last r m' t) e steps) at_end) refl $
+    rewrite ! 0 (λ (s : Sort). Res (rows_name s) (cells_left t)) at_end refl $
+    rewrite ! 0 (Res (rows_name r)) (none_left old r t value cells spacing counted (subst (λ (m' : Given). Yields Last r m' t) e steps) at_end) refl $
     move ! (3 ∷ 7 ∷ []) $ drop ! $ drop ! $ tail))
     (λ (found : (y : MutBor (List Y.Denot)) × (m ≡ Some y)). let y : MutBor (List Y.Denot) = found.0 in let e : m ≡ Some y = found.1 in
     let ν : GName = y.ghost_name in let full : List Y.Denot = replicate (length y.now) value in
@@ -193,9 +193,9 @@ cover_last_spec 𝓤 𝓛 𝓜 𝓡 wired X Y LX LY CY gh d gs ds gc dc bm bs bc
     move ! (1 ∷ []) $ pick ! (λ ws₃. split ! $ fsplit ! $ fsplit ! $ fsplit ! $ move ! (4 ∷ []) $ heard ! (ws₃.0 ≡ full) (λ is_full.
     -- [how the row ends; its length; its borrow; nothing; the tokens; how the iterator's cells end; what follows the row; κ₁; what follows; what is kept]
     use1 𝓛 (Res ν ws₃.0) (finally-res 𝓛 R ν ws₃.0) $ rewrite ! 0 (Res ν) is_full refl $
-    move ! (0 ∷ 6 ∷ []) $ use2 𝓛 (‵ (ends_as A₀ A₀ (name_of r) (name_of t) (put_back Last r full))) (ends_beside 𝓛 A₀ A₀ A₀ (name_of r) ν (name_of t) (put_back Last r) full) $
-    move ! (0 ∷ 5 ∷ []) $ use2 𝓛 (Res (name_of r) (put_back Last r full (cells_left t))) (ends_said 𝓛 A₀ A₀ (name_of r) (name_of t) (put_back Last r full) (cells_left t)) $
-    rewrite ! 0 (Res (name_of r)) (last_left old r t value cells spacing counted fits wide y (subst (λ (m' : Given). Yields Last r m' t) e steps) (subst (λ (m' : Given). Moves Last r m' t) e moved)) refl $
+    move ! (0 ∷ 6 ∷ []) $ use2 𝓛 (‵ (ends_as A₀ A₀ (rows_name r) (rows_name t) (put_back Last r full))) (ends_beside 𝓛 A₀ A₀ A₀ (rows_name r) ν (rows_name t) (put_back Last r) full) $
+    move ! (0 ∷ 5 ∷ []) $ use2 𝓛 (Res (rows_name r) (put_back Last r full (cells_left t))) (ends_said 𝓛 A₀ A₀ (rows_name r) (rows_name t) (put_back Last r full) (cells_left t)) $
+    rewrite ! 0 (Res (rows_name r)) (last_left old r t value cells spacing counted fits wide y (subst (λ (m' : Given). Yields Last r m' t) e steps) (subst (λ (m' : Given). Moves Last r m' t) e moved)) refl $
     -- [how the cells end; the row's length; its borrow; nothing; the tokens; κ₁; what follows; what is kept]
     move ! (1 ∷ 2 ∷ 3 ∷ []) $ drop ! $ drop ! $ drop ! $ move ! (1 ∷ []) $ split3 ! $ move ! (2 ∷ []) $ drop ! $ forget_but ! E (1 ∷ 2 ∷ []) refl $ move ! (2 ∷ 0 ∷ 1 ∷ []) $ tail)))))))
     (none_or_some m)

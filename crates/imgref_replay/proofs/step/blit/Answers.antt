@@ -12,4 +12,4 @@ returns g c =
     let to = as_window c.in_ok-from.to in
     let windows = c.in_ok-from.ensures in
     let accepted = no_copy_fault source target (sizes_of (grids_of images)) from to windows.fault windows.first_window windows.second_window c.if-from-to.false c.if-from-to-2.false in
-    blitted g.T.PartialEq.eq images _ source target from to accepted windows.first_window windows.second_window c.if-from-to.false c.if-from-to-2.false c.copy_window.ensures
+    blitted g.T.PartialEq.eq images _ source target from to accepted windows.first_window windows.second_window c.if-from-to.false c.if-from-to-2.false c.copy_between.ensures

@@ -17,7 +17,7 @@ index-requires g c =
     let found = c.in_ok-place.ensures in
     let image = c.index-images-spot.result in
     let inside = place_at images i image _ _ found.image c.index-images-spot.is (found.place.column_inside, found.place.row_inside) in
-    (omega (arith, inside.0, image.width_within), cell_within (vec_layout image) (fits_at images i image found.image c.index-images-spot.is c.requires) _ _ inside.0 inside.1)
+    (omega (arith, inside.0, image.holds_width), cell_within (vec_layout image) (fits_at images i image found.image c.index-images-spot.is c.requires) _ _ inside.0 inside.1)
 
 pub returns : goal.returns
 unfolding view

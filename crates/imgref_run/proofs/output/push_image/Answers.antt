@@ -18,7 +18,7 @@ returns-clause-good c = record {
   height = omega arith;
   stride = omega arith;
   stride_positive = omega arith;
-  width_within = omega arith;
+  holds_width = omega arith;
   cells = recursion_from_All IsPixel _ (rw (c.deref.ensures.value, c.buf.ensures) at c.in_ok-push_cells.ensures.pixels);
   fits = c.requires;
 }

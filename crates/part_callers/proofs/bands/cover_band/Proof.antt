@@ -26,7 +26,7 @@ use Rattle.image_tiles.proofs.bands.BandsMut.TheLaws as laws
 use Rattle.image_tiles.proofs.BandValues.{cells_out, band_val, band_ok, band_told}
 use Rattle.image_tiles.specs.contracts.bands.BandsMut.next as N
 use Rattle.image_tiles.proofs.bands.BandsMut.next.Met as stepping
-use Rattle.image_tiles.specs.Bands.{bands, bands_left, cells_left, spacing_left, band_spacing, name_of, put_back, hands_on, Moves}
+use Rattle.image_tiles.specs.Bands.{bands, bands_left, cells_left, spacing_left, band_spacing, bands_name, put_back, hands_on, Moves}
 use Rattle.imgref.specs.declared.img.Img.{Img}
 use Rattle.imgref.specs.contracts.img.Img.{the_row}
 use Rattle.imgref.specs.contracts.img.Img.into_parts as parts
@@ -51,7 +51,7 @@ cover_band_spec 𝓤 𝓛 𝓜 𝓡 wired X Y LX LY CY gh d gs ds gc dc bm bs bc
     proved 𝓛 En hs c 𝓜 𝓡 (Goes-ref 𝓛 3 0 tt (plain (λ _. Whole)), (Goes-dropped 𝓛 3 (plain (λ _. usize)) yes (λ κs x f. refl), (Goes-dropped 𝓛 3 (plain (λ _. R)) no (λ κs x f. refl), tt))) (#self args) fn (compiled.unfolded 𝓤 H 𝓜 𝓡 wired (X, (Y, tt)) d ds dc)
     (λ κs. (mut_vals, (uint_vals w64, ((λ x. w x ∷ []), tt)))) (λ κs. (mut_Tells (named 0) κs.0 Whole, (uint_Tells w64, ((copied_copy 1 Y CY).tells, tt)))) (λ κs qs bounds a gg are.
     let κ₀ : Lft = κs.0 in let κ₁ : Lft = κs.1.0 in let κ₂ : Lft = κs.1.1.0 in let q₀ : Share = qs.0 in let q₁ : Share = qs.1.0 in let q₂ : Share = qs.1.1.0 in
-    let x : MutBor (Img X.Denot) = a.0 in let bh : ℕ = a.1.0 in let low : bh < 2 ^ 64 = are.1.0.1 in let value : Y.Denot = a.1.1.0 in let v : Val = w value in let narrow = x.now.width_within in
+    let x : MutBor (Img X.Denot) = a.0 in let bh : ℕ = a.1.0 in let low : bh < 2 ^ 64 = are.1.0.1 in let value : Y.Denot = a.1.1.0 in let v : Val = w value in let narrow = x.now.holds_width in
     let b : ℕ = x.ref_ptr.0 in let o : ℕ = x.ref_ptr.1 in let γ : GName = x.ghost_name in
     let old : Layout Y.Denot = layout_by gs.cells x.now in let Fit : Type 0 = Fits old in let High : Type 0 = 0 < bh in
     let bound : (walk_of 𝓛 En hs c).Ghost = ((κs, qs, bounds, a, (mut_vals x, (vint w64 bh ∷ [], (v ∷ [], tt)))), gg) in
@@ -81,7 +81,7 @@ cover_band_spec 𝓤 𝓛 𝓜 𝓡 wired X Y LX LY CY gh d gs ds gc dc bm bs bc
     let Spaced : Sort → Type 0 = λ r. spacing_left r ≡ band_spacing old.width old.height old.stride bh in
     let Lists : Sort → Type 0 = λ r. bands_left r ≡ bands old bh in
     use1 𝓛 (later (some (λ (r : Sort). ((‵ (flft α qα) ⊛ ‵ (flft κ₁ q₁) ⊛ ‵ (flft κ₂ q₂) ⊛ ‵ ftrue) ⊛ ‵ (Rows.own_val r (v₁ ∷ []))) ⊛ some (λ (ws : Unit {0} × (Unit {0} × Unit {0})). ‵ (lasts (M.ended X Y gh d gs ds) z₁.0.0 z₁.0.3 ws)
-    ⊛ (‵ (follows Whole (Array (param 1 Y) 0) δ (name_of r) F) ⊛ raw (fact 𝓤 (cells_left r ≡ old.cells)) ⊛ raw (fact 𝓤 (Spaced r)) ⊛ raw (fact 𝓤 (Lists r))))))) (id⊢ 𝓤 _) $
+    ⊛ (‵ (follows Whole (Array (param 1 Y) 0) δ (bands_name r) F) ⊛ raw (fact 𝓤 (cells_left r ≡ old.cells)) ⊛ raw (fact 𝓤 (Spaced r)) ⊛ raw (fact 𝓤 (Lists r))))))) (id⊢ 𝓤 _) $
     await ! tt $ pick ! (λ r. split ! $ split ! $ move ! (2 ∷ []) $ pick ! (λ ws₁. split ! $ drop ! $ split ! $ move ! (1 ∷ []) $ split ! $ heard ! (cells_left r ≡ old.cells) (λ cells. split ! $ heard ! (Spaced r) (λ spacing. heard ! (Lists r) (λ lists.
     -- [what follows; the tokens; the iterator; what is kept; the value]
     let LY₁ = param_laws 1 Y LY in
@@ -137,17 +137,17 @@ cover_band_spec 𝓤 𝓛 𝓜 𝓡 wired X Y LX LY CY gh d gs ds gc dc bm bs bc
     move ! (4 ∷ 5 ∷ []) $ drop ! $ drop ! $
     let A₀ : RattleType = Array R 0 in
     let Res : GName → List Y.Denot → Item 𝓤 = λ ν ys. ‵ (fres ν (A₀.coded.code ys)) in
-    let given_back : ent 𝓤 (sem 𝓛 (Rows.own_val t (word t ∷ []))) (sem 𝓛 (fres (name_of t) (A₀.coded.code (cells_left t)))) =
+    let given_back : ent 𝓤 (sem 𝓛 (Rows.own_val t (word t ∷ []))) (sem 𝓛 (fres (bands_name t) (A₀.coded.code (cells_left t)))) =
     qed 𝓛 (‵ (Rows.own_val t (word t ∷ [])) ∷ []) ∵ use1 𝓛 (‵ ((MutSlice named_α.mir α (param 1 Y)).own_val t.cells (lent_val t.cells ∷ []))) (cells_out named_α (param 1 Y) LY₁ 𝓛 t (word t ∷ [])) $
     by ! (given_up 𝓛 (param 1 Y) named_α.mir α t.cells (lent_val t.cells ∷ [])) in
-    use1 𝓛 (Res (name_of t) (cells_left t)) given_back $ move ! (4 ∷ []) $
+    use1 𝓛 (Res (bands_name t) (cells_left t)) given_back $ move ! (4 ∷ []) $
     -- [the row; how the iterator's cells end; α; κ₂; what follows the row; κ₁; what follows; what is kept; the value]
     let E = env fn.locals l in
     let rest : Body = after 6 fn.body in
     let next = any_q (after_seq 𝓤 H (Wp 𝓤 H 𝓣.C 𝓣.Λ E rest (at_return 𝓤 H E Post)) (at_return 𝓤 H E Post)) in
-    let tail : (zs : List Y.Denot) → HasFirstBand old bh value (record old { cells = zs }) → Sq 𝓛 (Res (name_of r) zs ∷ ‵ (flft α qα) ∷ ‵ (flft κ₂ q₂) ∷ ‵ (flft κ₁ q₁) ∷ ‵ (follows Whole (Array (param 1 Y) 0) δ (name_of r) F) ∷ raw (Kept 𝓛 Whole κ₀ q₀ b o γ x.now d₀)
+    let tail : (zs : List Y.Denot) → HasFirstBand old bh value (record old { cells = zs }) → Sq 𝓛 (Res (bands_name r) zs ∷ ‵ (flft α qα) ∷ ‵ (flft κ₂ q₂) ∷ ‵ (flft κ₁ q₁) ∷ ‵ (follows Whole (Array (param 1 Y) 0) δ (bands_name r) F) ∷ raw (Kept 𝓛 Whole κ₀ q₀ b o γ x.now d₀)
     ∷ holding 𝓛 E ((1, vptr b o) ∷ (2, vint w64 bh) ∷ (3, v) ∷ [])) (runs 𝓣.C 𝓣.Λ E rest (at_ret E Post)) = λ zs has.
-    move ! (4 ∷ 0 ∷ []) $ use2 𝓛 (‵ (fres δ (Whole.coded.code (F zs)))) (followed 𝓛 Whole A₀ F δ (name_of r) zs) $
+    move ! (4 ∷ 0 ∷ []) $ use2 𝓛 (‵ (fres δ (Whole.coded.code (F zs)))) (followed 𝓛 Whole A₀ F δ (bands_name r) zs) $
     -- [how the image ends; α; κ₂; κ₁; what is kept]
     move ! (1 ∷ 4 ∷ 0 ∷ []) $ use3 𝓛 (later (‵ (flft κ₀ q₀) ⊛ ‵ (lent Whole b o κ₀ γ (F zs)))) (ends 𝓛 Whole κ₀ q₀ b o γ x.now d₀ (F zs)) $ await ! tt $ split ! $
     sets ! (of_opd ! (unit_lit !)) refl (tt, tt) $ returns ! (look_at ! 0 refl) $ free_all ! refl $
@@ -169,8 +169,8 @@ cover_band_spec 𝓤 𝓛 𝓜 𝓡 wired X Y LX LY CY gh d gs ds gc dc bm bs bc
     first ! $ switches_on ! (get_tag ! (vrt ! refl (fld ! refl (stop !))) (all_of !)) $ exec ! 𝓣.C 𝓣.Λ E skip next $ skips ! $
     exec ! 𝓣.C 𝓣.Λ E rest (at_ret E Post) $ forget_but ! E (1 ∷ 2 ∷ 3 ∷ []) refl $
     -- [how the iterator's cells end; α; κ₂; what follows the row; κ₁; what follows; what is kept; the value]
-    rewrite ! 0 (λ (s : Sort). Res (name_of s) (cells_left t)) at_end refl $
-    rewrite ! 0 (Res (name_of r)) (ap (λ (q : Sort). cells_left q) at_end ∙ cells) refl $
+    rewrite ! 0 (λ (s : Sort). Res (bands_name s) (cells_left t)) at_end refl $
+    rewrite ! 0 (Res (bands_name r)) (ap (λ (q : Sort). cells_left q) at_end ∙ cells) refl $
     move ! (3 ∷ 7 ∷ []) $ drop ! $ drop ! $ tail old.cells (no_band old bh value high narrow fits none_left)))
     (λ (found : (y : Out) × (m ≡ Some y)). let y : Out = found.0 in let e : m ≡ Some y = found.1 in
     let ν : GName = y.buf.ghost_name in let inner : Shape = shape_of y in let sv : Val = slice_val y.buf.ref_ptr (length y.buf.now) in
@@ -229,8 +229,8 @@ cover_band_spec 𝓤 𝓛 𝓜 𝓡 wired X Y LX LY CY gh d gs ds gc dc bm bs bc
     move ! (1 ∷ []) $ pick ! (λ ws₄. split ! $ move ! (1 ∷ []) $ split ! $ heard ! (One ws₄.0) (λ one. heard ! (Stays_out ws₄.0) (λ stays. fsplit ! $ fsplit ! $ fsplit ! $
     -- [how the band's cells end; their number; its borrow; the rest; the tokens; how the iterator's cells end; what follows the band; κ₁; what follows; what is kept]
     use1 𝓛 (Res ν ws₄.0) (finally-res 𝓛 R ν ws₄.0) $
-    move ! (0 ∷ 6 ∷ []) $ use2 𝓛 (‵ (ends_as A₀ A₀ (name_of r) (name_of t) (put_back r ws₄.0))) (ends_beside 𝓛 A₀ A₀ A₀ (name_of r) ν (name_of t) (put_back r) ws₄.0) $
-    move ! (0 ∷ 5 ∷ []) $ use2 𝓛 (Res (name_of r) (put_back r ws₄.0 (cells_left t))) (ends_said 𝓛 A₀ A₀ (name_of r) (name_of t) (put_back r ws₄.0) (cells_left t)) $
+    move ! (0 ∷ 6 ∷ []) $ use2 𝓛 (‵ (ends_as A₀ A₀ (bands_name r) (bands_name t) (put_back r ws₄.0))) (ends_beside 𝓛 A₀ A₀ A₀ (bands_name r) ν (bands_name t) (put_back r) ws₄.0) $
+    move ! (0 ∷ 5 ∷ []) $ use2 𝓛 (Res (bands_name r) (put_back r ws₄.0 (cells_left t))) (ends_said 𝓛 A₀ A₀ (bands_name r) (bands_name t) (put_back r ws₄.0) (cells_left t)) $
     -- [how the cells end; the number; the borrow; the rest; the tokens; κ₁; what follows; what is kept]
     move ! (1 ∷ 2 ∷ 3 ∷ []) $ drop ! $ drop ! $ drop ! $ move ! (1 ∷ []) $ split3 ! $ move ! (2 ∷ []) $ drop ! $ forget_but ! E (1 ∷ 2 ∷ 3 ∷ []) refl $ move ! (2 ∷ 0 ∷ 1 ∷ []) $
     tail (put_back r ws₄.0 (cells_left t)) (first_band old bh value high narrow fits r t cells spacing lists y yields moves ws₄.0 stays one)))))))))))))))))

@@ -15,7 +15,7 @@ use Rattle.imgref.proofs.ImageValues.{img_row, LentCells, lent_cells_laws, ImgPa
 use Rattle.imgref.specs.declared.img.Img.{Img}
 use Rattle.imgref.specs.contracts.img.Img.into_parts as parts
 use Rattle.imgref.proofs.img.Img.into_parts.Met as apart
-use Rattle.image_tiles.specs.Lending.{image_of, tiling_of, after_tile, name_of, NextTile, tiles_left}
+use Rattle.image_tiles.specs.Lending.{image_of, tiling_of, after_tile, tile_name, NextTile, tiles_left}
 use Rattle.image_tiles.specs.Tiling.{tile_now}
 use Rattle.image_tiles.specs.declared.tiles.TileCursor.{TileCursor}
 use Rattle.image_tiles.specs.contracts.tiles.TileCursor.{the_row}
@@ -70,7 +70,7 @@ tile_parts_spec 𝓤 𝓛 𝓜 𝓡 wired X Y LX LY gh d gs ds bm bs =
     move ! (1 ∷ 0 ∷ []) $ use2 𝓛 (raw (G₁.pre z₁)) (id⊢ 𝓤 _) $
     calls_at ! fm G₁ (stepping.met 𝓤 𝓛 𝓜 𝓡 (compiled.calls-image_tiles::tiles::TileCursor::next_tile 𝓡.env wired) X Y LX LY gh d gs ds bm bs) z₁ (and_then ! (get ! refl) (no_more !)) (λ v.
     use1 𝓛 (later (some (λ (m : Given). (Tok ⊛ ‵ (Ans.own_val m (v ∷ []))) ⊛ some (λ (us : Unit {0} × Unit {0}). ‵ (lasts (f.ended X Y gh d gs ds) z₁.0.0 z₁.0.3 us)
-    ⊛ (‵ (follows_if Whole (Array R 0) γ (name_of m) F h) ⊛ raw (fact 𝓤 (Gives m))))))) (id⊢ 𝓤 _) $
+    ⊛ (‵ (follows_if Whole (Array R 0) γ (tile_name m) F h) ⊛ raw (fact 𝓤 (Gives m))))))) (id⊢ 𝓤 _) $
     await ! tt $ pick ! (λ m. split ! $ split ! $ move ! (2 ∷ []) $ pick ! (λ us. split ! $ drop ! $ split ! $ move ! (1 ∷ []) $ heard ! (Gives m) (λ gives.
     -- [what the cursor follows; the tokens; the tile, if there is one]
     ⊎_elim
@@ -78,7 +78,7 @@ tile_parts_spec 𝓤 𝓛 𝓜 𝓡 wired X Y LX LY gh d gs ds bm bs =
     (λ (found : (y : Tile) × (m ≡ Some y)). let y : Tile = found.0 in let e : m ≡ Some y = found.1 in
     let next = subst Gives e gives in
     let some_tile : Val = live 1 (of_list (band_val y ∷ [])) in
-    rewrite ! 0 (λ (m' : Given). ‵ (follows_if Whole (Array R 0) γ (name_of m') F h)) e refl $ use1 𝓛 (‵ (follows Whole (Array R 0) γ y.buf.ghost_name F)) (if_given 𝓛 Whole (Array R 0) γ y.buf.ghost_name F h) $
+    rewrite ! 0 (λ (m' : Given). ‵ (follows_if Whole (Array R 0) γ (tile_name m') F h)) e refl $ use1 𝓛 (‵ (follows Whole (Array R 0) γ y.buf.ghost_name F)) (if_given 𝓛 Whole (Array R 0) γ y.buf.ghost_name F h) $
     move ! (2 ∷ []) $ rewrite ! 0 (λ (m' : Given). ‵ (Ans.own_val m' (v ∷ []))) e refl $
     -- [the tile; what the cursor follows; the tokens]
     peeks ! Ans (Is Ans) (shows 𝓛 Ans) (Some y) (v ∷ []) (λ is. let told_y = band_told (named 0) κ R y (v ∷ []) is in

@@ -10,11 +10,11 @@ pub from_counts-requires-clause-reaches : goal.from_counts-requires-clause-reach
 from_counts-requires-clause-reaches g c =
     let n = c.of_shape in
     subst (λ xs. n.result.remaining + n.result.rows_left * (n.result.pad + n.result.width) ≤ length xs) (sym c.new.ensures)
-    (start_reaches (shaped c.args.cells.now c.args.shape) n.result.remaining n.result.rows_left n.result.width n.result.pad n.ensures.narrow n.ensures.remaining n.ensures.rows_left n.ensures.width n.ensures.pad c.requires.fits)
+    (start_reaches (shaped c.args.cells.now c.args.shape) n.result.remaining n.result.rows_left n.result.width n.result.pad n.ensures.holds_width n.ensures.remaining n.ensures.rows_left n.ensures.width n.ensures.pad c.requires.fits)
 
 pub returns : goal.returns
 returns g c =
     let n = c.of_shape in
-    let all = start_pixels (shaped c.args.cells.now c.args.shape) n.result.remaining n.result.rows_left n.result.width n.result.pad n.ensures.narrow n.ensures.remaining n.ensures.rows_left n.ensures.width n.ensures.pad
-    (refs_left c.from_counts.result) c.requires.fits n.ensures.width_fits n.ensures.height_fits (c.from_counts.ensures.pixels ∙ ap (pick (marks n.result.remaining n.result.rows_left n.result.width n.result.pad)) c.new.ensures) in
+    let all = start_pixels (shaped c.args.cells.now c.args.shape) n.result.remaining n.result.rows_left n.result.width n.result.pad n.ensures.holds_width n.ensures.remaining n.ensures.rows_left n.ensures.width n.ensures.pad
+    (refs_left c.from_counts.result) c.requires.fits n.ensures.width_bound n.ensures.height_bound (c.from_counts.ensures.pixels ∙ ap (pick (marks n.result.remaining n.result.rows_left n.result.width n.result.pad)) c.new.ensures) in
     record { whole = all; runs = refs_run }

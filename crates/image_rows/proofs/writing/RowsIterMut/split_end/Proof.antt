@@ -83,7 +83,7 @@ split_end_spec 𝓤 𝓛 𝓜 𝓡 wired T L =
     skips ! $ exec ! 𝓣.C 𝓣.Λ (env fn.locals l) (after 3 fn.body) (at_ret (env fn.locals l) Post) $
     sets ! (of_opd ! (get_in ! (fld ! refl (stop !)) (sub ! 1 refl (whole !)))) refl (tt, ok.1.1.0) $
     -- [the iterator; the tokens]
-    let lies : Lies sp (length xs) = (s.some, s.wide, s.fits) in
+    let lies : Lies sp (length xs) = (s.some, s.holds_width, s.fits) in
     let Some₀ : Type 0 = 0 < 1 in
     let There : Type 0 = 1 ≤ sp.count in
     let Wide : Type 0 = sp.width ≤ sp.stride in
@@ -96,7 +96,7 @@ split_end_spec 𝓤 𝓛 𝓜 𝓡 wired T L =
     owned ! EndRow (Is EndRow) (row_Makes EndRow end_laws.the_row_plain 𝓛) end (e ∷ []) is_end $ join ! $
     owned ! Sp (Is Sp) (row_Makes Sp spacing_laws.the_row_plain 𝓛) sp (spacing_laws.lowered sp ∷ []) is_sp $ join ! $ nothing ! $ join ! $
     use0 𝓛 (raw (fact 𝓤 Reach)) (fact_i 𝓤 Reach (emp 𝓤) (omega (arith, s.fits one, fit))) $
-    use0 𝓛 (raw (fact 𝓤 Wide)) (fact_i 𝓤 Wide (emp 𝓤) s.wide) $ join ! $
+    use0 𝓛 (raw (fact 𝓤 Wide)) (fact_i 𝓤 Wide (emp 𝓤) s.holds_width) $ join ! $
     use0 𝓛 (raw (fact 𝓤 There)) (fact_i 𝓤 There (emp 𝓤) one) $ join ! $
     use0 𝓛 (raw (fact 𝓤 Some₀)) (fact_i 𝓤 Some₀ (emp 𝓤) (lit< tt)) $ join ! $ move ! (1 ∷ 0 ∷ []) $ use2 𝓛 (raw (GC.pre zc)) (id⊢ 𝓤 _) $
     calls_at ! fm GC (counting.met 𝓤 𝓛 𝓜 𝓡 (compiled.calls-image_shape::spacing::Spacing::cuts 𝓡.env wired)) zc (and_then ! (get ! refl) (and_then ! (get ! refl) (and_then ! (lit ! tt) (no_more !)))) (λ vc.
@@ -150,7 +150,7 @@ split_end_spec 𝓤 𝓛 𝓜 𝓡 wired T L =
     sets ! (agg ! (and_then ! (get ! refl) (and_then ! (get ! refl) (no_more !)))) refl (tt, ((record { fits = lit< tt }, (both.1, tt)), ((both.2, (okm, tt)), tt))) $
     returns ! (look_at ! 0 refl) $ free_all ! refl $
     let rest : Lies n.rest (length r.1.now) = rw (is_rest, is_kept, is_outer) (rest_lies sp 1 xs lies (lit< tt) one end) in
-    let left : RowsIterMut T.Denot = record { cells = r.1; spacing = n.rest; some = rest.0; wide = rest.1; fits = rest.2 } in
+    let left : RowsIterMut T.Denot = record { cells = r.1; spacing = n.rest; some = rest.0; holds_width = rest.1; fits = rest.2 } in
     let row_word : Val = lent_val r.0 in
     let some_row : Val = live 1 (of_list (row_word ∷ [])) in
     let word : Val = pair_val some_row (low left) in

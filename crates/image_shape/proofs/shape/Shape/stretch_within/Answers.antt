@@ -11,5 +11,5 @@ returns-then-cells-start-clause-value c =
     let more : w.height ≡ suc (w.height - 1) = omega (arith, c.if-window-eq0-2.false) in
     let whole : s.stride * w.height ≡ s.stride * (w.height - 1) + s.stride = ap (λ n. s.stride * n) more ∙ mul-suc s.stride (w.height - 1) in
     let start : c.cell-start.result ≡ s.stride * w.top + w.left = omega (arith, c.cell-start.ensures.value, mul_comm w.top s.stride) in
-    let len : c.reach-exact.result + (s.stride - w.width) ≡ s.stride * w.height = omega (arith, exact, whole, c.requires.inside.0, s.width_within) in
+    let len : c.reach-exact.result + (s.stride - w.width) ≡ s.stride * w.height = omega (arith, exact, whole, c.requires.inside.0, s.holds_width) in
     rw (start, len) (search rules)

@@ -111,7 +111,7 @@ split_first_spec 𝓤 𝓛 𝓜 𝓡 wired T L =
     use0 𝓛 (raw (fact 𝓤 Reach)) (fact_i 𝓤 Reach (emp 𝓤) (omega (arith, s.fits one, fit))) $
     use0 𝓛 (raw (fact 𝓤 High)) (fact_i 𝓤 High (emp 𝓤) s.high) $ join ! $
     use0 𝓛 (raw (fact 𝓤 Tall)) (fact_i 𝓤 Tall (emp 𝓤) s.rows_fit) $ join ! $
-    use0 𝓛 (raw (fact 𝓤 Wide)) (fact_i 𝓤 Wide (emp 𝓤) s.width_fits) $ join ! $
+    use0 𝓛 (raw (fact 𝓤 Wide)) (fact_i 𝓤 Wide (emp 𝓤) s.width_bound) $ join ! $
     use0 𝓛 (raw (fact 𝓤 Holds)) (fact_i 𝓤 Holds (emp 𝓤) s.holds_width) $ join ! $
     use0 𝓛 (raw (fact 𝓤 Positive)) (fact_i 𝓤 Positive (emp 𝓤) s.stride_positive) $ join ! $
     use0 𝓛 (raw (fact 𝓤 Some₀)) (fact_i 𝓤 Some₀ (emp 𝓤) one) $ join ! $ move ! (1 ∷ 0 ∷ []) $ use2 𝓛 (raw (GC.pre zc)) (id⊢ 𝓤 _) $
@@ -200,7 +200,7 @@ split_first_spec 𝓤 𝓛 𝓜 𝓡 wired T L =
     sets ! (agg ! (and_then ! (get ! refl) (and_then ! (get ! refl) (no_more !)))) refl (tt, ((record { fits = lit< tt }, (band_ok, tt)), ((both.2, (okr, tt)), tt))) $
     returns ! (look_at ! 0 refl) $ free_all ! refl $
     let rest : Lies n.rest.rows (length r.1.now) = rw (is_rest, is_kept, is_outer) (rest_lies p.rows k xs lies tall there First) in
-    let left : BandsMut T.Denot = record { cells = r.1; spacing = n.rest; some = rest.0; stride_positive = rw is_rest s.stride_positive; holds_width = rest.1; width_fits = rw is_rest s.width_fits; rows_fit = rw is_rest (omega (arith, s.rows_fit)); high = rw is_rest s.high; fits = rest.2 } in
+    let left : BandsMut T.Denot = record { cells = r.1; spacing = n.rest; some = rest.0; stride_positive = rw is_rest s.stride_positive; holds_width = rest.1; width_bound = rw is_rest s.width_bound; rows_fit = rw is_rest (omega (arith, s.rows_fit)); high = rw is_rest s.high; fits = rest.2 } in
     let some_band : Val = live 1 (of_list (band_word ∷ [])) in
     let word : Val = pair_val some_band (low left) in
     let band_is : b.buf.now ≡ drop_list p.rows.skip (take (cut_end p) xs) = ap (λ (u : MutBor (List T.Denot)). u.now) same ∙ rw (is_band, is_outer, is_inner) refl in

@@ -11,7 +11,7 @@ use Rattle.image_model.specs.Windows.{Window}
 use Rattle.imgref.specs.Image.{layout_by, shape_of}
 use Rattle.imgref.proofs.ImageValues.{img_val, img_row, img_told}
 use Rattle.imgref.specs.declared.img.Img.{Img}
-use Rattle.image_tiles.specs.Lending.{image_of, tiling_of, after_tile, name_of, IsNext, NextTile, tiles_left}
+use Rattle.image_tiles.specs.Lending.{image_of, tiling_of, after_tile, tile_name, IsNext, NextTile, tiles_left}
 use Rattle.image_tiles.specs.Tiling.{windows_left, has_tile}
 use Rattle.image_tiles.specs.declared.tiles.TileCursor.{TileCursor}
 use Rattle.image_tiles.specs.contracts.tiles.TileCursor.{the_row}
@@ -94,7 +94,7 @@ next_tile_spec 𝓤 𝓛 𝓜 𝓡 wired X Y LX LY gh d gs ds bm bs =
     fsplit3 ! $ drop ! $ move ! (1 ∷ []) $ drop ! $ name_done ! tt $
     sets ! (agg ! (and_then ! (lit ! tt) (no_more !))) refl (tt, (record { fits = lit< tt }, tt)) $
     returns_within ! Post refl (look_at ! 0 refl) $ free_all ! refl $
-    use1 𝓛 (‵ (follows_if Whole (Array R 0) γ (name_of {T = Y.Denot} None) F h)) (if_none 𝓛 Whole (Array R 0) γ F h) $
+    use1 𝓛 (‵ (follows_if Whole (Array R 0) γ (tile_name {T = Y.Denot} None) F h)) (if_none 𝓛 Whole (Array R 0) γ F h) $
     use0 𝓛 (raw (fact 𝓤 (Gives None))) (fact_i 𝓤 (Gives None) (emp 𝓤) none_left) $ move ! (1 ∷ 0 ∷ []) $ join ! $
     use0 𝓛 (‵ (Ans.own_val None (live 0 (of_list []) ∷ []))) (none_of 𝓛 Row) $
     nothing ! $ nothing ! $ fjoin ! $
@@ -127,7 +127,7 @@ next_tile_spec 𝓤 𝓛 𝓜 𝓡 wired X Y LX LY gh d gs ds bm bs =
     returns ! (look_at ! 0 refl) $ free_all ! refl $
     use1 𝓛 (‵ (Ans.own_val (Some u) (live 1 (of_list (w₂ ∷ [])) ∷ []))) (Some-of 𝓛 Row u w₂) $
     -- [the answer; what the cursor follows; the tokens]
-    move ! (1 ∷ []) $ use1 𝓛 (‵ (follows_if Whole (Array R 0) γ (name_of (Some u)) F h)) (if_some 𝓛 Whole (Array R 0) γ F h u.buf.ghost_name) $
+    move ! (1 ∷ []) $ use1 𝓛 (‵ (follows_if Whole (Array R 0) γ (tile_name (Some u)) F h)) (if_some 𝓛 Whole (Array R 0) γ F h u.buf.ghost_name) $
     use0 𝓛 (raw (fact 𝓤 (Gives (Some u)))) (fact_i 𝓤 (Gives (Some u)) (emp 𝓤) gives) $ move ! (1 ∷ 0 ∷ []) $ join ! $
     nothing ! $ nothing ! $ fjoin ! $
     -- [nothing of the cursor; the ensures; the answer; the tokens]

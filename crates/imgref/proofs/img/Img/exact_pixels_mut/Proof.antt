@@ -9,7 +9,7 @@ use Rattle.image_shape.specs.declared.shape.Shape.{Shape}
 use Rattle.image_shape.specs.contracts.shape.Shape as shape
 use Rattle.image_shape.specs.Shape.{shaped}
 use Rattle.image_pixels.specs.Marks.{marks_of}
-use Rattle.image_pixels.specs.Pixels.{ArePixels, cells_left, marks_left, muts_left, name_of}
+use Rattle.image_pixels.specs.Pixels.{ArePixels, cells_left, marks_left, muts_left, pixels_name}
 use Rattle.image_pixels.specs.declared.pixels_mut.PixelsIterMut.{PixelsIterMut}
 use Rattle.image_pixels.specs.contracts.pixels_mut.PixelsIterMut as P
 use Rattle.image_pixels.proofs.pixels_mut.PixelsIterMut.TheLaws as laws
@@ -95,7 +95,7 @@ exact_pixels_mut_spec 𝓤 𝓛 𝓜 𝓡 wired X Y LX LY gh d gs ds bm bs =
     calls_at ! fm G₂ (making.met 𝓤 𝓛 𝓜 𝓡 (compiled.calls-image_pixels::pixels_mut::PixelsIterMut::new 𝓡.env wired) Y LY) z₂ (and_then ! (get ! refl) (and_then ! (get ! refl) (no_more !))) (λ v₂.
     let here : Layout Y.Denot = shaped p.0.now p.1 in
     let Sort : Type 0 = PixelsIterMut Y.Denot in
-    let Name : Sort → Type 0 = λ r. name_of r ≡ p.0.ghost_name in let Cells : Layout Y.Denot → Sort → Type 0 = λ l r. cells_left r ≡ l.cells in let Marks : Layout Y.Denot → Sort → Type 0 = λ l r. marks_left r ≡ marks_of l.width l.height l.stride in
+    let Name : Sort → Type 0 = λ r. pixels_name r ≡ p.0.ghost_name in let Cells : Layout Y.Denot → Sort → Type 0 = λ l r. cells_left r ≡ l.cells in let Marks : Layout Y.Denot → Sort → Type 0 = λ l r. marks_left r ≡ marks_of l.width l.height l.stride in
     let Whole₂ : Layout Y.Denot → Sort → Type 0 = λ l r. ArePixels l (muts_left r) in
     use1 𝓛 (later (some (λ (r : Sort). ((‵ (flft κ qs.0) ⊛ ‵ (flft κY qs.1.1.0) ⊛ ‵ ftrue) ⊛ ‵ (cursor.own_val r (v₂ ∷ []))) ⊛ some (λ (us : Unit {0} × (Unit {0} × Unit {0})). ‵ (lasts (f.ended Y) z₂.0.0 z₂.0.3 us)
     ⊛ (raw (fact 𝓤 (Name r)) ⊛ raw (fact 𝓤 (Cells here r)) ⊛ raw (fact 𝓤 (Marks here r)) ⊛ raw (fact 𝓤 (Whole₂ here r))))))) (id⊢ 𝓤 _) $

@@ -6,7 +6,7 @@ use Rattle.image_model.specs.Layout.{Layout, Fits}
 use Rattle.image_model.specs.Grid.{grid_of}
 use Rattle.image_model.specs.Rows.{pixels, grid_pixels}
 use Rattle.image_pixels.specs.Marks.{marks_of}
-use Rattle.image_pixels.specs.Pixels.{cells_left, marks_left, muts_left, name_of}
+use Rattle.image_pixels.specs.Pixels.{cells_left, marks_left, muts_left, pixels_name}
 use Rattle.image_pixels.specs.declared.pixels_mut.PixelsIterMut.{PixelsIterMut}
 use Rattle.image_pixels.specs.contracts.pixels_mut.PixelsIterMut as P
 use Rattle.image_pixels.proofs.pixels_mut.PixelsIterMut.TheLaws as laws
@@ -56,7 +56,7 @@ pixels_mut_spec 𝓤 𝓛 𝓜 𝓡 wired X Y LX LY gh d gs ds bm bs =
     let Pixels : Sort → Type 0 = λ r. muts_left r ≡ pixels old in let Grid : Sort → Type 0 = λ r. muts_left r ≡ grid_pixels (grid_of old) in
     let Count : Sort → Type 0 = λ r. length (muts_left r) ≡ old.width * old.height in let Countable : Sort → Type 0 = λ r. length (muts_left r) < 2 ^ 64 in
     use1 𝓛 (later (some (λ (r : Sort). ((‵ (flft κ qs.0) ⊛ ‵ (flft κX qs.1.0) ⊛ ‵ (flft κY qs.1.1.0) ⊛ ‵ ftrue) ⊛ ‵ (cursor.own_val r (v ∷ []))) ⊛ some (λ (us : Unit {0} × Unit {0}). ‵ (lasts (f.ended X Y gh d gs ds) z₁.0.0 z₁.0.3 us)
-    ⊛ (‵ (follows Whole (Array R 0) x.ghost_name (name_of r) F) ⊛ raw (fact 𝓤 (Cells r)) ⊛ raw (fact 𝓤 (Marks r)) ⊛ raw (fact 𝓤 (Pixels r)) ⊛ raw (fact 𝓤 (Grid r)) ⊛ raw (fact 𝓤 (Count r)) ⊛ raw (fact 𝓤 (Countable r))))))) (id⊢ 𝓤 _) $
+    ⊛ (‵ (follows Whole (Array R 0) x.ghost_name (pixels_name r) F) ⊛ raw (fact 𝓤 (Cells r)) ⊛ raw (fact 𝓤 (Marks r)) ⊛ raw (fact 𝓤 (Pixels r)) ⊛ raw (fact 𝓤 (Grid r)) ⊛ raw (fact 𝓤 (Count r)) ⊛ raw (fact 𝓤 (Countable r))))))) (id⊢ 𝓤 _) $
     await ! tt $ pick ! (λ r. split ! $ split ! $ move ! (2 ∷ []) $ pick ! (λ us. split ! $ drop ! $
     split ! $ move ! (1 ∷ []) $ split ! $ heard ! (Cells r) (λ full. split ! $ heard ! (Marks r) (λ marks. split ! $ heard ! (Pixels r) (λ are_pixels. split ! $ heard ! (Grid r) (λ grid. split ! $ heard ! (Count r) (λ count. heard ! (Countable r) (λ countable.
     -- [what follows; the tokens; the cursor]

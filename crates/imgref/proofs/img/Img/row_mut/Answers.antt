@@ -24,7 +24,7 @@ returns g c =
         writes_back = tt;
         value = value ∙ row_is (layout_by cells i) c.args.y c.requires.fits c.requires.below;
         len = ap length c.stretch_mut.ensures.value ∙ length-stretch_cells (cells i.buf) (record { start = row.start; len = row.len }) (omega (arith, c.any_row-row.ensures.inside, ap length c.as_slice.ensures)) ∙ len;
-        grid = row_patches cells with_cells stay i c.args.y c.requires.fits c.requires.below i.width_within;
+        grid = row_patches cells with_cells stay i c.args.y c.requires.fits c.requires.below i.holds_width;
         outside = row_keeps cells with_cells stay i c.args.y c.requires.fits c.requires.below;
         fits = row_fits cells with_cells stay i c.args.y c.requires.fits c.requires.below;
       },

@@ -18,7 +18,7 @@ returns g c =
       record {
         writes_back = tt;
         value = rw (← is) c.cell_mut.ensures.value;
-        grid = λ fits column line value. cell_grid cells with_cell stay i at.0 at.1 c.requires.1 value i.width_within fits column line;
+        grid = λ fits column line value. cell_grid cells with_cell stay i at.0 at.1 c.requires.1 value i.holds_width fits column line;
         outside = λ column line value. cell_outside cells with_cell stay i at.0 at.1 c.requires.1 value column line;
         fits = λ fits value. cell_fits cells with_cell stay i at.0 at.1 c.requires.1 value fits;
       },

@@ -7,7 +7,7 @@ use Rattle.imgref_replay.specs.Commands.{grid_at, grids_of}
 use Rattle.imgref_replay.specs.Step.{ShowsCopy}
 use Rattle.imgref_replay.proofs.Images.{fits_at, inside_at}
 use Rattle.imgref_replay.proofs.Copies.{may_copy, copied, in_front, in_back, set_front, set_back}
-use Rattle.imgref_replay.proofs.copy.copy_window.Goals as goal
+use Rattle.imgref_replay.proofs.copy.copy_between.Goals as goal
 
 -- ---- the same image is read and written
 
