@@ -1,9 +1,9 @@
 -- The first band of an image, filled: what a step of `BandsMut` and what it leaves make of the whole.
-use Rattle.std.proofs.Common.{◌≡◌, ℕ, zero, suc, Bool, true, false, ◌+◌, ◌-◌, ◌*◌, ◌<◌, ◌≤◌, List, [], ◌∷◌, ◌++◌, length, take, drop, map, min, Some, refl, sym, ap, subst, ◌∙◌, arith, ◌==◌, if◌then◌else◌}
+use Rattle.std.proofs.Common.{◌≡◌, ℕ, zero, suc, false, ◌+◌, ◌-◌, ◌*◌, ◌<◌, ◌≤◌, List, [], ◌∷◌, ◌++◌, length, take, drop, map, min, Some, refl, sym, ap, subst, ◌∙◌, arith, ◌==◌}
 use Rattle.std.specs.Borrow.{MutBor}
 use Rattle.std.specs.Iterator.{YieldsFirstBy}
 use Rattle.std.specs.List.{range_with_len}
-use Rattle.std.proofs.lemmas.Bool.{cond-false}
+use Rattle.std.proofs.lemmas.Bool.{cond-false, cond_both}
 use Rattle.std.proofs.lemmas.Bool.Decides.{nat_tests}
 use Rattle.std.proofs.Math.Seq.{drop-append_seam}
 use Rattle.image_model.specs.Layout.{Layout, Fits, SameOutside}
@@ -37,10 +37,6 @@ none_of : {X : Type 0} (f : ℕ → X) (n : ℕ) → map f (range_with_len 0 n) 
 none_of f zero is = refl
 none_of f (suc n) is = absurd (omega (arith, ap length is))
 
-either : (b : Bool) (m n : ℕ) → n ≡ m → (if b then m else n) ≡ m
-either true m n same = refl
-either false m n same = same
-
 module _ {T : Type 0} (l : Layout T) (bh : ℕ) (value : T) (high : 0 < bh) (narrow : l.width ≤ l.stride) (fits : Fits l) where
   abbrev table : ℕ → Layout T
   table j = exact_window l (band_window l.width l.height bh j)
@@ -62,7 +58,7 @@ module _ {T : Type 0} (l : Layout T) (bh : ℕ) (value : T) (high : 0 < bh) (nar
 
   -- the first band begins with the image
   begins : s.start ≡ 0
-  begins = either (is_empty w) 0 (l.stride * (0 * bh) + 0) (let none : l.stride * 0 + 0 ≡ 0 = omega arith in ap (λ n. l.stride * n + 0) top ∙ none)
+  begins = cond_both (is_empty w) 0 (l.stride * (0 * bh) + 0) (λ n. n ≡ 0) (λ _. refl) (λ _. let none : l.stride * 0 + 0 ≡ 0 = omega arith in ap (λ n. l.stride * n + 0) top ∙ none)
 
   -- without a band there is no place
   no_place : bands l bh ≡ [] → (x y : ℕ) → x < l.width → y < l.height → ⊥

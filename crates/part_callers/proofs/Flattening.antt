@@ -1,6 +1,7 @@
 -- Tiles that are flattened one after the other.
-use Rattle.std.proofs.Common.{◌≡◌, ◌+◌, ◌≤◌, ◌<◌, ℕ, List, [], ◌∷◌, length, refl, sym, ap, ◌∙◌, arith, None, Some}
+use Rattle.std.proofs.Common.{◌≡◌, ◌+◌, ◌≤◌, ◌<◌, ℕ, List, [], ◌∷◌, length, sym, ap, ◌∙◌, arith, None, Some}
 use Rattle.std.specs.Borrow.{MutBor}
+use Rattle.std.proofs.lemmas.List.{nil_from_length}
 use Rattle.std.proofs.lemmas.Bool.{cond-true}
 use Rattle.image_model.specs.Layout.{Layout, Fits, SameOutside, is_fitting, pixel}
 use Rattle.image_model.specs.Grid.{Grid, grid, grid_of, view, patch, uniform, is_place}
@@ -41,10 +42,6 @@ pub record IsPartly {T : Type 0} (old now : TileCursor (MutBor (List T))) : Type
   pub rest : all_flattened (grid_of (mut_layout (image_of now))) (windows_left (tiling_of now)) ≡ all_flattened (grid_of (mut_layout (image_of old))) (windows_left (tiling_of old))
   pub outside : SameOutside (mut_layout (image_of old)) (mut_layout (image_of now))
 
-no_item : {X : Type 0} (xs : List X) → length xs ≤ 0 → xs ≡ []
-no_item [] few = refl
-no_item (x ∷ xs) few = absurd (omega arith)
-
 -- the tiles of an image that fits
 pub all_left : {T : Type 0} (now : TileCursor (MutBor (List T))) → Fits (mut_layout (image_of now)) → tiles_left (λ s. s.now) now ≡ windows_left (tiling_of now)
 all_left now fits = cond-true (is_fitting (mut_layout (image_of now))) (windows_left (tiling_of now)) [] ((is_fitting_decides (mut_layout (image_of now))).1 fits)
@@ -53,7 +50,7 @@ all_left now fits = cond-true (is_fitting (mut_layout (image_of now))) (windows_
 pub all_done : {T : Type 0} (old now : TileCursor (MutBor (List T))) → IsPartly old now → length (tiles_left (λ s. s.now) now) ≤ 0
     → grid_of (mut_layout (image_of now)) ≡ all_flattened (grid_of (mut_layout (image_of old))) (windows_left (tiling_of old))
 all_done old now part few =
-    let none : windows_left (tiling_of now) ≡ [] = sym (all_left now part.fits) ∙ no_item (tiles_left (λ s. s.now) now) few in
+    let none : windows_left (tiling_of now) ≡ [] = sym (all_left now part.fits) ∙ nil_from_length (tiles_left (λ s. s.now) now) (omega arith) in
     sym (ap (all_flattened (grid_of (mut_layout (image_of now)))) none) ∙ part.rest
 
 -- one more

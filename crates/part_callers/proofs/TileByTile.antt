@@ -2,10 +2,10 @@
 use Rattle.std.proofs.Common.{◌≡◌, ℕ, zero, suc, ◌+◌, ◌-◌, ◌*◌, ◌/◌, ◌<◌, ◌≤◌, true, inl, inr, List, [], drop, Some, Option, sym, ap, ◌∙◌, subst, arith, min, get_or, length, ap₂, IsTrue, nat_le, if◌then◌else◌}
 use Rattle.std.specs.Option.{IsSomeAnd}
 use Rattle.std.specs.List.{slice_get}
-use Rattle.std.proofs.Math.Nat.{mul-le-mul_right, suc-mul}
+use Rattle.std.proofs.Math.Nat.{mul_comm}
 use Rattle.std.proofs.lemmas.Bool.{cases_lt, cond-true, cond-false, le-leb, lt-leb, false_from_ne_true}
 use Rattle.std.proofs.lemmas.List.{drop_all, drop_more}
-use Rattle.std.proofs.lemmas.Nat.{div-add-mod', mod_below, div-mul-add}
+use Rattle.std.proofs.lemmas.Nat.{div-add-mod', mod_below, div-mul-add, mul-add-lt}
 use Rattle.std.proofs.lemmas.Option.{same_Some, slice_get-get_or}
 use Rattle.image_model.specs.Grid.{Grid, grid, patch, covers}
 use Rattle.image_model.specs.Windows.{Window}
@@ -73,12 +73,7 @@ module _ (W H tw th : ℕ) (wide : 0 < tw) (high : 0 < th) where
         one.alone k (lies k w is has) ∙ sym (one.alone (number x y) (lies (number x y) (own x y) own_at own_has))
 
     below : number x y < count
-    below = mul_add_lt (y / th) columns (x / tw) (tile_count th H) down across
-      where
-        mul_add_lt : (a w b h : ℕ) → a < h → b < w → a * w + b < h * w
-        mul_add_lt a w b h below_h below_w =
-            let step : suc a * w ≤ h * w = mul-le-mul_right w (omega arith) in
-            omega (arith, step, suc-mul a w)
+    below = omega (arith, mul-add-lt (y / th) columns (x / tw) (tile_count th H) down across, mul_comm columns (tile_count th H))
 
     hits : (k : ℕ) (w : Window) → slice_get all k ≡ Some w → k ≡ number x y → w ≡ own x y
     hits k w is e = same_Some w (own x y) (sym is ∙ ap (slice_get all) e ∙ own_at)

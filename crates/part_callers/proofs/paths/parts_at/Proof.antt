@@ -7,7 +7,7 @@ use Rattle.std.specs.Result.{IfOk, result_err}
 use Rattle.std.specs.contracts.result.Result as result
 use Rattle.std.specs.declared.result.Result.{Result}
 use Rattle.std.specs.declared.result.Result.TheVariants.{Ok, Err}
-use Rattle.borrow_laws.proofs.Walking.{SProp, emp, id⊢, Lft, GName, ftrue, flft, Args, Fn, named, inst_fn, Val, WT, has_ty, vptr, of_list, Env, Wp, WpFn, after_seq, at_return, ◌⊑◌, ⊑_refl, ⊑_trans, ⊑_meet, fact, fact_i, tables, Item, any_q, ‵, ◌⊛◌, raw, later, some, prop, at_ret, ◌$◌, ◌∵◌, !, qed, by, move, keep, drop, split, split3, join, fsplit, fjoin, rewrite, regoal, use0, use1, use2, await, pick, updating, now, done, live, vrt, in_variant, all_of, stop, fld, addr, of_opd, and_then, no_more, first, switches_on, exec, returns, enter, alloc_all, pass_all, free_all, look_at, get, get_in, get_tag, through, sets, lands_as, lands_last, env, Array, usize, follows, follows_if, follows_then, shows, Is, param, RattleType, owns, MutRef, mut_vals, mut_Tells, plain, types_at, ShrSlice, slice_val, shr_slice_Tells, nothing, heard, peeks, only, calls_at, calls_at_last, lasts, triple_of, framed, Stays, stay_dropped, walk_of, Goes-spent_ref, proved_at, leaves}
+use Rattle.borrow_laws.proofs.Walking.{SProp, emp, id⊢, Lft, GName, ftrue, flft, Args, Fn, named, inst_fn, Val, WT, has_ty, vptr, Env, Wp, WpFn, after_seq, at_return, ◌⊑◌, ⊑_refl, ⊑_trans, ⊑_meet, fact, fact_i, tables, Item, any_q, ‵, ◌⊛◌, raw, later, some, prop, at_ret, ◌$◌, ◌∵◌, !, qed, by, move, keep, drop, split, split3, join, fsplit, fjoin, rewrite, regoal, use0, use1, use2, await, pick, updating, now, done, vrt, in_variant, all_of, stop, fld, addr, of_opd, and_then, no_more, first, switches_on, exec, returns, enter, alloc_all, pass_all, free_all, look_at, get, get_in, get_tag, through, sets, lands_as, lands_last, env, Array, usize, follows, follows_if, follows_then, shows, Is, param, RattleType, owns, MutRef, mut_vals, mut_Tells, plain, types_at, ShrSlice, slice_val, shr_slice_Tells, nothing, heard, peeks, only, calls_at, calls_at_last, lasts, triple_of, framed, Stays, stay_dropped, walk_of, Goes-spent_ref, proved_at, leaves}
 use Rattle.borrow_laws.proofs.Bodies.{of_container, first_arm, type_of}
 use Rattle.borrow_laws.proofs.Followed.{if_given}
 use Rattle.image_model.specs.Layout.{Layout, Fits}
@@ -113,7 +113,6 @@ parts_at_spec 𝓤 𝓛 𝓜 𝓡 wired X Y LX LY gh d gs ds bm bs =
     -- [what the whole image follows; the tokens; the window, if the path is inside; the token of κX; what the image follows]
     ⊎_elim
     (λ (found : (y : Tile) × (m ≡ Ok y)). let y : Tile = found.0 in let e : m ≡ Ok y = found.1 in
-    let some_window : Val = live 0 (of_list (band_val y ∷ [])) in
     let is_path : mut_layout y ≡ path_layout li ws = subst Laid e laid ∙ ap (λ (k : Layout Y.Denot). path_layout k ws) all in
     rewrite ! 0 (λ (m' : Given). ‵ (follows_if A₀ A₀ r.buf.ghost_name (window_name m') (G lr) r.buf.now)) e refl $ use1 𝓛 (‵ (follows A₀ A₀ r.buf.ghost_name y.buf.ghost_name (G lr))) (if_given 𝓛 A₀ A₀ r.buf.ghost_name y.buf.ghost_name (G lr) r.buf.now) $
     move ! (4 ∷ 0 ∷ []) $ use2 𝓛 (‵ (follows Whole A₀ γ y.buf.ghost_name (λ others. F (G lr others)))) (follows_then 𝓛 Whole A₀ A₀ F (G lr) γ r.buf.ghost_name y.buf.ghost_name) $

@@ -3,7 +3,7 @@ use mir.Syntax.{Body}
 use Rattle.std.proofs.Common.{⊎_elim, arith, ◌≡◌, refl, sym, ap, subst, ◌∙◌, ◌<◌, List, [], ◌∷◌, ◌++◌, T, lit<, length, MutBor, Option, Some, None}
 use Rattle.std.proofs.alloc.Shapes.{after}
 use Rattle.std.specs.contracts.option.Option as OP
-use Rattle.borrow_laws.proofs.Walking.{SProp, emp, id⊢, Lft, GName, ftrue, flft, Args, Fn, named, inst_fn, Val, WT, has_ty, vptr, of_list, Env, Wp, WpFn, after_seq, at_return, ◌⊑◌, ⊑_refl, ⊑_trans, ⊑_meet, fact, fact_i, tables, Item, any_q, ‵, ◌⊛◌, raw, later, some, prop, at_ret, ◌$◌, ◌∵◌, !, qed, by, move, keep, drop, split, split3, join, fsplit, fjoin, rewrite, regoal, use0, use1, use2, await, pick, live, vrt, in_variant, all_of, stop, fld, addr, of_opd, and_then, no_more, first, switches_on, exec, returns, enter, alloc_all, pass_all, free_all, look_at, get, get_in, get_tag, through, sets, lands_as, lands_last, env, Array, follows, follows_if, shows, Is, param, RattleType, owns, MutRef, mut_vals, mut_Tells, plain, types_at, nothing, heard, peeks, only, calls_at, calls_at_last, lasts, triple_of, framed, Stays, stay_dropped, walk_of, Goes-spent_ref, proved_at, leaves}
+use Rattle.borrow_laws.proofs.Walking.{SProp, emp, id⊢, Lft, GName, ftrue, flft, Args, Fn, named, inst_fn, Val, WT, has_ty, vptr, Env, Wp, WpFn, after_seq, at_return, ◌⊑◌, ⊑_refl, ⊑_trans, ⊑_meet, fact, fact_i, tables, Item, any_q, ‵, ◌⊛◌, raw, later, some, prop, at_ret, ◌$◌, ◌∵◌, !, qed, by, move, keep, drop, split, split3, join, fsplit, fjoin, rewrite, regoal, use0, use1, use2, await, pick, vrt, in_variant, all_of, stop, fld, addr, of_opd, and_then, no_more, first, switches_on, exec, returns, enter, alloc_all, pass_all, free_all, look_at, get, get_in, get_tag, through, sets, lands_as, lands_last, env, Array, follows, follows_if, shows, Is, param, RattleType, owns, MutRef, mut_vals, mut_Tells, plain, types_at, nothing, heard, peeks, only, calls_at, calls_at_last, lasts, triple_of, framed, Stays, stay_dropped, walk_of, Goes-spent_ref, proved_at, leaves}
 use Rattle.borrow_laws.proofs.Bodies.{of_container, first_arm, type_of}
 use Rattle.borrow_laws.proofs.Followed.{if_given}
 use Rattle.borrow_laws.proofs.Options.{none_or_some}
@@ -77,7 +77,6 @@ tile_parts_spec 𝓤 𝓛 𝓜 𝓡 wired X Y LX LY gh d gs ds bm bs =
     (λ (e : m ≡ None). let no_tile : before ≡ [] = subst Gives e gives in absurd (omega (arith, more, ap length no_tile)))
     (λ (found : (y : Tile) × (m ≡ Some y)). let y : Tile = found.0 in let e : m ≡ Some y = found.1 in
     let next = subst Gives e gives in
-    let some_tile : Val = live 1 (of_list (band_val y ∷ [])) in
     rewrite ! 0 (λ (m' : Given). ‵ (follows_if Whole (Array R 0) γ (tile_name m') F h)) e refl $ use1 𝓛 (‵ (follows Whole (Array R 0) γ y.buf.ghost_name F)) (if_given 𝓛 Whole (Array R 0) γ y.buf.ghost_name F h) $
     move ! (2 ∷ []) $ rewrite ! 0 (λ (m' : Given). ‵ (Ans.own_val m' (v ∷ []))) e refl $
     -- [the tile; what the cursor follows; the tokens]
