@@ -107,13 +107,16 @@ module _ (edit : Edits) (line : List ℕ) (recipe : Recipe) (is : IsStream edit 
       video_kind bytes (Some rest) read = line_begins line rest bytes read ∙ kind
 
   pub frames_written : (r : Result ℕ RunFault) (input left new : Option (List ℕ)) → Consumes input r1 (line ++ 10 ∷ []) → PassesFrames r (heads_of edit (video line recipe)) r1 left w1 new → Writes r edit input w0 new
+  frames_written (Ok n) None left new read passes = tt
   frames_written (Ok n) (Some bytes) left new read passes = at_end edit (video line recipe) is r1 w0 w1 wrote bytes (is_video bytes read) read n left new passes.0 passes.1
+  frames_written (Err (Frame n)) None left new read passes = tt
   frames_written (Err (Frame n)) (Some bytes) left new read passes = up_to edit (video line recipe) is r1 w0 w1 wrote bytes (is_video bytes read) read n passes.left new passes.passed passes.ends
   frames_written (Err Input) None left new read passes = inr tt
   frames_written (Err Input) (Some bytes) left new read passes = inr (some edit (video line recipe) is r1 w0 w1 wrote bytes (is_video bytes read) read Anything passes.count passes.up_to.left new passes.up_to.passed passes.up_to.ends)
+  frames_written (Err Endless) None left new read passes = tt
   frames_written (Err Endless) (Some bytes) left new read passes = some edit (video line recipe) is r1 w0 w1 wrote bytes (is_video bytes read) read Anything passes.count passes.up_to.left new passes.up_to.passed passes.up_to.ends
+  frames_written (Err Output) None left new read passes = tt
   frames_written (Err Output) (Some bytes) left new read passes = part_of edit (video line recipe) is r1 w0 w1 wrote bytes (is_video bytes read) read new passes
-  frames_written _ None left new read passes = tt
   frames_written _ input left new read passes = absurd passes
 
 module _ (edit : Edits) (bytes : List ℕ) (kind : begins_picture bytes ≡ true) (old new : Option (List ℕ)) where
