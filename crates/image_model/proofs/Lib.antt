@@ -19,3 +19,4 @@ pub mod MappedRows
 pub mod Swaps
 pub mod Flips
 pub mod Examples
+pub mod WindowExamples
