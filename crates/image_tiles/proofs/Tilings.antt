@@ -1,11 +1,10 @@
 -- A tiling by the tile column and the tile row of its next window.
 use Rattle.std.proofs.lemmas.Bool.Decides.{nat_tests}
 use Rattle.std.proofs.lemmas.List.{places, drop_more, drop_all}
-use Rattle.std.proofs.Common.{◌≡◌, ℕ, ◌+◌, ◌-◌, ◌*◌, ◌/◌, ◌<◌, ◌≤◌, true, false, inl, inr, List, [], ◌∷◌, drop, length, length-drop, Option, Some, None, sym, ap, ◌∙◌, subst, arith, if◌then◌else◌, ◌^◌, IfSome}
+use Rattle.std.proofs.Common.{◌≡◌, ℕ, ◌+◌, ◌-◌, ◌*◌, ◌<◌, ◌≤◌, true, false, inl, inr, List, [], ◌∷◌, drop, length, length-drop, Option, Some, None, sym, ap, ◌∙◌, subst, arith, if◌then◌else◌, ◌^◌, IfSome}
 use Rattle.std.specs.List.{slice_get}
 use Rattle.std.specs.Option.{SomeIff}
 use Rattle.std.proofs.lemmas.Bool.{cases_lt, cond-true, cond-false, lt-ltb, ltb-true, false_from_ne_true}
-use Rattle.std.proofs.lemmas.Nat.{div-add-mod', mod_below, div-mul-add}
 use Rattle.std.proofs.lemmas.Option.{slice_get_within, get_or_from_slice_get, none-some}
 use Rattle.std.proofs.Math.Nat.{suc-mul, add-mul, mul-le-mul}
 use Rattle.image_model.specs.Grid.{is_place}

@@ -9,7 +9,7 @@ use Rattle.image_model.proofs.Places.{outside_fits, written, written_outside, wr
 use Rattle.image_model.proofs.Stretches.{length-stretch_cells}
 use Rattle.image_model.proofs.Windows.{HasWindow, stretch_window, stretch_has, layout_is, handed_on, handed_on_grid, handed_on_outside}
 use Rattle.imgref.specs.declared.img.Img.{Img}
-use Rattle.imgref.specs.Image.{buf_of, width_of, height_of, stride_of, with_buf, layout_by, stretch_by, with_all, with_window, window_buf}
+use Rattle.imgref.specs.Image.{buf_of, width_of, height_of, stride_of, with_buf, layout_by, stretch_by, with_window, window_buf}
 use Rattle.imgref.specs.Written.{WindowPatchesGrid, WindowKeepsOutside, WindowKeepsFit, WindowKeepsContainer}
 use Rattle.imgref.specs.Index.{row_start, with_row, RowPatchesGrid, RowKeepsOutside, RowKeepsFit}
 
