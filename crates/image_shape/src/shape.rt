@@ -1,6 +1,6 @@
 //! A width, a height and a stride.
 
-ghost use Rattle.std.specs.Prelude.{◌≡◌, ◌+◌, ◌-◌, ◌*◌, ◌^◌, ◌≤◌, ◌<◌, ◌↔◌, IsTrue};
+ghost use Rattle.std.specs.Prelude.{◌≡◌, ◌+◌, ◌-◌, ◌*◌, ◌/◌, ◌^◌, ◌≤◌, ◌<◌, ◌↔◌, IsTrue};
 ghost use Rattle.image_model.specs.Compaction.{least_stride};
 ghost use Rattle.image_model.specs.Layout.{Reaches};
 ghost use Rattle.image_model.specs.Rows.{row_count};
@@ -117,6 +117,14 @@ impl Shape {
         ensures value { result ≡ rows * stride }
     {
         rows * stride
+    }
+
+    /// How many whole rows, their padding included, so many cells have.
+    pub fn whole_rows(&self, cells: usize) -> usize
+        ensures value { result ≡ cells / shape_stride self.now }
+    {
+        let stride = self.stride;
+        cells / stride
     }
 
     /// The number of the cell in column `x` of row `y`. It may be padding, or lie below the last row.

@@ -45,7 +45,7 @@ impl<Pixel, C: AsSlice<Item = Pixel>> ImgExt<Pixel> for Img<C> {
     }
 
     fn height_padded(&self) -> usize {
-        self.buf.as_slice().len() / self.stride()
+        self.shape().whole_rows(self.buf.as_slice().len())
     }
 
     fn rows_padded(&self) -> Chunks<'_, Pixel> {

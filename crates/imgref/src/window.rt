@@ -1,6 +1,6 @@
 //! Windows of an image: images over a part of its cells, for reading and for writing.
 
-ghost use Rattle.std.specs.Prelude.{◌≡◌, ◌≤◌, length};
+ghost use Rattle.std.specs.Prelude.{◌≡◌, ◌+◌, ◌^◌, ◌≤◌, ◌<◌, length};
 ghost use Rattle.std.specs.Borrow.{sem, follows, Array};
 ghost use Rattle.image_model.specs.Layout.{Fits};
 ghost use Rattle.image_model.specs.Windows.{window, window_view, IsInside, IsWithin, padded_stretch, padded_window, window_layout, stretch_cells, with_stretch};
@@ -53,6 +53,14 @@ impl<'s, T> Img<&'s [T]> {
     }
 }
 
+// The number behind the last cell of a stretch, which the proof by hand of `from_stretch` calls.
+fn end_of(stretch: Stretch) -> usize
+    requires counts { stretch.start + stretch.len < 2 ^ 64 }
+    ensures { result ≡ stretch.start + stretch.len }
+{
+    stretch.range().end
+}
+
 impl<'s, T> Img<&'s mut [T]> {
     /// The image that a stretch of these cells is in this shape. Once the borrow ends, the cells are
     /// as they were, with that stretch of them as the image left it. The image need not fit. (The
@@ -66,7 +74,7 @@ impl<'s, T> Img<&'s mut [T]> {
         ensures* hands_on { sem 𝓛 (follows (Array T.row 0) (Array T.row 0) cells.entry.ghost_name (buf_of result).ghost_name (with_stretch cells.old (as_stretch stretch))) }
         ensures layout { mut_layout result ≡ shaped (stretch_cells cells.old (as_stretch stretch)) shape }
     {
-        let end = stretch.start + stretch.len;
+        let end = end_of(stretch);
         Img::from_parts(&mut cells[stretch.start..end], shape)
     }
 

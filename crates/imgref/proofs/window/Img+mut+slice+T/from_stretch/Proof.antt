@@ -1,6 +1,6 @@
 -- `from_stretch` lends a stretch of the cells on, and the cells follow it: its MIR, proved by hand.
 use Rattle.std.proofs.Common.{◌≡◌, refl, sym, ap, subst, ◌∙◌, ℕ, ◌+◌, ◌-◌, ◌*◌, ◌^◌, ◌<◌, ◌≤◌, mul-le-mul_right, arith, List, [], ◌∷◌, ◌++◌, length, take, drop as drop_list, length-drop, w64, MutBor}
-use Rattle.borrow_laws.proofs.Walking.{SProp, emp, id⊢, Lft, GName, Share, ftrue, flft, Args, Fn, named, inst_fn, Val, vint, size, WpFn, ◌⊑◌, ⊑_refl, ⊑_trans, ⊑_meet, fact, fact_i, tables, Item, ‵, ◌⊛◌, raw, later, some, prop, ◌$◌, ◌∵◌, !, qed, by, move, keep, drop, split, split3, join, fsplit, fjoin, rewrite, regoal, use0, use1, use2, await, pick, updating, now, done, whole, sub, agg, stop, fld, addr, bin, size_word, and_then, no_more, returns, enter, alloc_all, pass_all, free_all, look_at, get, get_in, through, is, sets, lands_as, Array, follows, shows, Is, param, layout, RattleType, owns, MutSlice, Room, slice_val, types_at, nothing, heard, peeks, only, calls_at, lasts, triple_of, framed, Stays, stay_dropped, walk_of, at, at_mul, length-take-le, proved_at, leaves}
+use Rattle.borrow_laws.proofs.Walking.{SProp, emp, id⊢, Lft, GName, Share, ftrue, flft, Args, Fn, named, inst_fn, Val, vint, size, WpFn, ◌⊑◌, ⊑_refl, ⊑_trans, ⊑_meet, fact, fact_i, tables, Item, ‵, ◌⊛◌, raw, later, some, prop, ◌$◌, ◌∵◌, !, qed, by, move, keep, drop, split, split3, join, fsplit, fjoin, rewrite, regoal, use0, use1, use2, await, pick, updating, now, done, whole, sub, agg, stop, fld, addr, bin, size_word, and_then, no_more, returns, enter, alloc_all, pass_all, free_all, look_at, get, get_in, through, is, sets, lands_as, Array, follows, shows, Is, param, layout, RattleType, owns, MutSlice, Room, slice_val, types_at, nothing, heard, peeks, only, usize, calls_at, lasts, triple_of, framed, Stays, stay_dropped, walk_of, at, at_mul, length-take-le, proved_at, leaves}
 use Rattle.borrow_laws.proofs.Bodies.{of_one}
 use Rattle.borrow_laws.proofs.Stretches.{uncapped, cut_at, part_lent, lends_part}
 use Rattle.image_shape.specs.declared.window.Stretch.{Stretch}
@@ -11,7 +11,10 @@ use Rattle.image_shape.specs.Shape.{shaped}
 use Rattle.image_shape.specs.Window.{as_stretch}
 use Rattle.imgref.specs.Image.{mut_layout, shape_of}
 use Rattle.imgref.specs.declared.img.Img.{Img}
-use Rattle.imgref.proofs.ImageValues.{stretch_val, stretch_told, shape_val, shape_told, shape_made, img_val, img_row, img_told, LentCells, lent_cells_laws}
+use Rattle.imgref.proofs.ImageValues.{stretch_val, stretch_told, stretch_made, shape_val, shape_told, shape_made, img_val, img_row, img_told, LentCells, lent_cells_laws}
+use Rattle.image_shape.specs.contracts.window.Stretch as of_part
+use Rattle.imgref.specs.contracts.window.end_of as ends
+use Rattle.imgref.proofs.window.end_of.Met as ending
 use Rattle.imgref.specs.contracts.img.Img.from_parts as f
 use Rattle.imgref.proofs.img.Img.from_parts.Met as made
 use Rattle.imgref.specs.contracts.window.Img+mut+slice+T.from_stretch.{ended, clauses}
@@ -66,7 +69,15 @@ from_stretch_spec 𝓤 𝓛 𝓜 𝓡 wired T L =
     regoal ! (λ (vs : List Val). prop (WpFn 𝓤 H 𝓣.C 𝓣.Λ fn vs Post)) (λ k. told k ++ (told₁.0 k ++ (told₂.0 k ++ []))) refl $
     enter ! 𝓣.C 𝓣.Λ fn (slice_val cells.ref_ptr (length xs) ∷ stretch_val stretch ∷ shape_val shape ∷ []) Post $
     alloc_all ! (λ l. pass_all ! refl ((tt, (tt, (record { fits = rm.0 }, tt))), ((tt, (record { fits = told₁.1 }, (record { fits = told₁.2 }, tt))), ((tt, (record { fits = told₂.1 }, (record { fits = told₂.2 }, (record { fits = told₂.3 }, tt)))), tt))) $
-    sets ! (bin ! (get_in ! (fld ! refl (stop !)) (sub ! 0 refl (whole !))) (get_in ! (fld ! refl (stop !)) (sub ! 1 refl (whole !))) (record { fits = fj })) refl (tt, record { fits = fj }) $
+    let GE = triple_of 𝓛 ends.signature (ends.spec 𝓛 𝓜.mem 𝓡.returns) in
+    let ze : GE.Ghost = ((tt, tt, tt, (stretch, tt), (stretch_val stretch ∷ [], tt)), tt) in
+    let Counts : Type 0 = j < 2 ^ 64 in
+    nothing ! $ use0 𝓛 (‵ (of_part.the_row.own_val stretch (stretch_val stretch ∷ []))) (stretch_made 𝓛 stretch told₁.1 told₁.2) $ join ! $ nothing ! $ join ! $
+    use0 𝓛 (raw (fact 𝓤 Counts)) (fact_i 𝓤 Counts (emp 𝓤) fj) $ move ! (1 ∷ 0 ∷ []) $ use2 𝓛 (raw (GE.pre ze)) (id⊢ 𝓤 _) $
+    calls_at ! fm GE (ending.met 𝓤 𝓛 𝓜 𝓡 (compiled.calls-imgref::window::end_of 𝓡.env wired)) ze (and_then ! (get ! refl) (no_more !)) (λ ve.
+    use1 𝓛 (later (some (λ (k : ℕ). (‵ ftrue ⊛ ‵ (usize.own_val k (ve ∷ []))) ⊛ some (λ (us : Unit {0} × Unit {0}). ‵ (lasts ends.ended ze.0.0 ze.0.3 us) ⊛ raw (fact 𝓤 (k ≡ j)))))) (id⊢ 𝓤 _) $
+    await ! tt $ pick ! (λ k. split ! $ split ! $ drop ! $ move ! (1 ∷ []) $ pick ! (λ us. split ! $ drop ! $ heard ! (k ≡ j) (λ at_end.
+    peeks ! usize (Is usize) (shows 𝓛 usize) k (ve ∷ []) (λ isk. drop ! $ lands_as ! (ap only isk.0 ∙ ap (vint w64) at_end) refl (tt, record { fits = fj }) $
     sets ! (is ! (bin ! (get_in ! (fld ! refl (stop !)) (sub ! 0 refl (whole !))) (size_word !) (record { fits = subst (λ (k : ℕ). k < 2 ^ 64) (sym (uncapped i s fp)) fp })) (ap (vint w64) (uncapped i s fp))) refl (tt, record { fits = fp }) $
     sets ! (bin ! (get_in ! (fld ! refl (stop !)) (sub ! 0 refl (whole !))) (get ! refl) tt) refl (tt, tt) $
     sets ! (is ! (bin ! (get ! refl) (get_in ! (fld ! refl (stop !)) (sub ! 0 refl (whole !))) (omega arith)) (ap (vint w64) same)) refl (tt, record { fits = told₁.2 }) $
@@ -106,4 +117,4 @@ from_stretch_spec 𝓤 𝓛 𝓜 𝓡 wired T L =
     nothing ! $ nothing ! $ fjoin ! $ nothing ! $ fjoin ! $ nothing ! $ fjoin ! $
     use0 𝓛 (raw (fact 𝓤 Laid)) (fact_i 𝓤 Laid (emp 𝓤) (λ k. shaped ((same k).now) (alike k))) $
     move ! (4 ∷ 0 ∷ []) $ join ! $ move ! (2 ∷ 1 ∷ 3 ∷ 0 ∷ []) $
-    by ! (leaves 𝓛 En stays c z w r (tt, (tt, (tt, tt))) (tt, (tt, (tt, tt)))))))))))))))
+    by ! (leaves 𝓛 En stays c z w r (tt, (tt, (tt, tt))) (tt, (tt, (tt, tt))))))))))))))))))))
