@@ -169,10 +169,9 @@ impl Shape {
         ensures len { result.len ≡ shape_width self.now }
         ensures inside { result.start + result.len ≤ cells }
     {
-        if y < self.row_count() {
-            self.row(cells, y)
-        } else {
-            Stretch { start: 0, len: 0 }
+        match self.width {
+            0 => Stretch { start: 0, len: 0 },
+            _ => self.row(cells, y),
         }
     }
 
