@@ -52,11 +52,12 @@ module _ {T : Type 0} (old : List T) (s : Shape) (tw th : ℕ) where
         ∙ ap (in_row x) own)
 
     -- with another row of it copied from the row above
-    pub row_repeated : (above row : part.Stretch) → 0 < th → 0 < y % th → above.start ≡ (y - 1) * s.stride → above.len ≡ s.width → row.start ≡ y * s.stride
+    pub row_repeated : (above row : part.Stretch) → 0 < th → 0 < y % th → above.start ≡ row.start - s.stride → above.len ≡ s.width → row.start ≡ y * s.stride
         → Shown (shifted now above.start above.len row.start) (y + 1)
-    row_repeated above row high later same count from =
+    row_repeated above row high later at count from =
         let before : y ≡ y - 1 + 1 = omega (arith, later) in
         let lines : y * s.stride ≡ (y - 1) * s.stride + s.stride = ap (λ n. n * s.stride) before ∙ (let e : (y - 1 + 1) * s.stride ≡ suc (y - 1) * s.stride = omega arith in e ∙ suc-mul (y - 1) s.stride) in
+        let same : above.start ≡ (y - 1) * s.stride = omega (arith, at, from, lines) in
         let reached : y * s.stride + s.width ≤ length now = omega (arith, row_reached (length old) s.width s.height s.stride y fits below, so.as_many) in
         let copied : List T = take above.len (drop above.start now) in
         let many : length copied ≡ s.width = omega (arith, count, same, lines, s.holds_width, reached, length-take above.len (drop above.start now), length-drop above.start now) in

@@ -96,8 +96,7 @@ pub fn mosaic_cells<T: Copy>(cells: &mut [T], shape: Shape, tile_width: usize, t
         if y % tile_height == 0 {
             spread(&mut cells[row.range()], tile_width);
         } else {
-            let above = shape.row(cells.len(), y - 1);
-            repeat_row(cells, above, row.start);
+            repeat_row(cells, shape.row_above(row), row.start);
         }
     }
 }

@@ -160,6 +160,19 @@ impl Shape {
         }
     }
 
+    /// The row above one, which is not the first.
+    pub fn row_above(&self, row: Stretch) -> Stretch
+        requires later { shape_stride self.now ≤ row.start }
+        ensures start { result.start ≡ row.start - shape_stride self.now }
+        ensures len { result.len ≡ row.len }
+    {
+        let stride = self.stride;
+        Stretch {
+            start: row.start - stride,
+            len: row.len,
+        }
+    }
+
     /// The cells of row `y`, of `cells` cells that fit. Without a column they are none, from the first
     /// cell on: where the row would begin might be no number.
     pub fn any_row(&self, cells: usize, y: usize) -> Stretch

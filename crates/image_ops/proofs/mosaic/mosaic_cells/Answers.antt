@@ -31,8 +31,8 @@ loop-y-preserved g c =
           rw w.cells-is (row_spread old s tw th c.loop-y.cells y c.loop-y.invariant c.requires.fits below cut.result.start cut.result.end (cut.ensures.start ∙ row.ensures.start) (omega (arith, cut.ensures.start, cut.ensures.end, row.ensures.len)) w.spread.new.row w.if-y-tile_height-eq0.true w.spread.ensures)
       | goal.else-y-tile_height-eq0 w ↦
           let later : 0 < y % th = omega (arith, w.if-y-tile_height-eq0.false) in
-          let above = w.row-above in
-          rw (w.cells-is, w.repeat_row.ensures) (row_repeated old s tw th c.loop-y.cells y c.loop-y.invariant c.requires.fits below above.result row.result c.requires.high later above.ensures.start above.ensures.len row.ensures.start)
+          let above = w.row_above in
+          rw (w.cells-is, w.repeat_row.ensures) (row_repeated old s tw th c.loop-y.cells y c.loop-y.invariant c.requires.fits below above.result row.result c.requires.high later above.ensures.start (above.ensures.len ∙ row.ensures.len) row.ensures.start)
     ]
 
 pub returns-clause-grid : goal.returns-clause-grid
