@@ -24,14 +24,14 @@ impl<C: AsMutSlice> Img<C> {
     pub fn copy_from<'a>(&'a mut self, source: ImgRef<'_, C::Item>)
     where
         C::Item: Copy + 'a,
-        requires fits { Fits (layout_by C.AsSlice.cells self.old) }
+        requires fits { Fits (layout_by C.cells self.old) }
         requires source_fits { Fits (ref_layout source) }
         requires same_width { width_of source ≡ width_of self.old }
         requires same_height { height_of source ≡ height_of self.old }
-        ensures grid { grid_by C.AsSlice.cells self.new ≡ ref_grid source.entry }
-        ensures outside { SameOutside (layout_by C.AsSlice.cells self.old) (layout_by C.AsSlice.cells self.new) }
-        ensures fits { Fits (layout_by C.AsSlice.cells self.new) }
-        ensures container { OnlyCellsChange C.AsSlice.cells C.with_cells self.old self.new }
+        ensures grid { grid_by C.cells self.new ≡ ref_grid source.entry }
+        ensures outside { SameOutside (layout_by C.cells self.old) (layout_by C.cells self.new) }
+        ensures fits { Fits (layout_by C.cells self.new) }
+        ensures container { OnlyCellsChange C.cells C.with_cells self.old self.new }
     {
         let shape = self.shape();
         let len = self.buf.as_slice().len();
@@ -48,13 +48,13 @@ impl<C: AsMutSlice> Img<C> {
     pub fn copy_window<'a>(&'a mut self, left: usize, top: usize, source: ImgRef<'_, C::Item>)
     where
         C::Item: Copy + 'a,
-        requires fits { Fits (layout_by C.AsSlice.cells self.old) }
+        requires fits { Fits (layout_by C.cells self.old) }
         requires source_fits { Fits (ref_layout source) }
         requires inside { IsInside (width_of self.old) (height_of self.old) (window left top (width_of source) (height_of source)) }
-        ensures grid { grid_by C.AsSlice.cells self.new ≡ patch (grid_by C.AsSlice.cells self.old) left top (ref_grid source.entry) }
-        ensures outside { SameOutside (layout_by C.AsSlice.cells self.old) (layout_by C.AsSlice.cells self.new) }
-        ensures fits { Fits (layout_by C.AsSlice.cells self.new) }
-        ensures container { OnlyCellsChange C.AsSlice.cells C.with_cells self.old self.new }
+        ensures grid { grid_by C.cells self.new ≡ patch (grid_by C.cells self.old) left top (ref_grid source.entry) }
+        ensures outside { SameOutside (layout_by C.cells self.old) (layout_by C.cells self.new) }
+        ensures fits { Fits (layout_by C.cells self.new) }
+        ensures container { OnlyCellsChange C.cells C.with_cells self.old self.new }
     {
         let place = Window::new(left, top, source.width(), source.height());
         let (cells, shape) = self.window_parts_mut(place);
@@ -71,13 +71,13 @@ impl<C: AsMutSlice> Img<C> {
     pub fn move_inside<'a>(&'a mut self, source: Window, left: usize, top: usize)
     where
         C::Item: Copy + 'a,
-        requires fits { Fits (layout_by C.AsSlice.cells self.old) }
+        requires fits { Fits (layout_by C.cells self.old) }
         requires source_inside { IsInside (width_of self.old) (height_of self.old) (as_window source) }
         requires target_inside { IsInside (width_of self.old) (height_of self.old) (window left top source.width source.height) }
-        ensures grid { grid_by C.AsSlice.cells self.new ≡ patch (grid_by C.AsSlice.cells self.old) left top (window_view (grid_by C.AsSlice.cells self.old) (as_window source)) }
-        ensures outside { SameOutside (layout_by C.AsSlice.cells self.old) (layout_by C.AsSlice.cells self.new) }
-        ensures fits { Fits (layout_by C.AsSlice.cells self.new) }
-        ensures container { OnlyCellsChange C.AsSlice.cells C.with_cells self.old self.new }
+        ensures grid { grid_by C.cells self.new ≡ patch (grid_by C.cells self.old) left top (window_view (grid_by C.cells self.old) (as_window source)) }
+        ensures outside { SameOutside (layout_by C.cells self.old) (layout_by C.cells self.new) }
+        ensures fits { Fits (layout_by C.cells self.new) }
+        ensures container { OnlyCellsChange C.cells C.with_cells self.old self.new }
     {
         let target = Window::new(left, top, source.width, source.height);
         let shape = self.shape();
@@ -103,13 +103,13 @@ impl<C: AsMutSlice> Img<C> {
     )
     where
         C::Item: Copy + 'a,
-        requires fits { Fits (layout_by C.AsSlice.cells self.old) }
+        requires fits { Fits (layout_by C.cells self.old) }
         requires source_inside { IsInside (width_of self.old) (height_of self.old) (window from_left from_top width height) }
         requires target_inside { IsInside (width_of self.old) (height_of self.old) (window to_left to_top width height) }
-        ensures grid { grid_by C.AsSlice.cells self.new ≡ patch (grid_by C.AsSlice.cells self.old) to_left to_top (view (grid_by C.AsSlice.cells self.old) from_left from_top width height) }
-        ensures outside { SameOutside (layout_by C.AsSlice.cells self.old) (layout_by C.AsSlice.cells self.new) }
-        ensures fits { Fits (layout_by C.AsSlice.cells self.new) }
-        ensures container { OnlyCellsChange C.AsSlice.cells C.with_cells self.old self.new }
+        ensures grid { grid_by C.cells self.new ≡ patch (grid_by C.cells self.old) to_left to_top (view (grid_by C.cells self.old) from_left from_top width height) }
+        ensures outside { SameOutside (layout_by C.cells self.old) (layout_by C.cells self.new) }
+        ensures fits { Fits (layout_by C.cells self.new) }
+        ensures container { OnlyCellsChange C.cells C.with_cells self.old self.new }
     {
         self.move_inside(
             Window::new(from_left, from_top, width, height),
@@ -125,13 +125,13 @@ impl<C: AsMutSlice> Img<C> {
     ///
     /// The image fits, as `is_valid` tells, and has both rows.
     pub fn swap_rows(&mut self, y: usize, z: usize)
-        requires fits { Fits (layout_by C.AsSlice.cells self.old) }
+        requires fits { Fits (layout_by C.cells self.old) }
         requires first { y < height_of self.old }
         requires second { z < height_of self.old }
-        ensures grid { grid_by C.AsSlice.cells self.new ≡ rows_swapped y z (grid_by C.AsSlice.cells self.old) }
-        ensures outside { SameOutside (layout_by C.AsSlice.cells self.old) (layout_by C.AsSlice.cells self.new) }
-        ensures fits { Fits (layout_by C.AsSlice.cells self.new) }
-        ensures container { OnlyCellsChange C.AsSlice.cells C.with_cells self.old self.new }
+        ensures grid { grid_by C.cells self.new ≡ rows_swapped y z (grid_by C.cells self.old) }
+        ensures outside { SameOutside (layout_by C.cells self.old) (layout_by C.cells self.new) }
+        ensures fits { Fits (layout_by C.cells self.new) }
+        ensures container { OnlyCellsChange C.cells C.with_cells self.old self.new }
     {
         let shape = self.shape();
         let len = self.buf.as_slice().len();

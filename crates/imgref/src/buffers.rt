@@ -82,7 +82,7 @@ impl<'s, T> Img<&'s [T]> {
 impl<C: AsMutSlice> Img<C> {
     /// Every cell of the buffer in its order, padding included. The image need not fit.
     pub fn iter(&self) -> Iter<'_, C::Item>
-        ensures cells { iter_rest result ≡ C.AsSlice.cells (buf_of self.now) }
+        ensures cells { iter_rest result ≡ C.cells (buf_of self.now) }
         ensures runs { IterYieldsInOrder C.Item }
         ensures runs_back { IterYieldsInReverse C.Item }
     {

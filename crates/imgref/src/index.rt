@@ -41,12 +41,12 @@ impl<C: AsSlice> Index<(usize, usize)> for Img<C> {
 /// By comparing numbers: the column is below the stride, and the cell within the buffer.
 impl<C: AsMutSlice> IndexMut<(usize, usize)> for Img<C> {
     fn index_mut(&mut self, index: (usize, usize)) -> &mut C::Item
-        requires { HasCell (layout_by C.AsSlice.cells self.old) index.0 index.1 }
-        ensures* writes_back { sem 𝓛 (Lends (the_row C.row) C.Item.row self.entry result (with_cell_at C.AsSlice.cells C.with_cell self.old index.0 index.1)) }
-        ensures value { pixel (layout_by C.AsSlice.cells self.old) index.0 index.1 ≡ Some result.now }
-        ensures grid { PatchesGrid C.AsSlice.cells C.with_cell self.old index.0 index.1 }
-        ensures outside { KeepsOutside C.AsSlice.cells C.with_cell self.old index.0 index.1 }
-        ensures fits { KeepsFit C.AsSlice.cells C.with_cell self.old index.0 index.1 }
+        requires { HasCell (layout_by C.cells self.old) index.0 index.1 }
+        ensures* writes_back { sem 𝓛 (Lends (the_row C.row) C.Item.row self.entry result (with_cell_at C.cells C.with_cell self.old index.0 index.1)) }
+        ensures value { pixel (layout_by C.cells self.old) index.0 index.1 ≡ Some result.now }
+        ensures grid { PatchesGrid C.cells C.with_cell self.old index.0 index.1 }
+        ensures outside { KeepsOutside C.cells C.with_cell self.old index.0 index.1 }
+        ensures fits { KeepsFit C.cells C.with_cell self.old index.0 index.1 }
     {
         let _len = self.buf.as_slice().len();
         let at = self.shape().cell(index.0, index.1);
@@ -74,12 +74,12 @@ impl<C: AsSlice> Index<(u32, u32)> for Img<C> {
 /// By comparing numbers: the column is below the stride, and the cell within the buffer.
 impl<C: AsMutSlice> IndexMut<(u32, u32)> for Img<C> {
     fn index_mut(&mut self, index: (u32, u32)) -> &mut C::Item
-        requires { HasCell (layout_by C.AsSlice.cells self.old) index.0 index.1 }
-        ensures* writes_back { sem 𝓛 (Lends (the_row C.row) C.Item.row self.entry result (with_cell_at C.AsSlice.cells C.with_cell self.old index.0 index.1)) }
-        ensures value { pixel (layout_by C.AsSlice.cells self.old) index.0 index.1 ≡ Some result.now }
-        ensures grid { PatchesGrid C.AsSlice.cells C.with_cell self.old index.0 index.1 }
-        ensures outside { KeepsOutside C.AsSlice.cells C.with_cell self.old index.0 index.1 }
-        ensures fits { KeepsFit C.AsSlice.cells C.with_cell self.old index.0 index.1 }
+        requires { HasCell (layout_by C.cells self.old) index.0 index.1 }
+        ensures* writes_back { sem 𝓛 (Lends (the_row C.row) C.Item.row self.entry result (with_cell_at C.cells C.with_cell self.old index.0 index.1)) }
+        ensures value { pixel (layout_by C.cells self.old) index.0 index.1 ≡ Some result.now }
+        ensures grid { PatchesGrid C.cells C.with_cell self.old index.0 index.1 }
+        ensures outside { KeepsOutside C.cells C.with_cell self.old index.0 index.1 }
+        ensures fits { KeepsFit C.cells C.with_cell self.old index.0 index.1 }
     {
         &mut self[(index.0 as usize, index.1 as usize)]
     }
@@ -112,13 +112,13 @@ impl<C: AsMutSlice> Img<C> {
     #[tactic(auto, unfolding(crate::specs::Index::with_row))]
     pub fn row_mut(&mut self, y: usize) -> &mut [C::Item]
         requires below { y < height_of self.old }
-        requires fits { Fits (layout_by C.AsSlice.cells self.old) }
-        ensures* writes_back { sem 𝓛 (Lends (the_row C.row) (Array C.Item.row 0) self.entry result (with_row C.AsSlice.cells C.with_cells self.old y)) }
-        ensures value { result.now ≡ row_of (layout_by C.AsSlice.cells self.old) y }
+        requires fits { Fits (layout_by C.cells self.old) }
+        ensures* writes_back { sem 𝓛 (Lends (the_row C.row) (Array C.Item.row 0) self.entry result (with_row C.cells C.with_cells self.old y)) }
+        ensures value { result.now ≡ row_of (layout_by C.cells self.old) y }
         ensures len { length result.now ≡ width_of self.old }
-        ensures grid { RowPatchesGrid C.AsSlice.cells C.with_cells self.old y }
-        ensures outside { RowKeepsOutside C.AsSlice.cells C.with_cells self.old y }
-        ensures fits { RowKeepsFit C.AsSlice.cells C.with_cells self.old y }
+        ensures grid { RowPatchesGrid C.cells C.with_cells self.old y }
+        ensures outside { RowKeepsOutside C.cells C.with_cells self.old y }
+        ensures fits { RowKeepsFit C.cells C.with_cells self.old y }
     {
         let row = self.shape().any_row(self.buf.as_slice().len(), y);
         self.buf.stretch_mut(row.start, row.len)

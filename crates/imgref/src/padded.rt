@@ -79,9 +79,9 @@ pub trait ImgExtMut<Pixel> {
 }
 
 impl<Pixel, C: AsMutSlice + AsSlice<Item = Pixel>> ImgExtMut<Pixel> for Img<C> {
-    ghost layout_of = { layout_by C.AsSlice.cells };
+    ghost layout_of = { layout_by C.cells };
 
-    ghost with_cells = { with_all C.AsSlice.cells C.with_cells };
+    ghost with_cells = { with_all C.cells C.with_cells };
 
     fn rows_padded_mut(&mut self) -> ChunksMut<'_, Pixel> {
         let stride = self.stride();

@@ -66,9 +66,9 @@ where
     ///
     /// The image fits: `is_valid`.
     pub fn pixels(&self) -> PixelsIter<'_, C::Item>
-        requires fits { Fits (layout_by C.AsSlice.cells self.now) }
-        ensures pixels { copies_left result ≡ pixels_of (layout_by C.AsSlice.cells self.now) }
-        ensures grid { copies_left result ≡ grid_pixels (grid_by C.AsSlice.cells self.now) }
+        requires fits { Fits (layout_by C.cells self.now) }
+        ensures pixels { copies_left result ≡ pixels_of (layout_by C.cells self.now) }
+        ensures grid { copies_left result ≡ grid_pixels (grid_by C.cells self.now) }
         ensures count { length (copies_left result) ≡ width_of self.now * height_of self.now }
         ensures countable { length (copies_left result) < 2 ^ 64 }
         ensures runs { YieldsInOrder (YieldsFirst (copies_left {T = C.Item})) copies_left }
@@ -86,11 +86,11 @@ impl<C: AsMutSlice> Img<C> {
     pub fn fill<'a>(&'a mut self, value: C::Item)
     where
         C::Item: Copy + 'a,
-        requires fits { Fits (layout_by C.AsSlice.cells self.old) }
-        ensures grid { grid_by C.AsSlice.cells self.new ≡ uniform (width_of self.old) (height_of self.old) value }
-        ensures outside { SameOutside (layout_by C.AsSlice.cells self.old) (layout_by C.AsSlice.cells self.new) }
-        ensures fits { Fits (layout_by C.AsSlice.cells self.new) }
-        ensures container { OnlyCellsChange C.AsSlice.cells C.with_cells self.old self.new }
+        requires fits { Fits (layout_by C.cells self.old) }
+        ensures grid { grid_by C.cells self.new ≡ uniform (width_of self.old) (height_of self.old) value }
+        ensures outside { SameOutside (layout_by C.cells self.old) (layout_by C.cells self.new) }
+        ensures fits { Fits (layout_by C.cells self.new) }
+        ensures container { OnlyCellsChange C.cells C.with_cells self.old self.new }
     {
         let shape = self.shape();
         let len = self.buf.as_slice().len();
@@ -106,13 +106,13 @@ impl<C: AsMutSlice> Img<C> {
     pub fn map_pixels<'a, F: Fn(C::Item) -> C::Item>(&'a mut self, f: F)
     where
         C::Item: Copy + 'a,
-        requires fits { Fits (layout_by C.AsSlice.cells self.old) }
+        requires fits { Fits (layout_by C.cells self.old) }
         requires callable { F.IsAlwaysCallable f }
-        ensures answers { HasAnswers (F.post f) (layout_by C.AsSlice.cells self.old) (layout_by C.AsSlice.cells self.new) }
-        ensures grid { IsMapped (F.post f) (layout_by C.AsSlice.cells self.old) (layout_by C.AsSlice.cells self.new) }
-        ensures outside { SameOutside (layout_by C.AsSlice.cells self.old) (layout_by C.AsSlice.cells self.new) }
-        ensures fits { Fits (layout_by C.AsSlice.cells self.new) }
-        ensures container { OnlyCellsChange C.AsSlice.cells C.with_cells self.old self.new }
+        ensures answers { HasAnswers (F.post f) (layout_by C.cells self.old) (layout_by C.cells self.new) }
+        ensures grid { IsMapped (F.post f) (layout_by C.cells self.old) (layout_by C.cells self.new) }
+        ensures outside { SameOutside (layout_by C.cells self.old) (layout_by C.cells self.new) }
+        ensures fits { Fits (layout_by C.cells self.new) }
+        ensures container { OnlyCellsChange C.cells C.with_cells self.old self.new }
     {
         let shape = self.shape();
         let len = self.buf.as_slice().len();
@@ -128,8 +128,8 @@ impl<C: AsMutSlice> Img<C> {
 
     // All cells, and the shape.
     pub(crate) fn all_parts_mut(&mut self) -> (&mut [C::Item], Shape)
-        ensures* hands_on { sem 𝓛 (follows (the_row C.row) (Array C.Item.row 0) self.entry.ghost_name result.0.ghost_name (with_all C.AsSlice.cells C.with_cells self.old)) }
-        ensures cells { result.0.now ≡ C.AsSlice.cells (buf_of self.old) }
+        ensures* hands_on { sem 𝓛 (follows (the_row C.row) (Array C.Item.row 0) self.entry.ghost_name result.0.ghost_name (with_all C.cells C.with_cells self.old)) }
+        ensures cells { result.0.now ≡ C.cells (buf_of self.old) }
         ensures shape { result.1 ≡ shape_of self.old }
     {
         let shape = self.shape();
@@ -148,14 +148,14 @@ impl<C: AsMutSlice> Img<C> {
     ///
     /// The image fits: `is_valid`.
     pub fn pixels_mut(&mut self) -> PixelsIterMut<'_, C::Item>
-        requires fits { Fits (layout_by C.AsSlice.cells self.old) }
-        ensures* lends { sem 𝓛 (follows (the_row C.row) (the_row C.row) self.entry.ghost_name (lender_of result) (with_cells_of C.AsSlice.cells C.with_cells self.old)) }
-        ensures count_stays { KeepsCount C.AsSlice.cells C.with_cells self.old }
-        ensures fits { AnyCellsFit C.AsSlice.cells C.with_cells self.old }
-        ensures cells { cells_left result ≡ C.AsSlice.cells (buf_of self.old) }
+        requires fits { Fits (layout_by C.cells self.old) }
+        ensures* lends { sem 𝓛 (follows (the_row C.row) (the_row C.row) self.entry.ghost_name (lender_of result) (with_cells_of C.cells C.with_cells self.old)) }
+        ensures count_stays { KeepsCount C.cells C.with_cells self.old }
+        ensures fits { AnyCellsFit C.cells C.with_cells self.old }
+        ensures cells { cells_left result ≡ C.cells (buf_of self.old) }
         ensures marks { marks_left result ≡ marks_of (width_of self.old) (height_of self.old) (stride_of self.old) }
-        ensures pixels { muts_left result ≡ pixels_of (layout_by C.AsSlice.cells self.old) }
-        ensures grid { muts_left result ≡ grid_pixels (grid_by C.AsSlice.cells self.old) }
+        ensures pixels { muts_left result ≡ pixels_of (layout_by C.cells self.old) }
+        ensures grid { muts_left result ≡ grid_pixels (grid_by C.cells self.old) }
         ensures count { length (muts_left result) ≡ width_of self.old * height_of self.old }
         ensures countable { length (muts_left result) < 2 ^ 64 }
     {
@@ -170,12 +170,12 @@ impl<C: AsMutSlice> Img<C> {
     ///
     /// The image fits: `is_valid`.
     pub fn exact_pixels_mut(&mut self) -> PixelsIterMut<'_, C::Item>
-        requires fits { Fits (layout_by C.AsSlice.cells self.old) }
-        ensures* writes_back { sem 𝓛 (follows (the_row C.row) (Array C.Item.row 0) self.entry.ghost_name (pixels_name result) (with_all C.AsSlice.cells C.with_cells self.old)) }
-        ensures cells { cells_left result ≡ C.AsSlice.cells (buf_of self.old) }
+        requires fits { Fits (layout_by C.cells self.old) }
+        ensures* writes_back { sem 𝓛 (follows (the_row C.row) (Array C.Item.row 0) self.entry.ghost_name (pixels_name result) (with_all C.cells C.with_cells self.old)) }
+        ensures cells { cells_left result ≡ C.cells (buf_of self.old) }
         ensures marks { marks_left result ≡ marks_of (width_of self.old) (height_of self.old) (stride_of self.old) }
-        ensures pixels { muts_left result ≡ pixels_of (layout_by C.AsSlice.cells self.old) }
-        ensures grid { muts_left result ≡ grid_pixels (grid_by C.AsSlice.cells self.old) }
+        ensures pixels { muts_left result ≡ pixels_of (layout_by C.cells self.old) }
+        ensures grid { muts_left result ≡ grid_pixels (grid_by C.cells self.old) }
         ensures count { length (muts_left result) ≡ width_of self.old * height_of self.old }
         ensures countable { length (muts_left result) < 2 ^ 64 }
     {

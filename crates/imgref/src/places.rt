@@ -42,13 +42,13 @@ impl<C: AsMutSlice> Img<C> {
     pub fn put<'a>(&'a mut self, x: usize, y: usize, value: C::Item)
     where
         C::Item: Copy + 'a,
-        requires fits { Fits (layout_by C.AsSlice.cells self.old) }
+        requires fits { Fits (layout_by C.cells self.old) }
         requires column { x < width_of self.old }
         requires line { y < height_of self.old }
-        ensures grid { grid_by C.AsSlice.cells self.new ≡ patch (grid_by C.AsSlice.cells self.old) x y (uniform 1 1 value) }
-        ensures outside { SameOutside (layout_by C.AsSlice.cells self.old) (layout_by C.AsSlice.cells self.new) }
-        ensures fits { Fits (layout_by C.AsSlice.cells self.new) }
-        ensures container { OnlyCellsChange C.AsSlice.cells C.with_cells self.old self.new }
+        ensures grid { grid_by C.cells self.new ≡ patch (grid_by C.cells self.old) x y (uniform 1 1 value) }
+        ensures outside { SameOutside (layout_by C.cells self.old) (layout_by C.cells self.new) }
+        ensures fits { Fits (layout_by C.cells self.new) }
+        ensures container { OnlyCellsChange C.cells C.with_cells self.old self.new }
     {
         self[(x, y)] = value;
     }
@@ -61,12 +61,12 @@ impl<C: AsMutSlice> Img<C> {
     pub fn fill_inside<'a>(&'a mut self, place: Window, value: C::Item)
     where
         C::Item: Copy + 'a,
-        requires fits { Fits (layout_by C.AsSlice.cells self.old) }
+        requires fits { Fits (layout_by C.cells self.old) }
         requires inside { IsInside (width_of self.old) (height_of self.old) (as_window place) }
-        ensures grid { grid_by C.AsSlice.cells self.new ≡ patch (grid_by C.AsSlice.cells self.old) place.left place.top (uniform place.width place.height value) }
-        ensures outside { SameOutside (layout_by C.AsSlice.cells self.old) (layout_by C.AsSlice.cells self.new) }
-        ensures fits { Fits (layout_by C.AsSlice.cells self.new) }
-        ensures container { OnlyCellsChange C.AsSlice.cells C.with_cells self.old self.new }
+        ensures grid { grid_by C.cells self.new ≡ patch (grid_by C.cells self.old) place.left place.top (uniform place.width place.height value) }
+        ensures outside { SameOutside (layout_by C.cells self.old) (layout_by C.cells self.new) }
+        ensures fits { Fits (layout_by C.cells self.new) }
+        ensures container { OnlyCellsChange C.cells C.with_cells self.old self.new }
     {
         let (cells, shape) = self.window_parts_mut(place);
         fill_pixels(cells, shape, value);
@@ -88,12 +88,12 @@ impl<C: AsMutSlice> Img<C> {
     )
     where
         C::Item: Copy + 'a,
-        requires fits { Fits (layout_by C.AsSlice.cells self.old) }
+        requires fits { Fits (layout_by C.cells self.old) }
         requires inside { IsInside (width_of self.old) (height_of self.old) (window left top width height) }
-        ensures grid { grid_by C.AsSlice.cells self.new ≡ patch (grid_by C.AsSlice.cells self.old) left top (uniform width height value) }
-        ensures outside { SameOutside (layout_by C.AsSlice.cells self.old) (layout_by C.AsSlice.cells self.new) }
-        ensures fits { Fits (layout_by C.AsSlice.cells self.new) }
-        ensures container { OnlyCellsChange C.AsSlice.cells C.with_cells self.old self.new }
+        ensures grid { grid_by C.cells self.new ≡ patch (grid_by C.cells self.old) left top (uniform width height value) }
+        ensures outside { SameOutside (layout_by C.cells self.old) (layout_by C.cells self.new) }
+        ensures fits { Fits (layout_by C.cells self.new) }
+        ensures container { OnlyCellsChange C.cells C.with_cells self.old self.new }
     {
         self.fill_inside(Window::new(left, top, width, height), value);
     }
@@ -106,12 +106,12 @@ impl<C: AsMutSlice> Img<C> {
     pub fn fill_row<'a>(&'a mut self, y: usize, value: C::Item)
     where
         C::Item: Copy + 'a,
-        requires fits { Fits (layout_by C.AsSlice.cells self.old) }
+        requires fits { Fits (layout_by C.cells self.old) }
         requires below { y < height_of self.old }
-        ensures grid { grid_by C.AsSlice.cells self.new ≡ patch (grid_by C.AsSlice.cells self.old) 0 y (uniform (width_of self.old) 1 value) }
-        ensures outside { SameOutside (layout_by C.AsSlice.cells self.old) (layout_by C.AsSlice.cells self.new) }
-        ensures fits { Fits (layout_by C.AsSlice.cells self.new) }
-        ensures container { OnlyCellsChange C.AsSlice.cells C.with_cells self.old self.new }
+        ensures grid { grid_by C.cells self.new ≡ patch (grid_by C.cells self.old) 0 y (uniform (width_of self.old) 1 value) }
+        ensures outside { SameOutside (layout_by C.cells self.old) (layout_by C.cells self.new) }
+        ensures fits { Fits (layout_by C.cells self.new) }
+        ensures container { OnlyCellsChange C.cells C.with_cells self.old self.new }
     {
         let width = self.width();
         self.fill_inside(Window::new(0, y, width, 1), value);

@@ -40,9 +40,9 @@ impl<C: AsMutSlice> Img<C> {
     ///
     /// The image fits: `is_valid`.
     pub fn rows(&self) -> RowsIter<'_, C::Item>
-        requires fits { Fits (layout_by C.AsSlice.cells self.now) }
-        ensures rows { refs_left result ≡ rows_of (layout_by C.AsSlice.cells self.now) }
-        ensures grid { refs_left result ≡ grid_rows (grid_by C.AsSlice.cells self.now) }
+        requires fits { Fits (layout_by C.cells self.now) }
+        ensures rows { refs_left result ≡ rows_of (layout_by C.cells self.now) }
+        ensures grid { refs_left result ≡ grid_rows (grid_by C.cells self.now) }
         ensures count { length (refs_left result) ≡ row_count (width_of self.now) (height_of self.now) }
         ensures countable { length (refs_left result) < 2 ^ 64 }
         ensures wide { All (λ row. length row ≡ width_of self.now) (refs_left result) }
@@ -59,12 +59,12 @@ impl<C: AsMutSlice> Img<C> {
     ///
     /// The image fits: `is_valid`.
     pub fn rows_mut(&mut self) -> RowsIterMut<'_, C::Item>
-        requires fits { Fits (layout_by C.AsSlice.cells self.old) }
-        ensures* writes_back { sem 𝓛 (follows (the_row C.row) (Array C.Item.row 0) self.entry.ghost_name (rows_name result) (with_all C.AsSlice.cells C.with_cells self.old)) }
-        ensures cells { cells_left result ≡ C.AsSlice.cells (buf_of self.old) }
+        requires fits { Fits (layout_by C.cells self.old) }
+        ensures* writes_back { sem 𝓛 (follows (the_row C.row) (Array C.Item.row 0) self.entry.ghost_name (rows_name result) (with_all C.cells C.with_cells self.old)) }
+        ensures cells { cells_left result ≡ C.cells (buf_of self.old) }
         ensures spacing { spacing_left result ≡ whole_spacing (width_of self.old) (height_of self.old) (stride_of self.old) }
-        ensures rows { muts_left result ≡ rows_of (layout_by C.AsSlice.cells self.old) }
-        ensures grid { muts_left result ≡ grid_rows (grid_by C.AsSlice.cells self.old) }
+        ensures rows { muts_left result ≡ rows_of (layout_by C.cells self.old) }
+        ensures grid { muts_left result ≡ grid_rows (grid_by C.cells self.old) }
         ensures count { length (muts_left result) ≡ row_count (width_of self.old) (height_of self.old) }
         ensures countable { length (muts_left result) < 2 ^ 64 }
         ensures wide { All (λ row. length row ≡ width_of self.old) (muts_left result) }

@@ -121,11 +121,11 @@ impl<C: AsMutSlice> Img<C> {
     ///
     /// The image fits (`is_valid`), and the window is inside it (`has_window`).
     pub fn window(&self, place: Window) -> ImgRef<'_, C::Item>
-        requires fits { Fits (layout_by C.AsSlice.cells self.now) }
+        requires fits { Fits (layout_by C.cells self.now) }
         requires inside { IsInside (width_of self.now) (height_of self.now) (as_window place) }
-        ensures layout { ref_layout result ≡ padded_window (layout_by C.AsSlice.cells self.now) (as_window place) }
+        ensures layout { ref_layout result ≡ padded_window (layout_by C.cells self.now) (as_window place) }
         ensures fits { Fits (ref_layout result) }
-        ensures view { ref_grid result ≡ window_view (grid_by C.AsSlice.cells self.now) (as_window place) }
+        ensures view { ref_grid result ≡ window_view (grid_by C.cells self.now) (as_window place) }
     {
         let (buf, shape) = padded_part(self.buf.as_slice(), self.shape(), place);
         Img::from_parts(buf, shape)
@@ -144,18 +144,18 @@ impl<C: AsMutSlice> Img<C> {
         width: usize,
         height: usize,
     ) -> ImgRef<'_, C::Item>
-        requires fits { Fits (layout_by C.AsSlice.cells self.now) }
+        requires fits { Fits (layout_by C.cells self.now) }
         requires inside { IsInside (width_of self.now) (height_of self.now) (window left top width height) }
-        ensures layout { ref_layout result ≡ padded_window (layout_by C.AsSlice.cells self.now) (window left top width height) }
+        ensures layout { ref_layout result ≡ padded_window (layout_by C.cells self.now) (window left top width height) }
         ensures fits { Fits (ref_layout result) }
-        ensures view { ref_grid result ≡ window_view (grid_by C.AsSlice.cells self.now) (window left top width height) }
+        ensures view { ref_grid result ≡ window_view (grid_by C.cells self.now) (window left top width height) }
     {
         self.window(Window::new(left, top, width, height))
     }
 
     /// The whole image for reading, with its whole buffer. It need not fit.
     pub fn as_ref(&self) -> ImgRef<'_, C::Item>
-        ensures { ref_layout result ≡ layout_by C.AsSlice.cells self.now }
+        ensures { ref_layout result ≡ layout_by C.cells self.now }
     {
         Img::from_parts(self.buf.as_slice(), self.shape())
     }
@@ -163,8 +163,8 @@ impl<C: AsMutSlice> Img<C> {
     /// The whole image for writing, with its whole buffer. It need not fit. Once the borrow ends,
     /// the image has the cells that were left there.
     pub fn as_mut(&mut self) -> Img<&mut [C::Item]>
-        ensures* hands_on { sem 𝓛 (follows (the_row C.row) (Array C.Item.row 0) self.entry.ghost_name (buf_of result).ghost_name (with_all C.AsSlice.cells C.with_cells self.old)) }
-        ensures layout { mut_layout result ≡ layout_by C.AsSlice.cells self.old }
+        ensures* hands_on { sem 𝓛 (follows (the_row C.row) (Array C.Item.row 0) self.entry.ghost_name (buf_of result).ghost_name (with_all C.cells C.with_cells self.old)) }
+        ensures layout { mut_layout result ≡ layout_by C.cells self.old }
     {
         let (cells, shape) = self.all_parts_mut();
         Img::from_parts(cells, shape)
@@ -182,16 +182,16 @@ impl<C: AsMutSlice> Img<C> {
     ///
     /// The image fits (`is_valid`), and the window is inside it (`has_window`).
     pub fn window_mut(&mut self, place: Window) -> Img<&mut [C::Item]>
-        requires fits { Fits (layout_by C.AsSlice.cells self.old) }
+        requires fits { Fits (layout_by C.cells self.old) }
         requires inside { IsInside (width_of self.old) (height_of self.old) (as_window place) }
-        ensures* hands_on { sem 𝓛 (follows (the_row C.row) (Array C.Item.row 0) self.entry.ghost_name (buf_of result).ghost_name (with_window C.AsSlice.cells C.with_cells C.padded_windows self.old (as_window place))) }
-        ensures layout { mut_layout result ≡ window_layout C.padded_windows (layout_by C.AsSlice.cells self.old) (as_window place) }
+        ensures* hands_on { sem 𝓛 (follows (the_row C.row) (Array C.Item.row 0) self.entry.ghost_name (buf_of result).ghost_name (with_window C.cells C.with_cells C.padded_windows self.old (as_window place))) }
+        ensures layout { mut_layout result ≡ window_layout C.padded_windows (layout_by C.cells self.old) (as_window place) }
         ensures fits { Fits (mut_layout result) }
-        ensures view { mut_grid result ≡ window_view (grid_by C.AsSlice.cells self.old) (as_window place) }
-        ensures grid { WindowPatchesGrid C.AsSlice.cells C.with_cells C.padded_windows self.old (as_window place) (mut_layout result) }
-        ensures outside { WindowKeepsOutside C.AsSlice.cells C.with_cells C.padded_windows self.old (as_window place) (mut_layout result) }
-        ensures still_fits { WindowKeepsFit C.AsSlice.cells C.with_cells C.padded_windows self.old (as_window place) (mut_layout result) }
-        ensures container { WindowKeepsContainer C.AsSlice.cells C.with_cells C.padded_windows self.old (as_window place) (mut_layout result) }
+        ensures view { mut_grid result ≡ window_view (grid_by C.cells self.old) (as_window place) }
+        ensures grid { WindowPatchesGrid C.cells C.with_cells C.padded_windows self.old (as_window place) (mut_layout result) }
+        ensures outside { WindowKeepsOutside C.cells C.with_cells C.padded_windows self.old (as_window place) (mut_layout result) }
+        ensures still_fits { WindowKeepsFit C.cells C.with_cells C.padded_windows self.old (as_window place) (mut_layout result) }
+        ensures container { WindowKeepsContainer C.cells C.with_cells C.padded_windows self.old (as_window place) (mut_layout result) }
     {
         let (buf, shape) = self.window_parts_mut(place);
         Img::from_parts(buf, shape)
@@ -210,16 +210,16 @@ impl<C: AsMutSlice> Img<C> {
         width: usize,
         height: usize,
     ) -> Img<&mut [C::Item]>
-        requires fits { Fits (layout_by C.AsSlice.cells self.old) }
+        requires fits { Fits (layout_by C.cells self.old) }
         requires inside { IsInside (width_of self.old) (height_of self.old) (window left top width height) }
-        ensures* hands_on { sem 𝓛 (follows (the_row C.row) (Array C.Item.row 0) self.entry.ghost_name (buf_of result).ghost_name (with_window C.AsSlice.cells C.with_cells C.padded_windows self.old (window left top width height))) }
-        ensures layout { mut_layout result ≡ window_layout C.padded_windows (layout_by C.AsSlice.cells self.old) (window left top width height) }
+        ensures* hands_on { sem 𝓛 (follows (the_row C.row) (Array C.Item.row 0) self.entry.ghost_name (buf_of result).ghost_name (with_window C.cells C.with_cells C.padded_windows self.old (window left top width height))) }
+        ensures layout { mut_layout result ≡ window_layout C.padded_windows (layout_by C.cells self.old) (window left top width height) }
         ensures fits { Fits (mut_layout result) }
-        ensures view { mut_grid result ≡ window_view (grid_by C.AsSlice.cells self.old) (window left top width height) }
-        ensures grid { WindowPatchesGrid C.AsSlice.cells C.with_cells C.padded_windows self.old (window left top width height) (mut_layout result) }
-        ensures outside { WindowKeepsOutside C.AsSlice.cells C.with_cells C.padded_windows self.old (window left top width height) (mut_layout result) }
-        ensures still_fits { WindowKeepsFit C.AsSlice.cells C.with_cells C.padded_windows self.old (window left top width height) (mut_layout result) }
-        ensures container { WindowKeepsContainer C.AsSlice.cells C.with_cells C.padded_windows self.old (window left top width height) (mut_layout result) }
+        ensures view { mut_grid result ≡ window_view (grid_by C.cells self.old) (window left top width height) }
+        ensures grid { WindowPatchesGrid C.cells C.with_cells C.padded_windows self.old (window left top width height) (mut_layout result) }
+        ensures outside { WindowKeepsOutside C.cells C.with_cells C.padded_windows self.old (window left top width height) (mut_layout result) }
+        ensures still_fits { WindowKeepsFit C.cells C.with_cells C.padded_windows self.old (window left top width height) (mut_layout result) }
+        ensures container { WindowKeepsContainer C.cells C.with_cells C.padded_windows self.old (window left top width height) (mut_layout result) }
     {
         self.window_mut(Window::new(left, top, width, height))
     }
@@ -234,19 +234,19 @@ impl<C: AsMutSlice> Img<C> {
     ///
     /// The image fits (`is_valid`), and the window is inside it (`has_window`).
     pub fn window_parts_mut(&mut self, place: Window) -> (&mut [C::Item], Shape)
-        requires fits { Fits (layout_by C.AsSlice.cells self.old) }
+        requires fits { Fits (layout_by C.cells self.old) }
         requires inside { IsInside (width_of self.old) (height_of self.old) (as_window place) }
-        ensures* hands_on { sem 𝓛 (follows (the_row C.row) (Array C.Item.row 0) self.entry.ghost_name result.0.ghost_name (with_window C.AsSlice.cells C.with_cells C.padded_windows self.old (as_window place))) }
-        ensures layout { shaped result.0.now result.1 ≡ window_layout C.padded_windows (layout_by C.AsSlice.cells self.old) (as_window place) }
+        ensures* hands_on { sem 𝓛 (follows (the_row C.row) (Array C.Item.row 0) self.entry.ghost_name result.0.ghost_name (with_window C.cells C.with_cells C.padded_windows self.old (as_window place))) }
+        ensures layout { shaped result.0.now result.1 ≡ window_layout C.padded_windows (layout_by C.cells self.old) (as_window place) }
         ensures fits { Fits (shaped result.0.now result.1) }
-        ensures view { shaped_grid result.0.now result.1 ≡ window_view (grid_by C.AsSlice.cells self.old) (as_window place) }
+        ensures view { shaped_grid result.0.now result.1 ≡ window_view (grid_by C.cells self.old) (as_window place) }
         ensures width { shape_width result.1 ≡ place.width }
         ensures height { shape_height result.1 ≡ place.height }
         ensures holds_width { width_of self.old ≤ stride_of self.old }
-        ensures grid { WindowPatchesGrid C.AsSlice.cells C.with_cells C.padded_windows self.old (as_window place) (shaped result.0.now result.1) }
-        ensures outside { WindowKeepsOutside C.AsSlice.cells C.with_cells C.padded_windows self.old (as_window place) (shaped result.0.now result.1) }
-        ensures still_fits { WindowKeepsFit C.AsSlice.cells C.with_cells C.padded_windows self.old (as_window place) (shaped result.0.now result.1) }
-        ensures container { WindowKeepsContainer C.AsSlice.cells C.with_cells C.padded_windows self.old (as_window place) (shaped result.0.now result.1) }
+        ensures grid { WindowPatchesGrid C.cells C.with_cells C.padded_windows self.old (as_window place) (shaped result.0.now result.1) }
+        ensures outside { WindowKeepsOutside C.cells C.with_cells C.padded_windows self.old (as_window place) (shaped result.0.now result.1) }
+        ensures still_fits { WindowKeepsFit C.cells C.with_cells C.padded_windows self.old (as_window place) (shaped result.0.now result.1) }
+        ensures container { WindowKeepsContainer C.cells C.with_cells C.padded_windows self.old (as_window place) (shaped result.0.now result.1) }
     {
         let len = self.buf.as_slice().len();
         let whole = self.shape();

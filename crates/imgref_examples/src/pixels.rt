@@ -49,8 +49,8 @@ fn write_next<T: Copy>(pixels: &mut PixelsIterMut<'_, T>, count: usize, value: T
 fn cover_first<'a, C: AsMutSlice>(image: &'a mut Img<C>, count: usize, value: C::Item)
 where
     C::Item: Copy + 'a,
-    requires fits { Fits (layout_by C.AsSlice.cells image.old) }
-    ensures { image.new ≡ with_all C.AsSlice.cells C.with_cells image.old (first_covered count (marks_of (width_of image.old) (height_of image.old) (stride_of image.old)) value (C.AsSlice.cells (buf_of image.old))) }
+    requires fits { Fits (layout_by C.cells image.old) }
+    ensures { image.new ≡ with_all C.cells C.with_cells image.old (first_covered count (marks_of (width_of image.old) (height_of image.old) (stride_of image.old)) value (C.cells (buf_of image.old))) }
 {
     let mut pixels = image.exact_pixels_mut();
     write_next(&mut pixels, count, value);
@@ -62,10 +62,10 @@ where
 pub fn write_first<'a, C: AsMutSlice>(image: &'a mut Img<C>, count: usize, value: C::Item)
 where
     C::Item: Copy + 'a,
-    requires fits { Fits (layout_by C.AsSlice.cells image.old) }
-    ensures grid { grid_by C.AsSlice.cells image.new ≡ with_first (grid_by C.AsSlice.cells image.old) count value }
-    ensures outside { SameOutside (layout_by C.AsSlice.cells image.old) (layout_by C.AsSlice.cells image.new) }
-    ensures container { OnlyCellsChange C.AsSlice.cells C.with_cells image.old image.new }
+    requires fits { Fits (layout_by C.cells image.old) }
+    ensures grid { grid_by C.cells image.new ≡ with_first (grid_by C.cells image.old) count value }
+    ensures outside { SameOutside (layout_by C.cells image.old) (layout_by C.cells image.new) }
+    ensures container { OnlyCellsChange C.cells C.with_cells image.old image.new }
 {
     let _width = image.width();
     cover_first(image, count, value);

@@ -24,10 +24,10 @@ fn fill_row<T: Copy>(row: &mut [T], value: T)
 pub fn fill_row_at<'a, C: AsMutSlice>(image: &'a mut Img<C>, y: usize, value: C::Item)
 where
     C::Item: Copy + 'a,
-    requires fits { Fits (layout_by C.AsSlice.cells image.old) }
+    requires fits { Fits (layout_by C.cells image.old) }
     requires below { y < height_of image.old }
-    ensures grid { grid_by C.AsSlice.cells image.new ≡ patch (grid_by C.AsSlice.cells image.old) 0 y (uniform (width_of image.old) 1 value) }
-    ensures outside { SameOutside (layout_by C.AsSlice.cells image.old) (layout_by C.AsSlice.cells image.new) }
+    ensures grid { grid_by C.cells image.new ≡ patch (grid_by C.cells image.old) 0 y (uniform (width_of image.old) 1 value) }
+    ensures outside { SameOutside (layout_by C.cells image.old) (layout_by C.cells image.new) }
 {
     let _width = image.width();
     fill_row(image.row_mut(y), value);
@@ -37,8 +37,8 @@ where
 fn cover_last<'a, C: AsMutSlice>(image: &'a mut Img<C>, value: C::Item)
 where
     C::Item: Copy + 'a,
-    requires fits { Fits (layout_by C.AsSlice.cells image.old) }
-    ensures { image.new ≡ with_all C.AsSlice.cells C.with_cells image.old (with_last_row (layout_by C.AsSlice.cells image.old) value) }
+    requires fits { Fits (layout_by C.cells image.old) }
+    ensures { image.new ≡ with_all C.cells C.with_cells image.old (with_last_row (layout_by C.cells image.old) value) }
 {
     let mut rows = image.rows_mut();
     if let Some(row) = rows.next_back() {
@@ -52,10 +52,10 @@ where
 pub fn fill_last_row<'a, C: AsMutSlice>(image: &'a mut Img<C>, value: C::Item)
 where
     C::Item: Copy + 'a,
-    requires fits { Fits (layout_by C.AsSlice.cells image.old) }
-    ensures grid { grid_by C.AsSlice.cells image.new ≡ patch (grid_by C.AsSlice.cells image.old) 0 (height_of image.old - 1) (uniform (width_of image.old) 1 value) }
-    ensures outside { SameOutside (layout_by C.AsSlice.cells image.old) (layout_by C.AsSlice.cells image.new) }
-    ensures container { OnlyCellsChange C.AsSlice.cells C.with_cells image.old image.new }
+    requires fits { Fits (layout_by C.cells image.old) }
+    ensures grid { grid_by C.cells image.new ≡ patch (grid_by C.cells image.old) 0 (height_of image.old - 1) (uniform (width_of image.old) 1 value) }
+    ensures outside { SameOutside (layout_by C.cells image.old) (layout_by C.cells image.new) }
+    ensures container { OnlyCellsChange C.cells C.with_cells image.old image.new }
 {
     let _width = image.width();
     cover_last(image, value);

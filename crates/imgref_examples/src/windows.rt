@@ -56,14 +56,14 @@ pub struct NestedPlace {
 pub fn put_nested<'a, C: AsMutSlice>(image: &'a mut Img<C>, place: NestedPlace, value: C::Item)
 where
     C::Item: Copy + 'a,
-    requires fits { Fits (layout_by C.AsSlice.cells image.old) }
+    requires fits { Fits (layout_by C.cells image.old) }
     requires first_inside { IsInside (width_of image.old) (height_of image.old) (as_window place.first) }
     requires second_inside { IsInside place.first.width place.first.height (as_window place.second) }
     requires column { place.x < place.second.width }
     requires line { place.y < place.second.height }
-    ensures grid { grid_by C.AsSlice.cells image.new ≡ patch (grid_by C.AsSlice.cells image.old) (place.first.left + (place.second.left + place.x)) (place.first.top + (place.second.top + place.y)) (uniform 1 1 value) }
-    ensures outside { SameOutside (layout_by C.AsSlice.cells image.old) (layout_by C.AsSlice.cells image.new) }
-    ensures container { OnlyCellsChange C.AsSlice.cells C.with_cells image.old image.new }
+    ensures grid { grid_by C.cells image.new ≡ patch (grid_by C.cells image.old) (place.first.left + (place.second.left + place.x)) (place.first.top + (place.second.top + place.y)) (uniform 1 1 value) }
+    ensures outside { SameOutside (layout_by C.cells image.old) (layout_by C.cells image.new) }
+    ensures container { OnlyCellsChange C.cells C.with_cells image.old image.new }
 {
     let (cells, shape) = image.window_parts_mut(place.first);
     put_inside(cells, shape, place.second, place.x, place.y, value);

@@ -15,7 +15,7 @@ fn cells_of<C: AsSlice>(container: &C) -> &[C::Item] {
 }
 
 fn cell_of<C: AsMutSlice>(container: &mut C, at: usize) -> &mut C::Item
-    requires { at < length (C.AsSlice.cells container.old) }
+    requires { at < length (C.cells container.old) }
 {
     container.cell_mut(at)
 }
@@ -27,7 +27,7 @@ fn window_len<C: AsMutSlice>(
     width: usize,
     height: usize,
 ) -> usize
-    requires fits { Fits (layout_by C.AsSlice.cells image.old) }
+    requires fits { Fits (layout_by C.cells image.old) }
     requires inside { IsInside (width_of image.old) (height_of image.old) (window left top width height) }
 {
     let (cells, _) = image.window_parts_mut(Window::new(left, top, width, height));
