@@ -40,7 +40,7 @@ CASES = [
 
 
 def clause(name):
-    return re.compile(rf"^ *ensures\*? {name} \{{.*\}}\n", re.M)
+    return re.compile(rf"^ *ensures\*? {name} \{{.*?\}}\n(?= *(?:ensures\b|\{{))", re.M | re.S)
 
 
 def span(text, name):

@@ -59,7 +59,8 @@ impl<D: Read> Counted<D> {
     pub fn read(&mut self, buf: &mut [u8]) -> Result<usize>
         requires { failures_of self.old < u64.MAX }
         ensures bound { ReadsAtMost result buf.new }
-        ensures bytes { ReadConsumes (D.remaining (device_of self.old)) (D.remaining (device_of self.new)) result buf.new }
+        ensures bytes { ReadConsumes (D.remaining (device_of self.old))
+            (D.remaining (device_of self.new)) result buf.new }
         ensures count { failures_of self.new ≡ failures_of self.old + errors result }
     {
         let given = self.device.read(buf);
@@ -78,7 +79,8 @@ impl<D: Write> Counted<D> {
     pub fn write(&mut self, buf: &[u8]) -> Result<usize>
         requires { failures_of self.old < u64.MAX }
         ensures bound { WritesAtMost result buf.now }
-        ensures bytes { WriteAppends (D.contents (device_of self.old)) (D.contents (device_of self.new)) result buf.now }
+        ensures bytes { WriteAppends (D.contents (device_of self.old))
+            (D.contents (device_of self.new)) result buf.now }
         ensures count { failures_of self.new ≡ failures_of self.old + misses result buf.now }
     {
         let taken = self.device.write(buf);

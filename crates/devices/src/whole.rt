@@ -34,8 +34,10 @@ pub enum LineFault {
 pub fn fill<R: Read>(reader: &mut Counted<R>, buffer: &mut [u8]) -> Result<usize, ReadFailed>
     requires { failures_of reader.old < u64.MAX }
     ensures within { IfOk result (λ n. n ≤ length buffer.new) }
-    ensures bytes { IfOk result (λ n. Consumes (R.remaining (device_of reader.old)) (R.remaining (device_of reader.new)) (take n buffer.new)) }
-    ensures end { IfOk result (λ n. n < length buffer.new → IsAtEnd (R.remaining (device_of reader.new))) }
+    ensures bytes { IfOk result (λ n. Consumes (R.remaining (device_of reader.old))
+        (R.remaining (device_of reader.new)) (take n buffer.new)) }
+    ensures end { IfOk result
+        (λ n. n < length buffer.new → IsAtEnd (R.remaining (device_of reader.new))) }
     ensures count { failures_of reader.new ≡ failures_of reader.old + errors result }
 {
     let mut filled = 0;
@@ -56,8 +58,10 @@ pub fn fill<R: Read>(reader: &mut Counted<R>, buffer: &mut [u8]) -> Result<usize
 /// The reader's count has room for one failure more.
 pub fn read_byte<R: Read>(reader: &mut Counted<R>) -> Result<Option<u8>, ReadFailed>
     requires { failures_of reader.old < u64.MAX }
-    ensures byte { IfOk result (λ found. IfSome found (λ byte. Consumes (R.remaining (device_of reader.old)) (R.remaining (device_of reader.new)) (byte ∷ []))) }
-    ensures end { IfOk result (λ found. IfNone found (Consumes (R.remaining (device_of reader.old)) (R.remaining (device_of reader.new)) [] × IsAtEnd (R.remaining (device_of reader.new)))) }
+    ensures byte { IfOk result (λ found. IfSome found (λ byte. Consumes
+        (R.remaining (device_of reader.old)) (R.remaining (device_of reader.new)) (byte ∷ []))) }
+    ensures end { IfOk result (λ found. IfNone found (Consumes (R.remaining (device_of reader.old))
+        (R.remaining (device_of reader.new)) [] × IsAtEnd (R.remaining (device_of reader.new)))) }
     ensures count { failures_of reader.new ≡ failures_of reader.old + errors result }
 {
     let mut one = [0u8; 1];
@@ -80,7 +84,8 @@ pub fn read_byte<R: Read>(reader: &mut Counted<R>) -> Result<Option<u8>, ReadFai
 pub fn read_line<R: Read>(reader: &mut Counted<R>, line: &mut [u8]) -> Result<usize, LineFault>
     requires { failures_of reader.old < u64.MAX }
     ensures within { IfOk result (λ n. n < length line.new) }
-    ensures bytes { IfOk result (λ n. Consumes (R.remaining (device_of reader.old)) (R.remaining (device_of reader.new)) (take n line.new ++ 10 ∷ [])) }
+    ensures bytes { IfOk result (λ n. Consumes (R.remaining (device_of reader.old))
+        (R.remaining (device_of reader.new)) (take n line.new ++ 10 ∷ [])) }
     ensures feed { IfOk result (λ n. take (n + 1) line.new ≡ take n line.new ++ 10 ∷ []) }
     ensures one_line { IfOk result (λ n. All (λ b. b ≢ 10) (take n line.new)) }
     ensures fault { IfErr result (Explains (length line.old) (R.remaining (device_of reader.old))) }
@@ -107,8 +112,10 @@ pub fn read_line<R: Read>(reader: &mut Counted<R>, line: &mut [u8]) -> Result<us
 /// The writer's count has room for one failure more.
 pub fn write_all<W: Write>(writer: &mut Counted<W>, bytes: &[u8]) -> Result<(), WriteFailed>
     requires { failures_of writer.old < u64.MAX }
-    ensures whole { OnOk result (Appends (W.contents (device_of writer.old)) (W.contents (device_of writer.new)) bytes.now) }
-    ensures beginning { OnErr result (AppendsBeginning (W.contents (device_of writer.old)) (W.contents (device_of writer.new)) bytes.now) }
+    ensures whole { OnOk result (Appends (W.contents (device_of writer.old))
+        (W.contents (device_of writer.new)) bytes.now) }
+    ensures beginning { OnErr result (AppendsBeginning (W.contents (device_of writer.old))
+        (W.contents (device_of writer.new)) bytes.now) }
     ensures count { failures_of writer.new ≡ failures_of writer.old + errors result }
 {
     let mut sent = 0;

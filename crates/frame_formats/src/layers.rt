@@ -89,7 +89,8 @@ fn plane_on(
     steps: &[Step<Paint>],
 ) -> Result<Plane, PlanFault>
     requires { StandsForPixels layer }
-    ensures plane { IfOk result (λ plane. job_on layer width height steps.now ≡ Some (job_of plane)) }
+    ensures plane { IfOk result
+        (λ plane. job_on layer width height steps.now ≡ Some (job_of plane)) }
     ensures fault { IfErr result (Tells (job_on layer width height steps.now ≡ None)) }
 {
     let mut made = Vec::new(alloc);
@@ -136,7 +137,8 @@ pub(crate) fn planes_of(
     steps: &[Step<Paint>],
 ) -> Result<Vec<Plane>, PlanFault>
     requires { All StandsForPixels layers.now }
-    ensures planes { IfOk result (λ planes. jobs_on layers.now width height steps.now ≡ Some (map job_of planes.items)) }
+    ensures planes { IfOk result
+        (λ planes. jobs_on layers.now width height steps.now ≡ Some (map job_of planes.items)) }
     ensures fault { IfErr result (Tells (jobs_on layers.now width height steps.now ≡ None)) }
 {
     let mut planes = Vec::new(alloc);
@@ -162,7 +164,8 @@ pub(crate) fn targets_of(
     resize: Resize,
 ) -> Result<Vec<Target>, PlanFault>
     requires { All StandsForPixels layers.now }
-    ensures targets { IfOk result (λ targets. resizings_on layers.now width height resize ≡ Some (map resizing_of targets.items)) }
+    ensures targets { IfOk result (λ targets.
+        resizings_on layers.now width height resize ≡ Some (map resizing_of targets.items)) }
     ensures fault { IfErr result (Tells (resizings_on layers.now width height resize ≡ None)) }
 {
     let mut targets = Vec::new(alloc);

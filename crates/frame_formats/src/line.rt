@@ -29,7 +29,8 @@ fn push_field(
     width: usize,
     height: usize,
 ) -> Result<(), AllocError>
-    ensures { OnOk result (text.new.items ≡ text.old.items ++ resized_field width height field.now) }
+    ensures { OnOk result
+        (text.new.items ≡ text.old.items ++ resized_field width height field.now) }
 {
     match field {
         [b'W', ..] => push_number(alloc, text, b'W', width),
@@ -49,7 +50,8 @@ fn push_fields(
     width: usize,
     height: usize,
 ) -> Result<(), AllocError>
-    ensures { OnOk result (text.new.items ≡ text.old.items ++ resized_fields width height (parts_left fields.entry)) }
+    ensures { OnOk result
+        (text.new.items ≡ text.old.items ++ resized_fields width height (parts_left fields.entry)) }
 {
     let mut rest = fields;
     while let Some(field) = rest.next_part() {

@@ -60,8 +60,10 @@ impl Plan {
     ) -> Result<Plan, PlanFault>
         requires covers { resized_len (resizings_of targets) ≤ jobs_len (map job_of planes.items) }
         requires whole { GoByThree in_pixels (jobs_len (map job_of planes.items)) }
-        requires new_whole { GoByThree in_pixels (new_len (map job_of planes.items) (resizings_of targets)) }
-        ensures plan { IfOk result (λ plan. recipe_of plan ≡ recipe head.items in_pixels (map job_of planes.items) (resizings_of targets)) }
+        requires new_whole { GoByThree in_pixels
+            (new_len (map job_of planes.items) (resizings_of targets)) }
+        ensures plan { IfOk result (λ plan. recipe_of plan
+            ≡ recipe head.items in_pixels (map job_of planes.items) (resizings_of targets)) }
         ensures fault { IfErr result (λ fault. fault ≡ PlanFault.Memory) }
     {
         let Some(source_len) = planes_len(&planes) else {
@@ -98,8 +100,10 @@ impl Plan {
         framing: Option<Framing>,
     ) -> Result<Plan, PlanFault>
         requires { format_of line.now ≡ Some format }
-        ensures plan { IfOk result (λ plan. video_recipe (edits steps.now framing) line.now ≡ Some (recipe_of plan)) }
-        ensures fault { IfErr result (Tells (video_recipe (edits steps.now framing) line.now ≡ None)) }
+        ensures plan { IfOk result
+            (λ plan. video_recipe (edits steps.now framing) line.now ≡ Some (recipe_of plan)) }
+        ensures fault { IfErr result
+            (Tells (video_recipe (edits steps.now framing) line.now ≡ None)) }
     {
         let layers = video_layers(format.chroma);
         let planes = planes_of(alloc, layers, format.width, format.height, steps)?;
@@ -131,8 +135,10 @@ impl Plan {
         steps: &[Step<Paint>],
         framing: Option<Framing>,
     ) -> Result<Plan, PlanFault>
-        ensures plan { IfOk result (λ plan. picture_recipe (edits steps.now framing) picture ≡ Some (recipe_of plan)) }
-        ensures fault { IfErr result (Tells (picture_recipe (edits steps.now framing) picture ≡ None)) }
+        ensures plan { IfOk result
+            (λ plan. picture_recipe (edits steps.now framing) picture ≡ Some (recipe_of plan)) }
+        ensures fault { IfErr result
+            (Tells (picture_recipe (edits steps.now framing) picture ≡ None)) }
     {
         let layers = picture_layers(picture.colour);
         let planes = planes_of(alloc, layers, picture.width, picture.height, steps)?;
@@ -185,7 +191,8 @@ impl Plan {
     /// How many bytes it has then.
     pub fn len(&self) -> usize
         ensures len { result ≡ plan_len self.now }
-        ensures within { result ≤ (if plan_is_resized self.now then plan_other_room self.now else plan_room self.now) }
+        ensures within { result
+            ≤ (if plan_is_resized self.now then plan_other_room self.now else plan_room self.now) }
     {
         self.len
     }
@@ -221,7 +228,9 @@ impl Plan {
     pub fn edit(&self, number: u64, cells: &mut [u8], other: &mut [u8])
         requires room { plan_room self.now ≤ length cells.old }
         requires other_room { plan_other_room self.now ≤ length other.old }
-        ensures { take (plan_len self.now) (if plan_is_resized self.now then other.new else cells.new) ≡ (recipe_of self.now).frame number (take (recipe_of self.now).size cells.old) }
+        ensures { take (plan_len self.now)
+            (if plan_is_resized self.now then other.new else cells.new)
+            ≡ (recipe_of self.now).frame number (take (recipe_of self.now).size cells.old) }
     {
         if !self.in_pixels {
             let (frame, _) = cells.split_at_mut(self.source_len);

@@ -195,9 +195,11 @@ impl Edits {
     ///
     /// `NoEdit` where there is no edit at the front, or one would stand behind a crop or a pad.
     pub fn take(&mut self, words: &[&[u8]]) -> Result<usize, WordsFault>
-        ensures taken { IfOk result (λ n. option_map (with_edit self.old.steps.items) (edit_at (map (λ w. w.now) words.now)) ≡ Some (self.new.steps.items, (self.new.framing, n))) }
+        ensures taken { IfOk result (λ n. option_map (with_edit self.old.steps.items) (edit_at
+            (map (λ w. w.now) words.now)) ≡ Some (self.new.steps.items, (self.new.framing, n))) }
         ensures last { IfOk result (λ _. self.old.framing ≡ None) }
-        ensures none { IfErr result (λ e. e ≡ WordsFault.NoEdit → self.old.framing ≡ None → edit_at (map (λ w. w.now) words.now) ≡ None) }
+        ensures none { IfErr result (λ e. e ≡ WordsFault.NoEdit → self.old.framing ≡ None
+            → edit_at (map (λ w. w.now) words.now) ≡ None) }
         ensures same_steps { IfErr result (λ _. self.new.steps.items ≡ self.old.steps.items) }
         ensures same_framing { IfErr result (λ _. self.new.framing ≡ self.old.framing) }
         ensures some { IfOk result (λ n. 0 < n) }
@@ -226,7 +228,8 @@ impl Edits {
     /// `NoEdit` where the words are no edits, or one would stand behind a crop or a pad.
     pub fn take_all(&mut self, words: &[&[u8]]) -> Result<(), WordsFault>
         ensures adds { OnOk result (Adds (map (λ w. w.now) words.now) self.old self.new) }
-        ensures none { IfErr result (λ e. e ≡ WordsFault.NoEdit → AddsNone (map (λ w. w.now) words.now) self.old) }
+        ensures none { IfErr result
+            (λ e. e ≡ WordsFault.NoEdit → AddsNone (map (λ w. w.now) words.now) self.old) }
     {
         let mut at = 0;
         while at < words.len() {
@@ -241,8 +244,10 @@ impl Edits {
     // Adds the one edit that all of the words are.
     #[tactic(auto, using(crate::proofs::EditsEach::one_taken, crate::proofs::EditsEach::fewer_taken, crate::proofs::EditsEach::none_taken))]
     fn take_one(&mut self, words: &[&[u8]]) -> Result<(), WordsFault>
-        ensures taken { OnOk result (with_one (plain self.old) (map (λ w. w.now) words.now) ≡ Some (plain self.new)) }
-        ensures none { IfErr result (λ e. e ≡ WordsFault.NoEdit → with_one (plain self.old) (map (λ w. w.now) words.now) ≡ None) }
+        ensures taken { OnOk result
+            (with_one (plain self.old) (map (λ w. w.now) words.now) ≡ Some (plain self.new)) }
+        ensures none { IfErr result (λ e. e ≡ WordsFault.NoEdit
+            → with_one (plain self.old) (map (λ w. w.now) words.now) ≡ None) }
     {
         match self.take(words) {
             Ok(count) => {
@@ -259,7 +264,8 @@ impl Edits {
     // Adds the edit that a line is.
     fn take_line(&mut self, alloc: Global, line: &[u8]) -> Result<(), WordsFault>
         ensures taken { OnOk result (with_line (plain self.old) line.now ≡ Some (plain self.new)) }
-        ensures none { IfErr result (λ e. e ≡ WordsFault.NoEdit → with_line (plain self.old) line.now ≡ None) }
+        ensures none { IfErr result
+            (λ e. e ≡ WordsFault.NoEdit → with_line (plain self.old) line.now ≡ None) }
     {
         if line.is_empty() {
             return Ok(());
@@ -277,8 +283,10 @@ impl Edits {
     ///
     /// `NoEdit` where a line isn't one edit, or would stand behind a crop or a pad.
     pub fn take_lines(&mut self, alloc: Global, text: &[u8]) -> Result<(), WordsFault>
-        ensures taken { OnOk result (with_lines (plain self.old) (parts_of 10 text.now) ≡ Some (plain self.new)) }
-        ensures none { IfErr result (λ e. e ≡ WordsFault.NoEdit → with_lines (plain self.old) (parts_of 10 text.now) ≡ None) }
+        ensures taken { OnOk result
+            (with_lines (plain self.old) (parts_of 10 text.now) ≡ Some (plain self.new)) }
+        ensures none { IfErr result (λ e. e ≡ WordsFault.NoEdit
+            → with_lines (plain self.old) (parts_of 10 text.now) ≡ None) }
     {
         let mut lines = Parts::new(text, b'\n');
         while let Some(line) = lines.next_part() {

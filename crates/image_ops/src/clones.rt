@@ -58,8 +58,10 @@ pub fn contiguous<'a, T: Clone>(
 ) -> Result<CowSlice<'a, T>, AllocError>
     requires fits { Fits (shaped cells.now shape) }
     requires clones_equal { ClonesEqual T.is_clone (joined_rows (shaped cells.now shape)) }
-    ensures joined { IfOk result (λ pixels. cow_slice_items pixels ≡ joined_rows (shaped cells.now shape)) }
-    ensures borrowed { IfOk result (λ pixels. IsBorrowedSlice pixels ↔ (shape_width shape ≡ shape_stride shape)) }
+    ensures joined { IfOk result
+        (λ pixels. cow_slice_items pixels ≡ joined_rows (shaped cells.now shape)) }
+    ensures borrowed { IfOk result
+        (λ pixels. IsBorrowedSlice pixels ↔ (shape_width shape ≡ shape_stride shape)) }
     ensures succeeds { shape_width shape ≡ shape_stride shape → IsOk result }
     ensures no_pixel { shape_width shape * shape_height shape ≡ 0 → IsOk result }
 {

@@ -21,7 +21,8 @@ fn have_equal_rows<T: PartialEq>(
     requires second_fits { Fits (shaped second.now second_shape) }
     requires same_width { shape_width first_shape ≡ shape_width second_shape }
     requires same_height { shape_height first_shape ≡ shape_height second_shape }
-    ensures { result ≡ pointwise (pointwise T.eq) (rows_of (shaped first.now first_shape)) (rows_of (shaped second.now second_shape)) }
+    ensures { result ≡ pointwise (pointwise T.eq) (rows_of (shaped first.now first_shape))
+        (rows_of (shaped second.now second_shape)) }
 {
     for y in 0..first_shape.row_count() {
         if row(first, first_shape, y) != row(second, second_shape, y) {
@@ -39,7 +40,8 @@ pub fn are_equal<T: PartialEq>(
     second: &[T],
     second_shape: Shape,
 ) -> bool
-    ensures { result ≡ is_alike T.eq (shaped first.now first_shape) (shaped second.now second_shape) }
+    ensures { result
+        ≡ is_alike T.eq (shaped first.now first_shape) (shaped second.now second_shape) }
 {
     if first_shape.width() != second_shape.width()
         || first_shape.height() != second_shape.height()

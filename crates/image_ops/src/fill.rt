@@ -20,7 +20,8 @@ pub fn fill_cells<T: Copy>(cells: &mut [T], value: T)
 /// `Shape::fits` tells.
 pub fn fill_pixels<T: Copy>(cells: &mut [T], shape: Shape, value: T)
     requires fits { Fits (shaped cells.old shape) }
-    ensures grid { shaped_grid cells.new shape ≡ uniform (shape_width shape) (shape_height shape) value }
+    ensures grid { shaped_grid cells.new shape
+        ≡ uniform (shape_width shape) (shape_height shape) value }
     ensures outside { SameOutside (shaped cells.old shape) (shaped cells.new shape) }
 {
     for y in 0..shape.row_count() {

@@ -84,7 +84,8 @@ pub fn mosaic_cells<T: Copy>(cells: &mut [T], shape: Shape, tile_width: usize, t
     requires fits { Fits (shaped cells.old shape) }
     requires wide { 0 < tile_width }
     requires high { 0 < tile_height }
-    ensures grid { grid_of (shaped cells.new shape) ≡ mosaic tile_width tile_height (grid_of (shaped cells.old shape)) }
+    ensures grid { grid_of (shaped cells.new shape)
+        ≡ mosaic tile_width tile_height (grid_of (shaped cells.old shape)) }
     ensures outside { SameOutside (shaped cells.old shape) (shaped cells.new shape) }
 {
     // A tile of one pixel shows that pixel.

@@ -24,7 +24,8 @@ fn with_moved_window<T: Copy>(
     requires same_width { source.width ≡ target.width }
     requires same_height { source.height ≡ target.height }
     ensures same { result.ghost_name ≡ cells.entry.ghost_name }
-    ensures grid { shaped_grid result.now shape ≡ patch (shaped_grid cells.old shape) target.left target.top (window_view (shaped_grid cells.old shape) (as_window source)) }
+    ensures grid { shaped_grid result.now shape ≡ patch (shaped_grid cells.old shape)
+        target.left target.top (window_view (shaped_grid cells.old shape) (as_window source)) }
     ensures outside { SameOutside (shaped cells.old shape) (shaped result.now shape) }
 {
     let from = shape.stretch(false, cells.len(), source).start;
@@ -43,7 +44,8 @@ pub fn move_pixels<T: Copy>(cells: &mut [T], shape: Shape, source: Window, targe
     requires target_inside { IsInside (shape_width shape) (shape_height shape) (as_window target) }
     requires same_width { source.width ≡ target.width }
     requires same_height { source.height ≡ target.height }
-    ensures grid { shaped_grid cells.new shape ≡ patch (shaped_grid cells.old shape) target.left target.top (window_view (shaped_grid cells.old shape) (as_window source)) }
+    ensures grid { shaped_grid cells.new shape ≡ patch (shaped_grid cells.old shape)
+        target.left target.top (window_view (shaped_grid cells.old shape) (as_window source)) }
     ensures outside { SameOutside (shaped cells.old shape) (shaped cells.new shape) }
 {
     with_moved_window(cells, shape, source, target);

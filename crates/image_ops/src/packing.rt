@@ -16,7 +16,8 @@ use row_mover::RowMover;
 fn with_joined_rows<T: Copy>(cells: &mut [T], shape: Shape) -> &mut [T]
     requires fits { Fits (shaped cells.old shape) }
     ensures same { result.ghost_name ≡ cells.entry.ghost_name }
-    ensures cells { result.now ≡ joined_rows (shaped cells.old shape) ++ drop (shape_width shape * shape_height shape) cells.old }
+    ensures cells { result.now ≡ joined_rows (shaped cells.old shape)
+        ++ drop (shape_width shape * shape_height shape) cells.old }
     ensures length { length result.now ≡ length cells.old }
 {
     let mut mover = RowMover::new(cells);
@@ -28,7 +29,8 @@ fn with_joined_rows<T: Copy>(cells: &mut [T], shape: Shape) -> &mut [T]
 /// cells fit.
 pub fn join_rows<T: Copy>(cells: &mut [T], shape: Shape)
     requires fits { Fits (shaped cells.old shape) }
-    ensures cells { cells.new ≡ joined_rows (shaped cells.old shape) ++ drop (shape_width shape * shape_height shape) cells.old }
+    ensures cells { cells.new ≡ joined_rows (shaped cells.old shape)
+        ++ drop (shape_width shape * shape_height shape) cells.old }
 {
     with_joined_rows(cells, shape);
 }

@@ -12,7 +12,8 @@ use image_shape::Shape;
 fn agree<T, U, F: Fn(&T, &U) -> bool>(first: &[T], second: &[U], f: &F) -> bool
     requires as_many { length first.now ≡ length second.now }
     requires callable { TakesPairs (F.pre f.now) first.now second.now }
-    ensures { MatchBool result (AllPairsAnswer (F.post f.now) first.now second.now) (SomePairDiffers (F.post f.now) first.now second.now) }
+    ensures { MatchBool result (AllPairsAnswer (F.post f.now) first.now second.now)
+        (SomePairDiffers (F.post f.now) first.now second.now) }
 {
     for k in 0..first.len() {
         let left = &first[k];
@@ -35,8 +36,11 @@ pub fn agree_at_places<T, U, F: Fn(&T, &U) -> bool>(
 ) -> bool
     requires first_fits { Fits (shaped first.now first_shape) }
     requires second_fits { Fits (shaped second.now second_shape) }
-    requires callable { TakesPlaces (F.pre f.now) (shaped first.now first_shape) (shaped second.now second_shape) }
-    ensures { MatchBool result (AllPlacesAnswer (F.post f.now) (shaped first.now first_shape) (shaped second.now second_shape)) (SomePlaceDiffers (F.post f.now) (shaped first.now first_shape) (shaped second.now second_shape)) }
+    requires callable { TakesPlaces (F.pre f.now) (shaped first.now first_shape)
+        (shaped second.now second_shape) }
+    ensures { MatchBool result (AllPlacesAnswer (F.post f.now) (shaped first.now first_shape)
+        (shaped second.now second_shape)) (SomePlaceDiffers (F.post f.now)
+        (shaped first.now first_shape) (shaped second.now second_shape)) }
 {
     if first_shape.width() != second_shape.width()
         || first_shape.height() != second_shape.height()

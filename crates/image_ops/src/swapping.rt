@@ -23,7 +23,8 @@ fn swap_apart<T>(cells: &mut [T], shape: Shape, upper: usize, lower: usize)
     requires fits { Fits (shaped cells.old shape) }
     requires order { upper < lower }
     requires below { lower < shape_height shape }
-    ensures grid { shaped_grid cells.new shape ≡ rows_swapped upper lower (shaped_grid cells.old shape) }
+    ensures grid { shaped_grid cells.new shape
+        ≡ rows_swapped upper lower (shaped_grid cells.old shape) }
     ensures outside { SameOutside (shaped cells.old shape) (shaped cells.new shape) }
 {
     // Without a column there is nothing to swap.

@@ -14,9 +14,11 @@ use image_shape::{Shape, Stretch, Window};
 pub fn padded_part<T>(cells: &[T], shape: Shape, window: Window) -> (&[T], Shape)
     requires fits { Fits (shaped cells.now shape) }
     requires inside { IsInside (shape_width shape) (shape_height shape) (as_window window) }
-    ensures layout { shaped result.0.now result.1 ≡ padded_window (shaped cells.now shape) (as_window window) }
+    ensures layout { shaped result.0.now result.1
+        ≡ padded_window (shaped cells.now shape) (as_window window) }
     ensures fits { Fits (shaped result.0.now result.1) }
-    ensures view { shaped_grid result.0.now result.1 ≡ window_view (shaped_grid cells.now shape) (as_window window) }
+    ensures view { shaped_grid result.0.now result.1
+        ≡ window_view (shaped_grid cells.now shape) (as_window window) }
 {
     let part = shape.stretch(true, cells.len(), window);
     (&cells[part.range()], shape.window(window))
@@ -33,10 +35,13 @@ pub fn padded_stretch_mut<T>(
     requires inside { IsInside (shape_width shape) (shape_height shape) (as_window window) }
     ensures cells { result.0 ≡ cells.entry }
     ensures room { IsWithin (length cells.old) (as_stretch result.1) }
-    ensures stretch { as_stretch result.1 ≡ padded_stretch (length cells.old) (shape_stride shape) (as_window window) }
-    ensures layout { shaped (stretch_cells cells.old (as_stretch result.1)) result.2 ≡ padded_window (shaped cells.old shape) (as_window window) }
+    ensures stretch { as_stretch result.1
+        ≡ padded_stretch (length cells.old) (shape_stride shape) (as_window window) }
+    ensures layout { shaped (stretch_cells cells.old (as_stretch result.1)) result.2
+        ≡ padded_window (shaped cells.old shape) (as_window window) }
     ensures fits { Fits (padded_window (shaped cells.old shape) (as_window window)) }
-    ensures view { grid_of (padded_window (shaped cells.old shape) (as_window window)) ≡ window_view (shaped_grid cells.old shape) (as_window window) }
+    ensures view { grid_of (padded_window (shaped cells.old shape) (as_window window))
+        ≡ window_view (shaped_grid cells.old shape) (as_window window) }
 {
     let stretch = shape.stretch(true, cells.len(), window);
     (cells, stretch, shape.window(window))

@@ -51,9 +51,11 @@ impl<'a, T> PixelsRefIter<'a, T> {
     // The pixels left in a row and the rows after it, as they lie in these cells.
     #[tactic(auto, unfolding(crate::specs::Pixels::refs_left))]
     fn from_counts(cells: Cells<'a, T>, counts: Counts) -> PixelsRefIter<'a, T>
-        requires reaches { counts.remaining + counts.rows_left * (counts.pad + counts.width) ≤ length cells.cells }
+        requires reaches { counts.remaining + counts.rows_left * (counts.pad + counts.width)
+            ≤ length cells.cells }
         requires wide { 0 < counts.rows_left → 0 < counts.width }
-        ensures pixels { refs_left result ≡ pick (marks counts.remaining counts.rows_left counts.width counts.pad) cells.entry.cells }
+        ensures pixels { refs_left result ≡ pick
+            (marks counts.remaining counts.rows_left counts.width counts.pad) cells.entry.cells }
     {
         PixelsRefIter {
             cells,
@@ -141,7 +143,8 @@ impl<'a, T> Iterator for PixelsRefIter<'a, T> {
     fn size_hint(&self) -> (usize, Option<usize>)
         ensures lower { IsWithinCount result.0 (item_count refs_left self.now) }
         ensures upper { IfSome result.1 (UpTo (item_count refs_left self.now)) }
-        ensures exact { (result.0 ≡ length (refs_left self.now)) × (result.1 ≡ Some (length (refs_left self.now))) }
+        ensures exact { (result.0 ≡ length (refs_left self.now))
+            × (result.1 ≡ Some (length (refs_left self.now))) }
     {
         (self.count_left(), Some(self.count_left()))
     }
@@ -159,7 +162,8 @@ impl<'a, T> PixelsRefIter<'a, T> {
     pub fn fold<B, F: FnMut(B, &'a T) -> B>(mut self, init: B, mut f: F) -> B
         requires callable { CallableInFold (YieldsFirstRef refs_left) F.FnMut self f init }
         ensures ran { FoldsItems (YieldsFirstRef refs_left) F.FnMut self.entry f init result }
-        ensures runs { WholeRun (YieldsFirstRef refs_left) self.entry (λ p. (h : B → Bor T → B) → ActsAsOnTwo F.FnMut f h → result ≡ fold h init p.items) }
+        ensures runs { WholeRun (YieldsFirstRef refs_left) self.entry
+            (λ p. (h : B → Bor T → B) → ActsAsOnTwo F.FnMut f h → result ≡ fold h init p.items) }
     {
         if self.width < NARROW {
             return Iterator::fold(self, init, f);
@@ -223,7 +227,8 @@ impl<T: Copy> Iterator for PixelsIter<'_, T> {
     fn size_hint(&self) -> (usize, Option<usize>)
         ensures lower { IsWithinCount result.0 (item_count copies_left self.now) }
         ensures upper { IfSome result.1 (UpTo (item_count copies_left self.now)) }
-        ensures exact { (result.0 ≡ length (copies_left self.now)) × (result.1 ≡ Some (length (copies_left self.now))) }
+        ensures exact { (result.0 ≡ length (copies_left self.now))
+            × (result.1 ≡ Some (length (copies_left self.now))) }
     {
         self.inner.size_hint()
     }
@@ -241,7 +246,8 @@ impl<T: Copy> PixelsIter<'_, T> {
     pub fn fold<B, F: FnMut(B, T) -> B>(mut self, init: B, mut f: F) -> B
         requires callable { CallableInFold (YieldsFirst copies_left) F.FnMut self f init }
         ensures ran { FoldsItems (YieldsFirst copies_left) F.FnMut self.entry f init result }
-        ensures runs { WholeRun (YieldsFirst copies_left) self.entry (λ p. (h : B → T → B) → ActsAsOnTwo F.FnMut f h → result ≡ fold h init p.items) }
+        ensures runs { WholeRun (YieldsFirst copies_left) self.entry
+            (λ p. (h : B → T → B) → ActsAsOnTwo F.FnMut f h → result ≡ fold h init p.items) }
     {
         if self.inner.width < NARROW {
             return Iterator::fold(self, init, f);

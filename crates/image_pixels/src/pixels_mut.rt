@@ -76,7 +76,8 @@ impl<'a, T> PixelsIterMut<'a, T> {
         requires fits { Fits (shaped cells.old shape) }
         ensures name { pixels_name result ≡ cells.entry.ghost_name }
         ensures cells { cells_left result ≡ cells.old }
-        ensures marks { marks_left result ≡ marks_of (shape_width shape) (shape_height shape) (shape_stride shape) }
+        ensures marks { marks_left result
+            ≡ marks_of (shape_width shape) (shape_height shape) (shape_stride shape) }
         ensures whole { ArePixels (shaped cells.old shape) (muts_left result) }
     {
         let counts = Counts::of_shape(shape);
@@ -94,7 +95,8 @@ impl<'a, T> PixelsIterMut<'a, T> {
     /// A `for` and the adapters take the trait's own `next`.
     pub fn next(&mut self) -> Option<&'a mut T>
         ensures steps { YieldsFirstMut muts_left self.old result self.new }
-        ensures goes { MakesProgress (λ _. Unit {0}) (item_count muts_left) self.old result self.new }
+        ensures goes { MakesProgress (λ _. Unit {0}) (item_count muts_left)
+            self.old result self.new }
         ensures moves { Moves self.old result self.new }
         ensures* hands_on { sem 𝓛 (hands_on T.row self.old result self.new) }
     {
@@ -129,7 +131,8 @@ impl<'a, T> Iterator for PixelsIterMut<'a, T> {
     fn size_hint(&self) -> (usize, Option<usize>)
         ensures lower { IsWithinCount result.0 (item_count muts_left self.now) }
         ensures upper { IfSome result.1 (UpTo (item_count muts_left self.now)) }
-        ensures exact { (result.0 ≡ length (muts_left self.now)) × (result.1 ≡ Some (length (muts_left self.now))) }
+        ensures exact { (result.0 ≡ length (muts_left self.now))
+            × (result.1 ≡ Some (length (muts_left self.now))) }
     {
         let items = pixels_left(self.remaining, self.rows_left, self.width);
         (items, Some(items))

@@ -46,8 +46,10 @@ pub struct Step<V> {
 // Every place of the window gets the value, as it was before, at the corner of its tile.
 fn mosaic_window(image: &mut ImgRefMut<u8>, window: Window, tile_width: usize, tile_height: usize)
     requires fits { Fits (mut_layout image.old) }
-    requires inside { IsChangeOf (width_of image.old) (height_of image.old) (Change.Mosaic window tile_width tile_height) }
-    ensures grid { mut_grid image.new ≡ changed (Change.Mosaic window tile_width tile_height) (mut_grid image.old) }
+    requires inside { IsChangeOf (width_of image.old) (height_of image.old)
+        (Change.Mosaic window tile_width tile_height) }
+    ensures grid { mut_grid image.new
+        ≡ changed (Change.Mosaic window tile_width tile_height) (mut_grid image.old) }
     ensures outside { SameOutside (mut_layout image.old) (mut_layout image.new) }
     ensures same_reference { (buf_of image.new).ghost_name ≡ (buf_of image.old).ghost_name }
 {
@@ -59,7 +61,8 @@ fn mosaic_window(image: &mut ImgRefMut<u8>, window: Window, tile_width: usize, t
 pub(crate) fn change_cells(cells: &mut [u8], shape: Shape, change: Change<u8>)
     requires fits { Fits (shaped cells.old shape) }
     requires inside { IsChangeOf (shape_width shape) (shape_height shape) change }
-    ensures grid { grid_of (shaped cells.new shape) ≡ changed change (grid_of (shaped cells.old shape)) }
+    ensures grid { grid_of (shaped cells.new shape)
+        ≡ changed change (grid_of (shaped cells.old shape)) }
     ensures outside { SameOutside (shaped cells.old shape) (shaped cells.new shape) }
 {
     let mut image = ImgRefMut::from_parts(cells, shape);

@@ -9,5 +9,7 @@ ghost use Rattle.image_planes.specs.Unseen.{PlanesAlike};
 /// nothing.
 #[tactic(auto, using(crate::proofs::Unseen::planes_hide))]
 pub fn changes_hide()
-    ensures { (number : ℕ) (jobs : List Job) (cells others : List ℕ) → PlanesAlike number jobs cells others → changed_planes number jobs cells ≡ changed_planes number jobs others }
+    ensures { (number : ℕ) (jobs : List Job) (cells others : List ℕ)
+        → PlanesAlike number jobs cells others
+        → changed_planes number jobs cells ≡ changed_planes number jobs others }
 {}

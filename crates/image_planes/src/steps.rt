@@ -24,7 +24,8 @@ pub(crate) fn all_inside(width: usize, height: usize, steps: &[Step<u8>]) -> boo
 pub(crate) fn do_steps(cells: &mut [u8], shape: Shape, steps: &[Step<u8>], number: u64)
     requires fits { Fits (shaped cells.old shape) }
     requires inside { IsTrue (are_inside (shape_width shape) (shape_height shape) steps.now) }
-    ensures grid { grid_of (shaped cells.new shape) ≡ stepped number steps.now (grid_of (shaped cells.old shape)) }
+    ensures grid { grid_of (shaped cells.new shape)
+        ≡ stepped number steps.now (grid_of (shaped cells.old shape)) }
     ensures outside { SameOutside (shaped cells.old shape) (shaped cells.new shape) }
 {
     for step in steps {

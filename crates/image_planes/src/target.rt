@@ -61,7 +61,8 @@ fn put_image(cells: &mut [u8], shape: Shape, window: Window, source: ImgRef<'_, 
     requires source_fits { Fits (ref_layout source) }
     requires same_width { width_of source ≡ window.width }
     requires same_height { height_of source ≡ window.height }
-    ensures grid { grid_of (shaped cells.new shape) ≡ patch (grid_of (shaped cells.old shape)) window.left window.top (grid_of (ref_layout source.entry)) }
+    ensures grid { grid_of (shaped cells.new shape) ≡ patch (grid_of (shaped cells.old shape))
+        window.left window.top (grid_of (ref_layout source.entry)) }
     ensures outside { SameOutside (shaped cells.old shape) (shaped cells.new shape) }
 {
     let mut image = ImgRefMut::from_parts(cells, shape);
@@ -77,7 +78,8 @@ fn crop_image(source: ImgRef<'_, u8>, window: Window, target: &mut [u8])
     requires height_bound { window.height < 2 ^ 32 }
     requires inside { IsInside (width_of source) (height_of source) (as_window window) }
     requires room { length target.old ≡ window.width * window.height }
-    ensures { target.new ≡ grid_pixels (window_view (grid_of (ref_layout source.entry)) (as_window window)) }
+    ensures { target.new
+        ≡ grid_pixels (window_view (grid_of (ref_layout source.entry)) (as_window window)) }
 {
     let part = source.sub_image(window.left, window.top, window.width, window.height);
     copy_cells(
@@ -92,7 +94,8 @@ fn crop_image(source: ImgRef<'_, u8>, window: Window, target: &mut [u8])
 fn fill_border(cells: &mut [u8], shape: Shape, place: Window, value: u8)
     requires fits { Fits (shaped cells.old shape) }
     requires inside { IsInside (shape_width shape) (shape_height shape) (as_window place) }
-    ensures grid { grid_of (shaped cells.new shape) ≡ bordered (grid_of (shaped cells.old shape)) place.left place.top place.width place.height value }
+    ensures grid { grid_of (shaped cells.new shape) ≡ bordered (grid_of (shaped cells.old shape))
+        place.left place.top place.width place.height value }
     ensures outside { SameOutside (shaped cells.old shape) (shaped cells.new shape) }
 {
     let (width, height) = (shape.width(), shape.height());
@@ -122,7 +125,8 @@ fn pad_image(
     requires height_bound { height < 2 ^ 32 }
     requires inside { IsInside width height (as_window place) }
     requires room { length target.old ≡ width * height }
-    ensures { target.new ≡ grid_pixels (patch (uniform width height value) place.left place.top (grid_of (ref_layout source.entry))) }
+    ensures { target.new ≡ grid_pixels (patch (uniform width height value) place.left place.top
+        (grid_of (ref_layout source.entry))) }
 {
     let shape = Shape::new(width, height, width);
     fill_border(target, shape, place, value);

@@ -9,7 +9,8 @@ use image_shape::End;
 // The cells on that side of cell `at`, and those on the other side.
 pub(crate) fn part<T>(cells: &mut [T], end: End, at: usize) -> (&mut [T], &mut [T])
     requires within { at ≤ length cells.old }
-    ensures* parts { sem 𝓛 (follows_both (Array T.row 0) (Array T.row 0) (Array T.row 0) cells.entry.ghost_name result.0.ghost_name result.1.ghost_name (beside end)) }
+    ensures* parts { sem 𝓛 (follows_both (Array T.row 0) (Array T.row 0) (Array T.row 0)
+        cells.entry.ghost_name result.0.ghost_name result.1.ghost_name (beside end)) }
     ensures first { result.0.now ≡ near end at cells.old }
     ensures second { result.1.now ≡ far end at cells.old }
 {
@@ -32,7 +33,9 @@ pub(crate) fn part<T>(cells: &mut [T], end: End, at: usize) -> (&mut [T], &mut [
 pub fn cut_out<T>(cells: &mut [T], end: End, outer: usize, inner: usize) -> (&mut [T], &mut [T])
     requires outer { outer ≤ length cells.old }
     requires inner { inner ≤ length (near end outer cells.old) }
-    ensures* parts { sem 𝓛 (follows_both (Array T.row 0) (Array T.row 0) (Array T.row 0) cells.entry.ghost_name result.0.ghost_name result.1.ghost_name (λ cut kept. beside end (beside end (near end inner (near end outer cells.old)) cut) kept)) }
+    ensures* parts { sem 𝓛 (follows_both (Array T.row 0) (Array T.row 0) (Array T.row 0)
+        cells.entry.ghost_name result.0.ghost_name result.1.ghost_name (λ cut kept.
+        beside end (beside end (near end inner (near end outer cells.old)) cut) kept)) }
     ensures first { result.0.now ≡ far end inner (near end outer cells.old) }
     ensures second { result.1.now ≡ far end outer cells.old }
 {

@@ -32,7 +32,8 @@ impl<'a, T> RowsIter<'a, T> {
         requires fits { Fits (shaped cells.now shape) }
         ensures rows { refs_left result ≡ rows_of (shaped cells.now shape) }
         ensures grid { refs_left result ≡ grid_rows (shaped_grid cells.now shape) }
-        ensures count { length (refs_left result) ≡ row_count (shape_width shape) (shape_height shape) }
+        ensures count { length (refs_left result)
+            ≡ row_count (shape_width shape) (shape_height shape) }
         ensures countable { length (refs_left result) < 2 ^ 64 }
         ensures wide { All (λ row. length row ≡ shape_width shape) (refs_left result) }
     {
@@ -72,7 +73,8 @@ impl<'a, T> Iterator for RowsIter<'a, T> {
     fn size_hint(&self) -> (usize, Option<usize>)
         ensures lower { IsWithinCount result.0 (item_count refs_left self.now) }
         ensures upper { IfSome result.1 (UpTo (item_count refs_left self.now)) }
-        ensures exact { (result.0 ≡ length (refs_left self.now)) × (result.1 ≡ Some (length (refs_left self.now))) }
+        ensures exact { (result.0 ≡ length (refs_left self.now))
+            × (result.1 ≡ Some (length (refs_left self.now))) }
     {
         (self.count, Some(self.count))
     }

@@ -22,7 +22,8 @@ pub struct RowsIterMut<'a, T> {
     spacing: Spacing,
     ghost some: { 0 < spacing.count → 0 < spacing.width },
     ghost holds_width: { spacing.width ≤ spacing.stride },
-    ghost fits: { 0 < spacing.count → spacing.skip + (spacing.stride * (spacing.count - 1) + spacing.width) ≤ length cells.now },
+    ghost fits: { 0 < spacing.count → spacing.skip
+        + (spacing.stride * (spacing.count - 1) + spacing.width) ≤ length cells.now },
 }
 
 impl<'a, T> RowsIterMut<'a, T> {
@@ -33,10 +34,12 @@ impl<'a, T> RowsIterMut<'a, T> {
         requires fits { Fits (shaped cells.old shape) }
         ensures name { rows_name result ≡ cells.entry.ghost_name }
         ensures cells { cells_left result ≡ cells.old }
-        ensures spacing { spacing_left result ≡ whole_spacing (shape_width shape) (shape_height shape) (shape_stride shape) }
+        ensures spacing { spacing_left result
+            ≡ whole_spacing (shape_width shape) (shape_height shape) (shape_stride shape) }
         ensures rows { muts_left result ≡ rows_of (shaped cells.old shape) }
         ensures grid { muts_left result ≡ grid_rows (shaped_grid cells.old shape) }
-        ensures count { length (muts_left result) ≡ row_count (shape_width shape) (shape_height shape) }
+        ensures count { length (muts_left result)
+            ≡ row_count (shape_width shape) (shape_height shape) }
         ensures countable { length (muts_left result) < 2 ^ 64 }
         ensures wide { All (λ row. length row ≡ shape_width shape) (muts_left result) }
     {
@@ -125,7 +128,8 @@ impl<'a, T> Iterator for RowsIterMut<'a, T> {
     fn size_hint(&self) -> (usize, Option<usize>)
         ensures lower { IsWithinCount result.0 (item_count muts_left self.now) }
         ensures upper { IfSome result.1 (UpTo (item_count muts_left self.now)) }
-        ensures exact { (result.0 ≡ length (muts_left self.now)) × (result.1 ≡ Some (length (muts_left self.now))) }
+        ensures exact { (result.0 ≡ length (muts_left self.now))
+            × (result.1 ≡ Some (length (muts_left self.now))) }
     {
         (self.spacing.count, Some(self.spacing.count))
     }

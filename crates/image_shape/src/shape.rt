@@ -138,8 +138,10 @@ impl Shape {
     /// The number of cells from the first pixel to the last.
     pub fn reach(&self) -> usize
         requires some { 0 < shape_height self.now }
-        requires counts { shape_stride self.now * (shape_height self.now - 1) + shape_width self.now < 2 ^ 64 }
-        ensures value { result ≡ shape_stride self.now * (shape_height self.now - 1) + shape_width self.now }
+        requires counts { shape_stride self.now * (shape_height self.now - 1)
+            + shape_width self.now < 2 ^ 64 }
+        ensures value { result
+            ≡ shape_stride self.now * (shape_height self.now - 1) + shape_width self.now }
     {
         Shape::cells_of_rows(self.height as usize - 1, self.stride) + self.width as usize
     }
@@ -147,7 +149,8 @@ impl Shape {
     /// The cells of row `y`, of `cells` cells that fit. The row has a pixel, so its start can't wrap.
     pub fn row(&self, cells: usize, y: usize) -> Stretch
         requires below { y < row_count (shape_width self.now) (shape_height self.now) }
-        requires fits { Reaches cells (shape_width self.now) (shape_height self.now) (shape_stride self.now) }
+        requires fits { Reaches cells (shape_width self.now) (shape_height self.now)
+            (shape_stride self.now) }
         ensures start { result.start ≡ y * shape_stride self.now }
         ensures len { result.len ≡ shape_width self.now }
         ensures inside { y * shape_stride self.now + shape_width self.now ≤ cells }
@@ -177,8 +180,10 @@ impl Shape {
     /// cell on: where the row would begin might be no number.
     pub fn any_row(&self, cells: usize, y: usize) -> Stretch
         requires below { y < shape_height self.now }
-        requires fits { Reaches cells (shape_width self.now) (shape_height self.now) (shape_stride self.now) }
-        ensures start { result.start ≡ window_start (shape_stride self.now) (window 0 y (shape_width self.now) 1) }
+        requires fits { Reaches cells (shape_width self.now) (shape_height self.now)
+            (shape_stride self.now) }
+        ensures start { result.start
+            ≡ window_start (shape_stride self.now) (window 0 y (shape_width self.now) 1) }
         ensures len { result.len ≡ shape_width self.now }
         ensures inside { result.start + result.len ≤ cells }
     {
@@ -213,7 +218,8 @@ impl Shape {
 
     /// The shape of a window that lies inside: its size at this stride.
     pub fn window(&self, window: Window) -> Shape
-        requires inside { IsInside (shape_width self.now) (shape_height self.now) (as_window window) }
+        requires inside { IsInside (shape_width self.now)
+            (shape_height self.now) (as_window window) }
         ensures width { shape_width result ≡ window.width }
         ensures height { shape_height result ≡ window.height }
         ensures stride { shape_stride result ≡ shape_stride self.now }
@@ -231,9 +237,12 @@ impl Shape {
     /// that is asked for and the cells have them, and else up to its last pixel. That of an empty
     /// window is empty.
     pub fn stretch(&self, padded: bool, cells: usize, window: Window) -> Stretch
-        requires fits { Reaches cells (shape_width self.now) (shape_height self.now) (shape_stride self.now) }
-        requires inside { IsInside (shape_width self.now) (shape_height self.now) (as_window window) }
-        ensures value { as_stretch result ≡ window_stretch padded cells (shape_stride self.now) (as_window window) }
+        requires fits { Reaches cells (shape_width self.now) (shape_height self.now)
+            (shape_stride self.now) }
+        requires inside { IsInside (shape_width self.now)
+            (shape_height self.now) (as_window window) }
+        ensures value { as_stretch result
+            ≡ window_stretch padded cells (shape_stride self.now) (as_window window) }
         ensures inside { IsWithin cells (as_stretch result) }
         ensures holds_width { shape_width self.now ≤ shape_stride self.now }
     {
@@ -242,9 +251,11 @@ impl Shape {
 
     // That stretch. Its exact one lies within the cells.
     fn stretch_within(&self, padded: bool, cells: usize, window: Window) -> Stretch
-        requires inside { IsInside (shape_width self.now) (shape_height self.now) (as_window window) }
+        requires inside { IsInside (shape_width self.now)
+            (shape_height self.now) (as_window window) }
         requires room { IsWithin cells (exact_stretch (shape_stride self.now) (as_window window)) }
-        ensures value { as_stretch result ≡ window_stretch padded cells (shape_stride self.now) (as_window window) }
+        ensures value { as_stretch result
+            ≡ window_stretch padded cells (shape_stride self.now) (as_window window) }
         ensures inside { IsWithin cells (as_stretch result) }
     {
         // No corner is computed of an empty window: the product might not fit.

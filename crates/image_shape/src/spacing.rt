@@ -36,7 +36,8 @@ impl Spacing {
 
     /// The rows of a shape, in cells that begin with the first. Without a column there is none.
     pub fn whole(shape: Shape) -> Spacing
-        ensures value { result ≡ whole_spacing (shape_width shape) (shape_height shape) (shape_stride shape) }
+        ensures value { result
+            ≡ whole_spacing (shape_width shape) (shape_height shape) (shape_stride shape) }
         ensures small { row_count (shape_width shape) (shape_height shape) < 2 ^ 32 }
         ensures positive { 1 ≤ shape_stride shape }
         ensures holds_width { shape_width shape ≤ shape_stride shape }

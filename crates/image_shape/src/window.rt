@@ -66,7 +66,8 @@ impl Window {
     pub fn nested(&self, inner: Window) -> Window
         requires column_counts { self.now.left + inner.left < 2 ^ 64 }
         requires row_counts { self.now.top + inner.top < 2 ^ 64 }
-        ensures { as_window result ≡ window (self.now.left + inner.left) (self.now.top + inner.top) inner.width inner.height }
+        ensures { as_window result ≡ window (self.now.left + inner.left) (self.now.top + inner.top)
+            inner.width inner.height }
     {
         let (left, top) = self.place(inner.left, inner.top);
         Window::new(left, top, inner.width, inner.height)
@@ -89,7 +90,8 @@ impl Stretch {
     pub fn nested(&self, inner: Stretch) -> Stretch
         requires room { IsWithin self.now.len (as_stretch inner) }
         requires counts { self.now.start + self.now.len < 2 ^ 64 }
-        ensures value { as_stretch result ≡ stretch_within (as_stretch self.now) (as_stretch inner) }
+        ensures value { as_stretch result
+            ≡ stretch_within (as_stretch self.now) (as_stretch inner) }
         ensures inside { result.start + result.len ≤ self.now.start + self.now.len }
     {
         Stretch {

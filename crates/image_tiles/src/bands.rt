@@ -45,7 +45,8 @@ impl BandSpacing {
         requires width_bound { self.rows.width < 2 ^ 32 }
         requires rows_fit { self.rows.count < 2 ^ 32 }
         requires high { 0 < self.band_height }
-        requires reach { self.rows.skip + (self.rows.stride * (self.rows.count - 1) + self.rows.width) < 2 ^ 64 }
+        requires reach { self.rows.skip
+            + (self.rows.stride * (self.rows.count - 1) + self.rows.width) < 2 ^ 64 }
         ensures outer { result.outer ≡ outer_cut First (band_rows self) self.rows }
         ensures inner { result.inner ≡ inner_cut First (band_rows self) self.rows }
         ensures width { shape_width result.shape ≡ self.rows.width }
@@ -81,7 +82,8 @@ pub struct BandsMut<'a, T> {
     ghost width_bound: { spacing.rows.width < 2 ^ 32 },
     ghost rows_fit: { spacing.rows.count < 2 ^ 32 },
     ghost high: { 0 < spacing.band_height },
-    ghost fits: { 0 < spacing.rows.count → spacing.rows.skip + (spacing.rows.stride * (spacing.rows.count - 1) + spacing.rows.width) ≤ length cells.now },
+    ghost fits: { 0 < spacing.rows.count → spacing.rows.skip + (spacing.rows.stride
+        * (spacing.rows.count - 1) + spacing.rows.width) ≤ length cells.now },
 }
 
 impl<'a, T> BandsMut<'a, T> {
@@ -98,12 +100,16 @@ impl<'a, T> BandsMut<'a, T> {
         requires high { 0 < band_height }
         ensures name { bands_name result ≡ (buf_of img.entry).ghost_name }
         ensures cells { cells_left result ≡ (buf_of img.entry).now }
-        ensures spacing { spacing_left result ≡ band_spacing (width_of img.entry) (height_of img.entry) (stride_of img.entry) band_height }
+        ensures spacing { spacing_left result ≡ band_spacing (width_of img.entry)
+            (height_of img.entry) (stride_of img.entry) band_height }
         ensures bands { bands_left result ≡ bands (mut_layout img.entry) band_height }
         ensures fit { All Fits (bands_left result) }
-        ensures views { map grid_of (bands_left result) ≡ map (window_view (mut_grid img.entry)) (band_windows (width_of img.entry) (height_of img.entry) band_height) }
-        ensures inside { All (IsInside (width_of img.entry) (height_of img.entry)) (band_windows (width_of img.entry) (height_of img.entry) band_height) }
-        ensures each_once { EachPlaceInOne (width_of img.entry) (height_of img.entry) (band_windows (width_of img.entry) (height_of img.entry) band_height) }
+        ensures views { map grid_of (bands_left result) ≡ map (window_view (mut_grid img.entry))
+            (band_windows (width_of img.entry) (height_of img.entry) band_height) }
+        ensures inside { All (IsInside (width_of img.entry) (height_of img.entry))
+            (band_windows (width_of img.entry) (height_of img.entry) band_height) }
+        ensures each_once { EachPlaceInOne (width_of img.entry) (height_of img.entry)
+            (band_windows (width_of img.entry) (height_of img.entry) band_height) }
     {
         let (cells, shape) = img.into_parts();
         BandsMut {
@@ -183,7 +189,8 @@ impl<'a, T> Iterator for BandsMut<'a, T> {
     fn size_hint(&self) -> (usize, Option<usize>)
         ensures lower { IsWithinCount result.0 (item_count bands_left self.now) }
         ensures upper { IfSome result.1 (UpTo (item_count bands_left self.now)) }
-        ensures exact { (result.0 ≡ length (bands_left self.now)) × (result.1 ≡ Some (length (bands_left self.now))) }
+        ensures exact { (result.0 ≡ length (bands_left self.now))
+            × (result.1 ≡ Some (length (bands_left self.now))) }
     {
         let left = self.count_left();
         (left, Some(left))

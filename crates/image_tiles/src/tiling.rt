@@ -123,7 +123,8 @@ impl Tiling {
         ensures value { as_window result ≡ tile_now self.old }
         ensures steps { self.new ≡ stepped self.old }
         ensures gives { windows_left self.old ≡ as_window result ∷ windows_left self.new }
-        ensures inside { IsInside (tiling_width self.old) (tiling_height self.old) (as_window result) }
+        ensures inside { IsInside (tiling_width self.old)
+            (tiling_height self.old) (as_window result) }
         ensures some_width { 0 < result.width }
         ensures some_height { 0 < result.height }
     {
@@ -172,8 +173,11 @@ impl Iterator for Tiling {
     fn size_hint(&self) -> (usize, Option<usize>)
         ensures lower { IsWithinCount result.0 (item_count windows_left self.now) }
         ensures upper { IfSome result.1 (UpTo (item_count windows_left self.now)) }
-        ensures exact { length (windows_left self.now) < 2 ^ 64 → (result.0 ≡ length (windows_left self.now)) × (result.1 ≡ Some (length (windows_left self.now))) }
-        ensures past { 2 ^ 64 ≤ length (windows_left self.now) → (result.0 ≡ 2 ^ 64 - 1) × (result.1 ≡ None) }
+        ensures exact { length (windows_left self.now) < 2 ^ 64
+            → (result.0 ≡ length (windows_left self.now))
+            × (result.1 ≡ Some (length (windows_left self.now))) }
+        ensures past { 2 ^ 64 ≤ length (windows_left self.now)
+            → (result.0 ≡ 2 ^ 64 - 1) × (result.1 ≡ None) }
     {
         match self.count_left() {
             Some(left) => (left, Some(left)),

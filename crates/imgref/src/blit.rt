@@ -50,8 +50,10 @@ impl<C: AsMutSlice> Img<C> {
         C::Item: Copy + 'a,
         requires fits { Fits (layout_by C.cells self.old) }
         requires source_fits { Fits (ref_layout source) }
-        requires inside { IsInside (width_of self.old) (height_of self.old) (window left top (width_of source) (height_of source)) }
-        ensures grid { grid_by C.cells self.new ≡ patch (grid_by C.cells self.old) left top (ref_grid source.entry) }
+        requires inside { IsInside (width_of self.old) (height_of self.old)
+            (window left top (width_of source) (height_of source)) }
+        ensures grid { grid_by C.cells self.new
+            ≡ patch (grid_by C.cells self.old) left top (ref_grid source.entry) }
         ensures outside { SameOutside (layout_by C.cells self.old) (layout_by C.cells self.new) }
         ensures fits { Fits (layout_by C.cells self.new) }
         ensures container { OnlyCellsChange C.cells C.with_cells self.old self.new }
@@ -72,9 +74,12 @@ impl<C: AsMutSlice> Img<C> {
     where
         C::Item: Copy + 'a,
         requires fits { Fits (layout_by C.cells self.old) }
-        requires source_inside { IsInside (width_of self.old) (height_of self.old) (as_window source) }
-        requires target_inside { IsInside (width_of self.old) (height_of self.old) (window left top source.width source.height) }
-        ensures grid { grid_by C.cells self.new ≡ patch (grid_by C.cells self.old) left top (window_view (grid_by C.cells self.old) (as_window source)) }
+        requires source_inside { IsInside (width_of self.old)
+            (height_of self.old) (as_window source) }
+        requires target_inside { IsInside (width_of self.old) (height_of self.old)
+            (window left top source.width source.height) }
+        ensures grid { grid_by C.cells self.new ≡ patch (grid_by C.cells self.old) left top
+            (window_view (grid_by C.cells self.old) (as_window source)) }
         ensures outside { SameOutside (layout_by C.cells self.old) (layout_by C.cells self.new) }
         ensures fits { Fits (layout_by C.cells self.new) }
         ensures container { OnlyCellsChange C.cells C.with_cells self.old self.new }
@@ -104,9 +109,12 @@ impl<C: AsMutSlice> Img<C> {
     where
         C::Item: Copy + 'a,
         requires fits { Fits (layout_by C.cells self.old) }
-        requires source_inside { IsInside (width_of self.old) (height_of self.old) (window from_left from_top width height) }
-        requires target_inside { IsInside (width_of self.old) (height_of self.old) (window to_left to_top width height) }
-        ensures grid { grid_by C.cells self.new ≡ patch (grid_by C.cells self.old) to_left to_top (view (grid_by C.cells self.old) from_left from_top width height) }
+        requires source_inside { IsInside (width_of self.old) (height_of self.old)
+            (window from_left from_top width height) }
+        requires target_inside { IsInside (width_of self.old) (height_of self.old)
+            (window to_left to_top width height) }
+        ensures grid { grid_by C.cells self.new ≡ patch (grid_by C.cells self.old) to_left to_top
+            (view (grid_by C.cells self.old) from_left from_top width height) }
         ensures outside { SameOutside (layout_by C.cells self.old) (layout_by C.cells self.new) }
         ensures fits { Fits (layout_by C.cells self.new) }
         ensures container { OnlyCellsChange C.cells C.with_cells self.old self.new }

@@ -18,7 +18,8 @@ impl<C: AsSlice> Img<C> {
     /// has as many cells, padding included.
     pub fn map_buf<N: AsSlice, F: FnOnce(C) -> N>(self, callback: F) -> Img<N>
         requires callable { F.pre callback (buf_of self) }
-        requires same_length { (new : N) → F.post callback (buf_of self) new → length (N.cells new) ≡ length (C.cells (buf_of self)) }
+        requires same_length { (new : N) → F.post callback (buf_of self) new
+            → length (N.cells new) ≡ length (C.cells (buf_of self)) }
         ensures buf { F.post callback (buf_of self) (buf_of result) }
         ensures length { length (N.cells (buf_of result)) ≡ length (C.cells (buf_of self)) }
         ensures shape { shape_of result ≡ shape_of self }
@@ -42,9 +43,12 @@ impl<C: AsSlice> Img<C> {
         callback: F,
     ) -> Result<Img<N>, E>
         requires callable { F.pre callback (buf_of self) }
-        requires same_length { (new : N) → F.post callback (buf_of self) (Ok new) → length (N.cells new) ≡ length (C.cells (buf_of self)) }
-        ensures buf { MatchResult result (λ i. F.post callback (buf_of self) (Ok (buf_of i))) (λ e. F.post callback (buf_of self) (Err e)) }
-        ensures length { IfOk result (λ i. length (N.cells (buf_of i)) ≡ length (C.cells (buf_of self))) }
+        requires same_length { (new : N) → F.post callback (buf_of self) (Ok new)
+            → length (N.cells new) ≡ length (C.cells (buf_of self)) }
+        ensures buf { MatchResult result (λ i. F.post callback (buf_of self) (Ok (buf_of i)))
+            (λ e. F.post callback (buf_of self) (Err e)) }
+        ensures length { IfOk result
+            (λ i. length (N.cells (buf_of i)) ≡ length (C.cells (buf_of self))) }
         ensures shape { IfOk result (λ i. shape_of i ≡ shape_of self) }
     {
         let (buf, shape) = self.into_parts();

@@ -45,8 +45,10 @@ pub trait AsMutSlice: AsSlice {
     /// By comparing numbers: `start + len` is at most the number of cells.
     fn stretch_mut(&mut self, start: usize, len: usize) -> &mut [Self::Item]
         requires in_bounds { start + len ≤ length (Self.cells self.old) }
-        ensures* writes_back { sem 𝓛 (Lends Self.row (Array Self.Item.row 0) self.entry result (with_cells self.old (record { start = start; len = len }))) }
-        ensures value { result.now ≡ stretch_cells (Self.cells self.old) (record { start = start; len = len }) };
+        ensures* writes_back { sem 𝓛 (Lends Self.row (Array Self.Item.row 0) self.entry result
+            (with_cells self.old (record { start = start; len = len }))) }
+        ensures value { result.now
+            ≡ stretch_cells (Self.cells self.old) (record { start = start; len = len }) };
 
     /// The cell at an index, for writing. Once the borrow ends, the container has what was left
     /// there.
@@ -56,20 +58,28 @@ pub trait AsMutSlice: AsSlice {
     /// By comparing numbers: the index is below the number of cells.
     fn cell_mut(&mut self, at: usize) -> &mut Self::Item
         requires in_bounds { at < length (Self.cells self.old) }
-        ensures* writes_back { sem 𝓛 (Lends Self.row Self.Item.row self.entry result (with_cell self.old at)) }
+        ensures* writes_back { sem 𝓛 (Lends Self.row Self.Item.row self.entry result
+            (with_cell self.old at)) }
         ensures value { slice_get (Self.cells self.old) at ≡ Some result.now };
 
     /// As many cells in the place of a stretch leave every other cell.
-    ghost others_stay: { (c : Self) (s : Stretch) (ws : List Self.Item) → s.start + s.len ≤ length (Self.cells c) → length ws ≡ s.len → Self.cells (with_cells c s ws) ≡ with_stretch (Self.cells c) s ws };
+    ghost others_stay: { (c : Self) (s : Stretch) (ws : List Self.Item)
+        → s.start + s.len ≤ length (Self.cells c) → length ws ≡ s.len
+        → Self.cells (with_cells c s ws) ≡ with_stretch (Self.cells c) s ws };
 
     /// Another cell at an index leaves every other cell.
-    ghost other_cells_stay: { (c : Self) (at : ℕ) (value : Self.Item) → at < length (Self.cells c) → Self.cells (with_cell c at value) ≡ slice_set (Self.cells c) at value };
+    ghost other_cells_stay: { (c : Self) (at : ℕ) (value : Self.Item) → at < length (Self.cells c)
+        → Self.cells (with_cell c at value) ≡ slice_set (Self.cells c) at value };
 
     /// A stretch that is written changes the container's cells alone.
-    ghost stretch_is_cells: { (c : Self) (s : Stretch) (ws : List Self.Item) → s.start + s.len ≤ length (Self.cells c) → length ws ≡ s.len → with_cells c s ws ≡ with_cells c (whole (Self.cells c)) (with_stretch (Self.cells c) s ws) };
+    ghost stretch_is_cells: { (c : Self) (s : Stretch) (ws : List Self.Item)
+        → s.start + s.len ≤ length (Self.cells c) → length ws ≡ s.len → with_cells c s ws
+        ≡ with_cells c (whole (Self.cells c)) (with_stretch (Self.cells c) s ws) };
 
     /// So does a cell.
-    ghost cell_is_cells: { (c : Self) (at : ℕ) (value : Self.Item) → at < length (Self.cells c) → with_cell c at value ≡ with_cells c (whole (Self.cells c)) (slice_set (Self.cells c) at value) };
+    ghost cell_is_cells: { (c : Self) (at : ℕ) (value : Self.Item)
+        → at < length (Self.cells c) → with_cell c at value
+        ≡ with_cells c (whole (Self.cells c)) (slice_set (Self.cells c) at value) };
 }
 
 impl<T> AsSlice for Vec<T> {

@@ -84,10 +84,12 @@ impl<'a, T: Clone> ImgRef<'a, T> {
     ) -> Result<(CowSlice<'a, T>, usize, usize), AllocError>
         requires fits { Fits (ref_layout self.now) }
         requires clones_equal { ClonesEqual T.is_clone (joined_rows (ref_layout self.now)) }
-        ensures joined { IfOk result (λ r. cow_slice_items r.0 ≡ joined_rows (ref_layout self.now)) }
+        ensures joined { IfOk result
+            (λ r. cow_slice_items r.0 ≡ joined_rows (ref_layout self.now)) }
         ensures width { IfOk result (λ r. r.1 ≡ width_of self.now) }
         ensures height { IfOk result (λ r. r.2 ≡ height_of self.now) }
-        ensures borrowed { IfOk result (λ r. IsBorrowedSlice r.0 ↔ (width_of self.now ≡ stride_of self.now)) }
+        ensures borrowed { IfOk result
+            (λ r. IsBorrowedSlice r.0 ↔ (width_of self.now ≡ stride_of self.now)) }
         ensures succeeds { width_of self.now ≡ stride_of self.now → IsOk result }
         ensures no_pixel { width_of self.now * height_of self.now ≡ 0 → IsOk result }
     {

@@ -31,10 +31,13 @@ impl<'a, T: Clone> Img<CowSlice<'a, T>> {
     /// cells, nor where there is no pixel.
     pub fn into_owned(self, alloc: Global) -> Result<ImgVec<T>, Self>
         requires fits { IsBorrowedSlice (buf_of self) → Fits (cow_layout self) }
-        requires clones_equal { IsBorrowedSlice (buf_of self) → ClonesEqual T.is_clone (joined_rows (cow_layout self)) }
-        ensures owned { IsOwnedSlice (buf_of self.entry) → IfOk result (λ i. vec_layout i ≡ cow_layout self.entry) }
+        requires clones_equal { IsBorrowedSlice (buf_of self)
+            → ClonesEqual T.is_clone (joined_rows (cow_layout self)) }
+        ensures owned { IsOwnedSlice (buf_of self.entry)
+            → IfOk result (λ i. vec_layout i ≡ cow_layout self.entry) }
         ensures own_buffer { IfOk result (λ i. IsBufferOf (buf_of self.entry) (buf_of i)) }
-        ensures borrowed { IsBorrowedSlice (buf_of self.entry) → IfOk result (λ i. vec_layout i ≡ packed (cow_layout self.entry)) }
+        ensures borrowed { IsBorrowedSlice (buf_of self.entry)
+            → IfOk result (λ i. vec_layout i ≡ packed (cow_layout self.entry)) }
         ensures succeeds { IsOwnedSlice (buf_of self.entry) → IsOk result }
         ensures no_pixel { width_of self.entry * height_of self.entry ≡ 0 → IsOk result }
         ensures handed_back { IfErr result (λ i. i ≡ self.entry) }
@@ -62,7 +65,8 @@ impl<'a, T: Clone> Img<CowSlice<'a, T>> {
     /// The image as it was: out of memory, or a cell's own `clone` that refused. Never of owned
     /// cells, nor where there is no cell.
     pub fn into_vec(self, alloc: Global) -> Result<ImgVec<T>, Self>
-        requires clones_equal { IsBorrowedSlice (buf_of self) → ClonesEqual T.is_clone (cow_layout self).cells }
+        requires clones_equal { IsBorrowedSlice (buf_of self)
+            → ClonesEqual T.is_clone (cow_layout self).cells }
         ensures layout { IfOk result (λ i. vec_layout i ≡ cow_layout self.entry) }
         ensures own_buffer { IfOk result (λ i. IsBufferOf (buf_of self.entry) (buf_of i)) }
         ensures succeeds { IsOwnedSlice (buf_of self.entry) → IsOk result }

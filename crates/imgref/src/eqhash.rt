@@ -17,8 +17,10 @@ impl<C: AsSlice> Img<C> {
     pub fn same_pixels(&self, other: ImgRef<'_, C::Item>) -> bool
     where
         C::Item: PartialEq,
-        ensures value { result ≡ is_alike C.Item.eq (layout_by C.cells self.now) (ref_layout other.entry) }
-        ensures places { IsTrue result ↔ Alike C.Item.eq (layout_by C.cells self.now) (ref_layout other.entry) }
+        ensures value { result
+            ≡ is_alike C.Item.eq (layout_by C.cells self.now) (ref_layout other.entry) }
+        ensures places { IsTrue result
+            ↔ Alike C.Item.eq (layout_by C.cells self.now) (ref_layout other.entry) }
     {
         let shape = self.shape();
         are_equal(self.buf.as_slice(), shape, other.buf, other.shape())
@@ -60,7 +62,8 @@ where
 {
     ghost hash_input = { fed_image C.cells C.Item.hash_input };
 
-    ghost respects_eq = { λ x y. (equal_fed C.cells (record { fed = C.Item.respects_eq })).fed x y };
+    ghost respects_eq = { λ x y.
+        (equal_fed C.cells (record { fed = C.Item.respects_eq })).fed x y };
 
     fn hash<H: Hasher>(&self, state: &mut H) {
         hash_pixels(self.buf.as_slice(), self.shape(), state);

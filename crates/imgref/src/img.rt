@@ -166,7 +166,8 @@ impl<Container> Img<Container> {
     /// was left there, at the same size and stride. It may no longer fit: `is_valid` tells.
     pub fn buf_mut(&mut self) -> &mut Container
         ensures value { result.now ≡ buf_of self.old }
-        ensures* writes_back { sem 𝓛 (Lends (the_row Container.row) Container.row self.entry result (with_buf self.old)) }
+        ensures* writes_back { sem 𝓛 (Lends (the_row Container.row) Container.row self.entry result
+            (with_buf self.old)) }
     {
         &mut self.buf
     }

@@ -42,7 +42,8 @@ impl<C: AsSlice> Index<(usize, usize)> for Img<C> {
 impl<C: AsMutSlice> IndexMut<(usize, usize)> for Img<C> {
     fn index_mut(&mut self, index: (usize, usize)) -> &mut C::Item
         requires { HasCell (layout_by C.cells self.old) index.0 index.1 }
-        ensures* writes_back { sem 𝓛 (Lends (the_row C.row) C.Item.row self.entry result (with_cell_at C.cells C.with_cell self.old index.0 index.1)) }
+        ensures* writes_back { sem 𝓛 (Lends (the_row C.row) C.Item.row self.entry result
+            (with_cell_at C.cells C.with_cell self.old index.0 index.1)) }
         ensures value { pixel (layout_by C.cells self.old) index.0 index.1 ≡ Some result.now }
         ensures grid { PatchesGrid C.cells C.with_cell self.old index.0 index.1 }
         ensures outside { KeepsOutside C.cells C.with_cell self.old index.0 index.1 }
@@ -75,7 +76,8 @@ impl<C: AsSlice> Index<(u32, u32)> for Img<C> {
 impl<C: AsMutSlice> IndexMut<(u32, u32)> for Img<C> {
     fn index_mut(&mut self, index: (u32, u32)) -> &mut C::Item
         requires { HasCell (layout_by C.cells self.old) index.0 index.1 }
-        ensures* writes_back { sem 𝓛 (Lends (the_row C.row) C.Item.row self.entry result (with_cell_at C.cells C.with_cell self.old index.0 index.1)) }
+        ensures* writes_back { sem 𝓛 (Lends (the_row C.row) C.Item.row self.entry result
+            (with_cell_at C.cells C.with_cell self.old index.0 index.1)) }
         ensures value { pixel (layout_by C.cells self.old) index.0 index.1 ≡ Some result.now }
         ensures grid { PatchesGrid C.cells C.with_cell self.old index.0 index.1 }
         ensures outside { KeepsOutside C.cells C.with_cell self.old index.0 index.1 }
@@ -113,7 +115,8 @@ impl<C: AsMutSlice> Img<C> {
     pub fn row_mut(&mut self, y: usize) -> &mut [C::Item]
         requires below { y < height_of self.old }
         requires fits { Fits (layout_by C.cells self.old) }
-        ensures* writes_back { sem 𝓛 (Lends (the_row C.row) (Array C.Item.row 0) self.entry result (with_row C.cells C.with_cells self.old y)) }
+        ensures* writes_back { sem 𝓛 (Lends (the_row C.row) (Array C.Item.row 0) self.entry result
+            (with_row C.cells C.with_cells self.old y)) }
         ensures value { result.now ≡ row_of (layout_by C.cells self.old) y }
         ensures len { length result.now ≡ width_of self.old }
         ensures grid { RowPatchesGrid C.cells C.with_cells self.old y }

@@ -29,8 +29,10 @@ pub trait ImgExt<Pixel> {
         ensures cells { chunks_rest result ≡ (layout_of self.now).cells }
         ensures size { chunks_size result ≡ (layout_of self.now).stride }
         ensures positive { 0 < chunks_size result }
-        ensures runs { EveryRun (chunks_steps {A = Pixel}) (λ p. 0 < chunks_size p.from → IsChunksRun p (chunks_size p.from) (chunks_rest p.from)) }
-        ensures runs_back { EveryRun (chunks_steps_back {A = Pixel}) (λ p. 0 < chunks_size p.from → IsChunksRunBack p (chunks_size p.from) (chunks_rest p.from)) };
+        ensures runs { EveryRun (chunks_steps {A = Pixel}) (λ p. 0 < chunks_size p.from
+            → IsChunksRun p (chunks_size p.from) (chunks_rest p.from)) }
+        ensures runs_back { EveryRun (chunks_steps_back {A = Pixel}) (λ p. 0 < chunks_size p.from
+            → IsChunksRunBack p (chunks_size p.from) (chunks_rest p.from)) };
 
     /// The whole image for reading.
     fn as_ref(&self) -> ImgRef<'_, Pixel>
@@ -70,11 +72,13 @@ pub trait ImgExtMut<Pixel> {
         ensures cells { chunks_mut_rest result ≡ (layout_of self.old).cells }
         ensures size { chunks_mut_size result ≡ (layout_of self.old).stride }
         ensures positive { 0 < chunks_mut_size result }
-        ensures runs { EveryRun (chunks_mut_steps {A = Pixel}) (λ p. 0 < chunks_mut_size p.from → IsChunksMutRun p (chunks_mut_size p.from) (chunks_mut_rest p.from)) };
+        ensures runs { EveryRun (chunks_mut_steps {A = Pixel}) (λ p. 0 < chunks_mut_size p.from
+            → IsChunksMutRun p (chunks_mut_size p.from) (chunks_mut_rest p.from)) };
 
     /// The whole image for writing. Once the borrow ends, it has the cells that were left there.
     fn as_mut(&mut self) -> ImgRefMut<'_, Pixel>
-        ensures* hands_on { sem 𝓛 (follows Self.row (Array Pixel.row 0) self.entry.ghost_name (buf_of result).ghost_name (with_cells self.old)) }
+        ensures* hands_on { sem 𝓛 (follows Self.row (Array Pixel.row 0) self.entry.ghost_name
+            (buf_of result).ghost_name (with_cells self.old)) }
         ensures layout { mut_layout result ≡ layout_of self.old };
 }
 

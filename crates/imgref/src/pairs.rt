@@ -20,7 +20,9 @@ impl<'s, T> Img<&'s [T]> {
         requires fits { Fits (ref_layout self.now) }
         requires other_fits { Fits (ref_layout other) }
         requires callable { TakesPlaces (F.pre f) (ref_layout self.now) (ref_layout other) }
-        ensures { MatchBool result (AllPlacesAnswer (F.post f) (ref_layout self.now) (ref_layout other.entry)) (SomePlaceDiffers (F.post f) (ref_layout self.now) (ref_layout other.entry)) }
+        ensures { MatchBool result
+            (AllPlacesAnswer (F.post f) (ref_layout self.now) (ref_layout other.entry))
+            (SomePlaceDiffers (F.post f) (ref_layout self.now) (ref_layout other.entry)) }
     {
         let shape = self.shape();
         agree_at_places(self.buf, shape, other.buf, other.shape(), &f)

@@ -87,7 +87,8 @@ impl<C: AsMutSlice> Img<C> {
     where
         C::Item: Copy + 'a,
         requires fits { Fits (layout_by C.cells self.old) }
-        ensures grid { grid_by C.cells self.new ≡ uniform (width_of self.old) (height_of self.old) value }
+        ensures grid { grid_by C.cells self.new
+            ≡ uniform (width_of self.old) (height_of self.old) value }
         ensures outside { SameOutside (layout_by C.cells self.old) (layout_by C.cells self.new) }
         ensures fits { Fits (layout_by C.cells self.new) }
         ensures container { OnlyCellsChange C.cells C.with_cells self.old self.new }
@@ -108,8 +109,10 @@ impl<C: AsMutSlice> Img<C> {
         C::Item: Copy + 'a,
         requires fits { Fits (layout_by C.cells self.old) }
         requires callable { F.IsAlwaysCallable f }
-        ensures answers { HasAnswers (F.post f) (layout_by C.cells self.old) (layout_by C.cells self.new) }
-        ensures grid { IsMapped (F.post f) (layout_by C.cells self.old) (layout_by C.cells self.new) }
+        ensures answers { HasAnswers (F.post f) (layout_by C.cells self.old)
+            (layout_by C.cells self.new) }
+        ensures grid { IsMapped (F.post f) (layout_by C.cells self.old)
+            (layout_by C.cells self.new) }
         ensures outside { SameOutside (layout_by C.cells self.old) (layout_by C.cells self.new) }
         ensures fits { Fits (layout_by C.cells self.new) }
         ensures container { OnlyCellsChange C.cells C.with_cells self.old self.new }
@@ -128,7 +131,8 @@ impl<C: AsMutSlice> Img<C> {
 
     // All cells, and the shape.
     pub(crate) fn all_parts_mut(&mut self) -> (&mut [C::Item], Shape)
-        ensures* hands_on { sem 𝓛 (follows (the_row C.row) (Array C.Item.row 0) self.entry.ghost_name result.0.ghost_name (with_all C.cells C.with_cells self.old)) }
+        ensures* hands_on { sem 𝓛 (follows (the_row C.row) (Array C.Item.row 0)
+            self.entry.ghost_name result.0.ghost_name (with_all C.cells C.with_cells self.old)) }
         ensures cells { result.0.now ≡ C.cells (buf_of self.old) }
         ensures shape { result.1 ≡ shape_of self.old }
     {
@@ -149,11 +153,13 @@ impl<C: AsMutSlice> Img<C> {
     /// The image fits: `is_valid`.
     pub fn pixels_mut(&mut self) -> PixelsIterMut<'_, C::Item>
         requires fits { Fits (layout_by C.cells self.old) }
-        ensures* lends { sem 𝓛 (follows (the_row C.row) (the_row C.row) self.entry.ghost_name (lender_of result) (with_cells_of C.cells C.with_cells self.old)) }
+        ensures* lends { sem 𝓛 (follows (the_row C.row) (the_row C.row) self.entry.ghost_name
+            (lender_of result) (with_cells_of C.cells C.with_cells self.old)) }
         ensures count_stays { KeepsCount C.cells C.with_cells self.old }
         ensures fits { AnyCellsFit C.cells C.with_cells self.old }
         ensures cells { cells_left result ≡ C.cells (buf_of self.old) }
-        ensures marks { marks_left result ≡ marks_of (width_of self.old) (height_of self.old) (stride_of self.old) }
+        ensures marks { marks_left result
+            ≡ marks_of (width_of self.old) (height_of self.old) (stride_of self.old) }
         ensures pixels { muts_left result ≡ pixels_of (layout_by C.cells self.old) }
         ensures grid { muts_left result ≡ grid_pixels (grid_by C.cells self.old) }
         ensures count { length (muts_left result) ≡ width_of self.old * height_of self.old }
@@ -171,9 +177,11 @@ impl<C: AsMutSlice> Img<C> {
     /// The image fits: `is_valid`.
     pub fn exact_pixels_mut(&mut self) -> PixelsIterMut<'_, C::Item>
         requires fits { Fits (layout_by C.cells self.old) }
-        ensures* writes_back { sem 𝓛 (follows (the_row C.row) (Array C.Item.row 0) self.entry.ghost_name (pixels_name result) (with_all C.cells C.with_cells self.old)) }
+        ensures* writes_back { sem 𝓛 (follows (the_row C.row) (Array C.Item.row 0)
+            self.entry.ghost_name (pixels_name result) (with_all C.cells C.with_cells self.old)) }
         ensures cells { cells_left result ≡ C.cells (buf_of self.old) }
-        ensures marks { marks_left result ≡ marks_of (width_of self.old) (height_of self.old) (stride_of self.old) }
+        ensures marks { marks_left result
+            ≡ marks_of (width_of self.old) (height_of self.old) (stride_of self.old) }
         ensures pixels { muts_left result ≡ pixels_of (layout_by C.cells self.old) }
         ensures grid { muts_left result ≡ grid_pixels (grid_by C.cells self.old) }
         ensures count { length (muts_left result) ≡ width_of self.old * height_of self.old }

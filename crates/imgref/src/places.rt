@@ -45,7 +45,8 @@ impl<C: AsMutSlice> Img<C> {
         requires fits { Fits (layout_by C.cells self.old) }
         requires column { x < width_of self.old }
         requires line { y < height_of self.old }
-        ensures grid { grid_by C.cells self.new ≡ patch (grid_by C.cells self.old) x y (uniform 1 1 value) }
+        ensures grid { grid_by C.cells self.new
+            ≡ patch (grid_by C.cells self.old) x y (uniform 1 1 value) }
         ensures outside { SameOutside (layout_by C.cells self.old) (layout_by C.cells self.new) }
         ensures fits { Fits (layout_by C.cells self.new) }
         ensures container { OnlyCellsChange C.cells C.with_cells self.old self.new }
@@ -63,7 +64,8 @@ impl<C: AsMutSlice> Img<C> {
         C::Item: Copy + 'a,
         requires fits { Fits (layout_by C.cells self.old) }
         requires inside { IsInside (width_of self.old) (height_of self.old) (as_window place) }
-        ensures grid { grid_by C.cells self.new ≡ patch (grid_by C.cells self.old) place.left place.top (uniform place.width place.height value) }
+        ensures grid { grid_by C.cells self.new ≡ patch (grid_by C.cells self.old)
+            place.left place.top (uniform place.width place.height value) }
         ensures outside { SameOutside (layout_by C.cells self.old) (layout_by C.cells self.new) }
         ensures fits { Fits (layout_by C.cells self.new) }
         ensures container { OnlyCellsChange C.cells C.with_cells self.old self.new }
@@ -89,8 +91,10 @@ impl<C: AsMutSlice> Img<C> {
     where
         C::Item: Copy + 'a,
         requires fits { Fits (layout_by C.cells self.old) }
-        requires inside { IsInside (width_of self.old) (height_of self.old) (window left top width height) }
-        ensures grid { grid_by C.cells self.new ≡ patch (grid_by C.cells self.old) left top (uniform width height value) }
+        requires inside { IsInside (width_of self.old) (height_of self.old)
+            (window left top width height) }
+        ensures grid { grid_by C.cells self.new
+            ≡ patch (grid_by C.cells self.old) left top (uniform width height value) }
         ensures outside { SameOutside (layout_by C.cells self.old) (layout_by C.cells self.new) }
         ensures fits { Fits (layout_by C.cells self.new) }
         ensures container { OnlyCellsChange C.cells C.with_cells self.old self.new }
@@ -108,7 +112,8 @@ impl<C: AsMutSlice> Img<C> {
         C::Item: Copy + 'a,
         requires fits { Fits (layout_by C.cells self.old) }
         requires below { y < height_of self.old }
-        ensures grid { grid_by C.cells self.new ≡ patch (grid_by C.cells self.old) 0 y (uniform (width_of self.old) 1 value) }
+        ensures grid { grid_by C.cells self.new
+            ≡ patch (grid_by C.cells self.old) 0 y (uniform (width_of self.old) 1 value) }
         ensures outside { SameOutside (layout_by C.cells self.old) (layout_by C.cells self.new) }
         ensures fits { Fits (layout_by C.cells self.new) }
         ensures container { OnlyCellsChange C.cells C.with_cells self.old self.new }

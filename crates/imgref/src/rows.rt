@@ -24,7 +24,8 @@ impl<'s, T> Img<&'s [T]> {
         requires fits { Fits (ref_layout self.now) }
         ensures rows { refs_left result ≡ rows_of (ref_layout self.now) }
         ensures grid { refs_left result ≡ grid_rows (ref_grid self.now) }
-        ensures count { length (refs_left result) ≡ row_count (width_of self.now) (height_of self.now) }
+        ensures count { length (refs_left result)
+            ≡ row_count (width_of self.now) (height_of self.now) }
         ensures countable { length (refs_left result) < 2 ^ 64 }
         ensures wide { All (λ row. length row ≡ width_of self.now) (refs_left result) }
     {
@@ -43,7 +44,8 @@ impl<C: AsMutSlice> Img<C> {
         requires fits { Fits (layout_by C.cells self.now) }
         ensures rows { refs_left result ≡ rows_of (layout_by C.cells self.now) }
         ensures grid { refs_left result ≡ grid_rows (grid_by C.cells self.now) }
-        ensures count { length (refs_left result) ≡ row_count (width_of self.now) (height_of self.now) }
+        ensures count { length (refs_left result)
+            ≡ row_count (width_of self.now) (height_of self.now) }
         ensures countable { length (refs_left result) < 2 ^ 64 }
         ensures wide { All (λ row. length row ≡ width_of self.now) (refs_left result) }
     {
@@ -60,12 +62,15 @@ impl<C: AsMutSlice> Img<C> {
     /// The image fits: `is_valid`.
     pub fn rows_mut(&mut self) -> RowsIterMut<'_, C::Item>
         requires fits { Fits (layout_by C.cells self.old) }
-        ensures* writes_back { sem 𝓛 (follows (the_row C.row) (Array C.Item.row 0) self.entry.ghost_name (rows_name result) (with_all C.cells C.with_cells self.old)) }
+        ensures* writes_back { sem 𝓛 (follows (the_row C.row) (Array C.Item.row 0)
+            self.entry.ghost_name (rows_name result) (with_all C.cells C.with_cells self.old)) }
         ensures cells { cells_left result ≡ C.cells (buf_of self.old) }
-        ensures spacing { spacing_left result ≡ whole_spacing (width_of self.old) (height_of self.old) (stride_of self.old) }
+        ensures spacing { spacing_left result
+            ≡ whole_spacing (width_of self.old) (height_of self.old) (stride_of self.old) }
         ensures rows { muts_left result ≡ rows_of (layout_by C.cells self.old) }
         ensures grid { muts_left result ≡ grid_rows (grid_by C.cells self.old) }
-        ensures count { length (muts_left result) ≡ row_count (width_of self.old) (height_of self.old) }
+        ensures count { length (muts_left result)
+            ≡ row_count (width_of self.old) (height_of self.old) }
         ensures countable { length (muts_left result) < 2 ^ 64 }
         ensures wide { All (λ row. length row ≡ width_of self.old) (muts_left result) }
     {

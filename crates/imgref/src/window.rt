@@ -44,10 +44,13 @@ impl<'s, T> Img<&'s [T]> {
     /// The image fits (`is_valid`), and the window is inside it (`has_window`).
     pub fn sub_image(&self, left: usize, top: usize, width: usize, height: usize) -> ImgRef<'s, T>
         requires fits { Fits (ref_layout self.now) }
-        requires inside { IsInside (width_of self.now) (height_of self.now) (window left top width height) }
-        ensures layout { ref_layout result ≡ padded_window (ref_layout self.now) (window left top width height) }
+        requires inside { IsInside (width_of self.now) (height_of self.now)
+            (window left top width height) }
+        ensures layout { ref_layout result
+            ≡ padded_window (ref_layout self.now) (window left top width height) }
         ensures fits { Fits (ref_layout result) }
-        ensures view { ref_grid result ≡ window_view (ref_grid self.now) (window left top width height) }
+        ensures view { ref_grid result
+            ≡ window_view (ref_grid self.now) (window left top width height) }
     {
         self.window(Window::new(left, top, width, height))
     }
@@ -71,8 +74,10 @@ impl<'s, T> Img<&'s mut [T]> {
     /// By comparing numbers: the stretch ends within the cells.
     pub fn from_stretch(cells: &'s mut [T], stretch: Stretch, shape: Shape) -> ImgRefMut<'s, T>
         requires in_bounds { IsWithin (length cells.old) (as_stretch stretch) }
-        ensures* hands_on { sem 𝓛 (follows (Array T.row 0) (Array T.row 0) cells.entry.ghost_name (buf_of result).ghost_name (with_stretch cells.old (as_stretch stretch))) }
-        ensures layout { mut_layout result ≡ shaped (stretch_cells cells.old (as_stretch stretch)) shape }
+        ensures* hands_on { sem 𝓛 (follows (Array T.row 0) (Array T.row 0) cells.entry.ghost_name
+            (buf_of result).ghost_name (with_stretch cells.old (as_stretch stretch))) }
+        ensures layout { mut_layout result
+            ≡ shaped (stretch_cells cells.old (as_stretch stretch)) shape }
     {
         let end = end_of(stretch);
         Img::from_parts(&mut cells[stretch.start..end], shape)
@@ -96,10 +101,15 @@ impl<'s, T> Img<&'s mut [T]> {
     ) -> ImgRefMut<'s, T>
         requires fits { Fits (mut_layout self) }
         requires inside { IsInside (width_of self) (height_of self) (window left top width height) }
-        ensures* hands_on { sem 𝓛 (follows (Array T.row 0) (Array T.row 0) (buf_of self.entry).ghost_name (buf_of result).ghost_name (with_stretch (buf_of self.entry).now (padded_stretch (length (buf_of self.entry).now) (stride_of self.entry) (window left top width height)))) }
-        ensures layout { mut_layout result ≡ padded_window (mut_layout self.entry) (window left top width height) }
+        ensures* hands_on { sem 𝓛 (follows (Array T.row 0) (Array T.row 0)
+            (buf_of self.entry).ghost_name (buf_of result).ghost_name
+            (with_stretch (buf_of self.entry).now (padded_stretch (length (buf_of self.entry).now)
+            (stride_of self.entry) (window left top width height)))) }
+        ensures layout { mut_layout result
+            ≡ padded_window (mut_layout self.entry) (window left top width height) }
         ensures fits { Fits (mut_layout result) }
-        ensures view { mut_grid result ≡ window_view (mut_grid self.entry) (window left top width height) }
+        ensures view { mut_grid result
+            ≡ window_view (mut_grid self.entry) (window left top width height) }
     {
         let window = Window {
             left,
@@ -123,7 +133,8 @@ impl<C: AsMutSlice> Img<C> {
     pub fn window(&self, place: Window) -> ImgRef<'_, C::Item>
         requires fits { Fits (layout_by C.cells self.now) }
         requires inside { IsInside (width_of self.now) (height_of self.now) (as_window place) }
-        ensures layout { ref_layout result ≡ padded_window (layout_by C.cells self.now) (as_window place) }
+        ensures layout { ref_layout result
+            ≡ padded_window (layout_by C.cells self.now) (as_window place) }
         ensures fits { Fits (ref_layout result) }
         ensures view { ref_grid result ≡ window_view (grid_by C.cells self.now) (as_window place) }
     {
@@ -145,10 +156,13 @@ impl<C: AsMutSlice> Img<C> {
         height: usize,
     ) -> ImgRef<'_, C::Item>
         requires fits { Fits (layout_by C.cells self.now) }
-        requires inside { IsInside (width_of self.now) (height_of self.now) (window left top width height) }
-        ensures layout { ref_layout result ≡ padded_window (layout_by C.cells self.now) (window left top width height) }
+        requires inside { IsInside (width_of self.now) (height_of self.now)
+            (window left top width height) }
+        ensures layout { ref_layout result
+            ≡ padded_window (layout_by C.cells self.now) (window left top width height) }
         ensures fits { Fits (ref_layout result) }
-        ensures view { ref_grid result ≡ window_view (grid_by C.cells self.now) (window left top width height) }
+        ensures view { ref_grid result
+            ≡ window_view (grid_by C.cells self.now) (window left top width height) }
     {
         self.window(Window::new(left, top, width, height))
     }
@@ -163,7 +177,9 @@ impl<C: AsMutSlice> Img<C> {
     /// The whole image for writing, with its whole buffer. It need not fit. Once the borrow ends,
     /// the image has the cells that were left there.
     pub fn as_mut(&mut self) -> Img<&mut [C::Item]>
-        ensures* hands_on { sem 𝓛 (follows (the_row C.row) (Array C.Item.row 0) self.entry.ghost_name (buf_of result).ghost_name (with_all C.cells C.with_cells self.old)) }
+        ensures* hands_on { sem 𝓛 (follows (the_row C.row) (Array C.Item.row 0)
+            self.entry.ghost_name (buf_of result).ghost_name
+            (with_all C.cells C.with_cells self.old)) }
         ensures layout { mut_layout result ≡ layout_by C.cells self.old }
     {
         let (cells, shape) = self.all_parts_mut();
@@ -184,14 +200,21 @@ impl<C: AsMutSlice> Img<C> {
     pub fn window_mut(&mut self, place: Window) -> Img<&mut [C::Item]>
         requires fits { Fits (layout_by C.cells self.old) }
         requires inside { IsInside (width_of self.old) (height_of self.old) (as_window place) }
-        ensures* hands_on { sem 𝓛 (follows (the_row C.row) (Array C.Item.row 0) self.entry.ghost_name (buf_of result).ghost_name (with_window C.cells C.with_cells C.padded_windows self.old (as_window place))) }
-        ensures layout { mut_layout result ≡ window_layout C.padded_windows (layout_by C.cells self.old) (as_window place) }
+        ensures* hands_on { sem 𝓛 (follows (the_row C.row) (Array C.Item.row 0)
+            self.entry.ghost_name (buf_of result).ghost_name
+            (with_window C.cells C.with_cells C.padded_windows self.old (as_window place))) }
+        ensures layout { mut_layout result
+            ≡ window_layout C.padded_windows (layout_by C.cells self.old) (as_window place) }
         ensures fits { Fits (mut_layout result) }
         ensures view { mut_grid result ≡ window_view (grid_by C.cells self.old) (as_window place) }
-        ensures grid { WindowPatchesGrid C.cells C.with_cells C.padded_windows self.old (as_window place) (mut_layout result) }
-        ensures outside { WindowKeepsOutside C.cells C.with_cells C.padded_windows self.old (as_window place) (mut_layout result) }
-        ensures still_fits { WindowKeepsFit C.cells C.with_cells C.padded_windows self.old (as_window place) (mut_layout result) }
-        ensures container { WindowKeepsContainer C.cells C.with_cells C.padded_windows self.old (as_window place) (mut_layout result) }
+        ensures grid { WindowPatchesGrid C.cells C.with_cells C.padded_windows self.old
+            (as_window place) (mut_layout result) }
+        ensures outside { WindowKeepsOutside C.cells C.with_cells C.padded_windows self.old
+            (as_window place) (mut_layout result) }
+        ensures still_fits { WindowKeepsFit C.cells C.with_cells C.padded_windows self.old
+            (as_window place) (mut_layout result) }
+        ensures container { WindowKeepsContainer C.cells C.with_cells C.padded_windows self.old
+            (as_window place) (mut_layout result) }
     {
         let (buf, shape) = self.window_parts_mut(place);
         Img::from_parts(buf, shape)
@@ -211,15 +234,24 @@ impl<C: AsMutSlice> Img<C> {
         height: usize,
     ) -> Img<&mut [C::Item]>
         requires fits { Fits (layout_by C.cells self.old) }
-        requires inside { IsInside (width_of self.old) (height_of self.old) (window left top width height) }
-        ensures* hands_on { sem 𝓛 (follows (the_row C.row) (Array C.Item.row 0) self.entry.ghost_name (buf_of result).ghost_name (with_window C.cells C.with_cells C.padded_windows self.old (window left top width height))) }
-        ensures layout { mut_layout result ≡ window_layout C.padded_windows (layout_by C.cells self.old) (window left top width height) }
+        requires inside { IsInside (width_of self.old) (height_of self.old)
+            (window left top width height) }
+        ensures* hands_on { sem 𝓛 (follows (the_row C.row) (Array C.Item.row 0)
+            self.entry.ghost_name (buf_of result).ghost_name (with_window C.cells C.with_cells
+            C.padded_windows self.old (window left top width height))) }
+        ensures layout { mut_layout result ≡ window_layout C.padded_windows
+            (layout_by C.cells self.old) (window left top width height) }
         ensures fits { Fits (mut_layout result) }
-        ensures view { mut_grid result ≡ window_view (grid_by C.cells self.old) (window left top width height) }
-        ensures grid { WindowPatchesGrid C.cells C.with_cells C.padded_windows self.old (window left top width height) (mut_layout result) }
-        ensures outside { WindowKeepsOutside C.cells C.with_cells C.padded_windows self.old (window left top width height) (mut_layout result) }
-        ensures still_fits { WindowKeepsFit C.cells C.with_cells C.padded_windows self.old (window left top width height) (mut_layout result) }
-        ensures container { WindowKeepsContainer C.cells C.with_cells C.padded_windows self.old (window left top width height) (mut_layout result) }
+        ensures view { mut_grid result
+            ≡ window_view (grid_by C.cells self.old) (window left top width height) }
+        ensures grid { WindowPatchesGrid C.cells C.with_cells C.padded_windows self.old
+            (window left top width height) (mut_layout result) }
+        ensures outside { WindowKeepsOutside C.cells C.with_cells C.padded_windows self.old
+            (window left top width height) (mut_layout result) }
+        ensures still_fits { WindowKeepsFit C.cells C.with_cells C.padded_windows self.old
+            (window left top width height) (mut_layout result) }
+        ensures container { WindowKeepsContainer C.cells C.with_cells C.padded_windows self.old
+            (window left top width height) (mut_layout result) }
     {
         self.window_mut(Window::new(left, top, width, height))
     }
@@ -236,17 +268,25 @@ impl<C: AsMutSlice> Img<C> {
     pub fn window_parts_mut(&mut self, place: Window) -> (&mut [C::Item], Shape)
         requires fits { Fits (layout_by C.cells self.old) }
         requires inside { IsInside (width_of self.old) (height_of self.old) (as_window place) }
-        ensures* hands_on { sem 𝓛 (follows (the_row C.row) (Array C.Item.row 0) self.entry.ghost_name result.0.ghost_name (with_window C.cells C.with_cells C.padded_windows self.old (as_window place))) }
-        ensures layout { shaped result.0.now result.1 ≡ window_layout C.padded_windows (layout_by C.cells self.old) (as_window place) }
+        ensures* hands_on { sem 𝓛 (follows (the_row C.row)
+            (Array C.Item.row 0) self.entry.ghost_name result.0.ghost_name
+            (with_window C.cells C.with_cells C.padded_windows self.old (as_window place))) }
+        ensures layout { shaped result.0.now result.1
+            ≡ window_layout C.padded_windows (layout_by C.cells self.old) (as_window place) }
         ensures fits { Fits (shaped result.0.now result.1) }
-        ensures view { shaped_grid result.0.now result.1 ≡ window_view (grid_by C.cells self.old) (as_window place) }
+        ensures view { shaped_grid result.0.now result.1
+            ≡ window_view (grid_by C.cells self.old) (as_window place) }
         ensures width { shape_width result.1 ≡ place.width }
         ensures height { shape_height result.1 ≡ place.height }
         ensures holds_width { width_of self.old ≤ stride_of self.old }
-        ensures grid { WindowPatchesGrid C.cells C.with_cells C.padded_windows self.old (as_window place) (shaped result.0.now result.1) }
-        ensures outside { WindowKeepsOutside C.cells C.with_cells C.padded_windows self.old (as_window place) (shaped result.0.now result.1) }
-        ensures still_fits { WindowKeepsFit C.cells C.with_cells C.padded_windows self.old (as_window place) (shaped result.0.now result.1) }
-        ensures container { WindowKeepsContainer C.cells C.with_cells C.padded_windows self.old (as_window place) (shaped result.0.now result.1) }
+        ensures grid { WindowPatchesGrid C.cells C.with_cells C.padded_windows self.old
+            (as_window place) (shaped result.0.now result.1) }
+        ensures outside { WindowKeepsOutside C.cells C.with_cells C.padded_windows self.old
+            (as_window place) (shaped result.0.now result.1) }
+        ensures still_fits { WindowKeepsFit C.cells C.with_cells C.padded_windows self.old
+            (as_window place) (shaped result.0.now result.1) }
+        ensures container { WindowKeepsContainer C.cells C.with_cells C.padded_windows self.old
+            (as_window place) (shaped result.0.now result.1) }
     {
         let len = self.buf.as_slice().len();
         let whole = self.shape();

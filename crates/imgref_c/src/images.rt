@@ -91,7 +91,8 @@ pub extern "C" fn imgref_window(
     count: &mut usize,
 ) -> u32
     ensures status { result ≡ code (window_status len width height stride (from_c window)) }
-    ensures finds { Finds result start.old count.old start.new count.new len (exact_stretch stride (from_c window)) }
+    ensures finds { Finds result start.old count.old start.new count.new len
+        (exact_stretch stride (from_c window)) }
     ensures image { result ≡ 0 → IsImage count.new window.width window.height stride }
 {
     let claimed = ClaimedShape::new(width, height, stride);

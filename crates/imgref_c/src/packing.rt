@@ -9,8 +9,10 @@ use image_ops::join_rows;
 
 // The rows come one after the other at the front of the cells; the cells behind them stay.
 fn pack<T: Copy>(cells: &mut [T], claimed: ClaimedShape) -> Status
-    ensures status { result ≡ image_status (length cells.old) claimed.width claimed.height claimed.stride }
-    ensures packs { Packs (code result) (layout cells.old claimed.width claimed.height claimed.stride) cells.new }
+    ensures status { result
+        ≡ image_status (length cells.old) claimed.width claimed.height claimed.stride }
+    ensures packs { Packs (code result)
+        (layout cells.old claimed.width claimed.height claimed.stride) cells.new }
 {
     if !claimed.is_image(cells.len()) {
         return Status::NotAnImage;

@@ -18,8 +18,12 @@ fn copy_window<T: Copy>(
     claimed_source: ClaimedShape,
     window: Window,
 ) -> Status
-    ensures status { result ≡ copy_status (length cells.old) claimed.width claimed.height claimed.stride (as_window window) (length source.now) claimed_source.width claimed_source.height claimed_source.stride }
-    ensures writes { Writes (code result) claimed.width claimed.height claimed.stride cells.old cells.new window.left window.top (grid_of (layout source.now claimed_source.width claimed_source.height claimed_source.stride)) }
+    ensures status { result ≡ copy_status (length cells.old) claimed.width claimed.height
+        claimed.stride (as_window window) (length source.now) claimed_source.width
+        claimed_source.height claimed_source.stride }
+    ensures writes { Writes (code result) claimed.width claimed.height
+        claimed.stride cells.old cells.new window.left window.top (grid_of
+        (layout source.now claimed_source.width claimed_source.height claimed_source.stride)) }
 {
     if !claimed.is_image(cells.len()) || !claimed_source.is_image(source.len()) {
         return Status::NotAnImage;
@@ -48,8 +52,10 @@ pub extern "C" fn imgref_u8_copy_window(
     source_height: usize,
     source_stride: usize,
 ) -> u32
-    ensures status { result ≡ code (copy_status (length cells.old) width height stride (from_c window) (length source.now) source_width source_height source_stride) }
-    ensures writes { Writes result width height stride cells.old cells.new window.left window.top (grid_of (layout source.now source_width source_height source_stride)) }
+    ensures status { result ≡ code (copy_status (length cells.old) width height stride
+        (from_c window) (length source.now) source_width source_height source_stride) }
+    ensures writes { Writes result width height stride cells.old cells.new window.left window.top
+        (grid_of (layout source.now source_width source_height source_stride)) }
 {
     let claimed = ClaimedShape::new(width, height, stride);
     let claimed_source = ClaimedShape::new(source_width, source_height, source_stride);
@@ -69,8 +75,10 @@ pub extern "C" fn imgref_u16_copy_window(
     source_height: usize,
     source_stride: usize,
 ) -> u32
-    ensures status { result ≡ code (copy_status (length cells.old) width height stride (from_c window) (length source.now) source_width source_height source_stride) }
-    ensures writes { Writes result width height stride cells.old cells.new window.left window.top (grid_of (layout source.now source_width source_height source_stride)) }
+    ensures status { result ≡ code (copy_status (length cells.old) width height stride
+        (from_c window) (length source.now) source_width source_height source_stride) }
+    ensures writes { Writes result width height stride cells.old cells.new window.left window.top
+        (grid_of (layout source.now source_width source_height source_stride)) }
 {
     let claimed = ClaimedShape::new(width, height, stride);
     let claimed_source = ClaimedShape::new(source_width, source_height, source_stride);
@@ -90,8 +98,10 @@ pub extern "C" fn imgref_u32_copy_window(
     source_height: usize,
     source_stride: usize,
 ) -> u32
-    ensures status { result ≡ code (copy_status (length cells.old) width height stride (from_c window) (length source.now) source_width source_height source_stride) }
-    ensures writes { Writes result width height stride cells.old cells.new window.left window.top (grid_of (layout source.now source_width source_height source_stride)) }
+    ensures status { result ≡ code (copy_status (length cells.old) width height stride
+        (from_c window) (length source.now) source_width source_height source_stride) }
+    ensures writes { Writes result width height stride cells.old cells.new window.left window.top
+        (grid_of (layout source.now source_width source_height source_stride)) }
 {
     let claimed = ClaimedShape::new(width, height, stride);
     let claimed_source = ClaimedShape::new(source_width, source_height, source_stride);
@@ -111,8 +121,10 @@ pub extern "C" fn imgref_u64_copy_window(
     source_height: usize,
     source_stride: usize,
 ) -> u32
-    ensures status { result ≡ code (copy_status (length cells.old) width height stride (from_c window) (length source.now) source_width source_height source_stride) }
-    ensures writes { Writes result width height stride cells.old cells.new window.left window.top (grid_of (layout source.now source_width source_height source_stride)) }
+    ensures status { result ≡ code (copy_status (length cells.old) width height stride
+        (from_c window) (length source.now) source_width source_height source_stride) }
+    ensures writes { Writes result width height stride cells.old cells.new window.left window.top
+        (grid_of (layout source.now source_width source_height source_stride)) }
 {
     let claimed = ClaimedShape::new(width, height, stride);
     let claimed_source = ClaimedShape::new(source_width, source_height, source_stride);
@@ -127,8 +139,12 @@ fn equal_images<T: PartialEq>(
     claimed_other: ClaimedShape,
     equal: &mut bool,
 ) -> Status
-    ensures status { result ≡ pair_status (length cells.now) claimed.width claimed.height claimed.stride (length other.now) claimed_other.width claimed_other.height claimed_other.stride }
-    ensures gives { Gives (code result) equal.old equal.new (IsTrue equal.new ↔ Agree T.eq (grid_of (layout cells.now claimed.width claimed.height claimed.stride)) (grid_of (layout other.now claimed_other.width claimed_other.height claimed_other.stride))) }
+    ensures status { result
+        ≡ pair_status (length cells.now) claimed.width claimed.height claimed.stride
+        (length other.now) claimed_other.width claimed_other.height claimed_other.stride }
+    ensures gives { Gives (code result) equal.old equal.new (IsTrue equal.new ↔ Agree
+        T.eq (grid_of (layout cells.now claimed.width claimed.height claimed.stride)) (grid_of
+        (layout other.now claimed_other.width claimed_other.height claimed_other.stride))) }
 {
     if !claimed.is_image(cells.len()) || !claimed_other.is_image(other.len()) {
         return Status::NotAnImage;
@@ -151,8 +167,11 @@ pub extern "C" fn imgref_u8_equal(
     other_stride: usize,
     equal: &mut bool,
 ) -> u32
-    ensures status { result ≡ code (pair_status (length cells.now) width height stride (length other.now) other_width other_height other_stride) }
-    ensures gives { Gives result equal.old equal.new (IsTrue equal.new ↔ Agree ◌==◌ (grid_of (layout cells.now width height stride)) (grid_of (layout other.now other_width other_height other_stride))) }
+    ensures status { result ≡ code (pair_status (length cells.now) width height stride
+        (length other.now) other_width other_height other_stride) }
+    ensures gives { Gives result equal.old equal.new
+        (IsTrue equal.new ↔ Agree ◌==◌ (grid_of (layout cells.now width height stride))
+        (grid_of (layout other.now other_width other_height other_stride))) }
 {
     let claimed = ClaimedShape::new(width, height, stride);
     let claimed_other = ClaimedShape::new(other_width, other_height, other_stride);
@@ -172,8 +191,11 @@ pub extern "C" fn imgref_u16_equal(
     other_stride: usize,
     equal: &mut bool,
 ) -> u32
-    ensures status { result ≡ code (pair_status (length cells.now) width height stride (length other.now) other_width other_height other_stride) }
-    ensures gives { Gives result equal.old equal.new (IsTrue equal.new ↔ Agree ◌==◌ (grid_of (layout cells.now width height stride)) (grid_of (layout other.now other_width other_height other_stride))) }
+    ensures status { result ≡ code (pair_status (length cells.now) width height stride
+        (length other.now) other_width other_height other_stride) }
+    ensures gives { Gives result equal.old equal.new
+        (IsTrue equal.new ↔ Agree ◌==◌ (grid_of (layout cells.now width height stride))
+        (grid_of (layout other.now other_width other_height other_stride))) }
 {
     let claimed = ClaimedShape::new(width, height, stride);
     let claimed_other = ClaimedShape::new(other_width, other_height, other_stride);
@@ -193,8 +215,11 @@ pub extern "C" fn imgref_u32_equal(
     other_stride: usize,
     equal: &mut bool,
 ) -> u32
-    ensures status { result ≡ code (pair_status (length cells.now) width height stride (length other.now) other_width other_height other_stride) }
-    ensures gives { Gives result equal.old equal.new (IsTrue equal.new ↔ Agree ◌==◌ (grid_of (layout cells.now width height stride)) (grid_of (layout other.now other_width other_height other_stride))) }
+    ensures status { result ≡ code (pair_status (length cells.now) width height stride
+        (length other.now) other_width other_height other_stride) }
+    ensures gives { Gives result equal.old equal.new
+        (IsTrue equal.new ↔ Agree ◌==◌ (grid_of (layout cells.now width height stride))
+        (grid_of (layout other.now other_width other_height other_stride))) }
 {
     let claimed = ClaimedShape::new(width, height, stride);
     let claimed_other = ClaimedShape::new(other_width, other_height, other_stride);
@@ -214,8 +239,11 @@ pub extern "C" fn imgref_u64_equal(
     other_stride: usize,
     equal: &mut bool,
 ) -> u32
-    ensures status { result ≡ code (pair_status (length cells.now) width height stride (length other.now) other_width other_height other_stride) }
-    ensures gives { Gives result equal.old equal.new (IsTrue equal.new ↔ Agree ◌==◌ (grid_of (layout cells.now width height stride)) (grid_of (layout other.now other_width other_height other_stride))) }
+    ensures status { result ≡ code (pair_status (length cells.now) width height stride
+        (length other.now) other_width other_height other_stride) }
+    ensures gives { Gives result equal.old equal.new
+        (IsTrue equal.new ↔ Agree ◌==◌ (grid_of (layout cells.now width height stride))
+        (grid_of (layout other.now other_width other_height other_stride))) }
 {
     let claimed = ClaimedShape::new(width, height, stride);
     let claimed_other = ClaimedShape::new(other_width, other_height, other_stride);

@@ -33,7 +33,8 @@ fn part_of(count: usize, shape: Shape, window: Window) -> (Range<usize>, Shape)
 pub(crate) fn fill_part<T: Copy>(cells: &mut [T], shape: Shape, window: Window, value: T)
     requires fits { Fits (shaped cells.old shape) }
     requires inside { IsInside (shape_width shape) (shape_height shape) (as_window window) }
-    ensures grid { shaped_grid cells.new shape ≡ patch (shaped_grid cells.old shape) window.left window.top (uniform window.width window.height value) }
+    ensures grid { shaped_grid cells.new shape ≡ patch (shaped_grid cells.old shape)
+        window.left window.top (uniform window.width window.height value) }
     ensures outside { SameOutside (shaped cells.old shape) (shaped cells.new shape) }
 {
     let (part, inner) = part_of(cells.len(), shape, window);
@@ -54,7 +55,8 @@ pub(crate) fn copy_part<T: Copy>(
     requires source_fits { Fits (shaped source.now source_shape) }
     requires same_width { window.width ≡ shape_width source_shape }
     requires same_height { window.height ≡ shape_height source_shape }
-    ensures grid { shaped_grid cells.new shape ≡ patch (shaped_grid cells.old shape) window.left window.top (shaped_grid source.now source_shape) }
+    ensures grid { shaped_grid cells.new shape ≡ patch (shaped_grid cells.old shape)
+        window.left window.top (shaped_grid source.now source_shape) }
     ensures outside { SameOutside (shaped cells.old shape) (shaped cells.new shape) }
 {
     let (part, inner) = part_of(cells.len(), shape, window);
@@ -74,7 +76,9 @@ pub(crate) fn mosaic_part<T: Copy>(
     requires inside { IsInside (shape_width shape) (shape_height shape) (as_window window) }
     requires wide { 0 < tile_width }
     requires high { 0 < tile_height }
-    ensures grid { shaped_grid cells.new shape ≡ patch (shaped_grid cells.old shape) window.left window.top (mosaic tile_width tile_height (window_view (shaped_grid cells.old shape) (as_window window))) }
+    ensures grid { shaped_grid cells.new shape
+        ≡ patch (shaped_grid cells.old shape) window.left window.top (mosaic tile_width tile_height
+        (window_view (shaped_grid cells.old shape) (as_window window))) }
     ensures outside { SameOutside (shaped cells.old shape) (shaped cells.new shape) }
 {
     let (part, inner) = part_of(cells.len(), shape, window);

@@ -12,8 +12,10 @@ use imgref::ImgRef;
 // The pixel in column `x` of row `y` goes to `pixel`.
 #[tactic(auto, unfolding(image_model::specs::Grid::grid_of))]
 fn get<T: Copy>(cells: &[T], claimed: ClaimedShape, place: (usize, usize), pixel: &mut T) -> Status
-    ensures status { result ≡ place_status (length cells.now) claimed.width claimed.height claimed.stride place.0 place.1 }
-    ensures gives { Gives (code result) pixel.old pixel.new ((grid_of (layout cells.now claimed.width claimed.height claimed.stride)).pixel place.0 place.1 ≡ Some pixel.new) }
+    ensures status { result ≡ place_status (length cells.now) claimed.width claimed.height
+        claimed.stride place.0 place.1 }
+    ensures gives { Gives (code result) pixel.old pixel.new ((grid_of (layout cells.now
+        claimed.width claimed.height claimed.stride)).pixel place.0 place.1 ≡ Some pixel.new) }
 {
     if !claimed.is_image(cells.len()) {
         return Status::NotAnImage;
@@ -37,7 +39,8 @@ pub extern "C" fn imgref_u8_get(
     pixel: &mut u8,
 ) -> u32
     ensures status { result ≡ code (place_status (length cells.now) width height stride x y) }
-    ensures gives { Gives result pixel.old pixel.new ((grid_of (layout cells.now width height stride)).pixel x y ≡ Some pixel.new) }
+    ensures gives { Gives result pixel.old pixel.new
+        ((grid_of (layout cells.now width height stride)).pixel x y ≡ Some pixel.new) }
 {
     let claimed = ClaimedShape::new(width, height, stride);
     get::<u8>(cells, claimed, (x, y), pixel).code()
@@ -55,7 +58,8 @@ pub extern "C" fn imgref_u16_get(
     pixel: &mut u16,
 ) -> u32
     ensures status { result ≡ code (place_status (length cells.now) width height stride x y) }
-    ensures gives { Gives result pixel.old pixel.new ((grid_of (layout cells.now width height stride)).pixel x y ≡ Some pixel.new) }
+    ensures gives { Gives result pixel.old pixel.new
+        ((grid_of (layout cells.now width height stride)).pixel x y ≡ Some pixel.new) }
 {
     let claimed = ClaimedShape::new(width, height, stride);
     get::<u16>(cells, claimed, (x, y), pixel).code()
@@ -73,7 +77,8 @@ pub extern "C" fn imgref_u32_get(
     pixel: &mut u32,
 ) -> u32
     ensures status { result ≡ code (place_status (length cells.now) width height stride x y) }
-    ensures gives { Gives result pixel.old pixel.new ((grid_of (layout cells.now width height stride)).pixel x y ≡ Some pixel.new) }
+    ensures gives { Gives result pixel.old pixel.new
+        ((grid_of (layout cells.now width height stride)).pixel x y ≡ Some pixel.new) }
 {
     let claimed = ClaimedShape::new(width, height, stride);
     get::<u32>(cells, claimed, (x, y), pixel).code()
@@ -91,7 +96,8 @@ pub extern "C" fn imgref_u64_get(
     pixel: &mut u64,
 ) -> u32
     ensures status { result ≡ code (place_status (length cells.now) width height stride x y) }
-    ensures gives { Gives result pixel.old pixel.new ((grid_of (layout cells.now width height stride)).pixel x y ≡ Some pixel.new) }
+    ensures gives { Gives result pixel.old pixel.new
+        ((grid_of (layout cells.now width height stride)).pixel x y ≡ Some pixel.new) }
 {
     let claimed = ClaimedShape::new(width, height, stride);
     get::<u64>(cells, claimed, (x, y), pixel).code()
@@ -99,8 +105,10 @@ pub extern "C" fn imgref_u64_get(
 
 // The pixel in column `x` of row `y` becomes `value`.
 fn put<T: Copy>(cells: &mut [T], claimed: ClaimedShape, place: (usize, usize), value: T) -> Status
-    ensures status { result ≡ place_status (length cells.old) claimed.width claimed.height claimed.stride place.0 place.1 }
-    ensures writes { Writes (code result) claimed.width claimed.height claimed.stride cells.old cells.new place.0 place.1 (uniform 1 1 value) }
+    ensures status { result ≡ place_status (length cells.old) claimed.width claimed.height
+        claimed.stride place.0 place.1 }
+    ensures writes { Writes (code result) claimed.width claimed.height claimed.stride cells.old
+        cells.new place.0 place.1 (uniform 1 1 value) }
 {
     if !claimed.is_image(cells.len()) {
         return Status::NotAnImage;

@@ -84,7 +84,8 @@ pub extern "C" fn imgref_tile_count(
     count: &mut usize,
 ) -> u32
     ensures status { result ≡ code (tiles_status width height tile_width tile_height) }
-    ensures gives { Gives result count.old count.new (count.new ≡ length (tiles width height tile_width tile_height)) }
+    ensures gives { Gives result count.old count.new
+        (count.new ≡ length (tiles width height tile_width tile_height)) }
 {
     let status = tested(width, height, tile_width, tile_height);
     if status == Status::Done {
@@ -104,7 +105,8 @@ pub extern "C" fn imgref_tile(
     window: &mut ImgrefWindow,
 ) -> u32
     ensures status { result ≡ code (tile_status width height tile_width tile_height number) }
-    ensures gives { Gives result window.old window.new (slice_get (tiles width height tile_width tile_height) number ≡ Some (from_c window.new)) }
+    ensures gives { Gives result window.old window.new
+        (slice_get (tiles width height tile_width tile_height) number ≡ Some (from_c window.new)) }
 {
     let status = tested(width, height, tile_width, tile_height);
     if status != Status::Done {

@@ -12,8 +12,10 @@ use image_shape::Window;
 
 // Every pixel of the window becomes `value`.
 fn fill_window<T: Copy>(cells: &mut [T], claimed: ClaimedShape, window: Window, value: T) -> Status
-    ensures status { result ≡ window_status (length cells.old) claimed.width claimed.height claimed.stride (as_window window) }
-    ensures writes { Writes (code result) claimed.width claimed.height claimed.stride cells.old cells.new window.left window.top (uniform window.width window.height value) }
+    ensures status { result ≡ window_status (length cells.old) claimed.width claimed.height
+        claimed.stride (as_window window) }
+    ensures writes { Writes (code result) claimed.width claimed.height claimed.stride cells.old
+        cells.new window.left window.top (uniform window.width window.height value) }
 {
     if !claimed.is_image(cells.len()) {
         return Status::NotAnImage;
@@ -36,8 +38,10 @@ pub extern "C" fn imgref_u8_fill_window(
     window: ImgrefWindow,
     value: u8,
 ) -> u32
-    ensures status { result ≡ code (window_status (length cells.old) width height stride (from_c window)) }
-    ensures writes { Writes result width height stride cells.old cells.new window.left window.top (uniform window.width window.height value) }
+    ensures status { result
+        ≡ code (window_status (length cells.old) width height stride (from_c window)) }
+    ensures writes { Writes result width height stride cells.old cells.new window.left window.top
+        (uniform window.width window.height value) }
 {
     let claimed = ClaimedShape::new(width, height, stride);
     fill_window::<u8>(cells, claimed, window.as_window(), value).code()
@@ -53,8 +57,10 @@ pub extern "C" fn imgref_u16_fill_window(
     window: ImgrefWindow,
     value: u16,
 ) -> u32
-    ensures status { result ≡ code (window_status (length cells.old) width height stride (from_c window)) }
-    ensures writes { Writes result width height stride cells.old cells.new window.left window.top (uniform window.width window.height value) }
+    ensures status { result
+        ≡ code (window_status (length cells.old) width height stride (from_c window)) }
+    ensures writes { Writes result width height stride cells.old cells.new window.left window.top
+        (uniform window.width window.height value) }
 {
     let claimed = ClaimedShape::new(width, height, stride);
     fill_window::<u16>(cells, claimed, window.as_window(), value).code()
@@ -70,8 +76,10 @@ pub extern "C" fn imgref_u32_fill_window(
     window: ImgrefWindow,
     value: u32,
 ) -> u32
-    ensures status { result ≡ code (window_status (length cells.old) width height stride (from_c window)) }
-    ensures writes { Writes result width height stride cells.old cells.new window.left window.top (uniform window.width window.height value) }
+    ensures status { result
+        ≡ code (window_status (length cells.old) width height stride (from_c window)) }
+    ensures writes { Writes result width height stride cells.old cells.new window.left window.top
+        (uniform window.width window.height value) }
 {
     let claimed = ClaimedShape::new(width, height, stride);
     fill_window::<u32>(cells, claimed, window.as_window(), value).code()
@@ -87,8 +95,10 @@ pub extern "C" fn imgref_u64_fill_window(
     window: ImgrefWindow,
     value: u64,
 ) -> u32
-    ensures status { result ≡ code (window_status (length cells.old) width height stride (from_c window)) }
-    ensures writes { Writes result width height stride cells.old cells.new window.left window.top (uniform window.width window.height value) }
+    ensures status { result
+        ≡ code (window_status (length cells.old) width height stride (from_c window)) }
+    ensures writes { Writes result width height stride cells.old cells.new window.left window.top
+        (uniform window.width window.height value) }
 {
     let claimed = ClaimedShape::new(width, height, stride);
     fill_window::<u64>(cells, claimed, window.as_window(), value).code()
@@ -102,8 +112,11 @@ fn mosaic<T: Copy>(
     tile_width: usize,
     tile_height: usize,
 ) -> Status
-    ensures status { result ≡ mosaic_status (length cells.old) claimed.width claimed.height claimed.stride (as_window window) tile_width tile_height }
-    ensures writes { Writes (code result) claimed.width claimed.height claimed.stride cells.old cells.new window.left window.top (mosaic_of tile_width tile_height (seen claimed.width claimed.height claimed.stride cells.old (as_window window))) }
+    ensures status { result ≡ mosaic_status (length cells.old) claimed.width claimed.height
+        claimed.stride (as_window window) tile_width tile_height }
+    ensures writes { Writes (code result) claimed.width claimed.height claimed.stride
+        cells.old cells.new window.left window.top (mosaic_of tile_width tile_height
+        (seen claimed.width claimed.height claimed.stride cells.old (as_window window))) }
 {
     if !claimed.is_image(cells.len()) {
         return Status::NotAnImage;
@@ -130,8 +143,10 @@ pub extern "C" fn imgref_u8_mosaic(
     tile_width: usize,
     tile_height: usize,
 ) -> u32
-    ensures status { result ≡ code (mosaic_status (length cells.old) width height stride (from_c window) tile_width tile_height) }
-    ensures writes { Writes result width height stride cells.old cells.new window.left window.top (mosaic_of tile_width tile_height (seen width height stride cells.old (from_c window))) }
+    ensures status { result ≡ code (mosaic_status (length cells.old) width height stride
+        (from_c window) tile_width tile_height) }
+    ensures writes { Writes result width height stride cells.old cells.new window.left window.top
+        (mosaic_of tile_width tile_height (seen width height stride cells.old (from_c window))) }
 {
     let claimed = ClaimedShape::new(width, height, stride);
     mosaic::<u8>(cells, claimed, window.as_window(), tile_width, tile_height).code()
@@ -148,8 +163,10 @@ pub extern "C" fn imgref_u16_mosaic(
     tile_width: usize,
     tile_height: usize,
 ) -> u32
-    ensures status { result ≡ code (mosaic_status (length cells.old) width height stride (from_c window) tile_width tile_height) }
-    ensures writes { Writes result width height stride cells.old cells.new window.left window.top (mosaic_of tile_width tile_height (seen width height stride cells.old (from_c window))) }
+    ensures status { result ≡ code (mosaic_status (length cells.old) width height stride
+        (from_c window) tile_width tile_height) }
+    ensures writes { Writes result width height stride cells.old cells.new window.left window.top
+        (mosaic_of tile_width tile_height (seen width height stride cells.old (from_c window))) }
 {
     let claimed = ClaimedShape::new(width, height, stride);
     mosaic::<u16>(cells, claimed, window.as_window(), tile_width, tile_height).code()
@@ -166,8 +183,10 @@ pub extern "C" fn imgref_u32_mosaic(
     tile_width: usize,
     tile_height: usize,
 ) -> u32
-    ensures status { result ≡ code (mosaic_status (length cells.old) width height stride (from_c window) tile_width tile_height) }
-    ensures writes { Writes result width height stride cells.old cells.new window.left window.top (mosaic_of tile_width tile_height (seen width height stride cells.old (from_c window))) }
+    ensures status { result ≡ code (mosaic_status (length cells.old) width height stride
+        (from_c window) tile_width tile_height) }
+    ensures writes { Writes result width height stride cells.old cells.new window.left window.top
+        (mosaic_of tile_width tile_height (seen width height stride cells.old (from_c window))) }
 {
     let claimed = ClaimedShape::new(width, height, stride);
     mosaic::<u32>(cells, claimed, window.as_window(), tile_width, tile_height).code()
@@ -184,8 +203,10 @@ pub extern "C" fn imgref_u64_mosaic(
     tile_width: usize,
     tile_height: usize,
 ) -> u32
-    ensures status { result ≡ code (mosaic_status (length cells.old) width height stride (from_c window) tile_width tile_height) }
-    ensures writes { Writes result width height stride cells.old cells.new window.left window.top (mosaic_of tile_width tile_height (seen width height stride cells.old (from_c window))) }
+    ensures status { result ≡ code (mosaic_status (length cells.old) width height stride
+        (from_c window) tile_width tile_height) }
+    ensures writes { Writes result width height stride cells.old cells.new window.left window.top
+        (mosaic_of tile_width tile_height (seen width height stride cells.old (from_c window))) }
 {
     let claimed = ClaimedShape::new(width, height, stride);
     mosaic::<u64>(cells, claimed, window.as_window(), tile_width, tile_height).code()
@@ -193,8 +214,11 @@ pub extern "C" fn imgref_u64_mosaic(
 
 // The window `to` gets the pixels that the window `from` had, overlapping or not.
 fn move_window<T: Copy>(cells: &mut [T], claimed: ClaimedShape, from: Window, to: Window) -> Status
-    ensures status { result ≡ move_status (length cells.old) claimed.width claimed.height claimed.stride (as_window from) (as_window to) }
-    ensures writes { Writes (code result) claimed.width claimed.height claimed.stride cells.old cells.new to.left to.top (seen claimed.width claimed.height claimed.stride cells.old (as_window from)) }
+    ensures status { result ≡ move_status (length cells.old) claimed.width claimed.height
+        claimed.stride (as_window from) (as_window to) }
+    ensures writes { Writes (code result) claimed.width claimed.height
+        claimed.stride cells.old cells.new to.left to.top
+        (seen claimed.width claimed.height claimed.stride cells.old (as_window from)) }
 {
     if !claimed.is_image(cells.len()) {
         return Status::NotAnImage;
@@ -220,8 +244,10 @@ pub extern "C" fn imgref_u8_move_window(
     from: ImgrefWindow,
     to: ImgrefWindow,
 ) -> u32
-    ensures status { result ≡ code (move_status (length cells.old) width height stride (from_c from) (from_c to)) }
-    ensures writes { Writes result width height stride cells.old cells.new to.left to.top (seen width height stride cells.old (from_c from)) }
+    ensures status { result
+        ≡ code (move_status (length cells.old) width height stride (from_c from) (from_c to)) }
+    ensures writes { Writes result width height stride cells.old cells.new to.left to.top
+        (seen width height stride cells.old (from_c from)) }
 {
     let claimed = ClaimedShape::new(width, height, stride);
     move_window::<u8>(cells, claimed, from.as_window(), to.as_window()).code()
@@ -237,8 +263,10 @@ pub extern "C" fn imgref_u16_move_window(
     from: ImgrefWindow,
     to: ImgrefWindow,
 ) -> u32
-    ensures status { result ≡ code (move_status (length cells.old) width height stride (from_c from) (from_c to)) }
-    ensures writes { Writes result width height stride cells.old cells.new to.left to.top (seen width height stride cells.old (from_c from)) }
+    ensures status { result
+        ≡ code (move_status (length cells.old) width height stride (from_c from) (from_c to)) }
+    ensures writes { Writes result width height stride cells.old cells.new to.left to.top
+        (seen width height stride cells.old (from_c from)) }
 {
     let claimed = ClaimedShape::new(width, height, stride);
     move_window::<u16>(cells, claimed, from.as_window(), to.as_window()).code()
@@ -254,8 +282,10 @@ pub extern "C" fn imgref_u32_move_window(
     from: ImgrefWindow,
     to: ImgrefWindow,
 ) -> u32
-    ensures status { result ≡ code (move_status (length cells.old) width height stride (from_c from) (from_c to)) }
-    ensures writes { Writes result width height stride cells.old cells.new to.left to.top (seen width height stride cells.old (from_c from)) }
+    ensures status { result
+        ≡ code (move_status (length cells.old) width height stride (from_c from) (from_c to)) }
+    ensures writes { Writes result width height stride cells.old cells.new to.left to.top
+        (seen width height stride cells.old (from_c from)) }
 {
     let claimed = ClaimedShape::new(width, height, stride);
     move_window::<u32>(cells, claimed, from.as_window(), to.as_window()).code()
@@ -271,8 +301,10 @@ pub extern "C" fn imgref_u64_move_window(
     from: ImgrefWindow,
     to: ImgrefWindow,
 ) -> u32
-    ensures status { result ≡ code (move_status (length cells.old) width height stride (from_c from) (from_c to)) }
-    ensures writes { Writes result width height stride cells.old cells.new to.left to.top (seen width height stride cells.old (from_c from)) }
+    ensures status { result
+        ≡ code (move_status (length cells.old) width height stride (from_c from) (from_c to)) }
+    ensures writes { Writes result width height stride cells.old cells.new to.left to.top
+        (seen width height stride cells.old (from_c from)) }
 {
     let claimed = ClaimedShape::new(width, height, stride);
     move_window::<u64>(cells, claimed, from.as_window(), to.as_window()).code()

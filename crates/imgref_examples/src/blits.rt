@@ -35,7 +35,8 @@ pub fn copy_but_one<T: Copy>(
 pub fn scroll_up<T: Copy>(image: &mut ImgVec<T>)
     requires fits { Fits (vec_layout image.old) }
     requires high { 1 ≤ height_of image.old }
-    ensures grid { vec_grid image.new ≡ patch (vec_grid image.old) 0 0 (view (vec_grid image.old) 0 1 (width_of image.old) (height_of image.old - 1)) }
+    ensures grid { vec_grid image.new ≡ patch (vec_grid image.old) 0 0
+        (view (vec_grid image.old) 0 1 (width_of image.old) (height_of image.old - 1)) }
     ensures outside { SameOutside (vec_layout image.old) (vec_layout image.new) }
 {
     let width = image.width();
@@ -67,8 +68,10 @@ pub fn copy_across<T: Copy>(
     requires fits { Fits (vec_layout image.old) }
     requires source_fits { Fits (vec_layout source.now) }
     requires from_inside { IsInside (width_of source.now) (height_of source.now) (as_window from) }
-    requires inside { IsInside (width_of image.old) (height_of image.old) (window left top from.width from.height) }
-    ensures grid { vec_grid image.new ≡ patch (vec_grid image.old) left top (window_view (vec_grid source.now) (as_window from)) }
+    requires inside { IsInside (width_of image.old) (height_of image.old)
+        (window left top from.width from.height) }
+    ensures grid { vec_grid image.new
+        ≡ patch (vec_grid image.old) left top (window_view (vec_grid source.now) (as_window from)) }
     ensures outside { SameOutside (vec_layout image.old) (vec_layout image.new) }
 {
     let seen = source.window(from);

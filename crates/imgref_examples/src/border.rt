@@ -12,7 +12,11 @@ pub fn draw_border(image: &mut ImgVec<u8>, w: Window, value: u8)
     requires inside { IsInside (width_of image.old) (height_of image.old) (as_window w) }
     requires wide { 0 < w.width }
     requires high { 0 < w.height }
-    ensures grid { vec_grid image.new ≡ patch (patch (patch (patch (vec_grid image.old) w.left w.top (uniform w.width 1 value)) w.left (w.top + w.height - 1) (uniform w.width 1 value)) w.left w.top (uniform 1 w.height value)) (w.left + w.width - 1) w.top (uniform 1 w.height value) }
+    ensures grid { vec_grid image.new ≡ patch (patch (patch (patch (vec_grid image.old)
+        w.left w.top (uniform w.width 1 value))
+        w.left (w.top + w.height - 1) (uniform w.width 1 value))
+        w.left w.top (uniform 1 w.height value))
+        (w.left + w.width - 1) w.top (uniform 1 w.height value) }
     ensures outside { SameOutside (vec_layout image.old) (vec_layout image.new) }
 {
     image.fill_window(w.left, w.top, w.width, 1, value);

@@ -14,9 +14,11 @@ pub fn crop_packed(
 ) -> Result<ImgVec<u8>, AllocError>
     requires fits { Fits (ref_layout image) }
     requires inside { IsInside (width_of image) (height_of image) (as_window place) }
-    ensures grid { IfOk result (λ copy. vec_grid copy ≡ window_view (ref_grid image.entry) (as_window place)) }
+    ensures grid { IfOk result
+        (λ copy. vec_grid copy ≡ window_view (ref_grid image.entry) (as_window place)) }
     ensures stride { IfOk result (λ copy. stride_of copy ≡ max place.width 1) }
-    ensures packed { IfOk result (λ copy. length (vec_layout copy).cells ≡ place.width * place.height) }
+    ensures packed { IfOk result
+        (λ copy. length (vec_layout copy).cells ≡ place.width * place.height) }
 {
     let cells = vec![in alloc; 0u8; place.width * place.height]?;
     let mut copy = ImgVec::new_stride(cells, place.width, place.height, place.width.max(1));
@@ -31,8 +33,10 @@ pub fn crop_copy(
     place: Window,
 ) -> Result<Option<Vec<u8>>, AllocError>
     requires { Fits (ref_layout image) }
-    ensures inside { IfOk result (λ copy. IsSome copy ↔ IsInside (width_of image.entry) (height_of image.entry) (as_window place)) }
-    ensures pixels { IfOk result (λ copy. IfSome copy (λ cells. cells.items ≡ grid_pixels (window_view (ref_grid image.entry) (as_window place)))) }
+    ensures inside { IfOk result (λ copy. IsSome copy
+        ↔ IsInside (width_of image.entry) (height_of image.entry) (as_window place)) }
+    ensures pixels { IfOk result (λ copy. IfSome copy (λ cells.
+        cells.items ≡ grid_pixels (window_view (ref_grid image.entry) (as_window place)))) }
 {
     if !image.shape().has_window(place) {
         return Ok(None);

@@ -41,9 +41,12 @@ pub fn luma_plane(
     height: usize,
     stride: usize,
 ) -> Result<ImgVec<u8>, FrameError>
-    ensures taken { IsOk result ↔ ((width < 2 ^ 32) × (height < 2 ^ 32) × (1 ≤ stride) × (width ≤ stride) × Fits (layout frame.items width height stride)) }
-    ensures plane { IfOk result (λ plane. vec_layout plane ≡ layout frame.items width height stride) }
-    ensures fault { IfErr result (λ fault. frame_fault frame.items width height stride ≡ Some fault) }
+    ensures taken { IsOk result ↔ ((width < 2 ^ 32) × (height < 2 ^ 32) × (1 ≤ stride)
+        × (width ≤ stride) × Fits (layout frame.items width height stride)) }
+    ensures plane { IfOk result
+        (λ plane. vec_layout plane ≡ layout frame.items width height stride) }
+    ensures fault { IfErr result
+        (λ fault. frame_fault frame.items width height stride ≡ Some fault) }
 {
     if width > u32::MAX as usize || height > u32::MAX as usize {
         return Err(FrameError::TooLarge);

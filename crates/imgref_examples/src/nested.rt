@@ -11,7 +11,8 @@ pub fn greatest_in(image: ImgRef<'_, u8>, outer: Window, inner: Window) -> Optio
     requires fits { Fits (ref_layout image) }
     requires outer_inside { IsInside (width_of image) (height_of image) (as_window outer) }
     requires inner_inside { IsInside outer.width outer.height (as_window inner) }
-    ensures { result ≡ reduce max (grid_pixels (window_view (window_view (ref_grid image.entry) (as_window outer)) (as_window inner))) }
+    ensures { result ≡ reduce max (grid_pixels
+        (window_view (window_view (ref_grid image.entry) (as_window outer)) (as_window inner))) }
 {
     let part = image.window(outer).window(inner);
     part.pixels().max()

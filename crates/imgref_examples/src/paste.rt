@@ -39,7 +39,9 @@ fn split(at: i32) -> (usize, usize)
 pub fn paste_at(image: &mut ImgVec<u8>, sprite: ImgRef<'_, u8>, x: i32, y: i32)
     requires fits { Fits (vec_layout image.old) }
     requires sprite_fits { Fits (ref_layout sprite) }
-    ensures grid { vec_grid image.new ≡ patch (vec_grid image.old) (start x) (start y) (view (ref_grid sprite.entry) (skipped x) (skipped y) (width_of sprite.entry - skipped x) (height_of sprite.entry - skipped y)) }
+    ensures grid { vec_grid image.new
+        ≡ patch (vec_grid image.old) (start x) (start y) (view (ref_grid sprite.entry) (skipped x)
+        (skipped y) (width_of sprite.entry - skipped x) (height_of sprite.entry - skipped y)) }
     ensures outside { SameOutside (vec_layout image.old) (vec_layout image.new) }
 {
     let (left, skip_x) = split(x);

@@ -50,7 +50,9 @@ fn cover_first<'a, C: AsMutSlice>(image: &'a mut Img<C>, count: usize, value: C:
 where
     C::Item: Copy + 'a,
     requires fits { Fits (layout_by C.cells image.old) }
-    ensures { image.new ≡ with_all C.cells C.with_cells image.old (first_covered count (marks_of (width_of image.old) (height_of image.old) (stride_of image.old)) value (C.cells (buf_of image.old))) }
+    ensures { image.new ≡ with_all C.cells C.with_cells image.old (first_covered count
+        (marks_of (width_of image.old) (height_of image.old) (stride_of image.old)) value
+        (C.cells (buf_of image.old))) }
 {
     let mut pixels = image.exact_pixels_mut();
     write_next(&mut pixels, count, value);

@@ -17,7 +17,8 @@ pub fn invert(image: &mut ImgVec<u8>)
 /// Every pixel below `limit` becomes 0, and every other one 255.
 pub fn threshold(image: &mut ImgVec<u8>, limit: u8)
     requires fits { Fits (vec_layout image.old) }
-    ensures grid { vec_grid image.new ≡ mapped (λ p. if nat_lt p limit then 0 else 255) (vec_grid image.old) }
+    ensures grid { vec_grid image.new
+        ≡ mapped (λ p. if nat_lt p limit then 0 else 255) (vec_grid image.old) }
     ensures outside { SameOutside (vec_layout image.old) (vec_layout image.new) }
 {
     image.map_pixels(|p| if p < limit { 0 } else { 255 });

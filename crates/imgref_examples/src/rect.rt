@@ -9,7 +9,8 @@ use imgref::ImgVec;
 #[tactic(auto, using(image_model::proofs::Patches::patches))]
 pub fn draw_rect(image: &mut ImgVec<u8>, x: usize, y: usize, width: usize, height: usize, value: u8)
     requires { Fits (vec_layout image.old) }
-    ensures grid { vec_grid image.new ≡ patch (vec_grid image.old) x y (uniform width height value) }
+    ensures grid { vec_grid image.new
+        ≡ patch (vec_grid image.old) x y (uniform width height value) }
     ensures outside { SameOutside (vec_layout image.old) (vec_layout image.new) }
 {
     if x >= image.width() || y >= image.height() {

@@ -26,7 +26,8 @@ where
     C::Item: Copy + 'a,
     requires fits { Fits (layout_by C.cells image.old) }
     requires below { y < height_of image.old }
-    ensures grid { grid_by C.cells image.new ≡ patch (grid_by C.cells image.old) 0 y (uniform (width_of image.old) 1 value) }
+    ensures grid { grid_by C.cells image.new
+        ≡ patch (grid_by C.cells image.old) 0 y (uniform (width_of image.old) 1 value) }
     ensures outside { SameOutside (layout_by C.cells image.old) (layout_by C.cells image.new) }
 {
     let _width = image.width();
@@ -38,7 +39,8 @@ fn cover_last<'a, C: AsMutSlice>(image: &'a mut Img<C>, value: C::Item)
 where
     C::Item: Copy + 'a,
     requires fits { Fits (layout_by C.cells image.old) }
-    ensures { image.new ≡ with_all C.cells C.with_cells image.old (with_last_row (layout_by C.cells image.old) value) }
+    ensures { image.new ≡ with_all C.cells C.with_cells image.old
+        (with_last_row (layout_by C.cells image.old) value) }
 {
     let mut rows = image.rows_mut();
     if let Some(row) = rows.next_back() {
@@ -53,7 +55,8 @@ pub fn fill_last_row<'a, C: AsMutSlice>(image: &'a mut Img<C>, value: C::Item)
 where
     C::Item: Copy + 'a,
     requires fits { Fits (layout_by C.cells image.old) }
-    ensures grid { grid_by C.cells image.new ≡ patch (grid_by C.cells image.old) 0 (height_of image.old - 1) (uniform (width_of image.old) 1 value) }
+    ensures grid { grid_by C.cells image.new ≡ patch (grid_by C.cells image.old) 0
+        (height_of image.old - 1) (uniform (width_of image.old) 1 value) }
     ensures outside { SameOutside (layout_by C.cells image.old) (layout_by C.cells image.new) }
     ensures container { OnlyCellsChange C.cells C.with_cells image.old image.new }
 {

@@ -45,7 +45,8 @@ fn darken(image: &mut ImgVec<u8>, window: Window)
 #[tactic(auto, using(image_model::proofs::Tiles::all_inside))]
 pub fn darken_tiles(image: &mut ImgVec<u8>)
     requires { Fits (vec_layout image.old) }
-    ensures grid { vec_grid image.new ≡ fold darkened (vec_grid image.old) (tiles (width_of image.old) (height_of image.old) 8 8) }
+    ensures grid { vec_grid image.new ≡ fold darkened (vec_grid image.old)
+        (tiles (width_of image.old) (height_of image.old) 8 8) }
     ensures outside { SameOutside (vec_layout image.old) (vec_layout image.new) }
 {
     for window in Tiling::new(image.width(), image.height(), 8, 8) {

@@ -16,7 +16,8 @@ pub fn put_pixel<T: Copy>(cells: &mut [T], shape: Shape, x: usize, y: usize, val
     requires fits { Fits (shaped cells.old shape) }
     requires column { x < shape_width shape }
     requires line { y < shape_height shape }
-    ensures grid { shaped_grid cells.new shape ≡ patch (shaped_grid cells.old shape) x y (uniform 1 1 value) }
+    ensures grid { shaped_grid cells.new shape
+        ≡ patch (shaped_grid cells.old shape) x y (uniform 1 1 value) }
     ensures outside { SameOutside (shaped cells.old shape) (shaped cells.new shape) }
 {
     let mut image = ImgRefMut::from_parts(cells, shape);
@@ -30,7 +31,8 @@ fn put_inside<T: Copy>(cells: &mut [T], shape: Shape, window: Window, x: usize, 
     requires inside { IsInside (shape_width shape) (shape_height shape) (as_window window) }
     requires column { x < window.width }
     requires line { y < window.height }
-    ensures grid { shaped_grid cells.new shape ≡ patch (shaped_grid cells.old shape) (window.left + x) (window.top + y) (uniform 1 1 value) }
+    ensures grid { shaped_grid cells.new shape ≡ patch (shaped_grid cells.old shape)
+        (window.left + x) (window.top + y) (uniform 1 1 value) }
     ensures outside { SameOutside (shaped cells.old shape) (shaped cells.new shape) }
 {
     let mut image = ImgRefMut::from_parts(cells, shape);
@@ -57,11 +59,15 @@ pub fn put_nested<'a, C: AsMutSlice>(image: &'a mut Img<C>, place: NestedPlace, 
 where
     C::Item: Copy + 'a,
     requires fits { Fits (layout_by C.cells image.old) }
-    requires first_inside { IsInside (width_of image.old) (height_of image.old) (as_window place.first) }
-    requires second_inside { IsInside place.first.width place.first.height (as_window place.second) }
+    requires first_inside { IsInside (width_of image.old) (height_of image.old)
+        (as_window place.first) }
+    requires second_inside { IsInside place.first.width place.first.height
+        (as_window place.second) }
     requires column { place.x < place.second.width }
     requires line { place.y < place.second.height }
-    ensures grid { grid_by C.cells image.new ≡ patch (grid_by C.cells image.old) (place.first.left + (place.second.left + place.x)) (place.first.top + (place.second.top + place.y)) (uniform 1 1 value) }
+    ensures grid { grid_by C.cells image.new
+        ≡ patch (grid_by C.cells image.old) (place.first.left + (place.second.left + place.x))
+        (place.first.top + (place.second.top + place.y)) (uniform 1 1 value) }
     ensures outside { SameOutside (layout_by C.cells image.old) (layout_by C.cells image.new) }
     ensures container { OnlyCellsChange C.cells C.with_cells image.old image.new }
 {
@@ -72,11 +78,15 @@ where
 /// The same of the image that these cells are.
 pub fn put_in_cells<T: Copy>(cells: &mut [T], shape: Shape, place: NestedPlace, value: T)
     requires fits { Fits (shaped cells.old shape) }
-    requires first_inside { IsInside (shape_width shape) (shape_height shape) (as_window place.first) }
-    requires second_inside { IsInside place.first.width place.first.height (as_window place.second) }
+    requires first_inside { IsInside (shape_width shape) (shape_height shape)
+        (as_window place.first) }
+    requires second_inside { IsInside place.first.width place.first.height
+        (as_window place.second) }
     requires column { place.x < place.second.width }
     requires line { place.y < place.second.height }
-    ensures grid { shaped_grid cells.new shape ≡ patch (shaped_grid cells.old shape) (place.first.left + (place.second.left + place.x)) (place.first.top + (place.second.top + place.y)) (uniform 1 1 value) }
+    ensures grid { shaped_grid cells.new shape
+        ≡ patch (shaped_grid cells.old shape) (place.first.left + (place.second.left + place.x))
+        (place.first.top + (place.second.top + place.y)) (uniform 1 1 value) }
     ensures outside { SameOutside (shaped cells.old shape) (shaped cells.new shape) }
 {
     let mut image = ImgRefMut::from_parts(cells, shape);

@@ -21,8 +21,10 @@ fn write_piece<W: Write>(
     cells: &[u8],
 ) -> Result<(), WriteFailed>
     requires { failures_of writer.old < u64.MAX }
-    ensures whole { OnOk result (Appends (W.contents (device_of writer.old)) (W.contents (device_of writer.new)) (head.now ++ cells.now)) }
-    ensures beginning { OnErr result (AppendsBeginning (W.contents (device_of writer.old)) (W.contents (device_of writer.new)) (head.now ++ cells.now)) }
+    ensures whole { OnOk result (Appends (W.contents (device_of writer.old))
+        (W.contents (device_of writer.new)) (head.now ++ cells.now)) }
+    ensures beginning { OnErr result (AppendsBeginning (W.contents (device_of writer.old))
+        (W.contents (device_of writer.new)) (head.now ++ cells.now)) }
     ensures count { failures_of writer.new ≡ failures_of writer.old + errors result }
 {
     match write_all(writer, head) {
@@ -42,8 +44,12 @@ fn write_made<W: Write>(
     requires room { plan_room plan.now ≤ length cells.now }
     requires other_room { plan_other_room plan.now ≤ length other.now }
     requires counts { failures_of writer.old < u64.MAX }
-    ensures whole { OnOk result (Appends (W.contents (device_of writer.old)) (W.contents (device_of writer.new)) (head.now ++ take (plan_len plan.now) (if plan_is_resized plan.now then other.now else cells.now))) }
-    ensures beginning { OnErr result (AppendsBeginning (W.contents (device_of writer.old)) (W.contents (device_of writer.new)) (head.now ++ take (plan_len plan.now) (if plan_is_resized plan.now then other.now else cells.now))) }
+    ensures whole { OnOk result
+        (Appends (W.contents (device_of writer.old)) (W.contents (device_of writer.new)) (head.now
+        ++ take (plan_len plan.now) (if plan_is_resized plan.now then other.now else cells.now))) }
+    ensures beginning { OnErr result (AppendsBeginning
+        (W.contents (device_of writer.old)) (W.contents (device_of writer.new)) (head.now
+        ++ take (plan_len plan.now) (if plan_is_resized plan.now then other.now else cells.now))) }
     ensures count { failures_of writer.new ≡ failures_of writer.old + errors result }
 {
     let len = plan.len();
@@ -69,9 +75,13 @@ pub(crate) fn pass_cells<R: Read, W: Write>(
     requires other_room { plan_other_room plan.now ≤ length other.old }
     requires reader_counts { failures_of reader.old < u64.MAX }
     requires writer_counts { failures_of writer.old < u64.MAX }
-    ensures passes { PassesCells result (with_head head.now (recipe_of plan.now)) number (R.remaining (device_of reader.old)) (R.remaining (device_of reader.new)) (W.contents (device_of writer.old)) (W.contents (device_of writer.new)) }
-    ensures reader_count { failures_of reader.new ≡ failures_of reader.old + reader_failures result }
-    ensures writer_count { failures_of writer.new ≡ failures_of writer.old + writer_failures result }
+    ensures passes { PassesCells result (with_head head.now (recipe_of plan.now))
+        number (R.remaining (device_of reader.old)) (R.remaining (device_of reader.new))
+        (W.contents (device_of writer.old)) (W.contents (device_of writer.new)) }
+    ensures reader_count { failures_of reader.new
+        ≡ failures_of reader.old + reader_failures result }
+    ensures writer_count { failures_of writer.new
+        ≡ failures_of writer.old + writer_failures result }
 {
     let size = plan.source_len();
     match fill(reader, &mut cells[..size]) {

@@ -41,7 +41,8 @@ pub(crate) enum Begin {
 fn read_word<R: Read>(reader: &mut Counted<R>, word: &mut [u8]) -> Result<Begin, RunFault>
     requires room { length word.old ≡ 6 }
     requires counts { failures_of reader.old < u64.MAX }
-    ensures found { WordIs result word.new (R.remaining (device_of reader.old)) (R.remaining (device_of reader.new)) }
+    ensures found { WordIs result word.new (R.remaining (device_of reader.old))
+        (R.remaining (device_of reader.new)) }
     ensures count { failures_of reader.new ≡ failures_of reader.old + reader_failures result }
 {
     match fill(reader, word) {
@@ -66,7 +67,8 @@ fn read_word<R: Read>(reader: &mut Counted<R>, word: &mut [u8]) -> Result<Begin,
 fn read_frame_line<R: Read>(reader: &mut Counted<R>, line: &mut [u8]) -> Result<Found, RunFault>
     requires room { length line.old ≡ 256 }
     requires counts { failures_of reader.old < u64.MAX }
-    ensures found { LineIs result line.new (R.remaining (device_of reader.old)) (R.remaining (device_of reader.new)) }
+    ensures found { LineIs result line.new (R.remaining (device_of reader.old))
+        (R.remaining (device_of reader.new)) }
     ensures count { failures_of reader.new ≡ failures_of reader.old + reader_failures result }
 {
     let (word, rest) = line.split_at_mut(6);
@@ -98,9 +100,13 @@ pub(crate) fn pass_frames<R: Read, W: Write>(
     requires other_room { plan_other_room plan.now ≤ length other.old }
     requires reader_counts { failures_of reader.old < u64.MAX }
     requires writer_counts { failures_of writer.old < u64.MAX }
-    ensures passes { PassesFrames result (FrameHead (recipe_of plan.now)) (R.remaining (device_of reader.old)) (R.remaining (device_of reader.new)) (W.contents (device_of writer.old)) (W.contents (device_of writer.new)) }
-    ensures reader_count { failures_of reader.new ≡ failures_of reader.old + reader_failures result }
-    ensures writer_count { failures_of writer.new ≡ failures_of writer.old + writer_failures result }
+    ensures passes { PassesFrames result (FrameHead (recipe_of plan.now))
+        (R.remaining (device_of reader.old)) (R.remaining (device_of reader.new))
+        (W.contents (device_of writer.old)) (W.contents (device_of writer.new)) }
+    ensures reader_count { failures_of reader.new
+        ≡ failures_of reader.old + reader_failures result }
+    ensures writer_count { failures_of writer.new
+        ≡ failures_of writer.old + writer_failures result }
 {
     for number in 0..u64::MAX {
         let len = match read_frame_line(reader, line) {

@@ -18,7 +18,8 @@ use std::io::{Read, Write};
 // Reads the rest of a head, whose first letter was read; answers `None` where it is none.
 fn read_head<R: Read>(reader: &mut Counted<R>) -> Result<Option<Picture>, RunFault>
     requires counts { failures_of reader.old < u64.MAX }
-    ensures head { HeadIs result (R.remaining (device_of reader.old)) (R.remaining (device_of reader.new)) }
+    ensures head { HeadIs result (R.remaining (device_of reader.old))
+        (R.remaining (device_of reader.new)) }
     ensures count { failures_of reader.new ≡ failures_of reader.old + reader_failures result }
 {
     heads_end_themselves();
@@ -60,9 +61,13 @@ fn pass_picture<R: Read, W: Write>(
 ) -> Result<(), RunFault>
     requires reader_counts { failures_of reader.old < u64.MAX }
     requires writer_counts { failures_of writer.old < u64.MAX }
-    ensures passes { PassesPicture result (edits_of request.entry) number (behind_letter (R.remaining (device_of reader.old))) (R.remaining (device_of reader.new)) (W.contents (device_of writer.old)) (W.contents (device_of writer.new)) }
-    ensures reader_count { failures_of reader.new ≡ failures_of reader.old + reader_failures result }
-    ensures writer_count { failures_of writer.new ≡ failures_of writer.old + writer_failures result }
+    ensures passes { PassesPicture result (edits_of request.entry) number
+        (behind_letter (R.remaining (device_of reader.old))) (R.remaining (device_of reader.new))
+        (W.contents (device_of writer.old)) (W.contents (device_of writer.new)) }
+    ensures reader_count { failures_of reader.new
+        ≡ failures_of reader.old + reader_failures result }
+    ensures writer_count { failures_of writer.new
+        ≡ failures_of writer.old + writer_failures result }
 {
     heads_end_themselves();
     let alloc = request.alloc;
@@ -98,9 +103,13 @@ pub(crate) fn pass_pictures<R: Read, W: Write>(
 ) -> Result<u64, RunFault>
     requires reader_counts { failures_of reader.old < u64.MAX }
     requires writer_counts { failures_of writer.old < u64.MAX }
-    ensures passes { PassesPictures result (edits_of request.entry) (behind_letter (R.remaining (device_of reader.old))) (R.remaining (device_of reader.new)) (W.contents (device_of writer.old)) (W.contents (device_of writer.new)) }
-    ensures reader_count { failures_of reader.new ≡ failures_of reader.old + reader_failures result }
-    ensures writer_count { failures_of writer.new ≡ failures_of writer.old + writer_failures result }
+    ensures passes { PassesPictures result (edits_of request.entry)
+        (behind_letter (R.remaining (device_of reader.old))) (R.remaining (device_of reader.new))
+        (W.contents (device_of writer.old)) (W.contents (device_of writer.new)) }
+    ensures reader_count { failures_of reader.new
+        ≡ failures_of reader.old + reader_failures result }
+    ensures writer_count { failures_of writer.new
+        ≡ failures_of writer.old + writer_failures result }
 {
     heads_end_themselves();
     let mut cells = Vec::new(request.alloc);

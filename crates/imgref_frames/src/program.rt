@@ -31,9 +31,13 @@ fn run_video<R: Read, W: Write>(
     requires kind { begins_picture (line.now ++ 10 ∷ []) ≡ false }
     requires reader_counts { failures_of reader.old < u64.MAX }
     requires writer_counts { failures_of writer.old < u64.MAX }
-    ensures follows { Follows result (edits_of request.entry) (line.now ++ 10 ∷ []) (R.remaining (device_of reader.old)) (W.contents (device_of writer.old)) (W.contents (device_of writer.new)) }
-    ensures reader_count { failures_of reader.new ≡ failures_of reader.old + reader_failures result }
-    ensures writer_count { failures_of writer.new ≡ failures_of writer.old + writer_failures result }
+    ensures follows { Follows result (edits_of request.entry) (line.now ++ 10 ∷ [])
+        (R.remaining (device_of reader.old)) (W.contents (device_of writer.old))
+        (W.contents (device_of writer.new)) }
+    ensures reader_count { failures_of reader.new
+        ≡ failures_of reader.old + reader_failures result }
+    ensures writer_count { failures_of writer.new
+        ≡ failures_of writer.old + writer_failures result }
 {
     let alloc = request.alloc;
     let Some(format) = read_format(line) else {
@@ -73,9 +77,13 @@ fn carry_video<R: Read, W: Write>(
     requires kind { first ≢ 80 }
     requires reader_counts { failures_of reader.old < u64.MAX }
     requires writer_counts { failures_of writer.old < u64.MAX }
-    ensures follows { Follows result (edits_of request.entry) (first ∷ []) (R.remaining (device_of reader.old)) (W.contents (device_of writer.old)) (W.contents (device_of writer.new)) }
-    ensures reader_count { failures_of reader.new ≡ failures_of reader.old + reader_failures result }
-    ensures writer_count { failures_of writer.new ≡ failures_of writer.old + writer_failures result }
+    ensures follows { Follows result (edits_of request.entry) (first ∷ [])
+        (R.remaining (device_of reader.old)) (W.contents (device_of writer.old))
+        (W.contents (device_of writer.new)) }
+    ensures reader_count { failures_of reader.new
+        ≡ failures_of reader.old + reader_failures result }
+    ensures writer_count { failures_of writer.new
+        ≡ failures_of writer.old + writer_failures result }
 {
     if first == b'\n' {
         return Err(RunFault::Header);
@@ -105,14 +113,18 @@ pub fn run<R: Read, W: Write>(
 
     // On Ok the video that the edits make of the input; on a fault nothing, whole frames, or a
     // beginning of that video, as the fault says.
-    ensures written { Writes result (edits steps.now framing) (R.remaining (device_of reader.old)) (W.contents (device_of writer.old)) (W.contents (device_of writer.new)) }
+    ensures written { Writes result (edits steps.now framing) (R.remaining (device_of reader.old))
+        (W.contents (device_of writer.old)) (W.contents (device_of writer.new)) }
 
     // Each count grew exactly where the answer is that device's fault.
-    ensures reader_count { failures_of reader.new ≡ failures_of reader.old + reader_failures result }
-    ensures writer_count { failures_of writer.new ≡ failures_of writer.old + writer_failures result }
+    ensures reader_count { failures_of reader.new
+        ≡ failures_of reader.old + reader_failures result }
+    ensures writer_count { failures_of writer.new
+        ≡ failures_of writer.old + writer_failures result }
 
     // Inputs that differ only in what a fill or a mosaic hides can't be told from one another.
-    ensures hiding { Hides result (edits steps.now framing) (R.remaining (device_of reader.old)) (W.contents (device_of writer.old)) (W.contents (device_of writer.new)) }
+    ensures hiding { Hides result (edits steps.now framing) (R.remaining (device_of reader.old))
+        (W.contents (device_of writer.old)) (W.contents (device_of writer.new)) }
 
     // So the output is the only one of its input.
     ensures one_output { OneOutput }

@@ -13,8 +13,10 @@ use imgref::{ImgVec, Window};
 
 /// Copies a window of one image over a window of its size in another image.
 fn copy_over<T: Copy>(image: &mut ImgVec<T>, to: Window, source: &ImgVec<T>, from: Window)
-    requires { MayCopy (vec_layout image.old) (as_window to) (vec_layout source.now) (as_window from) }
-    ensures grid { vec_grid image.new ≡ patch (vec_grid image.old) to.left to.top (window_view (vec_grid source.now) (as_window from)) }
+    requires { MayCopy (vec_layout image.old) (as_window to)
+        (vec_layout source.now) (as_window from) }
+    ensures grid { vec_grid image.new ≡ patch (vec_grid image.old) to.left to.top
+        (window_view (vec_grid source.now) (as_window from)) }
     ensures outside { SameOutside (vec_layout image.old) (vec_layout image.new) }
     ensures fits { Fits (vec_layout image.new) }
 {
@@ -38,7 +40,8 @@ pub(crate) fn copy_between<T: Copy>(
     requires source_inside { IsInsideOf images.old source (as_window from) }
     requires same_width { from.width ≡ to.width }
     requires same_height { from.height ≡ to.height }
-    ensures { ShowsCopy target to.left to.top (window_view (grid_at (grids_of images.old) source) (as_window from)) (layouts_of images.old) (layouts_of images.new) }
+    ensures { ShowsCopy target to.left to.top (window_view (grid_at (grids_of images.old) source)
+        (as_window from)) (layouts_of images.old) (layouts_of images.new) }
 {
     if source == target {
         images[target].move_inside(from, to.left, to.top);

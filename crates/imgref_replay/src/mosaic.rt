@@ -22,7 +22,8 @@ pub(crate) fn mosaic_window<T: Copy>(
     requires inside { IsInside (width_of image.old) (height_of image.old) (as_window window) }
     requires wide { 0 < tile_width }
     requires high { 0 < tile_height }
-    ensures grid { vec_grid image.new ≡ patch (vec_grid image.old) window.left window.top (mosaic tile_width tile_height (window_view (vec_grid image.old) (as_window window))) }
+    ensures grid { vec_grid image.new ≡ patch (vec_grid image.old) window.left window.top
+        (mosaic tile_width tile_height (window_view (vec_grid image.old) (as_window window))) }
     ensures outside { SameOutside (vec_layout image.old) (vec_layout image.new) }
     ensures fits { Fits (vec_layout image.new) }
 {

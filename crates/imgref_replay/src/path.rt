@@ -33,7 +33,8 @@ pub(crate) fn path_window(width: usize, height: usize, path: &[Window]) -> Resul
 /// window, and their shape; or the number of its first window outside.
 fn region_at(cells: usize, shape: Shape, path: &[Window]) -> Result<(Stretch, Shape), usize>
     requires fits { Reaches cells (shape_width shape) (shape_height shape) (shape_stride shape) }
-    ensures outside { result_err result ≡ first_outside (shape_width shape) (shape_height shape) (as_path path.now) }
+    ensures outside { result_err result
+        ≡ first_outside (shape_width shape) (shape_height shape) (as_path path.now) }
     ensures region { IfOk result (λ r. LeadsTo cells shape (as_path path.now) r.0 r.1) }
     ensures inside { IfOk result (λ r. IsWithin cells (as_stretch r.0)) }
     ensures holds_width { shape_width shape ≤ shape_stride shape }
@@ -67,11 +68,14 @@ fn region_at(cells: usize, shape: Shape, path: &[Window]) -> Result<(Stretch, Sh
 /// The number, from 0, of the first window of the path that isn't inside the size before it.
 pub fn window_at<'s, T>(img: ImgRef<'s, T>, path: &[Window]) -> Result<ImgRef<'s, T>, usize>
     requires fits { Fits (ref_layout img) }
-    ensures outside { result_err result ≡ first_outside (width_of img.entry) (height_of img.entry) (as_path path.now) }
-    ensures layout { IfOk result (λ w. ref_layout w ≡ path_layout (ref_layout img.entry) (as_path path.now)) }
+    ensures outside { result_err result
+        ≡ first_outside (width_of img.entry) (height_of img.entry) (as_path path.now) }
+    ensures layout { IfOk result
+        (λ w. ref_layout w ≡ path_layout (ref_layout img.entry) (as_path path.now)) }
     ensures corner { IfOk result (λ _. BeginsAtCorner (ref_layout img.entry) (as_path path.now)) }
     ensures fits { IfOk result (λ w. Fits (ref_layout w)) }
-    ensures view { IfOk result (λ w. ref_grid w ≡ path_view (ref_grid img.entry) (as_path path.now)) }
+    ensures view { IfOk result
+        (λ w. ref_grid w ≡ path_view (ref_grid img.entry) (as_path path.now)) }
 {
     let (cells, shape) = img.into_parts();
     let (stretch, inner) = region_at(cells.len(), shape, path)?;
@@ -93,12 +97,18 @@ pub fn into_window_at<'s, T>(
     path: &[Window],
 ) -> Result<ImgRefMut<'s, T>, usize>
     requires fits { Fits (mut_layout img) }
-    ensures* hands_on { sem 𝓛 (follows_if (Array T.row 0) (Array T.row 0) (buf_of img.entry).ghost_name (window_name result) (with_stretch (buf_of img.entry).now (path_stretch (stride_of img.entry) (whole (buf_of img.entry).now) (as_path path.now))) (buf_of img.entry).now) }
-    ensures outside { result_err result ≡ first_outside (width_of img.entry) (height_of img.entry) (as_path path.now) }
-    ensures layout { IfOk result (λ w. mut_layout w ≡ path_layout (mut_layout img.entry) (as_path path.now)) }
+    ensures* hands_on { sem 𝓛 (follows_if (Array T.row 0) (Array T.row 0)
+        (buf_of img.entry).ghost_name (window_name result) (with_stretch (buf_of img.entry).now
+        (path_stretch (stride_of img.entry) (whole (buf_of img.entry).now) (as_path path.now)))
+        (buf_of img.entry).now) }
+    ensures outside { result_err result
+        ≡ first_outside (width_of img.entry) (height_of img.entry) (as_path path.now) }
+    ensures layout { IfOk result
+        (λ w. mut_layout w ≡ path_layout (mut_layout img.entry) (as_path path.now)) }
     ensures corner { IfOk result (λ _. BeginsAtCorner (mut_layout img.entry) (as_path path.now)) }
     ensures fits { IfOk result (λ w. Fits (mut_layout w)) }
-    ensures view { IfOk result (λ w. mut_grid w ≡ path_view (mut_grid img.entry) (as_path path.now)) }
+    ensures view { IfOk result
+        (λ w. mut_grid w ≡ path_view (mut_grid img.entry) (as_path path.now)) }
 {
     let (cells, shape) = img.into_parts();
     match region_at(cells.len(), shape, path) {

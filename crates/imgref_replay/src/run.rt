@@ -51,7 +51,8 @@ pub fn replay<T: Copy + Eq>(
     commands: &[Command<T>],
 ) -> Result<Vec<Reply<T>>, AllocError>
     requires { AllFit images.old }
-    ensures run { IfOk result (λ replies. IsRun T.eq commands.now (layouts_of images.old) (layouts_of images.new) replies.items) }
+    ensures run { IfOk result (λ replies.
+        IsRun T.eq commands.now (layouts_of images.old) (layouts_of images.new) replies.items) }
     ensures unchanged { OnErr result (images.new ≡ images.old) }
 {
     let mut replies = Vec::new(alloc);

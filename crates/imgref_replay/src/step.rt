@@ -18,9 +18,11 @@ use imgref::{ImgRef, ImgVec, Window};
 
 /// The one window of its image that a place names; or the first fault of that name.
 fn locate<T>(images: &[ImgVec<T>], spot: &Place) -> Result<Window, Refusal>
-    ensures fault { result_err result ≡ first_fault (window_faults spot.now (sizes_of (grids_of images.now))) }
+    ensures fault { result_err result
+        ≡ first_fault (window_faults spot.now (sizes_of (grids_of images.now))) }
     ensures image { OnOk result (spot.now.image < length images.now) }
-    ensures window { IfOk result (λ w. as_window w ≡ window_named spot.now (sizes_of (grids_of images.now))) }
+    ensures window { IfOk result
+        (λ w. as_window w ≡ window_named spot.now (sizes_of (grids_of images.now))) }
     ensures inside { IfOk result (λ w. IsInsideOf images.now spot.now.image (as_window w)) }
     ensures small { IfOk result (λ w. (w.left + w.width < 2 ^ 64) × (w.top + w.height < 2 ^ 64)) }
 {
@@ -40,13 +42,18 @@ fn locate_both<T>(
     first: &Place,
     second: &Place,
 ) -> Result<(Window, Window), Refusal>
-    ensures fault { result_err result ≡ first_fault (pair_faults first.now second.now (sizes_of (grids_of images.now))) }
+    ensures fault { result_err result
+        ≡ first_fault (pair_faults first.now second.now (sizes_of (grids_of images.now))) }
     ensures first_image { OnOk result (first.now.image < length images.now) }
     ensures second_image { OnOk result (second.now.image < length images.now) }
-    ensures first_window { IfOk result (λ w. as_window w.0 ≡ window_named first.now (sizes_of (grids_of images.now))) }
-    ensures second_window { IfOk result (λ w. as_window w.1 ≡ window_named second.now (sizes_of (grids_of images.now))) }
-    ensures first_inside { IfOk result (λ w. IsInsideOf images.now first.now.image (as_window w.0)) }
-    ensures second_inside { IfOk result (λ w. IsInsideOf images.now second.now.image (as_window w.1)) }
+    ensures first_window { IfOk result
+        (λ w. as_window w.0 ≡ window_named first.now (sizes_of (grids_of images.now))) }
+    ensures second_window { IfOk result
+        (λ w. as_window w.1 ≡ window_named second.now (sizes_of (grids_of images.now))) }
+    ensures first_inside { IfOk result
+        (λ w. IsInsideOf images.now first.now.image (as_window w.0)) }
+    ensures second_inside { IfOk result
+        (λ w. IsInsideOf images.now second.now.image (as_window w.1)) }
 {
     if first.image >= images.len() || second.image >= images.len() {
         return Err(Refusal::NoImage);
@@ -69,7 +76,8 @@ fn show<'i, T>(images: &'i [ImgVec<T>], spot: &Place, window: Window) -> ImgRef<
 /// What is seen through the window that a place names.
 fn view<'i, T>(images: &'i [ImgVec<T>], spot: &Place) -> Result<ImgRef<'i, T>, Refusal>
     requires { AllFit images.now }
-    ensures fault { result_err result ≡ first_fault (window_faults spot.now (sizes_of (grids_of images.now))) }
+    ensures fault { result_err result
+        ≡ first_fault (window_faults spot.now (sizes_of (grids_of images.now))) }
     ensures view { IfOk result (λ seen. ref_grid seen ≡ view_named spot.now (grids_of images.now)) }
     ensures fits { IfOk result (λ seen. Fits (ref_layout seen)) }
 {
@@ -84,9 +92,11 @@ fn locate_pixel<T>(
     x: usize,
     y: usize,
 ) -> Result<(usize, usize), Refusal>
-    ensures fault { result_err result ≡ first_fault (place_faults spot.now x y (sizes_of (grids_of images.now))) }
+    ensures fault { result_err result
+        ≡ first_fault (place_faults spot.now x y (sizes_of (grids_of images.now))) }
     ensures image { OnOk result (spot.now.image < length images.now) }
-    ensures place { IfOk result (λ place. IsPlaceNamed spot.now x y (grids_of images.now) place.0 place.1) }
+    ensures place { IfOk result
+        (λ place. IsPlaceNamed spot.now x y (grids_of images.now) place.0 place.1) }
 {
     let window = locate(images, spot)?;
     if x < window.width && y < window.height {
@@ -104,7 +114,8 @@ fn get<T: Copy + Eq>(
     y: usize,
 ) -> Result<Reply<T>, Refusal>
     requires { AllFit images.now }
-    ensures { IsStep T.eq (Command.Get spot.now x y) (layouts_of images.now) (layouts_of images.now) result }
+    ensures { IsStep T.eq (Command.Get spot.now x y) (layouts_of images.now)
+        (layouts_of images.now) result }
 {
     let place = locate_pixel(images, spot, x, y)?;
     Ok(Reply::Pixel(images[spot.image][place]))
@@ -119,7 +130,8 @@ fn put<T: Copy + Eq>(
     value: T,
 ) -> Result<Reply<T>, Refusal>
     requires { AllFit images.old }
-    ensures { IsStep T.eq (Command.Put spot.now x y value) (layouts_of images.old) (layouts_of images.new) result }
+    ensures { IsStep T.eq (Command.Put spot.now x y value) (layouts_of images.old)
+        (layouts_of images.new) result }
 {
     let (column, row) = locate_pixel(images, spot, x, y)?;
     images[spot.image].put(column, row, value);
@@ -129,7 +141,8 @@ fn put<T: Copy + Eq>(
 /// Writes the value at every place of a window.
 fn fill<T: Copy + Eq>(images: &mut [ImgVec<T>], spot: &Place, value: T) -> Result<Reply<T>, Refusal>
     requires { AllFit images.old }
-    ensures { IsStep T.eq (Command.Fill spot.now value) (layouts_of images.old) (layouts_of images.new) result }
+    ensures { IsStep T.eq (Command.Fill spot.now value) (layouts_of images.old)
+        (layouts_of images.new) result }
 {
     let window = locate(images, spot)?;
     images[spot.image].fill_inside(window, value);
@@ -139,7 +152,8 @@ fn fill<T: Copy + Eq>(images: &mut [ImgVec<T>], spot: &Place, value: T) -> Resul
 /// How many pixels of a window are equal to the value.
 fn count<T: Copy + Eq>(images: &[ImgVec<T>], spot: &Place, value: T) -> Result<Reply<T>, Refusal>
     requires { AllFit images.now }
-    ensures { IsStep T.eq (Command.Count spot.now value) (layouts_of images.now) (layouts_of images.now) result }
+    ensures { IsStep T.eq (Command.Count spot.now value) (layouts_of images.now)
+        (layouts_of images.now) result }
 {
     Ok(Reply::Counted(count_equal(view(images, spot)?, value)))
 }
@@ -165,7 +179,8 @@ fn same<T: Copy + Eq>(
     second: &Place,
 ) -> Result<Reply<T>, Refusal>
     requires { AllFit images.now }
-    ensures { IsStep T.eq (Command.Same first.now second.now) (layouts_of images.now) (layouts_of images.now) result }
+    ensures { IsStep T.eq (Command.Same first.now second.now) (layouts_of images.now)
+        (layouts_of images.now) result }
 {
     let windows = locate_both(images, first, second)?;
     let one = show(images, first, windows.0);
@@ -180,7 +195,8 @@ fn blit<T: Copy + Eq>(
     target: &Place,
 ) -> Result<Reply<T>, Refusal>
     requires { AllFit images.old }
-    ensures { IsStep T.eq (Command.Blit source.now target.now) (layouts_of images.old) (layouts_of images.new) result }
+    ensures { IsStep T.eq (Command.Blit source.now target.now) (layouts_of images.old)
+        (layouts_of images.new) result }
 {
     let (from, to) = locate_both(images, source, target)?;
     if from.width != to.width || from.height != to.height {
@@ -198,7 +214,8 @@ fn mosaic<T: Copy + Eq>(
     tile_height: usize,
 ) -> Result<Reply<T>, Refusal>
     requires { AllFit images.old }
-    ensures { IsStep T.eq (Command.Mosaic spot.now tile_width tile_height) (layouts_of images.old) (layouts_of images.new) result }
+    ensures { IsStep T.eq (Command.Mosaic spot.now tile_width tile_height) (layouts_of images.old)
+        (layouts_of images.new) result }
 {
     let window = locate(images, spot)?;
     if tile_width == 0 || tile_height == 0 {
@@ -211,7 +228,8 @@ fn mosaic<T: Copy + Eq>(
 /// Leaves the rows of an image alone in its buffer, at the least stride.
 fn compact<T: Copy + Eq>(images: &mut [ImgVec<T>], image: usize) -> Result<Reply<T>, Refusal>
     requires { AllFit images.old }
-    ensures { IsStep T.eq (Command.Compact image) (layouts_of images.old) (layouts_of images.new) result }
+    ensures { IsStep T.eq (Command.Compact image) (layouts_of images.old)
+        (layouts_of images.new) result }
 {
     if image >= images.len() {
         return Err(Refusal::NoImage);
@@ -244,7 +262,8 @@ fn accept<T: Copy + Eq>(images: &mut [ImgVec<T>], command: &Command<T>) -> Resul
 /// Carries out one command, or refuses it by its first fault, with nothing changed.
 pub(crate) fn step<T: Copy + Eq>(images: &mut [ImgVec<T>], command: &Command<T>) -> Reply<T>
     requires { AllFit images.old }
-    ensures { IsRun T.eq (command.now ∷ []) (layouts_of images.old) (layouts_of images.new) (result ∷ []) }
+    ensures { IsRun T.eq (command.now ∷ []) (layouts_of images.old)
+        (layouts_of images.new) (result ∷ []) }
 {
     match accept(images, command) {
         Ok(reply) => reply,

@@ -32,7 +32,8 @@ pub(crate) fn read_each<T: Field>(
 
 /// The value that the next field is the text of.
 pub(crate) fn next_value<T: Field>(fields: &mut Parts<'_>) -> Result<T, LineFault>
-    ensures { Gives (λ x. (x, parts_left fields.new)) result (first_of_parts T.reading (parts_left fields.old)) }
+    ensures { Gives (λ x. (x, parts_left fields.new)) result
+        (first_of_parts T.reading (parts_left fields.old)) }
 {
     texts::next(fields).ok_or(LineFault::Bad)
 }
@@ -53,7 +54,8 @@ fn path(alloc: Global, field: &[u8]) -> Result<Vec<Window>, LineFault>
 /// The path that the next field is the text of.
 #[tactic(auto, unfolding(text_model::specs::Reading::first_of_parts))]
 fn next_path(alloc: Global, fields: &mut Parts<'_>) -> Result<Vec<Window>, LineFault>
-    ensures { Gives (λ p. (p.items, parts_left fields.new)) result (path_at (parts_left fields.old)) }
+    ensures { Gives (λ p. (p.items, parts_left fields.new)) result
+        (path_at (parts_left fields.old)) }
 {
     path(alloc, fields.next_part().ok_or(LineFault::Bad)?)
 }
@@ -61,7 +63,8 @@ fn next_path(alloc: Global, fields: &mut Parts<'_>) -> Result<Vec<Window>, LineF
 /// The image's number and the path that the next two fields are the texts of.
 #[tactic(auto, unfolding(crate::specs::Reading::place_at))]
 pub(crate) fn next_place(alloc: Global, fields: &mut Parts<'_>) -> Result<Place, LineFault>
-    ensures { Gives (λ p. (place_of p, parts_left fields.new)) result (place_at (parts_left fields.old)) }
+    ensures { Gives (λ p. (place_of p, parts_left fields.new)) result
+        (place_at (parts_left fields.old)) }
 {
     let image = next_value(fields)?;
     let path = next_path(alloc, fields)?;

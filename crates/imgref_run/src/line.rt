@@ -45,7 +45,8 @@ fn read_image(alloc: Global, fields: &mut Parts<'_>) -> Result<ImgVec<u8>, LineF
 /// The command with this word, and its fields at the front of those after it.
 #[tactic(auto, unfolding(crate::specs::Reading::arguments_at))]
 fn command_at(alloc: Global, word: &[u8], fields: &mut Parts<'_>) -> Result<Command<u8>, LineFault>
-    ensures { Gives (λ c. (order_of c, parts_left fields.new)) result (order_at word.now (parts_left fields.old)) }
+    ensures { Gives (λ c. (order_of c, parts_left fields.new)) result
+        (order_at word.now (parts_left fields.old)) }
 {
     if word == b"get".as_slice() {
         let spot = next_place(alloc, fields)?;
@@ -127,7 +128,8 @@ fn parse(alloc: Global, text: &[u8]) -> Result<Line, LineFault>
 #[tactic(auto, using(crate::proofs::LineTexts::line_found))]
 pub(crate) fn read_line(alloc: Global, text: &[u8]) -> Result<Line, LineFault>
     ensures found { IfOk result (λ line. IsLineOf text.now (entry_of line)) }
-    ensures bad { IsErrOf result LineFault.Bad → (e : Entry) → IsEntry e → text.now ≡ entry_text e → ⊥ }
+    ensures bad { IsErrOf result LineFault.Bad → (e : Entry) → IsEntry e
+        → text.now ≡ entry_text e → ⊥ }
 {
     parse(alloc, text)
 }

@@ -93,7 +93,8 @@ fn push_reply(text: &mut Vec<u8>, reply: Reply<u8>) -> Result<(), AllocError>
 }
 
 fn push_cells(text: &mut Vec<u8>, cells: &[u8]) -> Result<(), AllocError>
-    ensures text { OnOk result (text.new.items ≡ text.old.items ++ flat_map (λ cell. 32 ∷ decimal cell) cells.now) }
+    ensures text { OnOk result
+        (text.new.items ≡ text.old.items ++ flat_map (λ cell. 32 ∷ decimal cell) cells.now) }
     ensures pixels { OnOk result (All IsPixel cells.now) }
 {
     for cell in cells {
@@ -109,7 +110,8 @@ fn push_sizes(
     height: usize,
     stride: usize,
 ) -> Result<(), AllocError>
-    ensures { OnOk result (text.new.items ≡ text.old.items ++ line_of (codes "image" ∷ decimal width ∷ decimal height ∷ decimal stride ∷ [])) }
+    ensures { OnOk result (text.new.items ≡ text.old.items
+        ++ line_of (codes "image" ∷ decimal width ∷ decimal height ∷ decimal stride ∷ [])) }
 {
     text.extend_from_slice(b"image ")?;
     push_number(text, width as u64)?;
@@ -121,7 +123,8 @@ fn push_sizes(
 
 fn push_image(text: &mut Vec<u8>, image: &ImgVec<u8>) -> Result<(), AllocError>
     requires { Fits (vec_layout image.now) }
-    ensures text { OnOk result (text.new.items ≡ text.old.items ++ ended_line (image_text (vec_layout image.now))) }
+    ensures text { OnOk result
+        (text.new.items ≡ text.old.items ++ ended_line (image_text (vec_layout image.now))) }
     ensures good { OnOk result (IsImage (vec_layout image.now)) }
 {
     push_sizes(text, image.width(), image.height(), image.stride())?;
@@ -138,7 +141,8 @@ pub(crate) fn output(
     images: &[ImgVec<u8>],
 ) -> Result<Vec<u8>, AllocError>
     requires { AllFit images.now }
-    ensures text { IfOk result (λ text. text.items ≡ output_text replies.now (layouts_of images.now)) }
+    ensures text { IfOk result
+        (λ text. text.items ≡ output_text replies.now (layouts_of images.now)) }
     ensures good { OnOk result (All IsImage (layouts_of images.now)) }
 {
     let mut text = Vec::new(alloc);
@@ -154,8 +158,10 @@ pub(crate) fn output(
 /// Writes the whole text, and then flushes once.
 pub(crate) fn write_all<W: Write>(writer: &mut Counted<W>, text: &[u8]) -> Result<(), RunFault>
     requires { failures_of writer.old < u64.MAX }
-    ensures whole { OnOk result (Appends (W.contents (device_of writer.old)) (W.contents (device_of writer.new)) text.now) }
-    ensures beginning { OnErr result (AppendsBeginning (W.contents (device_of writer.old)) (W.contents (device_of writer.new)) text.now) }
+    ensures whole { OnOk result
+        (Appends (W.contents (device_of writer.old)) (W.contents (device_of writer.new)) text.now) }
+    ensures beginning { OnErr result (AppendsBeginning (W.contents (device_of writer.old))
+        (W.contents (device_of writer.new)) text.now) }
     ensures count { failures_of writer.new ≡ failures_of writer.old + writer_failures result }
     ensures fault { IfErr result (λ e. e ≡ RunFault.Output) }
 {

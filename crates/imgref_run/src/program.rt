@@ -45,8 +45,10 @@ pub fn run<R: Read, W: Write>(
     ensures read { ReadsAll result (R.remaining (device_of reader.new)) }
 
     // Each count grew exactly where the answer is that device's fault.
-    ensures reader_count { failures_of reader.new ≡ failures_of reader.old + reader_failures result }
-    ensures writer_count { failures_of writer.new ≡ failures_of writer.old + writer_failures result }
+    ensures reader_count { failures_of reader.new
+        ≡ failures_of reader.old + reader_failures result }
+    ensures writer_count { failures_of writer.new
+        ≡ failures_of writer.old + writer_failures result }
 
     // So the output of a script is the output of the only values that its lines are the text of.
     ensures one_value { EachTextHasOneValue }

@@ -23,8 +23,8 @@ pub(crate) struct Script {
 
 // The next line of a script that is cut at its line feeds: an empty last piece is none.
 fn next_line<'a>(pieces: &mut Parts<'a>) -> Option<&'a [u8]>
-    ensures { MatchOption result (whole_lines (parts_left pieces.old) ≡ [])
-        (λ line. whole_lines (parts_left pieces.old) ≡ line.now ∷ whole_lines (parts_left pieces.new)) }
+    ensures { MatchOption result (whole_lines (parts_left pieces.old) ≡ []) (λ line.
+        whole_lines (parts_left pieces.old) ≡ line.now ∷ whole_lines (parts_left pieces.new)) }
 {
     let piece = pieces.next_part()?;
     if piece.is_empty() && pieces.is_done() {
@@ -36,11 +36,13 @@ fn next_line<'a>(pieces: &mut Parts<'a>) -> Option<&'a [u8]>
 impl Script {
     // Adds what the line stands for, where it is good after the lines before it.
     fn add(&mut self, alloc: Global, line: &[u8]) -> Result<(), LineFault>
-        ensures added { OnOk result ((before : List (List ℕ)) → IsScript before (images_of self.old) (orders_of self.old)
+        ensures added { OnOk result
+            ((before : List (List ℕ)) → IsScript before (images_of self.old) (orders_of self.old)
             → IsScript (before ++ line.now ∷ []) (images_of self.new) (orders_of self.new)) }
-        ensures good { OnOk result ((before : List (List ℕ)) → IsScript before (images_of self.old) (orders_of self.old)
-            → IsGood before line.now) }
-        ensures bad { IsErrOf result LineFault.Bad → (before : List (List ℕ)) → IsScript before (images_of self.old) (orders_of self.old)
+        ensures good { OnOk result ((before : List (List ℕ))
+            → IsScript before (images_of self.old) (orders_of self.old) → IsGood before line.now) }
+        ensures bad { IsErrOf result LineFault.Bad → (before : List (List ℕ))
+            → IsScript before (images_of self.old) (orders_of self.old)
             → IsGood before line.now → ⊥ }
     {
         match read_line(alloc, line)? {
@@ -59,7 +61,8 @@ impl Script {
 /// The images and the commands that the bytes are the script of. Where the bytes are none, the
 /// fault names the first line, from 1, that isn't good.
 pub(crate) fn read_script(alloc: Global, bytes: &[u8]) -> Result<Script, RunFault>
-    ensures script { IfOk result (λ script. IsScript (lines_of bytes.now) (images_of script) (orders_of script)) }
+    ensures script { IfOk result
+        (λ script. IsScript (lines_of bytes.now) (images_of script) (orders_of script)) }
     ensures good { OnOk result (AreGood (lines_of bytes.now) (length (lines_of bytes.now))) }
     ensures fault { IfErr result (ExplainsBad (lines_of bytes.now)) }
 {

@@ -17,9 +17,11 @@ use imgref::{AsMutSlice, Img};
 fn bands_of<'a, C: AsMutSlice>(image: &'a mut Img<C>, band_height: usize) -> BandsMut<'a, C::Item>
     requires fits { Fits (layout_by C.cells image.old) }
     requires high { 0 < band_height }
-    ensures* lent { sem 𝓛 (follows (the_row C.row) (Array C.Item.row 0) image.entry.ghost_name (bands_name result) (with_all C.cells C.with_cells image.old)) }
+    ensures* lent { sem 𝓛 (follows (the_row C.row) (Array C.Item.row 0) image.entry.ghost_name
+        (bands_name result) (with_all C.cells C.with_cells image.old)) }
     ensures cells { cells_left result ≡ C.cells (buf_of image.old) }
-    ensures spacing { spacing_left result ≡ band_spacing (width_of image.old) (height_of image.old) (stride_of image.old) band_height }
+    ensures spacing { spacing_left result ≡ band_spacing (width_of image.old) (height_of image.old)
+        (stride_of image.old) band_height }
     ensures bands { bands_left result ≡ bands (layout_by C.cells image.old) band_height }
 {
     BandsMut::new(image.as_mut(), band_height)
@@ -31,7 +33,8 @@ where
     C::Item: Copy + 'a,
     requires fits { Fits (layout_by C.cells image.old) }
     requires high { 0 < band_height }
-    ensures { HasFirstBand (layout_by C.cells image.old) band_height value (layout_by C.cells image.new) }
+    ensures { HasFirstBand (layout_by C.cells image.old) band_height value
+        (layout_by C.cells image.new) }
 {
     let mut bands = bands_of(image, band_height);
     if let Some(band) = bands.next() {
@@ -51,7 +54,8 @@ where
     C::Item: Copy + 'a,
     requires fits { Fits (layout_by C.cells image.old) }
     requires high { 0 < band_height }
-    ensures grid { grid_by C.cells image.new ≡ patch (grid_by C.cells image.old) 0 0 (uniform (width_of image.old) (min band_height (height_of image.old)) value) }
+    ensures grid { grid_by C.cells image.new ≡ patch (grid_by C.cells image.old) 0 0
+        (uniform (width_of image.old) (min band_height (height_of image.old)) value) }
     ensures outside { SameOutside (layout_by C.cells image.old) (layout_by C.cells image.new) }
 {
     cover_band(image, band_height, value);

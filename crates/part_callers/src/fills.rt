@@ -11,7 +11,8 @@ use imgref_examples::write_first;
 // Every pixel becomes `value`, one after the other.
 pub fn fill<T: Copy>(cells: &mut [T], shape: Shape, value: T)
     requires fits { Fits (shaped cells.old shape) }
-    ensures grid { shaped_grid cells.new shape ≡ uniform (shape_width shape) (shape_height shape) value }
+    ensures grid { shaped_grid cells.new shape
+        ≡ uniform (shape_width shape) (shape_height shape) value }
     ensures outside { SameOutside (shaped cells.old shape) (shaped cells.new shape) }
 {
     let count = shape.pixel_count();

@@ -29,9 +29,12 @@ fn flatten<T: Copy>(cells: &mut [T], shape: Shape)
 // The tiles that are left, one after the other.
 fn flatten_rest<T: Copy>(tiles: &mut TilesMut<'_, T>)
     requires fits { Fits (mut_layout (image_of tiles.old)) }
-    ensures same_reference { (buf_of (image_of tiles.new)).ghost_name ≡ (buf_of (image_of tiles.old)).ghost_name }
-    ensures grid { grid_of (mut_layout (image_of tiles.new)) ≡ all_flattened (grid_of (mut_layout (image_of tiles.old))) (windows_left (tiling_of tiles.old)) }
-    ensures outside { SameOutside (mut_layout (image_of tiles.old)) (mut_layout (image_of tiles.new)) }
+    ensures same_reference { (buf_of (image_of tiles.new)).ghost_name
+        ≡ (buf_of (image_of tiles.old)).ghost_name }
+    ensures grid { grid_of (mut_layout (image_of tiles.new)) ≡ all_flattened
+        (grid_of (mut_layout (image_of tiles.old))) (windows_left (tiling_of tiles.old)) }
+    ensures outside { SameOutside (mut_layout (image_of tiles.old))
+        (mut_layout (image_of tiles.new)) }
 {
     while tiles.remaining() > 0 {
         let (cells, shape) = tiles.next_parts();
@@ -49,7 +52,8 @@ fn mosaic_of<'a, T: Copy>(
     requires wide { 0 < tile_width }
     requires high { 0 < tile_height }
     ensures same_reference { (buf_of result).ghost_name ≡ (buf_of img.entry).ghost_name }
-    ensures grid { grid_of (mut_layout result) ≡ mosaic tile_width tile_height (grid_of (mut_layout img.entry)) }
+    ensures grid { grid_of (mut_layout result)
+        ≡ mosaic tile_width tile_height (grid_of (mut_layout img.entry)) }
     ensures outside { SameOutside (mut_layout img.entry) (mut_layout result) }
 {
     let mut tiles = TilesMut::new(img, tile_width, tile_height);
@@ -68,7 +72,8 @@ fn into_mosaic<T: Copy>(
     requires wide { 0 < tile_width }
     requires high { 0 < tile_height }
     ensures same_reference { result.ghost_name ≡ cells.entry.ghost_name }
-    ensures grid { grid_of (shaped result.now shape) ≡ mosaic tile_width tile_height (grid_of (shaped cells.old shape)) }
+    ensures grid { grid_of (shaped result.now shape)
+        ≡ mosaic tile_width tile_height (grid_of (shaped cells.old shape)) }
     ensures outside { SameOutside (shaped cells.old shape) (shaped result.now shape) }
 {
     let image = ImgRefMut::from_parts(cells, shape);
@@ -90,7 +95,8 @@ pub fn mosaic_by_tiles<T: Copy>(
     requires fits { Fits (shaped cells.old shape) }
     requires wide { 0 < tile_width }
     requires high { 0 < tile_height }
-    ensures grid { grid_of (shaped cells.new shape) ≡ mosaic tile_width tile_height (grid_of (shaped cells.old shape)) }
+    ensures grid { grid_of (shaped cells.new shape)
+        ≡ mosaic tile_width tile_height (grid_of (shaped cells.old shape)) }
     ensures outside { SameOutside (shaped cells.old shape) (shaped cells.new shape) }
 {
     into_mosaic(cells, shape, tile_width, tile_height);

@@ -19,9 +19,12 @@ use imgref_replay::into_window_at;
 // The window that a path comes to, as its cells and its shape.
 fn parts_at<'a, C: AsMutSlice>(image: &'a mut Img<C>, path: &[Window]) -> (&'a mut [C::Item], Shape)
     requires fits { Fits (layout_by C.cells image.old) }
-    requires inside { first_outside (width_of image.old) (height_of image.old) (as_path path.now) ≡ None }
-    ensures* hands_on { sem 𝓛 (follows (the_row C.row) (Array C.Item.row 0) image.entry.ghost_name result.0.ghost_name (with_path C.cells C.with_cells image.old (as_path path.now))) }
-    ensures window { IsNested C.cells C.with_cells image.old (as_path path.now) (shaped result.0.now result.1) }
+    requires inside { first_outside (width_of image.old) (height_of image.old) (as_path path.now)
+        ≡ None }
+    ensures* hands_on { sem 𝓛 (follows (the_row C.row) (Array C.Item.row 0) image.entry.ghost_name
+        result.0.ghost_name (with_path C.cells C.with_cells image.old (as_path path.now))) }
+    ensures window { IsNested C.cells C.with_cells image.old (as_path path.now)
+        (shaped result.0.now result.1) }
 {
     match into_window_at(image.as_mut(), path) {
         Ok(window) => window.into_parts(),
@@ -45,10 +48,13 @@ pub fn put_through_path<'a, C: AsMutSlice>(
 where
     C::Item: Copy + 'a,
     requires fits { Fits (layout_by C.cells image.old) }
-    requires inside { first_outside (width_of image.old) (height_of image.old) (as_path path.now) ≡ None }
+    requires inside { first_outside (width_of image.old) (height_of image.old) (as_path path.now)
+        ≡ None }
     requires column { place.0 < path_width (width_of image.old) (as_path path.now) }
     requires line { place.1 < path_height (height_of image.old) (as_path path.now) }
-    ensures grid { grid_by C.cells image.new ≡ patch (grid_by C.cells image.old) (corner_left (as_path path.now) + place.0) (corner_top (as_path path.now) + place.1) (uniform 1 1 value) }
+    ensures grid { grid_by C.cells image.new
+        ≡ patch (grid_by C.cells image.old) (corner_left (as_path path.now) + place.0)
+        (corner_top (as_path path.now) + place.1) (uniform 1 1 value) }
     ensures outside { SameOutside (layout_by C.cells image.old) (layout_by C.cells image.new) }
 {
     let (cells, shape) = parts_at(image, path);
@@ -66,8 +72,12 @@ pub fn fill_through_path<'a, C: AsMutSlice>(image: &'a mut Img<C>, path: &[Windo
 where
     C::Item: Copy + 'a,
     requires fits { Fits (layout_by C.cells image.old) }
-    requires inside { first_outside (width_of image.old) (height_of image.old) (as_path path.now) ≡ None }
-    ensures grid { grid_by C.cells image.new ≡ patch (grid_by C.cells image.old) (corner_left (as_path path.now)) (corner_top (as_path path.now)) (uniform (path_width (width_of image.old) (as_path path.now)) (path_height (height_of image.old) (as_path path.now)) value) }
+    requires inside { first_outside (width_of image.old) (height_of image.old) (as_path path.now)
+        ≡ None }
+    ensures grid { grid_by C.cells image.new ≡ patch (grid_by C.cells image.old)
+        (corner_left (as_path path.now)) (corner_top (as_path path.now))
+        (uniform (path_width (width_of image.old) (as_path path.now))
+        (path_height (height_of image.old) (as_path path.now)) value) }
     ensures outside { SameOutside (layout_by C.cells image.old) (layout_by C.cells image.new) }
 {
     let (cells, shape) = parts_at(image, path);

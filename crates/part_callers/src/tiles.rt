@@ -18,8 +18,10 @@ use imgref::{AsMutSlice, Shape};
 // The next tile, as its cells and its shape.
 fn tile_parts<C: AsMutSlice>(tiles: &mut TileCursor<C>) -> (&mut [C::Item], Shape)
     requires more { 0 < length (tiles_left C.cells tiles.old) }
-    ensures* hands_on { sem 𝓛 (follows (the_row C.row) (Array C.Item.row 0) tiles.entry.ghost_name result.0.ghost_name (after_tile C.cells C.with_cells C.padded_windows tiles.old)) }
-    ensures tile { IsTile C.cells C.with_cells C.padded_windows tiles.old (shaped result.0.now result.1) }
+    ensures* hands_on { sem 𝓛 (follows (the_row C.row) (Array C.Item.row 0) tiles.entry.ghost_name
+        result.0.ghost_name (after_tile C.cells C.with_cells C.padded_windows tiles.old)) }
+    ensures tile { IsTile C.cells C.with_cells C.padded_windows tiles.old
+        (shaped result.0.now result.1) }
 {
     match tiles.next_tile() {
         Some(tile) => tile.into_parts(),
@@ -37,8 +39,13 @@ pub fn fill_next_tile<'a, C: AsMutSlice>(tiles: &'a mut TileCursor<C>, value: C:
 where
     C::Item: Copy + 'a,
     requires more { 0 < length (tiles_left C.cells tiles.old) }
-    ensures grid { grid_by C.cells (image_of tiles.new) ≡ patch (grid_by C.cells (image_of tiles.old)) (tile_now (tiling_of tiles.old)).left (tile_now (tiling_of tiles.old)).top (uniform (tile_now (tiling_of tiles.old)).width (tile_now (tiling_of tiles.old)).height value) }
-    ensures outside { SameOutside (layout_by C.cells (image_of tiles.old)) (layout_by C.cells (image_of tiles.new)) }
+    ensures grid { grid_by C.cells (image_of tiles.new)
+        ≡ patch (grid_by C.cells (image_of tiles.old))
+        (tile_now (tiling_of tiles.old)).left (tile_now (tiling_of tiles.old)).top
+        (uniform (tile_now (tiling_of tiles.old)).width
+        (tile_now (tiling_of tiles.old)).height value) }
+    ensures outside { SameOutside (layout_by C.cells (image_of tiles.old))
+        (layout_by C.cells (image_of tiles.new)) }
 {
     let (cells, shape) = tile_parts(tiles);
     fill(cells, shape, value);

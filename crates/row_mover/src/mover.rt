@@ -20,7 +20,8 @@ impl<'a, T: Copy> Model for RowMover<'a, T> {
 
     ghost Value = { State T };
 
-    ghost view = { λ m. record { cells = m.cells.now; shifts = m.shifts; lender = m.cells.ghost_name } };
+    ghost view = { λ m.
+        record { cells = m.cells.now; shifts = m.shifts; lender = m.cells.ghost_name } };
 }
 
 impl<'a, T: Copy> RowMover<'a, T> {

@@ -16,7 +16,8 @@ impl<T: Copy> RowMover<'_, T> {
         requires stride_positive { 1 ≤ stride }
         requires holds_width { width ≤ stride }
         requires count { self.old.shifts + height ≤ u64.MAX }
-        ensures cells { self.new.cells ≡ joined_rows (layout self.old.cells width height stride) ++ drop (width * height) self.old.cells }
+        ensures cells { self.new.cells ≡ joined_rows (layout self.old.cells width height stride)
+            ++ drop (width * height) self.old.cells }
         ensures length { length self.new.cells ≡ length self.old.cells }
         ensures shifts { self.new.shifts ≡ self.old.shifts + rows_compacted width height stride }
         ensures lender { self.new.lender ≡ self.old.lender }
@@ -40,8 +41,10 @@ impl<T: Copy> RowMover<'_, T> {
         requires stride_positive { 1 ≤ stride }
         requires holds_width { width ≤ stride }
         requires count { self.old.shifts + height ≤ u64.MAX }
-        requires source { 0 < width → 0 < height → from + (stride * (height - 1) + width) ≤ length self.old.cells }
-        requires target { 0 < width → 0 < height → to + (stride * (height - 1) + width) ≤ length self.old.cells }
+        requires source { 0 < width → 0 < height
+            → from + (stride * (height - 1) + width) ≤ length self.old.cells }
+        requires target { 0 < width → 0 < height
+            → to + (stride * (height - 1) + width) ≤ length self.old.cells }
         ensures cells { MovesRows self.old.cells self.new.cells stride from to width height }
         ensures shifts { self.new.shifts ≡ self.old.shifts + rows_moved width height }
         ensures lender { self.new.lender ≡ self.old.lender }

@@ -96,7 +96,8 @@ impl Field for Window {
 /// The value that the next part is the text of.
 #[tactic(auto, unfolding(text_model::specs::Reading::first_of_parts))]
 pub fn next<T: Field>(parts: &mut Parts<'_>) -> Option<T>
-    ensures { Finds (λ x. (x, parts_left parts.new)) result (first_of_parts T.reading (parts_left parts.old)) }
+    ensures { Finds (λ x. (x, parts_left parts.new)) result
+        (first_of_parts T.reading (parts_left parts.old)) }
 {
     T::read(parts.next_part()?)
 }

@@ -28,7 +28,8 @@ fn window_len<C: AsMutSlice>(
     height: usize,
 ) -> usize
     requires fits { Fits (layout_by C.cells image.old) }
-    requires inside { IsInside (width_of image.old) (height_of image.old) (window left top width height) }
+    requires inside { IsInside (width_of image.old) (height_of image.old)
+        (window left top width height) }
 {
     let (cells, _) = image.window_parts_mut(Window::new(left, top, width, height));
     cells.len()

@@ -20,7 +20,8 @@ const LEFT: [usize; 4] = [0, 0, 2, 2];
 fn pair<T: Eq + Drop>(one: ImgVec<T>, other: ImgVec<T>) -> Option<(ImgVec<T>, ImgVec<T>)>
     requires one_fits { Fits (vec_layout one) }
     requires other_fits { Fits (vec_layout other) }
-    ensures fit { IfSome result (λ images. Fits (vec_layout images.0) × Fits (vec_layout images.1)) }
+    ensures fit { IfSome result
+        (λ images. Fits (vec_layout images.0) × Fits (vec_layout images.1)) }
     ensures agree { IfSome result (λ images. Agree T.eq (vec_grid images.0) (vec_grid images.1)) }
 {
     if one.same_pixels(other.as_ref()) {

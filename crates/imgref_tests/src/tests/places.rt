@@ -44,8 +44,8 @@ fn add_one(image: &mut ImgVec<u32>, x: usize, y: usize)
     requires has_cell { HasCell (vec_layout image.old) x y }
     requires room { All (λ cell. cell < 100) (vec_layout image.old).cells }
     ensures { let old = vec_layout image.old in
-        IfSome (pixel old x y) (λ cell. vec_layout image.new
-        ≡ layout (slice_set old.cells (cell_of old x y) (cell + 1)) old.width old.height old.stride) }
+        IfSome (pixel old x y) (λ cell. vec_layout image.new ≡ layout
+        (slice_set old.cells (cell_of old x y) (cell + 1)) old.width old.height old.stride) }
 {
     image[(x, y)] += 1;
 }

@@ -33,7 +33,8 @@ fn count_fused(image: ImgRef<'_, u8>) -> usize
 }
 
 fn all_start_at(rows: RowsIter<'_, u8>, value: u8) -> bool
-    ensures { IsTrue result ↔ All (λ row. (0 < length row) × (slice_index row 0 ≡ value)) (refs_left rows.entry) }
+    ensures { IsTrue result
+        ↔ All (λ row. (0 < length row) × (slice_index row 0 ≡ value)) (refs_left rows.entry) }
 {
     let mut rows = rows;
     rows.all(|row| row.len() > 0 && row[0] == value)

@@ -22,8 +22,9 @@ fn set_row<T: Copy>(image: &mut ImgVec<T>, y: usize, values: &[T])
     requires some { 0 < width_of image.old }
     requires fits { Fits (vec_layout image.old) }
     requires long { length values.now ≡ width_of image.old }
-    ensures { let old = vec_layout image.old in vec_layout image.new
-        ≡ layout (take (y * old.stride) old.cells ++ (values.now ++ drop (length values.now) (drop (y * old.stride) old.cells))) old.width old.height old.stride }
+    ensures { let old = vec_layout image.old in vec_layout image.new ≡ layout (take (y * old.stride)
+        old.cells ++ (values.now ++ drop (length values.now) (drop (y * old.stride) old.cells)))
+        old.width old.height old.stride }
 {
     image.row_mut(y).copy_from_slice(values);
 }
