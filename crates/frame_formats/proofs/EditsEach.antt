@@ -9,7 +9,7 @@ use Rattle.frame_formats.specs.declared.steps.Paint.{Paint}
 use Rattle.frame_formats.specs.declared.framing.Framing.{Framing}
 use Rattle.frame_formats.specs.declared.words.Edits.{Edits}
 use Rattle.frame_formats.specs.Lists.{AreEdits, Adds, framing_after, with_one, with_line, with_lines, plain}
-use Rattle.frame_formats.specs.Edits.{edits, Edits as Plain}
+use Rattle.frame_formats.specs.Edits.{Edits as Plain}
 use Rattle.text_model.specs.Parts.{parts_of}
 use Rattle.text_model.specs.Reading.{◌>>=◌}
 use Rattle.frame_formats.specs.Words.{Named, edit_at, with_edit}

@@ -5,7 +5,6 @@ use Rattle.std.specs.Fmt.{decimal}
 use Rattle.image_model.specs.Layout.{Layout}
 use Rattle.imgref_replay.specs.declared.commands.Reply.{Reply}
 use Rattle.imgref_replay.specs.declared.commands.Reply.TheVariants.{Pixel, Counted, Truth, Done, Refused}
-use Rattle.imgref_replay.specs.declared.commands.Refusal.{Refusal}
 use Rattle.imgref_replay.specs.declared.commands.Refusal.TheVariants.{NoImage, WindowOutside, PlaceOutside, SizesDiffer, NoTile}
 use Rattle.imgref_run.specs.Line.{image_text}
 
