@@ -1,7 +1,9 @@
 # make try [SCRIPT=path]   runs the program on a script with nothing proved: half a minute
 # make run [SCRIPT=path]   proves and builds the program, and runs it on a script
 # make check               proves and tests what has changed: what to run while writing
-# make test                the whole gate: every proof from nothing, every test, every planted bug
+# make test                runs every test, proves and builds the product, and tries all that was built
+# make gate [BUGS=changed] everything from nothing: also the proofs of the tests, both builds, and the planted bugs
+# make times [TIMES=..]    seconds of proof a function; TIMES: options of tools/times.py, as the names of crates
 #
 # make frames              proves and builds the program for video and pictures: crates/imgref_frames/out/imgref_frames
 # make c                   proves and builds the library for C: out/c/libimgref.a, libimgref.so, imgref.pc
@@ -12,9 +14,9 @@
 
 SCRIPT ?= examples/first.script
 PREFIX ?= /usr/local
-export SCRIPT
+export SCRIPT BUGS
 
-.PHONY: try run check test frames c install bench
+.PHONY: try run check test gate times frames c install bench
 
 try:
 	@python3 tools/program.py try
@@ -23,10 +25,16 @@ run:
 	@python3 tools/program.py run
 
 check:
-	@python3 .ci/gate.py --quick
+	@python3 .ci/gate.py check
 
 test:
-	@python3 .ci/gate.py
+	@python3 .ci/gate.py test
+
+gate:
+	@python3 .ci/gate.py gate
+
+times:
+	@python3 tools/times.py $(TIMES)
 
 frames:
 	@python3 tools/program.py build imgref_frames

@@ -8,6 +8,9 @@ import tempfile
 sys.path.insert(0, str(pathlib.Path(__file__).resolve().parent.parent / "tools"))
 from workspace import ROOT, crates, is_fresh, says
 
+# By this word a check runs over one build of a program.
+ONE_BUILD = "--one-build"
+
 
 class Cases:
     """Counts cases, and prints a line for each."""
@@ -23,14 +26,14 @@ class Cases:
             print(said, flush=True)
 
     def end(self):
-        """Prints the last line of a check, and answers its status."""
+        """Prints the last line of a check, and returns its status."""
         print(f"{self.passed} passed, {self.failed} failed")
         return 1 if self.failed or not self.passed else 0
 
 
 @contextlib.contextmanager
 def changeable_copy():
-    """A copy of the repository without its history and without kept work, which is there until the end of the block."""
+    """A copy of the repository without its history and without cached work, which is there until the end of the block."""
 
     def left_out(folder, names):
         inside = pathlib.Path(folder).relative_to(ROOT).parts
@@ -41,13 +44,16 @@ def changeable_copy():
 
 
 def built(name, endings):
-    """What `rt` left of a crate in its folder out/: the programs NAME with these endings. One that is older than a source is none."""
+    """What `rt` left of a crate in its folder out/: the programs NAME with these endings, but for one that is older than a source."""
     programs = [ROOT / "crates" / name / "out" / f"{name}{it}" for it in endings]
     return [it for it in programs if is_fresh(it, name)]
 
 
 def both_builds(cases, name):
-    """A program as both compilers made it: LLVM's, and that of Rattle's own. That both are there is a case."""
-    programs = built(name, ("", ".by-rattle"))
-    cases.count(f"both builds of {name} are there", len(programs) == 2, f"crates/{name}/out lacks one, or it is older than its sources: `rt ci` makes them")
+    """A program as both compilers made it: LLVM's, and that of Rattle's own. That both are there is a case. With the word
+    --one-build it is LLVM's alone."""
+    endings = ("",) if ONE_BUILD in sys.argv[1:] else ("", ".by-rattle")
+    programs = built(name, endings)
+    label = f"the build of {name} is there" if len(endings) == 1 else f"both builds of {name} are there"
+    cases.count(label, len(programs) == len(endings), f"crates/{name}/out lacks one, or it is older than its sources")
     return programs

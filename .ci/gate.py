@@ -1,13 +1,17 @@
 #!/usr/bin/env python3
-"""The whole gate: `rt ci`, the planted bugs, and each check that these can't do, every script of .ci/checks.
+"""The checks of the repository, as parts that run side by side.
 
-    gate.py            all of it, from nothing
-    gate.py --quick    proofs and tests alone, over the work that earlier checks kept: no planted bug is tried
+    gate.py test                    what a person runs: every test run with each access checked, the product proved, and all that
+                                    can be tried on one build of it
+    gate.py gate [BUGS=changed]     everything from nothing: also the proofs of all tests, both builds, and the planted bugs
+                                    (with BUGS=changed only those of functions that differ from the last landed commit)
+    gate.py check                   proofs and tests of what has changed, over cached proofs: no planted bug is tried
 
-`rt ci` works on a copy of the repository without the planted bugs, so that it proves everything from nothing. Beside it the
-planted bugs are tried, many in one check (planted_bugs.py), and the scripts run; after it those that run what it built.
-Each part ends with 'N passed, M failed'. What it said in full stands in the folder out/, and is shown where it fails. At the
-end stands a table of the parts, and then a line that adds them up.
+Each part ends with 'N passed, M failed'. All that it said is in the folder out/, and is shown where it fails. At the end stands
+a table of the parts, and then a line that adds them up. TERM, HUP and Ctrl-C end all parts.
+
+`rt ci` works on a copy of the repository without the planted bugs, so that it proves everything from nothing. The planted bugs
+are tried beside it, many in one check (planted_bugs.py).
 """
 import concurrent.futures
 import contextlib
@@ -16,22 +20,28 @@ import os
 import pathlib
 import re
 import shutil
-import signal
 import subprocess
 import sys
 import tempfile
 import threading
 import time
 
-from checking import ROOT, crates, says
+from checking import ONE_BUILD, ROOT, crates, says
+from processes import end_on_signals, started
 
-# The checks. Those in `built` run what `rt ci` built, and those in `proofs` go over the proofs that the planted bugs keep.
+# The checks. Those in `built` run programs, and those in `proofs` go over cached proofs.
 CHECKS = ROOT / ".ci/checks"
-# What it takes from nothing on four processors, in minutes.
-MINUTES, QUICK_MINUTES = 60, 15
+# These need the proofs of tests, or prove crates again with a change: they run in the gate alone.
+GATE_ALONE = ("always_memory.py", "refused_growths.py", "layers.py", "row_mover_privacy.py")
+# The crates that `test` proves, with those below them: the programs and the library for C.
+PRODUCT = ("imgref_run", "imgref_frames", "imgref_c")
+# What each takes from nothing on four processors, in minutes.
+MINUTES = {"test": 12, "gate": 40, "check": 15}
 COUNT = re.compile(r"(\d+) passed, (\d+) failed")
 # What is shown of a long part while it goes on: each proof that has ended, and what failed.
 ENDED = re.compile(r"== (\w+(?:: its tests)?)$")
+# How far the proofs are, of which a line is shown now and then.
+PROGRESS, EVERY = re.compile(r"\d+:\d\d +\d+ %"), 30
 TOLD = re.compile(r"rt: .*NOT PROVED|rt: .*FAILED|.*NOT REFUSED|.*FAILED")
 LOGS = ROOT / "out"
 SAID = threading.Lock()
@@ -55,7 +65,7 @@ class Part:
     at: pathlib.Path = ROOT
     proofs: int = 0
     counts: bool = True
-    # (`rt ci` and the planted bugs take longest: all else takes what they leave)
+    # (what takes longest goes first, and all else takes what it leaves)
     nice: int = 15
     seconds: float = 0
     memory: int = 0
@@ -65,23 +75,23 @@ class Part:
 
     def run(self):
         """Runs the part, writes what it says into a file, and shows how far it is."""
-        began, lines, ended = time.monotonic(), [], 0
+        began, shown, lines, ended = time.monotonic(), 0, [], 0
         log = LOGS / f"{self.name.replace(' ', '_')}.log"
         how = {"stdin": subprocess.DEVNULL, "stdout": subprocess.PIPE, "stderr": subprocess.STDOUT, "text": True, "errors": "replace"}
-        # (a session of its own, by which its memory is counted and all of it is ended)
-        self.process = subprocess.Popen(["nice", "-n", str(self.nice), *self.command], cwd=self.at, start_new_session=True, **how)
-        # (Linux shares the processors among sessions first, and looks at `nice` only within one)
-        with contextlib.suppress(OSError):
-            pathlib.Path(f"/proc/{self.process.pid}/autogroup").write_text(str(self.nice))
-        with self.process, open(log, "w", encoding="utf-8") as kept:
+        # (a session of its own, by which its memory is counted)
+        with started(["nice", "-n", self.nice, *self.command], in_session=True, cwd=self.at, **how) as self.process, open(log, "w", encoding="utf-8") as kept:
+            # (Linux shares the processors among sessions first, and looks at `nice` only within one)
+            with contextlib.suppress(OSError):
+                pathlib.Path(f"/proc/{self.process.pid}/autogroup").write_text(str(self.nice))
             for line in self.process.stdout:
                 lines.append(line.rstrip("\n"))
                 kept.write(line)
                 if found := ENDED.match(line):
                     ended += 1
                     say(f"{minutes(time.monotonic() - began)}  {self.name}: {ended} of {self.proofs}, {found[1]}")
-                elif TOLD.match(line):
-                    say(f"{minutes(time.monotonic() - began)}  {self.name}: {line.strip()[:150]}")
+                elif TOLD.match(line) or PROGRESS.match(line) and time.monotonic() > shown + EVERY:
+                    shown = time.monotonic()
+                    say(f"{minutes(shown - began)}  {self.name}: {line.strip()[:150]}")
         self.seconds = time.monotonic() - began
         self.count(lines, self.process.returncode == 0)
         if self.failed:
@@ -132,14 +142,27 @@ class Memory:
         self.thread.join()
 
 
-def scripts(folder, top=ROOT):
-    """The checks of a folder, which run in the repository or in its copy."""
-    return [Part(it.name, [sys.executable, str(top / it.relative_to(ROOT))], top) for it in sorted(folder.glob("*.py"))]
+def scripts(folder, top=ROOT, words=(), without=()):
+    """The checks of a folder but for some, which run in the repository or in its copy, with these words."""
+    return [Part(it.name, [sys.executable, str(top / it.relative_to(ROOT)), *words], top) for it in sorted(folder.glob("*.py")) if it.name not in without]
+
+
+def side_by_side(lines):
+    """Runs lines of parts side by side, the parts of each one after the other. What waits for a part that failed runs too. A
+    list in a line is of lines again."""
+
+    def run(line):
+        for it in line:
+            side_by_side(it) if isinstance(it, list) else it.run()
+
+    with concurrent.futures.ThreadPoolExecutor() as pool:
+        for it in [pool.submit(run, line) for line in lines]:
+            it.result()
 
 
 @contextlib.contextmanager
 def copied():
-    """A copy of the repository without the planted bugs, without its history and without kept work."""
+    """A copy of the repository without the planted bugs, without its history and without cached work."""
 
     def left_out(folder, names):
         inside = pathlib.Path(folder).relative_to(ROOT).parts
@@ -152,24 +175,38 @@ def copied():
         yield top
 
 
-def quick(parts):
+def check(parts, _):
     """Proves and tests what has changed."""
     parts.append(Part("rt all test", ["rt", "all", "test"], proofs=len(crates()), counts=False, nice=0))
     parts[0].run()
 
 
-def whole(parts, top):
-    """Runs everything, and answers once all has ended."""
-    of_ci = Part("rt ci", ["rt", "ci"], top, proofs=sum(1 + says(it, "#[test]") for it in crates()), nice=0)
-    bugs = Part("planted bugs", [sys.executable, str(ROOT / ".ci/planted_bugs.py")], nice=0)
-    kept = [bugs, *scripts(CHECKS / "proofs")]
-    beside = scripts(CHECKS)
-    # (these run in the copy, where `rt ci` left the programs)
-    built = [of_ci, *scripts(CHECKS / "built", top)]
-    parts += [*built, *kept, *beside]
-    with concurrent.futures.ThreadPoolExecutor() as pool:
-        for it in [pool.submit(lambda line: [it.run() for it in line], line) for line in (built, kept, beside)]:
-            it.result()
+def test(parts, _):
+    """Runs every test with nothing proved, proves and builds the product beside that, and tries what was built."""
+    tests = Part("tests", [sys.executable, str(ROOT / ".ci/tests.py")], nice=0)
+    product = Part("product", building(*PRODUCT), counts=False, nice=5)
+    built = scripts(CHECKS / "built", words=[ONE_BUILD], without=GATE_ALONE) + scripts(CHECKS / "proofs", without=GATE_ALONE)
+    beside = scripts(CHECKS, without=GATE_ALONE)
+    parts += [tests, product, *built, *beside]
+    side_by_side([[tests], [product, [[it] for it in built]], beside])
+
+
+def gate(parts, only):
+    """Runs everything from nothing."""
+    with copied() as top:
+        of_ci = Part("rt ci", ["rt", "ci"], top, proofs=sum(1 + says(it, "#[test]") for it in crates()), nice=0)
+        # (these run in the copy, where `rt ci` left the programs)
+        built = scripts(CHECKS / "built", top)
+        proofs = Part("cached proofs", building(*(it for it in crates() if (ROOT / "crates" / it / "must-fail").is_dir())), counts=False, nice=0)
+        bugs = Part("planted bugs", [sys.executable, str(ROOT / ".ci/planted_bugs.py"), *only], nice=0)
+        cached, beside = scripts(CHECKS / "proofs"), scripts(CHECKS)
+        parts += [of_ci, *built, proofs, bugs, *cached, *beside]
+        side_by_side([[of_ci, [[it] for it in built]], [proofs, [[bugs], cached]], beside])
+
+
+def building(*names):
+    """The command that proves and builds these crates."""
+    return [sys.executable, str(ROOT / "tools/program.py"), "build", *names]
 
 
 def table(parts, most, began):
@@ -179,30 +216,16 @@ def table(parts, most, began):
     return "\n".join(["", *lines, f"{'in all':{width}}  {minutes(time.monotonic() - began):>12}  {most / 1e9:4.1f} GB"])
 
 
-def end(parts):
-    for it in parts:
-        if it.process and it.process.poll() is None:
-            with contextlib.suppress(OSError):
-                os.killpg(it.process.pid, signal.SIGKILL)
-
-
 def main(words):
-    if words not in ([], ["--quick"]):
+    ways = {"test": test, "gate": gate, "check": check}
+    only = {"": [], "changed": ["--changed"]}.get(os.environ.get("BUGS", ""))
+    if len(words) != 1 or words[0] not in ways or only is None:
         sys.exit(__doc__)
     began, parts = time.monotonic(), []
     LOGS.mkdir(exist_ok=True)
-    say(f"About {QUICK_MINUTES if words else MINUTES} minutes on four processors (here: {len(os.sched_getaffinity(0))}){', less over kept work' if words else ''}.")
+    say(f"About {MINUTES[words[0]]} minutes from nothing on four processors (here: {len(os.sched_getaffinity(0))}), less with cached proofs.")
     with Memory(parts) as memory:
-        try:
-            if words:
-                quick(parts)
-            else:
-                with copied() as top:
-                    whole(parts, top)
-        except KeyboardInterrupt:
-            sys.exit("interrupted")
-        finally:
-            end(parts)
+        ways[words[0]](parts, only)
     passed, failed = sum(it.passed for it in parts), sum(it.failed for it in parts)
     say(table(parts, memory.most, began))
     say(f"{passed} passed, {failed} failed")
@@ -210,4 +233,8 @@ def main(words):
 
 
 if __name__ == "__main__":
-    sys.exit(main(sys.argv[1:]))
+    end_on_signals()
+    try:
+        sys.exit(main(sys.argv[1:]))
+    except KeyboardInterrupt:
+        sys.exit("interrupted: all parts have ended")

@@ -1,15 +1,20 @@
 #!/usr/bin/env python3
 """Tries the planted bugs, crates/*/must-fail/*.edit: the prover must refuse each at a goal of the function that it changes.
 
-    planted_bugs.py [CRATE..] [--only NAME]
+    planted_bugs.py [CRATE..] [--only NAME] [--changed [COMMIT]] [--list]
 
-A function's proof cites the contracts of others and not their bodies. So bugs of different functions are tried in one
-check, and each is judged by the goals that stay open in its own function. A written answer that no longer fits a goal is
-left out, and the check made again: that a goal has changed is no evidence that it doesn't hold. What shows no goal so is
-tried by itself, and judged as `rt must-fail` does; what is then refused by a proof by hand alone is counted and said.
+A function's proof cites the contracts of others and not their bodies. So many bugs are tried in one check, and each is judged
+by the goals that stay open in its own function. Several bugs of one function are several copies of it, each with a name of its
+own and with copies of its proof files. A method of a trait, a function that calls itself, and one that is proved by hand have
+no copies: of these one bug is tried at a time, in the function itself.
 
-The crates are proved first, where their kept work is not fresh, and are only read: each check runs in a room of its own.
-The last line counts the bugs.
+A written answer that no longer fits a goal is left out, and the check made again: that a goal has changed is no evidence that
+it doesn't hold. What shows no goal so is tried by itself, in the function itself, and judged as `rt must-fail` does. What is
+then refused by a proof by hand alone is counted and said.
+
+The crates are proved first, where their cached proofs are not fresh, and are only read: each check runs in a room of its own.
+With --changed only those bugs are tried whose own text, or whose function's source, proof files or crate's definitions, differ
+from a commit (the last one that is on origin/main, else HEAD). The last line counts the bugs.
 """
 import argparse
 import collections
@@ -17,16 +22,16 @@ import concurrent.futures
 import dataclasses
 import pathlib
 import re
-import subprocess
 import sys
 
 sys.path.insert(0, str(pathlib.Path(__file__).resolve().parent.parent / "tools"))
-from proving import Failed, Progress, processors, prove, weights_of
+from functions import Function, function_at, function_names, proof_folder
+from processes import end_on_signals, run_to_end
+from proving import Failed, Progress, all_below, processors, prove_changed, run, weights_of
 from workspace import ROOT, crates, room, with_those_below
 
 # So many bugs are tried in one check: more would cost more to try again where one of them can't be read.
-MOST = 16
-FUNCTION = re.compile(r"\s*(?:pub(?:\(\w+\))? )?(?:const )?(?:unsafe )?fn (\w+)")
+MOST = 24
 GOAL = re.compile(r"note: (?:\./)?(src/\S+?):(\d+):\d+: ")
 STALE = re.compile(r"(?:note: )?(?:\./)?(proofs/\S+/Answers\.antt):\d+:\d+: error: `([^`]*)`")
 ERROR = re.compile(r"(?:\./)?(\S+?):\d+:\d+: error: (?:(`[^`]*`): )?(.*)")
@@ -37,15 +42,27 @@ HARDLY = re.compile(r"(?:\./)?proofs/.*(?:has no field|is not in scope|has no `|
 
 @dataclasses.dataclass
 class Bug:
-    """A planted bug: its file, its pairs of old and new text by file, and for each pair the lines of the function there, or None."""
+    """A planted bug: its file, its pairs of old and new text by file, the function of each pair or None, and its copy's proof folder.
+
+    `folder` is False where the bug is tried in the function itself, None where the function has no proof files."""
 
     path: pathlib.Path
     pairs: list
-    spans: list
+    functions: list
+    folder: object = False
 
     @property
     def name(self):
         return f"{self.path.parent.parent.name}/{self.path.stem}"
+
+    @property
+    def copy(self):
+        """The name of the copy of its function."""
+        return f"planted_{self.path.stem}"
+
+    @property
+    def is_copied(self):
+        return self.folder is not False
 
 
 def read(path, crate):
@@ -60,21 +77,25 @@ def read(path, crate):
             pairs.append((file, old, line[len("new:") :].removeprefix(" ")))
     texts = {file: (crate / file).read_text(encoding="utf-8") for file, _, _ in pairs}
     applied(dict(texts), pairs)
-    return Bug(path, pairs, [span(texts[file], file, old) for file, old, _ in pairs if old in texts[file]])
+    places = [(file, function_at(texts[file], old)) for file, old, _ in pairs if old in texts[file]]
+    bug = Bug(path, pairs, [(file, it) if it else None for file, it in places])
+    bug.folder = folder_of(bug, texts, crate)
+    return bug
 
 
-def span(text, file, old):
-    """The lines of the function in which a text stands, from 1, or None where it stands in none."""
-    lines, at = text.split("\n"), text[: text.index(old)].count("\n")
-    heads = [it for it, line in enumerate(lines) if FUNCTION.match(line)]
-    before = [it for it in heads if it <= at]
-    if not before:
-        return None
-    start, after = before[-1], next((it for it in heads if it > at), len(lines))
-    # (a goal of the whole function is told at its first attribute)
-    while start and lines[start - 1].strip().startswith(("#[", "//")):
-        start -= 1
-    return file, start + 1, after
+def folder_of(bug, texts, crate):
+    """The folder of the proof files that a copy of the bug's function takes, None where it has none, or False where it can't be copied."""
+    if None in bug.functions or len({(file, it.name, it.start) for file, it in bug.functions}) != 1:
+        return False
+    file, function = bug.functions[0]
+    text = function.text(texts[file])
+    if not function.is_copyable or len(bug.functions) != len(bug.pairs):
+        return False
+    try:
+        applied({file: text}, bug.pairs)
+    except ValueError:
+        return False
+    return proof_folder(crate, file, function)
 
 
 def applied(texts, pairs):
@@ -86,29 +107,84 @@ def applied(texts, pairs):
     return texts
 
 
-def texts_with(bugs, crate):
-    """The files of a crate that these bugs change, as they change them."""
-    pairs = [it for bug in bugs for it in bug.pairs]
-    return applied({file: (crate / file).read_text(encoding="utf-8") for file, _, _ in pairs}, pairs)
+@dataclasses.dataclass
+class Planted:
+    """The files of a crate with some bugs, and the lines of each bug's function there: a file, the first line and the last, from 1."""
+
+    texts: dict
+    spans: dict
 
 
-def is_apart(bug, others, crate):
-    """Whether a bug changes other functions than these, and can be planted beside them."""
-    taken = [it for other in others for it in other.spans]
-    if None in bug.spans or None in taken or any(a[0] == b[0] and a[1] <= b[2] and b[1] <= a[2] for a in bug.spans for b in taken):
-        return False
-    try:
-        texts_with([*others, bug], crate)
-        return True
-    except ValueError:
-        return False
-
-
-def batches(bugs, crate):
-    """Parts the bugs, so that those of a batch change different functions."""
-    found = []
+def plant(bugs, crate):
+    """Plants bugs together: copies of functions behind the functions, and the other bugs in the functions themselves."""
+    files = {file for bug in bugs for file, _, _ in bug.pairs}
+    texts = {file: (crate / file).read_text(encoding="utf-8") for file in files}
+    copies = collections.defaultdict(list)
+    for bug in (it for it in bugs if it.is_copied):
+        file, function = bug.functions[0]
+        changed = applied({file: function.text(texts[file])}, bug.pairs)[file]
+        copies[file].append((function, bug, function.renamed(changed, bug.copy)))
+    applied(texts, [pair for bug in bugs if not bug.is_copied for pair in bug.pairs])
+    for file, found in copies.items():
+        lines = texts[file].split("\n")
+        # (from the last line to the first, so that the lines before stay where they are)
+        for function, _, text in sorted(found, key=lambda it: -it[0].end):
+            lines[function.end : function.end] = ["", *text.split("\n")]
+        texts[file] = "\n".join(lines)
+    spans = {}
     for bug in bugs:
-        batch = next((it for it in found if len(it) < MOST and is_apart(bug, it, crate)), None)
+        names = [(file, bug.copy if bug.is_copied else it.name, it) for file, it in (at for at in bug.functions if at)]
+        spans[bug.name] = [(file, *lines_of(texts[file], name, it)) for file, name, it in names]
+        if bug.folder:
+            texts.update(copied_proofs(crate, bug))
+    return Planted(texts, spans)
+
+
+def lines_of(text, name, function):
+    """The lines of a function in a changed text, from 1. (A text of a bug is one line, so functions keep their order and length.)"""
+    names = function_names(text)
+    at = [it for it, found in names if found == name]
+    start = at[function.number] if len(at) > function.number else at[0]
+    after = next((it for it, _ in names if it > start), len(text.split("\n")))
+    lines = text.split("\n")
+    # (a goal of the whole function is told at its first attribute)
+    while start and lines[start - 1].strip().startswith(("#[", "//")):
+        start -= 1
+    return start + 1, after
+
+
+def copied_proofs(crate, bug):
+    """The proof files of a copy, by their paths in the crate."""
+    _, function = bug.functions[0]
+    dotted = lambda it: ".".join(it.relative_to(crate / "proofs").parts)
+    new = bug.folder.with_name(bug.copy)
+    old_path, new_path = (f"Rattle.{crate.name}.proofs.{dotted(it)}." for it in (bug.folder, new))
+    found = {}
+    for it in bug.folder.rglob("*.antt"):
+        text = it.read_text(encoding="utf-8").replace(old_path, new_path)
+        found[str((new / it.relative_to(bug.folder)).relative_to(crate))] = text
+    return found
+
+
+def is_apart(bug, others):
+    """Whether a bug can be planted beside these: both in copies, or in different functions."""
+    functions = lambda it: {(file, f.name, f.number) for file, f in it.functions}
+    for other in others:
+        if bug.is_copied and other.is_copied:
+            continue
+        if None in bug.functions or None in other.functions or functions(bug) & functions(other):
+            return False
+        if not bug.is_copied and not other.is_copied and {it[:2] for it in bug.pairs} & {it[:2] for it in other.pairs}:
+            return False
+    return True
+
+
+def batches(bugs):
+    """Parts the bugs into those that are tried in one check: as few as can be, and of about one size."""
+    most = -(-len(bugs) // max(-(-len(bugs) // MOST), 1))
+    found = []
+    for bug in sorted(bugs, key=lambda it: it.is_copied):
+        batch = next((it for it in found if len(it) < most and is_apart(bug, it)), None)
         if batch is None:
             found.append(batch := [])
         batch.append(bug)
@@ -116,19 +192,21 @@ def batches(bugs, crate):
 
 
 def said_with(name, texts):
-    """What the check of a crate says with these texts in place of its own, over a copy of its kept work."""
+    """What the check of a crate says with these texts in place of its own, over a copy of its cached proofs."""
+    lines = []
     with room(name) as made:
         for file, text in texts.items():
+            (made / file).parent.mkdir(parents=True, exist_ok=True)
             (made / file).write_text(text, encoding="utf-8")
-        ran = subprocess.run(["rt", "check", "--jobs", "1"], cwd=made, stdin=subprocess.DEVNULL, stdout=subprocess.PIPE, stderr=subprocess.STDOUT, text=True, errors="replace")
-    return ran.stdout.rstrip("\n").split("\n"), ran.returncode
+        status = run(["rt", "check", "--jobs", "1"], made, lines.append)
+    return "".join(lines).rstrip("\n").split("\n"), status
 
 
-def goal_of(bug, lines):
-    """The first goal that stays open in a function that the bug changes, or nothing. (A text of a bug is one line, so lines keep their numbers.)"""
+def goal_of(spans, lines):
+    """The first goal that stays open in these lines of the sources, or nothing."""
     for line in lines:
         found = GOAL.match(line)
-        if found and any(it and found[1] == it[0] and it[1] <= int(found[2]) <= it[2] for it in bug.spans):
+        if found and any(found[1] == file and first <= int(found[2]) <= last for file, first, last in spans):
             return line
     return None
 
@@ -153,14 +231,18 @@ def try_all(name, bugs):
     crate = ROOT / "crates" / name
     left, answers, first = bugs, {}, None
     for _ in range(4):
-        texts = texts_with(left, crate)
+        planted = plant(left, crate)
         for file, goals in answers.items():
-            texts[file] = without(texts.get(file) or (crate / file).read_text(encoding="utf-8"), goals)
-        lines, status = said_with(name, texts)
-        first = first or (lines, status, texts)
-        if status != 1 or any(is_unreadable(it, texts) for it in lines):
+            text = planted.texts.get(file)
+            if text is None and (crate / file).is_file():
+                text = (crate / file).read_text(encoding="utf-8")
+            if text is not None:
+                planted.texts[file] = without(text, goals)
+        lines, status = said_with(name, planted.texts)
+        first = first or (lines, status, planted.texts)
+        if status != 1 or any(is_unreadable(it, planted.texts) for it in lines):
             break
-        goals = {bug.name: goal_of(bug, lines) for bug in left}
+        goals = {bug.name: goal_of(planted.spans[bug.name], lines) for bug in left}
         yield from ((True, f"{bug.name}: refused: {goals[bug.name][:160]}") for bug in left if goals[bug.name])
         left = [bug for bug in left if not goals[bug.name]]
         stale = [it.groups() for it in map(STALE.match, lines) if it]
@@ -168,9 +250,9 @@ def try_all(name, bugs):
             break
         for file, goal in stale:
             answers.setdefault(file, set()).add(goal)
-    if len(bugs) > 1:
+    if len(bugs) > 1 or left and left[0].is_copied:
         for bug in left:
-            yield from try_all(name, [bug])
+            yield from try_all(name, [dataclasses.replace(bug, folder=False)])
     elif left:
         yield judged(left[0], *first)
 
@@ -207,34 +289,77 @@ def all_bugs(names, only):
     return good, bad
 
 
+def git(*words):
+    """What git says, or None where it fails."""
+    ran = run_to_end(["git", "-C", ROOT, *words])
+    return ran.stdout if ran.returncode == 0 else None
+
+
+def is_changed(bug, commit, paths):
+    """Whether a bug, its function with its contract and proof files, or a definition or lemma of its crate differs from a commit."""
+    crate = bug.path.parent.parent
+    below = lambda it: str(it.relative_to(ROOT))
+    shared = [it for it in paths if it.startswith((f"{below(crate)}/specs/", f"{below(crate)}/proofs/")) and not it.endswith(("/Answers.antt", "/Invariants.antt", "/Proof.antt"))]
+    if below(bug.path) in paths or shared or None in bug.functions:
+        return True
+    for file, function in bug.functions:
+        if below(crate / file) in paths:
+            old = git("show", f"{commit}:{below(crate / file)}") or ""
+            if function.text((crate / file).read_text(encoding="utf-8")) not in old:
+                return True
+        if any(f"/{function.name}/" in it for it in paths if it.startswith(f"{below(crate)}/proofs/")):
+            return True
+    return False
+
+
+def only_changed(bugs, commit):
+    """Those of the bugs that differ from a commit in something that they show."""
+    commit = commit or ("origin/main" if git("rev-parse", "--verify", "-q", "origin/main") else "HEAD")
+    said = git("diff", "--name-only", commit)
+    if said is None:
+        raise Failed("git", f"there is no commit {commit}")
+    paths = {*said.splitlines(), *(git("ls-files", "--others", "--exclude-standard") or "").splitlines()}
+    print(f"only the planted bugs of functions that differ from {commit}", flush=True)
+    return {name: kept for name, found in bugs.items() if (kept := [it for it in found if is_changed(it, commit, paths)])}
+
+
 def main():
     asked = argparse.ArgumentParser(description=__doc__, formatter_class=argparse.RawDescriptionHelpFormatter)
     asked.add_argument("crates", nargs="*")
     asked.add_argument("--only", action="append", default=[], metavar="NAME")
+    asked.add_argument("--changed", nargs="?", const="", default=None, metavar="COMMIT")
+    asked.add_argument("--list", action="store_true", help="prints the bugs of each check, and tries none")
     asked = asked.parse_args()
-    names = asked.crates or [*crates()]
-    bugs, bad = all_bugs(names, asked.only)
-    needed = [it for it in crates() if any(it in with_those_below(name) for name in bugs)]
-    passed, failed = 0, len(bad)
+    bugs, bad = all_bugs(asked.crates or [*crates()], asked.only)
     print(*bad, sep="\n", end="\n" if bad else "")
+    passed, failed = 0, len(bad)
+    try:
+        if asked.changed is not None:
+            bugs = only_changed(bugs, asked.changed)
+        checks = [(name, batch) for name, found in bugs.items() for batch in batches(found)]
+        if asked.list:
+            print(*(f"{name}: {', '.join(it.path.stem + ('' if it.is_copied else ' (in place)') for it in batch)}" for name, batch in checks), sep="\n")
+            return 0
+        said = prove_changed([*bugs], Progress(*weights_of(all_below([*bugs]))))
+        if said is not None:
+            raise Failed("", said)
+    except Failed as why:
+        print(f"{why.said}\n0 passed, 1 failed")
+        return 1
     with concurrent.futures.ThreadPoolExecutor(processors()) as pool:
-        tried = []
-        try:
-            prove(needed, Progress(*weights_of(needed)))
-        except Failed as why:
-            print(f"{why.name} is not proved:\n{why.said}")
-            print("0 passed, 1 failed")
-            return 1
-        # the longest first
-        for name in sorted(bugs, key=lambda it: -len(bugs[it])):
-            tried += [pool.submit(lambda *it: [*try_all(*it)], name, batch) for batch in batches(bugs[name], ROOT / "crates" / name)]
-        for it in tried:
+        # (the longest first)
+        checks.sort(key=lambda it: -len(it[1]) * (1 + len(with_those_below(it[0]))))
+        for it in concurrent.futures.as_completed([pool.submit(lambda *it: [*try_all(*it)], *it) for it in checks]):
             for is_refused, line in it.result():
                 passed, failed = passed + is_refused, failed + (not is_refused)
                 print(line, flush=True)
     print(f"{passed} passed, {failed} failed")
-    return 1 if failed or not passed else 0
+    return 1 if failed or not passed and asked.changed is None else 0
 
 
 if __name__ == "__main__":
-    sys.exit(main())
+    end_on_signals()
+    try:
+        sys.exit(main())
+    except KeyboardInterrupt:
+        sys.exit("interrupted")

@@ -16,6 +16,7 @@ import pathlib
 import random
 import re
 import shutil
+import signal
 import subprocess
 import sys
 import tempfile
@@ -23,10 +24,10 @@ import time
 import traceback
 
 import c_library
-from c_library import Failure, archive_of, command, compiler, toolchain
-from program import built, program_of, say, shown
-from proving import Progress, prove_changed, weights_of
-from workspace import ROOT, is_fresh, with_those_below
+from c_library import Failure, command, compiler, toolchain
+from processes import end_on_signals, started
+from program import built, say
+from workspace import ROOT, is_proved, product
 
 OUT = ROOT / "out/bench"
 PAGE, PLOT = ROOT / "docs/PERFORMANCE.md", ROOT / "docs/speed.svg"
@@ -52,6 +53,7 @@ def apart(failing, task):
     if not child:
         status = 1
         try:
+            os.setpgrp()
             task()
             status = 0
         except Failure as why:
@@ -60,7 +62,13 @@ def apart(failing, task):
             traceback.print_exc()
         finally:
             os._exit(status)
-    if os.waitpid(child, 0)[1]:
+    try:
+        status = os.waitpid(child, 0)[1]
+    except KeyboardInterrupt:
+        os.kill(child, signal.SIGTERM)
+        os.waitpid(child, 0)
+        raise
+    if status:
         raise Failure(failing)
 
 
@@ -80,31 +88,13 @@ def rust(crate):
     return ["-Wl,-u,rust_u8_fill", OUT / "libspeed.a"]
 
 
-def prove_side_by_side(products):
-    """Proves what these are made of, each by its crate, where something has changed: all at once, which building one after the
-    other doesn't do."""
-    names = [*dict.fromkeys(it for name, product in products.items() if not is_fresh(product, name) for it in with_those_below(name))]
-    if names:
-        say(f"First {len(names)} crates are proved where something has changed.")
-        progress = Progress(*weights_of(names))
-        with shown(progress):
-            said = prove_changed(names, progress)
-        if said is not None:
-            raise Failure(f"{said}NOT PROVED")
-
-
 def make(crate, speed, numbers, with_video):
     """Builds all that is timed: the C side, the plain program, and what both stand beside."""
     OUT.mkdir(parents=True, exist_ok=True)
-    programs = {it: program_of(it) for it in ("imgref_run", *["imgref_frames"] * with_video)}
-    libraries = {it: ROOT / "crates" / it / "out" / f"lib{it}.a" for it in (c_library.NAME, "bench_exports")}
-    prove_side_by_side(programs | libraries)
-    for program in programs:
-        if built(program):
-            raise Failure(f"{program} is not proved")
+    if built("imgref_run", *["imgref_frames"] * with_video, c_library.NAME, "bench_exports"):
+        raise Failure("what is timed is not proved")
     c_library.build()
-    exports = archive_of("bench_exports")
-    ours = [exports, ROOT / "out/c/libimgref.a", *toolchain()]
+    ours = [product("bench_exports"), ROOT / "out/c/libimgref.a", *toolchain()]
     command(*compiler(), "-O2", f"-I{ROOT / 'include'}", "-o", speed, ROOT / "bench/speed.c", *rust(crate), *ours, "-lpthread", "-ldl", "-lm")
     command(*compiler(), "-O2", "-o", numbers, ROOT / "bench/numbers.c")
 
@@ -112,7 +102,7 @@ def make(crate, speed, numbers, with_video):
 def calls(speed, rounds, sides):
     """The lines that the C side writes, each as it comes: the call, the cell, the side, its time and those beside it."""
     rows = []
-    with subprocess.Popen([speed, str(rounds), *map(str, sides)], stdout=subprocess.PIPE, text=True) as ran:
+    with started([speed, str(rounds), *map(str, sides)], stdout=subprocess.PIPE, text=True) as ran:
         for line in ran.stdout:
             name, cell, side, *times = line.rstrip("\n").split("\t")
             rows.append((name, {"1": "u8", "4": "u32"}[cell], int(side), *map(float, times)))
@@ -165,9 +155,9 @@ def written(source, text, count):
 def run(program, source):
     """The processor time of one run in seconds, from a file to a file, and its most memory in bytes."""
     with open(source) as given, tempfile.TemporaryFile(dir=OUT) as taken:
-        process = subprocess.Popen([program], stdin=given, stdout=taken)
-        _, status, used = os.wait4(process.pid, 0)
-        process.returncode = os.waitstatus_to_exitcode(status)
+        with started([program], stdin=given, stdout=taken) as process:
+            _, status, used = os.wait4(process.pid, 0)
+            process.returncode = os.waitstatus_to_exitcode(status)
     if process.returncode:
         raise Failure(f"{program} ended with status {process.returncode}")
     return used.ru_utime + used.ru_stime, 1024 * used.ru_maxrss
@@ -179,7 +169,7 @@ def scripts(numbers, beside, asked):
     for name, text, count, plain in (("pixels", pixels, asked.pixels, [numbers]), ("commands", commands, asked.commands, [])):
         source = OUT / f"{name}.script"
         size = written(source, text, count)
-        each = [program_of("imgref_run"), *plain, *([beside] if beside else [])]
+        each = [product("imgref_run"), *plain, *([beside] if beside else [])]
         runs = [[run(it, source) for it in each] for _ in range(RUNS)]
         least = [min(times[k][0] for times in runs) for k in range(len(each))]
         memory = [min(times[k][1] for times in runs) for k in range(len(each))]
@@ -189,9 +179,9 @@ def scripts(numbers, beside, asked):
 def passed(source, words):
     """The wall time in seconds that a video takes through a pipe from `cat` to `cat`, with a command between them."""
     began = time.monotonic()
-    with subprocess.Popen(["cat", source], stdout=subprocess.PIPE) as first:
-        with subprocess.Popen(words, stdin=first.stdout, stdout=subprocess.PIPE) as between:
-            with subprocess.Popen(["cat"], stdin=between.stdout, stdout=subprocess.DEVNULL) as last:
+    with started(["cat", source], stdout=subprocess.PIPE) as first:
+        with started(words, stdin=first.stdout, stdout=subprocess.PIPE) as between:
+            with started(["cat"], stdin=between.stdout, stdout=subprocess.DEVNULL) as last:
                 first.stdout.close()
                 between.stdout.close()
                 last.wait()
@@ -208,7 +198,7 @@ def frames_table(count):
         source = OUT / "frames"
         written(source, text, count)
         filters = FILTERS if text is video and shutil.which("ffmpeg") else {}
-        each = {it: [program_of("imgref_frames"), *it.split()] for it in EDITS} | {it: FFMPEG.format(it).split() for it in filters.values()}
+        each = {it: [product("imgref_frames"), *it.split()] for it in EDITS} | {it: FFMPEG.format(it).split() for it in filters.values()}
         each |= {"cat": ["cat"], "dd": ["dd", f"bs={size}", "iflag=fullblock", "status=none"]}
         runs = [{it: passed(source, words) for it, words in each.items()} for _ in range(RUNS)]
         source.unlink()
@@ -278,7 +268,7 @@ def main():
     asked = options.parse_args()
     sides = [int(it) for it in asked.sides.split(",")]
     began = time.time()
-    with_video = asked.video or asked.write or is_fresh(program_of("imgref_frames"), "imgref_frames")
+    with_video = asked.video or asked.write or is_proved("imgref_frames")
     speed, numbers = OUT / "speed", OUT / "numbers"
     apart("what is timed can't be built", lambda: make(asked.crate, speed, numbers, with_video))
     began_timing = time.time()
@@ -300,6 +290,7 @@ def main():
 
 
 if __name__ == "__main__":
+    end_on_signals()
     try:
         main()
     except Failure as why:

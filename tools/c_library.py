@@ -10,12 +10,11 @@ needs of the toolchain's own C code is joined in, so that a user needs no toolch
 import os
 import pathlib
 import shutil
-import subprocess
 import sys
 
-from program import say, shown
-from proving import Progress, prove_and_make, weights_of
-from workspace import ROOT, is_fresh, with_those_below
+from processes import end_on_signals, run_to_end
+from program import built, say
+from workspace import ROOT, is_fresh, product
 
 NAME = "imgref_c"
 HEADER = ROOT / "include/imgref.h"
@@ -31,7 +30,7 @@ class Failure(Exception):
 
 def command(*words):
     """Runs a command and gives what it wrote. A bad end is a Failure."""
-    ran = subprocess.run([str(it) for it in words], capture_output=True, text=True, errors="replace")
+    ran = run_to_end(words)
     if ran.returncode:
         raise Failure(f"{' '.join(map(str, words))}\n{ran.stdout}{ran.stderr}")
     return ran.stdout
@@ -44,22 +43,6 @@ def package(include, lib):
 
 def compiler():
     return os.environ.get("CC", "cc").split()
-
-
-def archive_of(name):
-    """The archive of a static library, which is proved first, with the crates below it, where something has changed."""
-    archive, names = ROOT / "crates" / name / "out" / f"lib{name}.a", with_those_below(name)
-    if is_fresh(archive, name):
-        return archive
-    say(f"First {name} is proved, with the {len(names) - 1} crates below it. With nothing changed it is built at once.")
-    progress = Progress(*weights_of(names))
-    with shown(progress):
-        said = prove_and_make(name, ["rt", "lib"], progress)
-    if said is not None:
-        raise Failure(f"{said}NOT PROVED")
-    # (rt leaves an archive whose text has not changed as it was)
-    archive.touch()
-    return archive
 
 
 def toolchain():
@@ -96,9 +79,10 @@ def linked(folder, is_installed):
 
 def build():
     """Builds what has changed."""
-    archive = archive_of(NAME)
+    if built(NAME):
+        raise Failure(f"{NAME} is not proved")
     if not is_fresh(OUT / "libimgref.a", NAME):
-        link(archive)
+        link(product(NAME))
     say(f"{OUT.relative_to(ROOT)}/libimgref.a, libimgref.so, imgref.pc")
 
 
@@ -126,9 +110,10 @@ def main(words):
 
 
 if __name__ == "__main__":
+    end_on_signals()
     try:
         main(sys.argv[1:])
     except Failure as why:
         sys.exit(str(why))
     except KeyboardInterrupt:
-        sys.exit("interrupted: the crates that are proved so far are kept")
+        sys.exit("interrupted: what is proved so far stays")

@@ -1,12 +1,12 @@
 #!/usr/bin/env python3
 """Runs the script program, and proves and builds it first where something that it is made of has changed.
 
-    program.py run           on the script that the variable SCRIPT names (`-`: standard input)
-    program.py try           on the same, with nothing proved: the toolchain checks each access while it runs
-    program.py build NAME    proves and builds the program of that crate, and prints where it is
+    program.py run            on the script that the variable SCRIPT names (`-`: standard input)
+    program.py try            on the same, with nothing proved: the toolchain checks each access while it runs
+    program.py build NAME..   proves and builds these crates and those below them, and prints what was made of each
 
-Only the program's own crate and those below it count: an edit of any other crate starts nothing. What the prover says in
-full stands in crates/NAME/out/build.log, each line with its second and its crate.
+Only those crates and the ones below them count: an edit of any other crate starts nothing. All that the prover says is
+in crates/NAME/out/build.log, each line with its second and its crate.
 """
 import contextlib
 import os
@@ -16,15 +16,13 @@ import subprocess
 import sys
 import tempfile
 import threading
-import time
 
-from proving import Progress, processors, prove_and_make, weights_of
-from workspace import ROOT, crates, is_fresh, with_those_below
+from processes import end_on_signals, started
+from proving import Progress, all_below, changed, processors, prove_changed, weights_of
+from workspace import ROOT, crates, product
 
 NAME = "imgref_run"
 FOLDER = ROOT / "crates" / NAME
-# What it takes from nothing on four processors, by the time of its parts.
-MINUTES = 10
 # How often a line is written where there is no terminal, in seconds; and what takes a line of a terminal back.
 EVERY, BACK = 10, "\r\033[K"
 FAULT = re.compile(rb"fault line (\d+)\n")
@@ -53,33 +51,25 @@ def shown(progress):
         say(BACK if is_terminal else "", end="")
 
 
-def program_of(name):
-    """Where a program is."""
-    return ROOT / "crates" / name / "out" / name
-
-
-def built(name):
-    """Proves and builds a program where something has changed, and answers the status of that."""
-    return 0 if is_fresh(program_of(name), name) else build(name)
-
-
-def build(name):
-    """Proves and builds a program, and answers the status of that."""
-    folder, names, count = ROOT / "crates" / name, with_those_below(name), processors()
-    say(f"First {name} is proved, with the {len(names) - 1} crates below it, and then built: about {MINUTES} minutes on four processors")
-    say(f"(here: {count}), less after an edit, and nothing after that. `make try` runs the script program at once, with nothing proved.")
-    progress = Progress(*weights_of(names))
-    (folder / "out").mkdir(exist_ok=True)
+def built(*names):
+    """Proves and builds these crates and those below them where something has changed, and returns the status of that."""
+    left = changed(names)
+    if not left:
+        return 0
+    progress = Progress(*weights_of(all_below(names)))
+    progress.done |= {it for it in all_below(names) if it not in left}
+    minutes = max(round(progress.left() / 60 * max(4 / processors(), 1)), 1)
+    say(f"{len(left)} of {len(all_below(names))} crates are proved and built now: {', '.join(left)}.")
+    say(f"That takes about {minutes} minute{'s' * (minutes > 1)} on a machine with {processors()} processors, and nothing where no source has changed since.")
     with shown(progress):
-        # (it is run too: with this word each program ends well)
-        said = prove_and_make(name, ["rt", "run", "--", "--help"], progress)
-    (folder / "out/build.log").write_text("\n".join([*progress.log, ""]))
+        said = prove_changed(names, progress)
+    for it in names:
+        (ROOT / "crates" / it / "out").mkdir(exist_ok=True)
+        (ROOT / "crates" / it / "out/build.log").write_text("\n".join([*progress.log, ""]))
     if said is not None:
         say(f"{said}NOT PROVED")
         return 1
     say(progress.text())
-    # (rt leaves a program whose text has not changed as it was)
-    program_of(name).touch()
     return 0
 
 
@@ -106,9 +96,9 @@ def tell_line(given, number):
 
 
 def run_on(given):
-    """Runs the program, hands on what it writes, and answers its status. Of a bad line it says which it is."""
+    """Runs the program, passes on what it writes, and returns its status. Of a bad line it says which it is."""
     last = b""
-    with subprocess.Popen([program_of(NAME)], stdin=given, stdout=subprocess.PIPE) as ran:
+    with started([product(NAME)], stdin=given, stdout=subprocess.PIPE) as ran:
         while block := ran.stdout.read1(1 << 16):
             sys.stdout.buffer.write(block)
             sys.stdout.buffer.flush()
@@ -120,19 +110,20 @@ def run_on(given):
 
 
 def try_on(given):
-    """Runs the program with no proof, and answers its status."""
-    say("Nothing is proved here: `rt try` compiles the program as it stands and checks each access while it runs. `make run` proves it first.")
-    ran = subprocess.run(["rt", "try"], cwd=FOLDER, stdin=given, stderr=subprocess.PIPE, text=True, errors="replace")
+    """Runs the program with no proof, and returns its status."""
+    say("Nothing is proved here: `rt try` compiles the program and checks each access while it runs. `make run` proves it first.")
+    with started(["rt", "try"], cwd=FOLDER, stdin=given, stderr=subprocess.PIPE, text=True, errors="replace") as ran:
+        said = ran.stderr.read()
     if ran.returncode:
-        say(ran.stderr)
+        say(said)
     return ran.returncode
 
 
 def main(words):
-    if len(words) == 2 and words[0] == "build" and words[1] in crates():
-        status = built(words[1])
-        if not status:
-            print(program_of(words[1]).relative_to(ROOT))
+    if len(words) > 1 and words[0] == "build" and all(it in crates() for it in words[1:]):
+        status = built(*words[1:])
+        for it in words[1:] if not status else []:
+            print(product(it).relative_to(ROOT))
         return status
     if words not in (["run"], ["try"]):
         sys.exit(__doc__)
@@ -146,9 +137,10 @@ def main(words):
 
 
 if __name__ == "__main__":
+    end_on_signals()
     try:
         sys.exit(main(sys.argv[1:]))
     except KeyboardInterrupt:
-        sys.exit("interrupted: the crates that are proved so far are kept")
+        sys.exit("interrupted: what is proved so far stays")
     except BrokenPipeError:
         sys.exit(1)

@@ -1,7 +1,7 @@
-"""Proves crates side by side, each as soon as those below it are proved, and says how far that is.
+"""Proves and builds crates side by side, each as soon as those below it are proved, and says how far that is.
 
-`rt` builds the crates below a program one after the other, with two processors at most. Here each crate is proved in a room
-of its own (workspace.py), and what it keeps is moved to the crate's folder, where `rt` finds it.
+`rt` builds the crates below a program one after the other. Here each crate is proved in a room of its own (workspace.py), and
+what it made and cached is moved to the crate's folder, where `rt` finds it.
 """
 import concurrent.futures
 import os
@@ -10,10 +10,17 @@ import subprocess
 import threading
 import time
 
-from workspace import ROOT, crates, is_library, is_proved, keep, own_sources, room, with_those_below
+from processes import started
+from workspace import ROOT, crates, is_fresh, is_library, is_program, keep, own_sources, product, room, with_those_below
 
 # What the prover says of how far it is in a crate.
 SO_FAR = re.compile(r"so far: (\d+) of (\d+) functions checked")
+# A crate of this weight gains by jobs, also while others are proved: a proof keeps the jobs that it began with.
+LARGE, MOST_JOBS = 30, 4
+# By how much a proof is faster by two jobs or by four.
+FASTER = {1: 1.0, 2: 1.5, 3: 1.8, 4: 2.0}
+# What waits for no other crate gives way to the longest chain of crates.
+GIVES_WAY = 10
 
 
 def weight(name):
@@ -21,18 +28,23 @@ def weight(name):
     files = [*own_sources(name)]
     count = lambda end: sum(it.read_bytes().count(b"\n") for it in files if it.name.endswith(end))
     code = count(".rt") - count("tests.rt")
-    return 8 + code / 15 + count(".antt") / 150
+    return 8 + code / 10 + count(".antt") / 50
 
 
 class Progress:
-    """How far the proofs are, by what the prover said: the crates that are done, and how many functions of how many in each other."""
+    """How far the proofs are, by what the prover said, and how long they still take.
+
+    What is left is told from the crates' weights. How many seconds a unit of weight takes on this machine is learnt from the
+    crates that are done."""
 
     def __init__(self, weights, below, clock=time.monotonic):
         self.weights, self.below, self.clock = weights, below, clock
         self.began, self.functions, self.done, self.begun, self.log = clock(), {}, set(), {}, []
+        self.jobs, self.told, self.learnt = {}, 0.0, [0.0, 0.0]
 
-    def begin(self, name):
+    def begin(self, name, jobs=1):
         self.keep(name, "begins")
+        self.jobs[name] = jobs
         self.functions.setdefault(name, (0, 0))
         self.begun.setdefault(name, self.clock())
 
@@ -45,54 +57,54 @@ class Progress:
 
     def end(self, name):
         self.keep(name, "ends")
+        if name in self.begun:
+            self.learnt[0] += self.clock() - self.begun[name]
+            self.learnt[1] += self.alone(name)
         self.done.add(name)
 
     def keep(self, name, line):
         """Keeps what was said, with the second and the crate."""
         self.log.append(f"{self.clock() - self.began:.1f}\t{name}\t{line}")
 
-    def share(self, name):
-        """How much of a crate is done, from 0 to 1: by what was said, or by the time so far where that is more."""
-        if name in self.done or name not in self.begun:
-            return float(name in self.done)
-        (checked, of), seconds = self.functions[name], self.clock() - self.begun[name]
-        return max(0.9 * checked / of if of else 0, 0.9 * seconds / (seconds + self.weights[name]))
+    def alone(self, name):
+        """The seconds that a crate's proof takes by its weight and its jobs."""
+        jobs = self.jobs.get(name, MOST_JOBS if self.weights[name] > LARGE else 1)
+        return self.weights[name] / FASTER[min(jobs, MOST_JOBS)]
 
-    def chain(self, left):
-        """The weight of the longest chain of crates, each of which waits for the one before it, by what is left of each, from 0 to 1."""
+    def pace(self):
+        """How many seconds pass for one that the weights tell, as far as that is learnt."""
+        return (self.learnt[0] + 60) / (self.learnt[1] + 60)
+
+    def left_of(self, name):
+        """The seconds that are left of a crate."""
+        if name in self.done:
+            return 0.0
+        whole = self.alone(name) * self.pace()
+        if name not in self.begun:
+            return whole
+        (checked, of), seconds = self.functions[name], self.clock() - self.begun[name]
+        by_functions = whole * (1 - checked / of) if of else whole
+        return max(min(whole - seconds, by_functions), 0.1 * whole)
+
+    def left(self):
+        """The seconds that are left: those of the longest chain of crates, each of which waits for the one before it."""
         found = {}
-        for name, weight in self.weights.items():
-            found[name] = weight * left(name) + max((found[it] for it in self.below[name] if it in found), default=0)
-        return max(found.values())
+        for name in self.weights:
+            found[name] = self.left_of(name) + max((found[it] for it in self.below[name] if it in found), default=0)
+        return max(found.values(), default=0.0)
+
+    def share(self):
+        """How much is done, from 0 to 1. It never falls."""
+        seconds, left = self.clock() - self.began, self.left()
+        self.told = max(self.told, seconds / (seconds + left) if left else 1.0)
+        return self.told
 
     def text(self):
         """One line: the time, how much is done, what is left, and how far each crate is that is being proved."""
-        seconds = self.clock() - self.began
-        done = 1 - self.chain(lambda it: 1 - self.share(it)) / self.chain(lambda it: 1)
+        seconds, done = self.clock() - self.began, self.share()
         parts = [f"{name} {checked} of {of}" if of else f"{name} begins" for name, (checked, of) in self.functions.items() if name not in self.done]
-        left = f", about {max(round(seconds * (1 - done) / done / 60), 1)} min left" if 0.1 <= done < 1 else ""
+        left = f", about {max(round(self.left() / 60), 1)} min left" if done < 1 else ""
         return f"{int(seconds) // 60}:{int(seconds) % 60:02}  {100 * done:3.0f} %{left}  {'; '.join(parts)}".rstrip()
-
-
-class Processors:
-    """The processors that are idle: a proof takes two where no other crate waits, else one."""
-
-    def __init__(self, count):
-        self.idle, self.waiting, self.changed = count, 0, threading.Condition()
-
-    def take(self):
-        with self.changed:
-            self.waiting += 1
-            self.changed.wait_for(lambda: self.idle > 0)
-            self.waiting -= 1
-            taken = 2 if self.idle > 1 + self.waiting else 1
-            self.idle -= taken
-        return taken
-
-    def give(self, taken):
-        with self.changed:
-            self.idle += taken
-            self.changed.notify_all()
 
 
 def processors():
@@ -107,41 +119,80 @@ class Failed(Exception):
         self.name, self.said = name, said
 
 
-def prove(names, progress):
-    """Proves these crates, lowest first, and keeps the work. Raises Failed of the first that is not proved."""
-    names, at, ended = sorted(names, key=lambda it: len(with_those_below(it))), Processors(processors()), {}
-
-    def work(name):
-        for it in with_those_below(name)[:-1]:
-            if it in ended:
-                ended[it].result()
-        taken = at.take()
-        try:
-            progress.begin(name)
-            with room(name) as made:
-                said = run(["rt", "lib" if is_library(name) else "check", "--jobs", str(taken)], made, lambda line: progress.hear(name, line))
-                if said is not None:
-                    raise Failed(name, said)
-                keep(made, name)
-            progress.end(name)
-        finally:
-            at.give(taken)
-
-    with concurrent.futures.ThreadPoolExecutor(max(len(names), 1)) as pool:
-        for name in names:
-            ended[name] = pool.submit(work, name)
-    for it in ended.values():
-        it.result()
-
-
 def run(command, at, hear):
-    """Runs a part of the proof, and answers what it said where it failed, or nothing."""
-    lines = []
-    with subprocess.Popen(command, cwd=at, stdin=subprocess.DEVNULL, stdout=subprocess.PIPE, stderr=subprocess.STDOUT, text=True, errors="replace") as part:
+    """Runs a command, has each line heard that it says, and returns its status."""
+    how = {"stdin": subprocess.DEVNULL, "stdout": subprocess.PIPE, "stderr": subprocess.STDOUT, "text": True, "errors": "replace"}
+    with started(command, cwd=at, **how) as part:
         for line in part.stdout:
-            lines.append(line)
             hear(line)
-    return "".join(lines) if part.returncode else None
+    return part.returncode
+
+
+def command_of(name):
+    """The command that proves a crate, and builds what it makes. (A program is run too: with this word each ends well.)"""
+    return ["rt", "run", "--", "--help"] if is_program(name) else ["rt", "lib"]
+
+
+def with_jobs(command, jobs):
+    """The command with that many jobs."""
+    return [*command[:2], "--jobs", str(jobs), *command[2:]]
+
+
+def chains(names):
+    """The weight of the longest chain of crates from each of these on, itself the first."""
+    found, below = {}, crates()
+    for name in sorted(names, key=lambda it: -len(with_those_below(it))):
+        found[name] = weight(name) + max((found[it] for it in found if name in below[it]), default=0)
+    return found
+
+
+def work_on(name, jobs, is_first, progress):
+    """Proves and builds a crate in a room, and keeps what was made. Raises Failed where it is not proved."""
+    lines = []
+
+    def hear(line):
+        lines.append(line)
+        progress.hear(name, line)
+
+    progress.begin(name, jobs)
+    with room(name) as made:
+        command = with_jobs(command_of(name), jobs)
+        if run(command if is_first else ["nice", "-n", str(GIVES_WAY), *command], made, hear):
+            raise Failed(name, "".join(lines))
+        keep(made, name)
+    progress.end(name)
+
+
+def prove(names, progress):
+    """Proves and builds these crates, the longest chain first, each once those below it are proved. Raises Failed of the first
+    that is not proved, once those that had begun have ended."""
+    chain, count, left, running, failed = chains(names), processors(), [*names], {}, None
+    with concurrent.futures.ThreadPoolExecutor(max(len(left), 1)) as pool:
+        while running or left and not failed:
+            waiting = {*left, *running.values()}
+            ready = [it for it in left if not failed and not waiting & {*with_those_below(it)[:-1]}]
+            for name in sorted(ready, key=lambda it: -chain[it]):
+                if len(running) >= count:
+                    break
+                is_first = all(chain[name] >= chain[it] for it in running.values())
+                jobs = jobs_of(name, is_first, count - len(running), len(ready))
+                left.remove(name)
+                ready.remove(name)
+                running[pool.submit(work_on, name, jobs, is_first, progress)] = name
+            ended = concurrent.futures.wait(running, return_when=concurrent.futures.FIRST_COMPLETED).done
+            for it in ended:
+                running.pop(it)
+                failed = failed or it.exception()
+    if failed:
+        raise failed
+
+
+def jobs_of(name, is_first, idle, ready):
+    """How many jobs a proof takes: the first of the longest chain all that help it, another what no other crate waits for."""
+    most = min(processors(), MOST_JOBS)
+    if is_first and weight(name) > LARGE:
+        return most
+    return max(1, min(most, idle // max(ready, 1), 2))
 
 
 def weights_of(names):
@@ -149,24 +200,22 @@ def weights_of(names):
     return {it: weight(it) for it in names}, {it: all_of_them[it] for it in names}
 
 
+def all_below(names):
+    """These crates and all that they depend on, lowest first."""
+    return [*dict.fromkeys(it for name in names for it in with_those_below(name))]
+
+
+def changed(names):
+    """Those of these crates, and of all below them, that have to be proved or built anew."""
+    return [it for it in all_below(names) if not is_fresh(product(it), it)]
+
+
 def prove_changed(names, progress):
-    """Proves these crates but for libraries of which the kept work is fresh. Answers what was said where that failed, or nothing."""
-    left = [it for it in names if not (is_library(it) and is_proved(it))]
-    progress.done |= {it for it in names if it not in left}
+    """Proves and builds these crates and those below them where something has changed. Returns what was said where that failed, or nothing."""
+    left = changed(names)
+    progress.done |= {it for it in all_below(names) if it not in left}
     try:
         prove(left, progress)
     except Failed as failed:
         return f"{failed.name} is not proved\n{failed.said}"
     return None
-
-
-def prove_and_make(name, command, progress):
-    """Proves the crates below one, and then has a command prove and build that one. Answers what was said where that failed, or nothing."""
-    said = prove_changed([it for it in with_those_below(name) if is_library(it)], progress)
-    if said is not None:
-        return said
-    progress.begin(name)
-    said = run(command, ROOT / "crates" / name, lambda line: progress.hear(name, line))
-    if said is None:
-        progress.end(name)
-    return said

@@ -1,7 +1,7 @@
-"""The crates of the repository: what each stands on, whether what was built of it is fresh, and rooms to work on one in.
+"""The crates of the repository: what each depends on, whether what was built of it is fresh, and rooms to work on one in.
 
-A room is a folder with one crate and those below it: copies of their sources, and hard links to the work that was kept of
-them. `rt` lets one run at a time work in a crate and in all below it, so crates are proved side by side in rooms.
+A room is a folder with one crate and those below it: copies of their sources, and hard links to what was cached of them. `rt`
+lets one run at a time work in a crate and in all below it, so crates are proved side by side in rooms.
 """
 import contextlib
 import fcntl
@@ -13,8 +13,6 @@ import tempfile
 ROOT = pathlib.Path(__file__).resolve().parent.parent
 # The folders of a crate that its proofs are made of.
 PARTS = ("src", "specs", "proofs")
-# The file of a crate's folder that is made last where a library is proved.
-STAMP = "out/rlib/stamp"
 
 
 def entries():
@@ -31,14 +29,23 @@ def crates():
     return {name: below for _, name, _, below in entries()}
 
 
+def is_program(name):
+    return (ROOT / "crates" / name / "src/main.rt").exists()
+
+
 def is_library(name):
-    """Whether other crates can stand on this one: it is neither a program nor a static library."""
-    kind = next(kind for _, it, kind, _ in entries() if it == name)
-    return not kind and not (ROOT / "crates" / name / "src/main.rt").exists()
+    """Whether other crates can depend on this one: it is neither a program nor a static library."""
+    return not is_program(name) and not any(kind for _, it, kind, _ in entries() if it == name)
+
+
+def product(name):
+    """What is made of a crate, last of all: a program, an archive, or the stamp of a library."""
+    made = ROOT / "crates" / name / "out"
+    return made / name if is_program(name) else made / "rlib/stamp" if is_library(name) else made / f"lib{name}.a"
 
 
 def with_those_below(name):
-    """A crate and all that it stands on, lowest first."""
+    """A crate and all that it depends on, lowest first."""
     found, all_of_them = [], crates()
 
     def visit(name):
@@ -76,12 +83,12 @@ def is_fresh(program, name):
 
 
 def is_proved(name):
-    """Whether what was kept of a library is newer than all that it is made of."""
-    return is_fresh(ROOT / "crates" / name / STAMP, name)
+    """Whether what was made of a crate is newer than all that it is made of."""
+    return is_fresh(product(name), name)
 
 
 def linked(source, target):
-    """A hard link where both folders are on one disk, else a copy. The prover replaces a kept file and doesn't write into it."""
+    """A hard link where both folders are on one disk, else a copy. The prover replaces a cached file and doesn't write into it."""
     try:
         os.link(source, target)
     except OSError:
@@ -91,7 +98,7 @@ def linked(source, target):
 @contextlib.contextmanager
 def room(name, changes_below=False):
     """Gives the folder of that crate in a room, which is there until the end of the block, with what was built below it and
-    the proofs that were kept of it. Where a crate below is to be changed too, those of all are there."""
+    the proofs that were cached of it. Where a crate below is to be changed too, those of all are there."""
     with tempfile.TemporaryDirectory(prefix="room-", ignore_cleanup_errors=True) as top:
         top, names = pathlib.Path(top), with_those_below(name)
         (top / "crates.txt").write_text("".join(f"{line}\n" for line, it, _, _ in entries() if it in names))
@@ -119,14 +126,15 @@ def held(folder):
 
 
 def keep(made, name):
-    """Moves the work that was kept in a room to the crate itself."""
-    target = ROOT / "crates" / name
-    with held(target):
-        (target / "out").mkdir(exist_ok=True)
-        for kept in ("incremental", "rlib"):
-            if (made / "out" / kept).is_dir():
-                shutil.rmtree(target / "out" / kept, ignore_errors=True)
-                shutil.move(made / "out" / kept, target / "out" / kept)
-        # (rt leaves the stamp of a library whose text has not changed as it was)
-        if (target / STAMP).is_file():
-            (target / STAMP).touch()
+    """Moves what was made and cached in a room to the crate itself."""
+    target = ROOT / "crates" / name / "out"
+    with held(target.parent):
+        target.mkdir(exist_ok=True)
+        for it in (made / "out").iterdir():
+            there = target / it.name
+            if there.is_dir():
+                shutil.rmtree(there, ignore_errors=True)
+            shutil.move(it, there)
+        # (rt leaves a stamp or a program whose text has not changed as it was)
+        if product(name).is_file():
+            product(name).touch()

@@ -15,7 +15,7 @@ import sys
 
 sys.path.insert(0, str(pathlib.Path(__file__).resolve().parents[2]))
 from checking import Cases
-from proving import Progress, processors, prove, weights_of
+from proving import Progress, processors, prove_changed, weights_of
 from workspace import room, with_those_below
 
 ROUND = "layer_goes_round"
@@ -102,7 +102,7 @@ def tried(case):
 def main():
     cases = Cases()
     needed = {it: None for case in CASES for it in with_those_below(case[4])}
-    prove([*needed], Progress(*weights_of(needed)))
+    prove_changed([*needed], Progress(*weights_of(needed)))
     with concurrent.futures.ThreadPoolExecutor(processors()) as pool:
         for (lower, _, name, clauses, upper, user, _), said in pool.map(tried, CASES):
             entry = ENTRIES.get(upper, user)

@@ -12,7 +12,7 @@ import sys
 
 sys.path.insert(0, str(pathlib.Path(__file__).resolve().parents[2]))
 from checking import Cases
-from proving import Progress, prove, weights_of
+from proving import Progress, prove_changed, weights_of
 from workspace import room, with_those_below
 
 MOVER, MOVES = "src/mover.rt", "src/moves.rt"
@@ -80,7 +80,7 @@ def said_of(file, name, change):
 def main():
     cases = Cases()
     needed = with_those_below("row_mover")
-    prove(needed, Progress(*weights_of(needed)))
+    prove_changed(needed, Progress(*weights_of(needed)))
     for label, file, name, change, is_right in CASES:
         try:
             said = said_of(file, name, change)

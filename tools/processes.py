@@ -1,0 +1,99 @@
+"""Commands that end with the process that started them, also where that one is ended by TERM, HUP or Ctrl-C.
+
+Each command gets a process group of its own, so that all that it starts can be ended with it. A command of the toolchain ends
+what it started itself once it is ended, also in other groups.
+"""
+import contextlib
+import os
+import signal
+import subprocess
+import sys
+import threading
+import time
+
+# Where Python is older than 3.11, a child makes its group itself.
+OWN_GROUP = {"process_group": 0} if sys.version_info >= (3, 11) else {"preexec_fn": os.setpgrp}
+# How long a command has to end what it started, in seconds, before it is killed; and one with a session, which ends others so.
+PATIENCE, PATIENCE_OF_SESSION = 5, 15
+RUNNING, SESSIONS, LOCK = set(), set(), threading.Lock()
+is_ending = False
+
+
+class Ending(Exception):
+    """No command is started any more."""
+
+
+@contextlib.contextmanager
+def started(words, in_session=False, **how):
+    """Starts a command in a group of its own, or in a session of its own, which is there until the end of the block."""
+    with LOCK:
+        if is_ending:
+            raise Ending()
+        process = subprocess.Popen([str(it) for it in words], **({"start_new_session": True} if in_session else OWN_GROUP), **how)
+        RUNNING.add(process)
+        if in_session:
+            SESSIONS.add(process)
+    if is_ending:
+        # (a signal came while it was being started, and may not have seen it)
+        kill(process, signal.SIGTERM)
+    try:
+        with process:
+            try:
+                yield process
+            except BaseException:
+                # (the end of the block waits for the command)
+                kill(process, signal.SIGTERM)
+                raise
+    finally:
+        RUNNING.discard(process)
+
+
+def run_to_end(words, **how):
+    """Runs a command to its end: its status, what it wrote, and what it said besides."""
+    how = {"stdin": subprocess.DEVNULL, "stdout": subprocess.PIPE, "stderr": subprocess.PIPE, "text": True, "errors": "replace", **how}
+    with started(words, **how) as process:
+        wrote, said = process.communicate()
+    return subprocess.CompletedProcess(words, process.returncode, wrote, said)
+
+
+def kill(process, number):
+    """Sends a signal to a command's group, where it hasn't ended."""
+    if process.returncode is None:
+        with contextlib.suppress(OSError):
+            os.killpg(process.pid, number)
+
+
+def end_all():
+    """Ends all commands, and has none start any more."""
+    global is_ending
+    is_ending = True
+    left, ends = [*RUNNING], time.monotonic() + (PATIENCE_OF_SESSION if SESSIONS else PATIENCE)
+    for it in left:
+        kill(it, signal.SIGTERM)
+    while time.monotonic() < ends and any(is_alive(it) for it in left):
+        time.sleep(0.05)
+    for it in left:
+        kill(it, signal.SIGKILL)
+
+
+def is_alive(process):
+    """Whether a process of the command's group is left."""
+    try:
+        os.killpg(process.pid, 0)
+    except OSError:
+        return False
+    # (one that has ended, and that a thread hasn't waited for yet, is none)
+    return process.poll() is None
+
+
+def end_on_signals():
+    """Has TERM and HUP end this process as Ctrl-C does: by KeyboardInterrupt, once all that it started has ended."""
+
+    def end(number, _):
+        for it in (signal.SIGTERM, signal.SIGHUP, signal.SIGINT):
+            signal.signal(it, signal.SIG_IGN)
+        end_all()
+        raise KeyboardInterrupt
+
+    for number in (signal.SIGTERM, signal.SIGHUP, signal.SIGINT):
+        signal.signal(number, end)
