@@ -216,21 +216,21 @@ def definition(item):
 
 
 class Page:
-    """One page: what it shows, and the links that its clauses need."""
+    """One page: what it shows, and the links of its clauses."""
 
     def __init__(self, path):
         self.path = ROOT / path
         self.title, self.crates, self.intro = PAGES[path]
         # The names of the index with their anchors; what the words of clauses lead to; and those that are a trait's own.
         self.names, self.targets, self.of_traits = [], {}, {}
-        self.traits_words = {it.item.name: f"{it.crate}.{it.block.name}" for name in self.crates for it in crate_of(name).entries if it.block and it.block.kind == "trait" and it.block.is_public and it.item.clauses and it.item.kind == "ghost"}
+        said = [it for name in self.crates for it in crate_of(name).entries if it.block and it.block.kind == "trait" and it.block.is_public]
+        self.traits_words = {it.item.name: f"{it.crate}.{it.block.name}" for it in said if it.item.kind == "ghost" and it.item.clauses}
 
-    def link(self, path, line=None):
-        relative = os.path.relpath(path, self.path.parent)
-        return f"{relative}#L{line}" if line else relative
+    def link(self, path, line):
+        return f"{os.path.relpath(path, self.path.parent)}#L{line}"
 
     def text(self):
-        """The page: the clauses are walked twice, since a short label needs to know all others."""
+        """The page. Its clauses are gone through twice: the first time tells which words need a longer label."""
         self.body()
         body = self.body()
         labels = sorted({f"[{self.label(word, target)}]: {self.link(*target)}" for word, targets in self.targets.items() for target in targets}, key=lambda it: (it.casefold(), it))
@@ -253,9 +253,9 @@ class Page:
         return word if alike == {target} else f"{target[0].parts[-3]}.{target[0].stem}.{word}"
 
     def body(self):
+        """The lines of all crates."""
         self.names = []
-        shown = [line for it in self.crates for line in self.crate(crate_of(it))]
-        return shown
+        return [line for it in self.crates for line in self.crate(crate_of(it))]
 
     def anchor(self, crate, name):
         """A place to link to, and the name in the index."""
@@ -314,8 +314,10 @@ class Page:
 
     def calls(self, entry):
         """The calls of a type: those of its own blocks by name, and then its traits."""
-        aliases = {entry.item.name, *(it.item.name for it in crate_of(entry.crate).entries if it.item.kind == "type" and it.block is None and f"= {entry.item.name}<" in it.item.head[0])}
-        inside = sorted((it for it in crate_of(entry.crate).entries if it.block and it.block.kind == "impl" and subject(it.block)[0] in aliases), key=lambda it: it.path != entry.path)
+        all_of_them = crate_of(entry.crate).entries
+        aliases = [it.item.name for it in all_of_them if it.item.kind == "type" and not it.block and f"= {entry.item.name}<" in it.item.head[0]]
+        inside = [it for it in all_of_them if it.block and it.block.kind == "impl" and subject(it.block)[0] in (entry.item.name, *aliases)]
+        inside.sort(key=lambda it: it.path != entry.path)
         own = [it for it in inside if it.item.kind == "fn" and it.item.is_public and not subject(it.block)[1]]
         for name in dict.fromkeys(it.item.name for it in own):
             full = f"{entry.item.name}::{name}"
@@ -365,7 +367,7 @@ class Page:
 
     def linked(self, text, entry):
         """The text of a clause, in which each word that is defined here is a link."""
-        parameters = set(re.findall(r"(\w+): ", " ".join(entry.item.head))) if entry.item.kind == "fn" else set()
+        parameters = set(re.findall(r"\b([a-z]\w*): ", " ".join(entry.item.head))) if entry.item.kind == "fn" else set()
         bound = {it for some in re.findall(r"λ ([\w ]+)\.|\(([\w ]+) : ", text) for it in " ".join(some).split()}
         shown, at = [], 0
         for found in WORD.finditer(text):

@@ -15,6 +15,7 @@ import api_page
 
 FUNCTION = re.compile(r"^(?: {4})?pub (?:const )?fn (\w+)", re.MULTILINE)
 LABEL = re.compile(r"^\[([\w.]+)\]: (?:(\S+)#L(\d+)|#(\S+))$", re.MULTILINE)
+USED = re.compile(r"(?<!\\)\[([\w.]+)\](?:\[([\w.]+)\])?")
 ANCHOR = re.compile(r'<a id="([^"]+)">')
 
 
@@ -26,8 +27,10 @@ def functions(crates):
 
 
 def lost_links(path, text):
-    """The words of clauses whose link leads elsewhere: the line has the word, or the name that it was imported by."""
-    anchors = set(ANCHOR.findall(text))
+    """The words of clauses without a link, and those whose link leads elsewhere: the line has the word, or its name there."""
+    anchors, labels = set(ANCHOR.findall(text)), {it[0] for it in LABEL.findall(text)}
+    clauses = "\n".join(re.findall(r"<code>(.*)</code>", text))
+    yield from sorted({whole or short for short, whole in USED.findall(clauses)} - labels)
     for label, file, line, anchor in LABEL.findall(text):
         if anchor and anchor not in anchors:
             yield label
