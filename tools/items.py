@@ -2,7 +2,7 @@
 import dataclasses
 import re
 
-OPENS = re.compile(r"(?P<is_public>pub )?(?:pub\(\w+\) )?(?:const )?(?P<kind>fn|struct|enum|trait|type|impl|ghost|use|mod)\b ?(?P<name>\w*)")
+OPENS = re.compile(r"(?P<is_public>pub )?(?:pub\(\w+\) )?(?:const )?(?P<kind>fn|struct|enum|trait|type|impl|const|ghost|use|mod)\b ?(?P<name>\w*)")
 CLAUSE = re.compile(r"\s*(requires|ensures\*?)\s*(\w*)\s*\{")
 EQUATION = re.compile(r"ghost (\w+)(:| =) \{(.*)\}[;,]$")
 IMPORT = re.compile(r"ghost use ([\w.]+)\.\{(.*)\};")
