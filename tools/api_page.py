@@ -55,6 +55,8 @@ Each word with a link is a definition of this repository. These are the words of
 
 `rt lemma WORD` finds any other word.
 """
+# How many lines of a file are seen where it opens.
+TOP = 8
 # A word of a clause with its fields; and what Markdown would take for its own.
 WORD = re.compile(r"[^\W\d]\w*(?:\.\w+)*")
 SPECIAL = re.compile(r"(?<!\w)_|_(?!\w)|[*\[\]\\`~|]")
@@ -227,7 +229,8 @@ class Page:
         self.traits_words = {it.item.name: f"{it.crate}.{it.block.name}" for it in said if it.item.kind == "ghost" and it.item.clauses}
 
     def link(self, path, line):
-        return f"{os.path.relpath(path, self.path.parent)}#L{line}"
+        """The line of a file. A file opens at its first lines without a number."""
+        return os.path.relpath(path, self.path.parent) + (f"#L{line}" if line > TOP else "")
 
     def text(self):
         """The page. Its clauses are gone through twice: the first time tells which words need a longer label."""

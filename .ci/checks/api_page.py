@@ -14,7 +14,7 @@ from checking import ROOT, Cases
 import api_page
 
 FUNCTION = re.compile(r"^(?: {4})?pub (?:const )?fn (\w+)", re.MULTILINE)
-LABEL = re.compile(r"^\[([\w.]+)\]: (?:(\S+)#L(\d+)|#(\S+))$", re.MULTILINE)
+LABEL = re.compile(r"^\[([\w.]+)\]: (?:#(\S+)|([^\s#]+)(?:#L(\d+))?)$", re.MULTILINE)
 USED = re.compile(r"(?<!\\)\[([\w.]+)\](?:\[([\w.]+)\])?")
 ANCHOR = re.compile(r'<a id="([^"]+)">')
 
@@ -31,11 +31,12 @@ def lost_links(path, text):
     anchors, labels = set(ANCHOR.findall(text)), {it[0] for it in LABEL.findall(text)}
     clauses = "\n".join(re.findall(r"<code>(.*)</code>", text))
     yield from sorted({whole or short for short, whole in USED.findall(clauses)} - labels)
-    for label, file, line, anchor in LABEL.findall(text):
+    for label, anchor, file, line in LABEL.findall(text):
         if anchor and anchor not in anchors:
             yield label
         elif file:
-            found = (path.parent / file).resolve().read_text().splitlines()[int(line) - 1]
+            lines = (path.parent / file).resolve().read_text().splitlines()
+            found = lines[int(line) - 1] if line else "\n".join(lines[: api_page.TOP])
             word = label.split(".")[-1]
             if not re.search(rf"\b({word}|{word.removesuffix('_of')})\b", found):
                 yield f"{label}: {found.strip()}"
