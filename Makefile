@@ -8,6 +8,7 @@
 # make frames              proves and builds the program for video and pictures: crates/imgref_frames/out/imgref_frames
 # make c                   proves and builds the library for C: out/c/libimgref.a, libimgref.so, imgref.pc
 # make install PREFIX=..   builds it, and installs it with its header
+# make docs                writes docs/API.md and docs/INNER.md: every public call with its contract
 # make bench [BENCH=..]    times the calls and the program beside plain loops; BENCH: options of tools/bench.py
 #
 # SCRIPT=- takes the script from standard input.
@@ -16,7 +17,7 @@ SCRIPT ?= examples/first.script
 PREFIX ?= /usr/local
 export SCRIPT BUGS
 
-.PHONY: try run check test gate times frames c install bench
+.PHONY: try run check test gate times frames c install docs bench
 
 try:
 	@python3 tools/program.py try
@@ -44,6 +45,9 @@ c:
 
 install:
 	@python3 tools/c_library.py install "$(PREFIX)"
+
+docs:
+	@python3 tools/api_page.py
 
 bench:
 	@python3 tools/bench.py $(BENCH)

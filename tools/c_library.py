@@ -19,8 +19,8 @@ from workspace import ROOT, is_fresh, product
 NAME = "imgref_c"
 HEADER = ROOT / "include/imgref.h"
 OUT = ROOT / "out/c"
-# The version of the Rust crate that this is a port of, and the number that changes where a built caller has to be built again.
-VERSION, ABI = "1.12.3", "1"
+# The version of this port (CHANGELOG.md), and the number that changes where a built caller has to be built again.
+VERSION, ABI = "0.1.0", "1"
 EXPORTS = "imgref_*"
 
 

@@ -1,5 +1,5 @@
 #!/usr/bin/env python3
-"""Sentences of the documents are short: at most 35 words each, in README.md at most 30, and README.md has at most 80 lines.
+"""Sentences of the documents are short: at most 35 words each, in README.md at most 30, and README.md has at most 110 lines.
 
 A paragraph, a list item, a heading and a cell of a table are read as sentences; blocks of code are left out. A piece of code
 within a line counts as one word. Where a sentence is too long, it is shown with its number of words. The documents and the
@@ -12,7 +12,9 @@ import sys
 sys.path.insert(0, str(pathlib.Path(__file__).resolve().parent.parent))
 from checking import ROOT, Cases
 
-MOST_WORDS, README_WORDS, README_LINES = 35, 30, 80
+MOST_WORDS, README_WORDS, README_LINES = 35, 30, 110
+# The pages that `make docs` writes, whose sentences are those of the code.
+WRITTEN = {"API.md", "INNER.md"}
 REPLACED = re.compile(r"\b(want of memory|wrong bod(?:y|ies)|one further|goes round|the loan|cells end as|no text belongs)\b", re.IGNORECASE)
 CODE = re.compile(r"``.+?``|`[^`]+`")
 LINK = re.compile(r"!?\[([^\]]*)\]\([^)]*\)")
@@ -56,7 +58,7 @@ def replaced(path):
 
 def main():
     cases = Cases()
-    documents = [ROOT / "README.md", ROOT / "CONTRIBUTING.md", *sorted((ROOT / "docs").glob("*.md"))]
+    documents = [ROOT / "README.md", ROOT / "CONTRIBUTING.md", ROOT / "CHANGELOG.md", *(it for it in sorted((ROOT / "docs").glob("*.md")) if it.name not in WRITTEN)]
     old = [line for it in [*documents, *sorted((ROOT / "crates").glob("*/src/**/*.rt"))] for line in replaced(it)]
     cases.count("the words of the glossary", not old, "\n".join(old))
     for path in documents:

@@ -78,7 +78,7 @@ def main():
     cases = Cases()
     missing = list(undefined((ROOT / "docs/GLOSSARY.md").read_text()))
     cases.count("docs/GLOSSARY.md: its definitions", not missing, f"not there: {', '.join(missing)}")
-    for path in [ROOT / "README.md", ROOT / "CONTRIBUTING.md", *sorted((ROOT / "docs").glob("*.md"))]:
+    for path in [ROOT / "README.md", ROOT / "CONTRIBUTING.md", ROOT / "CHANGELOG.md", *sorted((ROOT / "docs").glob("*.md"))]:
         missing = list(missing_files(path))
         cases.count(f"{path.relative_to(ROOT)}: the files it names", not missing, f"not there: {', '.join(missing)}")
     files = [it for end in ("src/**/*.rt", "proofs/**/*.antt") for it in (ROOT / "crates").glob(f"*/{end}")]

@@ -1,0 +1,111 @@
+"""The items of a crate's files and their contracts, read from text that `rt fmt` laid out: by its indents and its ends of lines."""
+import dataclasses
+import re
+
+OPENS = re.compile(r"(?P<is_public>pub )?(?:pub\(\w+\) )?(?:const )?(?P<kind>fn|struct|enum|trait|type|impl|const|ghost|use|mod)\b ?(?P<name>\w*)")
+CLAUSE = re.compile(r"\s*(requires|ensures\*?)\s*(\w*)\s*\{")
+EQUATION = re.compile(r"ghost (\w+)(:| =) \{(.*)\}[;,]$")
+IMPORT = re.compile(r"ghost use ([\w.]+)\.\{(.*)\};")
+MEMBERS = "    "
+
+
+@dataclasses.dataclass
+class Clause:
+    """One fact of a contract: `requires`, `ensures`, `ensures*`, or `ghost` for what a trait's own clause is here."""
+
+    kind: str
+    name: str
+    text: str
+
+
+@dataclasses.dataclass
+class Item:
+    """An item of a file: what it is, its `///` lines, its signature, its clauses, and what stands in it."""
+
+    kind: str
+    name: str
+    is_public: bool
+    told: list
+    head: list
+    clauses: list = dataclasses.field(default_factory=list)
+    members: list = dataclasses.field(default_factory=list)
+    body: list = dataclasses.field(default_factory=list)
+
+
+def braced(text, at):
+    """Where the brace that opens at a place is closed."""
+    depth = 0
+    for end in range(at, len(text)):
+        depth += {"{": 1, "}": -1}.get(text[end], 0)
+        if not depth:
+            return end
+    raise ValueError(f"no closing brace: {text[at:at + 80]}")
+
+
+def clauses_of(text):
+    """The clauses, one after the other, each on one line."""
+    found, at = [], 0
+    while opened := CLAUSE.match(text, at):
+        end = braced(text, opened.end() - 1)
+        found.append(Clause(opened[1], opened[2], " ".join(text[opened.end() : end].split())))
+        at = end + 1
+    return found
+
+
+def head_end(lines, at, pad):
+    """The last line of what stands before a body, or of an item without one."""
+    for end in range(at, len(lines)):
+        line = lines[end]
+        if line in (f"{pad}{{", f"{pad}{{}}") or line.endswith((";", "}")) and not CLAUSE.match(line) and end == at:
+            return end
+        if line.endswith(";") or line.endswith((" {", " {}")) and not CLAUSE.match(line):
+            return end
+    return len(lines) - 1
+
+
+def read(lines, pad=""):
+    """The items of these lines, which are indented by `pad`."""
+    told, derived, at = [], [], 0
+    while at < len(lines):
+        text = lines[at][len(pad) :]
+        opened = OPENS.match(text) if lines[at].startswith(pad) and not text.startswith(" ") else None
+        if text.startswith("///"):
+            told.append(text[4:])
+        elif text.startswith("#[derive"):
+            derived.append(text)
+        elif opened:
+            end = head_end(lines, at, pad)
+            stop = end if not lines[end].endswith("{") else next(it for it in range(end, len(lines)) if lines[it] == f"{pad}}}")
+            yield item(opened, told, derived, lines[at : end + 1], lines[end + 1 : stop], pad)
+            told, derived, at = [], [], stop
+        elif not text.startswith("#"):
+            told, derived = [], []
+        at += 1
+
+
+def item(opened, told, derived, head, body, pad):
+    """The item of these lines: its signature, its clauses, and its body."""
+    kind, name = opened["kind"], opened["name"]
+    first = next((n for n, it in enumerate(head) if CLAUSE.match(it)), len(head))
+    signature = [*derived, *(it[len(pad) :] for it in head[:first])]
+    clauses = clauses_of("\n".join(it for it in head[first:] if not it.lstrip().startswith("//")))
+    if kind == "ghost":
+        name = head[0].split()[1].rstrip(":")
+        whole = " ".join(it.strip() for it in head)
+        equation = EQUATION.match(whole)
+        clauses = [Clause("ghost", equation[1], " ".join(equation[3].split()))] if equation else []
+    made = Item(kind, name, bool(opened["is_public"]), told, signature, clauses, body=body)
+    if kind in ("impl", "trait"):
+        made.members = list(read(body, pad + MEMBERS))
+    return made
+
+
+def words_of(items):
+    """The words that these items import for contracts: each by its name here, with where it comes from and its name there."""
+    found = {}
+    for it in items:
+        imported = IMPORT.match(" ".join(line.strip() for line in it.head)) if it.kind == "ghost" and it.name == "use" else None
+        for word in imported[2].split(",") if imported else []:
+            there, _, here = word.strip().partition(" as ")
+            found[here or there] = (imported[1], there)
+    return found
