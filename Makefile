@@ -5,7 +5,7 @@
 #
 # make frames              proves and builds the program for video and pictures: crates/imgref_frames/out/imgref_frames
 # make c                   proves and builds the library for C: out/c/libimgref.a, libimgref.so, imgref.pc
-# make install PREFIX=..   builds it, and installs it with its header
+# make install PREFIX=..   builds it, and installs it with its header; with DESTDIR=.. as well, below that folder
 # make bench [BENCH=..]    times the calls and the program beside plain loops; BENCH: options of tools/bench.py
 #
 # SCRIPT=- takes the script from standard input.
@@ -35,7 +35,7 @@ c:
 	@python3 tools/c_library.py build
 
 install:
-	@python3 tools/c_library.py install "$(PREFIX)"
+	@python3 tools/c_library.py install "$(PREFIX)" "$(DESTDIR)"
 
 bench:
 	@python3 tools/bench.py $(BENCH)

@@ -2,7 +2,9 @@
 """The library for C: out/c/libimgref.a, libimgref.so and imgref.pc, over the proved crate imgref_c.
 
     c_library.py build             proves the crate where something that it is made of has changed, and builds
-    c_library.py install PREFIX    the same, and copies the library and include/imgref.h below PREFIX
+    c_library.py install PREFIX [DESTDIR]
+                                   the same, and copies the library and include/imgref.h below PREFIX. A package is made
+                                   below DESTDIR/PREFIX, whose files name PREFIX alone
 
 CC names the compiler that links (cc). Nothing but names that begin with imgref_ can be seen from outside, and what the crate
 needs of the toolchain's own C code is joined in, so that a user needs no toolchain.
@@ -37,9 +39,11 @@ def command(*words):
     return ran.stdout
 
 
-def package(include, lib):
-    """The file that pkg-config reads."""
-    return f"Name: imgref\nDescription: Strided 2D images, over proved calls\nVersion: {VERSION}\nCflags: -I{include}\nLibs: -L{lib} -limgref\n"
+def package(prefix, include, lib):
+    """The text of the file that pkg-config reads."""
+    places = f"prefix={prefix}\nincludedir={include}\nlibdir={lib}\n"
+    named = f"Name: imgref\nDescription: Strided 2D images, over proved calls\nVersion: {VERSION}\n"
+    return f"{places}\n{named}Cflags: -I${{includedir}}\nLibs: -L${{libdir}} -limgref\n"
 
 
 def compiler():
@@ -77,7 +81,7 @@ def link(archive):
     command("objcopy", "--wildcard", f"--keep-global-symbol={EXPORTS}", whole)
     command(*compiler(), "-shared", "-o", shared, whole, f"-Wl,-soname,{shared.name}", "-Wl,-z,defs", "-Wl,-z,noexecstack", "-Wl,--gc-sections", "-Wl,-s")
     linked(OUT, is_installed=False)
-    (OUT / "imgref.pc").write_text(package(HEADER.parent, OUT))
+    (OUT / "imgref.pc").write_text(package(OUT, HEADER.parent, OUT))
     # (the last of all, since its time tells whether they are fresh)
     command("ar", "rcs", static, whole)
     whole.unlink()
@@ -102,25 +106,26 @@ def build():
     say(f"{OUT.relative_to(ROOT)}/libimgref.a, libimgref.so, imgref.pc")
 
 
-def install(prefix):
-    """Copies the header, both libraries and the package's file."""
+def install(prefix, stage=""):
+    """Copies the header, both libraries and the file for pkg-config below `prefix`, which is taken from `stage` on if there is one."""
     build()
-    prefix = pathlib.Path(prefix).resolve()
+    named = os.path.abspath(prefix)
+    prefix = pathlib.Path(os.path.abspath(stage) + named if stage else named)
     for below, sources in {"include": [HEADER], "lib": [OUT / "libimgref.a", OUT / f"libimgref.so.{ABI}"]}.items():
         (prefix / below).mkdir(parents=True, exist_ok=True)
         for it in sources:
             shutil.copy2(it, prefix / below / it.name)
     linked(prefix / "lib", is_installed=True)
     (prefix / "lib/pkgconfig").mkdir(exist_ok=True)
-    (prefix / "lib/pkgconfig/imgref.pc").write_text(package(prefix / "include", prefix / "lib"))
+    (prefix / "lib/pkgconfig/imgref.pc").write_text(package(named, "${prefix}/include", "${prefix}/lib"))
     say(f"installed below {prefix}")
 
 
 def main(words):
     if words == ["build"]:
         build()
-    elif len(words) == 2 and words[0] == "install":
-        install(words[1])
+    elif len(words) in (2, 3) and words[0] == "install":
+        install(*words[1:])
     else:
         sys.exit(__doc__)
 
