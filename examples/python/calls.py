@@ -4,6 +4,7 @@
 """
 import array
 import ctypes
+import doctest
 import struct
 import sys
 
@@ -276,8 +277,8 @@ def of_numpy_formats(numpy):
         for sign in "<>":
             form = numpy.dtype(letter).newbyteorder(sign)
             check(f"NumPy: {form}, {sign}", holds(numpy.zeros(6, form), kinds[form.kind], ORDERS[sign]))
-    for letter in ("g", "F", "D", "G", "S1", "S4", "U1", "V1", "V4", "i2,i2", "(2,)i2"):
-        form = numpy.dtype([("a", letter)]) if letter.startswith("(") else numpy.dtype(letter)
+    texts = [(bytes, 1), (bytes, 4), (str, 1), (numpy.void, 1), (numpy.void, 4)]
+    for form in map(numpy.dtype, [*"gFDG", *texts, "i2,i2", [("a", "(2,)i2")]]):
         check(f"NumPy: no {form}", refuses(numpy.zeros(6, form)))
     for letter in ("M8[s]", "m8[s]"):
         check(f"NumPy: no {letter}", raises((ValueError, TypeError), Image, numpy.zeros(6, letter), 2, 2))
@@ -310,5 +311,7 @@ of_ctypes()
 of_other_shapes()
 of_bad_values()
 of_numpy()
+examples = doctest.testmod(imgref)
+check("the examples of the module", examples.attempted and not examples.failed)
 print(f"{passed} passed, {failed} failed")
 sys.exit(failed > 0)

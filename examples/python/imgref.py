@@ -200,7 +200,13 @@ class Image:
     `Image(buffer, width, height, stride)` takes a buffer of one dimension (stride: the width), `Image(buffer)` one of two
     dimensions whose rows lie side by side and whose columns are not parted, such as `array[10:20, 5:50]`.
 
-    `==` tells whether two images have one size, one format and pixels of equal bits; beside anything else it is False.
+    >>> frame = bytearray(range(8))
+    >>> image = Image(frame, 3, 2, 4)
+    >>> image.fill(Window(1, 0, 2, 2), 90)
+    >>> image, list(frame)
+    (<imgref.Image of 3 by 2 pixels, stride 4, format 'B'>, [0, 90, 90, 3, 4, 90, 90, 7])
+
+    `==` tells whether two images have one size, one format and pixels of equal bits. Compared with anything else it is False.
     """
 
     # NumPy leaves `array == image` to the image.

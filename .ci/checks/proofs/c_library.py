@@ -107,7 +107,12 @@ def check_staged(cases, prefix, room):
     cases.count("make install with DESTDIR", status == 0 and files(room / "stage") == wanted, said)
     if shutil.which("pkg-config"):
         found = os.environ | {"PKG_CONFIG_PATH": str(room / "stage/opt/imgref/lib/pkgconfig")}
-        for words, text in {"--variable=prefix": "/opt/imgref", "--variable=includedir": "/opt/imgref/include", "--define-variable=prefix=/moved --cflags --libs": "-I/moved/include -L/moved/lib -limgref"}.items():
+        answers = {
+            "--variable=prefix": "/opt/imgref",
+            "--variable=includedir": "/opt/imgref/include",
+            "--define-variable=prefix=/moved --cflags --libs": "-I/moved/include -L/moved/lib -limgref",
+        }
+        for words, text in answers.items():
             _, wrote, said = run(["pkg-config", *words.split(), "imgref"], env=found)
             cases.count(f"pkg-config {words}", wrote.decode().strip() == text, said)
 
