@@ -5,10 +5,10 @@
 #
 # make frames              proves and builds the program for video and pictures: crates/imgref_frames/out/imgref_frames
 # make c                   proves and builds the library for C: out/c/libimgref.a, libimgref.so, imgref.pc
-# make install PREFIX=..   builds it, and installs it with its header; with DESTDIR=.. as well, below that folder
+# make install PREFIX=..   builds it, and installs it with its header
 # make bench [BENCH=..]    times the calls and the program beside plain loops; BENCH: options of tools/bench.py
 #
-# SCRIPT=- takes the script from standard input.
+# SCRIPT=- takes the script from standard input. With DESTDIR=.., make install puts its files below that folder.
 
 SCRIPT ?= examples/first.script
 PREFIX ?= /usr/local
