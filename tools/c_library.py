@@ -1,13 +1,13 @@
 #!/usr/bin/env python3
 """The library for C: out/c/libimgref.a, libimgref.so and imgref.pc, over the proved crate imgref_c.
 
-    c_library.py build             proves the crate where something that it is made of has changed, and builds
+    c_library.py build             proves the crate where one of its sources has changed, and builds the library
     c_library.py install PREFIX [DESTDIR]
-                                   the same, and copies the library and include/imgref.h below PREFIX. A package is made
-                                   below DESTDIR/PREFIX, whose files name PREFIX alone
+                                   the same, and copies the library and include/imgref.h below PREFIX. With DESTDIR the
+                                   files go below DESTDIR/PREFIX, and name only PREFIX: for a package
 
-CC names the compiler that links (cc). Nothing but names that begin with imgref_ can be seen from outside, and what the crate
-needs of the toolchain's own C code is joined in, so that a user needs no toolchain.
+CC names the compiler that links (cc). Only names that begin with imgref_ are exported. What the crate needs of the
+toolchain's own C code is linked in, so that a user needs no toolchain.
 """
 import os
 import pathlib
@@ -32,7 +32,7 @@ class Failure(Exception):
 
 
 def command(*words):
-    """Runs a command and gives what it wrote. A bad end is a Failure."""
+    """Runs a command and returns its output. Where its status isn't 0, that is a Failure."""
     ran = subprocess.run([str(it) for it in words], capture_output=True, text=True, errors="replace")
     if ran.returncode:
         raise Failure(f"{' '.join(map(str, words))}\n{ran.stdout}{ran.stderr}")
@@ -51,17 +51,17 @@ def compiler():
 
 
 def archive_of(name):
-    """The archive of a static library, which is proved first, with the crates below it, where something has changed."""
+    """The archive of a static library. Where something has changed, it is proved first, with the crates below it."""
     archive, names = ROOT / "crates" / name / "out" / f"lib{name}.a", with_those_below(name)
     if is_fresh(archive, name):
         return archive
-    say(f"First {name} is proved, with the {len(names) - 1} crates below it. With nothing changed it is built at once.")
+    say(f"First {name} and the {len(names) - 1} crates below it are proved. Where nothing has changed, the build starts at once.")
     progress = Progress(*weights_of(names))
     with shown(progress):
         said = prove_and_make(name, ["rt", "lib"], progress)
     if said is not None:
         raise Failure(f"{said}NOT PROVED")
-    # (rt leaves an archive whose text has not changed as it was)
+    # (rt doesn't touch an archive whose contents haven't changed)
     archive.touch()
     return archive
 
@@ -73,7 +73,7 @@ def toolchain():
 
 
 def link(archive):
-    """Links an archive into one object that shows the header's names alone, and makes both libraries of it."""
+    """Links an archive into one object that exports only the header's names, and makes both libraries from it."""
     OUT.mkdir(parents=True, exist_ok=True)
     whole, shared, static = OUT / "imgref.o", OUT / f"libimgref.so.{ABI}", OUT / "libimgref.a"
     static.unlink(missing_ok=True)
@@ -82,7 +82,7 @@ def link(archive):
     command(*compiler(), "-shared", "-o", shared, whole, f"-Wl,-soname,{shared.name}", "-Wl,-z,defs", "-Wl,-z,noexecstack", "-Wl,--gc-sections", "-Wl,-s")
     linked(OUT, is_installed=False)
     (OUT / "imgref.pc").write_text(package(OUT, HEADER.parent, OUT))
-    # (the last of all, since its time tells whether they are fresh)
+    # (made last, since its time tells whether all of them are fresh)
     command("ar", "rcs", static, whole)
     whole.unlink()
 
@@ -94,7 +94,7 @@ def linked(folder, is_installed):
     if is_installed:
         name.symlink_to(shared.name)
     else:
-        # (`rt all` stops at a symbolic link in the repository)
+        # (`rt all` fails at a symbolic link in the repository)
         name.hardlink_to(shared)
 
 
@@ -107,7 +107,7 @@ def build():
 
 
 def install(prefix, stage=""):
-    """Copies the header, both libraries and the file for pkg-config below `prefix`, which is taken from `stage` on if there is one."""
+    """Copies the header, both libraries and the file for pkg-config below `prefix`. With a `stage` they go below that folder."""
     build()
     named = os.path.abspath(prefix)
     prefix = pathlib.Path(os.path.abspath(stage) + named if stage else named)
@@ -136,4 +136,4 @@ if __name__ == "__main__":
     except Failure as why:
         sys.exit(str(why))
     except KeyboardInterrupt:
-        sys.exit("interrupted: the crates that are proved so far are kept")
+        sys.exit("interrupted: the proofs of the crates so far are cached")
