@@ -49,7 +49,7 @@ typedef uint32_t imgref_status;
 
 /* A window of an image: the column and the row of its corner, and its size. It is inside where left + width is at most the
  * image's width and top + height at most its height, so an empty one at the edge is. No such sum wraps.
- * The struct has the name of a call too. In C++ that name alone is the call, so imgref_rect names the struct. */
+ * In C++ imgref_window without `struct` is the call of that name, so the struct has the name imgref_rect too. */
 typedef struct imgref_window {
     size_t left;
     size_t top;

@@ -3,6 +3,7 @@
     IMGREF_LIBRARY=/usr/local/lib/libimgref.so python3 calls.py
 """
 import array
+import copy
 import ctypes
 import doctest
 import struct
@@ -12,7 +13,7 @@ import imgref
 from imgref import Image, Refused, Window
 
 passed = failed = 0
-# The kinds of number that a format names by a letter. (a long double, a complex number and a character are none of them)
+# The kind of number of each letter of a format. Long doubles, complex numbers and characters have none.
 KINDS = {"?": "bool", **dict.fromkeys("bhilqn", "signed"), **dict.fromkeys("BHILQN", "unsigned"), **dict.fromkeys("efd", "real")}
 ORDERS = {"": sys.byteorder, "@": sys.byteorder, "=": sys.byteorder, "^": sys.byteorder, "<": "little", ">": "big", "!": "big"}
 BAD_VALUES = (None, "a", b"ab", 1.5, float("nan"), -1, 1 << 64, 1 << 200, [], (0, 0, 1), (0, 0, 1, "1"), object(), ...)
@@ -137,6 +138,8 @@ def of_equal_images():
     check("== beside anything", all(type(image == it) is bool and image != it and it != image for it in others))
     check("repr", repr(image) == "<imgref.Image of 3 by 2 pixels, stride 4, format 'B'>")
     check("no hash", raises(TypeError, hash, image))
+    copy.copy(image).put(0, 0, 77)
+    check("a copy is the same memory", image.get(0, 0) == 77 and raises(TypeError, copy.deepcopy, image))
 
 
 def of_each_letter():

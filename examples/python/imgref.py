@@ -10,8 +10,8 @@ An image takes what has the buffer protocol (bytearray, memoryview, array.array,
 nothing: it writes where the pixels are. A cell is one integer, float or bool of 1, 2, 4 or 8 bytes, in either byte order. No
 other format is taken, so no cell is a pointer. Pixels are compared by their bits.
 
-What can't be done raises `ValueError` or `TypeError`, and nothing has changed. Where the library refuses, as for a window that
-isn't inside, that is `Refused`, a `ValueError`. Memory that overlaps is refused here too, since the library can't see that.
+A call that fails raises `ValueError` or `TypeError`, and nothing has changed. Where the library refuses, for example a window
+that isn't inside, that is `Refused`, a `ValueError`. Memory that overlaps is refused here too, since the library can't see that.
 
 IMGREF_LIBRARY names the shared object, else it is looked for where the system keeps its libraries.
 """
@@ -32,8 +32,8 @@ Buffer = Any
 
 _size = ctypes.c_size_t
 _CELLS = {1: ctypes.c_uint8, 2: ctypes.c_uint16, 4: ctypes.c_uint32, 8: ctypes.c_uint64}
-# The formats of numbers: by its size in bytes, the letter that `struct` has for an item in every mode. The letter that an
-# exporter gives doesn't tell the size: 'l' has 4 bytes or 8.
+# The formats of numbers. For each letter that a buffer may give: the sizes in bytes that its items may have, and the letter
+# that `struct` has for such an item in standard mode. The buffer's letter doesn't tell the size: 'l' has 4 bytes or 8.
 _LETTERS = {
     **{it: {struct.calcsize(f"={it}"): it} for it in "?bBhHiIqQefd"},
     **{it: {4: "i", 8: "q"} for it in "ln"},
@@ -188,10 +188,13 @@ class _Memory:
         try:
             _get_buffer(owner, ctypes.byref(self.view), _STRIDED)
         except BufferError as why:
-            raise TypeError(f"no memory with rows: {why}") from why
+            raise TypeError(f"the buffer isn't one block of memory with strides: {why}") from why
 
     def __del__(self):
         _release(ctypes.byref(self.view))
+
+    def __reduce__(self):
+        raise TypeError("no copy of an image takes its memory along: copy the buffer")
 
 
 class Image:
@@ -238,7 +241,7 @@ class Image:
         if view.ndim != 2:
             raise TypeError("a buffer that hasn't two dimensions needs a width and a height")
         height, width = view.shape[0], view.shape[1]
-        # (an exporter may give no strides where all items lie close, as ctypes does)
+        # (contiguous items may come without strides, as from ctypes)
         line, step = view.strides[:2] if view.strides else (width * self._item, self._item)
         if height < 2 or not width:
             line = max(width, 1) * self._item
