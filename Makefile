@@ -11,7 +11,7 @@
 # make docs                writes docs/API.md and docs/INNER.md: every public call with its contract
 # make bench [BENCH=..]    times the calls and the program beside plain loops; BENCH: options of tools/bench.py
 #
-# SCRIPT=- takes the script from standard input.
+# SCRIPT=- takes the script from standard input. With DESTDIR=.., make install puts its files below that folder.
 
 SCRIPT ?= examples/first.script
 PREFIX ?= /usr/local
@@ -44,7 +44,7 @@ c:
 	@python3 tools/c_library.py build
 
 install:
-	@python3 tools/c_library.py install "$(PREFIX)"
+	@python3 tools/c_library.py install "$(PREFIX)" "$(DESTDIR)"
 
 docs:
 	@python3 tools/api_page.py

@@ -28,6 +28,12 @@
 #include <stddef.h>
 #include <stdint.h>
 
+/* The version of this header, in three numbers and as a text. */
+#define IMGREF_VERSION_MAJOR 0
+#define IMGREF_VERSION_MINOR 1
+#define IMGREF_VERSION_PATCH 0
+#define IMGREF_VERSION "0.1.0"
+
 #ifdef __cplusplus
 extern "C" {
 #endif
@@ -42,24 +48,25 @@ typedef uint32_t imgref_status;
 #define IMGREF_NO_TILE ((imgref_status)5)        /* there is no tile of that number, or a tile would have no pixel */
 
 /* A window of an image: the column and the row of its corner, and its size. It is inside where left + width is at most the
- * image's width and top + height at most its height, so an empty one at the edge is. No such sum wraps. */
-struct imgref_window {
+ * image's width and top + height at most its height, so an empty one at the edge is. No such sum wraps.
+ * In C++ imgref_window without `struct` is the call of that name, so the struct has the name imgref_rect too. */
+typedef struct imgref_window {
     size_t left;
     size_t top;
     size_t width;
     size_t height;
-};
+} imgref_rect;
 
 /* Whether so many cells are an image of this size and stride. */
 bool imgref_is_image(size_t len, size_t width, size_t height, size_t stride);
 
 /* Whether a window is inside an image of this size. */
-bool imgref_has_window(size_t width, size_t height, struct imgref_window window);
+bool imgref_has_window(size_t width, size_t height, imgref_rect window);
 
 /* Where a window's cells begin among those of the image, and how many there are up to its last pixel; of an empty window 0
  * and 0. So `cells + start` with that count, the window's size and the image's stride is an image, and nothing is copied.
  * IMGREF_NOT_AN_IMAGE, IMGREF_WINDOW_OUTSIDE. */
-imgref_status imgref_window(size_t len, size_t width, size_t height, size_t stride, struct imgref_window window, size_t *start,
+imgref_status imgref_window(size_t len, size_t width, size_t height, size_t stride, imgref_rect window, size_t *start,
                             size_t *count);
 
 /* How many tiles of this size cover an image of that size: their corners are the multiples of the tile's size, and they are
@@ -69,7 +76,7 @@ imgref_status imgref_tile_count(size_t width, size_t height, size_t tile_width, 
 /* The window of the tile with a number below that count: line by line, from left to right. The same, and IMGREF_NO_TILE where
  * there is none of that number. */
 imgref_status imgref_tile(size_t width, size_t height, size_t tile_width, size_t tile_height, size_t number,
-                          struct imgref_window *window);
+                          imgref_rect *window);
 
 /* For each type of cell, with `cells` and `len` an image of `width` by `height` at `stride`:
  *
@@ -94,14 +101,14 @@ imgref_status imgref_tile(size_t width, size_t height, size_t tile_width, size_t
     imgref_status imgref_##NAME##_put(CELL *cells, size_t len, size_t width, size_t height, size_t stride, size_t x,          \
                                       size_t y, CELL value);                                                                  \
     imgref_status imgref_##NAME##_fill_window(CELL *cells, size_t len, size_t width, size_t height, size_t stride,            \
-                                              struct imgref_window window, CELL value);                                       \
+                                              imgref_rect window, CELL value);                                                \
     imgref_status imgref_##NAME##_copy_window(CELL *cells, size_t len, size_t width, size_t height, size_t stride,            \
-                                              struct imgref_window window, const CELL *source, size_t source_len,             \
+                                              imgref_rect window, const CELL *source, size_t source_len,                      \
                                               size_t source_width, size_t source_height, size_t source_stride);               \
     imgref_status imgref_##NAME##_move_window(CELL *cells, size_t len, size_t width, size_t height, size_t stride,            \
-                                              struct imgref_window from, struct imgref_window to);                            \
+                                              imgref_rect from, imgref_rect to);                                              \
     imgref_status imgref_##NAME##_mosaic(CELL *cells, size_t len, size_t width, size_t height, size_t stride,                 \
-                                         struct imgref_window window, size_t tile_width, size_t tile_height);                 \
+                                         imgref_rect window, size_t tile_width, size_t tile_height);                          \
     imgref_status imgref_##NAME##_pack(CELL *cells, size_t len, size_t width, size_t height, size_t stride);                  \
     imgref_status imgref_##NAME##_equal(const CELL *cells, size_t len, size_t width, size_t height, size_t stride,            \
                                         const CELL *other, size_t other_len, size_t other_width, size_t other_height,         \

@@ -1,11 +1,13 @@
 #!/usr/bin/env python3
 """The library for C: out/c/libimgref.a, libimgref.so and imgref.pc, over the proved crate imgref_c.
 
-    c_library.py build             proves the crate where something that it is made of has changed, and builds
-    c_library.py install PREFIX    the same, and copies the library and include/imgref.h below PREFIX
+    c_library.py build             proves the crate where one of its sources has changed, and builds the library
+    c_library.py install PREFIX [DESTDIR]
+                                   the same, and copies the library and include/imgref.h below PREFIX. With DESTDIR the
+                                   files go below DESTDIR/PREFIX, and name only PREFIX: for a package
 
-CC names the compiler that links (cc). Nothing but names that begin with imgref_ can be seen from outside, and what the crate
-needs of the toolchain's own C code is joined in, so that a user needs no toolchain.
+CC names the compiler that links (cc). Only names that begin with imgref_ are exported. What the crate needs of the
+toolchain's own C code is linked in, so that a user needs no toolchain.
 """
 import os
 import pathlib
@@ -36,9 +38,11 @@ def command(*words):
     return ran.stdout
 
 
-def package(include, lib):
-    """The file that pkg-config reads."""
-    return f"Name: imgref\nDescription: Strided 2D images, over proved calls\nVersion: {VERSION}\nCflags: -I{include}\nLibs: -L{lib} -limgref\n"
+def package(prefix, include, lib):
+    """The text of the file that pkg-config reads."""
+    places = f"prefix={prefix}\nincludedir={include}\nlibdir={lib}\n"
+    named = f"Name: imgref\nDescription: Strided 2D images, over proved calls\nVersion: {VERSION}\n"
+    return f"{places}\n{named}Cflags: -I${{includedir}}\nLibs: -L${{libdir}} -limgref\n"
 
 
 def compiler():
@@ -52,7 +56,7 @@ def toolchain():
 
 
 def link(archive):
-    """Links an archive into one object that shows the header's names alone, and makes both libraries of it."""
+    """Links an archive into one object that exports only the header's names, and makes both libraries from it."""
     OUT.mkdir(parents=True, exist_ok=True)
     whole, shared, static = OUT / "imgref.o", OUT / f"libimgref.so.{ABI}", OUT / "libimgref.a"
     static.unlink(missing_ok=True)
@@ -60,8 +64,8 @@ def link(archive):
     command("objcopy", "--wildcard", f"--keep-global-symbol={EXPORTS}", whole)
     command(*compiler(), "-shared", "-o", shared, whole, f"-Wl,-soname,{shared.name}", "-Wl,-z,defs", "-Wl,-z,noexecstack", "-Wl,--gc-sections", "-Wl,-s")
     linked(OUT, is_installed=False)
-    (OUT / "imgref.pc").write_text(package(HEADER.parent, OUT))
-    # (the last of all, since its time tells whether they are fresh)
+    (OUT / "imgref.pc").write_text(package(OUT, HEADER.parent, OUT))
+    # (made last, since its time tells whether all of them are fresh)
     command("ar", "rcs", static, whole)
     whole.unlink()
 
@@ -73,7 +77,7 @@ def linked(folder, is_installed):
     if is_installed:
         name.symlink_to(shared.name)
     else:
-        # (`rt all` stops at a symbolic link in the repository)
+        # (`rt all` fails at a symbolic link in the repository)
         name.hardlink_to(shared)
 
 
@@ -86,25 +90,26 @@ def build():
     say(f"{OUT.relative_to(ROOT)}/libimgref.a, libimgref.so, imgref.pc")
 
 
-def install(prefix):
-    """Copies the header, both libraries and the package's file."""
+def install(prefix, stage=""):
+    """Copies the header, both libraries and the file for pkg-config below `prefix`. With a `stage` they go below that folder."""
     build()
-    prefix = pathlib.Path(prefix).resolve()
+    named = os.path.abspath(prefix)
+    prefix = pathlib.Path(os.path.abspath(stage) + named if stage else named)
     for below, sources in {"include": [HEADER], "lib": [OUT / "libimgref.a", OUT / f"libimgref.so.{ABI}"]}.items():
         (prefix / below).mkdir(parents=True, exist_ok=True)
         for it in sources:
             shutil.copy2(it, prefix / below / it.name)
     linked(prefix / "lib", is_installed=True)
     (prefix / "lib/pkgconfig").mkdir(exist_ok=True)
-    (prefix / "lib/pkgconfig/imgref.pc").write_text(package(prefix / "include", prefix / "lib"))
+    (prefix / "lib/pkgconfig/imgref.pc").write_text(package(named, "${prefix}/include", "${prefix}/lib"))
     say(f"installed below {prefix}")
 
 
 def main(words):
     if words == ["build"]:
         build()
-    elif len(words) == 2 and words[0] == "install":
-        install(words[1])
+    elif len(words) in (2, 3) and words[0] == "install":
+        install(*words[1:])
     else:
         sys.exit(__doc__)
 

@@ -52,9 +52,9 @@ int main(int count, char **words) {
 
     /* The part of the picture that is shown, and the window of the frame that shows it: both in samples. */
     size_t columns = width < wide ? width : wide, rows = height < high ? height : high;
-    struct imgref_window shown = {samples * ((width - columns) / 2), (height - rows) / 2, samples * columns, rows};
-    struct imgref_window target = {samples * ((wide - columns) / 2), (high - rows) / 2, samples * columns, rows};
-    struct imgref_window all = {0, 0, frame_stride, high};
+    imgref_rect shown = {samples * ((width - columns) / 2), (height - rows) / 2, samples * columns, rows};
+    imgref_rect target = {samples * ((wide - columns) / 2), (high - rows) / 2, samples * columns, rows};
+    imgref_rect all = {0, 0, frame_stride, high};
 
     /* A window of the picture is an image over the same memory: its cells begin at `start`, and its stride is the picture's.
      * A picture of no column has the stride 1, the least that there is. */

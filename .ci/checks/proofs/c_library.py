@@ -81,6 +81,42 @@ def check_c(cases, compiler, prefix, room):
             counted(cases, f"calls from C, {label}", said, status)
 
 
+def check_cpp(cases, prefix, room):
+    """The calls from C++, by the oldest standard that has the tests' braces and by the compiler's own."""
+    compiler = os.environ.get("CXX", "c++").split()
+    if not shutil.which(compiler[0]):
+        skipped(f"C++ ({compiler[0]})")
+        return
+    for standard in (["-std=c++11"], []):
+        label = " ".join(["calls.cpp", *standard])
+        status, _, said = run([*compiler, *standard, *WARNINGS, f"-I{prefix / 'include'}", ROOT / ".ci/c/calls.cpp", "-o", room / "cpp", prefix / "lib/libimgref.a"])
+        cases.count(label, status == 0, said)
+        if status == 0:
+            status, _, said = run([room / "cpp"])
+            counted(cases, f"calls from C++, {label}", said, status)
+
+
+def check_staged(cases, prefix, room):
+    """DESTDIR has the files that lie below PREFIX without it, and nothing in them names it."""
+
+    def files(folder):
+        return {str(it.relative_to(folder)): it.read_bytes() for it in folder.rglob("*") if it.is_file()}
+
+    status, _, said = run(["make", "-s", "install", "PREFIX=/opt/imgref", f"DESTDIR={room / 'stage'}"], cwd=ROOT)
+    wanted = {f"opt/imgref/{name}": it.replace(os.fsencode(prefix), b"/opt/imgref") for name, it in files(prefix).items()}
+    cases.count("make install with DESTDIR", status == 0 and files(room / "stage") == wanted, said)
+    if shutil.which("pkg-config"):
+        found = os.environ | {"PKG_CONFIG_PATH": str(room / "stage/opt/imgref/lib/pkgconfig")}
+        answers = {
+            "--variable=prefix": "/opt/imgref",
+            "--variable=includedir": "/opt/imgref/include",
+            "--define-variable=prefix=/moved --cflags --libs": "-I/moved/include -L/moved/lib -limgref",
+        }
+        for words, text in answers.items():
+            _, wrote, said = run(["pkg-config", *words.split(), "imgref"], env=found)
+            cases.count(f"pkg-config {words}", wrote.decode().strip() == text, said)
+
+
 def check_letterbox(cases, compiler, prefix, room):
     """The example in C, built by what pkg-config says of the installed package."""
     flags = ["-I" + str(prefix / "include"), "-L" + str(prefix / "lib"), "-limgref"]
@@ -125,6 +161,8 @@ def main():
         if status == 0:
             check_names(cases, compiler, prefix)
             check_c(cases, compiler, prefix, room)
+            check_cpp(cases, prefix, room)
+            check_staged(cases, prefix, room)
             check_letterbox(cases, compiler, prefix, room)
             check_python(cases, prefix)
             check_rust(cases, prefix, room)
