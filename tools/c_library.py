@@ -1,11 +1,11 @@
 #!/usr/bin/env python3
 """The library for C: out/c/libimgref.a, libimgref.so and imgref.pc, over the proved crate imgref_c.
 
-    c_library.py build             proves the crate where something that it is made of has changed, and builds
+    c_library.py build             proves the crate where one of its sources has changed, and builds the library
     c_library.py install PREFIX    the same, and copies the library and include/imgref.h below PREFIX
 
-CC names the compiler that links (cc). Nothing but names that begin with imgref_ can be seen from outside, and what the crate
-needs of the toolchain's own C code is joined in, so that a user needs no toolchain.
+CC names the compiler that links (cc). Only names that begin with imgref_ are exported. What the crate needs of the
+toolchain's own C code is linked in, so that a user needs no toolchain.
 """
 import os
 import pathlib
@@ -30,7 +30,7 @@ class Failure(Exception):
 
 
 def command(*words):
-    """Runs a command and gives what it wrote. A bad end is a Failure."""
+    """Runs a command and returns its output. Where its status isn't 0, that is a Failure."""
     ran = subprocess.run([str(it) for it in words], capture_output=True, text=True, errors="replace")
     if ran.returncode:
         raise Failure(f"{' '.join(map(str, words))}\n{ran.stdout}{ran.stderr}")
@@ -38,7 +38,7 @@ def command(*words):
 
 
 def package(include, lib):
-    """The file that pkg-config reads."""
+    """The text of the file that pkg-config reads."""
     return f"Name: imgref\nDescription: Strided 2D images, over proved calls\nVersion: {VERSION}\nCflags: -I{include}\nLibs: -L{lib} -limgref\n"
 
 
@@ -47,17 +47,17 @@ def compiler():
 
 
 def archive_of(name):
-    """The archive of a static library, which is proved first, with the crates below it, where something has changed."""
+    """The archive of a static library. Where something has changed, it is proved first, with the crates below it."""
     archive, names = ROOT / "crates" / name / "out" / f"lib{name}.a", with_those_below(name)
     if is_fresh(archive, name):
         return archive
-    say(f"First {name} is proved, with the {len(names) - 1} crates below it. With nothing changed it is built at once.")
+    say(f"First {name} and the {len(names) - 1} crates below it are proved. Where nothing has changed, the build starts at once.")
     progress = Progress(*weights_of(names))
     with shown(progress):
         said = prove_and_make(name, ["rt", "lib"], progress)
     if said is not None:
         raise Failure(f"{said}NOT PROVED")
-    # (rt leaves an archive whose text has not changed as it was)
+    # (rt doesn't touch an archive whose contents haven't changed)
     archive.touch()
     return archive
 
@@ -69,7 +69,7 @@ def toolchain():
 
 
 def link(archive):
-    """Links an archive into one object that shows the header's names alone, and makes both libraries of it."""
+    """Links an archive into one object that exports only the header's names, and makes both libraries from it."""
     OUT.mkdir(parents=True, exist_ok=True)
     whole, shared, static = OUT / "imgref.o", OUT / f"libimgref.so.{ABI}", OUT / "libimgref.a"
     static.unlink(missing_ok=True)
@@ -78,7 +78,7 @@ def link(archive):
     command(*compiler(), "-shared", "-o", shared, whole, f"-Wl,-soname,{shared.name}", "-Wl,-z,defs", "-Wl,-z,noexecstack", "-Wl,--gc-sections", "-Wl,-s")
     linked(OUT, is_installed=False)
     (OUT / "imgref.pc").write_text(package(HEADER.parent, OUT))
-    # (the last of all, since its time tells whether they are fresh)
+    # (made last, since its time tells whether all of them are fresh)
     command("ar", "rcs", static, whole)
     whole.unlink()
 
@@ -90,7 +90,7 @@ def linked(folder, is_installed):
     if is_installed:
         name.symlink_to(shared.name)
     else:
-        # (`rt all` stops at a symbolic link in the repository)
+        # (`rt all` fails at a symbolic link in the repository)
         name.hardlink_to(shared)
 
 
@@ -103,7 +103,7 @@ def build():
 
 
 def install(prefix):
-    """Copies the header, both libraries and the package's file."""
+    """Copies the header, both libraries and the file for pkg-config."""
     build()
     prefix = pathlib.Path(prefix).resolve()
     for below, sources in {"include": [HEADER], "lib": [OUT / "libimgref.a", OUT / f"libimgref.so.{ABI}"]}.items():
@@ -131,4 +131,4 @@ if __name__ == "__main__":
     except Failure as why:
         sys.exit(str(why))
     except KeyboardInterrupt:
-        sys.exit("interrupted: the crates that are proved so far are kept")
+        sys.exit("interrupted: the proofs of the crates so far are cached")
