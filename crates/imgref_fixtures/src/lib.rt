@@ -1,4 +1,4 @@
-//! Cells that the tests of several crates begin with, and calls through one bound.
+//! Cells with which the tests of several crates begin, and calls through one bound.
 #![tactic(auto)]
 
 ghost use Rattle.std.specs.Prelude.{IfOk};

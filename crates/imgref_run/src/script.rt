@@ -12,7 +12,7 @@ use imgref_replay::Command;
 use std::alloc::Global;
 use texts::Parts;
 
-/// What a script holds.
+/// The contents of a script.
 #[derive(Drop)]
 pub(crate) struct Script {
     /// The images, each of which fits.
@@ -58,8 +58,8 @@ impl Script {
     }
 }
 
-/// The images and the commands that the bytes are the script of. Where the bytes are none, the
-/// fault names the first line, from 1, that isn't good.
+/// The images and the commands that the bytes denote. Where the bytes aren't a script, the fault
+/// names the first line, from 1, that isn't good.
 pub(crate) fn read_script(alloc: Global, bytes: &[u8]) -> Result<Script, RunFault>
     ensures script { IfOk result
         (λ script. IsScript (lines_of bytes.now) (images_of script) (orders_of script)) }
