@@ -61,7 +61,7 @@ fn spread<T: Copy>(row: &mut [T], tile_width: usize)
     }
 }
 
-// Copies a row to a cell behind its end.
+// Copies a row to a cell after its end.
 fn repeat_row<T: Copy>(cells: &mut [T], row: Stretch, target: usize)
     requires apart { row.start + row.len ≤ target }
     requires target { target + row.len ≤ length cells.old }

@@ -23,7 +23,7 @@ struct BandSpacing {
     band_height: usize,
 }
 
-// Where the first band is cut off, its shape, and how the others lie in the cells behind it.
+// Where the first band is split off, its shape, and where the others are in the cells after it.
 #[derive(Clone, Copy)]
 struct Cut {
     outer: usize,

@@ -20,7 +20,7 @@ pub struct Tiling {
     // How many tiles stand side by side, and how many tile rows there are.
     tile_columns: usize,
     tile_rows: usize,
-    // Where the next tile stands: counted in tiles, so that no sum of corners can wrap.
+    // Where the next tile is: counted in tiles, so that no sum of corners can overflow.
     tile_column: usize,
     tile_row: usize,
     ghost wide: { 0 < tile_width },
@@ -103,7 +103,7 @@ impl Tiling {
         )
     }
 
-    // Goes on to the window behind.
+    // Goes on to the next window.
     fn advance(&mut self)
         requires more { IsTrue (has_tile self.old) }
         ensures { self.new ≡ stepped self.old }

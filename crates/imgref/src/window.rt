@@ -56,7 +56,7 @@ impl<'s, T> Img<&'s [T]> {
     }
 }
 
-// The number behind the last cell of a stretch, which the proof by hand of `from_stretch` calls.
+// The number after the last cell of a stretch, which the proof by hand of `from_stretch` calls.
 fn end_of(stretch: Stretch) -> usize
     requires counts { stretch.start + stretch.len < 2 ^ 64 }
     ensures { result ≡ stretch.start + stretch.len }

@@ -7,7 +7,7 @@ use crate::images::ClaimedShape;
 use crate::status::Status;
 use image_ops::join_rows;
 
-// The rows come one after the other at the front of the cells; the cells behind them stay.
+// The rows are joined at the front of the cells; the cells after them stay.
 fn pack<T: Copy>(cells: &mut [T], claimed: ClaimedShape) -> Status
     ensures status { result
         ≡ image_status (length cells.old) claimed.width claimed.height claimed.stride }

@@ -19,7 +19,7 @@ fn count_of(width: usize, height: usize, tile_width: usize, tile_height: usize) 
     tiles_along(height, tile_height) * tiles_along(width, tile_width)
 }
 
-// How many tiles stand in a line of a size that has a tile with this number.
+// The number of tiles in a tile row of a size that has a tile with this number.
 fn columns_of(
     width: usize,
     height: usize,

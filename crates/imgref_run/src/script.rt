@@ -21,7 +21,7 @@ pub(crate) struct Script {
     pub(crate) commands: Vec<Command<u8>>,
 }
 
-// The next line of a script that is cut at its line feeds: an empty last piece is none.
+// The next line of a script that is split at its line feeds: an empty last piece isn't a line.
 fn next_line<'a>(pieces: &mut Parts<'a>) -> Option<&'a [u8]>
     ensures { MatchOption result (whole_lines (parts_left pieces.old) ≡ []) (λ line.
         whole_lines (parts_left pieces.old) ≡ line.now ∷ whole_lines (parts_left pieces.new)) }

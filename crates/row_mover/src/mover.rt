@@ -81,7 +81,7 @@ impl<'a, T: Copy> RowMover<'a, T> {
     }
 }
 
-// Copies a stretch to a place behind its end.
+// Copies a stretch to a place after its end.
 fn copy_behind<T: Copy>(cells: &mut [T], start: usize, len: usize, target: usize)
     requires apart { start + len ≤ target }
     requires target { target + len ≤ length cells.old }

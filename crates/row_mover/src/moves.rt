@@ -25,7 +25,7 @@ impl<T: Copy> RowMover<'_, T> {
         if width == 0 || width == stride || height == 0 {
             return;
         }
-        // No row ends past the list, and its length is a `usize`: so no cell's number wraps.
+        // No row ends past the list, and its length is a `usize`: so no cell's number overflows.
         prove!(self.cells().len() <= usize::MAX);
         for y in 1..height {
             self.shift(y * stride, width, y * width);
@@ -52,7 +52,7 @@ impl<T: Copy> RowMover<'_, T> {
         if width == 0 || height == 0 {
             return;
         }
-        // As above, no cell's number wraps.
+        // As above, no cell's number overflows.
         prove!(self.cells().len() <= usize::MAX);
         // A row is read before it is overwritten: towards the front from the first row on, and
         // towards the back from the last.
