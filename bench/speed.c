@@ -1,11 +1,11 @@
-/* Times the calls of imgref.h, and those of bench_exports, beside the loops that a programmer writes in C and in Rust, the plainest
- * call on as many cells without padding, and the calls of the Rust crate. tools/bench.py builds it, and makes the table.
+/* Times the calls of imgref.h and of bench_exports, and compares them with loops as a programmer writes them in C and in Rust, the plainest
+ * call on as many cells without padding, and the calls of the Rust crate. tools/bench.py builds it, and makes the tables.
  *
  *     speed ROUNDS SIDE ..
  *
  * Each line has a call, the bytes of a cell, a side, and the nanoseconds of the call, of the loop in C, of the plain call, of the
- * loop in Rust and of the Rust crate's call (0 where there is none). A call is on a square of that side at a stride of 8 more. All
- * take turns, and the least of all turns counts. Each is a function out of line, that nothing is known of here. */
+ * loop in Rust and of the Rust crate's call (0 where there is none). A call works on a square of that side at a stride of 8 more.
+ * The runs of all are interleaved, and the least time of each counts. No function that is timed is inlined. */
 #define _POSIX_C_SOURCE 200112L
 #include "imgref.h"
 #include "speed.h"

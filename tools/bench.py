@@ -1,16 +1,17 @@
 #!/usr/bin/env python3
-"""Times the calls and the script program beside plain loops and calls, the video program beside cat, and draws the quotients.
+"""Times the calls and the script program and compares them with plain loops and calls, and the video program with `cat`.
 
     bench.py [--rounds N] [--sides N,..] [--pixels N] [--commands N] [--frames N] [--beside PROGRAM] [--crate FOLDER] [--video] [--write]
 
-First it proves and builds what has changed: the script program, the library for C, and the crate bench_exports. All that is
-compared takes turns, and the least time of each counts. The video program is timed where it is built (`make frames`), and
-built with --video. With --write it is too, the tables go into docs/PERFORMANCE.md, and the plot into docs/speed.svg: do that
-on a machine at rest. CC names the compiler for C (cc). Where there is a rustc, the loops in Rust
-are timed too, and, where a folder has the sources of the Rust crate, its calls. PROGRAM is another script program, as one
-that was built of an earlier state: it takes turns with this one.
+First it proves and builds what has changed: the script program, the library for C, and the crate bench_exports. The runs of
+what is compared are interleaved, and the least time of each counts. The video program is timed where it is built
+(`make frames`); --video builds it. So does --write, which also puts the tables into docs/PERFORMANCE.md and the plot into
+docs/speed.svg: use it on an idle machine. CC names the C compiler (cc). With a rustc the loops in Rust are timed too, and,
+with a FOLDER that has the sources of the Rust crate, its calls. PROGRAM is another script program, for example one that was
+built from an earlier state: its runs are interleaved with those of this one.
 """
 import argparse
+import math
 import os
 import pathlib
 import random
@@ -34,6 +35,8 @@ PAGE, PLOT = ROOT / "docs/PERFORMANCE.md", ROOT / "docs/speed.svg"
 BEGIN, END = "<!-- table of make bench -->", "<!-- end of the table -->"
 # The processor that rt builds for, which rustc is told too.
 RUST = ["rustc", "--edition", "2021", "-C", "opt-level=3", "-C", "target-cpu=x86-64-v2", "-C", "panic=abort", "-C", "codegen-units=1"]
+# The heads of the columns that compare a call: with what, in the order of the times that the C side writes.
+COMPARED = ("vs. loop in C", "vs. plain C call", "vs. loop in Rust", "vs. Rust crate")
 # How often each program runs on each script and each video.
 RUNS = 7
 # How many bytes the planes of a frame have: 1920 by 1080 of brightness, and half as many of chroma.
@@ -47,8 +50,8 @@ FFMPEG = "ffmpeg -v error -nostdin -threads 1 -filter_threads 1 -f yuv4mpegpipe 
 
 
 def apart(failing, task):
-    """Runs a task in a process of its own. A program's most memory begins with that of the process that starts it, which stays
-    small so."""
+    """Runs a task in a process of its own, so that this process stays small. The most memory of a program is at least that of
+    the process that starts it."""
     child = os.fork()
     if not child:
         status = 1
@@ -73,23 +76,23 @@ def apart(failing, task):
 
 
 def rust(crate):
-    """The archive of the loops in Rust, and of the crate's calls where its sources are there; none where there is no rustc."""
+    """The archive of the loops in Rust, and of the crate's calls where its sources are there; nothing where there is no rustc."""
     if not shutil.which("rustc"):
-        say("no rustc: the columns of Rust stay empty")
+        say("no rustc: the columns for Rust stay empty")
         return []
     beside = []
     if crate:
         command(*RUST, "--cap-lints", "allow", "--crate-type", "rlib", "--crate-name", "imgref", "--cfg", 'feature="deprecated"', "-o", OUT / "libimgref.rlib", crate / "src/lib.rs")
         beside = ["--cfg", "beside_crate", "--extern", f"imgref={OUT / 'libimgref.rlib'}"]
     else:
-        say("no --crate with the sources of the Rust crate: its column stays empty")
+        say("no --crate FOLDER with the sources of the Rust crate: its column stays empty")
     command(*RUST, "--crate-type", "staticlib", *beside, "-o", OUT / "libspeed.a", ROOT / "bench/speed.rs")
-    # (named nowhere else but weakly, so the linker is told that one of them is needed)
+    # (all references to these are weak, so the linker is told that one of them is needed)
     return ["-Wl,-u,rust_u8_fill", OUT / "libspeed.a"]
 
 
 def make(crate, speed, numbers, with_video):
-    """Builds all that is timed: the C side, the plain program, and what both stand beside."""
+    """Builds all that is timed: the C side, the plain program, and what they are compared with."""
     OUT.mkdir(parents=True, exist_ok=True)
     if built("imgref_run", *["imgref_frames"] * with_video, c_library.NAME, "bench_exports"):
         raise Failure("what is timed is not proved")
@@ -100,7 +103,7 @@ def make(crate, speed, numbers, with_video):
 
 
 def calls(speed, rounds, sides):
-    """The lines that the C side writes, each as it comes: the call, the cell, the side, its time and those beside it."""
+    """The rows that the C side writes: the call, the cell, the side, its time and the times of what it is compared with."""
     rows = []
     with started([speed, str(rounds), *map(str, sides)], stdout=subprocess.PIPE, text=True) as ran:
         for line in ran.stdout:
@@ -142,7 +145,7 @@ def pictures(count):
 
 
 def written(source, text, count):
-    """Writes the text of a script or a video in a process of its own, and answers its bytes."""
+    """Writes the text of a script or a video in a process of its own, and returns its number of bytes."""
 
     def write():
         made = text(count)
@@ -164,8 +167,8 @@ def run(program, source):
 
 
 def scripts(numbers, beside, asked):
-    """A line of each script: its name and its bytes, the time and the memory of the program, and the times beside it: of the plain
-    one in C, which knows no commands, and of another script program."""
+    """A row for each script: its name and its bytes, the time and the memory of the program, and two other times: that of the
+    plain one in C, which knows no commands, and that of another script program."""
     for name, text, count, plain in (("pixels", pixels, asked.pixels, [numbers]), ("commands", commands, asked.commands, [])):
         source = OUT / f"{name}.script"
         size = written(source, text, count)
@@ -190,10 +193,9 @@ def passed(source, words):
     return time.monotonic() - began
 
 
-def frames_table(count):
-    """The edits of the video program in Markdown: frames or pictures a second, and the shares of those that pass in its place
-    through `cat`, through `dd`, which reads a whole one before it writes it, and through ffmpeg with its own filter."""
-    lines = ["| Of 1920 by 1080 | Edit | A second | of `cat` | of `dd` by frames | of ffmpeg's filter |", "|---|---|---|---|---|---|"]
+def frames_rows(count):
+    """A row for each edit: the input, the edit, the frames or pictures a second, and the speeds relative to what passes them on
+    in its place: `cat`, `dd`, which reads a whole one before it writes it, and ffmpeg with its own filter (None without one)."""
     for name, text, size in (("frames", video, CELLS + len("FRAME\n")), ("pictures in colour", pictures, COLOURS + len(HEAD))):
         source = OUT / "frames"
         written(source, text, count)
@@ -204,54 +206,104 @@ def frames_table(count):
         source.unlink()
         least = {it: min(times[it] for times in runs) for it in each}
         for edit in EDITS:
-            shares = [f"{least[it] / least[edit]:.2f}" if it else "–" for it in ("cat", "dd", filters.get(edit))]
-            lines.append(f"| {name} | `{edit}` | {count / least[edit]:.0f} | {' | '.join(shares)} |")
-    return "\n".join(lines)
+            yield name, edit, count / least[edit], *(least[it] / least[edit] if it else None for it in ("cat", "dd", filters.get(edit)))
 
 
 def quotient(a, b):
     return f"{a / b:.2f}" if b else "–"
 
 
-def table(rows, sides):
-    """The calls in Markdown: of each the time, and the quotients to what is beside it."""
-    lines = ["| Call | " + " | ".join(f"{it}" for it in sides) + " |", "|---|" + "---|" * len(sides)]
-    for name, cell in dict.fromkeys(it[:2] for it in rows):
-        cells = [it for it in rows if it[:2] == (name, cell)]
-        lines.append(f"| `{cell}` {name} | " + " | ".join(f"{it[3]:.0f} ns: " + ", ".join(quotient(it[3], other) for other in it[4:]) for it in cells) + " |")
-    return "\n".join(lines)
+def first_line(*words):
+    """The first line that a command prints, or that it isn't there."""
+    return command(*words).splitlines()[0] if shutil.which(words[0]) else f"no {words[0]}"
 
 
-def script_table(lines, is_beside):
-    """The scripts in Markdown. The time beside another program says how many times as long that one takes."""
-    head = ["Script", "Bytes", "Time", "a second", "Memory a byte", "to plain C", *["the other program"] * is_beside]
-    found = ["| " + " | ".join(head) + " |", "|---|" + "---|" * (len(head) - 1)]
-    for name, count, seconds, memory, plain, other in lines:
-        cells = [name, f"{count / 1e6:.1f} MB", f"{seconds:.3f} s", f"{count / seconds / 1e6:.0f} MB", f"{memory / count:.1f}", quotient(seconds, plain), *[quotient(other, seconds)] * is_beside]
-        found.append("| " + " | ".join(cells) + " |")
-    return "\n".join(found)
+def conditions(rounds):
+    """What the figures depend on, in one line: the date, the processor, the compilers, and the load before the timing."""
+    processor = re.search(r"model name\s*: (.*)", pathlib.Path("/proc/cpuinfo").read_text())
+    return (
+        f"Measured on {time.strftime('%Y-%m-%d')}. Processor: {processor.group(1) if processor else 'unknown'}, {os.cpu_count()} logical cores. "
+        f"C: {first_line(*compiler(), '--version')}. Rust: {first_line('rustc', '--version')}. Rattle: {first_line('rt', 'version')}. "
+        f"Rounds: {rounds}. Load average over a minute before the timing: {os.getloadavg()[0]:.2f}"
+    )
+
+
+def markdown(head, rows):
+    """A table in Markdown."""
+    line = lambda cells: f"| {' | '.join(cells)} |"
+    return "\n".join([line(head), "|" + "---|" * len(head), *map(line, rows)])
+
+
+def slowness(row):
+    """The greatest quotient of a call to what does the same work: the loops in C and in Rust, and the Rust crate's call."""
+    _, _, _, time, loop, _, rust, crate = row
+    return max((time / it for it in (loop, rust, crate) if it), default=0)
+
+
+def call_tables(rows, sides):
+    """The calls in Markdown: a table for each side. What is slower than one of its comparisons stands first."""
+    parts = []
+    for side in sides:
+        ordered = sorted((it for it in rows if it[2] == side), key=slowness, reverse=True)
+        cells = [[it[0], f"`{it[1]}`", f"{it[3]:.0f} ns", *(quotient(it[3], other) for other in it[4:])] for it in ordered]
+        parts.append(f"### Images of {side} by {side} pixels\n\n" + markdown(["Call", "Cell", "Time", *COMPARED], cells))
+    return "\n\n".join(parts)
+
+
+def script_table(rows, is_beside):
+    """The scripts in Markdown, the slowest beside plain C first. The other program's column says how many times as long it takes."""
+    head = ["Script", "Size", "Time", "Script per second", "Memory per byte of script", "vs. plain C", *["time of the other program"] * is_beside]
+    cells = []
+    for name, count, seconds, memory, plain, other in sorted(rows, key=lambda it: it[2] / it[4] if it[4] else 0, reverse=True):
+        cells.append([name, f"{count / 1e6:.1f} MB", f"{seconds:.3f} s", f"{count / seconds / 1e6:.0f} MB", f"{memory / count:.1f}", quotient(seconds, plain), *[quotient(other, seconds)] * is_beside])
+    return "## The script program\n\n" + markdown(head, cells)
+
+
+def frames_table(rows):
+    """The edits of the video program in Markdown, the slowest beside what they are compared with first."""
+    head = ["Input", "Edit", "Per second", "Speed vs. `cat`", "Speed vs. `dd`", "Speed vs. ffmpeg's filter"]
+    ordered = sorted(rows, key=lambda it: min(share for share in it[3:] if share))
+    cells = [[it[0], f"`{it[1]}`", f"{it[2]:.0f}", *(f"{share:.2f}" if share else "–" for share in it[3:])] for it in ordered]
+    return "## The video program\n\n" + markdown(head, cells)
 
 
 def plot(rows, sides):
-    """The quotients to the loop in C as an SVG: a line for each call that has one, a dot for each side."""
-    rows = [it for it in rows if it[4]]
+    """The quotients to the loop in C as an SVG, on a logarithmic axis from the least to the greatest: a line for each call that
+    has such a loop, a dot for each side. The slowest stands first."""
+    rows = sorted((it for it in rows if it[4]), key=lambda it: it[3] / it[4], reverse=True)
     names = list(dict.fromkeys(it[:2] for it in rows))
-    left, wide, high, top = 220, 420, 18, 40
-    at = lambda value: left + wide * min(value, 4.0) / 4.0
+    powers = [math.log2(it[3] / it[4]) for it in rows]
+    low, high = min(-1, math.floor(min(powers))), max(1, math.ceil(max(powers)))
+    left, wide, line, top = 220, 560, 18, 84
+    bottom, width = top + line * len(names), left + wide + 40
+    at = lambda power: left + wide * (power - low) / (high - low)
     colours = ["#1b6ca8", "#d1495b", "#5a9a3c", "#8a5fa8", "#c98a1b", "#4b4b4b"]
-    drawn = [f'<svg xmlns="http://www.w3.org/2000/svg" width="{left + wide + 30}" height="{top + high * len(names) + 20}" font-family="sans-serif" font-size="11">']
-    drawn += [f'<rect width="100%" height="100%" fill="white"/>']
-    for k in range(5):
-        drawn.append(f'<path d="M{at(k):.0f} {top - 8}V{top + high * len(names)}" stroke="{"#000" if k == 1 else "#ccc"}"/><text x="{at(k):.0f}" y="{top - 12}" text-anchor="middle">{k}</text>')
+    drawn = [f'<svg xmlns="http://www.w3.org/2000/svg" width="{width}" height="{bottom + 44}" font-family="sans-serif" font-size="11">']
+    drawn += ['<rect width="100%" height="100%" fill="white"/>', f'<text x="{width // 2}" y="20" text-anchor="middle" font-size="14">Time of each call, divided by the time of a loop in C</text>']
     for k, side in enumerate(sides):
-        drawn.append(f'<circle cx="{left + 70 * k}" cy="12" r="4" fill="{colours[k % 6]}"/><text x="{left + 70 * k + 8}" y="16">{side}</text>')
-    for line, (name, cell) in enumerate(names):
-        y = top + high * line + 9
+        drawn.append(f'<circle cx="{left + 130 * k}" cy="42" r="4" fill="{colours[k % 6]}"/><text x="{left + 130 * k + 8}" y="46">{side} by {side} pixels</text>')
+    for power in range(low, high + 1):
+        drawn.append(f'<path d="M{at(power):.0f} {top - 8}V{bottom}" stroke="{"#000" if power == 0 else "#ccc"}"/><text x="{at(power):.0f}" y="{top - 12}" text-anchor="middle">{2 ** power if power >= 0 else f"1/{2 ** -power}"}</text>')
+    for k, (name, cell) in enumerate(names):
+        y = top + line * k + 9
         drawn.append(f'<text x="{left - 10}" y="{y + 4}" text-anchor="end">{cell} {name}</text>')
         for it in rows:
             if it[:2] == (name, cell):
-                drawn.append(f'<circle cx="{at(it[3] / it[4]):.1f}" cy="{y}" r="4" fill="{colours[sides.index(it[2]) % 6]}"/>')
+                drawn.append(f'<circle cx="{at(math.log2(it[3] / it[4])):.1f}" cy="{y}" r="4" fill="{colours[sides.index(it[2]) % 6]}"/>')
+    drawn.append(f'<text x="{left + wide // 2}" y="{bottom + 26}" text-anchor="middle">quotient of the times, logarithmic: left of 1 the call is faster than the loop in C, right of 1 slower</text>')
     return "\n".join([*drawn, "</svg>", ""])
+
+
+def report(asked, sides, numbers, with_video):
+    """Times all that was built: the text for docs/PERFORMANCE.md and the plot."""
+    before = conditions(asked.rounds)
+    rows = calls(OUT / "speed", asked.rounds, sides)
+    tables = [call_tables(rows, sides), script_table([*scripts(numbers, asked.beside, asked)], bool(asked.beside))]
+    if with_video:
+        tables.append(frames_table([*frames_rows(asked.frames)]))
+    else:
+        say("the video program isn't built: `make frames` or --video times it too")
+    return "\n\n".join([f"{before}, after it: {os.getloadavg()[0]:.2f}.", *tables]), plot(rows, sides)
 
 
 def main():
@@ -270,23 +322,17 @@ def main():
     began = time.time()
     with_video = asked.video or asked.write or is_proved("imgref_frames")
     speed, numbers = OUT / "speed", OUT / "numbers"
-    apart("what is timed can't be built", lambda: make(asked.crate, speed, numbers, with_video))
+    apart("the programs to time can't be built", lambda: make(asked.crate, speed, numbers, with_video))
     began_timing = time.time()
-    rows = calls(speed, asked.rounds, sides)
-    tables = [table(rows, sides), script_table([*scripts(numbers, asked.beside, asked)], bool(asked.beside))]
-    if with_video:
-        tables.append(frames_table(asked.frames))
-    else:
-        say("the video program isn't built: `make frames` or --video times it too")
-    found = "\n\n".join(tables)
+    found, drawn = report(asked, sides, numbers, with_video)
     print(found)
-    (OUT / "speed.svg").write_text(plot(rows, sides))
-    say(f"{time.time() - began:.0f} s, {time.time() - began_timing:.0f} of them timing; the plot is in {(OUT / 'speed.svg').relative_to(ROOT)}")
+    (OUT / "speed.svg").write_text(drawn)
+    say(f"{time.time() - began:.0f} s in all, {time.time() - began_timing:.0f} s of it timing; the plot is {(OUT / 'speed.svg').relative_to(ROOT)}")
     if asked.write:
         page = PAGE.read_text()
         PAGE.write_text(re.sub(f"{BEGIN}.*{END}", lambda _: f"{BEGIN}\n{found}\n{END}", page, flags=re.DOTALL))
         shutil.copy2(OUT / "speed.svg", PLOT)
-        say("docs/PERFORMANCE.md and docs/speed.svg are new")
+        say("written: docs/PERFORMANCE.md and docs/speed.svg")
 
 
 if __name__ == "__main__":

@@ -31,7 +31,7 @@ class Failure(Exception):
 
 
 def command(*words):
-    """Runs a command and gives what it wrote. A bad end is a Failure."""
+    """Runs a command and returns its output. Where its status isn't 0, that is a Failure."""
     ran = run_to_end(words)
     if ran.returncode:
         raise Failure(f"{' '.join(map(str, words))}\n{ran.stdout}{ran.stderr}")

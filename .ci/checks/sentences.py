@@ -1,9 +1,11 @@
 #!/usr/bin/env python3
-"""Sentences of the documents are short: at most 35 words each, in README.md at most 30, and README.md has at most 110 lines.
+"""The documents are in plain English: short sentences, and no odd words.
 
-A paragraph, a list item, a heading and a cell of a table are read as sentences; blocks of code are left out. A piece of code
-within a line counts as one word. Where a sentence is too long, it is shown with its number of words. The documents and the
-`///` and `//!` lines of the crates have the words of docs/GLOSSARY.md, and none that it replaces.
+A sentence has at most 35 words, in README.md at most 30, and README.md has at most 110 lines. A paragraph, a list item, a
+heading and a cell of a table are read as sentences; blocks of code are left out. A piece of code within a line counts as one
+word. A sentence that is too long is shown with its number of words. No document and no `///` or `//!` line of a crate has a
+word of TICS: each such line is shown with the better word. The pages of WRITTEN are left
+out, since a tool makes them from those lines.
 """
 import pathlib
 import re
@@ -15,7 +17,38 @@ from checking import ROOT, Cases
 MOST_WORDS, README_WORDS, README_LINES = 35, 30, 110
 # The pages that `make docs` writes, whose sentences are those of the code.
 WRITTEN = {"API.md", "INNER.md"}
-REPLACED = re.compile(r"\b(want of memory|wrong bod(?:y|ies)|one further|goes round|the loan|cells end as|no text belongs)\b", re.IGNORECASE)
+# Words and phrases that are hard to understand, each with what to say.
+TICS = {
+    r"want of memory": "out of memory",
+    r"wrong bod(?:y|ies)": "planted bug",
+    r"one further": "off by one",
+    r"go(?:es)? round": "bypasses",
+    r"the loan": "the borrow",
+    r"cells end as": "final cells",
+    r"no text belongs": "each line parses in at most one way",
+    r"behind": "after",
+    r"at rest": "idle",
+    r"kept (?:work|proofs?)": "cached proofs",
+    r"askew": "misaligned",
+    r"turn(?:s|ed)? the meaning": "changes the behaviour",
+    r"takes? turns": "interleaved",
+    r"out of line": "not inlined",
+    r"wants? (?:an?|no|the|its)": "needs",
+    r"for who": "for those who",
+    r"answers (?:an?|that|how|what|which|whether|when|where|nothing|none|no|only|exactly|as|with|code|the (?!questions?))": "returns",
+    r"(?:is|are) answered": "is returned",
+    r"(?<!there )(?:is|are) none(?! of)": "isn't one, or: is ignored",
+    r"there is neither": "at most one",
+    r"can't be told from": "reveals nothing of",
+    r"wraps?": "overflows",
+    r"stands? on": "depends on",
+    r"stands? in(?! for)": "is in, or: replaces",
+    r"stands? (?:there|beside)": "is there, is next to",
+    r"lies? (?:apart|beside)": "doesn't overlap, is next to",
+    r"summed (?:place|corner)": "the sum of the corners",
+    r"is a case and no": "belongs in",
+}
+TIC = [(re.compile(rf"\b(?:{it})\b", re.IGNORECASE), better) for it, better in TICS.items()]
 CODE = re.compile(r"``.+?``|`[^`]+`")
 LINK = re.compile(r"!?\[([^\]]*)\]\([^)]*\)")
 ENDS = re.compile(r"(?<=[.!?])[)*'\"]*\s+")
@@ -49,18 +82,21 @@ def words(sentence):
     return sum(any(it.isalnum() for it in word) for word in sentence.split())
 
 
-def replaced(path):
-    """Each line with a word that the glossary replaces."""
-    lines = enumerate(path.read_text().splitlines(), 1)
-    read = (it for it in lines if path.suffix == ".md" or it[1].lstrip().startswith(("///", "//!")))
-    return [f"  {path.relative_to(ROOT)}:{at}: {line.strip()}" for at, line in read if REPLACED.search(line)]
+def odd(path):
+    """Each line with a tic, and the better word. Code is left out."""
+    for at, line in enumerate(path.read_text().splitlines(), 1):
+        if line.startswith("    ") if path.suffix == ".md" else not line.lstrip().startswith(("///", "//!")):
+            continue
+        plain = CODE.sub("code", line)
+        for tic, better in TIC:
+            yield from (f"  {path.relative_to(ROOT)}:{at}: '{it.group()}', say '{better}': {line.strip()}" for it in tic.finditer(plain))
 
 
 def main():
     cases = Cases()
-    documents = [ROOT / "README.md", ROOT / "CONTRIBUTING.md", ROOT / "CHANGELOG.md", *(it for it in sorted((ROOT / "docs").glob("*.md")) if it.name not in WRITTEN)]
-    old = [line for it in [*documents, *sorted((ROOT / "crates").glob("*/src/**/*.rt"))] for line in replaced(it)]
-    cases.count("the words of the glossary", not old, "\n".join(old))
+    documents = [it for it in (*sorted(ROOT.glob("*.md")), *sorted((ROOT / "docs").glob("*.md"))) if it.name not in WRITTEN]
+    found = [line for it in [*documents, *sorted((ROOT / "crates").glob("*/src/**/*.rt"))] for line in odd(it)]
+    cases.count("no odd words", not found, "\n".join(found))
     for path in documents:
         most = README_WORDS if path.name == "README.md" else MOST_WORDS
         long = [it for it in sentences(path.read_text()) if words(it) > most]

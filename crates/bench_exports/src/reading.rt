@@ -51,7 +51,7 @@ fn pixels<T: Copy + Into<u64>>(image: &ImgRef<'_, T>) -> u64
     sum
 }
 
-/// The sum of the pixels, by one loop over all.
+/// The sum of the pixels, by one loop over all of them.
 #[unsafe(no_mangle)]
 pub extern "C" fn bench_u8_pixels(cells: &[u8], width: usize, height: usize, stride: usize) -> u64
     requires image { IsImage cells.now width height stride }
@@ -59,7 +59,7 @@ pub extern "C" fn bench_u8_pixels(cells: &[u8], width: usize, height: usize, str
     pixels(&Img::new_stride(cells, width, height, stride))
 }
 
-/// The sum of the pixels, by one loop over all.
+/// The sum of the pixels, by one loop over all of them.
 #[unsafe(no_mangle)]
 pub extern "C" fn bench_u32_pixels(cells: &[u32], width: usize, height: usize, stride: usize) -> u64
     requires image { IsImage cells.now width height stride }
@@ -209,7 +209,7 @@ fn to_contiguous_buf<T: Copy>(alloc: Global, image: &ImgRef<'_, T>) -> usize
     }
 }
 
-/// The joined rows, which are given back at once: how many cells they had.
+/// The number of cells of the joined rows, whose memory is freed at once.
 #[unsafe(no_mangle)]
 pub extern "C" fn bench_u8_to_contiguous_buf(
     alloc: Global,
@@ -223,7 +223,7 @@ pub extern "C" fn bench_u8_to_contiguous_buf(
     to_contiguous_buf(alloc, &Img::new_stride(cells, width, height, stride))
 }
 
-/// The joined rows, which are given back at once: how many cells they had.
+/// The number of cells of the joined rows, whose memory is freed at once.
 #[unsafe(no_mangle)]
 pub extern "C" fn bench_u32_to_contiguous_buf(
     alloc: Global,

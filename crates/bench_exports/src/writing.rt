@@ -21,7 +21,7 @@ fn pixels_mut<T: Copy>(cells: &mut [T], shape: Shape, value: T)
     }
 }
 
-/// Every pixel becomes 7, by one loop over all.
+/// Every pixel becomes 7, by one loop over all of them.
 #[unsafe(no_mangle)]
 pub extern "C" fn bench_u8_pixels_mut(cells: &mut [u8], width: usize, height: usize, stride: usize)
     requires image { IsImage cells.old width height stride }
@@ -29,7 +29,7 @@ pub extern "C" fn bench_u8_pixels_mut(cells: &mut [u8], width: usize, height: us
     pixels_mut(cells, Shape::new(width, height, stride), 7);
 }
 
-/// Every pixel becomes 7, by one loop over all.
+/// Every pixel becomes 7, by one loop over all of them.
 #[unsafe(no_mangle)]
 pub extern "C" fn bench_u32_pixels_mut(
     cells: &mut [u32],
@@ -108,7 +108,7 @@ pub extern "C" fn bench_u32_bands(cells: &mut [u32], width: usize, height: usize
     bands(cells, Shape::new(width, height, stride), 7);
 }
 
-/// Every pixel is turned bit by bit.
+/// Every bit of every pixel is inverted.
 #[unsafe(no_mangle)]
 pub extern "C" fn bench_u8_map_pixels(cells: &mut [u8], width: usize, height: usize, stride: usize)
     requires image { IsImage cells.old width height stride }
@@ -117,7 +117,7 @@ pub extern "C" fn bench_u8_map_pixels(cells: &mut [u8], width: usize, height: us
     image.map_pixels(|pixel: u8| !pixel);
 }
 
-/// Every pixel is turned bit by bit.
+/// Every bit of every pixel is inverted.
 #[unsafe(no_mangle)]
 pub extern "C" fn bench_u32_map_pixels(
     cells: &mut [u32],
@@ -131,7 +131,7 @@ pub extern "C" fn bench_u32_map_pixels(
     image.map_pixels(|pixel: u32| !pixel);
 }
 
-/// Row `y` and row `z` change places.
+/// Rows `y` and `z` are exchanged.
 #[unsafe(no_mangle)]
 pub extern "C" fn bench_u8_swap_rows(
     cells: &mut [u8],
@@ -149,7 +149,7 @@ pub extern "C" fn bench_u8_swap_rows(
     image.swap_rows(y, z);
 }
 
-/// Row `y` and row `z` change places.
+/// Rows `y` and `z` are exchanged.
 #[unsafe(no_mangle)]
 pub extern "C" fn bench_u32_swap_rows(
     cells: &mut [u32],

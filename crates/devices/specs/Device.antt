@@ -6,7 +6,7 @@ use Rattle.devices.specs.declared.counted.Counted.{Counted}
 abbrev pub device_of : {D : Type 0} → Counted D → D
 device_of c = c.device
 
--- how many calls of it failed
+-- how many of its calls failed
 abbrev pub failures_of : {D : Type 0} → Counted D → ℕ
 failures_of c = c.failures
 

@@ -1,4 +1,4 @@
--- What each program over devices prints of the faults that all of them may end with.
+-- What each program over devices prints for the faults that all of them may end with.
 use Rattle.std.specs.Prelude.{ℕ, List, codes}
 
 abbrev pub memory_text : List ℕ

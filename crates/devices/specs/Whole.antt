@@ -8,7 +8,7 @@ use Rattle.devices.specs.declared.whole.LineFault.TheVariants.{NoLine, Reader}
 abbrev pub AppendsBeginning : Option (List ℕ) → Option (List ℕ) → List ℕ → Type 0
 AppendsBeginning old new bytes = (sent : ℕ) × (sent ≤ length bytes) × Appends old new (take sent bytes)
 
--- no line of fewer bytes than so many stands at the front
+-- there is no line of fewer than so many bytes at the front
 abbrev pub IsNoLine : ℕ → List ℕ → Type 0
 IsNoLine count bytes = (line more : List ℕ) → length line < count → bytes ≡ line ++ 10 ∷ more → ⊥
 

@@ -6,7 +6,7 @@ ghost use Rattle.std.specs.Io.KnownBytes.{ReadConsumes, WriteAppends, Keeps};
 
 use std::io::{Read, Result, Write};
 
-/// A device, and how many of the calls of it failed.
+/// A device, and the number of its calls that have failed.
 #[derive(Drop)]
 pub struct Counted<D> {
     device: D,
@@ -16,7 +16,7 @@ pub struct Counted<D> {
 impl<D> Counted<D> {
     ghost use Rattle.devices.specs.Device.{device_of, failures_of};
 
-    /// The device, of which no call has failed yet.
+    /// The device, with no failed call so far.
     pub fn new(device: D) -> Self
         ensures device { device_of result ≡ device }
         ensures failures { failures_of result ≡ 0 }
@@ -27,8 +27,8 @@ impl<D> Counted<D> {
         }
     }
 
-    /// How many calls have failed: each that answered an error, and each write that took no byte of
-    /// a piece that wasn't empty.
+    /// The number of calls that have failed: each that returned an error, and each write that took
+    /// no byte of a piece that wasn't empty.
     pub fn failures(&self) -> u64
         ensures { result ≡ failures_of self.now }
     {
@@ -55,7 +55,8 @@ impl<D> Counted<D> {
 impl<D: Read> Counted<D> {
     ghost use Rattle.devices.specs.Device.{device_of, failures_of, errors};
 
-    /// Reads into `buf` by the device, and passes its answer on. An error counts as a failure.
+    /// Reads from the device into `buf`, and returns the device's result. An error counts as a
+    /// failure.
     pub fn read(&mut self, buf: &mut [u8]) -> Result<usize>
         requires { failures_of self.old < u64.MAX }
         ensures bound { ReadsAtMost result buf.new }
@@ -74,8 +75,8 @@ impl<D: Read> Counted<D> {
 impl<D: Write> Counted<D> {
     ghost use Rattle.devices.specs.Device.{device_of, failures_of, errors, misses};
 
-    /// Writes a beginning of `buf` by the device, and passes its answer on. An error counts as a
-    /// failure, and so does an answer of no byte where `buf` isn't empty.
+    /// Writes the first bytes of `buf` to the device, and returns the device's result. An error
+    /// counts as a failure, and so does a result of 0 bytes where `buf` isn't empty.
     pub fn write(&mut self, buf: &[u8]) -> Result<usize>
         requires { failures_of self.old < u64.MAX }
         ensures bound { WritesAtMost result buf.now }
@@ -92,7 +93,7 @@ impl<D: Write> Counted<D> {
         taken
     }
 
-    /// Flushes the device, and passes its answer on. An error counts as a failure.
+    /// Flushes the device, and returns its result. An error counts as a failure.
     pub fn flush(&mut self) -> Result<()>
         requires { failures_of self.old < u64.MAX }
         ensures bytes { Keeps (D.contents (device_of self.old)) (D.contents (device_of self.new)) }

@@ -1,6 +1,6 @@
-//! What each program over devices prints of a fault that all of them may end with.
+//! What each program over devices prints for the faults that all of them may end with.
 
-/// No memory was found.
+/// Out of memory.
 pub const MEMORY_TEXT: &str = "fault memory";
 
 /// The reader failed.

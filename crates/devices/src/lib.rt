@@ -1,5 +1,4 @@
-//! Readers and writers whose failures are counted, and what is read from them or written to them
-//! whole: buffers and lines.
+//! Readers and writers that count failures, and calls that read or write whole buffers and lines.
 #![tactic(auto)]
 
 mod counted;

@@ -19,18 +19,18 @@ pub struct WriteFailed;
 /// Why no line was read.
 #[derive(Clone, Copy, Debug, PartialEq, Eq)]
 pub enum LineFault {
-    /// There is no line feed in as many bytes as the buffer has.
+    /// There is no line feed within the length of the buffer.
     NoLine,
     /// The reader failed.
     Reader,
 }
 
-/// Fills the buffer as far as the reader goes, and answers how many bytes it had: fewer than there
-/// is room for only where it is at its end.
+/// Fills the buffer as far as the reader goes, and returns the number of bytes read. It is less
+/// than the length of the buffer only where the reader is at its end.
 ///
 /// # Requires
 ///
-/// The reader's count has room for one failure more.
+/// The reader's count can still be increased by one.
 pub fn fill<R: Read>(reader: &mut Counted<R>, buffer: &mut [u8]) -> Result<usize, ReadFailed>
     requires { failures_of reader.old < u64.MAX }
     ensures within { IfOk result (λ n. n ≤ length buffer.new) }
@@ -55,7 +55,7 @@ pub fn fill<R: Read>(reader: &mut Counted<R>, buffer: &mut [u8]) -> Result<usize
 ///
 /// # Requires
 ///
-/// The reader's count has room for one failure more.
+/// The reader's count can still be increased by one.
 pub fn read_byte<R: Read>(reader: &mut Counted<R>) -> Result<Option<u8>, ReadFailed>
     requires { failures_of reader.old < u64.MAX }
     ensures byte { IfOk result (λ found. IfSome found (λ byte. Consumes
@@ -72,15 +72,15 @@ pub fn read_byte<R: Read>(reader: &mut Counted<R>) -> Result<Option<u8>, ReadFai
     }
 }
 
-/// Reads up to and including the first line feed, and answers how many bytes stand before it.
+/// Reads up to and including the first line feed, and returns the number of bytes before it.
 ///
 /// # Requires
 ///
-/// The reader's count has room for one failure more.
+/// The reader's count can still be increased by one.
 ///
 /// # Errors
 ///
-/// `NoLine` where there is no line feed in as many bytes as the buffer has.
+/// `NoLine` where there is no line feed within the length of the buffer.
 pub fn read_line<R: Read>(reader: &mut Counted<R>, line: &mut [u8]) -> Result<usize, LineFault>
     requires { failures_of reader.old < u64.MAX }
     ensures within { IfOk result (λ n. n < length line.new) }
@@ -109,7 +109,7 @@ pub fn read_line<R: Read>(reader: &mut Counted<R>, line: &mut [u8]) -> Result<us
 ///
 /// # Requires
 ///
-/// The writer's count has room for one failure more.
+/// The writer's count can still be increased by one.
 pub fn write_all<W: Write>(writer: &mut Counted<W>, bytes: &[u8]) -> Result<(), WriteFailed>
     requires { failures_of writer.old < u64.MAX }
     ensures whole { OnOk result (Appends (W.contents (device_of writer.old))

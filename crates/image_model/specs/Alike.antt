@@ -1,4 +1,4 @@
--- When two images are equal, and what a hasher is fed of one.
+-- When two images are equal, and what an image feeds to a hasher.
 use Rattle.std.specs.Prelude.{◌≡◌, Bool, ◌&&◌, not, ◌==◌, if◌then◌else◌, [], ◌++◌, ◌⊎◌}
 use Rattle.std.specs.List.{flat_map}
 use Rattle.std.specs.Cmp.Lexicographic.{pointwise}
@@ -8,7 +8,7 @@ use Rattle.image_model.specs.Layout.{Layout, Fits, is_fitting}
 use Rattle.image_model.specs.Grid.{Agree, grid_of}
 use Rattle.image_model.specs.Rows.{rows}
 
--- both fit, and their grids agree by the pixel's own equality
+-- both fit, and their grids agree by the pixel type's own equality
 abbrev pub BothShow : {T : Type 0} → (T → T → Bool) → Layout T → Layout T → Type 0
 BothShow eq k l = Fits k × Fits l × Agree eq (grid_of k) (grid_of l)
 

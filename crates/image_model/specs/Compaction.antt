@@ -1,4 +1,4 @@
--- What a run of commands leaves of an image's layout.
+-- An image's layout after a run of commands.
 use Rattle.std.specs.Prelude.{◌≡◌, ℕ, ◌==◌, if◌then◌else◌, Bool, MatchBool}
 use Rattle.image_model.specs.Layout.{Layout, layout, SameOutside}
 use Rattle.image_model.specs.Rows.{joined_rows}
@@ -7,15 +7,15 @@ use Rattle.image_model.specs.Rows.{joined_rows}
 abbrev pub least_stride : ℕ → ℕ
 least_stride width = if width == 0 then 1 else width
 
--- a layout is packed if its cells are exactly its joined rows, under the least stride
+-- a layout is packed if its cells are exactly its joined rows, with the least stride
 pub record IsPacked {T : Type 0} (l : Layout T) : Type 0 where
   pub stride_is : l.stride ≡ least_stride l.width
   pub joined : l.cells ≡ joined_rows l
 
--- the packed layout of a layout: its joined rows under the least stride
+-- the packed layout of a layout: its joined rows with the least stride
 abbrev pub packed : {T : Type 0} → Layout T → Layout T
 packed l = layout (joined_rows l) l.width l.height (least_stride l.width)
 
--- with no compaction between them a layout keeps its outside, and with one it is packed
+-- without a compaction in between a layout keeps its outside, and with one it is packed
 abbrev pub IsKept : {T : Type 0} → Bool → Layout T → Layout T → Type 0
 IsKept compacted old new = MatchBool compacted (IsPacked new) (SameOutside old new)

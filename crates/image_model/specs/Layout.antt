@@ -12,11 +12,11 @@ pub record Layout (T : Type 0) : Type 0 where
 abbrev pub layout : {T : Type 0} → List T → ℕ → ℕ → ℕ → Layout T
 layout cells width height stride = record { cells = cells; width = width; height = height; stride = stride }
 
--- so many cells reach to the end of the last row, if there is a pixel at all
+-- so many cells reach the end of the last row, if there is a pixel at all
 abbrev pub Reaches : ℕ → ℕ → ℕ → ℕ → Type 0
 Reaches count width height stride = 0 < width → 0 < height → stride * (height - 1) + width ≤ count
 
--- a layout fits if its cells reach to the last pixel
+-- a layout fits if its cells reach the last pixel
 abbrev pub Fits : {T : Type 0} → Layout T → Type 0
 Fits l = Reaches (length l.cells) l.width l.height l.stride
 
@@ -32,11 +32,11 @@ cell_of l x y = y * l.stride + x
 abbrev pub pixel : {T : Type 0} → Layout T → ℕ → ℕ → Option T
 pixel l x y = slice_get l.cells (cell_of l x y)
 
--- cell k is padding of a size at a stride if it is no place's cell
+-- cell k is padding of a size at a stride if it belongs to no place
 pub record IsPadding (width height stride k : ℕ) : Type 0 where
   pub no_place : (x y : ℕ) → x < width → y < height → y * stride + x ≢ k
 
--- what lies outside the pixels is as before: the size, the stride, the length, and each cell of padding
+-- everything but the pixels is as before: the size, the stride, the length, and each cell of padding
 pub record SameOutside {T : Type 0} (old new : Layout T) : Type 0 where
   pub width_stays : new.width ≡ old.width
   pub height_stays : new.height ≡ old.height

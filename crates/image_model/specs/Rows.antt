@@ -4,11 +4,11 @@ use Rattle.std.specs.List.{filter_map, flat_map, range_with_len}
 use Rattle.image_model.specs.Layout.{Layout, pixel}
 use Rattle.image_model.specs.Grid.{Grid}
 
--- row y of a table with so many columns: what stands at (0, y), (1, y) and on to the last column
+-- row y of a table with so many columns: the content of (0, y), (1, y) and so on to the last column
 abbrev pub table_row : {T : Type 0} → (ℕ → ℕ → Option T) → ℕ → ℕ → List T
 table_row at width y = filter_map (λ x. at x y) (range_with_len 0 width)
 
--- how many rows a size has: with no column there is none
+-- how many rows a size has: 0 where there is no column
 abbrev pub row_count : ℕ → ℕ → ℕ
 row_count width height = if width == 0 then 0 else height
 

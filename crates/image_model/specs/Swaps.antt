@@ -1,16 +1,16 @@
--- Rows that change places.
+-- Rows that are exchanged.
 use Rattle.std.specs.Prelude.{◌≡◌, ℕ, ◌+◌, ◌<◌, ◌≤◌, ◌==◌, if◌then◌else◌, List, length, slice_get}
 use Rattle.image_model.specs.Grid.{Grid, grid}
 
--- where row v comes from, where rows y and z change places
+-- where row v comes from, once rows y and z are exchanged
 abbrev pub swapped_row : ℕ → ℕ → ℕ → ℕ
 swapped_row y z v = if v == y then z else if v == z then y else v
 
--- rows y and z have changed places
+-- rows y and z are exchanged
 unfoldable pub rows_swapped : {T : Type 0} → ℕ → ℕ → Grid T → Grid T
 rows_swapped y z g = grid g.width g.height (λ u v. g.pixel u (swapped_row y z v))
 
--- two stretches of a list that lie apart have changed places, and nothing else has changed
+-- two stretches of a list that don't overlap are exchanged, and nothing else has changed
 pub record StretchesSwapped {T : Type 0} (old new : List T) (first second len : ℕ) : Type 0 where
   pub as_many : length new ≡ length old
   pub first_is : (k : ℕ) → k < len → slice_get new (first + k) ≡ slice_get old (second + k)

@@ -9,17 +9,17 @@ use Rattle.image_model.specs.Windows.{Window, window, is_inside}
 abbrev pub tile_count : ℕ → ℕ → ℕ
 tile_count tile len = (len + (tile - 1)) / tile
 
--- the tile in column i of line j: its corner is a multiple of the tile size
+-- the tile in tile column i of tile row j: its corner is a multiple of the tile size
 abbrev pub tile : ℕ → ℕ → ℕ → ℕ → ℕ → ℕ → Window
 tile width height tile_width tile_height i j =
     window (i * tile_width) (j * tile_height) (min tile_width (width - i * tile_width)) (min tile_height (height - j * tile_height))
 
--- line j of the tiles, from left to right
+-- tile row j, from left to right
 abbrev pub tile_line : ℕ → ℕ → ℕ → ℕ → ℕ → List Window
 tile_line width height tile_width tile_height j =
     map (λ i. tile width height tile_width tile_height i j) (range_with_len 0 (tile_count tile_width width))
 
--- the tiles of a size, line by line: a size with no place has none
+-- the tiles of a size, tile row by tile row: a size with no place has no tile
 abbrev pub tiles : ℕ → ℕ → ℕ → ℕ → List Window
 tiles width height tile_width tile_height =
     flat_map (tile_line width height tile_width tile_height) (range_with_len 0 (tile_count tile_height height))
@@ -29,24 +29,24 @@ abbrev pub are_inside : ℕ → ℕ → List Window → Bool
 are_inside width height [] = true
 are_inside width height (w ∷ windows) = is_inside width height w && are_inside width height windows
 
--- where the tile of column x begins, and likewise that of a row
+-- where the tile of column x begins, and in the same way that of a row
 abbrev pub tile_start : ℕ → ℕ → ℕ
 tile_start tile x = x - x % tile
 
--- whether column x of row y lies in a window
+-- whether column x of row y is in a window
 abbrev pub has_place : Window → ℕ → ℕ → Bool
 has_place w x y = covers w.left w.top w.width w.height x y
 
--- column x of row y lies in window number k of a list
+-- column x of row y is in window number k of a list
 abbrev pub LiesIn : List Window → ℕ → ℕ → ℕ → Type 0
 LiesIn windows x y k = IsSomeAnd (slice_get windows k) (λ w. IsTrue (has_place w x y))
 
--- column x of row y lies in exactly one window of a list, by its number
+-- column x of row y is in exactly one window of a list, by the window's number
 pub record LiesInOne (windows : List Window) (x y : ℕ) : Type 0 where
   pub number : ℕ
   pub there : LiesIn windows x y number
   pub alone : (k : ℕ) → LiesIn windows x y k → k ≡ number
 
--- each place of a size lies in exactly one window of a list
+-- each place of a size is in exactly one window of a list
 abbrev pub EachPlaceInOne : ℕ → ℕ → List Window → Type 0
 EachPlaceInOne width height windows = (x y : ℕ) → x < width → y < height → LiesInOne windows x y

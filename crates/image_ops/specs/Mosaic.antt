@@ -7,7 +7,7 @@ use Rattle.image_model.specs.Tiles.{tile_start}
 abbrev pub mosaic : {T : Type 0} → ℕ → ℕ → Grid T → Grid T
 mosaic tile_width tile_height g = grid g.width g.height (λ x y. g.pixel (tile_start tile_width x) (tile_start tile_height y))
 
--- each cell of a row is the old one that its tile begins with
+-- each cell of a row is the old one with which its tile begins
 pub record IsSpread {T : Type 0} (tile : ℕ) (old new : List T) : Type 0 where
   pub as_many : length new ≡ length old
   pub each : (x : ℕ) → x < length old → slice_get new x ≡ slice_get old (tile_start tile x)

@@ -13,7 +13,8 @@ use std::alloc::{AllocError, Global};
 use std::borrow::CowSlice;
 use std::vec::VecCloneMethods;
 
-/// The cells in a buffer of their own, whose room is taken once. Of no cell none is taken.
+/// Clones of the cells in a buffer of their own, whose memory is allocated at once. Where there is
+/// no cell, nothing is allocated.
 pub fn cloned<T: Clone>(alloc: Global, cells: &[T]) -> Result<Vec<T>, AllocError>
     requires clones_equal { ClonesEqual T.is_clone cells.now }
     ensures cells { IfOk result (λ v. v.items ≡ cells.now) }
@@ -27,8 +28,8 @@ pub fn cloned<T: Clone>(alloc: Global, cells: &[T]) -> Result<Vec<T>, AllocError
     Ok(buf)
 }
 
-/// The rows one after the other in a buffer of their own, whose room is taken once. Of no pixel none
-/// is taken. The cells fit.
+/// Clones of the rows, one after the other in a buffer of their own, whose memory is allocated at
+/// once. Where there is no pixel, nothing is allocated. The cells fit.
 pub fn joined_clones<T: Clone>(
     alloc: Global,
     cells: &[T],
@@ -48,9 +49,9 @@ pub fn joined_clones<T: Clone>(
 
 /// The rows one after the other. The cells fit.
 ///
-/// Where the width equals the stride the rows are lent, as the first `width * height` cells, and no
-/// memory is taken. Else they are cloned row by row; `AllocError` is then out of memory, or a
-/// pixel's own `clone` that refused. It never comes where there is no pixel.
+/// Where the width equals the stride, the rows are borrowed, as the first `width * height` cells,
+/// and no memory is allocated. Otherwise they are cloned row by row; `AllocError` then means out of
+/// memory, or that a pixel's own `clone` failed. It never happens where there is no pixel.
 pub fn contiguous<'a, T: Clone>(
     alloc: Global,
     cells: &'a [T],

@@ -1,4 +1,4 @@
-//! The pixels of one image over those of another.
+//! Copies of the pixels of one image over those of another.
 
 ghost use Rattle.std.specs.Prelude.{◌≡◌};
 ghost use Rattle.image_model.specs.Layout.{Fits, SameOutside};
@@ -6,8 +6,8 @@ ghost use Rattle.image_shape.specs.Shape.{shape_width, shape_height, shaped_grid
 
 use image_shape::Shape;
 
-/// Every pixel of `shape` in `cells` becomes that of the source at its place, row by row; the
-/// padding stays. Both fit, as `Shape::fits` tells, and have one size; their strides may differ.
+/// Every pixel of `shape` in `cells` becomes the pixel of the source at its place, row by row; the
+/// padding stays. Both fit (`Shape::fits`) and have the same size; their strides may differ.
 pub fn copy_pixels<T: Copy>(cells: &mut [T], shape: Shape, source: &[T], source_shape: Shape)
     requires fits { Fits (shaped cells.old shape) }
     requires source_fits { Fits (shaped source.now source_shape) }

@@ -1,4 +1,4 @@
-//! Equality, by sizes and pixels, and never by stride or padding.
+//! Equality: it depends on sizes and pixels, and never on stride or padding.
 
 ghost use Rattle.std.specs.Prelude.{◌≡◌};
 ghost use Rattle.std.specs.Cmp.Lexicographic.{pointwise};
@@ -32,8 +32,8 @@ fn have_equal_rows<T: PartialEq>(
     true
 }
 
-/// Whether two images are equal: one size, and either both fit and their rows are equal, or neither
-/// fits.
+/// Whether two images are equal: they have the same size, and either both fit and their rows are
+/// equal, or neither fits.
 pub fn are_equal<T: PartialEq>(
     first: &[T],
     first_shape: Shape,

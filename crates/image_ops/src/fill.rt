@@ -1,4 +1,4 @@
-//! One value in every pixel.
+//! Fills: one value in every pixel.
 
 ghost use Rattle.std.specs.Prelude.{◌≡◌, length, replicate};
 ghost use Rattle.image_model.specs.Layout.{Fits, SameOutside};
@@ -16,8 +16,8 @@ pub fn fill_cells<T: Copy>(cells: &mut [T], value: T)
     }
 }
 
-/// Every pixel of `shape` in `cells` becomes `value`; the padding stays. The cells must fit, as
-/// `Shape::fits` tells.
+/// Every pixel of `shape` in `cells` becomes `value`; the padding stays. The cells must fit;
+/// `Shape::fits` tests it.
 pub fn fill_pixels<T: Copy>(cells: &mut [T], shape: Shape, value: T)
     requires fits { Fits (shaped cells.old shape) }
     ensures grid { shaped_grid cells.new shape

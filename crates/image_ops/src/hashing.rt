@@ -1,4 +1,4 @@
-//! What a hasher is fed of an image: its size and its pixels, and never stride or padding.
+//! What an image feeds to a hasher: its size and its pixels, and never stride or padding.
 
 ghost use Rattle.std.specs.Prelude.{◌≡◌};
 ghost use Rattle.std.specs.List.{fold};
@@ -9,7 +9,7 @@ use image_rows::row;
 use image_shape::Shape;
 use std::hash::{Hash, Hasher};
 
-/// Feeds the width and the height, and then, where the cells fit the shape, each row.
+/// Feeds the width and the height and then, where the cells fit the shape, each row.
 pub fn hash_pixels<T: Hash, H: Hasher>(cells: &[T], shape: Shape, state: &mut H)
     ensures { state.new ≡ fold H.write state.old (fed_by T.hash_input (shaped cells.now shape)) }
 {

@@ -1,9 +1,9 @@
-//! What is done with cells in a shape as a whole: windows of them, equality and hash, comparison by
-//! a closure, copies without padding; fills, copies, maps and mosaics of the pixels; moves in place.
+//! Calls on all cells in a shape: windows, equality and hash, comparison by a closure, copies
+//! without padding; fills, copies, maps and mosaics of the pixels; moves in place.
 //!
-//! Cells are a slice or a `Vec`, and a [`Shape`](image_shape::Shape) says how an image lies in
-//! them. The crate hides how the rows are gone through, and that pixels are moved in place by shifts
-//! of a [`RowMover`](row_mover::RowMover).
+//! Cells are a slice or a `Vec`, and a [`Shape`](image_shape::Shape) says where the rows of the
+//! image are in them. The crate hides the loops over rows, and that shifts of a
+//! [`RowMover`](row_mover::RowMover) move pixels in place.
 #![tactic(auto)]
 
 mod clones;

@@ -17,8 +17,8 @@ fn map_cells<T: Copy, F: Fn(T) -> T>(cells: &mut [T], f: &F)
     }
 }
 
-/// Every pixel of `shape` in `cells` becomes what `f` makes of it, row by row and from left to
-/// right; the padding stays. The cells must fit, as `Shape::fits` tells.
+/// Every pixel of `shape` in `cells` becomes the result of `f` for it, row by row and from left to
+/// right; the padding stays. The cells must fit; `Shape::fits` tests it.
 pub fn map_pixels<T: Copy, F: Fn(T) -> T>(cells: &mut [T], shape: Shape, f: &F)
     requires fits { Fits (shaped cells.old shape) }
     requires callable { F.IsAlwaysCallable f.now }

@@ -1,4 +1,4 @@
-//! The mosaic of cells in a shape: each tile gets the pixel at its corner.
+//! Mosaics of cells in a shape: each tile gets the pixel at its corner.
 
 ghost use Rattle.std.specs.Prelude.{◌≡◌, ◌+◌, ◌≤◌, ◌<◌, length};
 ghost use Rattle.image_model.specs.Layout.{Fits, SameOutside};
@@ -61,7 +61,7 @@ fn spread<T: Copy>(row: &mut [T], tile_width: usize)
     }
 }
 
-// Copies a row to a cell behind its end.
+// Copies a row to a cell after its end.
 fn repeat_row<T: Copy>(cells: &mut [T], row: Stretch, target: usize)
     requires apart { row.start + row.len ≤ target }
     requires target { target + row.len ≤ length cells.old }
@@ -71,11 +71,11 @@ fn repeat_row<T: Copy>(cells: &mut [T], row: Stretch, target: usize)
     back[..row.len].copy_from_slice(&front[row.range()]);
 }
 
-/// Writes at every place that cells have in a shape the pixel, as it was, at the corner of its tile.
-/// The padding stays.
+/// Writes, at every place of `shape`, the old pixel at the corner of the place's tile. The padding
+/// stays.
 ///
-/// It goes row by row. The first row of a tile is spread, and each other one is a copy of the row
-/// above it.
+/// It goes row by row. In the first row of a tile each pixel becomes the one at its tile's corner,
+/// and each other row is a copy of the row above it.
 ///
 /// # Requires
 ///

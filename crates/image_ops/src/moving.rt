@@ -1,4 +1,4 @@
-//! The pixels of a window, moved to another window of the same cells.
+//! Moves of the pixels of a window to another window of the same cells.
 
 ghost use Rattle.std.specs.Prelude.{◌≡◌};
 ghost use Rattle.image_model.specs.Layout.{Fits, SameOutside};
@@ -36,7 +36,7 @@ fn with_moved_window<T: Copy>(
     mover.into_cells()
 }
 
-/// Moves the pixels of one window to another of its size, overlapping or not; every other cell
+/// Moves the pixels of one window to another of its size; the two may overlap, and every other cell
 /// stays. The cells fit the shape, and both windows are inside it.
 pub fn move_pixels<T: Copy>(cells: &mut [T], shape: Shape, source: Window, target: Window)
     requires fits { Fits (shaped cells.old shape) }

@@ -1,4 +1,4 @@
-//! The rows of an image, one after the other at the front of its cells.
+//! Rows of an image, joined at the front of its cells.
 
 ghost use Rattle.std.specs.Prelude.{◌≡◌, ◌*◌, ◌++◌, length, drop};
 ghost use Rattle.std.specs.Vec.{vec_capacity};
@@ -25,7 +25,7 @@ fn with_joined_rows<T: Copy>(cells: &mut [T], shape: Shape) -> &mut [T]
     mover.into_cells()
 }
 
-/// Joins the rows of an image at the front of its cells, in place; the cells behind them stay. The
+/// Joins the rows of an image at the front of its cells, in place; the cells after them stay. The
 /// cells fit.
 pub fn join_rows<T: Copy>(cells: &mut [T], shape: Shape)
     requires fits { Fits (shaped cells.old shape) }
@@ -35,8 +35,8 @@ pub fn join_rows<T: Copy>(cells: &mut [T], shape: Shape)
     with_joined_rows(cells, shape);
 }
 
-/// Leaves the joined rows alone in the buffer, and gives their shape: the same size at the least
-/// stride. The cells fit. The buffer keeps its capacity: no memory is taken or given back.
+/// Leaves only the joined rows in the buffer, and returns their shape: the same size at the least
+/// stride. The cells fit. The buffer keeps its capacity: no memory is allocated or freed.
 pub fn pack<T: Copy>(buf: &mut Vec<T>, shape: Shape) -> Shape
     requires fits { Fits (shaped buf.old.items shape) }
     ensures layout { shaped buf.new.items result ≡ packed (shaped buf.old.items shape) }

@@ -25,8 +25,9 @@ fn agree<T, U, F: Fn(&T, &U) -> bool>(first: &[T], second: &[U], f: &F) -> bool
     true
 }
 
-/// Whether two images have one size and `f` is true of their pixels at every place. It is asked row
-/// by row and from left to right, up to the first place where it isn't true. Both fit.
+/// Whether two images have the same size and `f` is true of their pixels at every place. `f` is
+/// called row by row and from left to right, up to the first place where it isn't true. Both images
+/// fit.
 pub fn agree_at_places<T, U, F: Fn(&T, &U) -> bool>(
     first: &[T],
     first_shape: Shape,

@@ -1,4 +1,4 @@
-//! Rows that change places.
+//! Exchanges of rows.
 
 ghost use Rattle.std.specs.Prelude.{◌≡◌, ◌+◌, ◌<◌, ◌≤◌, length};
 ghost use Rattle.image_model.specs.Layout.{Fits, SameOutside};
@@ -36,8 +36,8 @@ fn swap_apart<T>(cells: &mut [T], shape: Shape, upper: usize, lower: usize)
     swap_stretches(cells, first, second);
 }
 
-/// The pixels of rows `y` and `z` of `shape` in `cells` change places, and the padding stays. The
-/// cells must fit, as `Shape::fits` tells.
+/// The pixels of rows `y` and `z` of `shape` in `cells` are exchanged, and the padding stays. The
+/// cells must fit; `Shape::fits` tests it.
 pub fn swap_rows<T>(cells: &mut [T], shape: Shape, y: usize, z: usize)
     requires fits { Fits (shaped cells.old shape) }
     requires first { y < shape_height shape }

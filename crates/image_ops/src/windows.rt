@@ -9,8 +9,8 @@ ghost use Rattle.image_shape.specs.Window.{as_window, as_stretch};
 
 use image_shape::{Shape, Stretch, Window};
 
-/// The cells and the shape of a window: whole strides where the cells have them. They fit the
-/// shape, and the window is inside it.
+/// The cells and the shape of a window, with whole strides where the cells have them. `cells` fits
+/// `shape`, and the window is inside it.
 pub fn padded_part<T>(cells: &[T], shape: Shape, window: Window) -> (&[T], Shape)
     requires fits { Fits (shaped cells.now shape) }
     requires inside { IsInside (shape_width shape) (shape_height shape) (as_window window) }
@@ -24,8 +24,8 @@ pub fn padded_part<T>(cells: &[T], shape: Shape, window: Window) -> (&[T], Shape
     (&cells[part.range()], shape.window(window))
 }
 
-/// The cells as they were lent, and the stretch and the shape of a window of them: whole strides
-/// where the cells have them. They fit the shape, and the window is inside it.
+/// The same cells, and the stretch and the shape of a window of them, with whole strides where the
+/// cells have them. The cells fit the shape, and the window is inside it.
 pub fn padded_stretch_mut<T>(
     cells: &mut [T],
     shape: Shape,

@@ -1,4 +1,4 @@
--- What a pixel cursor holds of the cells that lie from its pointer on.
+-- What a pixel cursor owns of the cells from its pointer on.
 use Rattle.std.specs.Prelude.{ℕ, List, length}
 use Rattle.std.specs.Borrow.{GName, Fml, RattleType, ffalse, fsep}
 use base.Fml.{Lft, fobs, fbor, fhide}
@@ -8,7 +8,7 @@ use denote.Memory.{mem}
 use denote.RawPtr.{Ptr, block_ptr, null_ptr}
 use denote.Slice.{room, elements_shared}
 
--- a `&` to the cells from offset o of block b on, as one to a slice is
+-- a `&` to the cells from offset o of block b on, as for a slice
 abbrev pub seen_from : Lft → (R : RattleType) → List R.Denot → ℕ → ℕ → Fml
 seen_from κ R cells b o = fsep (room R (length cells)) (fhide (elements_shared R cells b o κ))
 
@@ -17,7 +17,7 @@ abbrev pub seen : Lft → (R : RattleType) → List R.Denot → Ptr → Fml
 seen κ R cells (block_ptr b o) = seen_from κ R cells b o
 seen κ R cells null_ptr = ffalse
 
--- a `&mut` to the cells from offset o of block b on, as one to a slice is
+-- a `&mut` to the cells from offset o of block b on, as for a slice
 abbrev pub lent_from : Lft → (R : RattleType) → GName → List R.Denot → ℕ → ℕ → Fml
 lent_from κ R γ cells b o = fsep (room R (length cells)) (fsep (fobs γ ((coded_list R.coded).code cells)) (fbor κ (Body (Arr (mem R) (length cells)) b o γ)))
 

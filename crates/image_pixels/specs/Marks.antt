@@ -1,12 +1,12 @@
 -- Which cells are pixels: a mark for each cell, and what the marks choose.
 use Rattle.std.specs.Prelude.{ℕ, zero, suc, ◌-◌, ◌==◌, if◌then◌else◌, Bool, true, false, List, [], ◌∷◌, ◌++◌, replicate}
 
--- for each further row the padding before it, and then the row
+-- for each following row the padding before it, and then the row
 abbrev pub rows_from : ℕ → ℕ → ℕ → List Bool
 rows_from zero width pad = []
 rows_from (suc n) width pad = replicate pad false ++ (replicate width true ++ rows_from n width pad)
 
--- the pixels that are left in a row, and then the further rows
+-- the pixels that are left in a row, and then the following rows
 abbrev pub marks : ℕ → ℕ → ℕ → ℕ → List Bool
 marks remaining rows width pad = replicate remaining true ++ rows_from rows width pad
 
@@ -14,7 +14,7 @@ marks remaining rows width pad = replicate remaining true ++ rows_from rows widt
 abbrev pub first_row : ℕ → ℕ → ℕ
 first_row width height = if height == 0 then 0 else width
 
--- how many rows come after the first one: with no column there is none
+-- how many rows come after the first one: 0 where there is no column
 abbrev pub rows_after : ℕ → ℕ → ℕ
 rows_after width height = if width == 0 then 0 else height - 1
 
@@ -29,7 +29,7 @@ pick (m ∷ ms) [] = []
 pick (true ∷ ms) (x ∷ xs) = x ∷ pick ms xs
 pick (false ∷ ms) (x ∷ xs) = pick ms xs
 
--- how many cells are passed over before the next pixel
+-- how many cells are skipped before the next pixel
 abbrev pub skipped : ℕ → ℕ → ℕ
 skipped zero pad = pad
 skipped (suc n) pad = 0

@@ -1,4 +1,4 @@
--- What a contract sees of a pixel cursor: the pixels that it still gives, and how writes come back.
+-- What a contract sees of a pixel cursor: the pixels that are left, and how writes reach the buffer.
 use Rattle.std.specs.Prelude.{◌≡◌, ◌<◌, ◌*◌, ◌^◌, ℕ, Bool, List, [], ◌∷◌, ◌++◌, take, length, replicate, true, false, Option, Some, None}
 use Rattle.std.specs.Borrow.{Bor, MutBor, GName, Fml, RattleType, ftrue, follows_both, Array}
 use base.Fml.{fres}
@@ -12,23 +12,23 @@ use Rattle.image_pixels.specs.declared.pixels.PixelsIter.{PixelsIter}
 use Rattle.image_pixels.specs.declared.pixels_mut.PixelsIterMut.{PixelsIterMut}
 
 module _ {T : Type 0} where
-  -- these are all pixels of a layout, row by row and from left to right: of its grid too, so many, and countable
+  -- these are all pixels of a layout and of its grid, row by row and from left to right: width * height of them, a number below 2^64
   pub record ArePixels (l : Layout T) (xs : List T) : Type 0 where
     pub pixels : xs ≡ pixels_of l
     pub grid : xs ≡ grid_pixels (grid_of l)
     pub count : length xs ≡ l.width * l.height
     pub countable : length xs < 2 ^ 64
 
-  -- the pixels that a cursor still gives, for reading
+  -- the pixels that are left in a cursor for reading
   unfoldable pub refs_left : PixelsRefIter T → List T
   refs_left s = pick (marks s.remaining s.rows_left s.width s.pad) s.cells.cells
 
-  -- the next of some pixels are taken as one row, or there is none
+  -- the next pixels are taken as one row, or no pixel is left
   abbrev pub TakesRow : List T → Option (Bor (List T)) → List T → Type 0
   TakesRow xs None ys = (xs ≡ []) × (ys ≡ [])
   TakesRow xs (Some row) ys = (xs ≡ row.now ++ ys) × (0 < length row.now)
 
-  -- the copies that a cursor still gives
+  -- the copies that are left in a cursor
   unfoldable pub copies_left : PixelsIter T → List T
   copies_left s = refs_left s.inner
 
@@ -40,7 +40,7 @@ module _ {T : Type 0} where
   abbrev pub marks_left : PixelsIterMut T → List Bool
   marks_left s = marks s.remaining s.rows_left s.width s.pad
 
-  -- the pixels that a cursor still gives, for writing
+  -- the pixels that are left in a cursor for writing
   unfoldable pub muts_left : PixelsIterMut T → List T
   muts_left s = pick (marks_left s) (cells_left s)
 
@@ -52,7 +52,7 @@ module _ {T : Type 0} where
   abbrev pub lender_of : PixelsIterMut T → GName
   lender_of s = s.lender
 
-  -- how many cells a cursor passes over before the next pixel
+  -- how many cells a cursor skips before the next pixel
   abbrev pub gap : PixelsIterMut T → ℕ
   gap s = skipped s.remaining s.pad
 
@@ -60,13 +60,13 @@ module _ {T : Type 0} where
   abbrev pub passed : PixelsIterMut T → List T
   passed s = take (gap s) (cells_left s)
 
-  -- a step that gives a pixel passes over the padding before it and the pixel, and what is left is as it was
+  -- a step that returns a pixel steps over the padding before it and the pixel, and what is left is as it was
   abbrev pub Moves : PixelsIterMut T → Option (MutBor T) → PixelsIterMut T → Type 0
   Moves s None t = t ≡ s
   Moves s (Some x) t = (cells_left s ≡ passed s ++ x.now ∷ cells_left t) × (length (passed s) ≡ gap s)
       × (marks_left s ≡ replicate (gap s) false ++ true ∷ marks_left t)
 
--- the final cells of s: those passed over, the pixel's final value, and the final cells of t
+-- the final cells of s: those skipped, the pixel's final value, and the final cells of t
 abbrev pub hands_on : (R : RattleType) → PixelsIterMut R.Denot → Option (MutBor R.Denot) → PixelsIterMut R.Denot → Fml
 hands_on R s None t = ftrue
 hands_on R s (Some x) t = follows_both (Array R 0) R (Array R 0) (pixels_name s) x.ghost_name (pixels_name t) (λ w ws. passed s ++ w ∷ ws)

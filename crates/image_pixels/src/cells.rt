@@ -1,4 +1,4 @@
-//! Cells that are taken from the front for reading.
+//! Cells for reading, taken from the front.
 
 ghost use Rattle.std.specs.Prelude.{◌≡◌, ◌≤◌, ◌<◌, ◌^◌, length, take, drop, List};
 ghost use Rattle.image_pixels.specs.Loans.{seen};

@@ -1,4 +1,4 @@
-//! How a cursor over a shape begins.
+//! The counts with which a cursor over a shape begins.
 
 ghost use Rattle.std.specs.Prelude.{◌≡◌, ◌+◌, ◌-◌, ◌*◌, ◌<◌, ◌≤◌, ◌^◌};
 ghost use Rattle.image_shape.specs.Shape.{shape_width, shape_height, shape_stride};

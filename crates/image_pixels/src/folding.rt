@@ -1,4 +1,4 @@
-//! A call of a closure whose item is of any type.
+//! A call of a closure with an item of any type.
 
 ghost use Rattle.std.specs.Fn.{Called, Takes};
 

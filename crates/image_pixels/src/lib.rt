@@ -1,8 +1,8 @@
 //! The pixels of an image, one by one: cursors over cells and a [`Shape`](image_shape::Shape).
 //!
-//! [`PixelsRefIter`] and [`PixelsIter`] give the pixels for reading, as references and as copies,
-//! and [`PixelsIterMut`] gives them for writing: row by row and from left to right, without the
-//! padding. The cells must fit the shape, as `Shape::fits` tells.
+//! [`PixelsRefIter`] and [`PixelsIter`] return the pixels for reading, as references and as copies.
+//! [`PixelsIterMut`] returns them for writing. All go row by row and from left to right, without
+//! the padding. The cells must fit the shape; `Shape::fits` tests it.
 #![tactic(auto)]
 
 mod cells;

@@ -21,8 +21,8 @@ const NARROW: usize = 8;
 
 /// The pixels of an image for reading, row by row and from left to right, without the padding.
 ///
-/// It is a pointer to the next cell beside the pixels left in the row and the rows left. The
-/// pointer steps over the padding only when a further row is taken.
+/// It is a pointer to the next cell, with the number of pixels left in the row and the number of
+/// rows left. The pointer steps over the padding only when another row begins.
 #[derive(Drop)]
 pub struct PixelsRefIter<'a, T> {
     cells: Cells<'a, T>,
@@ -39,7 +39,7 @@ impl<'a, T> PixelsRefIter<'a, T> {
     ghost use Rattle.image_pixels.specs.Pixels.{refs_left, ArePixels, TakesRow};
 
     /// The pixels of `shape` in `cells`: `width` times `height` of them, row by row and from left
-    /// to right, without the padding. The cells must fit, as `Shape::fits` tells.
+    /// to right, without the padding. The cells must fit; `Shape::fits` tests it.
     pub fn new(cells: &'a [T], shape: Shape) -> PixelsRefIter<'a, T>
         requires fits { Fits (shaped cells.now shape) }
         ensures whole { ArePixels (shaped cells.now shape) (refs_left result) }
@@ -155,10 +155,10 @@ impl<'a, T> PixelsRefIter<'a, T> {
     ghost use Rattle.std.specs.Iterator.Runs.{WholeRun};
     ghost use Rattle.image_pixels.specs.Pixels.{refs_left};
 
-    /// What `f` makes of `init` and of each pixel in turn, as the iterator's own `fold` gives it.
+    /// What `f` makes of `init` and each pixel in order, the same as from the trait's `fold`.
     ///
-    /// It goes a row at a time, each a loop of its own, where the rows are not narrow: on wide rows
-    /// of small pixels it is faster than a `for`.
+    /// Where the rows aren't narrow, it has an inner loop for each row. On wide rows of small
+    /// pixels it is faster than a `for`.
     pub fn fold<B, F: FnMut(B, &'a T) -> B>(mut self, init: B, mut f: F) -> B
         requires callable { CallableInFold (YieldsFirstRef refs_left) F.FnMut self f init }
         ensures ran { FoldsItems (YieldsFirstRef refs_left) F.FnMut self.entry f init result }
@@ -196,7 +196,7 @@ impl<'a, T: Copy> PixelsIter<'a, T> {
     ghost use Rattle.image_pixels.specs.Pixels.{copies_left, ArePixels};
 
     /// Copies of the pixels of `shape` in `cells`: `width` times `height` of them, row by row and
-    /// from left to right, without the padding. The cells must fit, as `Shape::fits` tells.
+    /// from left to right, without the padding. The cells must fit; `Shape::fits` tests it.
     pub fn new(cells: &'a [T], shape: Shape) -> PixelsIter<'a, T>
         requires fits { Fits (shaped cells.now shape) }
         ensures whole { ArePixels (shaped cells.now shape) (copies_left result) }
@@ -239,10 +239,10 @@ impl<T: Copy> PixelsIter<'_, T> {
     ghost use Rattle.std.specs.Iterator.Runs.{WholeRun};
     ghost use Rattle.image_pixels.specs.Pixels.{copies_left};
 
-    /// What `f` makes of `init` and of each pixel in turn, as the iterator's own `fold` gives it.
+    /// What `f` makes of `init` and each pixel in order, the same as from the trait's `fold`.
     ///
-    /// It goes a row at a time, each a loop of its own, where the rows are not narrow: on wide rows
-    /// of small pixels it is faster than a `for`.
+    /// Where the rows aren't narrow, it has an inner loop for each row. On wide rows of small
+    /// pixels it is faster than a `for`.
     pub fn fold<B, F: FnMut(B, T) -> B>(mut self, init: B, mut f: F) -> B
         requires callable { CallableInFold (YieldsFirst copies_left) F.FnMut self f init }
         ensures ran { FoldsItems (YieldsFirst copies_left) F.FnMut self.entry f init result }

@@ -15,8 +15,8 @@ use std::marker::{Model, PhantomData};
 
 /// The pixels of an image for writing, row by row and from left to right, without the padding.
 ///
-/// It is a pointer and counts as `PixelsRefIter` is. Dropped at any point, it leaves the cells as
-/// the items that it gave leave theirs, and all others as they were.
+/// It is a pointer and counts, as `PixelsRefIter` is. When the cursor is dropped, at any point, the
+/// pixels that it has returned keep what was written in them, and all other cells are as they were.
 pub struct PixelsIterMut<'a, T> {
     current: *mut T,
     remaining: usize,
@@ -68,8 +68,8 @@ impl<'a, T> PixelsIterMut<'a, T> {
         }
     }
 
-    /// The pixels of `shape` in `cells` for writing: `width` times `height` of them, row by row
-    /// and from left to right, without the padding. The cells must fit, as `Shape::fits` tells.
+    /// The pixels of `shape` in `cells` for writing: `width` times `height` of them, row by row and
+    /// from left to right, without the padding. The cells must fit; `Shape::fits` tests it.
     ///
     /// The cursor holds the borrow of the cells: the final cells are those that it and its items leave.
     pub fn new(cells: &'a mut [T], shape: Shape) -> PixelsIterMut<'a, T>
@@ -90,9 +90,9 @@ impl<'a, T> PixelsIterMut<'a, T> {
         )
     }
 
-    /// The next pixel, as the iterator gives it, with the clause of the final cells.
+    /// The next pixel, the same as from the trait's `next`, with the clause of the final cells.
     ///
-    /// A `for` and the adapters take the trait's own `next`.
+    /// A `for` and the adapters use the trait's `next`.
     pub fn next(&mut self) -> Option<&'a mut T>
         ensures steps { YieldsFirstMut muts_left self.old result self.new }
         ensures goes { MakesProgress (λ _. Unit {0}) (item_count muts_left)

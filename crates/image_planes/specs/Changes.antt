@@ -1,4 +1,4 @@
--- What changes make of what an image shows, and of a frame: planes one behind the other.
+-- What changes make of the grid of an image, and of a frame: planes one after the other.
 use Rattle.std.specs.Prelude.{ℕ, ◌+◌, ◌*◌, ◌<◌, ◌^◌, Bool, ◌&&◌, nat_lt, nat_le, if◌then◌else◌, Option, Some, None, List, [], ◌∷◌, ◌++◌, take, drop}
 use Rattle.image_model.specs.Layout.{layout}
 use Rattle.image_model.specs.Grid.{Grid, grid_of, patch, uniform}
@@ -17,7 +17,7 @@ changed (Fill w value) g = patch g w.left w.top (uniform w.width w.height value)
 changed (Mosaic w tile_width tile_height) g = patch g w.left w.top (mosaic tile_width tile_height (window_view g (as_window w)))
 changed (Move w left top) g = patch g left top (window_view g (as_window w))
 
--- a change is one of this size: its windows lie inside, and its tiles have a place
+-- a change is valid for this size: its windows are inside, and its tiles have a place
 abbrev pub IsChangeOf : ℕ → ℕ → Change ℕ → Type 0
 IsChangeOf width height (Fill w value) = IsInside width height (as_window w)
 IsChangeOf width height (Mosaic w tile_width tile_height) = (0 < tile_width) × (0 < tile_height) × IsInside width height (as_window w)
@@ -29,20 +29,20 @@ is_change_of width height (Fill w value) = is_inside width height (as_window w)
 is_change_of width height (Mosaic w tile_width tile_height) = nat_lt 0 tile_width && (nat_lt 0 tile_height && is_inside width height (as_window w))
 is_change_of width height (Move w left top) = is_inside width height (as_window w) && is_inside width height (window left top w.width w.height)
 
--- whether a step is done to the frame of this number
+-- whether a step applies to the frame of this number
 abbrev pub names : {V : Type 0} → Step V → ℕ → Bool
 names s number = nat_le s.first number && nat_lt number s.end
 
--- what steps make of what a plane of the frame of this number shows, one after the other
+-- what steps, one after the other, make of the grid of a plane of the frame of this number
 abbrev pub stepped : ℕ → List (Step ℕ) → Grid ℕ → Grid ℕ
 stepped number [] g = g
 stepped number (s ∷ ss) g = stepped number ss (if names s number then changed s.change g else g)
 
--- whether all steps are steps of this size
+-- whether all steps are valid for this size
 abbrev pub are_inside : ℕ → ℕ → List (Step ℕ) → Bool
 are_inside width height steps = list_all (λ s. is_change_of width height s.change) steps
 
--- the size of a plane, and what is done to it
+-- the size of a plane, and its steps
 pub record Job : Type 0 where
   pub width : ℕ
   pub height : ℕ
@@ -51,11 +51,11 @@ pub record Job : Type 0 where
 abbrev pub job : ℕ → ℕ → List (Step ℕ) → Job
 job width height steps = record { width = width; height = height; steps = steps }
 
--- whether a plane has columns, its numbers are in range, and the steps are steps of it
+-- whether a plane has columns, its numbers are in range, and the steps are valid for it
 abbrev pub is_job : ℕ → ℕ → List (Step ℕ) → Bool
 is_job width height steps = nat_lt 0 width && (nat_lt width (2 ^ 32) && (nat_lt height (2 ^ 32) && are_inside width height steps))
 
--- the plane of this size with these steps, where there is one
+-- the plane of this size with these steps, where there is such a plane
 abbrev pub job_for : ℕ → ℕ → List (Step ℕ) → Option Job
 job_for width height steps = if is_job width height steps then Some (job width height steps) else None
 
@@ -68,7 +68,7 @@ abbrev pub jobs_len : List Job → ℕ
 jobs_len [] = 0
 jobs_len (j ∷ js) = job_len j + jobs_len js
 
--- what the cells of a plane show
+-- the grid of the cells of a plane
 abbrev pub plane_grid : Job → List ℕ → Grid ℕ
 plane_grid j cells = grid_of (layout cells j.width j.height j.width)
 
@@ -76,7 +76,7 @@ plane_grid j cells = grid_of (layout cells j.width j.height j.width)
 abbrev pub changed_plane : ℕ → Job → List ℕ → List ℕ
 changed_plane number j cells = grid_pixels (stepped number j.steps (plane_grid j cells))
 
--- the cells of the frame of this number after the steps of its planes; what stands behind the last plane stays
+-- the cells of the frame of this number after the steps of its planes; what comes after the last plane stays
 abbrev pub changed_planes : ℕ → List Job → List ℕ → List ℕ
 changed_planes number [] cells = cells
 changed_planes number (j ∷ js) cells = changed_plane number j (take (job_len j) cells) ++ changed_planes number js (drop (job_len j) cells)

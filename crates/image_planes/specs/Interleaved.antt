@@ -6,7 +6,7 @@ use Rattle.std.specs.List.{range_with_len}
 abbrev pub channel : ℕ → ℕ → List ℕ → List ℕ
 channel count k pixels = map (λ i. slice_index pixels (3 * i + k)) (range_with_len 0 count)
 
--- the three planes, one behind the other
+-- the three planes, one after the other
 abbrev pub channels : ℕ → List ℕ → List ℕ
 channels count pixels = channel count 0 pixels ++ (channel count 1 pixels ++ channel count 2 pixels)
 

@@ -1,4 +1,4 @@
--- What can't be told from a frame after fills and mosaics.
+-- What a frame doesn't reveal after fills and mosaics.
 use Rattle.std.specs.Prelude.{◌≡◌, ℕ, ◌-◌, ◌==◌, ◌&&◌, Bool, true, false, not, if◌then◌else◌, List, [], ◌∷◌, take, drop}
 use Rattle.image_model.specs.Grid.{Grid, covers}
 use Rattle.image_model.specs.Tiles.{tile_start}
@@ -12,7 +12,7 @@ use Rattle.image_shape.specs.declared.window.Window.{Window}
 abbrev pub is_corner : Window → ℕ → ℕ → ℕ → ℕ → Bool
 is_corner w tile_width tile_height x y = (tile_start tile_width (x - w.left) == x - w.left) && (tile_start tile_height (y - w.top) == y - w.top)
 
--- whether a change hides a place, where later steps may: a fill all of its window, a mosaic all but the corners of its tiles, and a move nothing, nor what comes after it
+-- whether a change hides a place, or the steps after it do (later): a fill hides all of its window, a mosaic all but the corners of its tiles, and neither a move nor what comes after it hides anything
 abbrev pub hidden_by : Change ℕ → ℕ → ℕ → Bool → Bool
 hidden_by (Fill w value) x y later = if covers w.left w.top w.width w.height x y then true else later
 hidden_by (Mosaic w tile_width tile_height) x y later = if covers w.left w.top w.width w.height x y then not (is_corner w tile_width tile_height x y) else later
@@ -29,7 +29,7 @@ pub record GridsAlike (number : ℕ) (steps : List (Step ℕ)) (g h : Grid ℕ) 
   pub same_height : g.height ≡ h.height
   pub shown : (x y : ℕ) → is_hidden number steps x y ≡ false → g.pixel x y ≡ h.pixel x y
 
--- the same of two frames of this number, plane by plane; what stands behind the last plane is the same
+-- the same of two frames of this number, plane by plane; what comes after the last plane is the same
 abbrev pub PlanesAlike : ℕ → List Job → List ℕ → List ℕ → Type 0
 PlanesAlike number [] p q = p ≡ q
 PlanesAlike number (j ∷ js) p q =

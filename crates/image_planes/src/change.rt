@@ -1,4 +1,4 @@
-//! What is done to an image in place, over its cells in a shape.
+//! Changes of an image in place, over its cells in a shape.
 
 ghost use Rattle.std.specs.Prelude.{◌≡◌};
 ghost use Rattle.image_model.specs.Layout.{Fits, SameOutside};
@@ -10,7 +10,7 @@ ghost use Rattle.image_planes.specs.Changes.{IsChangeOf, changed};
 use image_ops::mosaic_cells;
 use imgref::{ImgRefMut, Shape, Window};
 
-/// What is done to an image, where a place gets values of this kind.
+/// A change of an image. `T` is the type of the values that places get.
 #[derive(Clone, Copy, PartialEq, Eq)]
 pub enum Change<V> {
     /// Every place of the window gets this value.
@@ -18,14 +18,14 @@ pub enum Change<V> {
         window: Window,
         value: V,
     },
-    /// Every place of the window gets the value, as it was before, at the corner of its tile.
+    /// Every place of the window gets the old value at the corner of its tile.
     Mosaic {
         window: Window,
         tile_width: usize,
         tile_height: usize,
     },
-    /// The window's pixels, as they were before, are written over those of the window of its size
-    /// at another corner, overlapping or not.
+    /// The old pixels of the window are written over those of the window of its size at another
+    /// corner; the two may overlap.
     Move {
         window: Window,
         left: usize,
@@ -33,12 +33,12 @@ pub enum Change<V> {
     },
 }
 
-/// A change, and the frames that it is done to, by their numbers from 0.
+/// A change, and the frames to which it is applied, by their numbers from 0.
 #[derive(Clone, Copy, PartialEq, Eq)]
 pub struct Step<V> {
     /// The first frame.
     pub first: u64,
-    /// The first frame behind them.
+    /// The first frame after them.
     pub end: u64,
     pub change: Change<V>,
 }
@@ -57,7 +57,7 @@ fn mosaic_window(image: &mut ImgRefMut<u8>, window: Window, tile_width: usize, t
     mosaic_cells(cells, shape, tile_width, tile_height);
 }
 
-/// Changes what the cells show in this shape; the padding stays.
+/// Applies the change to the image that the cells make in this shape; the padding stays.
 pub(crate) fn change_cells(cells: &mut [u8], shape: Shape, change: Change<u8>)
     requires fits { Fits (shaped cells.old shape) }
     requires inside { IsChangeOf (shape_width shape) (shape_height shape) change }

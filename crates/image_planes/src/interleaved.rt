@@ -21,7 +21,7 @@ fn part_into(pixels: &[u8], red: &mut [u8], green: &mut [u8], blue: &mut [u8])
     }
 }
 
-/// Copies the bytes of pixels of three bytes into three planes, which lie one behind the other.
+/// Copies the bytes of pixels of three bytes into three planes, one after the other.
 pub fn part_pixels(pixels: &[u8], planes: &mut [u8])
     requires whole { length pixels.now % 3 ≡ 0 }
     requires same { length planes.old ≡ length pixels.now }
@@ -33,7 +33,7 @@ pub fn part_pixels(pixels: &[u8], planes: &mut [u8])
     part_into(pixels, red, green, blue);
 }
 
-/// Copies three planes, which lie one behind the other, into the pixels of three bytes that they are.
+/// Copies three planes, one after the other, into the pixels of three bytes that they make.
 #[tactic(auto, using(crate::proofs::PixelsParted::pixels_joined))]
 pub fn join_pixels(planes: &[u8], pixels: &mut [u8])
     requires whole { length planes.now % 3 ≡ 0 }
@@ -49,8 +49,8 @@ pub fn join_pixels(planes: &[u8], pixels: &mut [u8])
     }
 }
 
-/// Whole pixels that are parted and joined are the same. A caller calls it for this law; it does
-/// nothing.
+/// Whole pixels that are split and joined are the same. A caller calls this for its clauses, which
+/// are the law; it does nothing.
 pub fn parts_join()
     ensures { PartsJoin }
 {}

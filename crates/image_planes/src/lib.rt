@@ -1,5 +1,5 @@
-//! The planes of a frame: dense images of bytes, one behind the other in one buffer, and what is
-//! done to each of them.
+//! The planes of a frame: dense images of bytes, one after the other in one buffer, and the changes
+//! of each.
 #![tactic(auto)]
 
 mod change;

@@ -1,4 +1,4 @@
-//! A plane of a frame, and what is done to it.
+//! A plane of a frame, and its changes.
 
 ghost use Rattle.std.specs.Prelude.{◌≡◌, ◌≤◌, ◌<◌, ◌^◌, length, IsTrue};
 ghost use Rattle.std.specs.Option.{option_map};
@@ -9,7 +9,7 @@ use crate::change::{Change, Step};
 use crate::steps::{all_inside, do_steps};
 use imgref::{Shape, Window};
 
-/// A plane of a frame, an image of bytes without padding, and what is done to it.
+/// A plane of a frame, which is an image of bytes without padding, and its changes.
 #[derive(Drop)]
 pub struct Plane {
     width: usize,
@@ -25,8 +25,8 @@ impl Plane {
     // These name the type itself.
     ghost use Rattle.image_planes.specs.Planes.{job_of, plane_len};
 
-    /// A plane of this size with what is done to it, one step after the other; `None` where there is
-    /// no such plane, or a step reaches outside it.
+    /// A plane of this size with its changes, one step after the other. `None` where there is no
+    /// such plane, or a step reaches outside it.
     pub fn new(width: usize, height: usize, steps: Vec<Step<u8>>) -> Option<Plane>
         ensures { option_map job_of result ≡ job_for width height steps.items }
     {
@@ -53,14 +53,14 @@ impl Plane {
         Shape::new(self.width, self.height, self.width)
     }
 
-    /// How many bytes it has.
+    /// The number of its bytes.
     pub fn len(&self) -> usize
         ensures { result ≡ plane_len self.now }
     {
         self.shape().pixel_count()
     }
 
-    /// Does the steps of the frame of this number to the plane that these cells are.
+    /// Applies the steps for the frame of this number to the plane that these cells make.
     #[tactic(auto, using(crate::proofs::Parts::plane_pixels))]
     pub(crate) fn apply(&self, number: u64, cells: &mut [u8])
         requires { length cells.old ≡ plane_len self.now }
@@ -70,7 +70,7 @@ impl Plane {
     }
 }
 
-/// Whether a change is one of this size.
+/// Whether a change is valid for this size.
 pub(crate) fn is_inside(width: usize, height: usize, change: Change<u8>) -> bool
     ensures { result ≡ is_change_of width height change }
 {

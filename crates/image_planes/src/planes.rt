@@ -1,5 +1,5 @@
-//! The planes of a frame, one behind the other in one buffer: changed there, or copied in another
-//! size into another frame.
+//! The planes of a frame, one after the other in one buffer: they are changed there, or copied in
+//! another size into another frame.
 
 ghost use Rattle.std.specs.Prelude.{◌≡◌, ◌≤◌, length, map, IfSome};
 ghost use Rattle.image_planes.specs.Changes.{changed_planes, jobs_len};
@@ -10,7 +10,7 @@ ghost use Rattle.image_planes.specs.Targets.{resizing_of};
 use crate::plane::Plane;
 use crate::target::Target;
 
-/// How many bytes all planes have, where that is a number.
+/// The number of bytes of all planes, or `None` where it overflows.
 pub fn planes_len(planes: &[Plane]) -> Option<usize>
     ensures { IfSome result (λ n. n ≡ jobs_len (map job_of planes.now)) }
 {
@@ -20,8 +20,8 @@ pub fn planes_len(planes: &[Plane]) -> Option<usize>
     }
 }
 
-/// Does the steps of the frame of this number to each of its planes, whose cells they are one behind
-/// the other.
+/// Applies the steps for the frame of this number to each of its planes. The cells are those of the
+/// planes, one after the other.
 pub fn change_planes(number: u64, cells: &mut [u8], planes: &[Plane])
     requires { jobs_len (map job_of planes.now) ≤ length cells.old }
     ensures { cells.new ≡ changed_planes number (map job_of planes.now) cells.old }
@@ -35,7 +35,7 @@ pub fn change_planes(number: u64, cells: &mut [u8], planes: &[Plane])
     change_planes(number, back, others);
 }
 
-/// How many bytes all planes have in their other size, where that is a number.
+/// The number of bytes of all planes in their other size, or `None` where it overflows.
 pub fn targets_len(targets: &[Target]) -> Option<usize>
     ensures { IfSome result (λ n. n ≡ targets_len (map resizing_of targets.now)) }
 {
@@ -45,7 +45,8 @@ pub fn targets_len(targets: &[Target]) -> Option<usize>
     }
 }
 
-/// Copies each plane of a frame in its other size, one behind the other, over a frame of these.
+/// Copies each plane of a frame in its other size, one after the other, over a frame of such
+/// planes.
 pub fn resize_planes(source: &[u8], frame: &mut [u8], targets: &[Target])
     requires whole { sources_len (map resizing_of targets.now) ≤ length source.now }
     requires room { length frame.old ≡ targets_len (map resizing_of targets.now) }

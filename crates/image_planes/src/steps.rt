@@ -1,4 +1,4 @@
-//! Changes that are done one after the other, each to some frames of a video.
+//! Changes that are applied one after the other, each to some frames of a video.
 
 ghost use Rattle.std.specs.Prelude.{◌≡◌, IsTrue};
 ghost use Rattle.image_model.specs.Layout.{Fits, SameOutside};
@@ -10,7 +10,7 @@ use crate::change::{Step, change_cells};
 use crate::plane::is_inside;
 use imgref::Shape;
 
-/// Whether all steps are steps of this size.
+/// Whether all steps are valid for this size.
 pub(crate) fn all_inside(width: usize, height: usize, steps: &[Step<u8>]) -> bool
     ensures { result ≡ are_inside width height steps.now }
 {
@@ -19,8 +19,8 @@ pub(crate) fn all_inside(width: usize, height: usize, steps: &[Step<u8>]) -> boo
         .all(|step| is_inside(width, height, step.change))
 }
 
-/// Does the steps of the frame of this number to what the cells show in this shape; the padding
-/// stays.
+/// Applies the steps for the frame of this number to the image that the cells make in this shape;
+/// the padding stays.
 pub(crate) fn do_steps(cells: &mut [u8], shape: Shape, steps: &[Step<u8>], number: u64)
     requires fits { Fits (shaped cells.old shape) }
     requires inside { IsTrue (are_inside (shape_width shape) (shape_height shape) steps.now) }

@@ -14,12 +14,12 @@ ghost use Rattle.image_planes.specs.Resized.{is_resize_of, resizing_for, resized
 
 use imgref::{ImgRef, ImgRefMut, Shape, Window};
 
-/// What becomes of the size of a plane.
+/// A change of the size of a plane.
 #[derive(Clone, Copy, PartialEq, Eq)]
 pub enum Resize {
-    /// The window alone is kept.
+    /// Only the window is kept.
     Crop(Window),
-    /// A plane of this size and this value has the whole plane at a corner.
+    /// The whole plane is put at a corner of a plane of this size and this value.
     Pad {
         left: usize,
         top: usize,
@@ -29,7 +29,7 @@ pub enum Resize {
     },
 }
 
-/// A plane of a frame, an image of bytes without padding, and what becomes of its size.
+/// A plane of a frame, which is an image of bytes without padding, and the change of its size.
 #[derive(Clone, Copy, PartialEq, Eq)]
 pub struct Target {
     width: usize,
@@ -136,7 +136,7 @@ fn pad_image(
 impl Resize {
     ghost use Rattle.image_planes.specs.Resized.{new_width, new_height};
 
-    /// How many columns there are then.
+    /// The number of columns afterwards.
     pub fn width(&self) -> usize
         ensures { result ≡ new_width self.now }
     {
@@ -146,7 +146,7 @@ impl Resize {
         }
     }
 
-    /// How many rows there are then.
+    /// The number of rows afterwards.
     pub fn height(&self) -> usize
         ensures { result ≡ new_height self.now }
     {
@@ -189,8 +189,8 @@ impl Target {
     // These name the type itself.
     ghost use Rattle.image_planes.specs.Targets.{resizing_of};
 
-    /// A plane of this size with what becomes of it, or `None` where there is no such plane, or its
-    /// window has no column or reaches outside, or it reaches outside what is around it.
+    /// A plane of this size with the change of its size. `None` where there is no such plane, where
+    /// its window has no column or reaches outside, or where the plane reaches outside its border.
     pub fn new(width: usize, height: usize, resize: Resize) -> Option<Target>
         ensures { option_map resizing_of result ≡ resizing_for width height resize }
     {
@@ -208,21 +208,21 @@ impl Target {
         })
     }
 
-    /// How many bytes the plane has.
+    /// The number of bytes of the plane.
     pub(crate) fn source_len(&self) -> usize
         ensures { result ≡ source_len (resizing_of self.now) }
     {
         Shape::new(self.width, self.height, self.width).pixel_count()
     }
 
-    /// How many bytes the plane has in its other size.
+    /// The number of bytes of the plane in its other size.
     pub(crate) fn len(&self) -> usize
         ensures { result ≡ target_len (resizing_of self.now) }
     {
         self.resize.shape(self.width, self.height).pixel_count()
     }
 
-    /// Copies the plane that the source is, in its other size, over the target.
+    /// Copies the plane that the source makes, in its other size, over the target.
     pub(crate) fn apply(&self, source: &[u8], target: &mut [u8])
         requires whole { length source.now ≡ source_len (resizing_of self.now) }
         requires room { length target.old ≡ target_len (resizing_of self.now) }

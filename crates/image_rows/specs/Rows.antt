@@ -1,4 +1,4 @@
--- What a contract sees of a row iterator: the rows that it still gives, and how writes come back.
+-- What a contract sees of a row iterator: the rows that are left, and how writes reach the buffer.
 use Rattle.std.specs.Prelude.{◌≡◌, ℕ, ◌+◌, ◌-◌, ◌*◌, List, ◌++◌, take, drop, Option, Some, None}
 use Rattle.std.specs.Borrow.{MutBor, GName, Fml, RattleType, ftrue, follows_both, Array}
 use Rattle.std.specs.Iterator.{YieldsFirstMut, YieldsLastMut}
@@ -24,19 +24,19 @@ module _ {T : Type 0} where
   far First n cells = drop n cells
   far Last n cells = take n cells
 
-  -- some cells at that end of others
+  -- some cells, put at that end of others
   abbrev pub beside : End → List T → List T → List T
   beside First some others = some ++ others
   beside Last some others = others ++ some
 
-  -- what is let go with the row at that end: the cells before the first row, or behind the last
+  -- what is dropped with the row at that end: the cells before the first row, or after the last
   abbrev pub let_go : End → Spacing → List T → List T
   let_go First s cells = take s.skip cells
   let_go Last s cells = drop s.width (drop (s.skip + (s.count - 1) * s.stride) cells)
 
   -- ---- what an iterator holds
 
-  -- the rows that an iterator still gives, for reading: those of the cells that it still holds
+  -- the rows that are left in an iterator for reading: those of the cells that it still holds
   unfoldable pub refs_left : RowsIter T → List (List T)
   refs_left s = rows (layout s.cells.now s.width s.count s.stride)
 
@@ -48,31 +48,31 @@ module _ {T : Type 0} where
   abbrev pub rows_name : RowsIterMut T → GName
   rows_name s = s.cells.ghost_name
 
-  -- how the rows lie in these cells
+  -- where the rows are in these cells
   abbrev pub spacing_left : RowsIterMut T → Spacing
   spacing_left s = s.spacing
 
-  -- the rows that it still gives
+  -- the rows that are left
   unfoldable pub muts_left : RowsIterMut T → List (List T)
   muts_left s = rows (layout (drop s.spacing.skip (cells_left s)) s.spacing.width s.spacing.count s.spacing.stride)
 
-  -- ---- how a row is taken off
+  -- ---- how a row is split off
 
   -- the cells of s, of which the row and those that are kept may have changed
   abbrev pub put_back : End → RowsIterMut T → List T → List T → List T
   put_back end s row kept = beside end (beside end (let_go end (spacing_left s) (cells_left s)) row) kept
 
-  -- the row at that end is given, and the others are left
+  -- the row at that end is returned, and the others are left
   abbrev pub Yields : End → RowsIterMut T → Option (MutBor (List T)) → RowsIterMut T → Type 0
   Yields First s row t = YieldsFirstMut muts_left s row t
   Yields Last s row t = YieldsLastMut muts_left s row t
 
-  -- the cells are those let go, the row's, and those kept; where there is no row nothing changes
+  -- the cells are those dropped, the row's, and those kept; where there is no row nothing changes
   abbrev pub Moves : End → RowsIterMut T → Option (MutBor (List T)) → RowsIterMut T → Type 0
   Moves end s None t = t ≡ s
   Moves end s (Some row) t = (cells_left s ≡ put_back end s row.now (cells_left t)) × (spacing_left t ≡ without end 1 (spacing_left s))
 
--- the final cells of s: those let go, the row's final cells, and the final cells of t
+-- the final cells of s: those dropped, the row's final cells, and the final cells of t
 abbrev pub hands_on : (R : RattleType) → End → RowsIterMut R.Denot → Option (MutBor (List R.Denot)) → RowsIterMut R.Denot → Fml
 hands_on R end s None t = ftrue
 hands_on R end s (Some row) t = follows_both (Array R 0) (Array R 0) (Array R 0) (rows_name s) row.ghost_name (rows_name t) (put_back end s)

@@ -1,9 +1,9 @@
 //! The rows of cells in a shape: one by its number, or all for reading and for writing, from either
 //! end.
 //!
-//! [`row`] is one row, [`RowsIter`] gives the rows as shared slices, [`RowsIterMut`] as slices for
-//! writing: each row once, and no padding. They are made of cells and a
-//! [`Shape`](image_shape::Shape) that these fit.
+//! [`row`] returns one row, [`RowsIter`] the rows as shared slices, [`RowsIterMut`] the rows as
+//! slices for writing: each row once, and no padding. They take cells and a
+//! [`Shape`](image_shape::Shape) that the cells fit.
 #![tactic(auto)]
 
 mod numbered;

@@ -1,4 +1,4 @@
-//! Lent cells, parted in two.
+//! Borrowed cells, split in two.
 
 ghost use Rattle.std.specs.Prelude.{◌≡◌, ◌≤◌, length};
 ghost use Rattle.std.specs.Borrow.{sem, follows_both, Array};
@@ -21,15 +21,17 @@ pub(crate) fn part<T>(cells: &mut [T], end: End, at: usize) -> (&mut [T], &mut [
     }
 }
 
-/// The cells between an inner and an outer cut, counted from that end, and the cells on the other side
-/// of the outer one. What lies on this side of the inner one is let go, as it is.
+/// Two parts of the cells, at the given end: the cells between the inner and the outer cut, and the
+/// cells on the far side of the outer cut. The cells on the near side of the inner cut aren't
+/// returned, and stay as they are.
 ///
-/// Rows and bands are taken off their cells by it. The inner cut is counted within what the outer one
-/// parts off, from its first cell on.
+/// This splits rows and bands off. The inner cut is counted from the first of the cells that the
+/// outer cut splits off.
 ///
 /// # Requires
 ///
-/// The outer cut lies within the cells, and the inner one within what is parted off.
+/// The outer cut is within the cells, and the inner one within the cells that the outer one splits
+/// off.
 pub fn cut_out<T>(cells: &mut [T], end: End, outer: usize, inner: usize) -> (&mut [T], &mut [T])
     requires outer { outer ≤ length cells.old }
     requires inner { inner ≤ length (near end outer cells.old) }

@@ -11,7 +11,7 @@ use image_shape::{Shape, Spacing, Stretch};
 use std::iter::{ExactSizeIterator, FusedIterator};
 
 /// The rows of an image for reading, from either end: each a slice of `width` cells, without the
-/// padding. An image of width 0 has none.
+/// padding. An image of width 0 has no row.
 #[derive(Drop)]
 pub struct RowsIter<'a, T> {
     cells: &'a [T],

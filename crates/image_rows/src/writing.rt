@@ -14,8 +14,8 @@ use image_shape::{End, Shape, Spacing};
 use std::iter::{ExactSizeIterator, FusedIterator};
 
 /// The rows of an image for writing, from either end: each a slice of `width` cells, without the
-/// padding. An image of width 0 has none. Dropped at any point, it leaves the cells of the rows
-/// that it gave as those leave them, and all others as they were.
+/// padding. An image of width 0 has no row. When the iterator is dropped, at any point, the rows
+/// that it has returned keep what was written in them, and all other cells are as they were.
 #[derive(Drop)]
 pub struct RowsIterMut<'a, T> {
     cells: &'a mut [T],
@@ -51,8 +51,8 @@ impl<'a, T> RowsIterMut<'a, T> {
 
     /// The row at that end, if there is one, and the rows that are left.
     ///
-    /// This is the step with the clause of the final cells. A `for` and the adapters take `next` and
-    /// `next_back`, which give the same rows.
+    /// This step has the clause of the final cells. A `for` and the adapters use `next` and
+    /// `next_back`, which return the same rows.
     pub fn split_end(self, end: End) -> (Option<&'a mut [T]>, RowsIterMut<'a, T>)
         ensures* hands_on { sem 𝓛 (hands_on T.row end self.entry result.0 result.1) }
         ensures steps { Yields end self.entry result.0 result.1 }
@@ -70,9 +70,9 @@ impl<'a, T> RowsIterMut<'a, T> {
         (Some(row), left)
     }
 
-    /// The next row, as the iterator gives it, with the clause of the final cells.
+    /// The next row, the same as from the trait's `next`, with the clause of the final cells.
     ///
-    /// A `for` and the adapters take the trait's own `next`.
+    /// A `for` and the adapters use the trait's `next`.
     pub fn next(&mut self) -> Option<&'a mut [T]>
         ensures* hands_on { sem 𝓛 (hands_on T.row End.First self.old result self.new) }
         ensures steps { YieldsFirstMut muts_left self.old result self.new }
@@ -81,9 +81,9 @@ impl<'a, T> RowsIterMut<'a, T> {
         self.step(End::First)
     }
 
-    /// The last row, as the iterator gives it, with the clause of the final cells.
+    /// The last row, the same as from the trait's `next_back`, with the clause of the final cells.
     ///
-    /// The adapters take the trait's own `next_back`.
+    /// The adapters use the trait's `next_back`.
     pub fn next_back(&mut self) -> Option<&'a mut [T]>
         ensures* hands_on { sem 𝓛 (hands_on T.row End.Last self.old result self.new) }
         ensures steps { YieldsLastMut muts_left self.old result self.new }

@@ -12,7 +12,7 @@ shape_width s = s.width
 abbrev pub shape_height : Shape → ℕ
 shape_height s = s.height
 
--- how many cells a row begins after the one before it
+-- how many cells after the start of a row the next one begins
 abbrev pub shape_stride : Shape → ℕ
 shape_stride s = s.stride
 

@@ -12,6 +12,6 @@ as_window w = model.window w.left w.top w.width w.height
 abbrev pub as_path : List Window → List model.Window
 as_path path = map as_window path
 
--- so many cells from a cell on
+-- some cells, one after the other: where they begin and how many they are
 abbrev pub as_stretch : Stretch → model.Stretch
 as_stretch s = record { start = s.start; len = s.len }

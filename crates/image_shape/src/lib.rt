@@ -1,9 +1,9 @@
-//! Sizes with a stride, and windows, by their numbers alone: the arithmetic of every image.
+//! Sizes with a stride, and windows, as numbers only: the arithmetic of every image.
 //!
-//! A [`Shape`] is the width, the height and the stride of an image. It tells whether so many cells
-//! fit it, whether a [`Window`] lies inside it, and which [`Stretch`] of the cells a window has. A
-//! [`Spacing`] tells where rows are cut off their cells, and [`tile_at`] where a tile of a size
-//! begins. No sum and no product wraps, for numbers up to the end of `usize`.
+//! A [`Shape`] is the width, the height and the stride of an image. It says whether a number of
+//! cells fits it, whether a [`Window`] is inside it, and which [`Stretch`] of the cells a window
+//! has. A [`Spacing`] says where rows are split off their cells, and [`tile_at`] where a tile of a
+//! size begins. No sum or product overflows, for all numbers of `usize`.
 #![tactic(auto)]
 
 mod ends;

@@ -80,7 +80,7 @@ impl Shape {
         stride - self.width as usize
     }
 
-    /// The number of rows that have a pixel: without a column there is none.
+    /// The number of rows that have a pixel: 0 where there is no column.
     pub fn row_count(&self) -> usize
         ensures value { result ≡ row_count (shape_width self.now) (shape_height self.now) }
         ensures bound { row_count (shape_width self.now) (shape_height self.now) < 2 ^ 32 }
@@ -98,7 +98,7 @@ impl Shape {
         self.width() * self.height()
     }
 
-    /// The same size at the least stride: without padding between the rows.
+    /// The same size at the least stride, without padding between the rows.
     pub fn packed(&self) -> Shape
         ensures width { shape_width result ≡ shape_width self.now }
         ensures height { shape_height result ≡ shape_height self.now }
@@ -111,7 +111,8 @@ impl Shape {
         }
     }
 
-    /// How many cells so many whole rows take, their padding included: where the row below begins.
+    /// How many cells so many whole rows take, with their padding. This is where the row below them
+    /// begins.
     pub fn cells_of_rows(rows: usize, stride: usize) -> usize
         requires counts { rows * stride < 2 ^ 64 }
         ensures value { result ≡ rows * stride }
@@ -119,7 +120,7 @@ impl Shape {
         rows * stride
     }
 
-    /// How many whole rows, their padding included, so many cells have.
+    /// How many whole rows, with their padding, so many cells have.
     pub fn whole_rows(&self, cells: usize) -> usize
         ensures value { result ≡ cells / shape_stride self.now }
     {
@@ -127,7 +128,7 @@ impl Shape {
         cells / stride
     }
 
-    /// The number of the cell in column `x` of row `y`. It may be padding, or lie below the last row.
+    /// The number of the cell in column `x` of row `y`. It may be padding, or below the last row.
     pub fn cell(&self, x: usize, y: usize) -> usize
         requires counts { y * shape_stride self.now + x < 2 ^ 64 }
         ensures value { result ≡ y * shape_stride self.now + x }
@@ -146,7 +147,8 @@ impl Shape {
         Shape::cells_of_rows(self.height as usize - 1, self.stride) + self.width as usize
     }
 
-    /// The cells of row `y`, of `cells` cells that fit. The row has a pixel, so its start can't wrap.
+    /// The cells of row `y`, of `cells` cells that fit. The row has a pixel, so the number of its
+    /// first cell can't overflow.
     pub fn row(&self, cells: usize, y: usize) -> Stretch
         requires below { y < row_count (shape_width self.now) (shape_height self.now) }
         requires fits { Reaches cells (shape_width self.now) (shape_height self.now)
@@ -163,7 +165,7 @@ impl Shape {
         }
     }
 
-    /// The row above one, which is not the first.
+    /// The row above this one, which isn't the first.
     pub fn row_above(&self, row: Stretch) -> Stretch
         requires later { shape_stride self.now ≤ row.start }
         ensures start { result.start ≡ row.start - shape_stride self.now }
@@ -176,8 +178,8 @@ impl Shape {
         }
     }
 
-    /// The cells of row `y`, of `cells` cells that fit. Without a column they are none, from the first
-    /// cell on: where the row would begin might be no number.
+    /// The cells of row `y`, of `cells` cells that fit. Without a column this is the empty stretch
+    /// at the first cell, since the number where the row would begin could overflow.
     pub fn any_row(&self, cells: usize, y: usize) -> Stretch
         requires below { y < shape_height self.now }
         requires fits { Reaches cells (shape_width self.now) (shape_height self.now)
@@ -193,7 +195,7 @@ impl Shape {
         }
     }
 
-    /// Whether so many cells reach to the last pixel, or there is no pixel at all.
+    /// Whether so many cells reach the last pixel, or there is no pixel at all.
     pub fn fits(&self, cells: usize) -> bool
         ensures { IsTrue result
             ↔ Reaches cells (shape_width self.now) (shape_height self.now) (shape_stride self.now) }
@@ -207,7 +209,7 @@ impl Shape {
         }
     }
 
-    /// Whether the window lies inside. Empty windows at the right and the lower edge do.
+    /// Whether the window is inside. Empty windows at the right and the lower edge are.
     #[tactic(auto, using(image_model::proofs::Windows::is_inside_decides))]
     pub fn has_window(&self, window: Window) -> bool
         ensures { IsTrue result
@@ -216,7 +218,7 @@ impl Shape {
         window.is_inside(self.width as usize, self.height as usize)
     }
 
-    /// The shape of a window that lies inside: its size at this stride.
+    /// The shape of a window that is inside: its size at this stride.
     pub fn window(&self, window: Window) -> Shape
         requires inside { IsInside (shape_width self.now)
             (shape_height self.now) (as_window window) }
@@ -233,9 +235,9 @@ impl Shape {
         }
     }
 
-    /// The stretch of a window that lies inside, of `cells` cells that fit: whole strides where
-    /// that is asked for and the cells have them, and else up to its last pixel. That of an empty
-    /// window is empty.
+    /// The stretch of a window that is inside, of `cells` cells that fit. It has whole strides
+    /// where `padded` asks for them and the cells have them, and otherwise ends at the window's
+    /// last pixel. The stretch of an empty window is empty.
     pub fn stretch(&self, padded: bool, cells: usize, window: Window) -> Stretch
         requires fits { Reaches cells (shape_width self.now) (shape_height self.now)
             (shape_stride self.now) }

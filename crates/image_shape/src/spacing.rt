@@ -1,4 +1,4 @@
-//! How rows lie in a list of cells, and where rows are cut off.
+//! Where the rows are in a list of cells, and where rows are split off.
 
 ghost use Rattle.std.specs.Prelude.{◌≡◌, ◌+◌, ◌-◌, ◌*◌, ◌^◌, ◌<◌, ◌≤◌};
 ghost use Rattle.image_model.specs.Rows.{row_count};
@@ -7,34 +7,37 @@ ghost use Rattle.image_shape.specs.Shape.{shape_width, shape_height, shape_strid
 use crate::ends::End;
 use crate::shape::Shape;
 
-/// How the rows that are left of an image lie in a list of cells.
+/// Where the rows that are left of an image are in a list of cells.
 #[derive(Clone, Copy)]
 pub struct Spacing {
-    /// How many cells lie before the first row.
+    /// The number of cells before the first row.
     pub skip: usize,
-    /// How many rows there are.
+    /// The number of rows.
     pub count: usize,
     /// The number of cells in a row.
     pub width: usize,
-    /// How many cells lie from the start of a row to the start of the next one.
+    /// The number of cells from the start of a row to the start of the next one.
     pub stride: usize,
 }
 
-/// Where rows at one end are cut off, and how the others lie in the cells that are kept.
+/// Where rows at one end are split off, and where the others are in the cells that are kept.
 #[derive(Clone, Copy)]
 pub struct Cuts {
-    /// The cell that parts the rows, and what is let go with them, from the cells that are kept.
+    /// The cell that separates the rows, and the cells that are dropped with them, from the cells
+    /// that are kept.
     pub outer: usize,
-    /// Of the cells that are cut off, the one that parts the rows from what is let go.
+    /// Among the cells that are split off, the one that separates the rows from the cells that are
+    /// dropped.
     pub inner: usize,
-    /// How the other rows lie in the cells that are kept.
+    /// Where the other rows are in the cells that are kept.
     pub rest: Spacing,
 }
 
 impl Spacing {
     ghost use Rattle.image_shape.specs.Spacing.{span, whole_spacing, outer_cut, inner_cut, without};
 
-    /// The rows of a shape, in cells that begin with the first. Without a column there is none.
+    /// The rows of a shape, in cells that begin with the first row. Without a column there is no
+    /// row.
     pub fn whole(shape: Shape) -> Spacing
         ensures value { result
             ≡ whole_spacing (shape_width shape) (shape_height shape) (shape_stride shape) }
@@ -51,8 +54,8 @@ impl Spacing {
         }
     }
 
-    /// Where so many rows at that end are cut off, from the first pixel of the first to the last
-    /// pixel of the last.
+    /// Where so many rows at that end are split off, from the first pixel of the first row to the
+    /// last pixel of the last.
     pub fn cuts(self, end: End, rows: usize) -> Cuts
         requires some { 0 < rows }
         requires there { rows ≤ self.count }

@@ -10,7 +10,7 @@ use crate::window::Window;
 ///
 /// # Requires
 ///
-/// By comparing numbers: the tile's length is positive.
+/// The tile's length is positive: compare the numbers.
 pub fn tiles_along(len: usize, tile: usize) -> usize
     requires { 0 < tile }
     ensures value { result ≡ tile_count tile len }
@@ -24,7 +24,7 @@ pub fn tiles_along(len: usize, tile: usize) -> usize
 ///
 /// # Requires
 ///
-/// By comparing numbers: both tile sizes are positive, and the tile's corner is inside.
+/// Both tile sizes are positive, and the tile's corner is inside: compare the numbers.
 pub fn tile_at(
     width: usize,
     height: usize,

@@ -12,18 +12,18 @@ pub struct Window {
     pub left: usize,
     /// The row of its corner.
     pub top: usize,
-    /// How many columns it has.
+    /// The number of its columns.
     pub width: usize,
-    /// How many rows it has.
+    /// The number of its rows.
     pub height: usize,
 }
 
-/// So many cells of a list, from a cell on.
+/// Some cells of a list, one after the other.
 #[derive(Clone, Copy, PartialEq, Eq)]
 pub struct Stretch {
     /// The number of the first cell.
     pub start: usize,
-    /// How many cells there are.
+    /// The number of cells.
     pub len: usize,
 }
 
@@ -42,7 +42,7 @@ impl Window {
         }
     }
 
-    /// Whether it lies inside this size. Empty windows at the right and the lower edge do.
+    /// Whether it is inside this size. Empty windows at the right and the lower edge are.
     pub fn is_inside(&self, width: usize, height: usize) -> bool
         ensures { result ≡ is_inside width height (as_window self.now) }
     {
@@ -52,7 +52,8 @@ impl Window {
             && self.height <= height - self.top
     }
 
-    /// The column and the row, in what this is a window of, of column `x` of row `y` of the window.
+    /// The column and the row of a pixel of this window, counted in the window's parent. The pixel
+    /// is at column `x` of row `y` of this window.
     pub fn place(&self, x: usize, y: usize) -> (usize, usize)
         requires column_counts { self.now.left + x < 2 ^ 64 }
         requires row_counts { self.now.top + y < 2 ^ 64 }
@@ -62,7 +63,7 @@ impl Window {
         (self.left + x, self.top + y)
     }
 
-    /// A window of this one, as a window of what this is a window of.
+    /// A window of this window, as a window of this window's parent.
     pub fn nested(&self, inner: Window) -> Window
         requires column_counts { self.now.left + inner.left < 2 ^ 64 }
         requires row_counts { self.now.top + inner.top < 2 ^ 64 }
@@ -77,7 +78,7 @@ impl Window {
 impl Stretch {
     ghost use Rattle.image_shape.specs.Window.{as_stretch};
 
-    /// The numbers of its cells, by which a slice of them is taken.
+    /// The numbers of its cells, as a range that takes them from a slice.
     pub fn range(&self) -> Range<usize>
         requires counts { self.now.start + self.now.len < 2 ^ 64 }
         ensures start { result.start ≡ self.now.start }
@@ -86,7 +87,7 @@ impl Stretch {
         self.start..self.start + self.len
     }
 
-    /// A stretch of the cells of this one, as one of all cells.
+    /// A stretch of this stretch's cells, as a stretch of all cells.
     pub fn nested(&self, inner: Stretch) -> Stretch
         requires room { IsWithin self.now.len (as_stretch inner) }
         requires counts { self.now.start + self.now.len < 2 ^ 64 }

@@ -1,4 +1,4 @@
--- The bands of an image: full width, so many rows each, the last perhaps fewer; and what an iterator over them leaves.
+-- The bands of an image, of full width, with so many rows each (the last may have fewer), and what an iterator over them leaves.
 use Rattle.std.specs.Prelude.{◌≡◌, ℕ, ◌-◌, ◌*◌, ◌==◌, if◌then◌else◌, List, ◌++◌, map, min, take, drop, Option, Some, None}
 use Rattle.std.specs.List.{range_with_len}
 use Rattle.std.specs.Borrow.{MutBor, GName, Fml, RattleType, ftrue, follows_both, Array}
@@ -12,7 +12,7 @@ use Rattle.imgref.specs.Image.{buf_of}
 use Rattle.image_tiles.specs.declared.bands.BandSpacing.{BandSpacing}
 use Rattle.image_tiles.specs.declared.bands.BandsMut.{BandsMut}
 
--- how many bands a size has: with no column there is none
+-- how many bands a size has: 0 where there is no column
 abbrev pub band_count : ℕ → ℕ → ℕ → ℕ
 band_count width height band_height = if width == 0 then 0 else tile_count band_height height
 
@@ -28,7 +28,7 @@ band_windows width height band_height = map (band_window width height band_heigh
 abbrev pub bands : {T : Type 0} → Layout T → ℕ → List (Layout T)
 bands l band_height = map (λ j. exact_window l (band_window l.width l.height band_height j)) (range_with_len 0 (band_count l.width l.height band_height))
 
--- ---- how bands lie in a list of cells
+-- ---- where bands are in a list of cells
 
 -- all rows of a size, as bands of so many rows
 abbrev pub band_spacing : ℕ → ℕ → ℕ → ℕ → BandSpacing
@@ -51,15 +51,15 @@ module _ {T : Type 0} where
   abbrev pub bands_name : BandsMut T → GName
   bands_name s = s.cells.ghost_name
 
-  -- how the bands lie in these cells
+  -- where the bands are in these cells
   abbrev pub spacing_left : BandsMut T → BandSpacing
   spacing_left s = s.spacing
 
-  -- the bands that an iterator still gives
+  -- the bands that are left in an iterator
   unfoldable pub bands_left : BandsMut T → List (Layout T)
   bands_left s = let rows = s.spacing.rows in bands (layout (drop rows.skip (cells_left s)) rows.width rows.count rows.stride) s.spacing.band_height
 
-  -- the cells of s, of which the first band and those behind it may have changed
+  -- the cells of s, of which the first band and those after it may have changed
   abbrev pub put_back : BandsMut T → List T → List T → List T
   put_back s band kept = (take s.spacing.rows.skip (cells_left s) ++ band) ++ kept
 

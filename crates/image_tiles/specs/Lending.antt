@@ -21,7 +21,7 @@ module _ {C : Type 0} where
   tiling_of s = s.tiling
 
   module _ {T : Type 0} (cells : C → List T) where
-    -- the tiles that a cursor still gives: none of an image that doesn't fit
+    -- the tiles that are left in a cursor: an image that doesn't fit has no tile
     abbrev pub tiles_left : TileCursor C → List Window
     tiles_left s = if is_fitting (layout_by cells s.img) then windows_left s.tiling else []
 
@@ -29,14 +29,14 @@ module _ {C : Type 0} where
     abbrev pub after_tile : (C → Stretch → List T → C) → Bool → TileCursor C → List T → TileCursor C
     after_tile with_cells padded s others = record s { img = with_window cells with_cells padded s.img (tile_now s.tiling) others; tiling = stepped s.tiling }
 
--- the name under which the cells of the answered image are lent
+-- the name under which the cells of the returned image are lent
 abbrev pub tile_name : {T : Type 0} → Option (Img (MutBor (List T))) → maybe.Option GName
 tile_name (Some i) = maybe.some (buf_of i).ghost_name
 tile_name None = maybe.none
 
--- how an image's container is read and written, a cursor, the windows that it still gives
+-- how an image's container is read and written, a cursor, the windows that are left in it
 module _ {C T : Type 0} (cells : C → List T) (with_cells : C → Stretch → List T → C) (padded : Bool) (s : TileCursor C) (before : List Window) where
-  -- a tile is the window of the first that is left: it has a place, it fits, it shows the view, and what is left in it is left in the image
+  -- a tile is the first window that is left: it has a place, it fits, it shows the view, and writes to it reach the image
   pub record IsNext (tile : Img (MutBor (List T))) : Type 0 where
     pub first : before ≡ tile_now s.tiling ∷ windows_left (stepped s.tiling)
     pub inside : IsInside (width_of s.img) (height_of s.img) (tile_now s.tiling)
@@ -50,7 +50,7 @@ module _ {C T : Type 0} (cells : C → List T) (with_cells : C → Stretch → L
     pub still_fits : WindowKeepsFit cells with_cells padded s.img (tile_now s.tiling) (mut_layout tile)
     pub container : WindowKeepsContainer cells with_cells padded s.img (tile_now s.tiling) (mut_layout tile)
 
-  -- the next tile of those that are left, or none where none is
+  -- the next one of the tiles that are left, or nothing where no tile is left
   abbrev pub NextTile : Option (Img (MutBor (List T))) → Type 0
   NextTile None = before ≡ []
   NextTile (Some tile) = IsNext tile

@@ -24,10 +24,10 @@ windows_left t = if has_tile t then drop (t.tile_row * t.tile_columns + t.tile_c
 abbrev pub tile_now : Tiling → Window
 tile_now t = tile t.width t.height t.tile_width t.tile_height t.tile_column t.tile_row
 
--- whether another tile stands behind the next one in its tile row
+-- whether another tile comes after the next one in its tile row
 abbrev pub goes_right : Tiling → Bool
 goes_right t = nat_lt (t.tile_column + 1) t.tile_columns
 
--- a tiling after one more window: at the tile column behind, or at the first one of the tile row below
+-- a tiling after one more window: at the next tile column, or at the first one of the tile row below
 abbrev pub stepped : Tiling → Tiling
 stepped t = record t { tile_column = if goes_right t then t.tile_column + 1 else 0; tile_row = if goes_right t then t.tile_row else t.tile_row + 1 }

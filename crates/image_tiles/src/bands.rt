@@ -1,4 +1,4 @@
-//! Bands of an image for writing: full width, side by side.
+//! Bands of an image for writing: of full width, several at the same time.
 
 ghost use Rattle.std.specs.Prelude.{◌≡◌, ◌+◌, ◌-◌, ◌*◌, ◌^◌, ◌≤◌, ◌<◌, ◌++◌, length, take, drop, map, Some, All, IfSome};
 ghost use Rattle.std.specs.Borrow.{sem};
@@ -23,7 +23,7 @@ struct BandSpacing {
     band_height: usize,
 }
 
-// Where the first band is cut off, its shape, and how the others lie in the cells behind it.
+// Where the first band is split off, its shape, and where the others are in the cells after it.
 #[derive(Clone, Copy)]
 struct Cut {
     outer: usize,
@@ -68,10 +68,11 @@ impl BandSpacing {
     }
 }
 
-/// The bands of an image for writing, from top to bottom: full width, `band_height` rows each, the
-/// last perhaps fewer. The buffer of a band of `k` rows has `stride * (k - 1) + width` cells. Several
-/// may live side by side. When it is dropped, also early, the cells of the bands that were given are
-/// as those left them, and all others, the padding too, as they were.
+/// The bands of an image for writing, from top to bottom: of full width, with `band_height` rows
+/// each; the last may have fewer. The buffer of a band of `k` rows has `stride * (k - 1) + width`
+/// cells. Several bands may exist at the same time. When the iterator is dropped, even early, the
+/// bands that it has returned keep what was written in them, and all other cells, padding included,
+/// are as they were.
 #[derive(Drop)]
 pub struct BandsMut<'a, T> {
     cells: &'a mut [T],
@@ -89,7 +90,7 @@ pub struct BandsMut<'a, T> {
 impl<'a, T> BandsMut<'a, T> {
     ghost use Rattle.image_tiles.specs.Bands.{bands, band_windows, bands_left, bands_name, cells_left, spacing_left, band_spacing, hands_on, Moves};
 
-    /// The bands of an image, of `band_height` rows each. An image with no pixel has none.
+    /// The bands of an image, of `band_height` rows each. An image with no pixel has no band.
     ///
     /// # Requires
     ///
@@ -123,8 +124,8 @@ impl<'a, T> BandsMut<'a, T> {
 
     /// The first band, if there is one, and the bands that are left.
     ///
-    /// This is the step with the clause of the final cells. A `for` and the adapters take `next`,
-    /// which gives the same bands.
+    /// This step has the clause of the final cells. A `for` and the adapters use `next`, which
+    /// returns the same bands.
     pub fn split_first(self) -> (Option<ImgRefMut<'a, T>>, BandsMut<'a, T>)
         ensures* hands_on { sem 𝓛 (hands_on T.row self.entry result.0 result.1) }
         ensures steps { YieldsFirstBy mut_layout bands_left self.entry result.0 result.1 }
@@ -143,9 +144,9 @@ impl<'a, T> BandsMut<'a, T> {
         (Some(band), left)
     }
 
-    /// The next band, as the iterator gives it, with the clause of the final cells.
+    /// The next band, the same as from the trait's `next`, with the clause of the final cells.
     ///
-    /// A `for` and the adapters take the trait's own `next`.
+    /// A `for` and the adapters use the trait's `next`.
     pub fn next(&mut self) -> Option<ImgRefMut<'a, T>>
         ensures* hands_on { sem 𝓛 (hands_on T.row self.old result self.new) }
         ensures steps { YieldsFirstBy mut_layout bands_left self.old result self.new }

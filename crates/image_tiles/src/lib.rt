@@ -1,8 +1,9 @@
-//! Images cut up: tiles, lent one at a time, and bands of full width, which may live side by side.
+//! Images divided into tiles, which are lent one at a time, and into bands of full width, of which
+//! several may exist at the same time.
 //!
-//! [`Tiling`] gives the windows of tiles by their numbers alone, [`TilesMut`] lends these windows of
-//! an image for writing, and [`BandsMut`] parts an image into bands of rows. Made from the public
-//! calls of `imgref` alone.
+//! [`Tiling`] returns the windows of tiles as numbers only, [`TilesMut`] lends these windows of an
+//! image for writing, and [`BandsMut`] splits an image into bands of rows. They use public calls
+//! only: of `imgref`, the arithmetic of `image_shape`, and `cut_out` of `image_rows`.
 #![tactic(auto)]
 
 mod bands;

@@ -13,7 +13,8 @@ ghost use Rattle.image_tiles.specs.Tiling.{tile_now, windows_left, has_tile, ste
 use crate::tiling::Tiling;
 use imgref::{AsMutSlice, AsSlice, Img, Shape};
 
-/// The tiles of an image of any container for writing. [`TilesMut`] is that of lent pixels.
+/// The tiles of an image of any container, for writing. [`TilesMut`] is this type for borrowed
+/// pixels.
 #[derive(Drop)]
 pub struct TileCursor<C> {
     img: Img<C>,
@@ -22,7 +23,7 @@ pub struct TileCursor<C> {
     ghost same_height: { height_of img ≡ tiling_height tiling },
 }
 
-/// The tiles of an image of lent pixels for writing, one at a time.
+/// The tiles of an image of borrowed pixels for writing, one at a time.
 pub type TilesMut<'a, T> = TileCursor<&'a mut [T]>;
 
 impl<C: AsMutSlice> TileCursor<C> {
@@ -47,7 +48,7 @@ impl<C: AsMutSlice> TileCursor<C> {
         Self { img, tiling }
     }
 
-    /// The image, whole, with its cells as they stand.
+    /// The whole image, with its cells as they are now.
     pub fn into_img(self) -> Img<C>
         ensures { result ≡ image_of self }
     {
@@ -55,7 +56,7 @@ impl<C: AsMutSlice> TileCursor<C> {
         img
     }
 
-    /// How many tiles are left: 0 once the image no longer fits.
+    /// The number of tiles that are left: 0 once the image no longer fits.
     pub fn remaining(&self) -> usize
         ensures value { result ≡ length (tiles_left C.cells self.now) }
         ensures some { 0 < result → IsTrue (has_tile (tiling_of self.now)) }
@@ -69,10 +70,11 @@ impl<C: AsMutSlice> TileCursor<C> {
         0
     }
 
-    /// The next tile as its cells and its shape, from which `from_parts` makes it.
+    /// The cells and the shape of the next tile; `from_parts` makes the tile from them.
     ///
-    /// For a caller that is itself proved and says what its writes leave, as `window_parts_mut`: test
-    /// first by `remaining`, then pass the cells to a function of its own.
+    /// This is for a caller that is itself proved and specifies what its writes leave, as for
+    /// `window_parts_mut`. First test `remaining`, then pass the cells to a function that writes
+    /// them.
     ///
     /// # Requires
     ///
@@ -134,12 +136,12 @@ impl<C: AsMutSlice> TileCursor<C> {
         (self, left)
     }
 
-    /// The next tile, as `sub_image_mut` makes it, or `None` where none is left, and for good. Once
-    /// the borrow ends, the image has what was left in the tile's cells, and every other cell is as
-    /// it was.
+    /// The next tile, made as by `sub_image_mut`, or `None`, from then on always, where no tile is
+    /// left. Once the borrow ends, the image has what was left in the tile's cells, and every other
+    /// cell is as it was.
     ///
-    /// Nothing is asked. An image whose cells no longer fit, since a tile was replaced by other
-    /// cells, has no tile left.
+    /// There is no condition. An image whose cells no longer fit, since a tile was replaced by
+    /// other cells, has no tile left.
     pub fn next_tile(&mut self) -> Option<Img<&mut [C::Item]>>
         ensures* hands_on { sem 𝓛 (follows_if (the_row C.row)
             (Array C.Item.row 0) self.entry.ghost_name (tile_name result)

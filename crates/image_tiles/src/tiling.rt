@@ -1,4 +1,4 @@
-//! The tiles of a size, by their numbers alone.
+//! The tiles of a size, as numbers only.
 
 ghost use Rattle.std.specs.Prelude.{◌≡◌, ◌*◌, ◌≤◌, ◌<◌, ◌^◌, ◌∷◌, [], All, IsTrue, not, length, IfSome, None};
 ghost use Rattle.image_model.specs.Tiles.{tiles, tile_count, EachPlaceInOne};
@@ -9,8 +9,8 @@ use image_shape::{tile_at, tiles_along};
 use imgref::Window;
 use std::iter::FusedIterator;
 
-/// The windows that cover a size, in pixels: their corners are the multiples of the tile size, and
-/// they are cut at the right and the lower edge. Row by row, from left to right.
+/// The windows that cover a size, in pixels, row by row and from left to right. Their corners are
+/// the multiples of the tile size, and they are cut at the right and the lower edge.
 #[derive(Drop)]
 pub struct Tiling {
     width: usize,
@@ -20,7 +20,7 @@ pub struct Tiling {
     // How many tiles stand side by side, and how many tile rows there are.
     tile_columns: usize,
     tile_rows: usize,
-    // Where the next tile stands: counted in tiles, so that no sum of corners can wrap.
+    // Where the next tile is: counted in tiles, so that no sum of corners can overflow.
     tile_column: usize,
     tile_row: usize,
     ghost wide: { 0 < tile_width },
@@ -34,12 +34,12 @@ pub struct Tiling {
 impl Tiling {
     ghost use Rattle.image_tiles.specs.Tiling.{windows_left, stepped, tile_now, has_tile, tiling_width, tiling_height};
 
-    /// The tiles of `tile_width` by `tile_height` pixels of a size. All four numbers may go up to the
-    /// end of `usize`. A size with no place has no tile.
+    /// The tiles of `tile_width` by `tile_height` pixels of a size. All four numbers may be any
+    /// `usize`. A size with no place has no tile.
     ///
     /// # Requires
     ///
-    /// By comparing numbers: both tile sizes are positive.
+    /// Both tile sizes are positive: compare the numbers.
     #[tactic(auto, using(crate::proofs::Tilings::all_left, image_model::proofs::Tiles::tiles_cover, image_model::proofs::Tiles::tiles_inside), unfolding(crate::specs::Tiling::windows_left))]
     pub fn new(width: usize, height: usize, tile_width: usize, tile_height: usize) -> Tiling
         requires wide { 0 < tile_width }
@@ -103,7 +103,7 @@ impl Tiling {
         )
     }
 
-    // Goes on to the window behind.
+    // Goes on to the next window.
     fn advance(&mut self)
         requires more { IsTrue (has_tile self.old) }
         ensures { self.new ≡ stepped self.old }

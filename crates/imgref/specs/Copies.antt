@@ -1,4 +1,4 @@
--- Images whose cells are lent or owned.
+-- Images whose cells are borrowed or owned.
 use Rattle.std.specs.Prelude.{◌≡◌, List, Vec, ⊤}
 use Rattle.std.specs.Borrow.{Bor}
 use Rattle.std.specs.Cow.{cow_slice_items, IsBorrowedSlice, IsOwnedSlice}
@@ -8,7 +8,7 @@ use Rattle.image_model.specs.Layout.{Layout}
 use Rattle.imgref.specs.declared.img.Img.{Img}
 use Rattle.imgref.specs.Image.{buf_of, shape_of, layout_by}
 
--- the layout of an image whose cells are lent or owned
+-- the layout of an image whose cells are borrowed or owned
 abbrev pub cow_layout : {T Z : Type 0} → Img (CowSlice T Z) → Layout T
 cow_layout i = layout_by cow_slice_items i
 
@@ -23,7 +23,7 @@ pub record IsOwnedAs {T Z : Type 0} (i : Img (Vec T Z)) (c : Img (CowSlice T Z))
   pub same_buffer : IsBufferOf (buf_of c) (buf_of i)
   pub same_shape : shape_of c ≡ shape_of i
 
--- an image of lent cells with the cells and the shape of one of lent pixels
+-- an image of borrowed cells with the cells and the shape of one of borrowed pixels
 pub record IsLentAs {T Z : Type 0} (i : Img (Bor (List T))) (c : Img (CowSlice T Z)) : Type 0 where
   pub lent : IsBorrowedSlice (buf_of c)
   pub same_cells : cow_slice_items (buf_of c) ≡ (buf_of i).now

@@ -7,7 +7,7 @@ use Rattle.image_model.specs.Windows.{Window, Stretch, window_stretch, whole}
 use Rattle.image_shape.specs.declared.shape.Shape.{Shape}
 use Rattle.imgref.specs.declared.img.Img.{Img}
 
--- as many cells as some: those of others, and where these are too few the first ones' own
+-- a list as long as a given one: the cells of another list and, where these are too few, the given list's own cells after them
 abbrev pub as_many : {T : Type 0} → List T → List T → List T
 as_many cells others = take (length cells) others ++ drop (length others) cells
 
@@ -28,7 +28,7 @@ module _ {C : Type 0} where
   abbrev pub height_of : Img C → ℕ
   height_of i = i.height
 
-  -- how many cells a row begins after the one before it
+  -- how many cells after the start of a row the next one begins
   abbrev pub stride_of : Img C → ℕ
   stride_of i = i.stride
 
@@ -50,13 +50,13 @@ module _ {C : Type 0} where
     abbrev pub stretch_by : Bool → Img C → Window → Stretch
     stretch_by padded i w = window_stretch padded (length (cells i.buf)) (stride_of i) w
 
-    -- how it looks with other cells in the place of a stretch
+    -- how it looks with other cells in place of a stretch
     module _ (with_cells : C → Stretch → List T → C) where
-      -- the image with other cells in the place of all
+      -- the image with other cells in place of all
       abbrev pub with_all : Img C → List T → Img C
       with_all i others = with_buf i (with_cells (buf_of i) (whole (cells (buf_of i))) others)
 
-      -- the image is as it was but for its cells
+      -- the image is as it was except for its cells
       abbrev pub OnlyCellsChange : Img C → Img C → Type 0
       OnlyCellsChange old new = new ≡ with_all old (cells (buf_of new))
 
@@ -64,7 +64,7 @@ module _ {C : Type 0} where
       abbrev pub with_cells_of : Img C → Img C → Img C
       with_cells_of i other = with_all i (as_many (cells (buf_of i)) (cells (buf_of other)))
 
-      -- whatever cells an image is left with, there are as many as before
+      -- with all cells that an image may be left with, there are as many as before
       abbrev pub KeepsCount : Img C → Type 0
       KeepsCount i = (left : Img C) → length (cells (buf_of (with_cells_of i left))) ≡ length (cells (buf_of i))
 
@@ -72,7 +72,7 @@ module _ {C : Type 0} where
       abbrev pub AnyCellsFit : Img C → Type 0
       AnyCellsFit i = (left : Img C) → Fits (layout_by (with_cells_of i left))
 
-      -- the container with other cells in the place of those that a window takes
+      -- the container with other cells in place of those that a window takes
       unfoldable pub window_buf : Bool → Img C → Window → List T → C
       window_buf padded i w others = with_cells (buf_of i) (stretch_by padded i w) others
 
@@ -88,7 +88,7 @@ vec_layout i = layout_by (λ v. v.items) i
 abbrev pub vec_grid : {T Z : Type 0} → Img (Vec T Z) → Grid T
 vec_grid i = grid_of (vec_layout i)
 
--- the layout of an image of lent pixels
+-- the layout of an image of borrowed pixels
 abbrev pub ref_layout : {T : Type 0} → Img (Bor (List T)) → Layout T
 ref_layout i = layout_by (λ s. s.now) i
 
@@ -96,7 +96,7 @@ ref_layout i = layout_by (λ s. s.now) i
 abbrev pub ref_grid : {T : Type 0} → Img (Bor (List T)) → Grid T
 ref_grid i = grid_of (ref_layout i)
 
--- the layout of an image of pixels that are lent for writing
+-- the layout of an image of pixels that are borrowed for writing
 abbrev pub mut_layout : {T : Type 0} → Img (MutBor (List T)) → Layout T
 mut_layout i = layout_by (λ s. s.now) i
 

@@ -6,7 +6,7 @@ use Rattle.image_model.specs.Windows.{Window, Stretch, window, window_start}
 use Rattle.imgref.specs.declared.img.Img.{Img}
 use Rattle.imgref.specs.Image.{buf_of, width_of, height_of, with_buf, grid_by, layout_by}
 
--- there is a cell at column x of row y: it may be padding, or lie below the last row
+-- there is a cell at column x of row y: it may be padding, or below the last row
 abbrev pub HasCell : {T : Type 0} → Layout T → ℕ → ℕ → Type 0
 HasCell l x y = (x < l.stride) × (cell_of l x y < length l.cells)
 
@@ -14,17 +14,17 @@ HasCell l x y = (x < l.stride) × (cell_of l x y < length l.cells)
 abbrev pub row_window : {T : Type 0} → Layout T → ℕ → Window
 row_window l y = window 0 y l.width 1
 
--- the cell that row y begins at, or 0 where the rows are empty
+-- the cell at which row y begins, or 0 where the rows are empty
 abbrev pub row_start : {T : Type 0} → Layout T → ℕ → ℕ
 row_start l y = window_start l.stride (row_window l y)
 
--- how a container is read, and how it looks with one other cell or with other cells in the place of a stretch
+-- how a container is read, and how it looks with one other cell or with other cells in place of a stretch
 module _ {C T : Type 0} (cells : C → List T) where
   -- the image with another cell at column x of row y
   abbrev pub with_cell_at : (C → ℕ → T → C) → Img C → ℕ → ℕ → T → Img C
   with_cell_at with_cell i x y cell = with_buf i (with_cell (buf_of i) (cell_of (layout_by cells i) x y) cell)
 
-  -- the image with other cells in the place of row y
+  -- the image with other cells in place of row y
   unfoldable pub with_row : (C → Stretch → List T → C) → Img C → ℕ → List T → Img C
   with_row with_cells i y others = with_buf i (with_cells (buf_of i) (record { start = row_start (layout_by cells i) y; len = width_of i }) others)
 

@@ -1,4 +1,4 @@
--- The words of contracts over images, for one import of a caller's.
+-- The words of contracts over images, for a caller to import from one place.
 pub use Rattle.image_model.specs.Layout.{Fits, SameOutside}
 pub use Rattle.image_model.specs.Grid.{grid_of, view, patch, uniform, one_row}
 pub use Rattle.image_model.specs.Rows.{row, grid_pixels, grid_rows}

@@ -1,5 +1,5 @@
-//! Pixels copied over others: from another image, from one window of an image to another, and
-//! between two rows.
+//! Calls that copy pixels: from another image, from one window of an image to another, and between
+//! two rows.
 
 ghost use Rattle.std.specs.Prelude.{◌≡◌, ◌<◌};
 ghost use Rattle.image_model.specs.Layout.{Fits, SameOutside};
@@ -15,12 +15,12 @@ use image_ops::{copy_pixels, move_pixels, swap_rows};
 use image_shape::Window;
 
 impl<C: AsMutSlice> Img<C> {
-    /// Every pixel becomes that of `source` at its place; the padding stays. The two strides may
-    /// differ. (In the Rust crate this is the caller's loop over rows.)
+    /// Every pixel becomes the pixel of `source` at its place; the padding stays. The two strides
+    /// may differ. (In the Rust crate this is the caller's loop over rows.)
     ///
     /// # Requires
     ///
-    /// Both images fit (`is_valid`) and have one size (`width`, `height`).
+    /// Both images fit (`is_valid`) and have the same size (`width`, `height`).
     pub fn copy_from<'a>(&'a mut self, source: ImgRef<'_, C::Item>)
     where
         C::Item: Copy + 'a,
@@ -63,9 +63,9 @@ impl<C: AsMutSlice> Img<C> {
         copy_pixels(cells, shape, source.buf, source.shape());
     }
 
-    /// The window of its size with its corner at column `left` of row `top` gets the old pixels of
-    /// `source`, overlapping or not; every other cell stays. No memory is taken: the rows are moved
-    /// within the buffer.
+    /// The window with the size of `source` and its corner at column `left` of row `top` gets the
+    /// old pixels of `source`. The two may overlap, and every other cell stays. No memory is
+    /// allocated: the rows are moved within the buffer.
     ///
     /// # Requires
     ///
@@ -91,8 +91,9 @@ impl<C: AsMutSlice> Img<C> {
     }
 
     /// The window of `width` by `height` pixels with its corner at column `to_left` of row `to_top`
-    /// gets the old pixels of the one at column `from_left` of row `from_top`, overlapping or not;
-    /// every other cell stays. No memory is taken: the rows are moved within the buffer.
+    /// gets the old pixels of the window at column `from_left` of row `from_top`. The two may
+    /// overlap, and every other cell stays. No memory is allocated: the rows are moved within the
+    /// buffer.
     ///
     /// # Requires
     ///
@@ -126,12 +127,12 @@ impl<C: AsMutSlice> Img<C> {
         );
     }
 
-    /// Rows `y` and `z` change places, and the padding stays. No memory is taken: pixels are swapped
-    /// within the buffer. (In the Rust crate this is the caller's `split_at_mut`.)
+    /// Rows `y` and `z` are exchanged, and the padding stays. No memory is allocated: pixels are
+    /// swapped within the buffer. (In the Rust crate this is the caller's `split_at_mut`.)
     ///
     /// # Requires
     ///
-    /// The image fits, as `is_valid` tells, and has both rows.
+    /// The image fits (`is_valid`), and both `y` and `z` are below `height()`.
     pub fn swap_rows(&mut self, y: usize, z: usize)
         requires fits { Fits (layout_by C.cells self.old) }
         requires first { y < height_of self.old }

@@ -1,4 +1,4 @@
-//! Images over another buffer, and the whole buffer cell by cell.
+//! Images with another buffer, and the whole buffer cell by cell.
 
 ghost use Rattle.std.specs.Prelude.{◌≡◌, length, IfOk, MatchResult, Ok, Err};
 ghost use Rattle.std.specs.Slice.Iter.{iter_rest};
@@ -10,12 +10,13 @@ use crate::img::Img;
 use std::slice::Iter;
 
 impl<C: AsSlice> Img<C> {
-    /// The image of the container that `callback` makes of this one's, at the same size and stride.
+    /// The image with the container that `callback` makes from this image's container, at the same
+    /// size and stride.
     ///
     /// # Requires
     ///
-    /// Facts of the callback, which no call tests: it may be called on the container, and its answer
-    /// has as many cells, padding included.
+    /// Facts about the callback, which no call tests: it may be called with the container, and the
+    /// container that it returns has as many cells, padding included.
     pub fn map_buf<N: AsSlice, F: FnOnce(C) -> N>(self, callback: F) -> Img<N>
         requires callable { F.pre callback (buf_of self) }
         requires same_length { (new : N) → F.post callback (buf_of self) new
@@ -28,12 +29,12 @@ impl<C: AsSlice> Img<C> {
         Img::from_parts(callback(buf), shape)
     }
 
-    /// The same with a callback that may fail. (The Rust crate has `map_buf` alone.)
+    /// The same as `map_buf`, with a callback that may fail. (The Rust crate has only `map_buf`.)
     ///
     /// # Requires
     ///
-    /// Facts of the callback, which no call tests: it may be called on the container, and where it
-    /// answers `Ok`, its container has as many cells, padding included.
+    /// Facts about the callback, which no call tests: it may be called with the container, and
+    /// where it returns `Ok`, the new container has as many cells, padding included.
     ///
     /// # Errors
     ///
@@ -58,11 +59,11 @@ impl<C: AsSlice> Img<C> {
         }
     }
 
-    /// The image of another container, at this image's size and stride.
+    /// The image with another container, at this image's size and stride.
     ///
     /// # Requires
     ///
-    /// By comparing the lengths: as many cells, padding included.
+    /// `new_buf` has as many cells as the present container, padding included: compare the lengths.
     pub fn new_buf<N: AsSlice>(&self, new_buf: N) -> Img<N>
         requires same_length { length (N.cells new_buf) ≡ length (C.cells (buf_of self.now)) }
         ensures buf { buf_of result ≡ new_buf }
@@ -73,7 +74,7 @@ impl<C: AsSlice> Img<C> {
 }
 
 impl<'s, T> Img<&'s [T]> {
-    /// Every cell of the buffer in its order, padding included. The image need not fit.
+    /// Every cell of the buffer in order, padding included. The image need not fit.
     pub fn iter(&self) -> Iter<'s, T>
         ensures cells { iter_rest result ≡ (buf_of self.now).now }
         ensures runs { IterYieldsInOrder T }
@@ -84,7 +85,7 @@ impl<'s, T> Img<&'s [T]> {
 }
 
 impl<C: AsMutSlice> Img<C> {
-    /// Every cell of the buffer in its order, padding included. The image need not fit.
+    /// Every cell of the buffer in order, padding included. The image need not fit.
     pub fn iter(&self) -> Iter<'_, C::Item>
         ensures cells { iter_rest result ≡ C.cells (buf_of self.now) }
         ensures runs { IterYieldsInOrder C.Item }
@@ -94,7 +95,7 @@ impl<C: AsMutSlice> Img<C> {
     }
 }
 
-/// What the container gives, taken out of the image: every cell, padding included.
+/// The items of the container, taken out of the image: every cell, padding included.
 impl<Container: IntoIterator> IntoIterator for Img<Container> {
     type Item = Container::Item;
 

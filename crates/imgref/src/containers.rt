@@ -1,4 +1,4 @@
-//! Containers whose cells can be read or written, as images take them.
+//! The containers of images: their cells can be read, or read and written.
 
 ghost use Rattle.std.specs.Prelude.{◌≡◌, refl, Bool, true, false, ℕ, ◌+◌, ◌≤◌, ◌<◌, List, length, slice_set, slice_get, Some};
 ghost use Rattle.std.specs.Borrow.{sem, Lends, Array};
@@ -13,7 +13,7 @@ use std::borrow::CowSlice;
 pub trait AsSlice {
     type Item;
 
-    /// The cells, in their order.
+    /// The cells, in order.
     ghost cells: { Self → List Self.Item };
 
     /// The cells as a slice.
@@ -21,28 +21,28 @@ pub trait AsSlice {
         ensures { result.now ≡ cells self.now };
 }
 
-/// A container whose cells can be written: a stretch of them, as an image lends its windows, or one,
-/// as it does by index. It stands for the Rust crate's bound `AsMut`.
+/// A container whose cells can be written: a stretch of them, as for the windows of an image, or
+/// one cell, as for its index. It replaces the Rust crate's bound `AsMut`.
 pub trait AsMutSlice: AsSlice {
     ghost padded_windows: { Bool };
 
-    /// The container with other cells in the place of a stretch.
+    /// The container with other cells in place of a stretch.
     ghost with_cells: { Self → Stretch → List Self.Item → Self };
 
     /// The container with another cell at an index.
     ghost with_cell: { Self → ℕ → Self.Item → Self };
 
-    /// Whether a window for writing takes whole strides where the container has them: so for a lent
-    /// slice. In a `Vec` it ends at its last pixel.
+    /// Whether a window for writing has whole strides where the container has them. This is so for
+    /// a borrowed slice; in a `Vec` the window ends at its last pixel.
     fn has_padded_windows() -> bool
         ensures { result ≡ padded_windows };
 
     /// The `len` cells from number `start` on, for writing. Once the borrow ends, the container has
-    /// what was left there in their place.
+    /// the cells that were left there in their place.
     ///
     /// # Requires
     ///
-    /// By comparing numbers: `start + len` is at most the number of cells.
+    /// `start + len` is at most the number of cells: compare the numbers.
     fn stretch_mut(&mut self, start: usize, len: usize) -> &mut [Self::Item]
         requires in_bounds { start + len ≤ length (Self.cells self.old) }
         ensures* writes_back { sem 𝓛 (Lends Self.row (Array Self.Item.row 0) self.entry result
@@ -50,33 +50,33 @@ pub trait AsMutSlice: AsSlice {
         ensures value { result.now
             ≡ stretch_cells (Self.cells self.old) (record { start = start; len = len }) };
 
-    /// The cell at an index, for writing. Once the borrow ends, the container has what was left
-    /// there.
+    /// The cell at an index, for writing. Once the borrow ends, the container has the value that
+    /// was left there.
     ///
     /// # Requires
     ///
-    /// By comparing numbers: the index is below the number of cells.
+    /// The index is below the number of cells: compare the numbers.
     fn cell_mut(&mut self, at: usize) -> &mut Self::Item
         requires in_bounds { at < length (Self.cells self.old) }
         ensures* writes_back { sem 𝓛 (Lends Self.row Self.Item.row self.entry result
             (with_cell self.old at)) }
         ensures value { slice_get (Self.cells self.old) at ≡ Some result.now };
 
-    /// As many cells in the place of a stretch leave every other cell.
+    /// As many cells in place of a stretch leave every other cell as it was.
     ghost others_stay: { (c : Self) (s : Stretch) (ws : List Self.Item)
         → s.start + s.len ≤ length (Self.cells c) → length ws ≡ s.len
         → Self.cells (with_cells c s ws) ≡ with_stretch (Self.cells c) s ws };
 
-    /// Another cell at an index leaves every other cell.
+    /// Another cell at an index leaves every other cell as it was.
     ghost other_cells_stay: { (c : Self) (at : ℕ) (value : Self.Item) → at < length (Self.cells c)
         → Self.cells (with_cell c at value) ≡ slice_set (Self.cells c) at value };
 
-    /// A stretch that is written changes the container's cells alone.
+    /// Writing a stretch changes only the container's cells.
     ghost stretch_is_cells: { (c : Self) (s : Stretch) (ws : List Self.Item)
         → s.start + s.len ≤ length (Self.cells c) → length ws ≡ s.len → with_cells c s ws
         ≡ with_cells c (whole (Self.cells c)) (with_stretch (Self.cells c) s ws) };
 
-    /// So does a cell.
+    /// So does writing a cell.
     ghost cell_is_cells: { (c : Self) (at : ℕ) (value : Self.Item)
         → at < length (Self.cells c) → with_cell c at value
         ≡ with_cells c (whole (Self.cells c)) (slice_set (Self.cells c) at value) };

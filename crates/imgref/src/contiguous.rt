@@ -20,10 +20,10 @@ use std::borrow::CowSlice;
 impl<T: Copy> ImgVec<T> {
     /// The joined rows, and the width and the height in pixels.
     ///
-    /// The image keeps its size and its pixels and loses all else: its buffer becomes exactly the
-    /// joined rows, and its stride the width, or 1 at width 0. No memory is taken or given back:
-    /// the rows are moved within the buffer, and an image that is packed already costs nothing.
-    /// (The Rust crate leaves the stride.)
+    /// The image keeps its size and its pixels and nothing else: its buffer becomes exactly the
+    /// joined rows, and its stride the width, or 1 at width 0. No memory is allocated or freed: the
+    /// rows are moved within the buffer, and for an image that is already packed nothing is moved.
+    /// (In the Rust crate the stride stays.)
     ///
     /// # Requires
     ///
@@ -46,7 +46,7 @@ impl<T: Copy> ImgVec<T> {
     }
 
     /// The joined rows in the image's own buffer, and the width and the height in pixels. No memory
-    /// is taken.
+    /// is allocated.
     ///
     /// # Requires
     ///
@@ -66,18 +66,18 @@ impl<T: Copy> ImgVec<T> {
 impl<'a, T: Clone> ImgRef<'a, T> {
     /// The joined rows, and the width and the height in pixels.
     ///
-    /// Where the width equals the stride the rows are lent, as the first `width * height` cells,
-    /// and no memory is taken. Else they are cloned row by row.
+    /// Where the width equals the stride, the rows are borrowed, as the first `width * height`
+    /// cells, and no memory is allocated. Otherwise they are cloned row by row.
     ///
     /// # Requires
     ///
-    /// The image fits (`is_valid`). The clones of its pixels equal them: a fact of the pixel type,
-    /// which no call tests.
+    /// The image fits (`is_valid`), and the clones of its pixels equal them. The latter is a fact
+    /// about the pixel type, which no call tests.
     ///
     /// # Errors
     ///
-    /// Out of memory, or a pixel's own `clone` that refused; never where the rows are lent or there
-    /// is no pixel.
+    /// Out of memory, or a pixel's own `clone` failed. This never happens where the rows are
+    /// borrowed or there is no pixel.
     pub fn to_contiguous_buf(
         &self,
         alloc: Global,

@@ -15,12 +15,13 @@ impl<C: AsSlice> Img<C> {
     ///
     /// # Requires
     ///
-    /// The clones of the cells equal them: a fact of the pixel type, which no call tests.
+    /// The clones of the cells equal them. This is a fact about the pixel type, which no call
+    /// tests.
     ///
     /// # Errors
     ///
-    /// Out of memory, or a cell's own `clone` that refused; what was cloned before is dropped then.
-    /// Never where there is no cell.
+    /// Out of memory, or a cell's own `clone` failed; the clones made before are dropped. This
+    /// never happens where there is no cell.
     pub fn to_owned(&self, alloc: Global) -> Result<ImgVec<C::Item>, AllocError>
     where
         C::Item: Clone,
@@ -34,15 +35,15 @@ impl<C: AsSlice> Img<C> {
 }
 
 impl<T: Clone> ImgVec<T> {
-    /// A copy of the whole image, as `to_owned` gives it.
+    /// A copy of the whole image, the same as `to_owned` returns.
     ///
     /// # Requires
     ///
-    /// As `to_owned`.
+    /// As for `to_owned`.
     ///
     /// # Errors
     ///
-    /// As `to_owned`.
+    /// As for `to_owned`.
     pub fn clone(&self, alloc: Global) -> Result<ImgVec<T>, AllocError>
         requires clones_equal { ClonesEqual T.is_clone (buf_of self.now).items }
         ensures layout { IfOk result (λ i. vec_layout i ≡ vec_layout self.now) }

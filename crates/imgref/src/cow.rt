@@ -1,4 +1,4 @@
-//! Images whose cells are lent or owned.
+//! Images whose cells are borrowed or owned.
 
 ghost use Rattle.std.specs.Prelude.{◌≡◌, ◌*◌, length, IsOk, IfOk, IfErr};
 ghost use Rattle.std.specs.Cow.{IsBorrowedSlice, IsOwnedSlice};
@@ -17,18 +17,18 @@ use std::borrow::CowSlice;
 
 impl<'a, T: Clone> Img<CowSlice<'a, T>> {
     /// The image with a buffer of its own. Owned cells stay in their buffer, at the same size and
-    /// stride, and no memory is taken. Lent ones are cloned row by row, without padding: the stride
-    /// is then the width, or 1 at width 0.
+    /// stride, and no memory is allocated. Borrowed cells are cloned row by row, without padding:
+    /// the stride is then the width, or 1 at width 0.
     ///
     /// # Requires
     ///
-    /// Of lent cells alone: the image fits (`is_valid`), and the clones of its pixels equal them,
-    /// which no call tests.
+    /// Only for borrowed cells: the image fits (`is_valid`), and the clones of its pixels equal
+    /// them, which no call tests.
     ///
     /// # Errors
     ///
-    /// The image as it was: out of memory, or a pixel's own `clone` that refused. Never of owned
-    /// cells, nor where there is no pixel.
+    /// The image as it was: out of memory, or a pixel's own `clone` failed. This never happens for
+    /// owned cells, nor where there is no pixel.
     pub fn into_owned(self, alloc: Global) -> Result<ImgVec<T>, Self>
         requires fits { IsBorrowedSlice (buf_of self) → Fits (cow_layout self) }
         requires clones_equal { IsBorrowedSlice (buf_of self)
@@ -53,17 +53,17 @@ impl<'a, T: Clone> Img<CowSlice<'a, T>> {
     }
 
     /// The image with a buffer of its own, at the same size and stride, with every cell, padding
-    /// included. Owned cells stay in their buffer, and no memory is taken. It need not fit. It stands
-    /// for the Rust crate's `From` of such an image for an `ImgVec`.
+    /// included. Owned cells stay in their buffer, and no memory is allocated. The image need not
+    /// fit. This call replaces the Rust crate's `From` of such an image for an `ImgVec`.
     ///
     /// # Requires
     ///
-    /// Of lent cells alone: the clones of the cells equal them, which no call tests.
+    /// Only for borrowed cells: the clones of the cells equal them, which no call tests.
     ///
     /// # Errors
     ///
-    /// The image as it was: out of memory, or a cell's own `clone` that refused. Never of owned
-    /// cells, nor where there is no cell.
+    /// The image as it was: out of memory, or a cell's own `clone` failed. This never happens for
+    /// owned cells, nor where there is no cell.
     pub fn into_vec(self, alloc: Global) -> Result<ImgVec<T>, Self>
         requires clones_equal { IsBorrowedSlice (buf_of self)
             → ClonesEqual T.is_clone (cow_layout self).cells }
@@ -98,7 +98,7 @@ impl<T: Clone> From<ImgVec<T>> for Img<CowSlice<'static, T>> {
     }
 }
 
-/// Lent cells: those of the image, at its size and stride.
+/// Borrowed cells: those of the image, at its size and stride.
 impl<'a, T: Clone> From<ImgRef<'a, T>> for Img<CowSlice<'a, T>> {
     ghost from_gives = { IsLentAs };
 

@@ -1,4 +1,4 @@
-//! Equality and hash of images: by their sizes and pixels, and never by stride or padding.
+//! Equality and hash of images: they depend on sizes and pixels, and never on stride or padding.
 
 ghost use Rattle.std.specs.Prelude.{◌≡◌, ◌↔◌, IsTrue};
 ghost use Rattle.image_model.specs.Alike.{Alike, is_alike};
@@ -11,9 +11,10 @@ use image_ops::{are_equal, hash_pixels};
 use std::hash::{Hash, Hasher};
 
 impl<C: AsSlice> Img<C> {
-    /// Whether this image and another, of any kind, are equal as `==` says it of images of one
-    /// kind: they have one size, and either both fit and have equal pixels at every place, or
-    /// neither fits. Nothing is asked of them. It stands for the Rust crate's `==` between kinds.
+    /// Whether this image and another, of any kind, are equal in the sense of `==`, which compares
+    /// images of one kind: they have the same size, and either both fit and have equal pixels at
+    /// every place, or neither fits. There is no condition. This call replaces the Rust crate's
+    /// `==` between kinds.
     pub fn same_pixels(&self, other: ImgRef<'_, C::Item>) -> bool
     where
         C::Item: PartialEq,
@@ -27,8 +28,8 @@ impl<C: AsSlice> Img<C> {
     }
 }
 
-/// Images are equal if they have one size, and either both fit and have equal pixels at every
-/// place, or neither fits. Stride, padding and length of the buffer don't count.
+/// Images are equal if they have the same size, and either both fit and have equal pixels at every
+/// place, or neither fits. Stride, padding and length of the buffer are ignored.
 impl<C: AsSlice> PartialEq for Img<C>
 where
     C::Item: PartialEq,
@@ -54,8 +55,8 @@ where
     ghost laws = { equal_equiv C.cells C.Item.Eq.laws };
 }
 
-/// A hasher is fed the width and the height as `u32`, and then, where the image fits, each row: so
-/// equal images are fed alike.
+/// A hasher is fed the width and the height as `u32` and then, where the image fits, each row. So
+/// equal images feed it the same.
 impl<C: AsSlice> Hash for Img<C>
 where
     C::Item: Hash,

@@ -10,11 +10,11 @@ use image_shape::{Shape, Window};
 use std::alloc::AllocError;
 
 /// A container of cells seen as an image: its width and height in pixels, and the stride, the
-/// number of cells from the start of a row to the start of the next one. The cells that are no
-/// pixel's are padding.
+/// number of cells from the start of a row to the start of the next one. The cells that belong to
+/// no pixel are padding.
 ///
-/// Every image has a stride of at least 1 and of at least its width, and a width and a height of
-/// at most `u32::MAX`. Of the number of cells nothing is known: `is_valid` tells whether they are
+/// Every image has a stride of at least 1 and of at least its width, and a width and a height of at
+/// most `u32::MAX`. Nothing is known of the number of cells: `is_valid` tests whether there are
 /// enough.
 #[derive(Drop)]
 pub struct Img<Container> {
@@ -29,10 +29,10 @@ pub struct Img<Container> {
 /// An image that owns its pixels.
 pub type ImgVec<T> = Img<Vec<T>>;
 
-/// An image of lent pixels, for reading: it is copied freely.
+/// An image of borrowed pixels, for reading; it is `Copy`.
 pub type ImgRef<'a, T> = Img<&'a [T]>;
 
-/// An image of lent pixels, for writing.
+/// An image of borrowed pixels, for writing.
 pub type ImgRefMut<'a, T> = Img<&'a mut [T]>;
 
 impl<Container: Copy> Copy for Img<Container> {}
@@ -53,13 +53,13 @@ impl<Container> Img<Container> {
     ghost use Rattle.imgref.specs.contracts.img.Img.{the_row};
     ghost use Rattle.imgref.specs.Image.{buf_of, shape_of, width_of, height_of, stride_of, with_buf};
 
-    /// The image of `width` by `height` pixels in `buf`, whose rows begin `stride` cells apart. The
-    /// number of cells isn't asked: where they are too few, `is_valid` is false.
+    /// The image of `width` by `height` pixels in `buf`, whose rows begin `stride` cells apart.
+    /// There is no condition on the number of cells: where there are too few, `is_valid` is false.
     ///
     /// # Requires
     ///
-    /// By comparing the numbers: a stride of at least 1 and of at least the width, a width and a
-    /// height of at most `u32::MAX`. (The Rust crate panics else.)
+    /// The stride is at least 1 and at least the width, and width and height are at most
+    /// `u32::MAX`: compare the numbers. (The Rust crate panics otherwise.)
     pub fn new_stride(buf: Container, width: usize, height: usize, stride: usize) -> Self
         requires stride_positive { 1 ≤ stride }
         requires holds_width { width ≤ stride }
@@ -83,7 +83,7 @@ impl<Container> Img<Container> {
     ///
     /// # Requires
     ///
-    /// By comparing the numbers: a width of at least 1, a width and a height of at most `u32::MAX`.
+    /// The width is at least 1, and width and height are at most `u32::MAX`: compare the numbers.
     pub fn new(buf: Container, width: usize, height: usize) -> Self
         requires width_positive { 1 ≤ width }
         requires width_bound { width < 2 ^ 32 }
@@ -96,8 +96,8 @@ impl<Container> Img<Container> {
         Self::new_stride(buf, width, height, width)
     }
 
-    /// The image of these cells in this shape. Nothing is asked: where the cells are too few,
-    /// `is_valid` is false. (The Rust crate has no such call.)
+    /// The image of these cells in this shape. There is no condition: where there are too few
+    /// cells, `is_valid` is false. (The Rust crate has no such call.)
     pub fn from_parts(buf: Container, shape: Shape) -> Self
         ensures buf { buf_of result ≡ buf }
         ensures shape { shape_of result ≡ shape }
@@ -111,8 +111,9 @@ impl<Container> Img<Container> {
     /// The container and the shape, taken out of the image.
     ///
     /// In code that is itself proved, take a borrowed slice out in a function that returns it. Its
-    /// caller then knows that it is the slice that the image was made of, so that writes reach the
-    /// buffer. Of a slice whose borrow ends where it was taken out, nothing is known.
+    /// caller then knows that this is the slice from which the image was made, so that writes reach
+    /// the buffer. Where the borrow ends in the function that took the slice out, nothing is known
+    /// of the buffer.
     pub fn into_parts(self) -> (Container, Shape)
         ensures buf { result.0 ≡ buf_of self }
         ensures shape { result.1 ≡ shape_of self }
@@ -162,8 +163,8 @@ impl<Container> Img<Container> {
         &self.buf
     }
 
-    /// The whole container, for writing. Once the borrow ends, the image has the container that
-    /// was left there, at the same size and stride. It may no longer fit: `is_valid` tells.
+    /// The whole container, for writing. Once the borrow ends, the image has the container that was
+    /// left there, at the same size and stride. It may no longer fit; `is_valid` tests it.
     pub fn buf_mut(&mut self) -> &mut Container
         ensures value { result.now ≡ buf_of self.old }
         ensures* writes_back { sem 𝓛 (Lends (the_row Container.row) Container.row self.entry result
@@ -181,7 +182,7 @@ impl<Container> Img<Container> {
     }
 
     /// Whether the window of `width` by `height` pixels with its corner at column `left` of row
-    /// `top` lies inside the image. Empty windows at the right and the lower edge do. (The Rust
+    /// `top` is inside the image. Empty windows at the right and the lower edge are. (The Rust
     /// crate's calls test it themselves, and panic.)
     pub fn has_window(&self, left: usize, top: usize, width: usize, height: usize) -> bool
         ensures { IsTrue result

@@ -13,12 +13,12 @@ use crate::img::Img;
 use image_rows::row;
 use std::ops::{Index, IndexMut};
 
-/// The cell at column `x` of row `y`, by `img[(x, y)]`: cell `y * stride + x`. It may be padding, or
-/// lie below the last row.
+/// The cell at column `x` of row `y`, by `img[(x, y)]`: cell `y * stride + x`. It may be padding,
+/// or below the last row.
 ///
 /// # Requires
 ///
-/// By comparing numbers: the column is below the stride, and the cell within the buffer.
+/// The column is below the stride, and the cell is within the buffer: compare the numbers.
 impl<C: AsSlice> Index<(usize, usize)> for Img<C> {
     type Output = C::Item;
 
@@ -33,12 +33,12 @@ impl<C: AsSlice> Index<(usize, usize)> for Img<C> {
     }
 }
 
-/// The cell at column `x` of row `y`, for writing. Once the borrow ends, that cell has what was
-/// left there, and no other cell has changed.
+/// The cell at column `x` of row `y`, for writing. Once the borrow ends, that cell has the value
+/// that was left there, and no other cell has changed.
 ///
 /// # Requires
 ///
-/// By comparing numbers: the column is below the stride, and the cell within the buffer.
+/// The column is below the stride, and the cell is within the buffer: compare the numbers.
 impl<C: AsMutSlice> IndexMut<(usize, usize)> for Img<C> {
     fn index_mut(&mut self, index: (usize, usize)) -> &mut C::Item
         requires { HasCell (layout_by C.cells self.old) index.0 index.1 }
@@ -55,7 +55,8 @@ impl<C: AsMutSlice> IndexMut<(usize, usize)> for Img<C> {
     }
 }
 
-/// The same by `u32`. No product of them wraps: only the cell's number has to be within the buffer.
+/// The same with `u32`. No product of them overflows: only the cell's number has to be within the
+/// buffer.
 impl<C: AsSlice> Index<(u32, u32)> for Img<C> {
     type Output = C::Item;
 
@@ -68,11 +69,11 @@ impl<C: AsSlice> Index<(u32, u32)> for Img<C> {
     }
 }
 
-/// The same by `u32`, for writing.
+/// The same with `u32`, for writing.
 ///
 /// # Requires
 ///
-/// By comparing numbers: the column is below the stride, and the cell within the buffer.
+/// The column is below the stride, and the cell is within the buffer: compare the numbers.
 impl<C: AsMutSlice> IndexMut<(u32, u32)> for Img<C> {
     fn index_mut(&mut self, index: (u32, u32)) -> &mut C::Item
         requires { HasCell (layout_by C.cells self.old) index.0 index.1 }
@@ -88,8 +89,8 @@ impl<C: AsMutSlice> IndexMut<(u32, u32)> for Img<C> {
 }
 
 impl<C: AsSlice> Img<C> {
-    /// The pixels of row `y`: the `width` cells from `y * stride` on, none at width 0. It stands for
-    /// the Rust crate's index by a row.
+    /// The pixels of row `y`: the `width` cells from `y * stride` on, and no cell at width 0. This
+    /// call replaces the Rust crate's index by a row.
     ///
     /// # Requires
     ///
@@ -105,8 +106,8 @@ impl<C: AsSlice> Img<C> {
 }
 
 impl<C: AsMutSlice> Img<C> {
-    /// The pixels of row `y`, for writing. Once the borrow ends, those cells have what was left
-    /// there, and no other cell has changed.
+    /// The pixels of row `y`, for writing. Once the borrow ends, those cells have the values that
+    /// were left there, and no other cell has changed.
     ///
     /// # Requires
     ///

@@ -1,17 +1,17 @@
-//! Two-dimensional slices with a stride: images whose rows lie a fixed number of cells apart.
+//! Two-dimensional slices with a stride: images whose rows begin a fixed number of cells apart.
 //!
 //! An [`Img`] is a container of cells with a width and a height in pixels and a stride. The pixel
-//! at column `x` of row `y` is cell `y * stride + x`; what lies between a row's last pixel and the
-//! next row is padding. So a window of an image is an image over a part of the same cells, and
-//! nothing is copied. [`ImgVec`] owns its pixels, [`ImgRef`] and [`ImgRefMut`] lend them.
+//! at column `x` of row `y` is cell `y * stride + x`; the cells between a row's last pixel and the
+//! next row are padding. So a window of an image is an image over a part of the same cells, and
+//! nothing is copied. [`ImgVec`] owns its pixels, [`ImgRef`] and [`ImgRefMut`] borrow them.
 //!
-//! An image whose cells reach to its last pixel fits. `is_valid` tells, and the calls that walk
+//! An image whose cells reach its last pixel fits. `is_valid` tests it, and the calls that go over
 //! rows or take windows require it. A width and a height are at most `u32::MAX`; strides, places
-//! and windows range over all of `usize`, and no sum or product wraps.
+//! and windows range over all of `usize`, and no sum or product overflows.
 //!
-//! The calls have the names of the Rust crate `imgref` 1.12.3; docs/DIFFERENCES.md lists what
-//! differs. What each call promises is said by the words of the crate `image_model`: layout, fits,
-//! cell, pixel, row, window.
+//! The calls have the names of the Rust crate `imgref` 1.12.3; docs/DIFFERENCES.md lists the
+//! differences. The contracts use the words of the crate `image_model`: layout, fits, cell, pixel,
+//! row, window.
 #![tactic(auto)]
 
 mod blit;

@@ -1,4 +1,4 @@
-//! The whole buffer of an image, padding included, by strides.
+//! The whole buffer of an image, padding included, stride by stride.
 
 ghost use Rattle.std.specs.Prelude.{◌≡◌, ◌/◌, ◌<◌, length, List};
 ghost use Rattle.std.specs.Borrow.{sem, follows, Array};
@@ -20,11 +20,11 @@ pub trait ImgExt<Pixel> {
     fn width_padded(&self) -> usize
         ensures { result ≡ (layout_of self.now).stride };
 
-    /// The number of whole strides in the buffer: cells past the last of them don't count.
+    /// The number of whole strides in the buffer; the cells past the last of them are ignored.
     fn height_padded(&self) -> usize
         ensures { result ≡ length (layout_of self.now).cells / (layout_of self.now).stride };
 
-    /// The whole buffer, a stride at a time; the last piece is perhaps shorter.
+    /// The whole buffer, a stride at a time; the last piece may be shorter.
     fn rows_padded(&self) -> Chunks<'_, Pixel>
         ensures cells { chunks_rest result ≡ (layout_of self.now).cells }
         ensures size { chunks_size result ≡ (layout_of self.now).stride }
@@ -64,10 +64,10 @@ pub trait ImgExtMut<Pixel> {
     /// The cells, the size and the stride.
     ghost layout_of: { Self → Layout Pixel };
 
-    /// The image with other cells in the place of all.
+    /// The image with other cells in place of all its cells.
     ghost with_cells: { Self → List Pixel → Self };
 
-    /// The whole buffer for writing, a stride at a time; the last piece is perhaps shorter.
+    /// The whole buffer for writing, a stride at a time; the last piece may be shorter.
     fn rows_padded_mut(&mut self) -> ChunksMut<'_, Pixel>
         ensures cells { chunks_mut_rest result ≡ (layout_of self.old).cells }
         ensures size { chunks_mut_size result ≡ (layout_of self.old).stride }

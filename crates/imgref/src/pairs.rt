@@ -9,13 +9,13 @@ use crate::img::{Img, ImgRef};
 use image_ops::agree_at_places;
 
 impl<'s, T> Img<&'s [T]> {
-    /// Whether this image and another have one size and `f` is true of their pixels at every
-    /// place. It is asked row by row and from left to right, up to the first place where it isn't
-    /// true. It stands for the Rust crate's `==` between two pixel types.
+    /// Whether this image and another have the same size and `f` is true of their pixels at every
+    /// place. `f` is called row by row and from left to right, up to the first place where it isn't
+    /// true. This call replaces the Rust crate's `==` between two pixel types.
     ///
     /// # Requires
     ///
-    /// Both images fit (`is_valid`), and `f` may be called on their pixels.
+    /// Both images fit (`is_valid`), and `f` may be called with their pixels.
     pub fn same_pixels_by<U, F: Fn(&T, &U) -> bool>(&self, other: ImgRef<'_, U>, f: F) -> bool
         requires fits { Fits (ref_layout self.now) }
         requires other_fits { Fits (ref_layout other) }

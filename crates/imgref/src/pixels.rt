@@ -98,12 +98,12 @@ impl<C: AsMutSlice> Img<C> {
         fill_pixels(self.buf.stretch_mut(0, len), shape, value);
     }
 
-    /// Every pixel becomes what `f` makes of it, row by row and from left to right; the padding
+    /// Every pixel becomes the result of `f` for it, row by row and from left to right; the padding
     /// stays. (In the Rust crate this is the caller's loop over `pixels_mut`.)
     ///
     /// # Requires
     ///
-    /// The image fits, as `is_valid` tells, and `f` can be called with any pixel.
+    /// The image fits (`is_valid`), and `f` can be called with any pixel.
     pub fn map_pixels<'a, F: Fn(C::Item) -> C::Item>(&'a mut self, f: F)
     where
         C::Item: Copy + 'a,
@@ -144,9 +144,10 @@ impl<C: AsMutSlice> Img<C> {
     /// The pixels for writing, row by row and from left to right: `width` times `height` of them,
     /// without the padding.
     ///
-    /// Once the borrow ends, the pixels are what was last written, and all else is as before:
-    /// `exact_pixels_mut` gives the same cursor and says so. A generated proof of a caller learns
-    /// here that the image keeps its size, its stride and its number of cells, and so fits.
+    /// Once the borrow ends, the pixels are what was last written, and everything else is as
+    /// before. The contract of `exact_pixels_mut`, which returns the same cursor, says so. A caller
+    /// with a generated proof learns from this call only that the size, the stride and the number
+    /// of cells stay, so that the image fits.
     ///
     /// # Requires
     ///
@@ -168,9 +169,9 @@ impl<C: AsMutSlice> Img<C> {
         self.exact_pixels_mut()
     }
 
-    /// The cursor of `pixels_mut`, with the clause of the final cells: those that the cursor and its
-    /// items left. A caller that is proved by hand cites it, with `hands_on` of the cursor's `next`
-    /// and `leaves_as` of its drop. (The Rust crate has no such call.)
+    /// The cursor of `pixels_mut`, with the clause of the final cells: those that the cursor and
+    /// its items left. A caller that is proved by hand cites this clause, together with `hands_on`
+    /// of the cursor's `next` and `leaves_as` of its drop. (The Rust crate has no such call.)
     ///
     /// # Requires
     ///

@@ -1,4 +1,5 @@
-//! Pixels by their places: what stands at one, and one value at a place, in a row or in a window.
+//! Pixels by their places: the pixel at a place, and writing one value at a place, in a row or in a
+//! window.
 
 ghost use Rattle.std.specs.Prelude.{◌≡◌, ◌<◌};
 ghost use Rattle.image_model.specs.Layout.{Fits, SameOutside};
@@ -13,7 +14,7 @@ use image_ops::fill_pixels;
 use image_shape::Window;
 
 impl<C: AsSlice> Img<C> {
-    /// The pixel at column `x` of row `y`, or `None` where that is no place of the image.
+    /// The pixel at column `x` of row `y`, or `None` where the image has no such place.
     ///
     /// # Requires
     ///

@@ -16,11 +16,11 @@ use image_ops::{padded_part, padded_stretch_mut};
 use image_shape::{Shape, Stretch, Window};
 
 impl<'s, T> Img<&'s [T]> {
-    /// What is seen through a window: the image over the same pixels, at the same stride.
+    /// The image that is seen through a window: it has the same cells, at the same stride.
     ///
     /// Its buffer begins at its first pixel. It has `height` whole strides where the image's cells
-    /// reach so far, and else ends at its last pixel (`padded_window`). That of an empty window is
-    /// empty.
+    /// reach so far, and otherwise ends at its last pixel (`padded_window`). The buffer of an empty
+    /// window is empty.
     ///
     /// # Requires
     ///
@@ -36,7 +36,7 @@ impl<'s, T> Img<&'s [T]> {
         Img::from_parts(buf, shape)
     }
 
-    /// What `window` shows through that of `width` by `height` pixels with its corner at column
+    /// The same as `window`, for the window of `width` by `height` pixels with its corner at column
     /// `left` of row `top`.
     ///
     /// # Requires
@@ -56,7 +56,7 @@ impl<'s, T> Img<&'s [T]> {
     }
 }
 
-// The number behind the last cell of a stretch, which the proof by hand of `from_stretch` calls.
+// The number after the last cell of a stretch, which the proof by hand of `from_stretch` calls.
 fn end_of(stretch: Stretch) -> usize
     requires counts { stretch.start + stretch.len < 2 ^ 64 }
     ensures { result ≡ stretch.start + stretch.len }
@@ -65,13 +65,13 @@ fn end_of(stretch: Stretch) -> usize
 }
 
 impl<'s, T> Img<&'s mut [T]> {
-    /// The image that a stretch of these cells is in this shape. Once the borrow ends, the cells are
-    /// as they were, with that stretch of them as the image left it. The image need not fit. (The
-    /// Rust crate has no such call.)
+    /// The image that a stretch of these cells makes in this shape. Once the borrow ends, the cells
+    /// are as they were, except that the stretch is as the image left it. The image need not fit.
+    /// (The Rust crate has no such call.)
     ///
     /// # Requires
     ///
-    /// By comparing numbers: the stretch ends within the cells.
+    /// The stretch ends within the cells: compare the numbers.
     pub fn from_stretch(cells: &'s mut [T], stretch: Stretch, shape: Shape) -> ImgRefMut<'s, T>
         requires in_bounds { IsWithin (length cells.old) (as_stretch stretch) }
         ensures* hands_on { sem 𝓛 (follows (Array T.row 0) (Array T.row 0) cells.entry.ghost_name
@@ -84,10 +84,11 @@ impl<'s, T> Img<&'s mut [T]> {
     }
 
     /// The image cut down to the window of `width` by `height` pixels with its corner at column
-    /// `left` of row `top`, for as long as its pixels are lent.
+    /// `left` of row `top`, for as long as its pixels are borrowed.
     ///
     /// Its buffer has whole strides where the image has them (`padded_window`). Once the borrow
-    /// ends, the lent cells are as they were, with that stretch of them as the window left it.
+    /// ends, the borrowed cells are as they were, except that this stretch is as the window left
+    /// it.
     ///
     /// # Requires
     ///
@@ -124,8 +125,8 @@ impl<'s, T> Img<&'s mut [T]> {
 }
 
 impl<C: AsMutSlice> Img<C> {
-    /// What is seen through a window, as `window` of an image of shared pixels gives it: with whole
-    /// strides where the image has them (`padded_window`).
+    /// The image that is seen through a window, as for `window` of an `ImgRef`: with whole strides
+    /// where the image has them (`padded_window`).
     ///
     /// # Requires
     ///
@@ -142,7 +143,7 @@ impl<C: AsMutSlice> Img<C> {
         Img::from_parts(buf, shape)
     }
 
-    /// What `window` shows through that of `width` by `height` pixels with its corner at column
+    /// The same as `window`, for the window of `width` by `height` pixels with its corner at column
     /// `left` of row `top`.
     ///
     /// # Requires
@@ -186,13 +187,14 @@ impl<C: AsMutSlice> Img<C> {
         Img::from_parts(cells, shape)
     }
 
-    /// The image that a window is, for writing, at the same stride.
+    /// The image that is seen through a window, for writing, at the same stride.
     ///
     /// Its buffer begins at its first pixel. For an `ImgVec` it always ends at the last pixel
     /// (`exact_window`); for an `ImgRefMut` it has `height` whole strides where the image's cells
-    /// reach so far (`padded_window`). That of an empty window is empty. Once the borrow ends, the
-    /// image's cells are as they were, with that stretch of them as the window left it. So a write
-    /// at place (x, y) of the window is a write at place (left + x, top + y) of the image.
+    /// reach so far (`padded_window`). The buffer of an empty window is empty. Once the borrow
+    /// ends, the image's cells are as they were, except that this stretch is as the window left it.
+    /// So a write at place (x, y) of the window is a write at place (left + x, top + y) of the
+    /// image.
     ///
     /// # Requires
     ///
@@ -220,8 +222,8 @@ impl<C: AsMutSlice> Img<C> {
         Img::from_parts(buf, shape)
     }
 
-    /// The image that `window_mut` gives for the window of `width` by `height` pixels with its corner
-    /// at column `left` of row `top`.
+    /// The same as `window_mut`, for the window of `width` by `height` pixels with its corner at
+    /// column `left` of row `top`.
     ///
     /// # Requires
     ///
@@ -256,11 +258,12 @@ impl<C: AsMutSlice> Img<C> {
         self.window_mut(Window::new(left, top, width, height))
     }
 
-    /// The window of `window_mut` as its cells and its shape, from which `from_parts` makes it.
+    /// The cells and the shape of the window that `window_mut` returns; `from_parts` makes the
+    /// window from them.
     ///
-    /// For a caller that is itself proved and says what its writes leave: pass the cells to a
-    /// function of its own that makes the image from them, and a generated proof follows the borrow.
-    /// It doesn't follow that of a returned image. All else takes `window_mut`.
+    /// This is for a caller that is itself proved and specifies what its writes leave. Pass the
+    /// cells to a function that makes the image from them: a generated proof follows that borrow.
+    /// It doesn't follow the borrow of a returned image. All other callers use `window_mut`.
     ///
     /// # Requires
     ///

@@ -1,4 +1,4 @@
--- What a call leaves, by the status that it answers: with any other than 0 all is as before.
+-- What a call leaves, by the status that it returns: with any other than 0 everything is as before.
 use Rattle.std.specs.Prelude.{◌≡◌, ℕ, ◌+◌, ◌*◌, ◌<◌, ◌≤◌, List, ◌++◌, drop}
 use Rattle.image_model.specs.Layout.{Layout, layout, SameOutside}
 use Rattle.image_model.specs.Grid.{Grid, grid_of, patch}
@@ -16,13 +16,13 @@ pub record Writes {T : Type 0} (status width height stride : ℕ) (old new : Lis
   pub outside : status ≡ 0 → SameOutside (layout old width height stride) (layout new width height stride)
   pub unchanged : 0 < status → new ≡ old
 
--- an image that was packed: with status 0 its rows are joined, the cells behind them are as before, and at the least stride it shows the old grid
+-- an image that was packed: with status 0 its rows are joined, the cells after them are as before, and at the least stride it shows the old grid
 pub record Packs {T : Type 0} (status : ℕ) (old : Layout T) (new : List T) : Type 0 where
   pub joins : status ≡ 0 → new ≡ joined_rows old ++ drop (old.width * old.height) old.cells
   pub shows : status ≡ 0 → grid_of (layout new old.width old.height (least_stride old.width)) ≡ grid_of old
   pub unchanged : 0 < status → new ≡ old.cells
 
--- a stretch that goes out through two references: with status 0 it is this one, and lies within so many cells
+-- a stretch that is written through two references: with status 0 it is this one, and is within so many cells
 pub record Finds (status start count new_start new_count len : ℕ) (s : Stretch) : Type 0 where
   pub begins : status ≡ 0 → new_start ≡ s.start
   pub counts : status ≡ 0 → new_count ≡ s.len
@@ -30,7 +30,7 @@ pub record Finds (status start count new_start new_count len : ℕ) (s : Stretch
   pub start_unchanged : 0 < status → new_start ≡ start
   pub count_unchanged : 0 < status → new_count ≡ count
 
--- what goes out through a reference: with status 0 this holds of it
+-- what is written through a reference: with status 0 this holds of it
 pub record Gives {T : Type 0} (status : ℕ) (old new : T) (Holds : Type 0) : Type 0 where
   pub gives : status ≡ 0 → Holds
   pub unchanged : 0 < status → new ≡ old

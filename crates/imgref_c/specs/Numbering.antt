@@ -1,8 +1,8 @@
--- Where the tile with a number stands.
+-- Where the tile with a number is.
 use Rattle.std.specs.Prelude.{◌≡◌, ℕ, ◌*◌, ◌/◌, ◌%◌, ◌<◌, Some, slice_get}
 use Rattle.image_model.specs.Tiles.{tiles, tile}
 
--- with so many tiles in a line, its column and its line are the rest and the quotient, and its corner is inside
+-- with so many tiles in a tile row, its tile column and tile row are the remainder and the quotient, and its corner is inside
 pub record Numbered (width height tile_width tile_height number columns : ℕ) : Type 0 where
   pub some : 0 < columns
   pub column : number % columns * tile_width < width

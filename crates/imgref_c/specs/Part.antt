@@ -1,4 +1,4 @@
--- The part of an image that a window is.
+-- The part of an image that a window makes.
 use Rattle.std.specs.Prelude.{◌≡◌, ℕ, ◌-◌, ◌≤◌}
 use Rattle.image_model.specs.Layout.{Reaches}
 use Rattle.image_model.specs.Windows.{Window, Stretch, IsInside, exact_stretch}

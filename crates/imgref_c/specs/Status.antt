@@ -1,4 +1,4 @@
--- Which status a call answers: that of the first test that fails.
+-- The status that a call returns: that of the first test that fails.
 use Rattle.std.specs.Prelude.{length, ℕ, ◌+◌, ◌-◌, ◌*◌, ◌^◌, ◌<◌, ◌≤◌, Bool, ◌&&◌, ◌||◌, ◌==◌, nat_le, nat_lt, if◌then◌else◌}
 use Rattle.image_model.specs.Layout.{Reaches}
 use Rattle.image_model.specs.Grid.{is_place}
@@ -7,7 +7,7 @@ use Rattle.image_model.specs.Tiles.{tiles}
 use Rattle.imgref_c.specs.declared.status.Status.{Status}
 use Rattle.imgref_c.specs.declared.status.Status.TheVariants.{Done, NotAnImage, WindowOutside, SizesDiffer, PlaceOutside, NoTile}
 
--- the number that the header gives it
+-- its number in the header
 abbrev pub code : Status → ℕ
 code Done = 0
 code NotAnImage = 1

@@ -1,4 +1,4 @@
--- The words of the contracts of calls, for one import.
+-- The words of the contracts of calls, to import from one place.
 pub use Rattle.image_model.specs.Layout.{layout}
 pub use Rattle.image_model.specs.Grid.{grid_of, uniform, Agree}
 pub use Rattle.image_model.specs.Windows.{exact_stretch, IsInside}

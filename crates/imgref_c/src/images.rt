@@ -18,7 +18,7 @@ pub(crate) struct ClaimedShape {
 impl ClaimedShape {
     ghost use Rattle.image_shape.specs.Shape.{shape_width, shape_height, shape_stride};
 
-    /// These three numbers. Nothing is known of them.
+    /// These three numbers, of which nothing is known.
     pub(crate) fn new(width: usize, height: usize, stride: usize) -> ClaimedShape
         ensures width { result.width ≡ width }
         ensures height { result.height ≡ height }
@@ -47,7 +47,7 @@ impl ClaimedShape {
         self.shape().fits(len)
     }
 
-    /// The same as a shape, where the numbers are those of one: `is_image` tells.
+    /// The same as a shape, where the numbers are valid (`is_image` tests them).
     pub(crate) fn shape(self) -> Shape
         requires stride_positive { 1 ≤ self.stride }
         requires holds_width { self.width ≤ self.stride }
@@ -79,7 +79,7 @@ pub extern "C" fn imgref_has_window(width: usize, height: usize, window: ImgrefW
 }
 
 /// Where a window's cells begin among those of the image, and how many there are up to its last
-/// pixel: with the window's size and the image's stride they are an image.
+/// pixel. With the window's size and the image's stride these cells are an image.
 #[unsafe(no_mangle)]
 pub extern "C" fn imgref_window(
     len: usize,

@@ -7,7 +7,7 @@ use crate::images::ClaimedShape;
 use crate::status::Status;
 use image_ops::join_rows;
 
-// The rows come one after the other at the front of the cells; the cells behind them stay.
+// The rows are joined at the front of the cells; the cells after them stay.
 fn pack<T: Copy>(cells: &mut [T], claimed: ClaimedShape) -> Status
     ensures status { result
         ≡ image_status (length cells.old) claimed.width claimed.height claimed.stride }
@@ -21,7 +21,7 @@ fn pack<T: Copy>(cells: &mut [T], claimed: ClaimedShape) -> Status
     Status::Done
 }
 
-/// The rows come one after the other at the front of the cells; the cells behind them stay.
+/// The rows are joined at the front of the cells; the cells after them stay.
 #[unsafe(no_mangle)]
 pub extern "C" fn imgref_u8_pack(
     cells: &mut [u8],
@@ -36,7 +36,7 @@ pub extern "C" fn imgref_u8_pack(
     pack::<u8>(cells, claimed).code()
 }
 
-/// The rows come one after the other at the front of the cells; the cells behind them stay.
+/// The rows are joined at the front of the cells; the cells after them stay.
 #[unsafe(no_mangle)]
 pub extern "C" fn imgref_u16_pack(
     cells: &mut [u16],
@@ -51,7 +51,7 @@ pub extern "C" fn imgref_u16_pack(
     pack::<u16>(cells, claimed).code()
 }
 
-/// The rows come one after the other at the front of the cells; the cells behind them stay.
+/// The rows are joined at the front of the cells; the cells after them stay.
 #[unsafe(no_mangle)]
 pub extern "C" fn imgref_u32_pack(
     cells: &mut [u32],
@@ -66,7 +66,7 @@ pub extern "C" fn imgref_u32_pack(
     pack::<u32>(cells, claimed).code()
 }
 
-/// The rows come one after the other at the front of the cells; the cells behind them stay.
+/// The rows are joined at the front of the cells; the cells after them stay.
 #[unsafe(no_mangle)]
 pub extern "C" fn imgref_u64_pack(
     cells: &mut [u64],

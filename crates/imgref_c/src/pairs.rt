@@ -154,7 +154,7 @@ fn equal_images<T: PartialEq>(
     Status::Done
 }
 
-/// Whether two images have one size and equal pixels at every place goes to `equal`.
+/// Writes to `equal` whether two images have the same size and equal pixels at every place.
 #[unsafe(no_mangle)]
 pub extern "C" fn imgref_u8_equal(
     cells: &[u8],
@@ -178,7 +178,7 @@ pub extern "C" fn imgref_u8_equal(
     equal_images::<u8>(cells, claimed, other, claimed_other, equal).code()
 }
 
-/// Whether two images have one size and equal pixels at every place goes to `equal`.
+/// Writes to `equal` whether two images have the same size and equal pixels at every place.
 #[unsafe(no_mangle)]
 pub extern "C" fn imgref_u16_equal(
     cells: &[u16],
@@ -202,7 +202,7 @@ pub extern "C" fn imgref_u16_equal(
     equal_images::<u16>(cells, claimed, other, claimed_other, equal).code()
 }
 
-/// Whether two images have one size and equal pixels at every place goes to `equal`.
+/// Writes to `equal` whether two images have the same size and equal pixels at every place.
 #[unsafe(no_mangle)]
 pub extern "C" fn imgref_u32_equal(
     cells: &[u32],
@@ -226,7 +226,7 @@ pub extern "C" fn imgref_u32_equal(
     equal_images::<u32>(cells, claimed, other, claimed_other, equal).code()
 }
 
-/// Whether two images have one size and equal pixels at every place goes to `equal`.
+/// Writes to `equal` whether two images have the same size and equal pixels at every place.
 #[unsafe(no_mangle)]
 pub extern "C" fn imgref_u64_equal(
     cells: &[u64],

@@ -1,7 +1,7 @@
-//! Writes to the part of an image that a window is.
+//! Writes to the part of an image that a window makes.
 //!
-//! They are out of line: what a call tests first holds so many numbers that the loop over the rows
-//! would have no register left, which costs a third of the time at rows of 64 bytes.
+//! They are not inlined. The tests of a call hold so many numbers that the loop over the rows would
+//! have no register left, which costs a third of the time at rows of 64 bytes.
 
 ghost use Rattle.std.specs.Prelude.{◌≡◌, ◌<◌, ◌≤◌};
 ghost use Rattle.image_model.specs.Layout.{Fits, Reaches, SameOutside};
@@ -63,7 +63,7 @@ pub(crate) fn copy_part<T: Copy>(
     copy_pixels(&mut cells[part], inner, source, source_shape);
 }
 
-/// Each tile of the window, from its corner on, gets the pixel that stood at the tile's corner.
+/// Each tile of the window, from its corner on, gets the old pixel at the tile's corner.
 #[inline(never)]
 pub(crate) fn mosaic_part<T: Copy>(
     cells: &mut [T],

@@ -27,7 +27,7 @@ fn get<T: Copy>(cells: &[T], claimed: ClaimedShape, place: (usize, usize), pixel
     Status::Done
 }
 
-/// The pixel in column `x` of row `y` goes to `pixel`.
+/// Writes the pixel in column `x` of row `y` to `pixel`.
 #[unsafe(no_mangle)]
 pub extern "C" fn imgref_u8_get(
     cells: &[u8],
@@ -46,7 +46,7 @@ pub extern "C" fn imgref_u8_get(
     get::<u8>(cells, claimed, (x, y), pixel).code()
 }
 
-/// The pixel in column `x` of row `y` goes to `pixel`.
+/// Writes the pixel in column `x` of row `y` to `pixel`.
 #[unsafe(no_mangle)]
 pub extern "C" fn imgref_u16_get(
     cells: &[u16],
@@ -65,7 +65,7 @@ pub extern "C" fn imgref_u16_get(
     get::<u16>(cells, claimed, (x, y), pixel).code()
 }
 
-/// The pixel in column `x` of row `y` goes to `pixel`.
+/// Writes the pixel in column `x` of row `y` to `pixel`.
 #[unsafe(no_mangle)]
 pub extern "C" fn imgref_u32_get(
     cells: &[u32],
@@ -84,7 +84,7 @@ pub extern "C" fn imgref_u32_get(
     get::<u32>(cells, claimed, (x, y), pixel).code()
 }
 
-/// The pixel in column `x` of row `y` goes to `pixel`.
+/// Writes the pixel in column `x` of row `y` to `pixel`.
 #[unsafe(no_mangle)]
 pub extern "C" fn imgref_u64_get(
     cells: &[u64],

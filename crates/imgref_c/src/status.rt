@@ -1,13 +1,13 @@
-//! What a call answers.
+//! The results of calls.
 
 ghost use Rattle.std.specs.Prelude.{◌≡◌};
 
-/// What a call answers: that it is done, or the first test that failed.
+/// The result of a call: it is done, or the first test that failed.
 #[derive(Clone, Copy, PartialEq, Eq)]
 pub(crate) enum Status {
     /// It is done.
     Done,
-    /// The cells are no image of that width, height and stride.
+    /// The cells aren't an image of that width, height and stride.
     NotAnImage,
     /// The window isn't inside the image.
     WindowOutside,
@@ -15,7 +15,7 @@ pub(crate) enum Status {
     SizesDiffer,
     /// There is no pixel in that column and row.
     PlaceOutside,
-    /// There is no tile of that number, or a tile would have no pixel.
+    /// There is no tile with that number, or a tile would have no pixel.
     NoTile,
 }
 

@@ -1,4 +1,4 @@
-//! The tiles of a size, by their numbers.
+//! The tiles of a size, as numbers.
 
 ghost use Rattle.std.specs.Prelude.{◌≡◌, ◌<◌, ◌^◌, length, Some, slice_get};
 ghost use Rattle.imgref_c.specs.Words.{code, from_c, tile_status, tiles, tiles_status, Gives, Numbered};
@@ -19,7 +19,7 @@ fn count_of(width: usize, height: usize, tile_width: usize, tile_height: usize) 
     tiles_along(height, tile_height) * tiles_along(width, tile_width)
 }
 
-// How many tiles stand in a line of a size that has a tile with this number.
+// The number of tiles in a tile row of a size that has a tile with this number.
 fn columns_of(
     width: usize,
     height: usize,
@@ -74,7 +74,7 @@ fn tested(width: usize, height: usize, tile_width: usize, tile_height: usize) ->
     Status::Done
 }
 
-/// How many tiles of `tile_width` by `tile_height` pixels a size has goes to `count`.
+/// Writes to `count` how many tiles of `tile_width` by `tile_height` pixels a size has.
 #[unsafe(no_mangle)]
 pub extern "C" fn imgref_tile_count(
     width: usize,
@@ -94,7 +94,8 @@ pub extern "C" fn imgref_tile_count(
     status.code()
 }
 
-/// The window of the tile with this number goes to `window`: line by line, from left to right.
+/// Writes the window of the tile with this number to `window`. Tiles are counted row by row, from
+/// left to right.
 #[unsafe(no_mangle)]
 pub extern "C" fn imgref_tile(
     width: usize,

@@ -12,9 +12,9 @@ pub struct ImgrefWindow {
     pub left: usize,
     /// The row of its corner.
     pub top: usize,
-    /// How many columns it has.
+    /// The number of its columns.
     pub width: usize,
-    /// How many rows it has.
+    /// The number of its rows.
     pub height: usize,
 }
 

@@ -1,4 +1,4 @@
-//! Calls on a window of an image: it is filled, shown as a mosaic, or moved.
+//! Calls on a window of an image: it is filled, turned into a mosaic, or moved.
 
 ghost use Rattle.std.specs.Prelude.{◌≡◌, length};
 ghost use Rattle.imgref_c.specs.Words.{as_window, code, from_c, mosaic_of, mosaic_status, move_status, seen, uniform, window_status, Writes};
@@ -132,7 +132,7 @@ fn mosaic<T: Copy>(
     Status::Done
 }
 
-/// Each tile of the window, from its corner on, gets the pixel that stood at the tile's corner.
+/// Each tile of the window, from its corner on, gets the old pixel at the tile's corner.
 #[unsafe(no_mangle)]
 pub extern "C" fn imgref_u8_mosaic(
     cells: &mut [u8],
@@ -152,7 +152,7 @@ pub extern "C" fn imgref_u8_mosaic(
     mosaic::<u8>(cells, claimed, window.as_window(), tile_width, tile_height).code()
 }
 
-/// Each tile of the window, from its corner on, gets the pixel that stood at the tile's corner.
+/// Each tile of the window, from its corner on, gets the old pixel at the tile's corner.
 #[unsafe(no_mangle)]
 pub extern "C" fn imgref_u16_mosaic(
     cells: &mut [u16],
@@ -172,7 +172,7 @@ pub extern "C" fn imgref_u16_mosaic(
     mosaic::<u16>(cells, claimed, window.as_window(), tile_width, tile_height).code()
 }
 
-/// Each tile of the window, from its corner on, gets the pixel that stood at the tile's corner.
+/// Each tile of the window, from its corner on, gets the old pixel at the tile's corner.
 #[unsafe(no_mangle)]
 pub extern "C" fn imgref_u32_mosaic(
     cells: &mut [u32],
@@ -192,7 +192,7 @@ pub extern "C" fn imgref_u32_mosaic(
     mosaic::<u32>(cells, claimed, window.as_window(), tile_width, tile_height).code()
 }
 
-/// Each tile of the window, from its corner on, gets the pixel that stood at the tile's corner.
+/// Each tile of the window, from its corner on, gets the old pixel at the tile's corner.
 #[unsafe(no_mangle)]
 pub extern "C" fn imgref_u64_mosaic(
     cells: &mut [u64],
@@ -234,7 +234,7 @@ fn move_window<T: Copy>(cells: &mut [T], claimed: ClaimedShape, from: Window, to
     Status::Done
 }
 
-/// The window `to` gets the pixels that the window `from` had, overlapping or not.
+/// The window `to` gets the pixels that the window `from` had; the two may overlap.
 #[unsafe(no_mangle)]
 pub extern "C" fn imgref_u8_move_window(
     cells: &mut [u8],
@@ -253,7 +253,7 @@ pub extern "C" fn imgref_u8_move_window(
     move_window::<u8>(cells, claimed, from.as_window(), to.as_window()).code()
 }
 
-/// The window `to` gets the pixels that the window `from` had, overlapping or not.
+/// The window `to` gets the pixels that the window `from` had; the two may overlap.
 #[unsafe(no_mangle)]
 pub extern "C" fn imgref_u16_move_window(
     cells: &mut [u16],
@@ -272,7 +272,7 @@ pub extern "C" fn imgref_u16_move_window(
     move_window::<u16>(cells, claimed, from.as_window(), to.as_window()).code()
 }
 
-/// The window `to` gets the pixels that the window `from` had, overlapping or not.
+/// The window `to` gets the pixels that the window `from` had; the two may overlap.
 #[unsafe(no_mangle)]
 pub extern "C" fn imgref_u32_move_window(
     cells: &mut [u32],
@@ -291,7 +291,7 @@ pub extern "C" fn imgref_u32_move_window(
     move_window::<u32>(cells, claimed, from.as_window(), to.as_window()).code()
 }
 
-/// The window `to` gets the pixels that the window `from` had, overlapping or not.
+/// The window `to` gets the pixels that the window `from` had; the two may overlap.
 #[unsafe(no_mangle)]
 pub extern "C" fn imgref_u64_move_window(
     cells: &mut [u64],

@@ -11,6 +11,6 @@ sum_of_three g x y = sum (grid_pixels (view g x y 3 1))
 abbrev pub mean_of_nine : Grid ℕ → ℕ → ℕ → ℕ
 mean_of_nine g x y = sum (grid_pixels (view g (x - 1) (y - 1) 3 3)) / 9
 
--- at each place with a neighbour on every side stands the mean of one image, elsewhere the other's pixel
+-- each place with a neighbour on every side has the mean of one image, every other place the other image's pixel
 unfoldable pub blurred : Grid ℕ → Grid ℕ → Grid ℕ
 blurred src dst = grid dst.width dst.height (λ x y. if covers 1 1 (dst.width - 2) (dst.height - 2) x y then Some (mean_of_nine src x y) else dst.pixel x y)

@@ -1,4 +1,4 @@
--- What the first pixels of an image become: by its grid, and of the cells that a cursor still has.
+-- What the first pixels of an image become: by its grid, and by the cells that are left in a cursor.
 use Rattle.std.specs.Prelude.{ℕ, zero, suc, ◌+◌, ◌*◌, nat_lt, if◌then◌else◌, Bool, true, false, List, [], ◌∷◌, ◌++◌, Some}
 use Rattle.std.specs.Borrow.{Fml, RattleType, Array}
 use base.Fml.{fex, fsep, feq}
@@ -19,7 +19,7 @@ first_covered (suc n) (m ∷ ms) v [] = []
 first_covered (suc n) (true ∷ ms) v (x ∷ xs) = v ∷ first_covered n ms v xs
 first_covered (suc n) (false ∷ ms) v (x ∷ xs) = x ∷ first_covered (suc n) ms v xs
 
--- the cells of s end as some cells and then as those of t, which together are those of s with one value in the first pixels
+-- the final cells of s are some cells followed by those of t; together they are the cells of s with one value in the first pixels
 abbrev pub writes_first : (R : RattleType) → ℕ → R.Denot → PixelsIterMut R.Denot → PixelsIterMut R.Denot → Fml
 writes_first R n v s t = fex (List R.Denot) (λ done. fsep (feq (List R.Denot) (done ++ cells_left t) (first_covered n (marks_left s) v (cells_left s)))
     (ends_as (Array R 0) (Array R 0) (pixels_name s) (pixels_name t) (λ ws. done ++ ws)))

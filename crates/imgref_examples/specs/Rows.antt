@@ -1,4 +1,4 @@
--- What the cells of an image are once its last row was filled.
+-- The cells of an image after its last row is filled.
 use Rattle.std.specs.Prelude.{ℕ, zero, suc, ◌*◌, List, replicate}
 use Rattle.image_model.specs.Layout.{Layout}
 use Rattle.image_model.specs.Rows.{row_count}

@@ -1,4 +1,4 @@
--- Grids of stripes: each row has one value, 0 and 1 in turn.
+-- Grids of stripes: each row has one value, alternately 0 and 1.
 use Rattle.std.specs.Prelude.{ℕ, ◌%◌, Some, nat_lt, if◌then◌else◌}
 use Rattle.image_model.specs.Grid.{Grid, grid}
 

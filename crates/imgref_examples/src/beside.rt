@@ -1,11 +1,11 @@
-//! What is seen at one place after writes at others.
+//! The pixel at one place after writes at others.
 
 ghost use Rattle.std.specs.Prelude.{◌≡◌, ◌<◌, ◌+◌, Some};
 ghost use Rattle.imgref.specs.Words.{Fits, SameOutside, width_of, height_of, vec_layout};
 
 use imgref::ImgVec;
 
-/// A pixel is put and the row below it is filled: the pixel is got as it was put.
+/// Puts a pixel and fills the row below it. The result is the pixel as it was put.
 #[tactic(auto, using(image_model::proofs::Patches::at_places))]
 pub fn put_above_fill(image: &mut ImgVec<u8>, x: usize, y: usize, value: u8) -> Option<u8>
     requires fits { Fits (vec_layout image.old) }

@@ -1,4 +1,4 @@
-//! Pixels copied and moved: between images, within one, and in a list of images.
+//! Copies and moves of pixels: between images, within one image, and in a list of images.
 
 ghost use Rattle.std.specs.Prelude.{◌≡◌, ◌-◌, ◌<◌, ◌≤◌};
 ghost use Rattle.image_model.specs.Layout.{Fits, SameOutside};
@@ -10,7 +10,7 @@ ghost use Rattle.imgref.specs.Image.{width_of, height_of, vec_grid, vec_layout, 
 
 use imgref::{ImgRef, ImgRefMut, ImgVec, Shape, Window};
 
-/// The image becomes a copy of another one but for the pixel at column `x` of row `y`.
+/// The image becomes a copy of another one, except for the pixel at column `x` of row `y`.
 pub fn copy_but_one<T: Copy>(
     image: &mut ImgVec<T>,
     source: ImgRef<'_, T>,
@@ -31,7 +31,7 @@ pub fn copy_but_one<T: Copy>(
     image.put(x, y, value);
 }
 
-/// Each row but the first moves up by one; the last row stays where it is too.
+/// Each row except the first moves up by one; the last row also stays where it is.
 pub fn scroll_up<T: Copy>(image: &mut ImgVec<T>)
     requires fits { Fits (vec_layout image.old) }
     requires high { 1 ≤ height_of image.old }
@@ -44,7 +44,7 @@ pub fn scroll_up<T: Copy>(image: &mut ImgVec<T>)
     image.move_window(0, 1, 0, 0, width, height - 1);
 }
 
-/// The pixels that these cells have in this shape become those of another image.
+/// The pixels of these cells in this shape become those of another image.
 pub fn copy_over_cells<T: Copy>(cells: &mut [T], shape: Shape, source: ImgRef<'_, T>)
     requires fits { Fits (shaped cells.old shape) }
     requires source_fits { Fits (ref_layout source) }

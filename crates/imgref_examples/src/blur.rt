@@ -34,7 +34,7 @@ fn mean_around(src: ImgRef<'_, u8>, x: usize, y: usize) -> u8
 }
 
 /// Writes the mean of each interior pixel's three by three neighbours to `dst`, rounded down. The
-/// pixels on the edges of `dst` stay, and its padding.
+/// pixels on the edges of `dst` and its padding stay.
 #[tactic(auto, using(crate::proofs::Blurred::blurs))]
 pub fn box_blur_3x3(src: ImgRef<'_, u8>, dst: &mut ImgVec<u8>)
     requires src_fits { Fits (ref_layout src) }

@@ -1,4 +1,4 @@
-//! Every pixel brighter: by lent rows, by places and row by row.
+//! Every pixel brighter: by borrowed rows, by places and row by row.
 
 ghost use Rattle.std.specs.Prelude.{◌≡◌, ◌<◌, map, length};
 ghost use Rattle.imgref.specs.Words.{Fits, SameOutside, patch, one_row, row, width_of, height_of, vec_grid, vec_layout};
@@ -6,8 +6,8 @@ ghost use Rattle.imgref_examples.specs.Brightness.{brighter, brightened};
 
 use imgref::ImgVec;
 
-/// Adds `by` to every pixel, up to 255. Of the pixels nothing is known afterwards, since the rows
-/// are lent one by one; the size and the fit stay.
+/// Adds `by` to every pixel, up to 255. Nothing is known of the pixels afterwards, since the rows
+/// are borrowed one by one; the size and the fit stay.
 pub fn brighten(image: &mut ImgVec<u8>, by: u8)
     requires { Fits (vec_layout image.old) }
     ensures width { width_of image.new ≡ width_of image.old }
@@ -21,7 +21,7 @@ pub fn brighten(image: &mut ImgVec<u8>, by: u8)
     }
 }
 
-/// The same place by place: every pixel is brighter, and the padding stays.
+/// The same, place by place: every pixel is brighter, and the padding stays.
 pub fn brighten_places(image: &mut ImgVec<u8>, by: u8)
     requires { Fits (vec_layout image.old) }
     ensures grid { vec_grid image.new ≡ brightened by (vec_grid image.old) }
@@ -57,7 +57,7 @@ fn brighten_line(image: &mut ImgVec<u8>, y: usize, by: u8)
     brighten_row(image.row_mut(y), by);
 }
 
-/// The same row by row: every pixel is brighter, and the padding stays.
+/// The same, row by row: every pixel is brighter, and the padding stays.
 #[tactic(auto, using(image_model::proofs::MappedRows::mapped_rows))]
 pub fn brighten_rows(image: &mut ImgVec<u8>, by: u8)
     requires fits { Fits (vec_layout image.old) }

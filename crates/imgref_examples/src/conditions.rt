@@ -1,6 +1,6 @@
-//! Calls that just meet their condition. One row, column or cell further, or without the test, each
-//! of these is refused when this crate is checked, as the edits of `must-fail/` show. So none of
-//! these has a clause on its answer: nothing but the condition of the call can refuse them.
+//! Calls that just meet their condition. With one row, column or cell more, or without the test,
+//! the check of this crate refuses each of them, as the edits of `must-fail/` show. None of these
+//! functions has a clause about its result, so only the condition of the call can refuse it.
 
 ghost use Rattle.std.specs.Prelude.{◌≡◌, ◌≤◌, length};
 
@@ -22,7 +22,7 @@ pub fn clear_start_of_last_row(cells: &mut [u8])
     image.row_mut(1)[0] = 0;
 }
 
-/// The lower two rows of three change places.
+/// The lower two rows of three are exchanged.
 pub fn exchange_last_rows(cells: &mut [u8])
     requires { 6 ≤ length cells.old }
 {
@@ -38,7 +38,8 @@ pub fn last_cell(cells: &[u8]) -> u8
     image[(1u32, 0u32)]
 }
 
-/// A cell of the last column, which is padding, by its place: the cell behind it is there too.
+/// A cell of the last column, which is padding, by its place: the cell after it is in the buffer
+/// too.
 pub fn padding_of_first_row(cells: &[u8]) -> u8
     requires { length cells.now ≡ 4 }
 {
@@ -46,7 +47,7 @@ pub fn padding_of_first_row(cells: &[u8]) -> u8
     image[(1usize, 0usize)]
 }
 
-/// The first pixel of the lower row of two, further on than any `u32`.
+/// The first pixel of the lower row of two, at a cell number above every `u32`.
 pub fn second_row_far_behind(cells: &[u8]) -> u8
     requires { length cells.now ≡ 4294967297 }
 {
@@ -54,7 +55,7 @@ pub fn second_row_far_behind(cells: &[u8]) -> u8
     image[(0u32, 1u32)]
 }
 
-/// How many cells the window of the last two columns has.
+/// The number of cells of the window of the last two columns.
 pub fn cells_of_last_columns(cells: &[u8]) -> usize
     requires { 6 ≤ length cells.now }
 {
@@ -62,7 +63,7 @@ pub fn cells_of_last_columns(cells: &[u8]) -> usize
     image.sub_image(1, 0, 2, 2).buf().len()
 }
 
-/// How many pixels an image has that may not fit: none then.
+/// The number of pixels of an image, or 0 where it doesn't fit.
 pub fn pixels_if_it_fits(image: ImgRef<'_, u8>) -> usize {
     if image.is_valid() {
         image.pixels().count()
@@ -71,7 +72,7 @@ pub fn pixels_if_it_fits(image: ImgRef<'_, u8>) -> usize {
     }
 }
 
-/// Halves every pixel of an image that may not fit: none then.
+/// Halves every pixel of an image where it fits, and otherwise does nothing.
 pub fn halve_if_it_fits(image: &mut ImgRefMut<'_, u8>) {
     if !image.is_valid() {
         return;
@@ -79,22 +80,22 @@ pub fn halve_if_it_fits(image: &mut ImgRefMut<'_, u8>) {
     image.map_pixels(|p| p / 2);
 }
 
-/// An image of no height, of the least width that needs no stride of its own.
+/// An image of height 0, with the least width that needs no stride of its own.
 pub fn narrowest(cells: &[u8]) -> ImgRef<'_, u8> {
     Img::new(cells, 1, 0)
 }
 
-/// An image of no height, of the greatest width.
+/// An image of height 0, with the greatest width.
 pub fn widest(cells: &[u8]) -> ImgRef<'_, u8> {
     Img::new(cells, 4294967295, 0)
 }
 
-/// An image of the greatest height.
+/// An image with the greatest height.
 pub fn highest(cells: &[u8]) -> ImgRef<'_, u8> {
     Img::new(cells, 1, 4294967295)
 }
 
-/// Two other cells in the place of an image's two.
+/// Two other cells in place of the two cells of an image.
 pub fn over_other_cells<'a>(first: &[u8], second: &'a [u8]) -> ImgRef<'a, u8>
     requires cells { length first.now ≡ 2 }
     requires others { length second.now ≡ 2 }

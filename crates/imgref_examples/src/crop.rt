@@ -1,4 +1,4 @@
-//! The pixels of a window, copied: as an image of their own, or as a list.
+//! Copies of the pixels of a window: as an image of their own, or as a list.
 
 ghost use Rattle.std.specs.Prelude.{◌≡◌, ◌↔◌, ◌*◌, max, length, IsSome, IfOk, IfSome};
 ghost use Rattle.imgref.specs.Words.{Fits, IsInside, grid_pixels, as_window, window_view, width_of, height_of, stride_of, ref_grid, ref_layout, vec_grid, vec_layout};

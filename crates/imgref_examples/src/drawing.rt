@@ -1,4 +1,4 @@
-//! Writes at places, one after the other: what the image shows afterwards is one patch on another.
+//! Writes at places, one after the other: the grid afterwards is one patch on another.
 
 ghost use Rattle.std.specs.Prelude.{◌≡◌, ◌<◌, ◌≤◌, Some};
 ghost use Rattle.image_model.specs.Grid.{patch, uniform};
@@ -9,7 +9,7 @@ ghost use Rattle.imgref_examples.specs.Drawing.{DrawsThree};
 
 use imgref::{ImgRefMut, ImgVec};
 
-/// One pixel of a lent image.
+/// Writes one pixel of a borrowed image.
 pub fn dot(image: &mut ImgRefMut<'_, u8>, x: usize, y: usize)
     requires fits { Fits (mut_layout image.old) }
     requires column { x < width_of image.old }
@@ -20,7 +20,7 @@ pub fn dot(image: &mut ImgRefMut<'_, u8>, x: usize, y: usize)
     image.put(x, y, 7);
 }
 
-/// Two pixels and a part of the second row.
+/// Writes two pixels and a part of the second row.
 pub fn three_places(image: &mut ImgVec<u8>, value: u8)
     requires fits { Fits (vec_layout image.old) }
     requires wide { 3 ≤ width_of image.old }
@@ -32,7 +32,7 @@ pub fn three_places(image: &mut ImgVec<u8>, value: u8)
     image.fill_window(1, 1, 2, 1, value);
 }
 
-/// The same by index.
+/// The same, by index.
 pub fn three_by_index(image: &mut ImgVec<u8>, value: u8)
     requires fits { Fits (vec_layout image.old) }
     requires wide { 3 ≤ width_of image.old }
@@ -44,7 +44,7 @@ pub fn three_by_index(image: &mut ImgVec<u8>, value: u8)
     image.fill_window(1, 1, 2, 1, value);
 }
 
-/// Each row in turn: its pixels become 0 or 1.
+/// Each row, one after the other: its pixels become 0 or 1.
 pub fn stripes(image: &mut ImgVec<u8>)
     requires { Fits (vec_layout image.old) }
     ensures grid { vec_grid image.new ≡ striped (width_of image.old) (height_of image.old) }
@@ -55,7 +55,7 @@ pub fn stripes(image: &mut ImgVec<u8>)
     }
 }
 
-/// What was put is what is got, and nothing else has changed.
+/// The result is the pixel that was put, and nothing else has changed.
 #[tactic(auto, using(image_model::proofs::Patches::patches))]
 pub fn put_then_get(image: &mut ImgVec<u8>, x: usize, y: usize, value: u8) -> Option<u8>
     requires fits { Fits (vec_layout image.old) }

@@ -1,9 +1,10 @@
-//! Frames of video: what a user of `imgref` writes, with contracts by the grid. Sums, brightness,
-//! crops, blurs, rectangles, luma planes, and drawings by places. docs/CALLERS.md explains them.
+//! Frames of video: code as a user of `imgref` writes it, with contracts by the grid. Sums,
+//! brightness, crops, blurs, rectangles, luma planes, and drawings by places. docs/CALLERS.md
+//! explains them.
 //!
-//! Beside them stand callers that show what a contract says from outside: writes through nested
-//! windows, copies and moves of windows, rows that are filled by their number or through an iterator
-//! that ends early, pixels that are written through a cursor, and calls that just meet a condition.
+//! Other callers show what a contract says to another crate: writes through nested windows, copies
+//! and moves of windows, rows that are filled by their number or through an iterator that ends
+//! early, pixels that are written through a cursor, and calls that just meet a condition.
 #![tactic(auto)]
 
 mod beside;

@@ -9,7 +9,7 @@ use imgref::ImgVec;
 use std::error::Error;
 use std::fmt;
 
-/// Why a frame is no plane.
+/// Why there is no luma plane.
 #[derive(Clone, Copy, Debug, PartialEq, Eq)]
 pub enum FrameError {
     /// A width or a height past `u32::MAX`.

@@ -1,4 +1,4 @@
-//! The greatest pixel of a window in a window.
+//! The greatest pixel of a window of a window.
 
 ghost use Rattle.std.specs.Prelude.{◌≡◌, max};
 ghost use Rattle.std.specs.List.{reduce};

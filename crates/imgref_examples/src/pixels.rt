@@ -1,4 +1,4 @@
-//! Pixels that are written through the cursor of an image.
+//! Writes of pixels through the cursor of an image.
 
 ghost use Rattle.std.specs.Prelude.{◌≡◌};
 ghost use Rattle.std.specs.Borrow.{sem};
@@ -10,7 +10,7 @@ ghost use Rattle.imgref_examples.specs.Pixels.{with_first, first_covered, writes
 use image_pixels::PixelsIterMut;
 use imgref::{AsMutSlice, Img, ImgRefMut, ImgVec};
 
-/// Every pixel becomes 255 less what it was. The image keeps its size and its stride, and fits.
+/// Every pixel `p` becomes `255 - p`. The image keeps its size and its stride, and fits.
 pub fn invert_owner(image: &mut ImgVec<u8>)
     requires fits { Fits (vec_layout image.old) }
     ensures shape { shape_of image.new ≡ shape_of image.old }
@@ -21,7 +21,7 @@ pub fn invert_owner(image: &mut ImgVec<u8>)
     }
 }
 
-/// The same of a lent image.
+/// The same for a borrowed image.
 pub fn invert_lent(image: &mut ImgRefMut<'_, u8>)
     requires fits { Fits (mut_layout image.old) }
     ensures shape { shape_of image.new ≡ shape_of image.old }
@@ -58,9 +58,9 @@ where
     write_next(&mut pixels, count, value);
 }
 
-/// The first `count` pixels become `value`, row by row and from left to right, through a cursor that
-/// is dropped then; every other cell stays. Where the image has fewer pixels, all become `value`. The
-/// image must fit, as `is_valid` tells.
+/// The first `count` pixels become `value`, row by row and from left to right, through a cursor
+/// that is then dropped; every other cell stays. Where the image has fewer pixels, all become
+/// `value`. The image must fit (`is_valid`).
 pub fn write_first<'a, C: AsMutSlice>(image: &'a mut Img<C>, count: usize, value: C::Item)
 where
     C::Item: Copy + 'a,

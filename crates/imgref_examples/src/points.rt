@@ -1,4 +1,4 @@
-//! Filters that change each pixel by itself.
+//! Filters that change each pixel independently.
 
 ghost use Rattle.std.specs.Prelude.{◌≡◌, ◌-◌, nat_lt, if◌then◌else◌};
 ghost use Rattle.imgref.specs.Words.{Fits, SameOutside, mapped, vec_grid, vec_layout};

@@ -5,7 +5,7 @@ ghost use Rattle.imgref.specs.Words.{Fits, SameOutside, patch, uniform, vec_grid
 
 use imgref::ImgVec;
 
-/// Writes `value` at each place of the rectangle that lies in the image.
+/// Writes `value` at each place of the rectangle that is in the image.
 #[tactic(auto, using(image_model::proofs::Patches::patches))]
 pub fn draw_rect(image: &mut ImgVec<u8>, x: usize, y: usize, width: usize, height: usize, value: u8)
     requires { Fits (vec_layout image.old) }

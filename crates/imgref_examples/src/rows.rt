@@ -1,4 +1,4 @@
-//! Rows that are filled: by their number, and through an iterator that ends early.
+//! Fills of rows: by their number, and through an iterator that ends early.
 
 ghost use Rattle.std.specs.Prelude.{◌≡◌, ◌-◌, ◌<◌, length, replicate};
 ghost use Rattle.image_model.specs.Layout.{Fits, SameOutside};
@@ -18,8 +18,8 @@ fn fill_row<T: Copy>(row: &mut [T], value: T)
     }
 }
 
-/// Every pixel of row `y` becomes `value`, and every other cell stays. The image must fit, as
-/// `is_valid` tells.
+/// Every pixel of row `y` becomes `value`, and every other cell stays. The image must fit
+/// (`is_valid`).
 #[tactic(auto, using(image_model::proofs::OneRow::one_row_of_one))]
 pub fn fill_row_at<'a, C: AsMutSlice>(image: &'a mut Img<C>, y: usize, value: C::Item)
 where
@@ -49,8 +49,8 @@ where
 }
 
 /// Every pixel of the last row becomes `value`, through an iterator that is dropped after one row;
-/// every other cell stays. An image of height or width 0 stays as it is. The image must fit, as
-/// `is_valid` tells.
+/// every other cell stays. An image of height or width 0 stays as it is. The image must fit
+/// (`is_valid`).
 pub fn fill_last_row<'a, C: AsMutSlice>(image: &'a mut Img<C>, value: C::Item)
 where
     C::Item: Copy + 'a,

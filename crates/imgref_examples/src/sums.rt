@@ -5,7 +5,7 @@ ghost use Rattle.imgref.specs.Words.{Fits, grid_pixels, width_of, height_of, ref
 
 use imgref::ImgRef;
 
-/// The sum of the pixels, modulo 2 to the 64; the padding isn't counted.
+/// The sum of the pixels, modulo 2^64; the padding isn't counted.
 pub fn checksum(image: ImgRef<'_, u8>) -> u64
     requires { Fits (ref_layout image) }
     ensures { result ≡ sum (grid_pixels (ref_grid image.entry)) % 2 ^ 64 }
@@ -28,7 +28,7 @@ fn with_row(before: u64, row: &[u8]) -> u64
     sum
 }
 
-/// The same sum row by row, which is faster on wide rows: a row is a slice.
+/// The same sum, row by row. This is faster on wide rows, since a row is a slice.
 pub fn checksum_by_rows(image: ImgRef<'_, u8>) -> u64
     requires { Fits (ref_layout image) }
     ensures { result ≡ sum (grid_pixels (ref_grid image.entry)) % 2 ^ 64 }
@@ -40,7 +40,7 @@ pub fn checksum_by_rows(image: ImgRef<'_, u8>) -> u64
     sum
 }
 
-/// The sum of the pixels of an image that isn't too large for it.
+/// The exact sum of the pixels, for an image that isn't too large.
 pub fn exact_checksum(image: ImgRef<'_, u8>) -> u64
     requires fits { Fits (ref_layout image) }
     requires small { width_of image * height_of image < 2 ^ 56 }

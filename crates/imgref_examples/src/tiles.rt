@@ -7,8 +7,8 @@ ghost use Rattle.imgref_examples.specs.Darkened.{darkened};
 use image_tiles::{TilesMut, Tiling};
 use imgref::{ImgVec, Window};
 
-/// Fills each tile of 8 by 8 with the pixel at its corner where that is below 128. Of the pixels nothing
-/// is known afterwards, since the tiles are lent one by one.
+/// Fills each tile of 8 by 8 with the pixel at its corner where that is below 128. Nothing is known
+/// of the pixels afterwards, since the tiles are borrowed one by one.
 pub fn darken_lent_tiles(image: &mut ImgVec<u8>)
     requires { Fits (vec_layout image.old) }
 {
@@ -41,7 +41,7 @@ fn darken(image: &mut ImgVec<u8>, window: Window)
     }
 }
 
-/// The same, tile after tile by the numbers of its window.
+/// The same, tile after tile, by the numbers of each window.
 #[tactic(auto, using(image_model::proofs::Tiles::all_inside))]
 pub fn darken_tiles(image: &mut ImgVec<u8>)
     requires { Fits (vec_layout image.old) }

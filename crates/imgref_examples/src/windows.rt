@@ -1,5 +1,5 @@
-//! Writes through nested windows: each changes the image's pixel at the summed place and nothing
-//! else.
+//! Writes through nested windows: each changes only the image's pixel at the sum of the windows'
+//! corners and the place.
 
 ghost use Rattle.std.specs.Prelude.{◌≡◌, ◌+◌, ◌<◌};
 ghost use Rattle.image_model.specs.Layout.{Fits, SameOutside};
@@ -11,7 +11,7 @@ ghost use Rattle.imgref.specs.Image.{width_of, height_of, grid_by, layout_by, On
 
 use imgref::{AsMutSlice, Img, ImgRefMut, Shape, Window};
 
-/// Writes one pixel of the image that these cells are. They must fit, as `Shape::fits` tells.
+/// Writes one pixel of the image that these cells make. They must fit; `Shape::fits` tests it.
 pub fn put_pixel<T: Copy>(cells: &mut [T], shape: Shape, x: usize, y: usize, value: T)
     requires fits { Fits (shaped cells.old shape) }
     requires column { x < shape_width shape }
@@ -24,7 +24,7 @@ pub fn put_pixel<T: Copy>(cells: &mut [T], shape: Shape, x: usize, y: usize, val
     image[(x, y)] = value;
 }
 
-/// Writes one pixel of a window of the image that these cells are.
+/// Writes one pixel of a window of the image that these cells make.
 #[tactic(auto, using(image_model::proofs::Patches::fill_in_view))]
 fn put_inside<T: Copy>(cells: &mut [T], shape: Shape, window: Window, x: usize, y: usize, value: T)
     requires fits { Fits (shaped cells.old shape) }
@@ -40,7 +40,8 @@ fn put_inside<T: Copy>(cells: &mut [T], shape: Shape, window: Window, x: usize, 
     put_pixel(inner, shape, x, y, value);
 }
 
-/// A pixel of a window of a window: its column and row in the second one, which lies in the first.
+/// A pixel of a window of a window: its column and row in the second one, which is inside the
+/// first.
 #[derive(Clone, Copy)]
 pub struct NestedPlace {
     /// The window of the image.
@@ -53,7 +54,7 @@ pub struct NestedPlace {
     pub y: usize,
 }
 
-/// Writes one pixel of a window of a window of an image. The image must fit, as `is_valid` tells.
+/// Writes one pixel of a window of a window of an image. The image must fit (`is_valid`).
 #[tactic(auto, using(image_model::proofs::Patches::fill_in_view))]
 pub fn put_nested<'a, C: AsMutSlice>(image: &'a mut Img<C>, place: NestedPlace, value: C::Item)
 where
@@ -75,7 +76,7 @@ where
     put_inside(cells, shape, place.second, place.x, place.y, value);
 }
 
-/// The same of the image that these cells are.
+/// The same for the image that these cells make.
 pub fn put_in_cells<T: Copy>(cells: &mut [T], shape: Shape, place: NestedPlace, value: T)
     requires fits { Fits (shaped cells.old shape) }
     requires first_inside { IsInside (shape_width shape) (shape_height shape)

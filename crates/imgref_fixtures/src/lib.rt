@@ -1,4 +1,4 @@
-//! Cells that the tests of several crates begin with, and calls through one bound.
+//! Cells with which the tests of several crates begin, and calls through one bound.
 #![tactic(auto)]
 
 ghost use Rattle.std.specs.Prelude.{IfOk};
@@ -13,7 +13,7 @@ use std::hash::{DefaultHasher, Hash, Hasher};
 use std::iter::{ExactSizeIterator, FusedIterator};
 pub use windows::{are_cleared, are_filled, numbered, numbers_of, place_in};
 
-// Three by two with one cell of padding after each row, and one behind them.
+// Three by two with one cell of padding after each row, and one more after them.
 pub const PADDED: [u8; 9] = [1, 2, 3, 4, 5, 6, 7, 8, 9];
 
 // Three by three with one cell of padding between two rows.

@@ -1,4 +1,4 @@
-//! The windows of small images, and what is left of the nine cells where one is written.
+//! The windows of small images, and the nine cells after one window is written.
 
 use crate::PADDED;
 use imgref::Window;

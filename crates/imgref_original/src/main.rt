@@ -1,14 +1,16 @@
-//! The port asked what the Rust crate `imgref` 1.12.3 was asked: `stdout` of this crate's folder has
-//! the crate's answers, which this program must print too.
+//! Runs the port on the cases on which the Rust crate `imgref` 1.12.3 was run: `stdout` in this
+//! folder has the results of the crate, and this program must print the same.
 //!
-//! `original/answers.rs` wrote them: built over the crate's own sources (feature `deprecated`) with
-//! rustc 1.95, with and without debug assertions, which gave the same lines. To make them again: a
-//! new cargo project over the crate with that file as its `src/main.rs`, and `cargo run`.
+//! `original/answers.rs` wrote them. It was built over the crate's own sources (feature
+//! `deprecated`) with rustc 1.95, with and without debug assertions, which gave the same lines. To
+//! make them again, make a new cargo project over the crate with that file as its `src/main.rs`,
+//! and use `cargo run`.
 //!
 //! Each image holds the cells 1, 2, 3 and so on. Its line has the number of cells, the width, the
 //! height and the stride. A `/` ends a row. The line of a window has left, top, width and height;
 //! the first cell and the length of its buffer by `sub_image`, by `sub_image_mut` of an owner and
-//! of a lent image, and by `into_sub_image_mut`; and its pixels. What isn't valid has no line.
+//! of a lent image, and by `into_sub_image_mut`; and its pixels. An image or a window that isn't
+//! valid has no line.
 #![tactic(auto)]
 
 ghost use Rattle.image_model.specs.Layout.{Fits};
@@ -250,7 +252,7 @@ fn write_answers(alloc: Global, text: &mut String) -> Result<(), AllocError> {
     writeln!(text)
 }
 
-/// Prints the port's answers.
+/// Prints the results of the port.
 fn main(rt: HostRuntime) -> ExitCode {
     let mut text = String::new(rt.alloc());
     let is_written = write_answers(rt.alloc(), &mut text).is_ok();

@@ -1,4 +1,4 @@
--- What each command means on grids: it speaks of places alone, and of no cell, stride or padding.
+-- What each command means on grids: only places occur in it, and no cell, stride or padding.
 use Rattle.std.specs.Prelude.{◌≡◌, ◌<◌, ℕ, ◌+◌, Bool, not, ◌&&◌, ◌||◌, ◌==◌, nat_le, Option, Some, None, List, [], ◌∷◌, ◌++◌, length, map, All, Vec, slice_set, slice_index_or, is_some, count_by}
 use Rattle.std.specs.List.{flat_map}
 use Rattle.std.specs.Option.{option_map_or}
@@ -33,15 +33,15 @@ AllFit images = All Fits (layouts_of images)
 abbrev pub grids_of : {T Z : Type 0} → List (Img (Vec T Z)) → List (Grid T)
 grids_of images = map grid_of (layouts_of images)
 
--- grid i of a list, and where there is none the grid with no place
+-- grid i of a list, or the grid with no place where there is no such grid
 abbrev pub grid_at : {T : Type 0} → List (Grid T) → ℕ → Grid T
 grid_at grids i = slice_index_or grids i (grid 0 0 (λ _ _. None))
 
--- a window lies inside image i
+-- a window is inside image i
 abbrev pub IsInsideOf : {T Z : Type 0} → List (Img (Vec T Z)) → ℕ → Window → Type 0
 IsInsideOf images i w = let g = grid_at (grids_of images) i in IsInside g.width g.height w
 
--- how many images there are, and the size of each by its number
+-- the number of images, and the size of each by its number
 pub record Sizes : Type 0 where
   pub count : ℕ
   pub width : ℕ → ℕ
@@ -51,15 +51,15 @@ pub record Sizes : Type 0 where
 abbrev pub sizes_of : {T : Type 0} → List (Grid T) → Sizes
 sizes_of grids = record { count = length grids; width = λ i. (grid_at grids i).width; height = λ i. (grid_at grids i).height }
 
--- the one window that the path of a place comes to
+-- the window that the path of a place leads to
 abbrev pub window_named : Place → Sizes → Window
 window_named spot sizes = path_window (sizes.width spot.image) (sizes.height spot.image) (as_path spot.path.items)
 
--- what is seen through that window
+-- the view through that window
 abbrev pub view_named : {T : Type 0} → Place → List (Grid T) → Grid T
 view_named spot grids = window_view (grid_at grids spot.image) (window_named spot (sizes_of grids))
 
--- column x of row y of that window is a place of it, and this column and row of the image
+-- column x of row y of that window is a place of it, and is this column and row of the image
 pub record IsPlaceNamed {T : Type 0} (spot : Place) (x y : ℕ) (grids : List (Grid T)) (column row : ℕ) : Type 0 where
   pub column_is : column ≡ (window_named spot (sizes_of grids)).left + x
   pub row_is : row ≡ (window_named spot (sizes_of grids)).top + y
@@ -78,7 +78,7 @@ lacks_image image sizes = nat_le sizes.count image
 abbrev pub leaves_image : Place → Sizes → Bool
 leaves_image spot sizes = is_some (first_outside (sizes.width spot.image) (sizes.height spot.image) (as_path spot.path.items))
 
--- column x of row y is no place of the window
+-- column x of row y isn't a place of the window
 abbrev pub misses_window : Place → ℕ → ℕ → Sizes → Bool
 misses_window spot x y sizes = let w = window_named spot sizes in not (is_place w.width w.height x y)
 
@@ -107,15 +107,15 @@ abbrev pub pair_faults : Place → Place → Sizes → List (Bool × Refusal)
 pair_faults first second sizes =
     (lacks_image first.image sizes, NoImage) ∷ (lacks_image second.image sizes, NoImage) ∷ (leaves_image first sizes, WindowOutside) ∷ (leaves_image second sizes, WindowOutside) ∷ []
 
--- of two windows that are to have one size: those of the windows, and then their sizes
+-- of two windows that must have the same size: those of the windows, and then their sizes
 abbrev pub copy_faults : Place → Place → Sizes → List (Bool × Refusal)
 copy_faults source target sizes = pair_faults source target sizes ++ (differ_in_size source target sizes, SizesDiffer) ∷ []
 
--- of a window that is to have tiles: those of the window, and then the tile
+-- of a window that is cut into tiles: those of the window, and then the tile
 abbrev pub tile_faults : Place → ℕ → ℕ → Sizes → List (Bool × Refusal)
 tile_faults spot tile_width tile_height sizes = window_faults spot sizes ++ (lacks_tile tile_width tile_height, NoTile) ∷ []
 
--- ---- pixels that a command speaks of
+-- ---- pixels that a command names
 
 -- a pixel that the command was given, or the old one in column x of row y of a window
 pub data Source (T : Type 0) : Type 0 where
@@ -127,7 +127,7 @@ abbrev pub pixel_from : {T : Type 0} → Source T → List (Grid T) → Option T
 pixel_from (given value) grids = Some value
 pixel_from (old spot x y) grids = (view_named spot grids).pixel x y
 
--- all that a reply may depend on: the sizes, and which pixels are equal
+-- everything that a reply may depend on: the sizes, and which pixels are equal
 pub record Scene (T : Type 0) : Type 0 where
   pub sizes : Sizes
   pub are_equal : Source T → Source T → Bool
@@ -136,24 +136,24 @@ pub record Scene (T : Type 0) : Type 0 where
 abbrev pub scene_of : {T : Type 0} → (T → T → Bool) → List (Grid T) → Scene T
 scene_of eq grids = record { sizes = sizes_of grids; are_equal = λ a b. are_alike_pixels eq (pixel_from a grids) (pixel_from b grids) }
 
--- how many places of a size pass a test
+-- the number of places of a size that pass a test
 abbrev pub count_places : ℕ → ℕ → (ℕ → ℕ → Bool) → ℕ
 count_places width height test = count_by (λ passes. passes) (flat_map (λ row. row) (table_rows (λ x y. Some (test x y)) width height))
 
--- how many pixels of a window are equal to a value
+-- the number of pixels of a window that are equal to a value
 abbrev pub count_equal : {T : Type 0} → Place → T → Scene T → ℕ
 count_equal spot value scene = let w = window_named spot scene.sizes in count_places w.width w.height (λ x y. scene.are_equal (old spot x y) (given value))
 
--- whether two windows have one size, and equal pixels at each place
+-- whether two windows have the same size, and equal pixels at each place
 abbrev pub are_same : {T : Type 0} → Place → Place → Scene T → Bool
 are_same first second scene =
     let v = window_named first scene.sizes in
     let w = window_named second scene.sizes in
     agree_at_places v.width w.width v.height w.height (λ x y. scene.are_equal (old first x y) (old second x y))
 
--- ---- what is answered and what is written
+-- ---- what a command replies and what it writes
 
--- a reply that holds a pixel, or one that holds none
+-- a reply with a pixel, or one without
 pub data Answer (T : Type 0) : Type 0 where
   shown : Source T → Answer T
   told : Reply T → Answer T
@@ -190,22 +190,22 @@ changed change grids =
 
 -- ---- meanings
 
--- what a command means: its faults in the order of their tests, and where it has none what it answers and what it writes; and the image that it compacts
+-- what a command means: its faults in the order of their tests; what it replies and what it writes where there is no fault; and the image that it compacts
 pub record Meaning (T : Type 0) : Type 0 where
   pub faults : Sizes → List (Bool × Refusal)
   pub answer : Scene T → Answer T
   pub change : Sizes → Option (Change T)
   pub compacted : Option ℕ
 
--- a command that asks: the grids stay
+-- a command that asks a question: the grids stay
 abbrev pub asks : {T : Type 0} → (Sizes → List (Bool × Refusal)) → (Scene T → Answer T) → Meaning T
 asks faults answer = record { faults = faults; answer = answer; change = λ _. None; compacted = None }
 
--- a command that writes an area: it is done
+-- a command that writes an area: the reply is `Done`
 abbrev pub writes : {T : Type 0} → (Sizes → List (Bool × Refusal)) → (Sizes → Area) → (ℕ → ℕ → Source T) → Meaning T
 writes faults area pixel = record { faults = faults; answer = λ _. told Done; change = λ sizes. Some (record { area = area sizes; pixel = pixel }); compacted = None }
 
--- a command that compacts an image: it is done, and no grid changes
+-- a command that compacts an image: the reply is `Done`, and no grid changes
 abbrev pub packs : {T : Type 0} → ℕ → Meaning T
 packs image = record { faults = image_faults image; answer = λ _. told Done; change = λ _. None; compacted = Some image }
 

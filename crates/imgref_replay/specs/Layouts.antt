@@ -1,4 +1,4 @@
--- Two lists of images with the same grids, and the replies that they give.
+-- Two lists of images with the same grids, and the replies of commands over them.
 use Rattle.std.specs.Prelude.{◌≡◌, Bool, IsTrue, List}
 use Rattle.std.specs.List.{AllZip}
 use Rattle.image_model.specs.Grid.{Grid, Agree}
@@ -9,7 +9,7 @@ use Rattle.imgref_replay.specs.declared.commands.Reply.TheVariants.{Pixel}
 abbrev pub GridsAgree : {T : Type 0} → (T → T → Bool) → List (Grid T) → List (Grid T) → Type 0
 GridsAgree eq gs hs = AllZip (Agree eq) gs hs
 
--- the same reply: a pixel by the pixel's own equality
+-- the same reply: pixels are compared by their own equality
 abbrev pub AlikeReply : {T : Type 0} → (T → T → Bool) → Reply T → Reply T → Type 0
 AlikeReply eq (Pixel a) (Pixel b) = IsTrue (eq a b)
 AlikeReply eq r q = r ≡ q

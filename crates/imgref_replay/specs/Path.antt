@@ -11,18 +11,18 @@ use Rattle.imgref.specs.Image.{buf_of}
 use Rattle.imgref.specs.Shape.{shape_width, shape_height, shape_stride}
 use Rattle.imgref.specs.Window.{as_stretch}
 
--- in so many cells of a shape a path leads to these cells and this shape: each window in turn takes its own
+-- in so many cells of a shape a path leads to these cells and this shape: each window, one after the other, takes its own
 pub record LeadsTo (count : ℕ) (shape : Shape) (path : List Window) (stretch : Stretch) (inner : Shape) : Type 0 where
   pub cells : as_stretch stretch ≡ path_stretch (shape_stride shape) (record { start = 0; len = count }) path
   pub width : shape_width inner ≡ path_width (shape_width shape) path
   pub height : shape_height inner ≡ path_height (shape_height shape) path
   pub stride : shape_stride inner ≡ shape_stride shape
 
--- where a path's window has a place, its cells begin at the summed corner
+-- where a path's window has a place, its cells begin at the sum of the corners
 abbrev pub BeginsAtCorner : {T : Type 0} → Layout T → List Window → Type 0
 BeginsAtCorner l path = 0 < path_width l.width path → 0 < path_height l.height path → (path_stretch l.stride (whole l.cells) path).start ≡ l.stride * corner_top path + corner_left path
 
--- the name under which the cells of the answered image are lent
+-- the name under which the cells of the returned image are lent
 abbrev pub window_name : {T : Type 0} → Result (Img (MutBor (List T))) ℕ → maybe.Option GName
 window_name (Ok i) = maybe.some (buf_of i).ghost_name
 window_name (Err n) = maybe.none

@@ -1,4 +1,4 @@
--- Whether what stands at the places of two sizes agrees, as a test.
+-- Whether the contents of the places of two sizes agree, as a test.
 use Rattle.std.specs.Prelude.{ℕ, Bool, true, false, ◌&&◌, ◌==◌, Option, Some, None}
 use Rattle.std.specs.List.{list_all, range_with_len}
 
@@ -12,6 +12,6 @@ are_alike_pixels eq None None = true
 are_alike_pixels eq (Some a) (Some b) = eq a b
 are_alike_pixels eq _ _ = false
 
--- one width, one height, and a test holds at each place of that size
+-- the same width and height, and a test holds at each place of that size
 abbrev pub agree_at_places : ℕ → ℕ → ℕ → ℕ → (ℕ → ℕ → Bool) → Bool
 agree_at_places v w m n test = (v == w) && ((m == n) && at_each_place v m test)

@@ -1,4 +1,4 @@
--- One command: its reply, what it makes of the grids, and what it leaves of the images.
+-- One command: its reply, the grids after it, and the images after it.
 use Rattle.std.specs.Prelude.{◌≡◌, ℕ, ◌==◌, Bool, false, if◌then◌else◌, Option, Some, None, List, [], ◌∷◌, map, slice_get, slice_set, All, Result, IfOk}
 use Rattle.std.specs.Option.{option_map_or}
 use Rattle.std.specs.Result.{result_err}
@@ -21,7 +21,7 @@ first_fault (test ∷ tests) = if test.0 then Some test.1 else first_fault tests
 abbrev pub fault_of : {T : Type 0} → Command T → List (Grid T) → Option Refusal
 fault_of command grids = first_fault ((meaning command).faults (sizes_of grids))
 
--- what a command answers that has no fault
+-- the reply to a command that has no fault
 abbrev pub answer_to : {T : Type 0} → (T → T → Bool) → Command T → List (Grid T) → Reply T
 answer_to eq command grids = reply_of ((meaning command).answer (scene_of eq grids)) grids
 
@@ -29,7 +29,7 @@ answer_to eq command grids = reply_of ((meaning command).answer (scene_of eq gri
 abbrev pub effect_of : {T : Type 0} → Command T → List (Grid T) → List (Grid T)
 effect_of command grids = option_map_or (λ change. changed change grids) ((meaning command).change (sizes_of grids)) grids
 
--- the reply to a command: its first fault, or its answer
+-- the reply to a command: its first fault, or what it replies without one
 abbrev pub reply_to : {T : Type 0} → (T → T → Bool) → Command T → List (Grid T) → Reply T
 reply_to eq command grids = option_map_or (λ refusal. Refused refusal) (fault_of command grids) (answer_to eq command grids)
 
@@ -37,15 +37,15 @@ reply_to eq command grids = option_map_or (λ refusal. Refused refusal) (fault_o
 abbrev pub after : {T : Type 0} → Command T → List (Grid T) → List (Grid T)
 after command grids = option_map_or (λ _. grids) (fault_of command grids) (effect_of command grids)
 
--- whether a command compacts image i, where there is one: a command that is refused names no image
+-- whether a command compacts image i, where there is such an image: a command that is refused compacts no image
 abbrev pub compacts : {T : Type 0} → ℕ → Command T → Bool
 compacts i command = option_map_or (λ image. image == i) ((meaning command).compacted) false
 
--- each image keeps its outside where it isn't compacted, and else is packed
+-- each image keeps its outside where it isn't compacted, and otherwise is packed
 abbrev pub AllKept : {T : Type 0} → (ℕ → Bool) → List (Layout T) → List (Layout T) → Type 0
 AllKept {T} compacted olds news = (i : ℕ) (old new : Layout T) → slice_get olds i ≡ Some old → slice_get news i ≡ Some new → IsKept (compacted i) old new
 
--- windows of one size, each inside an image that fits
+-- windows of the same size, each inside an image that fits
 pub record MayCopy {T : Type 0} (target : Layout T) (to : Window) (source : Layout T) (from : Window) : Type 0 where
   pub fits : Fits target
   pub inside : IsInside target.width target.height to
@@ -54,7 +54,7 @@ pub record MayCopy {T : Type 0} (target : Layout T) (to : Window) (source : Layo
   pub same_width : from.width ≡ to.width
   pub same_height : from.height ≡ to.height
 
--- a copy of a grid stands at a corner of image i, each image keeps its outside, and all fit
+-- a copy of a grid is at a corner of image i, each image keeps its outside, and all fit
 pub record ShowsCopy {T : Type 0} (i left top : ℕ) (copy : Grid T) (olds news : List (Layout T)) : Type 0 where
   pub grids : map grid_of news ≡ slice_set (map grid_of olds) i (patch (grid_at (map grid_of olds) i) left top copy)
   pub kept : AllKept (λ _. false) olds news

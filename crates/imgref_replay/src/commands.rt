@@ -7,11 +7,12 @@ use imgref::Window;
 pub struct Place {
     /// The number of the image, from 0.
     pub image: usize,
-    /// Windows, each of the one before it; the empty path is the whole image.
+    /// Windows, each a window of the one before it; the empty path is the whole image.
     pub path: Vec<Window>,
 }
 
-/// What is done to images, or asked of them. Columns and rows count from 0, sizes are in pixels.
+/// A change of images, or a question about them. Columns and rows count from 0, sizes are in
+/// pixels.
 ///
 /// The rule of each command is its row in the table `meaning` (`specs/Commands`).
 #[derive(Drop)]
@@ -43,21 +44,22 @@ pub enum Command<T> {
         /// The new pixel.
         value: T,
     },
-    /// How many pixels of a window are equal to `value`.
+    /// The number of pixels of a window that are equal to `value`.
     Count {
         /// The window.
         spot: Place,
-        /// The pixel that is looked for.
+        /// The pixel to look for.
         value: T,
     },
-    /// Whether two windows have one size, and equal pixels at every place.
+    /// Whether two windows have the same size, and equal pixels at every place.
     Same {
-        /// The one window.
+        /// One window.
         first: Place,
         /// The other window.
         second: Place,
     },
-    /// The old pixels of a window are written over those of another of its size, overlapping or not.
+    /// The old pixels of a window are written over those of another of its size; the two may
+    /// overlap.
     Blit {
         /// The window that is read.
         source: Place,
@@ -82,29 +84,29 @@ pub enum Command<T> {
     },
 }
 
-/// What a command answers.
+/// The reply to a command.
 #[derive(Clone, Copy, PartialEq, Eq)]
 pub enum Reply<T> {
     /// The pixel that was asked for.
     Pixel(T),
-    /// How many pixels there are.
+    /// The number of pixels.
     Counted(usize),
     /// Whether the two windows are equal.
     Truth(bool),
     /// The command was carried out.
     Done,
-    /// The command has this fault, and changed nothing.
+    /// The command has this fault, and has changed nothing.
     Refused(Refusal),
 }
 
-/// The first fault of a command. They are tested in this order.
+/// The first fault of a command. The faults are tested in this order.
 #[derive(Clone, Copy, PartialEq, Eq)]
 pub enum Refusal {
     /// The image number isn't below the number of images.
     NoImage,
     /// A window of the path isn't inside the size before it.
     WindowOutside,
-    /// The place isn't one of the window.
+    /// The place isn't in the window.
     PlaceOutside,
     /// The two windows differ in width or height.
     SizesDiffer,

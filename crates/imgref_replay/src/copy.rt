@@ -1,4 +1,4 @@
-//! Windows of a list of images, copied one over another.
+//! Copies of one window over another, in a list of images.
 
 ghost use Rattle.std.specs.Prelude.{◌≡◌, ◌<◌, length};
 ghost use Rattle.image_model.specs.Layout.{Fits, SameOutside};
@@ -25,7 +25,7 @@ fn copy_over<T: Copy>(image: &mut ImgVec<T>, to: Window, source: &ImgVec<T>, fro
 }
 
 /// Copies a window of an image of a list over a window of its size in the same or another image.
-/// Of two images the list is split, so that one is read and the other written.
+/// For two images the list is split, so that one is read and the other written.
 pub(crate) fn copy_between<T: Copy>(
     images: &mut [ImgVec<T>],
     target: usize,

@@ -1,5 +1,5 @@
-//! Commands over images: nested windows, and lists of commands with their replies. The tiles and the
-//! bands of `image_tiles` are offered beside them.
+//! Commands over images: nested windows, and lists of commands with their replies. The crate also
+//! re-exports the tiles and the bands of `image_tiles`.
 #![tactic(auto)]
 
 mod commands;

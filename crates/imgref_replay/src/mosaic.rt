@@ -11,7 +11,7 @@ ghost use Rattle.image_ops.specs.Mosaic.{mosaic};
 use image_ops::mosaic_cells;
 use imgref::{ImgVec, Window};
 
-/// Writes at every place of a window of an image the pixel, as it was, at the corner of its tile.
+/// Writes, at every place of a window of an image, the old pixel at the corner of the place's tile.
 pub(crate) fn mosaic_window<T: Copy>(
     image: &mut ImgVec<T>,
     window: Window,

@@ -1,4 +1,4 @@
-//! Windows of windows: a path of them is one window of the image.
+//! Windows of windows: a path of them leads to one window of the image.
 
 ghost use Rattle.std.specs.Prelude.{◌≡◌, ◌≤◌, IfOk};
 ghost use Rattle.std.specs.Result.{result_err};
@@ -12,8 +12,8 @@ ghost use Rattle.imgref_replay.specs.Path.{BeginsAtCorner, LeadsTo, window_name}
 
 use imgref::{ImgRef, ImgRefMut, Shape, Stretch, Window};
 
-/// The one window that a path comes to in this size: its size at its corner. Where a window of the
-/// path isn't inside the size before it, the number of the first such window, from 0.
+/// The window that a path leads to in this size. Where a window of the path isn't inside the size
+/// before it, the number of the first such window, from 0.
 pub(crate) fn path_window(width: usize, height: usize, path: &[Window]) -> Result<Window, usize>
     ensures outside { result_err result ≡ first_outside width height (as_path path.now) }
     ensures window { IfOk result (λ w. as_window w ≡ path_window width height (as_path path.now)) }
@@ -29,8 +29,8 @@ pub(crate) fn path_window(width: usize, height: usize, path: &[Window]) -> Resul
     Ok(found)
 }
 
-/// Where a path leads in so many cells of this shape, as the cells that are left, taken window by
-/// window, and their shape; or the number of its first window outside.
+/// The stretch and the shape that a path leads to, window by window, in so many cells of this
+/// shape; or the number of its first window outside.
 fn region_at(cells: usize, shape: Shape, path: &[Window]) -> Result<(Stretch, Shape), usize>
     requires fits { Reaches cells (shape_width shape) (shape_height shape) (shape_stride shape) }
     ensures outside { result_err result
@@ -56,8 +56,8 @@ fn region_at(cells: usize, shape: Shape, path: &[Window]) -> Result<(Stretch, Sh
     Ok((stretch, inner))
 }
 
-/// The nested window that a path leads to, over the image's own cells: `path_layout` of the image.
-/// Its corner is the sum of the path's corners, and the empty path is the whole image.
+/// The nested window that a path leads to, with the image's own cells (`path_layout`). Its corner
+/// is the sum of the path's corners, and the empty path is the whole image.
 ///
 /// # Requires
 ///
@@ -82,8 +82,8 @@ pub fn window_at<'s, T>(img: ImgRef<'s, T>, path: &[Window]) -> Result<ImgRef<'s
     Ok(ImgRef::from_parts(&cells[stretch.range()], inner))
 }
 
-/// The window of `window_at` for writing, in place of the image. Once the borrow ends, the image
-/// has what was left in the window's cells, and every other cell is as it was.
+/// The window of `window_at` for writing, from an image that is passed by value. Once the borrow
+/// ends, the image has what was left in the window's cells, and every other cell is as it was.
 ///
 /// # Requires
 ///
@@ -91,7 +91,7 @@ pub fn window_at<'s, T>(img: ImgRef<'s, T>, path: &[Window]) -> Result<ImgRef<'s
 ///
 /// # Errors
 ///
-/// As `window_at`. The borrow then ends here, with no cell changed.
+/// As for `window_at`. The borrow then ends here, and no cell has changed.
 pub fn into_window_at<'s, T>(
     img: ImgRefMut<'s, T>,
     path: &[Window],

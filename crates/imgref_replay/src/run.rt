@@ -1,4 +1,4 @@
-//! Lists of commands, carried out over images from the first to the last.
+//! Lists of commands, run over images from the first to the last.
 
 ghost use Rattle.std.specs.Prelude.{◌≡◌, IfOk, OnErr, length};
 ghost use Rattle.imgref_replay.specs.Commands.{AllFit, layouts_of, grids_of};
@@ -10,13 +10,13 @@ use crate::step::step;
 use imgref::ImgVec;
 use std::alloc::{AllocError, Global};
 
-/// Carries out the commands from the first to the last, and writes the reply to each into
-/// `replies`. It takes no memory.
+/// Runs the commands from the first to the last, and writes the reply to each into `replies`. It
+/// allocates no memory.
 ///
-/// Replies and new pixels are what the commands mean on grids (`replies_to`, `after_all`), whatever
-/// strides and padding. A command with a fault is refused by its first one and changes nothing.
-/// Each image fits again. It keeps its stride, length and padding until it is compacted, and is
-/// exactly its joined rows from then on (`IsRun`).
+/// Replies and new pixels are what the commands mean on grids (`replies_to`, `after_all`), for all
+/// strides and paddings. A command with a fault is refused: the reply names its first fault, and
+/// nothing changes. Each image fits again. It keeps its stride, length and padding until it is
+/// compacted, and is exactly its joined rows from then on (`IsRun`).
 ///
 /// # Requires
 ///
@@ -35,8 +35,8 @@ pub fn replay_into<T: Copy + Eq>(
     }
 }
 
-/// Carries out the commands as `replay_into` does, and gives the replies, one for each command and
-/// in order.
+/// Runs the commands as `replay_into` does, and returns the replies, one for each command and in
+/// order.
 ///
 /// # Requires
 ///
@@ -44,7 +44,8 @@ pub fn replay_into<T: Copy + Eq>(
 ///
 /// # Errors
 ///
-/// Out of memory. Room for all replies is taken before the first command, so no image has changed.
+/// Out of memory. The memory for all replies is allocated before the first command, so no image has
+/// changed.
 pub fn replay<T: Copy + Eq>(
     alloc: Global,
     images: &mut [ImgVec<T>],
@@ -61,14 +62,14 @@ pub fn replay<T: Copy + Eq>(
     Ok(replies)
 }
 
-/// Carries out the same commands as `replay_into` does over two lists of images of the same sizes
-/// and pixels, whatever the strides and paddings of each. The replies are the same afterwards and
-/// the images have the same pixels, as the pixel's `==` tells. It takes no memory.
+/// Runs the same commands, as `replay_into` does, over two lists of images with the same sizes and
+/// pixels, for all strides and paddings. Afterwards the replies are the same and the images have
+/// the same pixels, by the pixel's `==`. It allocates no memory.
 ///
 /// # Requires
 ///
-/// Every image fits (`is_valid`), and the two of each number agree (`same_pixels`). Both lists of
-/// replies are as long as `commands`.
+/// Every image fits (`is_valid`), and images with the same number agree (`same_pixels`). Both lists
+/// of replies are as long as `commands`.
 pub fn two_layouts<T: Copy + Eq>(
     a: &mut [ImgVec<T>],
     b: &mut [ImgVec<T>],

@@ -1,4 +1,4 @@
-//! One command, carried out over images or refused by its first fault.
+//! One command: it runs over images, or is refused for its first fault.
 
 ghost use Rattle.std.specs.Prelude.{◌≡◌, ◌<◌, ◌+◌, ◌^◌, ◌∷◌, [], IfOk, OnOk, length, count_by};
 ghost use Rattle.std.specs.Result.{result_err};
@@ -16,7 +16,7 @@ use crate::mosaic::mosaic_window;
 use crate::path::path_window;
 use imgref::{ImgRef, ImgVec, Window};
 
-/// The one window of its image that a place names; or the first fault of that name.
+/// The window that a place names in its image, or the first fault of the place.
 fn locate<T>(images: &[ImgVec<T>], spot: &Place) -> Result<Window, Refusal>
     ensures fault { result_err result
         ≡ first_fault (window_faults spot.now (sizes_of (grids_of images.now))) }
@@ -35,7 +35,7 @@ fn locate<T>(images: &[ImgVec<T>], spot: &Place) -> Result<Window, Refusal>
     }
 }
 
-/// The windows of their images that two places name; or the first fault of those names: both image
+/// The windows that two places name in their images, or the first fault of these places. Both image
 /// numbers are tested before the first path.
 fn locate_both<T>(
     images: &[ImgVec<T>],
@@ -61,7 +61,7 @@ fn locate_both<T>(
     Ok((locate(images, first)?, locate(images, second)?))
 }
 
-/// What is seen through a window of the image that a place names.
+/// The view through a window of the image that a place names.
 fn show<'i, T>(images: &'i [ImgVec<T>], spot: &Place, window: Window) -> ImgRef<'i, T>
     requires fit { AllFit images.now }
     requires image { spot.now.image < length images.now }
@@ -73,7 +73,7 @@ fn show<'i, T>(images: &'i [ImgVec<T>], spot: &Place, window: Window) -> ImgRef<
     images[spot.image].window(window)
 }
 
-/// What is seen through the window that a place names.
+/// The view through the window that a place names.
 fn view<'i, T>(images: &'i [ImgVec<T>], spot: &Place) -> Result<ImgRef<'i, T>, Refusal>
     requires { AllFit images.now }
     ensures fault { result_err result
@@ -85,7 +85,8 @@ fn view<'i, T>(images: &'i [ImgVec<T>], spot: &Place) -> Result<ImgRef<'i, T>, R
     Ok(show(images, spot, window))
 }
 
-/// The column and the row, in its image, of column `x` of row `y` of a window; or the first fault.
+/// The column and the row of a pixel, counted in its image, or the first fault. The pixel is at
+/// column `x` of row `y` of a window.
 fn locate_pixel<T>(
     images: &[ImgVec<T>],
     spot: &Place,
@@ -149,7 +150,7 @@ fn fill<T: Copy + Eq>(images: &mut [ImgVec<T>], spot: &Place, value: T) -> Resul
     Ok(Reply::Done)
 }
 
-/// How many pixels of a window are equal to the value.
+/// The number of pixels of a window that are equal to the value.
 fn count<T: Copy + Eq>(images: &[ImgVec<T>], spot: &Place, value: T) -> Result<Reply<T>, Refusal>
     requires { AllFit images.now }
     ensures { IsStep T.eq (Command.Count spot.now value) (layouts_of images.now)
@@ -158,7 +159,7 @@ fn count<T: Copy + Eq>(images: &[ImgVec<T>], spot: &Place, value: T) -> Result<R
     Ok(Reply::Counted(count_equal(view(images, spot)?, value)))
 }
 
-/// How many pixels of a fitting image are equal to the value.
+/// The number of pixels of a fitting image that are equal to the value.
 fn count_equal<T: Copy + Eq>(image: ImgRef<'_, T>, value: T) -> usize
     requires { Fits (ref_layout image) }
     ensures { result ≡ count_by (λ pixel. T.eq pixel value) (pixels (ref_layout image.entry)) }
@@ -172,7 +173,7 @@ fn count_equal<T: Copy + Eq>(image: ImgRef<'_, T>, value: T) -> usize
     })
 }
 
-/// Whether two windows have one size, and equal pixels at every place.
+/// Whether two windows have the same size, and equal pixels at every place.
 fn same<T: Copy + Eq>(
     images: &[ImgVec<T>],
     first: &Place,
@@ -188,7 +189,7 @@ fn same<T: Copy + Eq>(
     Ok(Reply::Truth(one.same_pixels(two)))
 }
 
-/// Writes the pixels of one window, as they were, over those of another of its size.
+/// Writes the old pixels of one window over those of another of its size.
 fn blit<T: Copy + Eq>(
     images: &mut [ImgVec<T>],
     source: &Place,
@@ -206,7 +207,7 @@ fn blit<T: Copy + Eq>(
     Ok(Reply::Done)
 }
 
-/// Writes at every place of a window the pixel, as it was, at the corner of its tile.
+/// Writes, at every place of a window, the old pixel at the corner of the place's tile.
 fn mosaic<T: Copy + Eq>(
     images: &mut [ImgVec<T>],
     spot: &Place,
@@ -225,7 +226,7 @@ fn mosaic<T: Copy + Eq>(
     Ok(Reply::Done)
 }
 
-/// Leaves the rows of an image alone in its buffer, at the least stride.
+/// Leaves only the rows of an image in its buffer, at the least stride.
 fn compact<T: Copy + Eq>(images: &mut [ImgVec<T>], image: usize) -> Result<Reply<T>, Refusal>
     requires { AllFit images.old }
     ensures { IsStep T.eq (Command.Compact image) (layouts_of images.old)
@@ -238,7 +239,7 @@ fn compact<T: Copy + Eq>(images: &mut [ImgVec<T>], image: usize) -> Result<Reply
     Ok(Reply::Done)
 }
 
-/// Carries out one command, or tells its first fault and changes nothing.
+/// Runs one command, or returns its first fault and changes nothing.
 fn accept<T: Copy + Eq>(images: &mut [ImgVec<T>], command: &Command<T>) -> Result<Reply<T>, Refusal>
     requires { AllFit images.old }
     ensures { IsStep T.eq command.now (layouts_of images.old) (layouts_of images.new) result }
@@ -259,7 +260,7 @@ fn accept<T: Copy + Eq>(images: &mut [ImgVec<T>], command: &Command<T>) -> Resul
     }
 }
 
-/// Carries out one command, or refuses it by its first fault, with nothing changed.
+/// Runs one command, or replies with its first fault and changes nothing.
 pub(crate) fn step<T: Copy + Eq>(images: &mut [ImgVec<T>], command: &Command<T>) -> Reply<T>
     requires { AllFit images.old }
     ensures { IsRun T.eq (command.now ∷ []) (layouts_of images.old)

@@ -1,4 +1,4 @@
--- Why a run ended, what it prints then, and which device's count that shows in.
+-- Why a run ended, what it prints then, and which device's count shows it.
 use Rattle.std.specs.Prelude.{ℕ, List, ◌++◌, codes, Result, Err}
 use Rattle.std.specs.Fmt.{decimal}
 use Rattle.devices.specs.Fault.{memory_text, input_text, output_text}
@@ -19,17 +19,17 @@ status_of fault = (ends_with fault).0
 abbrev pub fault_text : RunFault → List ℕ
 fault_text fault = (ends_with fault).1
 
--- by how much a run with this answer raised the reader's count
+-- by how much a run with this result raised the reader's count
 abbrev pub reader_failures : {T : Type 0} → Result T RunFault → ℕ
 reader_failures (Err Input) = 1
 reader_failures _ = 0
 
--- by how much a run with this answer raised the writer's count
+-- by how much a run with this result raised the writer's count
 abbrev pub writer_failures : {T : Type 0} → Result T RunFault → ℕ
 writer_failures (Err Output) = 1
 writer_failures _ = 0
 
--- the fault is one that reading the input may end with
+-- reading the input may end with this fault
 abbrev pub IsReadFault : RunFault → Type 0
 IsReadFault (Line n) = ⊥
 IsReadFault Memory = Unit {0}

@@ -4,7 +4,7 @@ use Rattle.std.specs.List.{join_with_byte, AllByRecursion}
 use Rattle.image_shape.specs.declared.window.Window.{Window}
 use Rattle.text_model.specs.Fields.{window_text, IsWindow}
 
--- a path is its windows joined by slashes, or a dash where it has none
+-- a path is its windows joined by slashes, or a dash where it has no window
 unfoldable pub path_text : List Window → List ℕ
 path_text [] = 45 ∷ []
 path_text (w ∷ ws) = join_with_byte 47 (map window_text (w ∷ ws))

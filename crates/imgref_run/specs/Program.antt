@@ -1,4 +1,4 @@
--- What a run has read and written, by its answer.
+-- What a run has read and written, by its result.
 use Rattle.std.specs.Prelude.{◌≡◌, ◌==◌, ℕ, List, [], map, length, Option, Result, Ok, Err, IfSome}
 use Rattle.std.specs.Io.KnownBytes.{Appends, Keeps, IsAtEnd}
 use Rattle.image_model.specs.Layout.{Layout}
@@ -12,7 +12,7 @@ use Rattle.imgref_run.specs.Script.{lines_of, IsScript, AreGood, IsFirstBad}
 use Rattle.imgref_run.specs.Output.{output_text}
 use Rattle.devices.specs.Whole.{AppendsBeginning}
 
--- the input is a script, and the text is its output: that of the replies to its commands, and of its images after them; the lines of these images are themselves the script of these images
+-- the input is a script, and the text is its output: the lines of the replies to its commands, and those of its images after them, which are themselves the script of these images
 pub record IsOutputOf (input text : List ℕ) : Type 0 where
   pub images : List (Layout ℕ)
   pub commands : List (Command ℕ)
@@ -24,7 +24,7 @@ pub record IsOutputOf (input text : List ℕ) : Type 0 where
   pub output : text ≡ output_text replies layouts
   pub again : IsScript (map image_text layouts) layouts []
 
--- what a run with this answer wrote, for the input, to a writer that held the old bytes and now holds the new
+-- what a run with this result wrote, for the input, to a writer that held the old bytes and now holds the new
 abbrev pub Writes : {T : Type 0} → Result T RunFault → Option (List ℕ) → Option (List ℕ) → Option (List ℕ) → Type 0
 Writes (Ok x) input old new = IfSome input (λ bytes. (text : List ℕ) × IsOutputOf bytes text × Appends old new text)
 Writes (Err (Line n)) input old new = IfSome input (λ bytes. IsFirstBad (lines_of bytes) n) × Keeps old new
@@ -32,7 +32,7 @@ Writes (Err Memory) input old new = Keeps old new
 Writes (Err Input) input old new = Keeps old new
 Writes (Err Output) input old new = IfSome input (λ bytes. (text : List ℕ) × IsOutputOf bytes text × AppendsBeginning old new text)
 
--- a run with one of these answers has read all of the input
+-- a run with one of these results has read all of the input
 abbrev pub ReadsAll : {T : Type 0} → Result T RunFault → Option (List ℕ) → Type 0
 ReadsAll (Ok x) left = IsAtEnd left
 ReadsAll (Err (Line n)) left = IsAtEnd left

@@ -9,13 +9,13 @@ use Rattle.imgref_run.specs.declared.script.Script.{Script}
 
 -- ---- lines
 
--- every piece is a line, but for an empty last one
+-- every piece is a line, except an empty last one
 abbrev pub whole_lines : List (List ℕ) → List (List ℕ)
 whole_lines [] = []
 whole_lines (piece ∷ []) = if length piece == 0 then [] else piece ∷ []
 whole_lines (piece ∷ next ∷ more) = piece ∷ whole_lines (next ∷ more)
 
--- the lines of the bytes: line feeds part them
+-- the lines of the bytes: line feeds separate them
 unfoldable pub lines_of : List ℕ → List (List ℕ)
 lines_of bytes = whole_lines (parts_of 10 bytes)
 
@@ -37,27 +37,27 @@ pub record IsScript (lines : List (List ℕ)) (images : List (Layout ℕ)) (orde
 
 -- ---- good lines
 
--- none of the lines is a command's
+-- no line is the line of a command
 abbrev pub NoCommand : List (List ℕ) → Type 0
 NoCommand lines = AllByRecursion (λ line. (o : Order) → IsOrder o → line ≡ order_text o → ⊥) lines
 
--- an image has no command line before it
+-- no command line comes before an image
 abbrev pub MayFollow : List (List ℕ) → Entry → Type 0
 MayFollow before (image_line i) = NoCommand before
 MayFollow before (order_line o) = Unit {0}
 
--- a line is good after the lines before it if it is the text of an image or a command that may stand there
+-- a line is good after the lines before it if it is the text of an image or a command that is allowed there
 pub record IsGood (before : List (List ℕ)) (line : List ℕ) : Type 0 where
   pub entry : Entry
   pub in_range : IsEntry entry
   pub text : line ≡ entry_text entry
   pub may_follow : MayFollow before entry
 
--- line k, from 0, is good where it stands
+-- line k, from 0, is good at its position
 abbrev pub IsGoodAt : List (List ℕ) → ℕ → Type 0
 IsGoodAt lines k = IsGood (take k lines) (slice_index_or lines k [])
 
--- each of the first n lines is good where it stands
+-- each of the first n lines is good at its position
 abbrev pub AreGood : List (List ℕ) → ℕ → Type 0
 AreGood lines n = (k : ℕ) → k < n → IsGoodAt lines k
 

@@ -9,9 +9,9 @@ use std::fmt;
 /// Why a line can't be read.
 #[derive(Clone, Copy)]
 pub(crate) enum LineFault {
-    /// No memory was found for what it stands for.
+    /// Out of memory for its value.
     Memory,
-    /// It isn't good.
+    /// It isn't a good line.
     Bad,
 }
 
@@ -40,12 +40,12 @@ impl<T: Drop> From<AllocFailed<T>> for LineFault {
 pub enum RunFault {
     /// The line of this number, from 1, is the first that isn't good. Nothing was written.
     Line(u64),
-    /// No memory was found. Nothing was written.
+    /// Out of memory. Nothing was written.
     Memory,
     /// The reader failed. Nothing was written.
     Input,
-    /// The writer failed. A beginning of the output was written, or all of it where only the flush
-    /// failed.
+    /// The writer failed. The first part of the output was written, or all of it where only the
+    /// flush failed.
     Output,
 }
 

@@ -11,7 +11,7 @@ use imgref_replay::{Place, Window};
 use std::alloc::Global;
 use texts::{Field, Parts};
 
-/// The values that all parts that are left are the texts of. There is room for this many from the
+/// The values that all remaining parts denote. The memory for this many values is allocated at the
 /// start.
 pub(crate) fn read_each<T: Field>(
     alloc: Global,
@@ -30,7 +30,7 @@ pub(crate) fn read_each<T: Field>(
     Ok(values)
 }
 
-/// The value that the next field is the text of.
+/// The value that the next field denotes.
 pub(crate) fn next_value<T: Field>(fields: &mut Parts<'_>) -> Result<T, LineFault>
     ensures { Gives (λ x. (x, parts_left fields.new)) result
         (first_of_parts T.reading (parts_left fields.old)) }
@@ -38,7 +38,7 @@ pub(crate) fn next_value<T: Field>(fields: &mut Parts<'_>) -> Result<T, LineFaul
     texts::next(fields).ok_or(LineFault::Bad)
 }
 
-/// The path that the field is the text of.
+/// The path that the field denotes.
 #[tactic(auto, unfolding(crate::specs::Reading::path_of))]
 fn path(alloc: Global, field: &[u8]) -> Result<Vec<Window>, LineFault>
     ensures { Gives (λ path. path.items) result (path_of field.now) }
@@ -51,7 +51,7 @@ fn path(alloc: Global, field: &[u8]) -> Result<Vec<Window>, LineFault>
     read_each(alloc, &mut Parts::new(field, b'/'), slashes + 1)
 }
 
-/// The path that the next field is the text of.
+/// The path that the next field denotes.
 #[tactic(auto, unfolding(text_model::specs::Reading::first_of_parts))]
 fn next_path(alloc: Global, fields: &mut Parts<'_>) -> Result<Vec<Window>, LineFault>
     ensures { Gives (λ p. (p.items, parts_left fields.new)) result
@@ -60,7 +60,7 @@ fn next_path(alloc: Global, fields: &mut Parts<'_>) -> Result<Vec<Window>, LineF
     path(alloc, fields.next_part().ok_or(LineFault::Bad)?)
 }
 
-/// The image's number and the path that the next two fields are the texts of.
+/// The image's number and the path that the next two fields denote.
 #[tactic(auto, unfolding(crate::specs::Reading::place_at))]
 pub(crate) fn next_place(alloc: Global, fields: &mut Parts<'_>) -> Result<Place, LineFault>
     ensures { Gives (λ p. (place_of p, parts_left fields.new)) result

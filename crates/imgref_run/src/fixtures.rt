@@ -1,4 +1,4 @@
-//! Devices for tests, which take no memory, and runs of scripts over them.
+//! Devices for tests, which allocate no memory, and runs of scripts over them.
 
 use crate::{Counted, RunFault, run};
 use std::alloc::Global;

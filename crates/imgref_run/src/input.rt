@@ -13,7 +13,7 @@ use std::io::Read;
 // How many bytes a read asks for.
 const PIECE: usize = 4096;
 
-/// All bytes that the reader has left.
+/// All remaining bytes of the reader.
 pub(crate) fn read_all<R: Read>(alloc: Global, reader: &mut Counted<R>) -> Result<Vec<u8>, RunFault>
     requires { failures_of reader.old < u64.MAX }
     ensures bytes { IfOk result (λ input. Consumes (R.remaining (device_of reader.old))

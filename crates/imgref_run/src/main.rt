@@ -1,4 +1,4 @@
-//! Commands over images of bytes: a script in, a text out.
+//! Commands over images of bytes: a script in, its output out.
 #![tactic(auto)]
 
 #[cfg(test)]
@@ -19,7 +19,7 @@ pub use program::run;
 use std::process::ExitCode;
 
 /// Runs the script on standard input, and writes its output to standard output. Where the run ends
-/// with a fault, the program prints that and ends with its status.
+/// with a fault, the program prints the fault and exits with its status.
 fn main(rt: HostRuntime) -> ExitCode {
     let mut reader = Counted::new(rt.stdin());
     let mut writer = Counted::new(rt.stdout());

@@ -133,8 +133,8 @@ fn push_image(text: &mut Vec<u8>, image: &ImgVec<u8>) -> Result<(), AllocError>
     Ok(())
 }
 
-/// A line for each reply, and then one for each image. The images fit, and so each of their lines is
-/// a good line of a script.
+/// A line for each reply, and then one for each image. The images fit, so each of their lines is a
+/// good line of a script.
 pub(crate) fn output(
     alloc: Global,
     replies: &[Reply<u8>],

@@ -12,7 +12,7 @@ use imgref_replay::Command;
 use std::alloc::Global;
 use texts::Parts;
 
-/// What a script holds.
+/// The contents of a script.
 #[derive(Drop)]
 pub(crate) struct Script {
     /// The images, each of which fits.
@@ -21,7 +21,7 @@ pub(crate) struct Script {
     pub(crate) commands: Vec<Command<u8>>,
 }
 
-// The next line of a script that is cut at its line feeds: an empty last piece is none.
+// The next line of a script that is split at its line feeds: an empty last piece isn't a line.
 fn next_line<'a>(pieces: &mut Parts<'a>) -> Option<&'a [u8]>
     ensures { MatchOption result (whole_lines (parts_left pieces.old) ≡ []) (λ line.
         whole_lines (parts_left pieces.old) ≡ line.now ∷ whole_lines (parts_left pieces.new)) }
@@ -58,8 +58,8 @@ impl Script {
     }
 }
 
-/// The images and the commands that the bytes are the script of. Where the bytes are none, the
-/// fault names the first line, from 1, that isn't good.
+/// The images and the commands that the bytes denote. Where the bytes aren't a script, the fault
+/// names the first line, from 1, that isn't good.
 pub(crate) fn read_script(alloc: Global, bytes: &[u8]) -> Result<Script, RunFault>
     ensures script { IfOk result
         (λ script. IsScript (lines_of bytes.now) (images_of script) (orders_of script)) }

@@ -1,4 +1,4 @@
--- What an image is once its first band was filled.
+-- An image after its first band is filled.
 use Rattle.std.specs.Prelude.{◌≡◌, ℕ, min}
 use Rattle.image_model.specs.Layout.{Layout, SameOutside}
 use Rattle.image_model.specs.Grid.{grid_of, patch, uniform}

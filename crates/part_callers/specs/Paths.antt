@@ -1,4 +1,4 @@
--- What the window of a path is that was taken as its cells and its shape.
+-- The window of a path, taken as its cells and its shape.
 use Rattle.std.specs.Prelude.{◌≡◌, List}
 use Rattle.image_model.specs.Layout.{Layout, Fits, SameOutside}
 use Rattle.image_model.specs.Grid.{grid_of, patch}
@@ -8,7 +8,7 @@ use Rattle.imgref.specs.Image.{buf_of, width_of, height_of, stride_of, layout_by
 
 -- how the container is read and written, the image, and the path
 module _ {C T : Type 0} (cells : C → List T) (with_cells : C → Stretch → List T → C) (i : Img C) (path : List Window) where
-  -- the image with other cells in the place of those that the path's window has
+  -- the image with other cells in place of those that the path's window has
   abbrev pub with_path : List T → Img C
   with_path others = with_all cells with_cells i (with_stretch (cells (buf_of i)) (path_stretch (stride_of i) (whole (cells (buf_of i))) path) others)
 

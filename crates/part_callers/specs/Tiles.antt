@@ -1,4 +1,4 @@
--- What a tile is that was taken as its cells and its shape.
+-- A tile, taken as its cells and its shape.
 use Rattle.std.specs.Prelude.{◌≡◌, ◌∷◌, Bool, List}
 use Rattle.image_model.specs.Layout.{Layout, Fits}
 use Rattle.image_model.specs.Windows.{Stretch}

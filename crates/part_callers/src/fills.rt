@@ -1,4 +1,4 @@
-//! Cells in a shape that are filled through the cursor of `pixels_mut`.
+//! Fills of cells in a shape, through the cursor of `pixels_mut`.
 
 ghost use Rattle.std.specs.Prelude.{◌≡◌};
 ghost use Rattle.image_model.specs.Layout.{Fits, SameOutside};

@@ -1,5 +1,5 @@
-//! Users of what lends a part of an image: tiles, bands and paths of nested windows. Each says by the
-//! grid what its writes leave of the image.
+//! Callers that borrow a part of an image: tiles, bands and paths of nested windows. Each specifies
+//! the new image by the grid.
 #![tactic(auto)]
 
 mod bands;

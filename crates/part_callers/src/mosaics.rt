@@ -80,8 +80,8 @@ fn into_mosaic<T: Copy>(
     mosaic_of(image, tile_width, tile_height).into_buf()
 }
 
-/// Writes at every place that cells have in a shape the pixel, as it was, at the corner of its tile,
-/// as `mosaic_cells` does. The padding stays.
+/// Writes, at every place of `shape`, the old pixel at the corner of the place's tile, as
+/// `mosaic_cells` does. The padding stays.
 ///
 /// # Requires
 ///

@@ -1,4 +1,4 @@
-//! What is written through a path of nested windows, by `into_window_at`.
+//! Writes through a path of nested windows, by `into_window_at`.
 
 ghost use Rattle.std.specs.Prelude.{◌≡◌, ◌+◌, ◌<◌, None};
 ghost use Rattle.std.specs.Borrow.{sem, follows, Array};
@@ -32,13 +32,13 @@ fn parts_at<'a, C: AsMutSlice>(image: &'a mut Img<C>, path: &[Window]) -> (&'a m
     }
 }
 
-/// Writes the pixel in a column and a row of the window that a path comes to; every other cell of the
-/// image stays.
+/// Writes the pixel in a column and a row of the window that a path leads to; every other cell of
+/// the image stays.
 ///
 /// # Requires
 ///
-/// The image fits (`is_valid`), each window of the path is inside the one before, as `window_at`
-/// tells, and the place is in the last one.
+/// The image fits (`is_valid`), each window of the path is inside the one before (`window_at` tests
+/// it), and the place is in the last one.
 pub fn put_through_path<'a, C: AsMutSlice>(
     image: &'a mut Img<C>,
     path: &[Window],
@@ -61,13 +61,13 @@ where
     put_pixel(cells, shape, place.0, place.1, value);
 }
 
-/// Every pixel of the window that a path comes to becomes `value`, through the cursor of
+/// Every pixel of the window that a path leads to becomes `value`, through the cursor of
 /// `pixels_mut`; every other cell of the image stays.
 ///
 /// # Requires
 ///
-/// The image fits (`is_valid`), and each window of the path is inside the one before, as `window_at`
-/// tells.
+/// The image fits (`is_valid`), and each window of the path is inside the one before (`window_at`
+/// tests it).
 pub fn fill_through_path<'a, C: AsMutSlice>(image: &'a mut Img<C>, path: &[Window], value: C::Item)
 where
     C::Item: Copy + 'a,

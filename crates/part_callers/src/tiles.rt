@@ -34,7 +34,7 @@ fn tile_parts<C: AsMutSlice>(tiles: &mut TileCursor<C>) -> (&mut [C::Item], Shap
 ///
 /// # Requires
 ///
-/// A tile is left: `left()` isn't 0.
+/// A tile is left: `remaining()` isn't 0.
 pub fn fill_next_tile<'a, C: AsMutSlice>(tiles: &'a mut TileCursor<C>, value: C::Item)
 where
     C::Item: Copy + 'a,

@@ -1,8 +1,9 @@
-//! Stretches copied to a place that they overlap, by blocks that are read before they are written.
+//! Copies of stretches to a place that they overlap, by blocks that are read before they are
+//! written.
 //!
-//! The library's `copy_within` goes cell by cell behind its last whole vector. A block has a length
-//! that the compiler knows, so vectors alone read and write it. Two blocks that overlap copy the
-//! rest.
+//! The library's `copy_within` goes cell by cell after its last whole vector. A block has a length
+//! that the compiler knows, so it is read and written by vectors only. Two blocks that overlap copy
+//! the rest.
 #![tactic(auto, using(crate::proofs::Stretches::by_blocks))]
 
 ghost use Rattle.std.specs.Prelude.{◌≡◌, ◌+◌, ◌*◌, ◌<◌, ◌≤◌, length};

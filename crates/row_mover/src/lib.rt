@@ -1,8 +1,8 @@
-//! Row shifts in one list, in place and counted: how an image is compacted, and how a window moves.
+//! Row shifts in one list, in place and counted. They compact an image, and move a window.
 //!
-//! A [`RowMover`] holds a list of cells that was lent to it and counts what it does there. All
-//! changes go through [`RowMover::shift`]: the list and the count are private to its module, and
-//! the moves of whole windows stand outside it. No call takes memory.
+//! A [`RowMover`] holds a borrowed list of cells and counts what it does there. All changes go
+//! through [`RowMover::shift`]: the list and the count are private to its module, and the moves of
+//! whole windows are in another module. No call allocates memory.
 #![tactic(auto)]
 
 mod blocks;

@@ -4,11 +4,11 @@ ghost use Rattle.image_model.specs.Shifts.{shifted};
 use crate::blocks::copy_by_blocks;
 use std::marker::Model;
 
-/// Shifts cells within one list that was lent to it, and counts the shifts.
+/// Shifts cells within one borrowed list, and counts the shifts.
 ///
-/// Contracts see a mover as a `State`: the cells now, the shifts so far, and which list was lent.
-/// Cells are numbered from 0. What a call asks of its numbers stands in its `requires`, and under
-/// those it always succeeds and takes no memory.
+/// Contracts see a mover as a `State`: the cells now, the shifts so far, and which list was
+/// borrowed. Cells are numbered from 0. The conditions of a call on its numbers are in its
+/// `requires`. Where they hold, it always succeeds and allocates no memory.
 #[derive(Drop)]
 pub struct RowMover<'a, T: Copy> {
     cells: &'a mut [T],
@@ -25,7 +25,7 @@ impl<'a, T: Copy> Model for RowMover<'a, T> {
 }
 
 impl<'a, T: Copy> RowMover<'a, T> {
-    /// A mover over this list, with no shift so far.
+    /// A mover over this list, with no shifts so far.
     pub fn new(cells: &'a mut [T]) -> Self
         ensures lender { result.lender ≡ cells.entry.ghost_name }
         ensures cells { result.cells ≡ cells.old }
@@ -41,14 +41,14 @@ impl<'a, T: Copy> RowMover<'a, T> {
         self.cells
     }
 
-    /// How many shifts there were so far.
+    /// The number of shifts so far.
     pub fn shifts(&self) -> u64
         ensures { result ≡ self.now.shifts }
     {
         self.shifts
     }
 
-    /// Hands the list that was lent to `new` back whole, with the cells as they are now.
+    /// Returns the whole list that was passed to `new`, with the cells as they are now.
     pub fn into_cells(self) -> &'a mut [T]
         ensures lender { result.ghost_name ≡ self.entry.lender }
         ensures cells { result.now ≡ self.entry.cells }
@@ -57,7 +57,7 @@ impl<'a, T: Copy> RowMover<'a, T> {
         cells
     }
 
-    /// Copies the `len` cells from cell `start` on to cell `target` and on, as one shift: the
+    /// Copies `len` cells, from cell `start` on, to the cells from `target` on, as one shift. The
     /// stretches may overlap, and every other cell stays (`shifted`).
     #[inline]
     pub fn shift(&mut self, start: usize, len: usize, target: usize)
@@ -81,7 +81,7 @@ impl<'a, T: Copy> RowMover<'a, T> {
     }
 }
 
-// Copies a stretch to a place behind its end.
+// Copies a stretch to a place after its end.
 fn copy_behind<T: Copy>(cells: &mut [T], start: usize, len: usize, target: usize)
     requires apart { start + len ≤ target }
     requires target { target + len ≤ length cells.old }

@@ -8,7 +8,7 @@ use crate::mover::RowMover;
 impl<T: Copy> RowMover<'_, T> {
     /// Joins the rows of an image at the front of the list, in place: the first `width * height`
     /// cells become its `joined_rows`, and later cells stay. The size is in pixels, the stride in
-    /// cells. Each row but the first takes one shift, and rows that touch already take none
+    /// cells. Each row except the first takes one shift; rows that touch already take no shift
     /// (`rows_compacted`).
     #[tactic(auto, using(crate::proofs::Compacting::compacting))]
     pub fn compact_rows(&mut self, width: usize, height: usize, stride: usize)
@@ -25,7 +25,7 @@ impl<T: Copy> RowMover<'_, T> {
         if width == 0 || width == stride || height == 0 {
             return;
         }
-        // No row ends past the list, and its length is a `usize`: so no cell's number wraps.
+        // No row ends past the list, and its length is a `usize`: so no cell's number overflows.
         prove!(self.cells().len() <= usize::MAX);
         for y in 1..height {
             self.shift(y * stride, width, y * width);
@@ -33,9 +33,9 @@ impl<T: Copy> RowMover<'_, T> {
     }
 
     /// Moves the rows of a window from the corner at cell `from` to the corner at cell `to`, in
-    /// place and overlapping or not: each target row becomes the old source row, and every other
-    /// cell stays (`MovesRows`). The size is in pixels, the stride in cells. Each row takes one
-    /// shift (`rows_moved`). The corners of an empty window aren't looked at.
+    /// place. The two may overlap: each target row becomes the old source row, and every other cell
+    /// stays (`MovesRows`). The size is in pixels, the stride in cells. Each row takes one shift
+    /// (`rows_moved`). The corners of an empty window are ignored.
     #[tactic(auto, using(crate::proofs::Moving::moving))]
     pub fn move_rows(&mut self, stride: usize, from: usize, to: usize, width: usize, height: usize)
         requires stride_positive { 1 ≤ stride }
@@ -52,7 +52,7 @@ impl<T: Copy> RowMover<'_, T> {
         if width == 0 || height == 0 {
             return;
         }
-        // As above, no cell's number wraps.
+        // As above, no cell's number overflows.
         prove!(self.cells().len() <= usize::MAX);
         // A row is read before it is overwritten: towards the front from the first row on, and
         // towards the back from the last.

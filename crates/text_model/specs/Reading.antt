@@ -1,4 +1,4 @@
--- Reading: a piece of text as a value, or nothing where it is the text of none.
+-- Reading: a piece of text as a value, or nothing where it isn't the text of a value.
 use Rattle.std.specs.Prelude.{◌≡◌, ℕ, ◌^◌, Bool, true, false, ◌&&◌, ◌||◌, List, [], ◌∷◌, length, Option, Some, None, nat_lt, nat_le, ◌==◌, if◌then◌else◌, slice_index, option_and_then}
 use Rattle.std.specs.Option.{option_map}
 use Rattle.std.specs.Str.{all_ascii_digits}
@@ -16,15 +16,15 @@ infixl 10 ◌>>=◌
 abbrev pub ◌>>=◌ : {A B : Type 0} → Option A → (A → Option B) → Option B
 o >>= f = option_and_then f o
 
--- the number that digits write, with any zeros in front
+-- the number that digits denote, with any leading zeros
 unfoldable pub digits_of : List ℕ → Option ℕ
 digits_of field = if all_ascii_digits field && (nat_lt 0 (length field) && nat_lt (digits_value 10 field) (2 ^ 64)) then Some (digits_value 10 field) else None
 
--- the number that a field is the text of: no sign, and no zero in front of another digit
+-- the number that a field denotes: no sign, and no leading zeros
 unfoldable pub number_of : List ℕ → Option ℕ
 number_of field = if slice_index field 0 == 43 || (slice_index field 0 == 48 && nat_lt 1 (length field)) then None else digits_of field
 
--- the pixel that a field is the text of
+-- the pixel that a field denotes
 unfoldable pub pixel_of : List ℕ → Option ℕ
 pixel_of field = do
   value ← number_of field
@@ -43,20 +43,20 @@ unfoldable pub first_of_parts : {A : Type 0} → (List ℕ → Option A) → Lis
 first_of_parts read [] = None
 first_of_parts read (part ∷ parts) = option_map (λ value. (value, parts)) (read part)
 
--- the number that the first part is the text of, and the parts after it
+-- the number that the first part denotes, and the parts after it
 abbrev pub number_at : List (List ℕ) → Option (ℕ × List (List ℕ))
 number_at parts = first_of_parts number_of parts
 
--- the pixel that the first part is the text of, and the parts after it
+-- the pixel that the first part denotes, and the parts after it
 abbrev pub pixel_at : List (List ℕ) → Option (ℕ × List (List ℕ))
 pixel_at parts = first_of_parts pixel_of parts
 
--- whether no part is left
+-- whether all parts have been taken
 abbrev pub is_nil : {A : Type 0} → List A → Bool
 is_nil [] = true
 is_nil (x ∷ xs) = false
 
--- four numbers, and no part more
+-- four numbers, and no further part
 unfoldable pub window_in : List (List ℕ) → Option Window
 window_in parts = do
   left ← number_at parts
@@ -65,6 +65,6 @@ window_in parts = do
   height ← number_at width.1
   if is_nil height.1 then Some (record { left = left.0; top = top.0; width = width.0; height = height.0 }) else None
 
--- the window that a part is the text of
+-- the window that a part denotes
 abbrev pub window_of : List ℕ → Option Window
 window_of part = window_in (parts_of 44 part)

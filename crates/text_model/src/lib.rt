@@ -1,6 +1,6 @@
-//! Text as contracts see it: bytes that are cut at a separator, numbers, pixels and windows with
+//! Text as contracts see it: bytes that are split at a separator, numbers, pixels and windows with
 //! their texts, and the laws about them.
 //!
-//! The crate holds no code: its `specs/` are what contracts of the crates above cite, and its
-//! `proofs/` are the laws that their proofs stand on.
+//! The crate has no code: the contracts of the crates above cite its `specs/`, and their proofs use
+//! the laws in its `proofs/`.
 #![tactic(auto)]

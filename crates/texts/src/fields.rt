@@ -1,4 +1,4 @@
-//! Fields: pieces of text that stand for a number, a pixel or a window.
+//! Fields: pieces of text that denote a number, a pixel or a window.
 
 ghost use Rattle.std.specs.Prelude.{◌≡◌, ◌≢◌, ◌≤◌, ◌-◌, ℕ, List, Option, slice_index};
 ghost use Rattle.text_model.specs.Reading.{Finds, digits_of, number_of, pixel_of, window_of, first_of_parts};
@@ -7,7 +7,7 @@ ghost use Rattle.texts.specs.Parts.{parts_left};
 use crate::parts::Parts;
 use image_shape::Window;
 
-/// A value that one piece of text stands for.
+/// A value that one piece of text denotes.
 pub trait Field: Copy {
     // The value that the piece is the text of, where there is one.
     ghost reading: { List ℕ → Option Self };
@@ -16,7 +16,7 @@ pub trait Field: Copy {
         ensures { result ≡ reading piece.now };
 }
 
-/// A number: each has one text, without a sign and without a zero in front of another digit.
+/// A number: each has one text, without a sign and without leading zeros.
 impl Field for usize {
     ghost reading = { number_of };
 
@@ -93,7 +93,7 @@ impl Field for Window {
     }
 }
 
-/// The value that the next part is the text of.
+/// The value that the next part denotes.
 #[tactic(auto, unfolding(text_model::specs::Reading::first_of_parts))]
 pub fn next<T: Field>(parts: &mut Parts<'_>) -> Option<T>
     ensures { Finds (λ x. (x, parts_left parts.new)) result

@@ -1,5 +1,5 @@
-//! Text read piece by piece: bytes that are cut at a separator, and the numbers, pixels and windows
-//! that the parts are the texts of.
+//! Text, read piece by piece: bytes that are split at a separator, and the numbers, pixels and
+//! windows that the parts denote.
 #![tactic(auto)]
 
 mod fields;

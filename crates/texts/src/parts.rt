@@ -1,10 +1,11 @@
-//! Bytes that are cut at a separator.
+//! Bytes that are split at a separator.
 
 ghost use Rattle.std.specs.Prelude.{◌≡◌, ◌↔◌, ◌==◌, ◌∷◌, [], IsTrue, MatchOption, position};
 ghost use Rattle.text_model.specs.Parts.{parts_of};
 ghost use Rattle.texts.specs.Parts.{parts_left};
 
-/// The parts that are left of bytes that are cut at a separator. No bytes at all are one empty part.
+/// The parts that are left of bytes that are split at a separator. The empty list of bytes is one
+/// empty part.
 #[derive(Clone, Copy)]
 pub struct Parts<'a> {
     // The bytes after the last separator that was passed; `None` after the last part.
@@ -23,14 +24,14 @@ impl<'a> Parts<'a> {
         }
     }
 
-    /// Whether no part is left.
+    /// Whether all parts have been taken.
     pub fn is_done(&self) -> bool
         ensures { IsTrue result ↔ (parts_left self.now ≡ []) }
     {
         self.rest.is_none()
     }
 
-    /// The next part, or `None` where none is left.
+    /// The next part, or `None` where no part is left.
     pub fn next_part(&mut self) -> Option<&'a [u8]>
         ensures { MatchOption result (parts_left self.old ≡ [])
             (λ part. parts_left self.old ≡ part.now ∷ parts_left self.new) }
