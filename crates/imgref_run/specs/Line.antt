@@ -6,9 +6,9 @@ use Rattle.std.specs.Fmt.{decimal}
 use Rattle.image_model.specs.Layout.{Layout, Fits}
 use Rattle.imgref.specs.Image.{vec_layout}
 use Rattle.image_shape.specs.declared.window.Window.{Window}
-use Rattle.imgref_replay.specs.declared.commands.Place.{Place}
-use Rattle.imgref_replay.specs.declared.commands.Command.{Command}
-use Rattle.imgref_replay.specs.declared.commands.Command.TheVariants.{Get, Put, Fill, Count, Same, Blit, Mosaic, Compact}
+use Rattle.image_commands.specs.declared.commands.Place.{Place}
+use Rattle.image_commands.specs.declared.commands.Command.{Command}
+use Rattle.image_commands.specs.declared.commands.Command.TheVariants.{Get, Put, Fill, Count, Same, Blit, Mosaic, Compact}
 use Rattle.imgref_run.specs.Fields.{path_text, IsPath}
 use Rattle.text_model.specs.Fields.{IsWord, IsPixel}
 use Rattle.imgref_run.specs.declared.line.Line.{Line}

@@ -3,9 +3,9 @@ use Rattle.std.specs.Prelude.{ℕ, List, [], ◌∷◌, ◌++◌, if◌then◌el
 use Rattle.std.specs.List.{flat_map}
 use Rattle.std.specs.Fmt.{decimal}
 use Rattle.image_model.specs.Layout.{Layout}
-use Rattle.imgref_replay.specs.declared.commands.Reply.{Reply}
-use Rattle.imgref_replay.specs.declared.commands.Reply.TheVariants.{Pixel, Counted, Truth, Done, Refused}
-use Rattle.imgref_replay.specs.declared.commands.Refusal.TheVariants.{NoImage, WindowOutside, PlaceOutside, SizesDiffer, NoTile}
+use Rattle.image_commands.specs.declared.commands.Reply.{Reply}
+use Rattle.image_commands.specs.declared.commands.Reply.TheVariants.{Pixel, Counted, Truth, Done, Refused}
+use Rattle.image_commands.specs.declared.commands.Refusal.TheVariants.{NoImage, WindowOutside, PlaceOutside, SizesDiffer, NoTile}
 use Rattle.imgref_run.specs.Line.{image_text}
 
 -- the line of a reply

@@ -12,7 +12,7 @@ ghost use Rattle.text_model.specs.Fields.{IsPixel};
 ghost use Rattle.imgref_run.specs.Line.{line_of, image_text, IsImage};
 ghost use Rattle.devices.specs.Whole.{AppendsBeginning};
 ghost use Rattle.imgref_run.specs.Output.{reply_text, ended_line, output_text};
-ghost use Rattle.imgref_replay.specs.Commands.{AllFit, layouts_of};
+ghost use Rattle.imgref.specs.Lists.{AllFit, layouts_of};
 
 use crate::fault::RunFault;
 use devices::Counted;

@@ -1,45 +1,26 @@
 -- What each command means on grids: it speaks of places alone, and of no cell, stride or padding.
-use Rattle.std.specs.Prelude.{◌≡◌, ◌<◌, ℕ, ◌+◌, Bool, not, ◌&&◌, ◌||◌, ◌==◌, nat_le, Option, Some, None, List, [], ◌∷◌, ◌++◌, length, map, All, Vec, slice_set, slice_index_or, is_some, count_by}
+use Rattle.std.specs.Prelude.{◌≡◌, ◌<◌, ℕ, ◌+◌, Bool, not, ◌&&◌, ◌||◌, ◌==◌, nat_le, Option, Some, None, List, [], ◌∷◌, ◌++◌, length, slice_set, slice_index_or, is_some, count_by}
 use Rattle.std.specs.List.{flat_map}
 use Rattle.std.specs.Option.{option_map_or}
-use Rattle.image_model.specs.Layout.{Layout, Fits}
-use Rattle.image_model.specs.Grid.{Grid, grid, grid_of, is_place, patch}
+use Rattle.image_model.specs.Grid.{Grid, grid, is_place, patch}
 use Rattle.image_model.specs.Rows.{table_rows}
 use Rattle.image_model.specs.Tiles.{tile_start}
-use Rattle.image_model.specs.Windows.{Window, window, window_view, IsInside, first_outside, path_window}
-use Rattle.imgref.specs.Image.{vec_layout}
-use Rattle.imgref.specs.declared.img.Img.{Img}
-use Rattle.imgref.specs.Window.{as_path}
-use Rattle.imgref_replay.specs.PlaceTests.{are_alike_pixels, agree_at_places}
-use Rattle.imgref_replay.specs.declared.commands.Place.{Place}
-use Rattle.imgref_replay.specs.declared.commands.Command.{Command}
-use Rattle.imgref_replay.specs.declared.commands.Command.TheVariants.{Get, Put, Fill, Count, Same, Blit, Mosaic, Compact}
-use Rattle.imgref_replay.specs.declared.commands.Refusal.{Refusal}
-use Rattle.imgref_replay.specs.declared.commands.Refusal.TheVariants.{NoImage, WindowOutside, PlaceOutside, SizesDiffer, NoTile}
-use Rattle.imgref_replay.specs.declared.commands.Reply.{Reply}
-use Rattle.imgref_replay.specs.declared.commands.Reply.TheVariants.{Pixel, Counted, Truth, Done}
+use Rattle.image_model.specs.Windows.{Window, window, window_view, first_outside, path_window}
+use Rattle.image_shape.specs.Window.{as_path}
+use Rattle.image_commands.specs.PlaceTests.{are_alike_pixels, agree_at_places}
+use Rattle.image_commands.specs.declared.commands.Place.{Place}
+use Rattle.image_commands.specs.declared.commands.Command.{Command}
+use Rattle.image_commands.specs.declared.commands.Command.TheVariants.{Get, Put, Fill, Count, Same, Blit, Mosaic, Compact}
+use Rattle.image_commands.specs.declared.commands.Refusal.{Refusal}
+use Rattle.image_commands.specs.declared.commands.Refusal.TheVariants.{NoImage, WindowOutside, PlaceOutside, SizesDiffer, NoTile}
+use Rattle.image_commands.specs.declared.commands.Reply.{Reply}
+use Rattle.image_commands.specs.declared.commands.Reply.TheVariants.{Pixel, Counted, Truth, Done}
 
 -- ---- what a place names
-
--- the layout of each image
-abbrev pub layouts_of : {T Z : Type 0} → List (Img (Vec T Z)) → List (Layout T)
-layouts_of images = map vec_layout images
-
--- each image fits
-abbrev pub AllFit : {T Z : Type 0} → List (Img (Vec T Z)) → Type 0
-AllFit images = All Fits (layouts_of images)
-
--- the grid of each image
-abbrev pub grids_of : {T Z : Type 0} → List (Img (Vec T Z)) → List (Grid T)
-grids_of images = map grid_of (layouts_of images)
 
 -- grid i of a list, and where there is none the grid with no place
 abbrev pub grid_at : {T : Type 0} → List (Grid T) → ℕ → Grid T
 grid_at grids i = slice_index_or grids i (grid 0 0 (λ _ _. None))
-
--- a window lies inside image i
-abbrev pub IsInsideOf : {T Z : Type 0} → List (Img (Vec T Z)) → ℕ → Window → Type 0
-IsInsideOf images i w = let g = grid_at (grids_of images) i in IsInside g.width g.height w
 
 -- how many images there are, and the size of each by its number
 pub record Sizes : Type 0 where

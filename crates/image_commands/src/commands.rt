@@ -1,6 +1,6 @@
 //! Commands over images, and their replies.
 
-use imgref::Window;
+use image_shape::Window;
 
 /// A window of one image: the image's number and a path of nested windows.
 #[derive(Drop)]
