@@ -7,9 +7,9 @@ use Rattle.image_commands.specs.declared.commands.Reply.{Reply}
 use Rattle.imgref_replay.specs.Run.{IsRun}
 use Rattle.imgref_run.specs.declared.fault.RunFault.{RunFault}
 use Rattle.imgref_run.specs.declared.fault.RunFault.TheVariants.{Line, Memory, Input, Output}
-use Rattle.imgref_run.specs.Line.{order_of, image_text}
-use Rattle.imgref_run.specs.Script.{lines_of, IsScript, AreGood, IsFirstBad}
-use Rattle.imgref_run.specs.Output.{output_text}
+use Rattle.script_text.specs.Line.{order_of, image_text}
+use Rattle.script_text.specs.Script.{lines_of, IsScript, AreGood, IsFirstBad}
+use Rattle.script_text.specs.Output.{output_text}
 use Rattle.devices.specs.Whole.{AppendsBeginning}
 
 -- the input is a script, and the text is its output: that of the replies to its commands, and of its images after them; the lines of these images are themselves the script of these images
