@@ -2,6 +2,7 @@
 //! of replies and images. Nothing here runs a command, reads from a device or writes to one.
 #![tactic(auto)]
 
+mod command;
 mod fault;
 mod fields;
 mod line;

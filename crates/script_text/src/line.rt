@@ -2,13 +2,14 @@
 
 ghost use Rattle.std.specs.Prelude.{◌≡◌, IfOk, IsErrOf, codes};
 ghost use Rattle.imgref.specs.Image.{vec_layout};
-ghost use Rattle.script_text.specs.Line.{Entry, IsEntry, IsLineOf, entry_text, order_of, entry_of, EachTextHasOneValue};
+ghost use Rattle.script_text.specs.Line.{Entry, IsEntry, IsLineOf, entry_text, entry_of, EachTextHasOneValue};
 ghost use Rattle.text_model.specs.Parts.{parts_of};
 ghost use Rattle.texts.specs.Parts.{parts_left};
-ghost use Rattle.script_text.specs.Reading.{Gives, order_at, order_in, image_in, line_in};
+ghost use Rattle.script_text.specs.Reading.{Gives, image_in, line_in};
 
+use crate::command::read_command;
 use crate::fault::LineFault;
-use crate::fields::{next_place, next_value, read_each};
+use crate::fields::{next_value, read_each};
 use image_commands::Command;
 use imgref::{Img, ImgVec};
 use std::alloc::Global;
@@ -40,73 +41,6 @@ fn read_image(alloc: Global, fields: &mut Parts<'_>) -> Result<ImgVec<u8>, LineF
         return Err(LineFault::Bad);
     }
     Ok(image)
-}
-
-/// The command with this word, and its fields at the front of those after it.
-#[tactic(auto, unfolding(crate::specs::Reading::arguments_at))]
-fn command_at(alloc: Global, word: &[u8], fields: &mut Parts<'_>) -> Result<Command<u8>, LineFault>
-    ensures { Gives (λ c. (order_of c, parts_left fields.new)) result
-        (order_at word.now (parts_left fields.old)) }
-{
-    if word == b"get".as_slice() {
-        let spot = next_place(alloc, fields)?;
-        let x = next_value(fields)?;
-        let y = next_value(fields)?;
-        Ok(Command::Get { spot, x, y })
-    } else if word == b"put".as_slice() {
-        let spot = next_place(alloc, fields)?;
-        let x = next_value(fields)?;
-        let y = next_value(fields)?;
-        let value = next_value(fields)?;
-        Ok(Command::Put { spot, x, y, value })
-    } else if word == b"fill".as_slice() {
-        let spot = next_place(alloc, fields)?;
-        let value = next_value(fields)?;
-        Ok(Command::Fill { spot, value })
-    } else if word == b"count".as_slice() {
-        let spot = next_place(alloc, fields)?;
-        let value = next_value(fields)?;
-        Ok(Command::Count { spot, value })
-    } else if word == b"same".as_slice() {
-        let first = next_place(alloc, fields)?;
-        let second = next_place(alloc, fields)?;
-        Ok(Command::Same { first, second })
-    } else if word == b"blit".as_slice() {
-        let source = next_place(alloc, fields)?;
-        let target = next_place(alloc, fields)?;
-        Ok(Command::Blit { source, target })
-    } else if word == b"mosaic".as_slice() {
-        let spot = next_place(alloc, fields)?;
-        let tile_width = next_value(fields)?;
-        let tile_height = next_value(fields)?;
-        Ok(Command::Mosaic {
-            spot,
-            tile_width,
-            tile_height,
-        })
-    } else if word == b"compact".as_slice() {
-        let image = next_value(fields)?;
-        Ok(Command::Compact { image })
-    } else {
-        Err(LineFault::Bad)
-    }
-}
-
-/// The command with this word and these fields after it, and no field more.
-#[tactic(auto, unfolding(crate::specs::Reading::order_in))]
-fn read_command(
-    alloc: Global,
-    word: &[u8],
-    fields: &mut Parts<'_>,
-) -> Result<Command<u8>, LineFault>
-    ensures { Gives order_of result (order_in word.now (parts_left fields.old)) }
-{
-    let command = command_at(alloc, word, fields)?;
-    if fields.is_done() {
-        Ok(command)
-    } else {
-        Err(LineFault::Bad)
-    }
 }
 
 // The value that the line is the text of, read field by field.
