@@ -26,6 +26,8 @@ CASES = [
     ("imgref", "cow", "into_owned", HANDED_BACK, "imgref_hostile_tests"),
     ("imgref", "cow", "into_vec", HANDED_BACK, "imgref_hostile_tests"),
     ("imgref_replay", "run", "replay", NO_ROOM, "imgref_replay_tests"),
+    ("script_text", "script", "read_script", "if true { return Err(ScriptFault::Memory); }", "imgref_run"),
+    ("script_text", "output", "format_output", NO_ROOM, "imgref_run"),
     ("imgref_run", "program", "run", "if true { return Err(RunFault::Memory); }", "imgref_run"),
 ]
 

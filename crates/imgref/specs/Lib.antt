@@ -12,5 +12,6 @@ pub mod Copies
 pub mod Eqhash
 pub mod Image
 pub mod Index
+pub mod Lists
 pub mod Written
 pub mod Words

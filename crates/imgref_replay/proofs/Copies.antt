@@ -9,11 +9,12 @@ use Rattle.imgref.specs.Image.{vec_layout}
 use Rattle.imgref.specs.declared.img.Img.{Img}
 use Rattle.image_model.specs.Windows as model
 use Rattle.image_model.specs.Windows.{IsInside, window_view}
-use Rattle.imgref_replay.specs.Commands.{grids_of, grid_at, Sizes, sizes_of, window_named, pair_faults, copy_faults}
+use Rattle.imgref.specs.Lists.{grids_of}
+use Rattle.image_commands.specs.Commands.{grid_at, Sizes, sizes_of, window_named, pair_faults, copy_faults}
 use Rattle.imgref_replay.specs.Step.{first_fault, IsStep, MayCopy, ShowsCopy}
-use Rattle.imgref_replay.specs.declared.commands.Place.{Place}
-use Rattle.imgref_replay.specs.declared.commands.Command.TheVariants.{Blit}
-use Rattle.imgref_replay.specs.declared.commands.Reply.TheVariants.{Done}
+use Rattle.image_commands.specs.declared.commands.Place.{Place}
+use Rattle.image_commands.specs.declared.commands.Command.TheVariants.{Blit}
+use Rattle.image_commands.specs.declared.commands.Reply.TheVariants.{Done}
 use Rattle.imgref_replay.proofs.Images.{fits_at, inside_at, grid_at-images, grids_set, fits_set, kept_set}
 use Rattle.imgref_replay.proofs.Steps.{faults_after}
 

@@ -5,8 +5,8 @@ use Rattle.std.specs.List.{fold, filter_map, flat_map, range_with_len, cons_opti
 use Rattle.std.proofs.lemmas.List.Sums.{fold-append}
 use Rattle.image_model.specs.Grid.{Grid}
 use Rattle.image_model.specs.Rows.{table_row, row_count, grid_pixels}
-use Rattle.imgref_replay.specs.PlaceTests.{are_alike_pixels}
-use Rattle.imgref_replay.specs.Commands.{count_places}
+use Rattle.image_commands.specs.PlaceTests.{are_alike_pixels}
+use Rattle.image_commands.specs.Commands.{count_places}
 
 module _ {T : Type 0} (test : T → Bool) where
   -- one more where the test holds

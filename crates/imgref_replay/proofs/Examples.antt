@@ -7,10 +7,10 @@ use Rattle.image_model.specs.Grid.{Grid, grid_of, patch, uniform, view}
 use Rattle.image_model.specs.Rows.{grid_joined_rows}
 use Rattle.imgref_replay.specs.Run.{replies_to, after_all}
 use Rattle.image_shape.specs.declared.window.Window.{Window}
-use Rattle.imgref_replay.specs.declared.commands.Place.{Place}
-use Rattle.imgref_replay.specs.declared.commands.Command.TheVariants.{Get, Put, Fill, Count, Same, Blit, Mosaic, Compact}
-use Rattle.imgref_replay.specs.declared.commands.Reply.TheVariants.{Pixel, Counted, Truth, Done, Refused}
-use Rattle.imgref_replay.specs.declared.commands.Refusal.TheVariants.{NoImage, WindowOutside, PlaceOutside, SizesDiffer, NoTile}
+use Rattle.image_commands.specs.declared.commands.Place.{Place}
+use Rattle.image_commands.specs.declared.commands.Command.TheVariants.{Get, Put, Fill, Count, Same, Blit, Mosaic, Compact}
+use Rattle.image_commands.specs.declared.commands.Reply.TheVariants.{Pixel, Counted, Truth, Done, Refused}
+use Rattle.image_commands.specs.declared.commands.Refusal.TheVariants.{NoImage, WindowOutside, PlaceOutside, SizesDiffer, NoTile}
 
 -- 3 by 2 at stride 4, with cells past the last pixel: 1 2 3 above 5 6 7
 abbrev padded : Grid ℕ

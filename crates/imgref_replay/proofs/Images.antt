@@ -13,10 +13,11 @@ use Rattle.image_model.proofs.Cells.{slice_get-set_other}
 use Rattle.imgref.specs.Image.{width_of, height_of, vec_layout}
 use Rattle.imgref.specs.declared.img.Img.{Img}
 use Rattle.imgref.specs.Window.{as_path}
-use Rattle.imgref_replay.specs.Commands.{grid_at, grids_of, sizes_of, window_faults}
+use Rattle.imgref.specs.Lists.{grids_of}
+use Rattle.image_commands.specs.Commands.{grid_at, sizes_of, window_faults}
 use Rattle.imgref_replay.specs.Step.{first_fault, AllKept}
-use Rattle.imgref_replay.specs.declared.commands.Place.{Place}
-use Rattle.imgref_replay.specs.declared.commands.Refusal.TheVariants.{WindowOutside}
+use Rattle.image_commands.specs.declared.commands.Place.{Place}
+use Rattle.image_commands.specs.declared.commands.Refusal.TheVariants.{WindowOutside}
 
 -- as many grids as images
 pub length-grids : {T Z : Type 0} (images : List (Img (Vec T Z))) → length (grids_of images) ≡ length images

@@ -5,15 +5,15 @@ use Rattle.std.specs.Cmp.{IsEquivalence}
 use Rattle.image_model.specs.Grid.{Grid, Agree, AlikePixels}
 use Rattle.image_model.specs.Windows.{window_view}
 use Rattle.image_model.proofs.Agreement.{agree_grid, agree_view, agree_patch}
-use Rattle.imgref_replay.specs.PlaceTests.{are_alike_pixels}
-use Rattle.imgref_replay.specs.Commands.{grid_at, sizes_of, window_named, view_named, Source, given, old, pixel_from, scene_of, Answer, shown, told, reply_of, Change, changed, meaning}
+use Rattle.image_commands.specs.PlaceTests.{are_alike_pixels}
+use Rattle.image_commands.specs.Commands.{grid_at, sizes_of, window_named, view_named, Source, given, old, pixel_from, scene_of, Answer, shown, told, reply_of, Change, changed, meaning}
 use Rattle.imgref_replay.specs.Step.{first_fault, fault_of, answer_to, effect_of, reply_to, after}
 use Rattle.imgref_replay.specs.Run.{replies_to, after_all}
 use Rattle.imgref_replay.specs.Layouts.{GridsAgree, AlikeReply, RepliesAgree}
-use Rattle.imgref_replay.specs.declared.commands.Command.{Command}
-use Rattle.imgref_replay.specs.declared.commands.Refusal.{Refusal}
-use Rattle.imgref_replay.specs.declared.commands.Reply.{Reply}
-use Rattle.imgref_replay.specs.declared.commands.Reply.TheVariants.{Pixel, Done, Refused}
+use Rattle.image_commands.specs.declared.commands.Command.{Command}
+use Rattle.image_commands.specs.declared.commands.Refusal.{Refusal}
+use Rattle.image_commands.specs.declared.commands.Reply.{Reply}
+use Rattle.image_commands.specs.declared.commands.Reply.TheVariants.{Pixel, Done, Refused}
 
 module _ {T : Type 0} (eq : T → T → Bool) where
   -- ---- one grid of each

@@ -10,7 +10,7 @@ use Rattle.image_model.specs.Alike.{Alike}
 use Rattle.image_model.proofs.Agreement.{agree_grid}
 use Rattle.image_model.proofs.Alike.{alike_agree}
 use Rattle.image_model.proofs.Grids.{at_place}
-use Rattle.imgref_replay.specs.PlaceTests.{at_each_place, are_alike_pixels, agree_at_places}
+use Rattle.image_commands.specs.PlaceTests.{at_each_place, are_alike_pixels, agree_at_places}
 
 -- each number of a range passes a test
 each_of_range : (test : ℕ → Bool) (a n : ℕ) → Decides (list_all test (range_with_len a n)) ((k : ℕ) → a ≤ k → k < a + n → IsTrue (test k))

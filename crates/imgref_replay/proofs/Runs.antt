@@ -9,8 +9,8 @@ use Rattle.image_model.specs.Compaction.{IsKept}
 use Rattle.image_model.proofs.Compaction.{kept_twice}
 use Rattle.imgref_replay.specs.Step.{reply_to, after, compacts}
 use Rattle.imgref_replay.specs.Run.{replies_to, after_all, IsRun}
-use Rattle.imgref_replay.specs.declared.commands.Command.{Command}
-use Rattle.imgref_replay.specs.declared.commands.Reply.{Reply}
+use Rattle.image_commands.specs.declared.commands.Command.{Command}
+use Rattle.image_commands.specs.declared.commands.Reply.{Reply}
 
 replies_append : {T : Type 0} (eq : T → T → Bool) (cs ds : List (Command T)) (grids : List (Grid T)) → replies_to eq (cs ++ ds) grids ≡ replies_to eq cs grids ++ replies_to eq ds (after_all cs grids)
 replies_append eq [] ds grids = refl

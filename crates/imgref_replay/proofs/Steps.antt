@@ -10,15 +10,16 @@ use Rattle.image_model.specs.Compaction.{IsKept, IsPacked, packed}
 use Rattle.image_model.proofs.Places.{outside_refl}
 use Rattle.imgref.specs.Image.{vec_layout}
 use Rattle.imgref.specs.declared.img.Img.{Img}
-use Rattle.imgref_replay.specs.Commands.{grids_of, grid_at, Sizes, sizes_of, window_named, lacks_image, window_faults, tile_faults, meaning}
+use Rattle.imgref.specs.Lists.{grids_of}
+use Rattle.image_commands.specs.Commands.{grid_at, Sizes, sizes_of, window_named, lacks_image, window_faults, tile_faults, meaning}
 use Rattle.imgref_replay.specs.Step.{first_fault, fault_of, answer_to, effect_of, compacts, AllKept, IsStep}
-use Rattle.imgref_replay.specs.declared.commands.Command.{Command}
-use Rattle.imgref_replay.specs.declared.commands.Command.TheVariants.{Compact}
-use Rattle.imgref_replay.specs.declared.commands.Place.{Place}
-use Rattle.imgref_replay.specs.declared.commands.Refusal.{Refusal}
-use Rattle.imgref_replay.specs.declared.commands.Reply.{Reply}
-use Rattle.imgref_replay.specs.declared.commands.Reply.TheVariants.{Done}
-use Rattle.imgref_replay.specs.declared.commands.Refusal.TheVariants.{NoImage}
+use Rattle.image_commands.specs.declared.commands.Command.{Command}
+use Rattle.image_commands.specs.declared.commands.Command.TheVariants.{Compact}
+use Rattle.image_commands.specs.declared.commands.Place.{Place}
+use Rattle.image_commands.specs.declared.commands.Refusal.{Refusal}
+use Rattle.image_commands.specs.declared.commands.Reply.{Reply}
+use Rattle.image_commands.specs.declared.commands.Reply.TheVariants.{Done}
+use Rattle.image_commands.specs.declared.commands.Refusal.TheVariants.{NoImage}
 use Rattle.imgref_replay.proofs.Images.{length-grids, grid_at-images, grids_set, fits_set, kept_set, same_grids}
 
 -- where the first tests don't hold, the others decide

@@ -2,8 +2,8 @@
 use Rattle.std.specs.Prelude.{◌≡◌, Bool, IsTrue, List}
 use Rattle.std.specs.List.{AllZip}
 use Rattle.image_model.specs.Grid.{Grid, Agree}
-use Rattle.imgref_replay.specs.declared.commands.Reply.{Reply}
-use Rattle.imgref_replay.specs.declared.commands.Reply.TheVariants.{Pixel}
+use Rattle.image_commands.specs.declared.commands.Reply.{Reply}
+use Rattle.image_commands.specs.declared.commands.Reply.TheVariants.{Pixel}
 
 -- as many grids in both, which agree one by one
 abbrev pub GridsAgree : {T : Type 0} → (T → T → Bool) → List (Grid T) → List (Grid T) → Type 0

@@ -4,8 +4,8 @@ use Rattle.std.specs.List.{list_any}
 use Rattle.image_model.specs.Layout.{Layout, Fits}
 use Rattle.image_model.specs.Grid.{Grid, grid_of}
 use Rattle.imgref_replay.specs.Step.{reply_to, after, compacts, AllKept}
-use Rattle.imgref_replay.specs.declared.commands.Command.{Command}
-use Rattle.imgref_replay.specs.declared.commands.Reply.{Reply}
+use Rattle.image_commands.specs.declared.commands.Command.{Command}
+use Rattle.image_commands.specs.declared.commands.Reply.{Reply}
 
 -- the replies, in order
 abbrev pub replies_to : {T : Type 0} → (T → T → Bool) → List (Command T) → List (Grid T) → List (Reply T)

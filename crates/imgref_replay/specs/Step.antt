@@ -1,16 +1,18 @@
--- One command: its reply, the grids after it, and the images after it.
-use Rattle.std.specs.Prelude.{◌≡◌, ℕ, ◌==◌, Bool, false, if◌then◌else◌, Option, Some, None, List, [], ◌∷◌, map, slice_get, slice_set, All, Result, IfOk}
+-- One command: its reply, what it makes of the grids, and what it leaves of the images.
+use Rattle.std.specs.Prelude.{◌≡◌, ℕ, ◌==◌, Bool, false, if◌then◌else◌, Option, Some, None, List, [], ◌∷◌, map, slice_get, slice_set, All, Vec, Result, IfOk}
 use Rattle.std.specs.Option.{option_map_or}
 use Rattle.std.specs.Result.{result_err}
 use Rattle.image_model.specs.Layout.{Layout, Fits}
 use Rattle.image_model.specs.Grid.{Grid, grid_of, patch}
 use Rattle.image_model.specs.Compaction.{IsKept}
 use Rattle.image_model.specs.Windows.{Window, IsInside}
-use Rattle.imgref_replay.specs.Commands.{grid_at, sizes_of, scene_of, reply_of, changed, meaning}
-use Rattle.imgref_replay.specs.declared.commands.Command.{Command}
-use Rattle.imgref_replay.specs.declared.commands.Refusal.{Refusal}
-use Rattle.imgref_replay.specs.declared.commands.Reply.{Reply}
-use Rattle.imgref_replay.specs.declared.commands.Reply.TheVariants.{Refused}
+use Rattle.imgref.specs.declared.img.Img.{Img}
+use Rattle.imgref.specs.Lists.{grids_of}
+use Rattle.image_commands.specs.Commands.{grid_at, sizes_of, scene_of, reply_of, changed, meaning}
+use Rattle.image_commands.specs.declared.commands.Command.{Command}
+use Rattle.image_commands.specs.declared.commands.Refusal.{Refusal}
+use Rattle.image_commands.specs.declared.commands.Reply.{Reply}
+use Rattle.image_commands.specs.declared.commands.Reply.TheVariants.{Refused}
 
 -- the refusal of the first test that holds
 abbrev pub first_fault : List (Bool × Refusal) → Option Refusal
@@ -45,7 +47,11 @@ compacts i command = option_map_or (λ image. image == i) ((meaning command).com
 abbrev pub AllKept : {T : Type 0} → (ℕ → Bool) → List (Layout T) → List (Layout T) → Type 0
 AllKept {T} compacted olds news = (i : ℕ) (old new : Layout T) → slice_get olds i ≡ Some old → slice_get news i ≡ Some new → IsKept (compacted i) old new
 
--- windows of the same size, each inside an image that fits
+-- a window lies inside image i
+abbrev pub IsInsideOf : {T Z : Type 0} → List (Img (Vec T Z)) → ℕ → Window → Type 0
+IsInsideOf images i w = let g = grid_at (grids_of images) i in IsInside g.width g.height w
+
+-- windows of one size, each inside an image that fits
 pub record MayCopy {T : Type 0} (target : Layout T) (to : Window) (source : Layout T) (from : Window) : Type 0 where
   pub fits : Fits target
   pub inside : IsInside target.width target.height to

@@ -6,8 +6,9 @@ ghost use Rattle.image_model.specs.Grid.{patch};
 ghost use Rattle.image_model.specs.Windows.{IsInside, window_view};
 ghost use Rattle.imgref.specs.Image.{vec_grid, vec_layout, width_of, height_of};
 ghost use Rattle.imgref.specs.Window.{as_window};
-ghost use Rattle.imgref_replay.specs.Commands.{AllFit, layouts_of, IsInsideOf, grids_of, grid_at};
-ghost use Rattle.imgref_replay.specs.Step.{MayCopy, ShowsCopy};
+ghost use Rattle.imgref.specs.Lists.{AllFit, layouts_of, grids_of};
+ghost use Rattle.image_commands.specs.Commands.{grid_at};
+ghost use Rattle.imgref_replay.specs.Step.{IsInsideOf, MayCopy, ShowsCopy};
 
 use imgref::{ImgVec, Window};
 

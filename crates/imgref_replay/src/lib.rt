@@ -2,14 +2,13 @@
 //! re-exports the tiles and the bands of `image_tiles`.
 #![tactic(auto)]
 
-mod commands;
 mod copy;
 mod mosaic;
 mod path;
 mod run;
 mod step;
 
-pub use commands::{Command, Place, Refusal, Reply};
+pub use image_commands::{Command, Place, Refusal, Reply};
 pub use image_tiles::{BandsMut, TileCursor, TilesMut, Tiling};
 pub use imgref::Window;
 pub use path::{into_window_at, window_at};

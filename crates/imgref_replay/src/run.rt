@@ -1,12 +1,12 @@
 //! Lists of commands, run over images from the first to the last.
 
 ghost use Rattle.std.specs.Prelude.{◌≡◌, IfOk, OnErr, length};
-ghost use Rattle.imgref_replay.specs.Commands.{AllFit, layouts_of, grids_of};
+ghost use Rattle.imgref.specs.Lists.{AllFit, layouts_of, grids_of};
 ghost use Rattle.imgref_replay.specs.Run.{IsRun};
 ghost use Rattle.imgref_replay.specs.Layouts.{GridsAgree, RepliesAgree};
 
-use crate::commands::{Command, Reply};
 use crate::step::step;
+use image_commands::{Command, Reply};
 use imgref::ImgVec;
 use std::alloc::{AllocError, Global};
 

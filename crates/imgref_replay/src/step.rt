@@ -6,14 +6,15 @@ ghost use Rattle.image_model.specs.Layout.{Fits};
 ghost use Rattle.image_model.specs.Rows.{pixels};
 ghost use Rattle.imgref.specs.Image.{ref_grid, ref_layout};
 ghost use Rattle.imgref.specs.Window.{as_window};
-ghost use Rattle.imgref_replay.specs.Commands.{AllFit, layouts_of, IsInsideOf, grids_of, sizes_of, window_named, view_named, window_faults, place_faults, pair_faults, IsPlaceNamed};
-ghost use Rattle.imgref_replay.specs.Step.{first_fault, IsStep};
+ghost use Rattle.imgref.specs.Lists.{AllFit, layouts_of, grids_of};
+ghost use Rattle.image_commands.specs.Commands.{sizes_of, window_named, view_named, window_faults, place_faults, pair_faults, IsPlaceNamed};
+ghost use Rattle.imgref_replay.specs.Step.{IsInsideOf, first_fault, IsStep};
 ghost use Rattle.imgref_replay.specs.Run.{IsRun};
 
-use crate::commands::{Command, Place, Refusal, Reply};
 use crate::copy::copy_between;
 use crate::mosaic::mosaic_window;
 use crate::path::path_window;
+use image_commands::{Command, Place, Refusal, Reply};
 use imgref::{ImgRef, ImgVec, Window};
 
 /// The window that a place names in its image, or the first fault of the place.

@@ -1,13 +1,9 @@
 -- What a run wrote, from what its parts did.
-use Rattle.std.proofs.Common.{◌≡◌, ℕ, List, [], ◌∷◌, ◌++◌, Option, Some, None, Result, Ok, Err, sym, ap, subst, ◌∙◌, IfSome, OnOk, OnErr, IfErr, All}
-use Rattle.std.specs.List.{AllByRecursion}
+use Rattle.std.proofs.Common.{◌≡◌, ℕ, List, ◌++◌, Option, Some, None, Result, Ok, Err, sym, ap, subst, ◌∙◌, IfSome, OnOk, OnErr, IfErr}
 use Rattle.std.specs.Io.KnownBytes.{Consumes, IsAtEnd, Appends}
 use Rattle.std.proofs.lemmas.List.{append-nil}
-use Rattle.std.proofs.lemmas.List.Elements.{All-from_recursion}
-use Rattle.image_model.specs.Layout.{Layout, Fits}
 use Rattle.imgref_run.specs.declared.fault.RunFault.{RunFault}
 use Rattle.imgref_run.specs.declared.fault.RunFault.TheVariants.{Output}
-use Rattle.imgref_run.specs.Line.{IsImage}
 use Rattle.devices.specs.Whole.{AppendsBeginning}
 use Rattle.imgref_run.specs.Program.{Writes, IsOutputOf}
 
@@ -25,11 +21,3 @@ wrote (Ok x) input left old new bytes text gave end output ok err fault =
 wrote (Err Output) input left old new bytes text gave end output ok err fault =
     known_whole input left bytes (λ bs. (t : List ℕ) × IsOutputOf bs t × AppendsBeginning old new t) gave end (text, output, err)
 wrote _ input left old new bytes text gave end output ok err fault = absurd cc
-
-layouts_fit : (images : List (Layout ℕ)) → AllByRecursion IsImage images → AllByRecursion Fits images
-layouts_fit [] all = tt
-layouts_fit (i ∷ images) all = (all.0.fits, layouts_fit images all.1)
-
--- the images of a script fit, so its commands may be run on them
-pub All-fit : (images : List (Layout ℕ)) → AllByRecursion IsImage images → All Fits images
-All-fit images all = All-from_recursion Fits images (layouts_fit images all)

@@ -4,7 +4,9 @@ use Rattle.std.specs.Fmt.{decimal}
 use Rattle.devices.specs.Fault.{memory_text, input_text, output_text}
 use Rattle.imgref_run.specs.declared.fault.RunFault.{RunFault}
 use Rattle.imgref_run.specs.declared.fault.RunFault.TheVariants.{Line, Memory, Input, Output}
-use Rattle.imgref_run.specs.Script.{IsFirstBad}
+use Rattle.script_text.specs.Script.{IsFirstBad}
+use Rattle.script_text.specs.declared.fault.ScriptFault.{ScriptFault}
+use Rattle.script_text.specs.declared.fault.ScriptFault.TheVariants.{Line as BadLine, Memory as NoMemory}
 
 -- the status that the program ends with, and what it prints
 abbrev pub ends_with : RunFault → ℕ × List ℕ
@@ -19,7 +21,12 @@ status_of fault = (ends_with fault).0
 abbrev pub fault_text : RunFault → List ℕ
 fault_text fault = (ends_with fault).1
 
--- by how much a run with this result raised the reader's count
+-- why a run ended whose script could not be read
+abbrev pub of_script : ScriptFault → RunFault
+of_script (BadLine n) = Line n
+of_script NoMemory = Memory
+
+-- by how much a run with this answer raised the reader's count
 abbrev pub reader_failures : {T : Type 0} → Result T RunFault → ℕ
 reader_failures (Err Input) = 1
 reader_failures _ = 0

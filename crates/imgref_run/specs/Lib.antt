@@ -1,7 +1,2 @@
-pub mod Fields
-pub mod Line
-pub mod Script
-pub mod Output
 pub mod Program
 pub mod Fault
-pub mod Reading

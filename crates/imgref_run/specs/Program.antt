@@ -2,14 +2,14 @@
 use Rattle.std.specs.Prelude.{◌≡◌, ◌==◌, ℕ, List, [], map, length, Option, Result, Ok, Err, IfSome}
 use Rattle.std.specs.Io.KnownBytes.{Appends, Keeps, IsAtEnd}
 use Rattle.image_model.specs.Layout.{Layout}
-use Rattle.imgref_replay.specs.declared.commands.Command.{Command}
-use Rattle.imgref_replay.specs.declared.commands.Reply.{Reply}
+use Rattle.image_commands.specs.declared.commands.Command.{Command}
+use Rattle.image_commands.specs.declared.commands.Reply.{Reply}
 use Rattle.imgref_replay.specs.Run.{IsRun}
 use Rattle.imgref_run.specs.declared.fault.RunFault.{RunFault}
 use Rattle.imgref_run.specs.declared.fault.RunFault.TheVariants.{Line, Memory, Input, Output}
-use Rattle.imgref_run.specs.Line.{order_of, image_text}
-use Rattle.imgref_run.specs.Script.{lines_of, IsScript, AreGood, IsFirstBad}
-use Rattle.imgref_run.specs.Output.{output_text}
+use Rattle.script_text.specs.Line.{order_of, image_text}
+use Rattle.script_text.specs.Script.{lines_of, IsScript, AreGood, IsFirstBad}
+use Rattle.script_text.specs.Output.{output_text}
 use Rattle.devices.specs.Whole.{AppendsBeginning}
 
 -- the input is a script, and the text is its output: the lines of the replies to its commands, and those of its images after them, which are themselves the script of these images

@@ -1,39 +1,11 @@
-//! Why a line can't be read, and why a run ended.
+//! Why a run ended.
 
 ghost use Rattle.std.specs.Prelude.{◌≡◌, Some};
 
 use devices::{INPUT_TEXT, MEMORY_TEXT, OUTPUT_TEXT};
-use std::alloc::{AllocError, AllocFailed};
+use script_text::ScriptFault;
+use std::alloc::AllocError;
 use std::fmt;
-
-/// Why a line can't be read.
-#[derive(Clone, Copy)]
-pub(crate) enum LineFault {
-    /// Out of memory for its value.
-    Memory,
-    /// It isn't a good line.
-    Bad,
-}
-
-impl From<AllocError> for LineFault {
-    ghost use Rattle.imgref_run.specs.declared.fault.LineFault.TheVariants.{Memory};
-
-    ghost from_gives = { λ _ e. e ≡ Memory };
-
-    fn from(_e: AllocError) -> LineFault {
-        LineFault::Memory
-    }
-}
-
-impl<T: Drop> From<AllocFailed<T>> for LineFault {
-    ghost use Rattle.imgref_run.specs.declared.fault.LineFault.TheVariants.{Memory};
-
-    ghost from_gives = { λ _ e. e ≡ Memory };
-
-    fn from(_e: AllocFailed<T>) -> LineFault {
-        LineFault::Memory
-    }
-}
 
 /// Why a run ended before its whole output was written.
 #[derive(Clone, Copy, Debug, PartialEq, Eq)]
@@ -86,5 +58,18 @@ impl From<AllocError> for RunFault {
 
     fn from(_e: AllocError) -> RunFault {
         RunFault::Memory
+    }
+}
+
+impl From<ScriptFault> for RunFault {
+    ghost use Rattle.imgref_run.specs.Fault.{of_script};
+
+    ghost from_gives = { λ fault e. e ≡ of_script fault };
+
+    fn from(fault: ScriptFault) -> RunFault {
+        match fault {
+            ScriptFault::Line(number) => RunFault::Line(number),
+            ScriptFault::Memory => RunFault::Memory,
+        }
     }
 }

@@ -4,14 +4,11 @@
 #[cfg(test)]
 mod device_tests;
 mod fault;
-mod fields;
 #[cfg(test)]
 mod fixtures;
 mod input;
-mod line;
 mod output;
 mod program;
-mod script;
 
 pub use devices::Counted;
 pub use fault::RunFault;

@@ -2,17 +2,17 @@
 
 ghost use Rattle.std.specs.Prelude.{◌≡◌, ◌<◌, ◌+◌, IfOk, IfErr};
 ghost use Rattle.devices.specs.Device.{device_of, failures_of};
+ghost use Rattle.script_text.specs.Line.{EachTextHasOneValue};
+ghost use Rattle.script_text.specs.Script.{lines_of};
 ghost use Rattle.imgref_run.specs.Fault.{reader_failures, writer_failures, ExplainsBad};
-ghost use Rattle.imgref_run.specs.Line.{EachTextHasOneValue};
 ghost use Rattle.imgref_run.specs.Program.{IsOutputOf, Writes, ReadsAll};
-ghost use Rattle.imgref_run.specs.Script.{lines_of};
 
 use crate::fault::RunFault;
 use crate::input::read_all;
-use crate::output::{output, write_all};
-use crate::script::read_script;
+use crate::output::write_all;
 use devices::Counted;
 use imgref_replay::replay;
+use script_text::{format_output, lines_have_one_value, read_script};
 use std::alloc::Global;
 use std::io::{Read, Write};
 
@@ -25,12 +25,11 @@ fn output_of(alloc: Global, input: Vec<u8>) -> Result<Vec<u8>, RunFault>
     // The commands hold all that is needed of it, and take as much room.
     drop(input);
     let replies = replay(alloc, &mut script.images, &script.commands)?;
-    Ok(output(alloc, &replies, &script.images)?)
+    Ok(format_output(alloc, &replies, &script.images)?)
 }
 
 /// Reads a whole script, runs its commands on its images, and writes the replies and then the
 /// images. Nothing is written before the whole output is in memory.
-#[tactic(auto, using(crate::proofs::LineTexts::one_value))]
 pub fn run<R: Read, W: Write>(
     alloc: Global,
     reader: &mut Counted<R>,
@@ -53,6 +52,7 @@ pub fn run<R: Read, W: Write>(
     // So the output of a script is the output of the only values that its lines are the text of.
     ensures one_value { EachTextHasOneValue }
 {
+    lines_have_one_value();
     let input = read_all(alloc, reader)?;
     let text = output_of(alloc, input)?;
     write_all(writer, &text)

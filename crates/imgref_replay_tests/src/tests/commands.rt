@@ -2,7 +2,7 @@
 //! What a script can say stands in the folder cases/.
 
 ghost use Rattle.std.specs.Prelude.{IfOk};
-ghost use Rattle.imgref_replay.specs.Commands.{AllFit};
+ghost use Rattle.imgref_replay.specs.Lists.{AllFit};
 
 use super::fixtures::{ALL, Line, commands, has, image, window};
 use imgref::ImgVec;

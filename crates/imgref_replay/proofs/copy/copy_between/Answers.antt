@@ -3,7 +3,8 @@ use Rattle.std.proofs.Common.{◌≡◌, ◌<◌, get_or, map, set, ap, sym, ◌
 use Rattle.image_model.specs.Windows.{IsInside, window_view}
 use Rattle.imgref.specs.Image.{vec_layout}
 use Rattle.imgref.specs.Window.{as_window}
-use Rattle.imgref_replay.specs.Commands.{grid_at, grids_of}
+use Rattle.imgref.specs.Lists.{grids_of}
+use Rattle.image_commands.specs.Commands.{grid_at}
 use Rattle.imgref_replay.specs.Step.{ShowsCopy}
 use Rattle.imgref_replay.proofs.Images.{fits_at, inside_at}
 use Rattle.imgref_replay.proofs.Copies.{may_copy, copied, in_front, in_back, set_front, set_back}

@@ -1,5 +1,5 @@
 use Rattle.std.proofs.Common.{sym, subst}
-use Rattle.imgref_replay.specs.Commands.{grids_of}
+use Rattle.imgref.specs.Lists.{grids_of}
 use Rattle.imgref_replay.specs.Run.{replies_to, after_all}
 use Rattle.imgref_replay.specs.Layouts.{GridsAgree, RepliesAgree}
 use Rattle.imgref_replay.proofs.Layouts as layouts

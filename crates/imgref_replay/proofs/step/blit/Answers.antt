@@ -1,5 +1,6 @@
 use Rattle.imgref.specs.Window.{as_window}
-use Rattle.imgref_replay.specs.Commands.{grids_of, sizes_of}
+use Rattle.imgref.specs.Lists.{grids_of}
+use Rattle.image_commands.specs.Commands.{sizes_of}
 use Rattle.imgref_replay.proofs.Copies.{no_copy_fault, blitted}
 use Rattle.imgref_replay.proofs.step.blit.Goals as goal
 

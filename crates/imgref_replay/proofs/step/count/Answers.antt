@@ -3,8 +3,9 @@ use Rattle.image_model.specs.Grid.{view}
 use Rattle.image_model.specs.Rows.{grid_pixels}
 use Rattle.image_model.proofs.Rows.{grid_joined_rows_of}
 use Rattle.imgref.specs.Image.{ref_layout}
-use Rattle.imgref_replay.specs.Commands.{grids_of, view_named}
-use Rattle.imgref_replay.specs.declared.commands.Reply.TheVariants.{Counted}
+use Rattle.imgref.specs.Lists.{grids_of}
+use Rattle.image_commands.specs.Commands.{view_named}
+use Rattle.image_commands.specs.declared.commands.Reply.TheVariants.{Counted}
 use Rattle.imgref_replay.proofs.Counts.{count_is}
 use Rattle.imgref_replay.proofs.Steps.{asked}
 use Rattle.imgref_replay.proofs.step.count.Goals as goal

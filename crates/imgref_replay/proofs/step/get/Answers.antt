@@ -4,8 +4,9 @@ use Rattle.image_model.specs.Grid.{grid_of, view}
 use Rattle.image_model.proofs.Grids.{at_place, pixel_at}
 use Rattle.image_model.proofs.Places.{cell_within}
 use Rattle.imgref.specs.Image.{vec_layout}
-use Rattle.imgref_replay.specs.Commands.{grids_of, grid_at, sizes_of, window_named, view_named}
-use Rattle.imgref_replay.specs.declared.commands.Reply.TheVariants.{Pixel, Done}
+use Rattle.imgref.specs.Lists.{grids_of}
+use Rattle.image_commands.specs.Commands.{grid_at, sizes_of, window_named, view_named}
+use Rattle.image_commands.specs.declared.commands.Reply.TheVariants.{Pixel, Done}
 use Rattle.imgref_replay.proofs.Images.{fits_at, place_at, grid_at-images}
 use Rattle.imgref_replay.proofs.Steps.{asked}
 use Rattle.imgref_replay.proofs.step.get.Goals as goal

@@ -2,7 +2,8 @@ use Rattle.std.proofs.Common.{get_or, ap, refl, arith}
 use Rattle.image_model.specs.Grid.{patch, view}
 use Rattle.image_model.specs.Windows.{window_view}
 use Rattle.imgref.specs.Window.{as_window}
-use Rattle.imgref_replay.specs.Commands.{grids_of, sizes_of}
+use Rattle.imgref.specs.Lists.{grids_of}
+use Rattle.image_commands.specs.Commands.{sizes_of}
 use Rattle.image_ops.specs.Mosaic.{mosaic}
 use Rattle.imgref_replay.proofs.Images.{fits_at, inside_at}
 use Rattle.imgref_replay.proofs.Steps.{no_tile_fault, wrote}

@@ -1,7 +1,8 @@
 use Rattle.std.proofs.Common.{◌≡◌, ◌+◌, get_or, ap, ◌∙◌, refl}
 use Rattle.image_model.specs.Grid.{grid_of, patch, uniform}
 use Rattle.imgref.specs.Image.{vec_layout}
-use Rattle.imgref_replay.specs.Commands.{grids_of, sizes_of, window_named}
+use Rattle.imgref.specs.Lists.{grids_of}
+use Rattle.image_commands.specs.Commands.{sizes_of, window_named}
 use Rattle.imgref_replay.proofs.Images.{fits_at, place_at}
 use Rattle.imgref_replay.proofs.Steps.{wrote}
 use Rattle.imgref_replay.proofs.step.put.Goals as goal

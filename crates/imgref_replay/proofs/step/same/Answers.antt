@@ -1,8 +1,9 @@
 use Rattle.std.proofs.Common.{refl, ap}
 use Rattle.image_model.specs.Grid.{view}
 use Rattle.imgref.specs.Image.{ref_layout}
-use Rattle.imgref_replay.specs.Commands.{grids_of, view_named}
-use Rattle.imgref_replay.specs.declared.commands.Reply.TheVariants.{Truth}
+use Rattle.imgref.specs.Lists.{grids_of}
+use Rattle.image_commands.specs.Commands.{view_named}
+use Rattle.image_commands.specs.declared.commands.Reply.TheVariants.{Truth}
 use Rattle.imgref_replay.proofs.PlaceTests.{views_tested}
 use Rattle.imgref_replay.proofs.Steps.{asked}
 use Rattle.imgref_replay.proofs.step.same.Goals as goal

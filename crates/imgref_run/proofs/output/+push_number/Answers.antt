@@ -1,8 +1,0 @@
-use Rattle.std.proofs.Common.{append_assoc, arith}
-use Rattle.imgref_run.proofs.Digits.{last_digit}
-use Rattle.imgref_run.proofs.output.+push_number.Goals as goal
-
-pub returns : goal.returns
-returns t c =
-    let more = last_digit c.args.number (omega (arith, c.if-number-lt10.false)) (omega arith) in
-    rw (c.in_ok-extend_from_slice.ensures.items, c.in_ok-push_number.ensures, c.last_digit-2.ensures, more) (simp append_assoc)

@@ -1,0 +1,9 @@
+pub mod FieldsEach
+pub mod PathTexts
+pub mod LineOrders
+pub mod LineImages
+pub mod LineTexts
+pub mod ScriptLines
+pub mod ScriptGood
+pub mod OutputImages
+pub mod Digits

@@ -1,0 +1,127 @@
+-- Good lines: what a script that is read line by line comes to.
+use Rattle.std.proofs.Common.{◌≡◌, ℕ, suc, ◌+◌, ◌-◌, ◌<◌, ◌≤◌, true, false, eqb, List, [], ◌∷◌, ◌++◌, map, length, take, drop, get_or, refl, sym, ap, subst, ◌∙◌, arith, add-one, below_more, All}
+use Rattle.std.proofs.lemmas.Bool.{eqb-false, eqb-true}
+use Rattle.std.proofs.lemmas.List.{take_all, length-drop, append-nil}
+use Rattle.std.proofs.Math.Seq.{drop-cons, take-suc}
+use Rattle.std.specs.List.{AllByRecursion}
+use Rattle.std.proofs.lemmas.List.Elements.{recursion_from_All, All-from_recursion}
+use Rattle.image_model.specs.Layout.{Layout, Fits}
+use Rattle.script_text.specs.Line.{Order, Entry, image_line, order_line, image_text, order_text, IsImage, IsOrder, IsLineOf}
+use Rattle.script_text.specs.Script.{IsScript, NoCommand, MayFollow, IsGood, IsGoodAt, AreGood, IsFirstBad}
+use Rattle.script_text.proofs.LineTexts.{one_value}
+
+-- ---- one more line
+
+-- no image's line is a command's
+not_order : (i : Layout ℕ) (o : Order) → IsImage i → IsOrder o → image_text i ≡ order_text o → ⊥
+not_order i o isi iso same = let e = one_value (image_line i) (order_line o) isi iso same in cc
+
+no_command : (images : List (Layout ℕ)) → AllByRecursion IsImage images → NoCommand (map image_text images)
+no_command [] all = tt
+no_command (i ∷ images) all = (λ o iso same. not_order i o all.0 iso same, no_command images all.1)
+
+-- a command among the lines
+not_commandless : (images : List (Layout ℕ)) (o : Order) (orders : List Order) → IsOrder o → NoCommand (map image_text images ++ map order_text (o ∷ orders)) → ⊥
+not_commandless [] o orders is none = none.0 o is refl
+not_commandless (i ∷ images) o orders is none = not_commandless images o orders is none.1
+
+-- where there are images alone, no line is a command's
+pub only_images : (before : List (List ℕ)) (images : List (Layout ℕ)) (orders : List Order) → IsScript before images orders → orders ≡ [] → NoCommand before
+only_images before images orders script none =
+    let texts : before ≡ map image_text images = script.texts ∙ ap (λ os. map image_text images ++ map order_text os) none ∙ append-nil (map image_text images) in
+    subst NoCommand (sym texts) (no_command images script.images_in_range)
+
+-- an image's line is good where no command is before it
+pub good_image : (before : List (List ℕ)) (line : List ℕ) (i : Layout ℕ) → IsLineOf line (image_line i) → NoCommand before → IsGood before line
+good_image before line i is none = record { entry = image_line i; in_range = is.in_range; text = is.text; may_follow = none }
+
+follows_none : (before : List (List ℕ)) (images : List (Layout ℕ)) (o : Order) (orders : List Order) (i : Layout ℕ) (d : Entry) → IsScript before images (o ∷ orders) → image_line i ≡ d → MayFollow before d → ⊥
+follows_none before images o orders i d script same may =
+    let none : NoCommand before = subst (MayFollow before) (sym same) may in
+    not_commandless images o orders script.orders_in_range.0 (subst NoCommand script.texts none)
+
+-- an image's line isn't good after a command's
+pub late_image : (before : List (List ℕ)) (images : List (Layout ℕ)) (orders : List Order) (line : List ℕ) (i : Layout ℕ) → IsScript before images orders → 0 < length orders
+    → IsLineOf line (image_line i) → IsGood before line → ⊥
+late_image before images [] line i script many is good = omega arith
+late_image before images (o ∷ orders) line i script many is good =
+    follows_none before images o orders i good.entry script (sym (is.only good.entry good.in_range good.text)) good.may_follow
+
+-- ---- the next of the lines
+
+pub record IsNext (all : List (List ℕ)) (n : ℕ) (line : List ℕ) (rest : List (List ℕ)) : Type 0 where
+  pub within : n < length all
+  pub taken : take (n + 1) all ≡ take n all ++ line ∷ []
+  pub left : drop (n + 1) all ≡ rest
+  pub here : get_or all n [] ≡ line
+
+not_past : (all : List (List ℕ)) (n : ℕ) (line : List ℕ) (rest : List (List ℕ)) → drop n all ≡ line ∷ rest → n < length all
+not_past all n line rest e = omega (arith, length-drop n all, ap length e)
+
+pub next_is : (all : List (List ℕ)) (n : ℕ) (line : List ℕ) (rest : List (List ℕ)) → drop n all ≡ line ∷ rest → IsNext all n line rest
+next_is all n line rest e =
+    let lt = not_past all n line rest e in
+    let cut : get_or all n [] ∷ drop (suc n) all ≡ line ∷ rest = sym (drop-cons all n [] lt) ∙ e in
+    let first : get_or all n [] ≡ line = cc in
+    let others : drop (suc n) all ≡ rest = cc in
+    record {
+      within = lt;
+      taken = rw add-one (take-suc all n [] lt ∙ ap (λ (l : List ℕ). take n all ++ l ∷ []) first);
+      left = rw add-one others;
+      here = first;
+    }
+
+-- ---- a script that is read line by line
+
+pub none_mapped : {A B : Type 0} (f : A → B) (xs : List A) (n : ℕ) → n ≡ length xs → true ≡ eqb n 0 → map f xs ≡ []
+none_mapped f [] n e test = refl
+none_mapped f (x ∷ xs) n e test = absurd (omega (arith, eqb-true n 0 (sym test)))
+
+pub some_mapped : {A B : Type 0} (f : A → B) (xs : List A) (n : ℕ) → n ≡ length xs → false ≡ eqb n 0 → 0 < length (map f xs)
+some_mapped f [] n e test = absurd (eqb-false n 0 (sym test) e)
+some_mapped f (x ∷ xs) n e test = omega arith
+
+pub empty_script : (images : List (Layout ℕ)) (orders : List Order) → images ≡ [] → orders ≡ [] → IsScript [] images orders
+empty_script images orders a b = rw (a, b) (record { texts = refl; images_in_range = tt; orders_in_range = tt })
+
+pub none_good : (all : List (List ℕ)) → AreGood all 0
+none_good all k lt = absurd (omega arith)
+
+pub more_good : (all : List (List ℕ)) (n : ℕ) (line : List ℕ) (rest : List (List ℕ)) → IsNext all n line rest → AreGood all n → IsGood (take n all) line → AreGood all (n + 1)
+more_good all n line rest next good here =
+    let P : ℕ → Type 0 = IsGoodAt all in
+    below_more P n good (rw next.here here)
+
+pub first_bad : (all : List (List ℕ)) (n : ℕ) (line : List ℕ) (rest : List (List ℕ)) → IsNext all n line rest → AreGood all n
+    → (IsGood (take n all) line → ⊥) → IsFirstBad all (n + 1)
+first_bad all n line rest next good bad =
+    let back : n + 1 - 1 ≡ n = omega arith in
+    record {
+      positive = omega arith;
+      within = omega (arith, next.within);
+      good_before = rw back good;
+      bad = rw (back, next.here) bad;
+    }
+
+past_end : (all : List (List ℕ)) (n : ℕ) → drop n all ≡ [] → length all ≤ n
+past_end all n none = omega (arith, length-drop n all, ap length none)
+
+pub whole_script : (all : List (List ℕ)) (n : ℕ) (images : List (Layout ℕ)) (orders : List Order) → drop n all ≡ [] → IsScript (take n all) images orders → IsScript all images orders
+whole_script all n images orders none script = rw (take_all n all (past_end all n none)) at script
+
+pub all_good : (all : List (List ℕ)) (n : ℕ) → drop n all ≡ [] → AreGood all n → AreGood all (length all)
+all_good all n none good k lt = good k (omega (arith, past_end all n none))
+
+-- ---- the lines of images
+
+-- images that scripts may hold are a script by themselves
+pub own_script : (images : List (Layout ℕ)) → All IsImage images → IsScript (map image_text images) images []
+own_script images good = record { texts = sym (append-nil (map image_text images)); images_in_range = recursion_from_All IsImage images good; orders_in_range = tt }
+
+layouts_fit : (images : List (Layout ℕ)) → AllByRecursion IsImage images → AllByRecursion Fits images
+layouts_fit [] all = tt
+layouts_fit (i ∷ images) all = (all.0.fits, layouts_fit images all.1)
+
+-- images that scripts may hold fit
+pub All-fit : (images : List (Layout ℕ)) → AllByRecursion IsImage images → All Fits images
+All-fit images all = All-from_recursion Fits images (layouts_fit images all)

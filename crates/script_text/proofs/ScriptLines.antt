@@ -1,0 +1,35 @@
+-- How many lines bytes have.
+use Rattle.std.proofs.Common.{◌≡◌, ℕ, suc, ◌+◌, ◌≤◌, Bool, true, false, cond, eqb, List, [], ◌∷◌, length, refl, arith}
+use Rattle.std.specs.List.{onto_first}
+use Rattle.text_model.specs.Parts.{parts_of}
+use Rattle.script_text.specs.Script.{whole_lines, lines_of}
+
+one_at_most : (b : Bool) (piece : List ℕ) → length (cond b [] (piece ∷ [])) ≤ 1
+one_at_most true piece = omega arith
+one_at_most false piece = omega arith
+
+whole_onto : (x : ℕ) (pieces : List (List ℕ)) → length (whole_lines (onto_first x pieces)) ≤ 1 + length (whole_lines pieces)
+whole_onto x [] = omega (arith, one_at_most (eqb (length (x ∷ [])) 0) (x ∷ []))
+whole_onto x (piece ∷ []) = omega (arith, one_at_most (eqb (length (x ∷ piece)) 0) (x ∷ piece))
+whole_onto x (piece ∷ next ∷ more) = omega arith
+
+whole_more : (pieces : List (List ℕ)) → length (whole_lines ([] ∷ pieces)) ≤ 1 + length (whole_lines pieces)
+whole_more [] = omega arith
+whole_more (piece ∷ more) = omega arith
+
+whole_step : (p : Bool) (x : ℕ) (pieces : List (List ℕ)) (n : ℕ) → length (whole_lines pieces) ≤ n → length (whole_lines (cond p ([] ∷ pieces) (onto_first x pieces))) ≤ suc n
+whole_step true x pieces n h = omega (arith, whole_more pieces)
+whole_step false x pieces n h = omega (arith, whole_onto x pieces)
+
+whole_few : (bytes : List ℕ) → length (whole_lines (parts_of 10 bytes)) ≤ length bytes
+whole_few [] = omega arith
+whole_few (b ∷ bytes) = whole_step (eqb b 10) b (parts_of 10 bytes) (length bytes) (whole_few bytes)
+
+-- no more than bytes
+pub length-lines_of : (bytes : List ℕ) → length (lines_of bytes) ≤ length bytes
+unfolding lines_of
+length-lines_of bytes = whole_few bytes
+
+pub lines_of-is : (bytes : List ℕ) → lines_of bytes ≡ whole_lines (parts_of 10 bytes)
+unfolding lines_of
+lines_of-is bytes = refl

@@ -1,0 +1,21 @@
+use Rattle.std.proofs.Common.{map, arith}
+use Rattle.std.proofs.lemmas.Grind.{common_steps}
+use Rattle.std.proofs.lemmas.List.{take_all}
+use Rattle.image_model.specs.Layout.{Fits}
+use Rattle.imgref.specs.Image.{vec_layout}
+use Rattle.script_text.specs.Line.{IsImage}
+use Rattle.script_text.proofs.ScriptGood.{own_script}
+use Rattle.script_text.proofs.OutputImages.{at_image, more_images}
+use Rattle.script_text.proofs.output.format_output.Goals as goal
+
+pub push_image-requires : goal.push_image-requires
+push_image-requires c = at_image Fits vec_layout c.args.images.now c.loop-image.image-index c.image-item.result c.loop-image-test.true c.image-item.is c.requires
+
+pub loop-image-preserved : goal.loop-image-preserved
+loop-image-preserved c = record {
+  text = grind (arith, common_steps);
+  good = more_images IsImage vec_layout c.args.images.now c.loop-image.image-index c.image-item.result c.loop-image-test.true c.image-item.is c.loop-image.invariant.good c.in_ok-push_image.ensures.good;
+}
+
+pub returns-clause-again : goal.returns-clause-again
+returns-clause-again c = own_script (map vec_layout c.args.images.now) (rw (take_all c.loop-image.image-index c.args.images.now (omega (arith, c.loop-image-test.false))) at c.loop-image.invariant.good)

@@ -1,0 +1,5 @@
+pub mod Fields
+pub mod Line
+pub mod Script
+pub mod Output
+pub mod Reading

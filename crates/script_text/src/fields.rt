@@ -1,0 +1,72 @@
+//! The fields of a line: values of one kind, paths and places.
+
+ghost use Rattle.std.specs.Prelude.{◌≡◌};
+ghost use Rattle.script_text.specs.Line.{place_of};
+ghost use Rattle.texts.specs.Parts.{parts_left};
+ghost use Rattle.script_text.specs.Reading.{Gives, path_of, path_at, place_at};
+ghost use Rattle.text_model.specs.Reading.{each_of, first_of_parts};
+
+use crate::fault::LineFault;
+use image_commands::{Place, Window};
+use std::alloc::Global;
+use texts::{Field, Parts};
+
+/// The values that all remaining parts denote. The memory for this many values is allocated at the
+/// start.
+pub(crate) fn read_each<T: Field>(
+    alloc: Global,
+    parts: &mut Parts<'_>,
+    room: usize,
+) -> Result<Vec<T>, LineFault>
+    ensures { Gives (λ values. values.items) result (each_of T.reading (parts_left parts.old)) }
+{
+    let mut values = Vec::with_capacity(alloc, room)?;
+    while let Some(part) = parts.next_part() {
+        let Some(value) = T::read(part) else {
+            return Err(LineFault::Bad);
+        };
+        values.push(value)?;
+    }
+    Ok(values)
+}
+
+/// The value that the next field denotes.
+pub(crate) fn next_value<T: Field>(fields: &mut Parts<'_>) -> Result<T, LineFault>
+    ensures { Gives (λ x. (x, parts_left fields.new)) result
+        (first_of_parts T.reading (parts_left fields.old)) }
+{
+    texts::next(fields).ok_or(LineFault::Bad)
+}
+
+/// The path that the field denotes.
+#[tactic(auto, unfolding(crate::specs::Reading::path_of))]
+fn path(alloc: Global, field: &[u8]) -> Result<Vec<Window>, LineFault>
+    ensures { Gives (λ path. path.items) result (path_of field.now) }
+{
+    if field == b"-".as_slice() {
+        return Ok(Vec::new(alloc));
+    }
+    // A path is kept as long as its command: it takes the room of its windows and no more.
+    let slashes = field.iter().filter(|byte| **byte == b'/').count();
+    read_each(alloc, &mut Parts::new(field, b'/'), slashes + 1)
+}
+
+/// The path that the next field denotes.
+#[tactic(auto, unfolding(text_model::specs::Reading::first_of_parts))]
+fn next_path(alloc: Global, fields: &mut Parts<'_>) -> Result<Vec<Window>, LineFault>
+    ensures { Gives (λ p. (p.items, parts_left fields.new)) result
+        (path_at (parts_left fields.old)) }
+{
+    path(alloc, fields.next_part().ok_or(LineFault::Bad)?)
+}
+
+/// The image's number and the path that the next two fields denote.
+#[tactic(auto, unfolding(crate::specs::Reading::place_at))]
+pub(crate) fn next_place(alloc: Global, fields: &mut Parts<'_>) -> Result<Place, LineFault>
+    ensures { Gives (λ p. (place_of p, parts_left fields.new)) result
+        (place_at (parts_left fields.old)) }
+{
+    let image = next_value(fields)?;
+    let path = next_path(alloc, fields)?;
+    Ok(Place { image, path })
+}
