@@ -1,9 +1,11 @@
 -- Places that are written one after the other.
 use Rattle.std.proofs.Common.{◌≡◌, ℕ, ◌+◌, ◌-◌, ◌<◌, ◌≤◌, ◌⊎◌, inl, true, false, Option, Some, sym, ap, ◌∙◌, arith, if◌then◌else◌}
+use Rattle.std.specs.Option.{option_map}
 use Rattle.std.proofs.lemmas.Bool.{cond-true, cond-false, true≢false}
 use Rattle.std.proofs.lemmas.Bool.Decides.{nat_tests}
 use Rattle.image_model.specs.Layout.{Layout, pixel}
 use Rattle.image_model.specs.Grid.{Grid, grid, grid_of, covers, patch, uniform}
+use Rattle.image_model.specs.Mapped.{mapped}
 use Rattle.image_model.proofs.Grids.{covers_decides, at_place, pixel_at, same_grids, is_patch}
 use Rattle.imgref_examples.specs.Swept.{is_before, swept}
 
@@ -24,6 +26,16 @@ module _ {T : Type 0} where
   pub all_swept : (x y : ℕ) (f : ℕ → ℕ → Option T) (l : Layout T) → l.height ≤ y → swept x y (grid l.width l.height f) (grid_of l) ≡ grid l.width l.height f
   unfolding grid_of swept
   all_swept x y f l high = grind (arith, same_grids, cond-true, at_place, nat_tests)
+
+  -- a pixel that was there is changed afterwards
+  pub mapped_at : (f : T → T) (l : Layout T) (x y : ℕ) (p : T) → x < l.width → y < l.height → (grid_of l).pixel x y ≡ Some p → (mapped f (grid_of l)).pixel x y ≡ Some (f p)
+  unfolding grid_of mapped
+  mapped_at f l x y p column line there = at_place l.width l.height (λ u v. option_map f ((grid_of l).pixel u v)) x y column line ∙ ap (option_map f) there
+
+  -- all are, each by a function
+  pub all_mapped : (x y : ℕ) (f : T → T) (l : Layout T) → l.height ≤ y → swept x y (mapped f (grid_of l)) (grid_of l) ≡ mapped f (grid_of l)
+  unfolding grid_of mapped
+  all_mapped x y f l high = all_swept x y (λ u v. option_map f ((grid_of l).pixel u v)) l high
 
   -- a row is at its end where the next one begins
   pub row_swept : (x y : ℕ) (new : Grid T) (l : Layout T) → l.width ≤ x → swept x y new (grid_of l) ≡ swept 0 (y + 1) new (grid_of l)

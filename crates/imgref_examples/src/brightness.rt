@@ -1,4 +1,4 @@
-//! Every pixel brighter: by borrowed rows, by places and row by row.
+//! Every pixel brighter: by a closure, by places and row by row.
 
 ghost use Rattle.std.specs.Prelude.{◌≡◌, ◌<◌, map, length};
 ghost use Rattle.imgref.specs.Words.{Fits, SameOutside, patch, one_row, row, width_of, height_of, vec_grid, vec_layout};
@@ -6,19 +6,13 @@ ghost use Rattle.imgref_examples.specs.Brightness.{brighter, brightened};
 
 use imgref::ImgVec;
 
-/// Adds `by` to every pixel, up to 255. Nothing is known of the pixels afterwards, since the rows
-/// are borrowed one by one; the size and the fit stay.
+/// Adds `by` to every pixel, up to 255; the padding stays.
 pub fn brighten(image: &mut ImgVec<u8>, by: u8)
     requires { Fits (vec_layout image.old) }
-    ensures width { width_of image.new ≡ width_of image.old }
-    ensures height { height_of image.new ≡ height_of image.old }
-    ensures fits { Fits (vec_layout image.new) }
+    ensures grid { vec_grid image.new ≡ brightened by (vec_grid image.old) }
+    ensures outside { SameOutside (vec_layout image.old) (vec_layout image.new) }
 {
-    for row in image.rows_mut() {
-        for pixel in row {
-            *pixel = pixel.saturating_add(by);
-        }
-    }
+    image.map_pixels(|pixel| pixel.saturating_add(by));
 }
 
 /// The same, place by place: every pixel is brighter, and the padding stays.

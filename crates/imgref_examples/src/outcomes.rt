@@ -4,8 +4,8 @@ ghost use Rattle.imgref.specs.Words.{Fits, vec_layout};
 
 use crate::{
     brighten_rows, checksum, checksum_by_rows, crop_packed, darken_lent_tiles, darken_tiles,
-    draw_border, exact_checksum, flip, greatest_in, invert, paste_at, paste_sprite, put_above_fill,
-    threshold,
+    draw_border, exact_checksum, flip, greatest_in, invert, invert_lent, invert_owner, paste_at,
+    paste_sprite, put_above_fill, threshold,
 };
 use imgref::{Img, ImgRef, ImgVec, Window};
 use std::alloc::{AllocError, Global};
@@ -20,6 +20,8 @@ const SPRITE: [u8; 4] = [70, 71, 72, 73];
 #[derive(Clone, Copy)]
 enum Program {
     Invert,
+    InvertOwner,
+    InvertLent,
     BrightenRows(u8),
     Threshold(u8),
     Flip,
@@ -37,6 +39,8 @@ fn run(program: Program, image: &mut ImgVec<u8>)
     let sprite = Img::new(SPRITE.as_slice(), 2, 2);
     match program {
         Program::Invert => invert(image),
+        Program::InvertOwner => invert_owner(image),
+        Program::InvertLent => invert_lent(&mut image.as_mut()),
         Program::BrightenRows(by) => brighten_rows(image, by),
         Program::Threshold(limit) => threshold(image, limit),
         Program::Flip => flip(image),
@@ -87,6 +91,18 @@ fn programs_leave_padding(rt: HostRuntime) -> Result<(), Fail> {
     for (program, after) in [
         (
             Program::Invert,
+            [
+                254, 253, 252, 251, 100, 250, 249, 248, 247, 101, 246, 245, 244, 5,
+            ],
+        ),
+        (
+            Program::InvertOwner,
+            [
+                254, 253, 252, 251, 100, 250, 249, 248, 247, 101, 246, 245, 244, 5,
+            ],
+        ),
+        (
+            Program::InvertLent,
             [
                 254, 253, 252, 251, 100, 250, 249, 248, 247, 101, 246, 245, 244, 5,
             ],

@@ -1,34 +1,64 @@
-//! Writes of pixels through the cursor of an image.
+//! Pixels that are inverted by rows and by places, and first pixels that a cursor writes.
 
-ghost use Rattle.std.specs.Prelude.{◌≡◌};
+ghost use Rattle.std.specs.Prelude.{◌≡◌, ◌<◌, ◌-◌, map, length};
 ghost use Rattle.std.specs.Borrow.{sem};
 ghost use Rattle.image_model.specs.Layout.{Fits, SameOutside};
+ghost use Rattle.image_model.specs.Grid.{patch, one_row};
+ghost use Rattle.image_model.specs.Mapped.{mapped};
+ghost use Rattle.image_model.specs.Rows.{row};
 ghost use Rattle.image_pixels.specs.Marks.{marks_of};
-ghost use Rattle.imgref.specs.Image.{buf_of, shape_of, width_of, height_of, stride_of, grid_by, layout_by, OnlyCellsChange, with_all, vec_layout, mut_layout};
+ghost use Rattle.imgref.specs.Image.{buf_of, width_of, height_of, stride_of, grid_by, layout_by, OnlyCellsChange, with_all, vec_grid, vec_layout, mut_grid, mut_layout};
 ghost use Rattle.imgref_examples.specs.Pixels.{with_first, first_covered, writes_first};
 
 use image_pixels::PixelsIterMut;
 use imgref::{AsMutSlice, Img, ImgRefMut, ImgVec};
 
-/// Every pixel `p` becomes `255 - p`. The image keeps its size and its stride, and fits.
-pub fn invert_owner(image: &mut ImgVec<u8>)
-    requires fits { Fits (vec_layout image.old) }
-    ensures shape { shape_of image.new ≡ shape_of image.old }
-    ensures fits { Fits (vec_layout image.new) }
+// Every pixel of a row becomes 255 less what it was.
+fn invert_row(row: &mut [u8])
+    ensures { row.new ≡ map (λ p. 255 - p) row.old }
 {
-    for pixel in image.pixels_mut() {
+    for pixel in row.iter_mut() {
         *pixel = !*pixel;
     }
 }
 
-/// The same for a borrowed image.
+// The same for row `y` of an image.
+fn invert_line(image: &mut ImgVec<u8>, y: usize)
+    requires fits { Fits (vec_layout image.old) }
+    requires below { y < height_of image.old }
+    ensures grid { vec_grid image.new
+        ≡ patch (vec_grid image.old) 0 y
+        (one_row (map (λ p. 255 - p) (row (vec_layout image.old) y))) }
+    ensures outside { SameOutside (vec_layout image.old) (vec_layout image.new) }
+    ensures fits { Fits (vec_layout image.new) }
+    ensures long { length (row (vec_layout image.old) y) ≡ width_of image.old }
+{
+    invert_row(image.row_mut(y));
+}
+
+/// Every pixel `p` becomes `255 - p`, row by row; the padding stays.
+#[tactic(auto, using(image_model::proofs::MappedRows::mapped_rows))]
+pub fn invert_owner(image: &mut ImgVec<u8>)
+    requires fits { Fits (vec_layout image.old) }
+    ensures grid { vec_grid image.new ≡ mapped (λ p. 255 - p) (vec_grid image.old) }
+    ensures outside { SameOutside (vec_layout image.old) (vec_layout image.new) }
+{
+    for y in 0..image.height() {
+        invert_line(image, y);
+    }
+}
+
+/// The same for a borrowed image, place by place.
 pub fn invert_lent(image: &mut ImgRefMut<'_, u8>)
     requires fits { Fits (mut_layout image.old) }
-    ensures shape { shape_of image.new ≡ shape_of image.old }
-    ensures fits { Fits (mut_layout image.new) }
+    ensures grid { mut_grid image.new ≡ mapped (λ p. 255 - p) (mut_grid image.old) }
+    ensures outside { SameOutside (mut_layout image.old) (mut_layout image.new) }
 {
-    for pixel in image.pixels_mut() {
-        *pixel = 255 - *pixel;
+    for y in 0..image.height() {
+        for x in 0..image.width() {
+            let pixel = &mut image[(x, y)];
+            *pixel = 255 - *pixel;
+        }
     }
 }
 
