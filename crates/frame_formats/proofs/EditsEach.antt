@@ -1,6 +1,7 @@
 -- Edits that are taken from words one after the other.
-use Rattle.std.proofs.Common.{◌≡◌, ℕ, ◌<◌, List, [], ◌∷◌, ◌++◌, Option, Some, None, true, false, eqb, length, drop, refl, sym, ap, ◌∙◌, subst, arith, append_assoc, inl, inr}
+use Rattle.std.proofs.Common.{◌≡◌, ℕ, ◌<◌, List, [], ◌∷◌, ◌++◌, Option, Some, None, true, false, eqb, length, take, drop, refl, sym, ap, ◌∙◌, subst, arith, append_assoc, append-nil, inl, inr}
 use Rattle.std.specs.List.{flat_map}
+use Rattle.std.proofs.Math.Seq.{take-append_seam}
 use Rattle.std.specs.Option.{option_map}
 use Rattle.std.proofs.lemmas.Bool.Decides.{eqb_tells}
 use Rattle.text_model.proofs.Options.{some_is, map_some}
@@ -8,8 +9,8 @@ use Rattle.image_planes.specs.declared.change.Step.{Step}
 use Rattle.frame_formats.specs.declared.steps.Paint.{Paint}
 use Rattle.frame_formats.specs.declared.framing.Framing.{Framing}
 use Rattle.frame_formats.specs.declared.words.Edits.{Edits}
-use Rattle.frame_formats.specs.Lists.{AreEdits, Adds, framing_after, with_one, with_line, with_lines, plain}
-use Rattle.frame_formats.specs.Edits.{Edits as Plain}
+use Rattle.frame_formats.specs.Lists.{AreEdits, Adds, framing_after, edit_of, with_one, with_line, with_lines, plain}
+use Rattle.frame_formats.specs.Edits.{edits, Edits as Plain}
 use Rattle.text_model.specs.Parts.{parts_of}
 use Rattle.text_model.specs.Reading.{◌>>=◌}
 use Rattle.frame_formats.specs.Words.{Named, edit_at, with_edit}
@@ -32,6 +33,10 @@ adds_more words old mid new n taken first more =
       steps = more.steps ∙ ap (λ (l : List (Step Paint)). l ++ flat_map (λ (x : Named). x.steps) more.edits) (sym steps) ∙ append_assoc old.steps.items e.steps (flat_map (λ (x : Named). x.steps) more.edits);
       framing = more.framing ∙ ap (framing_after more.edits) (sym framing);
     }
+
+-- no words left
+pub adds_nothing : (words : List (List ℕ)) (old : Edits) → words ≡ [] → Adds words old old
+adds_nothing words old none = record { edits = []; are = none; steps = sym (append-nil old.steps.items); framing = refl }
 
 -- edits that some words are, without the one at the front that was taken
 pub edits_left : (words : List (List ℕ)) (old mid : Edits) (n : ℕ) (es : List Named) → Taken words old mid n → 0 < length words → AreEdits es old.framing words → (rest : List Named) × AreEdits rest mid.framing (drop n words)
@@ -78,3 +83,35 @@ one_line_more old mid line left lines is taken = sym (ap (with_lines old) is ∙
 
 pub bad_line : (old : Plain) (line : List ℕ) (left lines : List (List ℕ)) → left ≡ line ∷ lines → with_line old line ≡ None → with_lines old left ≡ None
 bad_line old line left lines is none = ap (with_lines old) is ∙ ap (λ (o : Option Plain). o >>= λ new. with_lines new lines) none
+
+-- ---- edits that begin with others
+
+-- the first edits' steps stand at the front of the others'
+pub record Begins (old new : Plain) : Type 0 where
+  pub more : List (Step Paint)
+  pub steps : new.steps ≡ old.steps ++ more
+
+pub begins_itself : (old : Plain) → Begins old old
+begins_itself old = record { more = []; steps = sym (append-nil old.steps) }
+
+behind_more : (old mid new : Plain) (more : List (Step Paint)) → Begins old mid → new.steps ≡ mid.steps ++ more → Begins old new
+behind_more old mid new more b steps = record { more = b.more ++ more; steps = steps ∙ ap (λ l. l ++ more) b.steps ∙ append_assoc old.steps b.more more }
+
+pub begins_taken : (words : List (List ℕ)) (first old mid : Edits) (n : ℕ) → Begins (plain first) (plain old) → Taken words old mid n → Begins (plain first) (plain mid)
+begins_taken words first old mid n b taken =
+    let m = map_some (edit_at words) (with_edit old.steps.items) (mid.steps.items, (mid.framing, n)) taken in
+    behind_more (plain first) (plain old) (plain mid) m.0.steps b (sym (ap (λ (t : List (Step Paint) × (Option Framing × ℕ)). t.0) m.2))
+
+behind_one : (framing : Option Framing) (steps : List (Step Paint)) (new : Plain) (words : List (List ℕ)) → with_one (edits steps framing) words ≡ Some new → (more : List (Step Paint)) × (new.steps ≡ steps ++ more)
+behind_one None steps new words is = let m = map_some (edit_of words) (λ e. edits (steps ++ e.steps) e.framing) new is in (m.0.steps, sym (ap (λ (p : Plain). p.steps) m.2))
+behind_one (Some f) steps new words is = absurd cc
+
+pub begins_line : (first old new : Plain) (line : List ℕ) → Begins first old → with_line old line ≡ Some new → Begins first new
+begins_line first old new [] b is = record { more = b.more; steps = ap (λ (p : Plain). p.steps) (sym (some_is old new is)) ∙ b.steps }
+begins_line first old new (c ∷ line) b is = let one = behind_one old.framing old.steps new (parts_of 32 (c ∷ line)) is in behind_more first old new one.0 b one.1
+
+-- as many steps as the first have are theirs
+pub restored : (old mid new : Plain) (count : ℕ) → Begins old mid → count ≡ length old.steps → new.steps ≡ take count mid.steps → new.framing ≡ old.framing → new ≡ old
+restored old mid new count b counted steps framing =
+    let same : take count mid.steps ≡ old.steps = (λ i. take (counted i) (b.steps i)) ∙ take-append_seam old.steps b.more in
+    λ i. edits ((steps ∙ same) i) (framing i)

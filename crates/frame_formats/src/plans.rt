@@ -1,6 +1,6 @@
 //! What is done to each frame of a video, or to a picture.
 
-ghost use Rattle.std.specs.Prelude.{◌≡◌, ◌≤◌, ℕ, true, false, Some, None, IfOk, IfErr, length, map, max, take, if◌then◌else◌};
+ghost use Rattle.std.specs.Prelude.{◌≡◌, ◌≤◌, ◌⊎◌, ◌^◌, ℕ, true, false, Some, None, IfOk, IfErr, length, map, max, take, if◌then◌else◌};
 ghost use Rattle.image_planes.specs.Changes.{jobs_len};
 ghost use Rattle.image_planes.specs.Planes.{job_of};
 ghost use Rattle.frame_formats.specs.Format.{format_of};
@@ -26,7 +26,7 @@ pub enum PlanFault {
     /// The edit reaches outside a plane, doesn't fall on whole chroma samples, or has a colour that
     /// there are no planes for.
     Outside,
-    /// No memory was found.
+    /// No memory was found for the plan, or a frame has 2^64 bytes or more.
     Memory,
 }
 
@@ -65,6 +65,9 @@ impl Plan {
         ensures plan { IfOk result (λ plan. recipe_of plan
             ≡ recipe head.items in_pixels (map job_of planes.items) (resizings_of targets)) }
         ensures fault { IfErr result (λ fault. fault ≡ PlanFault.Memory) }
+        ensures cause { IfErr result (λ _.
+            (2 ^ 64 ≤ jobs_len (map job_of planes.items))
+            ⊎ (2 ^ 64 ≤ new_len (map job_of planes.items) (resizings_of targets))) }
     {
         let Some(source_len) = planes_len(&planes) else {
             return Err(PlanFault::Memory);

@@ -1,6 +1,6 @@
 //! The edits that words name.
 
-ghost use Rattle.std.specs.Prelude.{◌≡◌, ◌<◌, ◌≤◌, ◌++◌, map, [], Some, None, IfOk, IfErr, OnOk, IfSome, length};
+ghost use Rattle.std.specs.Prelude.{◌≡◌, ◌<◌, ◌≤◌, ◌++◌, map, take as list_take, [], Some, None, IfOk, IfErr, OnOk, IfSome, length};
 ghost use Rattle.std.specs.Option.{option_map};
 ghost use Rattle.text_model.specs.Parts.{parts_of};
 ghost use Rattle.frame_formats.specs.Lists.{Adds, AddsNone, with_one, with_line, with_lines, plain};
@@ -221,21 +221,36 @@ impl Edits {
         }
     }
 
+    // The edits that there were when they had so many steps, and this became of the size.
+    fn restore(&mut self, count: usize, framing: Option<Framing>)
+        ensures steps { self.new.steps.items ≡ list_take count self.old.steps.items }
+        ensures framing { self.new.framing ≡ framing }
+    {
+        self.steps.truncate(count);
+        self.framing = framing;
+    }
+
     /// Adds all edits that the words are, one behind the other.
     ///
     /// # Errors
     ///
-    /// `NoEdit` where the words are no edits, or one would stand behind a crop or a pad.
+    /// `NoEdit` where the words are no edits, or one would stand behind a crop or a pad. On any fault
+    /// the edits stay as they were.
     pub fn take_all(&mut self, words: &[&[u8]]) -> Result<(), WordsFault>
         ensures adds { OnOk result (Adds (map (λ w. w.now) words.now) self.old self.new) }
         ensures none { IfErr result
             (λ e. e ≡ WordsFault.NoEdit → AddsNone (map (λ w. w.now) words.now) self.old) }
+        ensures same { IfErr result (λ _. plain self.new ≡ plain self.old) }
     {
+        let (steps, framing) = (self.steps.len(), self.framing);
         let mut at = 0;
         while at < words.len() {
             match self.take(&words[at..]) {
                 Ok(count) => at += count,
-                Err(fault) => return Err(fault),
+                Err(fault) => {
+                    self.restore(steps, framing);
+                    return Err(fault);
+                }
             }
         }
         Ok(())
@@ -248,12 +263,15 @@ impl Edits {
             (with_one (plain self.old) (map (λ w. w.now) words.now) ≡ Some (plain self.new)) }
         ensures none { IfErr result (λ e. e ≡ WordsFault.NoEdit
             → with_one (plain self.old) (map (λ w. w.now) words.now) ≡ None) }
+        ensures same { IfErr result (λ _. plain self.new ≡ plain self.old) }
     {
+        let (steps, framing) = (self.steps.len(), self.framing);
         match self.take(words) {
             Ok(count) => {
                 if count == words.len() {
                     Ok(())
                 } else {
+                    self.restore(steps, framing);
                     Err(WordsFault::NoEdit)
                 }
             }
@@ -266,6 +284,7 @@ impl Edits {
         ensures taken { OnOk result (with_line (plain self.old) line.now ≡ Some (plain self.new)) }
         ensures none { IfErr result
             (λ e. e ≡ WordsFault.NoEdit → with_line (plain self.old) line.now ≡ None) }
+        ensures same { IfErr result (λ _. plain self.new ≡ plain self.old) }
     {
         if line.is_empty() {
             return Ok(());
@@ -281,18 +300,24 @@ impl Edits {
     ///
     /// # Errors
     ///
-    /// `NoEdit` where a line isn't one edit, or would stand behind a crop or a pad.
+    /// `NoEdit` where a line isn't one edit, or would stand behind a crop or a pad. On any fault the
+    /// edits stay as they were.
     pub fn take_lines(&mut self, alloc: Global, text: &[u8]) -> Result<(), WordsFault>
         ensures taken { OnOk result
             (with_lines (plain self.old) (parts_of 10 text.now) ≡ Some (plain self.new)) }
         ensures none { IfErr result (λ e. e ≡ WordsFault.NoEdit
             → with_lines (plain self.old) (parts_of 10 text.now) ≡ None) }
+        ensures same { IfErr result (λ _. plain self.new ≡ plain self.old) }
     {
+        let (steps, framing) = (self.steps.len(), self.framing);
         let mut lines = Parts::new(text, b'\n');
         while let Some(line) = lines.next_part() {
             match self.take_line(alloc, line) {
                 Ok(()) => {}
-                Err(fault) => return Err(fault),
+                Err(fault) => {
+                    self.restore(steps, framing);
+                    return Err(fault);
+                }
             }
         }
         Ok(())

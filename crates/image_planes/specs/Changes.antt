@@ -68,6 +68,10 @@ abbrev pub jobs_len : List Job → ℕ
 jobs_len [] = 0
 jobs_len (j ∷ js) = job_len j + jobs_len js
 
+-- a number, where the machine has it
+abbrev pub as_usize : ℕ → Option ℕ
+as_usize n = if nat_lt n (2 ^ 64) then Some n else None
+
 -- the grid of the cells of a plane
 abbrev pub plane_grid : Job → List ℕ → Grid ℕ
 plane_grid j cells = grid_of (layout cells j.width j.height j.width)

@@ -1,8 +1,8 @@
 //! The planes of a frame, one after the other in one buffer: they are changed there, or copied in
 //! another size into another frame.
 
-ghost use Rattle.std.specs.Prelude.{◌≡◌, ◌≤◌, length, map, IfSome};
-ghost use Rattle.image_planes.specs.Changes.{changed_planes, jobs_len};
+ghost use Rattle.std.specs.Prelude.{◌≡◌, ◌≤◌, length, map};
+ghost use Rattle.image_planes.specs.Changes.{changed_planes, jobs_len, as_usize};
 ghost use Rattle.image_planes.specs.Planes.{job_of};
 ghost use Rattle.image_planes.specs.Resized.{sources_len, targets_len, resized_planes};
 ghost use Rattle.image_planes.specs.Targets.{resizing_of};
@@ -10,9 +10,9 @@ ghost use Rattle.image_planes.specs.Targets.{resizing_of};
 use crate::plane::Plane;
 use crate::target::Target;
 
-/// The number of bytes of all planes, or `None` where it overflows.
+/// The number of bytes of all planes, or `None` exactly where that is 2^64 or more.
 pub fn planes_len(planes: &[Plane]) -> Option<usize>
-    ensures { IfSome result (λ n. n ≡ jobs_len (map job_of planes.now)) }
+    ensures { result ≡ as_usize (jobs_len (map job_of planes.now)) }
 {
     match planes {
         [] => Some(0),
@@ -35,9 +35,9 @@ pub fn change_planes(number: u64, cells: &mut [u8], planes: &[Plane])
     change_planes(number, back, others);
 }
 
-/// The number of bytes of all planes in their other size, or `None` where it overflows.
+/// The number of bytes of all planes in their other size, or `None` exactly where that is 2^64 or more.
 pub fn targets_len(targets: &[Target]) -> Option<usize>
-    ensures { IfSome result (λ n. n ≡ targets_len (map resizing_of targets.now)) }
+    ensures { result ≡ as_usize (targets_len (map resizing_of targets.now)) }
 {
     match targets {
         [] => Some(0),
