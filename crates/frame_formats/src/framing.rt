@@ -1,17 +1,16 @@
-//! What becomes of the size of the frames.
+//! The change of the size of frames.
 
 ghost use Rattle.std.specs.Prelude.{◌≡◌};
 ghost use Rattle.frame_formats.specs.Format.{padded_size, resize_for};
 
 use image_planes::{Resize, Window};
 
-/// What becomes of the size of the frames, in pixels.
+/// The change of the size of frames, in pixels.
 #[derive(Clone, Copy, PartialEq, Eq)]
 pub enum Framing {
-    /// The window alone is kept.
+    /// Only the window is kept.
     Crop(Window),
-    /// A border of so many columns and rows stands around the frame, of one brightness and without
-    /// colour.
+    /// The frame gets a border of so many columns and rows, of one brightness and without colour.
     Pad {
         left: usize,
         top: usize,
@@ -29,8 +28,8 @@ fn padded_size(before: usize, pixels: usize, behind: usize) -> Option<usize>
     (size <= u32::MAX as usize).then_some(size)
 }
 
-/// What becomes of a plane of pixels of a frame of this size, or `None` where its new size is too
-/// large.
+/// The change of the size of a plane of pixels, for a frame of this size, or `None` where its new
+/// size is too large.
 #[tactic(auto, unfolding(crate::specs::Format::resize_for))]
 pub(crate) fn resize_of(width: usize, height: usize, framing: Framing) -> Option<Resize>
     ensures { result ≡ resize_for width height framing }

@@ -1,4 +1,4 @@
-//! The line that a video begins with.
+//! The line with which a video begins.
 
 ghost use Rattle.std.specs.Prelude.{◌≡◌, ◌<◌, IfSome};
 ghost use Rattle.std.specs.Option.{option_map};
@@ -7,16 +7,16 @@ ghost use Rattle.texts.specs.Parts.{parts_left};
 
 use texts::{Field, Parts};
 
-/// Which chroma samples a frame has behind its plane of brightness.
+/// The chroma samples that a frame has after its plane of brightness.
 #[derive(Clone, Copy, PartialEq, Eq)]
 pub enum Chroma {
     /// None.
     Mono,
-    /// Two planes, one sample for two by two pixels.
+    /// Two planes, with one sample for two by two pixels.
     Small,
-    /// Two planes, one sample for two pixels of a row.
+    /// Two planes, with one sample for two pixels of a row.
     Wide,
-    /// Two planes, a sample for each pixel.
+    /// Two planes, with one sample for each pixel.
     Whole,
 }
 
@@ -64,7 +64,7 @@ fn read_chroma(word: &[u8]) -> Option<Chroma>
     }
 }
 
-/// The format that the line names, or `None` where it isn't one that is read here.
+/// The format that the line names, or `None` where it isn't a supported one.
 #[tactic(auto, unfolding(crate::specs::Format::format_in))]
 pub fn read_format(line: &[u8]) -> Option<Format>
     ensures { result ≡ format_of line.now }

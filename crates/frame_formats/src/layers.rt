@@ -1,5 +1,5 @@
-//! The planes of a frame or a picture: what each has of the pixels, what is done to it, and what
-//! becomes of its size.
+//! The planes of a frame or a picture: the part of the pixels that each has, its changes, and the
+//! change of its size.
 
 ghost use Rattle.std.specs.Prelude.{◌≡◌, All, map, Some, None, IfOk, IfErr};
 ghost use Rattle.std.specs.Option.{option_map};
@@ -18,9 +18,9 @@ use std::alloc::Global;
 /// A plane of a frame or a picture.
 #[derive(Clone, Copy)]
 pub(crate) enum Layer {
-    /// A byte of each pixel.
+    /// One byte of each pixel.
     Pixels(Channel),
-    /// A chroma sample for so many columns and rows of pixels.
+    /// One chroma sample for so many columns and rows of pixels.
     Samples(usize, usize),
 }
 
@@ -42,7 +42,7 @@ pub(crate) fn picture_layers(colour: bool) -> &'static [Layer]
     }
 }
 
-/// The planes of a video's frame: that of brightness, and two of chroma samples where there are any.
+/// The planes of a video's frame: one of brightness, and two of chroma samples where there are any.
 pub(crate) fn video_layers(chroma: Chroma) -> &'static [Layer]
     ensures layers { result.now ≡ video_layers chroma }
     ensures sound { All StandsForPixels result.now }
@@ -128,7 +128,7 @@ fn target_on(layer: Layer, width: usize, height: usize, resize: Resize) -> Optio
     Target::new(wide, high, under)
 }
 
-/// The planes of a frame of this size, with what is done to each under steps in pixels.
+/// The planes of a frame of this size, each with its changes, from steps in pixels.
 pub(crate) fn planes_of(
     alloc: Global,
     layers: &[Layer],
@@ -155,7 +155,7 @@ pub(crate) fn planes_of(
     Ok(planes)
 }
 
-/// The planes of a frame of this size, with what becomes of the size of each.
+/// The planes of a frame of this size, each with the change of its size.
 pub(crate) fn targets_of(
     alloc: Global,
     layers: &[Layer],

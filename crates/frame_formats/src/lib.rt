@@ -1,5 +1,6 @@
-//! Formats of raw video: the line that names one, the head of a picture, the planes of a frame, and
-//! what an edit of the pixels is on each of them. Nothing here reads or writes.
+//! Formats of raw video and of pictures: the line that names a format, the head of a picture, the
+//! planes of a frame, and what an edit of the pixels does to each plane. Nothing here reads or
+//! writes.
 #![tactic(auto)]
 
 mod framing;

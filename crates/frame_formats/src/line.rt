@@ -60,7 +60,7 @@ fn push_fields(
     Ok(())
 }
 
-/// The line with another size, and its line feed.
+/// The line with another size, and a line feed.
 pub(crate) fn resized_line(
     alloc: Global,
     line: &[u8],
@@ -79,7 +79,7 @@ pub(crate) fn resized_line(
     Ok(text)
 }
 
-/// The line and its line feed.
+/// The line and a line feed.
 pub(crate) fn ended_line(alloc: Global, line: &[u8]) -> Result<Vec<u8>, AllocError>
     ensures { IfOk result (λ text. text.items ≡ line.now ++ 10 ∷ []) }
 {

@@ -14,14 +14,14 @@ pub struct Picture {
     pub colour: bool,
 }
 
-/// What a head that goes on has been read as. A number is `None` before its first digit.
+/// What has been read of a head that isn't complete. A number is `None` before its first digit.
 #[derive(Clone, Copy, PartialEq, Eq)]
 pub enum Head {
     /// Nothing.
     Start,
     /// The letter `P`.
     Letter,
-    /// The two bytes of the kind. White space is due.
+    /// The two bytes of the kind. White space must follow.
     Kind {
         colour: bool,
     },
@@ -30,13 +30,13 @@ pub enum Head {
         colour: bool,
         width: Option<usize>,
     },
-    /// The same of the height.
+    /// The same for the height.
     Height {
         colour: bool,
         width: usize,
         height: Option<usize>,
     },
-    /// The same of the greatest value.
+    /// The same for the greatest value.
     Greatest {
         colour: bool,
         width: usize,
@@ -45,14 +45,14 @@ pub enum Head {
     },
 }
 
-/// What bytes are, read as the head of a picture one after the other.
+/// The result of reading bytes, one after the other, as the head of a picture.
 #[derive(Clone, Copy, PartialEq, Eq)]
 pub enum Scan {
-    /// The head goes on, perhaps in a comment.
+    /// The head isn't complete; the last byte may be in a comment.
     More { head: Head, comment: bool },
-    /// They are the head of this picture.
+    /// The bytes are the head of this picture.
     Done(Picture),
-    /// They are no head, and none begins with them.
+    /// The bytes aren't a head, and no head begins with them.
     Bad,
 }
 
@@ -196,7 +196,7 @@ impl Head {
 }
 
 impl Scan {
-    /// No byte yet.
+    /// No byte so far.
     pub fn new() -> Self
         ensures { result ≡ start }
     {
@@ -206,7 +206,8 @@ impl Scan {
         }
     }
 
-    /// With one byte more: what ends a comment is its white space, and a head has no byte more.
+    /// The result with one more byte. The line feed that ends a comment counts as white space, and
+    /// no byte follows a complete head.
     pub fn push(self, byte: u8) -> Scan
         ensures { result ≡ pushed self byte }
     {
@@ -230,7 +231,7 @@ impl Scan {
     }
 }
 
-/// The head of a picture: its kind on a line, its size on one, and `255` on one.
+/// The head of a picture: its kind, its size and `255`, each on a line.
 pub(crate) fn picture_head(alloc: Global, picture: Picture) -> Result<Vec<u8>, AllocError>
     ensures { IfOk result (λ text. text.items ≡ head_text picture) }
 {
@@ -245,8 +246,9 @@ pub(crate) fn picture_head(alloc: Global, picture: Picture) -> Result<Vec<u8>, A
     Ok(text)
 }
 
-/// No head begins another, so a reader knows where one ends; bytes that are bad begin none; and what
-/// `picture_head` writes is read as its picture. A caller calls it for these laws; it does nothing.
+/// No head is the beginning of another, so a reader knows where a head ends. No head begins with
+/// bad bytes. What `picture_head` writes is read as its picture. A caller calls this for its
+/// clauses, which are these laws; it does nothing.
 #[tactic(auto, using(crate::proofs::Heads::laws_of_heads))]
 pub fn heads_end_themselves()
     ensures apart { ApartHeads }

@@ -1,4 +1,4 @@
-//! What is done to each frame of a video, or to a picture.
+//! The changes of each frame of a video, or of a picture.
 
 ghost use Rattle.std.specs.Prelude.{◌≡◌, ◌≤◌, ◌⊎◌, ◌^◌, ℕ, true, false, Some, None, IfOk, IfErr, length, map, max, take, if◌then◌else◌};
 ghost use Rattle.image_planes.specs.Changes.{jobs_len};
@@ -23,14 +23,14 @@ use std::alloc::Global;
 /// Why there is no plan.
 #[derive(Clone, Copy, Debug, PartialEq, Eq)]
 pub enum PlanFault {
-    /// The edit reaches outside a plane, doesn't fall on whole chroma samples, or has a colour that
-    /// there are no planes for.
+    /// The edit reaches outside a plane, doesn't fall on whole chroma samples, or has a colour for
+    /// which there are no planes.
     Outside,
     /// No memory was found for the plan, or a frame has 2^64 bytes or more.
     Memory,
 }
 
-/// What is done to each frame of a video, or to a picture, and what is written before it.
+/// The changes of each frame of a video, or of a picture, and what is written before it.
 #[derive(Drop)]
 pub struct Plan {
     head: Vec<u8>,
@@ -93,7 +93,7 @@ impl Plan {
     ///
     /// # Errors
     ///
-    /// `Outside` where the edits are none of such a video.
+    /// `Outside` where the edits aren't valid for such a video.
     #[tactic(auto, using(crate::proofs::Sizes::same_sizes))]
     pub fn for_video(
         alloc: Global,
@@ -130,7 +130,7 @@ impl Plan {
     ///
     /// # Errors
     ///
-    /// `Outside` where the edits are none of such a picture, or no row would be left.
+    /// `Outside` where the edits aren't valid for such a picture, or no row would be left.
     #[tactic(auto, using(crate::proofs::PictureSizes::three_whole, crate::proofs::PictureSizes::three_whole_resized, crate::proofs::Sizes::same_sizes))]
     pub fn for_picture(
         alloc: Global,
@@ -183,7 +183,7 @@ impl Plan {
         self.targets.is_some()
     }
 
-    /// How many bytes a frame has.
+    /// The number of bytes of a frame.
     pub fn source_len(&self) -> usize
         ensures size { result ≡ (recipe_of self.now).size }
         ensures within { result ≤ plan_room self.now }
@@ -191,7 +191,7 @@ impl Plan {
         self.source_len
     }
 
-    /// How many bytes it has then.
+    /// The number of its bytes afterwards.
     pub fn len(&self) -> usize
         ensures len { result ≡ plan_len self.now }
         ensures within { result
@@ -200,7 +200,7 @@ impl Plan {
         self.len
     }
 
-    /// How many bytes the buffer of a frame needs.
+    /// The number of bytes that the buffer of a frame needs.
     pub fn room(&self) -> usize
         ensures { result ≡ plan_room self.now }
     {
@@ -212,7 +212,7 @@ impl Plan {
         }
     }
 
-    /// How many bytes the other buffer needs.
+    /// The number of bytes that the other buffer needs.
     pub fn other_room(&self) -> usize
         ensures { result ≡ plan_other_room self.now }
     {
@@ -225,9 +225,8 @@ impl Plan {
         }
     }
 
-    /// Does to the frame of this number, which stands at the front of the first buffer, what is to be
-    /// done to it. Then it stands at the front of the other buffer where it has another size, and else
-    /// of the first.
+    /// Edits the frame of this number, which is at the front of the first buffer. Afterwards it is
+    /// at the front of the other buffer where its size has changed, and otherwise of the first.
     pub fn edit(&self, number: u64, cells: &mut [u8], other: &mut [u8])
         requires room { plan_room self.now ≤ length cells.old }
         requires other_room { plan_other_room self.now ≤ length other.old }

@@ -1,4 +1,4 @@
-//! What is done to the pixels of frames, and what that is to each plane.
+//! Changes of the pixels of frames, and what they are on each plane.
 
 ghost use Rattle.std.specs.Prelude.{◌≡◌};
 ghost use Rattle.frame_formats.specs.Steps.{value_in, change_in};
@@ -14,10 +14,10 @@ pub enum Paint {
     Colour { red: u8, green: u8, blue: u8 },
 }
 
-/// What a plane has of the pixels.
+/// The part of the pixels that a plane has.
 #[derive(Clone, Copy, PartialEq, Eq)]
 pub enum Channel {
-    /// Their brightness: the frame has no colour, or has it in planes of samples.
+    /// Their brightness: the frame has no colour, or has its colour in planes of samples.
     Only,
     Red,
     Green,
@@ -37,7 +37,7 @@ fn value_in(channel: Channel, paint: Paint) -> Option<u8>
     }
 }
 
-/// What a change is to a plane; a colour is nothing to the only one.
+/// What a change is on a plane, or `None` for a colour on the only plane.
 #[tactic(auto, unfolding(crate::specs::Steps::change_in))]
 pub(crate) fn change_in(channel: Channel, change: Change<Paint>) -> Option<Change<u8>>
     ensures { result ≡ change_in channel change }

@@ -159,24 +159,24 @@ fn words_of<'a>(alloc: Global, line: &'a [u8]) -> Result<Vec<&'a [u8]>, AllocErr
     Ok(words)
 }
 
-/// What words say is done to a video: steps in their order, and then what becomes of the size.
+/// The edits that words name: steps in their order, and then the change of the size.
 #[derive(Drop)]
 pub struct Edits {
     pub steps: Vec<Step<Paint>>,
     pub framing: Option<Framing>,
 }
 
-/// Why words are not taken.
+/// Why words are refused.
 #[derive(Clone, Copy, Debug, PartialEq, Eq)]
 pub enum WordsFault {
-    /// They are no edit, or one stands behind a crop or a pad.
+    /// They aren't an edit, or an edit comes after a crop or a pad.
     NoEdit,
-    /// No memory was found.
+    /// Out of memory.
     Memory,
 }
 
 impl Edits {
-    /// No edit yet.
+    /// No edit so far.
     pub fn new(alloc: Global) -> Self
         ensures steps { result.steps.items ≡ [] }
         ensures framing { result.framing ≡ None }
@@ -187,13 +187,14 @@ impl Edits {
         }
     }
 
-    /// Adds the edit at the front of the words, and answers how many words it has: `crop L,T,W,H`,
-    /// `pad L,T,R,B V`, `fill L,T,W,H V`, `fill L,T,W,H R,G,B`, `mosaic L,T,W,H TW,TH` or `move L,T,W,H X,Y`, and before one
-    /// of the last three a range of frames, as `12..80`.
+    /// Adds the edit at the front of the words, and returns the number of its words: `crop
+    /// L,T,W,H`, `pad L,T,R,B V`, `fill L,T,W,H V`, `fill L,T,W,H R,G,B`, `mosaic L,T,W,H TW,TH` or
+    /// `move L,T,W,H X,Y`, and before a `fill`, a `mosaic` or a `move` possibly a range of frames
+    /// such as `12..80`.
     ///
     /// # Errors
     ///
-    /// `NoEdit` where there is no edit at the front, or one would stand behind a crop or a pad.
+    /// `NoEdit` where there is no edit at the front, or it would come after a crop or a pad.
     pub fn take(&mut self, words: &[&[u8]]) -> Result<usize, WordsFault>
         ensures taken { IfOk result (λ n. option_map (with_edit self.old.steps.items) (edit_at
             (map (λ w. w.now) words.now)) ≡ Some (self.new.steps.items, (self.new.framing, n))) }
@@ -295,8 +296,8 @@ impl Edits {
         }
     }
 
-    /// Adds the edits that the lines of a text are, one a line, with one space between two words.
-    /// An empty line is none.
+    /// Adds the edits that the lines of a text name, one on each line, with one space between two
+    /// words. An empty line is ignored.
     ///
     /// # Errors
     ///

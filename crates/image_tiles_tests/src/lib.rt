@@ -1,5 +1,5 @@
-//! The tests of `image_tiles`. They stand apart from the code that they test, since a crate with
-//! tests is proved twice.
+//! The tests of `image_tiles`. They are in a crate of their own, since a crate with tests is proved
+//! twice.
 #![tactic(auto)]
 
 #[cfg(test)]

@@ -1,4 +1,4 @@
-//! The cells behind a head: read, edited, and written behind the head that they get.
+//! The cells after a head: they are read, edited, and written after their new head.
 
 ghost use Rattle.std.specs.Prelude.{◌≡◌, ◌+◌, ◌≤◌, ◌<◌, ◌++◌, length, take, OnOk, OnErr, if◌then◌else◌};
 ghost use Rattle.std.specs.Io.KnownBytes.{Appends};
@@ -60,8 +60,8 @@ fn write_made<W: Write>(
     }
 }
 
-/// Reads the cells of the frame or picture of this number, edits them, and writes them behind the
-/// head.
+/// Reads the cells of the frame or picture of this number, edits them, and writes the head and then
+/// the cells.
 pub(crate) fn pass_cells<R: Read, W: Write>(
     reader: &mut Counted<R>,
     writer: &mut Counted<W>,

@@ -6,25 +6,27 @@ use devices::{INPUT_TEXT, MEMORY_TEXT, OUTPUT_TEXT};
 use frame_formats::PlanFault;
 use std::fmt;
 
-/// Why a run ended before all was written.
+/// Why a run ended before everything was written.
 #[derive(Clone, Copy, Debug, PartialEq, Eq)]
 pub enum RunFault {
-    /// The input begins neither with the line of a video nor with the head of a picture that is read
-    /// here. Nothing was written.
+    /// The input begins neither with the line of a supported video nor with the head of a supported
+    /// picture. Nothing was written.
     Header,
-    /// The edit isn't one of this video or picture: it reaches outside a plane, doesn't fall on whole
-    /// chroma samples, or has a colour where there is none. The pictures before are written.
+    /// The edit isn't valid for this video or picture: it reaches outside a plane, doesn't fall on
+    /// whole chroma samples, or has a colour where there is none. The pictures before it were
+    /// written.
     Outside,
-    /// So many frames or pictures were read, and what is behind them is none. They are written.
+    /// So many frames or pictures were read, and what comes after them isn't one. They were
+    /// written.
     Frame(u64),
-    /// No memory was found. Nothing of a video was written; the pictures before are.
+    /// Out of memory. Nothing of a video was written; the pictures before it were.
     Memory,
-    /// The reader failed. The frames or pictures before are written.
+    /// The reader failed. The frames or pictures before it were written.
     Input,
-    /// The writer failed. A beginning of the output was written.
+    /// The writer failed. The first part of the output was written.
     Output,
-    /// There are more frames or pictures than a number counts, or a head has more bytes. Those before
-    /// are written.
+    /// The number of frames or pictures, or of the bytes of a head, reaches the greatest number
+    /// that the program can count. The frames or pictures before were written.
     Endless,
 }
 

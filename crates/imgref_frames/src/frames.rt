@@ -1,4 +1,4 @@
-//! The frames of a video, passed on one by one.
+//! The frames of a video, read, edited and written one by one.
 
 ghost use Rattle.std.specs.Prelude.{◌≡◌, ◌+◌, ◌≤◌, ◌<◌, length};
 ghost use Rattle.devices.specs.Device.{device_of, failures_of};
@@ -13,10 +13,10 @@ use devices::{Counted, LineFault, fill, read_line};
 use frame_formats::Plan;
 use std::io::{Read, Write};
 
-/// What was found in the place of a frame's line.
+/// What was found in place of a frame's line.
 #[derive(Clone, Copy)]
 pub(crate) enum Found {
-    /// The line, and how many bytes it has, its line feed among them.
+    /// The line, and the number of its bytes, including its line feed.
     Frame(usize),
     /// The end of the input.
     End,
@@ -31,7 +31,7 @@ pub(crate) enum Begin {
     Whole,
     /// The word, and the space before its parameters.
     Open,
-    /// None: the input is at its end.
+    /// There are none: the input is at its end.
     End,
     /// Something else.
     Other,
@@ -86,7 +86,7 @@ fn read_frame_line<R: Read>(reader: &mut Counted<R>, line: &mut [u8]) -> Result<
     }
 }
 
-/// Reads frame after frame, edits it and writes it; answers how many there were.
+/// Reads frame after frame, edits it and writes it. Returns the number of frames.
 pub(crate) fn pass_frames<R: Read, W: Write>(
     reader: &mut Counted<R>,
     writer: &mut Counted<W>,

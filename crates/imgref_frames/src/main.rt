@@ -1,4 +1,4 @@
-//! Frames of raw video or pictures on standard input, edited one by one, on standard output.
+//! Edits frames of raw video or pictures, one by one, from standard input to standard output.
 #![tactic(auto)]
 
 mod cells;
@@ -31,9 +31,9 @@ EDIT is one of these, and is done to each frame or picture, in their order:
 A..B: only frames A to B-1, from 0. FILE has an edit a line.
 Cover first: a move before a fill may carry pixels away. See docs/FRAMES.md.";
 
-/// Reads a video or pictures from standard input, and writes them to standard output with what the
-/// words say done to each. Where the run ends with a fault, the program prints that to standard error and ends
-/// with its status.
+/// Reads a video or pictures from standard input, edits each as the words say, and writes them to
+/// standard output. Where the run ends with a fault, the program prints the fault to standard error
+/// and exits with its status.
 fn main(rt: HostRuntime) -> ExitCode {
     let words = match words_of(&rt) {
         Ok(words) => words,

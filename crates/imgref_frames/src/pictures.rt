@@ -1,4 +1,4 @@
-//! Pictures behind one another, passed on one by one.
+//! Pictures, one after the other, read, edited and written one by one.
 
 ghost use Rattle.std.specs.Prelude.{◌≡◌, ◌+◌, ◌≤◌, ◌<◌, length, OnOk, OnErr, IfErr};
 ghost use Rattle.devices.specs.Device.{device_of, failures_of};
@@ -94,8 +94,8 @@ fn pass_picture<R: Read, W: Write>(
     pass_cells(reader, writer, &plan, number, plan.head(), cells, other)
 }
 
-/// Reads picture after picture, the first letter of which was read, edits it and writes it; answers
-/// how many there were.
+/// Reads picture after picture, edits it and writes it; the letter at the front was already read.
+/// Returns the number of pictures.
 pub(crate) fn pass_pictures<R: Read, W: Write>(
     request: Request<'_>,
     reader: &mut Counted<R>,

@@ -1,4 +1,4 @@
-//! The program on any reader and writer: a video or pictures in, the same edited out.
+//! The program on any reader and writer: a video or pictures in, the same out, edited.
 
 ghost use Rattle.std.specs.Prelude.{◌≡◌, ◌≢◌, ◌<◌, ◌+◌, ◌++◌, ◌∷◌, [], All, false};
 ghost use Rattle.devices.specs.Device.{device_of, failures_of};
@@ -98,9 +98,9 @@ fn carry_video<R: Read, W: Write>(
     run_video(request, &line[..len + 1], reader, writer)
 }
 
-/// Reads a video or pictures, and writes what the steps and then a crop or a border make of each frame
-/// or picture; answers how many there were. All memory for a video is found before the first byte is
-/// written, and that for a picture before its first byte.
+/// Reads a video or pictures, and writes what the steps and then a crop or a border make of each
+/// frame or picture. Returns the number of frames or pictures. All memory for a video is allocated
+/// before the first byte is written, and that for a picture before its first byte.
 pub fn run<R: Read, W: Write>(
     alloc: Global,
     steps: &[Step<Paint>],

@@ -1,9 +1,9 @@
-//! What a run is asked to do.
+//! The request for a run.
 
 use frame_formats::{Framing, Paint, Step};
 use std::alloc::Global;
 
-/// The edits of each frame or picture, and where memory for it is found.
+/// The edits of each frame or picture, and the allocator for its memory.
 #[derive(Clone, Copy)]
 pub(crate) struct Request<'a> {
     pub(crate) alloc: Global,

@@ -1,4 +1,5 @@
-//! The edits that the words behind the program's name are, or the lines of the file that they name.
+//! The edits that the words after the program's name denote, or the lines of the file that they
+//! name.
 
 use frame_formats::{Change, Edits, Paint, Step, WordsFault};
 use std::{env, fs, io};
@@ -28,7 +29,7 @@ pub(crate) fn words_of(rt: &HostRuntime) -> Result<Vec<String>, WordsFault> {
     Ok(all)
 }
 
-/// The edits that the words behind the program's name are: `--edits FILE`, or one edit or more.
+/// The edits that the words after the program's name denote: `--edits FILE`, or one edit or more.
 pub(crate) fn edits_of(rt: &HostRuntime, words: &[String]) -> Result<Edits, WordsFault> {
     let alloc = rt.alloc();
     if words.len() == 3 && words[1].as_str() == "--edits" {
@@ -54,7 +55,7 @@ pub(crate) fn edits_of(rt: &HostRuntime, words: &[String]) -> Result<Edits, Word
     Ok(edits)
 }
 
-/// Whether a move stands before a fill or a mosaic, so that it may carry away what these would hide.
+/// Whether a move comes before a fill or a mosaic, so that it may carry away what these would hide.
 pub(crate) fn uncovers(steps: &[Step<Paint>]) -> bool {
     let mut moved = false;
     for step in steps {

@@ -1,4 +1,4 @@
-//! A file a subject.
+//! One file for each subject.
 
 mod blits;
 mod containers;

@@ -1,5 +1,5 @@
-//! The tests of `imgref_replay`: what no script can say. They stand apart from the code that they
-//! test, since a crate with tests is proved twice.
+//! The tests of `imgref_replay`: what a script can't express. They are in a crate of their own,
+//! since a crate with tests is proved twice.
 #![tactic(auto)]
 
 #[cfg(test)]

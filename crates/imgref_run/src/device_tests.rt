@@ -1,5 +1,5 @@
-//! Devices: that they are asked as often as is due, and what is told where one fails. The scripts
-//! that a run is tried on stand in the folder cases/.
+//! Devices: that they are called as often as needed, and what is reported where one fails. The
+//! scripts on which a run is tested are in the folder cases/.
 
 use crate::fixtures::{Due, Failing, STORED, STORED_OUTPUT, Sink, Source, calls_of};
 use crate::{Counted, RunFault};

@@ -1,5 +1,5 @@
-//! The tests of what `imgref` shows and writes pixel by pixel: images, places, rows, pixels, windows
-//! and equality. They stand apart from the code that they test, since a crate with tests is proved
+//! The tests of what `imgref` shows and writes pixel by pixel: images, places, rows, pixels,
+//! windows and equality. They are in a crate of their own, since a crate with tests is proved
 //! twice.
 #![tactic(auto)]
 

@@ -1,4 +1,4 @@
-//! Tiles lent one after the other.
+//! Tiles borrowed one after the other.
 
 use super::fixtures::{GREATEST, image_of, write};
 use image_tiles::TilesMut;

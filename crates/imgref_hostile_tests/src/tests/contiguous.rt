@@ -1,4 +1,4 @@
-//! Buffers without padding: joined in place, lent, or gathered.
+//! Buffers without padding: joined in place, borrowed, or gathered.
 
 use imgref::{Img, ImgRef, ImgVec};
 use imgref_fixtures::{PADDED, cells_of, padded};

@@ -1,4 +1,4 @@
-//! Copies of images, and images whose cells are lent or owned.
+//! Copies of images, and images whose cells are borrowed or owned.
 
 ghost use Rattle.std.specs.Prelude.{◌≡◌, ◌≢◌};
 

@@ -1,4 +1,5 @@
-//! Iterators for writing that are dropped before their end: what was written stands, all else stays.
+//! Iterators for writing that are dropped before their end: what was written stays, and everything
+//! else is as before.
 
 use super::fixtures::{STRETCHES, window_mut};
 use imgref::{AsMutSlice, AsSlice, Img, ImgRefMut, Window};

@@ -1,4 +1,4 @@
-//! Numbers at the type's end: windows, places, strides, sizes.
+//! The greatest numbers of a type: windows, places, strides, sizes.
 
 use super::fixtures::pixel_at;
 use imgref::{Img, ImgExt, ImgRef, ImgRefMut, ImgVec, Shape, Window};

@@ -1,4 +1,4 @@
-//! Images of no pixel at the greatest stride, or of the greatest sizes.
+//! Images without pixels at the greatest stride, or of the greatest sizes.
 
 use imgref::{Img, ImgExt, ImgRef, ImgRefMut, ImgVec};
 use imgref_fixtures::PADDED;

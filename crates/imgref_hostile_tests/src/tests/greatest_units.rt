@@ -1,4 +1,4 @@
-//! Pixels of no size in the greatest counts.
+//! Zero-sized pixels in the greatest numbers.
 
 use imgref::{ImgExt, ImgRef, ImgRefMut};
 use std::process::Abort;

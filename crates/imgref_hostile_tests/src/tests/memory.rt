@@ -1,4 +1,5 @@
-//! Calls that take no memory, what is left where a growth is refused, and buffers that keep theirs.
+//! Calls that allocate no memory, what is left when memory runs out, and buffers that keep their
+//! memory.
 
 use imgref::{Img, ImgRef, ImgVec};
 use imgref_fixtures::{PADDED, SQUARE, padded};

@@ -1,4 +1,5 @@
-//! Buffers that end before the last pixel: what asks no fit works on them, and is safe.
+//! Buffers that end before the last pixel: calls without the condition that the image fits work on
+//! them, and are safe.
 
 use imgref::{AsMutSlice, AsSlice, Img, ImgExt, ImgExtMut, ImgRef, ImgVec};
 use imgref_fixtures::{PADDED, hash_of};

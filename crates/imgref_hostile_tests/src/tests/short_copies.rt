@@ -1,4 +1,4 @@
-//! Buffers that end before the last pixel, copied and handed on.
+//! Buffers that end before the last pixel, copied and passed on.
 
 use super::short_buffers::{first_cells, owned_cells};
 use imgref::{Img, ImgExtMut, ImgRef, ImgRefMut, ImgVec};

@@ -1,4 +1,4 @@
-//! Pixels of no size: each call of each kind.
+//! Zero-sized pixels: each call of each kind.
 
 ghost use Rattle.std.specs.Prelude.{◌≡◌};
 ghost use Rattle.image_model.specs.Layout.{Fits};

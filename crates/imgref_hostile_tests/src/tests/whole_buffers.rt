@@ -1,4 +1,4 @@
-//! Images over another buffer, and their whole buffers cell by cell.
+//! Images with another buffer, and their whole buffers cell by cell.
 
 ghost use Rattle.std.specs.Prelude.{◌≡◌, length, IfOk};
 

@@ -1,5 +1,5 @@
-//! Commands as values: on pixels of other kinds, over lists of images, and where memory is refused.
-//! What a script can say stands in the folder cases/.
+//! Commands as values: on pixels of other kinds, over lists of images, and out of memory. The
+//! worked scripts are in the folder cases/.
 
 ghost use Rattle.std.specs.Prelude.{IfOk};
 ghost use Rattle.imgref_replay.specs.Lists.{AllFit};

@@ -1,4 +1,4 @@
-//! One list of commands over two lists of images that show the same pixels.
+//! One list of commands over two lists of images with the same pixels.
 
 ghost use Rattle.std.specs.Prelude.{IfSome};
 ghost use Rattle.image_model.specs.Layout.{Fits};

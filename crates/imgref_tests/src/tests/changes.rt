@@ -1,4 +1,4 @@
-//! Pixels changed in place: each by a closure, and rows that change places.
+//! Pixels changed in place: each by a closure, and rows that are exchanged.
 
 use imgref::{AsMutSlice, Img, ImgRefMut, ImgVec};
 use imgref_fixtures::{PADDED, SQUARE, padded, square};

@@ -1,4 +1,4 @@
-//! Equality and hashes: by size and pixels, whatever stride, padding and kind.
+//! Equality and hashes: by size and pixels, for all strides, paddings and kinds.
 
 ghost use Rattle.std.specs.Prelude.{◌≡◌, ◌<◌};
 

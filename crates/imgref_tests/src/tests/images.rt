@@ -1,4 +1,4 @@
-//! What an image is made of and tells of itself.
+//! What an image is made of, and its properties.
 
 use imgref::{Img, ImgRef, ImgVec};
 use std::test::Fail;
