@@ -14,6 +14,7 @@ from checking import ROOT, Cases
 from proving import Progress
 
 LOG = ROOT / ".ci/recorded/build.log"
+FUNCTIONS = re.compile(r"so far: \d+ of (\d+) functions checked")
 SHARE = re.compile(r"\d+:\d\d +(\d+) %")
 
 
@@ -22,7 +23,9 @@ def shown(lines):
     names = list(dict.fromkeys(it[1] for it in lines))
     # (one chain in the order of the log: only that the shares move is looked at)
     now = [0.0]
-    progress = Progress({it: 1.0 for it in names}, dict(zip(names, [[], *[[it] for it in names]])), lambda: now[0])
+    # (the sources of that day are gone, so a crate weighs by the functions that its log counts)
+    found = {it[1]: int(counted[1]) for it in lines if (counted := FUNCTIONS.match(it[2]))}
+    progress = Progress({it: 10 + found.get(it, 0) for it in names}, dict(zip(names, [[], *[[it] for it in names]])), lambda: now[0])
     texts, at = [], 0
     for second in range(int(lines[-1][0]) + 2):
         while at < len(lines) and lines[at][0] <= second:

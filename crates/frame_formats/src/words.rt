@@ -231,11 +231,11 @@ impl Edits {
         self.framing = framing;
     }
 
-    /// Adds all edits that the words are, one behind the other.
+    /// Adds all edits that the words are, one after the other.
     ///
     /// # Errors
     ///
-    /// `NoEdit` where the words are no edits, or one would stand behind a crop or a pad. On any fault
+    /// `NoEdit` where the words are no edits, or one would come after a crop or a pad. On any fault
     /// the edits stay as they were.
     pub fn take_all(&mut self, words: &[&[u8]]) -> Result<(), WordsFault>
         ensures adds { OnOk result (Adds (map (λ w. w.now) words.now) self.old self.new) }
@@ -301,7 +301,7 @@ impl Edits {
     ///
     /// # Errors
     ///
-    /// `NoEdit` where a line isn't one edit, or would stand behind a crop or a pad. On any fault the
+    /// `NoEdit` where a line isn't one edit, or would come after a crop or a pad. On any fault the
     /// edits stay as they were.
     pub fn take_lines(&mut self, alloc: Global, text: &[u8]) -> Result<(), WordsFault>
         ensures taken { OnOk result
