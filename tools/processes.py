@@ -14,7 +14,7 @@ import time
 # Where Python is older than 3.11, a child makes its group itself.
 OWN_GROUP = {"process_group": 0} if sys.version_info >= (3, 11) else {"preexec_fn": os.setpgrp}
 # How long a command has to end what it started, in seconds, before it is killed; and one with a session, which ends others so.
-PATIENCE, PATIENCE_OF_SESSION = 5, 15
+PATIENCE, PATIENCE_OF_SESSION = 10, 60
 RUNNING, SESSIONS, LOCK = set(), set(), threading.Lock()
 is_ending = False
 
@@ -35,7 +35,7 @@ def started(words, in_session=False, **how):
             SESSIONS.add(process)
     if is_ending:
         # (a signal came while it was being started, and may not have seen it)
-        kill(process, signal.SIGTERM)
+        kill(process, signal.SIGKILL)
     try:
         with process:
             try:
@@ -91,7 +91,8 @@ def end_on_signals():
 
     def end(number, _):
         for it in (signal.SIGTERM, signal.SIGHUP, signal.SIGINT):
-            signal.signal(it, signal.SIG_IGN)
+            # (a signal that is ignored would be ignored in what starts now, too)
+            signal.signal(it, lambda *_: None)
         end_all()
         raise KeyboardInterrupt
 

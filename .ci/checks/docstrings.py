@@ -1,8 +1,8 @@
 #!/usr/bin/env python3
-"""Every public item of imgref, image_tiles and imgref_replay is documented.
+"""Every public item of imgref, image_tiles, image_commands and imgref_replay is documented.
 
 A function, struct, enum, trait or type alias, a field and a variant has `///` lines. Those of a function with a `requires`
-clause have the heading `# Requires`, and those of one that answers a `Result` the heading `# Errors`. In an impl of a trait
+clause have the heading `# Requires`, and those of one that returns a `Result` the heading `# Errors`. In an impl of a trait
 the conditions may be told above the impl.
 """
 import pathlib
@@ -12,7 +12,7 @@ import sys
 sys.path.insert(0, str(pathlib.Path(__file__).resolve().parent.parent))
 from checking import ROOT, Cases
 
-CRATES = ["imgref", "image_tiles", "imgref_replay"]
+CRATES = ["imgref", "image_tiles", "image_commands", "imgref_replay"]
 ITEM = re.compile(r"( *)(pub )?(fn|struct|enum|trait|type) (\w+)")
 BLOCK = re.compile(r"(?:pub )?(trait|impl)\b(.*)")
 CLAUSE = re.compile(r" *(?:requires|ensures)\b")

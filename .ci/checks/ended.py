@@ -31,7 +31,8 @@ sleep 600 &
 echo "$$ $!" >> "$WAITING"
 wait
 """
-SECONDS = 30
+# The machine may be busy: this is only how long a failure takes.
+SECONDS = 300
 
 
 def until(holds):
