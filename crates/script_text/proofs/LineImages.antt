@@ -1,5 +1,5 @@
 -- Images: what the fields after the word are read as has those fields, and is read from them.
-use Rattle.std.proofs.Common.{◌≡◌, ℕ, true, ◌&&◌, cond, List, [], ◌∷◌, map, Option, Some, None, refl, ap, subst, arith, leb, codes}
+use Rattle.std.proofs.Common.{◌≡◌, ℕ, true, ◌&&◌, List, [], ◌∷◌, map, Some, refl, ap, subst, arith, leb, codes}
 use Rattle.std.specs.List.{AllByRecursion}
 use Rattle.std.specs.Fmt.{decimal}
 use Rattle.std.proofs.lemmas.Bool.{leb-true, le-leb}
@@ -8,14 +8,10 @@ use Rattle.image_model.proofs.Places.{is_fitting_decides}
 use Rattle.text_model.specs.Fields.{IsWord, IsPixel}
 use Rattle.script_text.specs.Line.{IsImage, image_line, entry_fields}
 use Rattle.text_model.specs.Reading.{◌>>=◌, number_of, number_at, each_of, pixel_of}
-use Rattle.script_text.specs.Reading.{image_in, is_sized}
+use Rattle.script_text.specs.Reading.{image_in, is_sized, sized}
 use Rattle.text_model.proofs.PartsJoined.{AllLack, and_parts, lacks-decimal}
 use Rattle.text_model.proofs.Options.{bind_some, guard_some}
 use Rattle.text_model.proofs.FieldTexts.{first_is, first_back, each_is, each_back, then, number_law, pixel_law}
-
--- an image where it is one that scripts may hold
-abbrev sized : Layout ℕ → Option (Layout ℕ)
-sized i = cond (is_sized i) (Some i) None
 
 sized_is : (i : Layout ℕ) → is_sized i ≡ true → IsWord i.stride → AllByRecursion IsPixel i.cells → IsImage i
 sized_is i e stride cells =
@@ -53,7 +49,7 @@ image_is fields i e =
     let ct = number b.0.1 c.0 c.1 in
     let dt = each_is pixel_of decimal IsPixel pixel_law c.0.1 d.0 d.1 in
     let whole = then fields _ _ _ at.0 (then a.0.1 _ _ _ bt.0 (then b.0.1 _ _ _ ct.0 dt.0)) in
-    subst (λ (v : Layout ℕ). (codes "image" ∷ fields ≡ entry_fields (image_line v)) × IsImage v) end.1
+    subst (λ (v : Layout ℕ). (codes "image" ∷ fields ≡ entry_fields (image_line v)) × IsImage v) {x = made} {y = i} end.1
     (ap (λ (l : List (List ℕ)). codes "image" ∷ l) whole, sized_is made end.0 ct.1 dt.1)
 
 pub image_back : (i : Layout ℕ) → IsImage i → image_in (decimal i.width ∷ decimal i.height ∷ decimal i.stride ∷ map decimal i.cells) ≡ Some i

@@ -1,8 +1,26 @@
--- How many lines bytes have.
-use Rattle.std.proofs.Common.{◌≡◌, ℕ, suc, ◌+◌, ◌≤◌, Bool, true, false, cond, eqb, List, [], ◌∷◌, length, refl, arith}
+-- The lines of bytes: the next of them, and how many there are.
+use Rattle.std.proofs.Common.{◌≡◌, ℕ, suc, ◌+◌, ◌≤◌, Bool, true, false, cond, eqb, List, [], ◌∷◌, length, refl, sym, arith}
 use Rattle.std.specs.List.{onto_first}
+use Rattle.std.proofs.lemmas.Bool.{eqb-true}
 use Rattle.text_model.specs.Parts.{parts_of}
 use Rattle.script_text.specs.Script.{whole_lines, lines_of}
+
+-- ---- the next line
+
+-- an empty last piece is none
+pub no_line : (piece : List ℕ) (left : List (List ℕ)) → length piece ≡ 0 → left ≡ [] → whole_lines (piece ∷ left) ≡ []
+no_line piece left empty last = rw (last, empty) refl
+
+full : (piece : List ℕ) (b : Bool) → b ≡ eqb (length piece) 0 → (length piece ≡ 0 → ⊥) → cond b [] (piece ∷ []) ≡ piece ∷ []
+full piece true test more = absurd (more (eqb-true (length piece) 0 (sym test)))
+full piece false test more = refl
+
+-- and each other piece is one
+pub here_line : (piece : List ℕ) (left : List (List ℕ)) → (length piece ≡ 0 → left ≡ [] → ⊥) → whole_lines (piece ∷ left) ≡ piece ∷ whole_lines left
+here_line piece [] more = full piece (eqb (length piece) 0) refl (λ empty. more empty refl)
+here_line piece (next ∷ left) more = refl
+
+-- ---- how many lines there are
 
 one_at_most : (b : Bool) (piece : List ℕ) → length (cond b [] (piece ∷ [])) ≤ 1
 one_at_most true piece = omega arith

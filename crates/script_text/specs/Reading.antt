@@ -71,6 +71,10 @@ order_in word fields = do
 abbrev pub is_sized : Layout ℕ → Bool
 is_sized i = nat_le i.width 4294967295 && (nat_le i.height 4294967295 && (nat_le 1 i.stride && (nat_le i.width i.stride && is_fitting i)))
 
+-- the image where it is one that scripts may hold
+abbrev pub sized : Layout ℕ → Option (Layout ℕ)
+sized i = if is_sized i then Some i else None
+
 -- the fields of an image after its word
 unfoldable pub image_in : List (List ℕ) → Option (Layout ℕ)
 image_in fields = do
@@ -78,8 +82,7 @@ image_in fields = do
   height ← number_at width.1
   stride ← number_at height.1
   cells ← each_of pixel_of stride.1
-  let image : Layout ℕ = layout cells width.0 height.0 stride.0
-  if is_sized image then Some image else None
+  sized (layout cells width.0 height.0 stride.0)
 
 -- the fields of a line
 unfoldable pub line_in : List (List ℕ) → Option Entry

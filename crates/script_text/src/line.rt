@@ -1,11 +1,12 @@
 //! A line of a script, read as an image or a command.
 
 ghost use Rattle.std.specs.Prelude.{◌≡◌, IfOk, IsErrOf, codes};
+ghost use Rattle.image_model.specs.Layout.{layout};
 ghost use Rattle.imgref.specs.Image.{vec_layout};
 ghost use Rattle.script_text.specs.Line.{Entry, IsEntry, IsLineOf, entry_text, entry_of, EachTextHasOneValue};
 ghost use Rattle.text_model.specs.Parts.{parts_of};
 ghost use Rattle.texts.specs.Parts.{parts_left};
-ghost use Rattle.script_text.specs.Reading.{Gives, image_in, line_in};
+ghost use Rattle.script_text.specs.Reading.{Gives, sized, image_in, line_in};
 
 use crate::command::read_command;
 use crate::fault::LineFault;
@@ -24,14 +25,15 @@ pub(crate) enum Line {
     Command(Command<u8>),
 }
 
-#[tactic(auto, unfolding(crate::specs::Reading::image_in))]
-fn read_image(alloc: Global, fields: &mut Parts<'_>) -> Result<ImgVec<u8>, LineFault>
-    ensures { Gives vec_layout result (image_in (parts_left fields.old)) }
+// The image of these cells and sizes, where it is one that scripts may hold.
+fn sized_image(
+    cells: Vec<u8>,
+    width: usize,
+    height: usize,
+    stride: usize,
+) -> Result<ImgVec<u8>, LineFault>
+    ensures { Gives vec_layout result (sized (layout cells.items width height stride)) }
 {
-    let width = next_value(fields)?;
-    let height = next_value(fields)?;
-    let stride = next_value(fields)?;
-    let cells = read_each(alloc, fields, 0)?;
     let greatest = u32::MAX as usize;
     if width > greatest || height > greatest || stride < 1 || stride < width {
         return Err(LineFault::Bad);
@@ -41,6 +43,18 @@ fn read_image(alloc: Global, fields: &mut Parts<'_>) -> Result<ImgVec<u8>, LineF
         return Err(LineFault::Bad);
     }
     Ok(image)
+}
+
+// The image with these fields after its word, and no field more.
+#[tactic(auto, unfolding(crate::specs::Reading::image_in))]
+fn read_image(alloc: Global, fields: &mut Parts<'_>) -> Result<ImgVec<u8>, LineFault>
+    ensures { Gives vec_layout result (image_in (parts_left fields.old)) }
+{
+    let width = next_value(fields)?;
+    let height = next_value(fields)?;
+    let stride = next_value(fields)?;
+    let cells = read_each(alloc, fields, 0)?;
+    sized_image(cells, width, height, stride)
 }
 
 // The value that the line is the text of, read field by field.

@@ -22,6 +22,7 @@ pub struct Script {
 }
 
 // The next line of a script that is split at its line feeds: an empty last piece isn't a line.
+#[tactic(auto, using(crate::proofs::ScriptLines::no_line, crate::proofs::ScriptLines::here_line))]
 fn next_line<'a>(pieces: &mut Parts<'a>) -> Option<&'a [u8]>
     ensures { MatchOption result (whole_lines (parts_left pieces.old) ≡ []) (λ line.
         whole_lines (parts_left pieces.old) ≡ line.now ∷ whole_lines (parts_left pieces.new)) }
