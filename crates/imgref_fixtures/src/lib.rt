@@ -45,6 +45,19 @@ pub fn square(alloc: Global) -> Result<ImgVec<u8>, AllocError>
     Ok(Img::new_stride(SQUARE.to_vec(alloc)?, 3, 3, 4))
 }
 
+// The same over these cells, for writing.
+pub fn square_mut(cells: &mut [u8; 11]) -> ImgRefMut<'_, u8>
+    ensures { Fits (mut_layout result) }
+{
+    Img::new_stride(cells.as_mut_slice(), 3, 3, 4)
+}
+
+// Whether an image has this width, height and stride.
+pub fn has_size<C>(image: &Img<C>, size: [usize; 3]) -> bool {
+    let [width, height, stride] = size;
+    image.width() == width && image.height() == height && image.stride() == stride
+}
+
 pub fn cells_of(alloc: Global, count: usize, value: u8) -> Result<Vec<u8>, AllocError> {
     let mut cells = Vec::new(alloc);
     cells.resize(count, value)?;

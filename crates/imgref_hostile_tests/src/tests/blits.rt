@@ -1,31 +1,39 @@
 //! Pixels copied from another image, and windows moved within one.
 
-use imgref::{Img, ImgRef, ImgRefMut, ImgVec};
-use imgref_fixtures::{PADDED, SQUARE};
+use imgref::{AsMutSlice, Img, ImgRef, ImgRefMut, ImgVec};
+use imgref_fixtures::{PADDED, SQUARE, square, square_mut};
 use std::alloc::{AllocError, Global};
 use std::process::Abort;
 use std::test::Fail;
+
+// Two numbers: column and line, or width and height.
+type Pair = (usize, usize);
+
+// Moves a window of an image that fits, and answers whether it lies inside before and after.
+fn moves<C: AsMutSlice<Item = u8>>(image: &mut Img<C>, from: Pair, to: Pair, size: Pair) -> bool {
+    let is_inside = image.has_window(from.0, from.1, size.0, size.1)
+        && image.has_window(to.0, to.1, size.0, size.1);
+    if !is_inside || !image.is_valid() {
+        return false;
+    }
+    image.move_window(from.0, from.1, to.0, to.1, size.0, size.1);
+    true
+}
 
 // Whether an image with the cells of `SQUARE` is left with these, as an owner and as a lent one, once
 // a window of this size has moved.
 fn leaves(
     alloc: Global,
-    (left, top): (usize, usize),
-    (to_left, to_top): (usize, usize),
-    (width, height): (usize, usize),
+    from: Pair,
+    to: Pair,
+    size: Pair,
     after: [u8; 11],
 ) -> Result<bool, AllocError> {
-    let mut owner: ImgVec<u8> = Img::new_stride(SQUARE.to_vec(alloc)?, 3, 3, 4);
+    let mut owner = square(alloc)?;
     let mut cells = SQUARE;
-    let mut lent = ImgRefMut::new_stride(cells.as_mut_slice(), 3, 3, 4);
-    let is_inside = owner.has_window(left, top, width, height)
-        && owner.has_window(to_left, to_top, width, height);
-    if !owner.is_valid() || !lent.is_valid() || !is_inside {
-        return Ok(false);
-    }
-    owner.move_window(left, top, to_left, to_top, width, height);
-    lent.move_window(left, top, to_left, to_top, width, height);
-    Ok(owner.into_buf().as_slice() == after.as_slice() && cells == after)
+    let mut lent = square_mut(&mut cells);
+    let is_moved = moves(&mut owner, from, to, size) && moves(&mut lent, from, to, size);
+    Ok(is_moved && owner.buf().as_slice() == after.as_slice() && cells == after)
 }
 
 #[test]
@@ -57,19 +65,16 @@ fn a_window_moves_within_its_image(rt: HostRuntime) -> Result<(), Fail> {
 #[test]
 fn columns_of_one_row_move_by_one(rt: HostRuntime) -> Result<(), Fail> {
     let mut owner: ImgVec<u8> = Img::new(vec![in rt.alloc(); 1u8, 2, 3, 4]?, 4, 1);
-    assert!(rt; owner.is_valid());
-    owner.move_window(0, 0, 1, 0, 2, 1);
+    assert!(rt; moves(&mut owner, (0, 0), (1, 0), (2, 1)));
     assert!(rt; owner.buf().as_slice() == [1u8, 1, 2, 4].as_slice());
-    assert!(rt; owner.is_valid());
-    assert!(rt; owner.has_window(0, 0, 4, 1));
-    owner.move_window(2, 0, 1, 0, 2, 1);
+    assert!(rt; owner.has_window(0, 0, 4, 1) && moves(&mut owner, (2, 0), (1, 0), (2, 1)));
     assert!(rt; owner.buf().as_slice() == [1u8, 2, 4, 4].as_slice());
     Ok(())
 }
 
+// The cell of such a corner has a number past the type's end.
 #[test]
 fn the_corner_of_an_empty_window_is_not_looked_at(rt: HostRuntime) -> Result<(), Fail> {
-    // The cell of such a corner has a number past the type's end.
     let last = u32::MAX as usize;
     let mut cells = [7u8];
     let mut tall: ImgRefMut<'_, u8> = Img::new_stride(cells.as_mut_slice(), 0, last, usize::MAX);
@@ -77,6 +82,14 @@ fn the_corner_of_an_empty_window_is_not_looked_at(rt: HostRuntime) -> Result<(),
     tall.move_window(0, 2, 0, last - 5, 0, 5);
     let none: ImgRef<'_, u8> = Img::new_stride(&[], 0, 5, usize::MAX);
     tall.copy_window(0, last - 5, none);
+    assert!(rt; cells == [7u8]);
+    Ok(())
+}
+
+#[test]
+fn the_corner_of_a_window_without_lines_is_not_looked_at(rt: HostRuntime) -> Result<(), Fail> {
+    let last = u32::MAX as usize;
+    let mut cells = [7u8];
     let mut wide: ImgRefMut<'_, u8> = Img::new_stride(cells.as_mut_slice(), last, 0, usize::MAX);
     wide.move_window(last, 0, 3, 0, 0, 0);
     wide.move_window(3, 0, last - 5, 0, 5, 0);
@@ -109,22 +122,29 @@ fn a_packed_image_gets_no_padding(rt: HostRuntime) -> Result<(), Fail> {
     Ok(())
 }
 
+// The cells of `SQUARE` with four pixels of the padded image.
+const WITH_PART: [u8; 11] = [1, 2, 3, 0, 4, 2, 3, 0, 7, 6, 7];
+
 #[test]
 fn a_window_gets_an_image(rt: HostRuntime) -> Result<(), Fail> {
     let mut owner: ImgVec<u8> = Img::new_stride(SQUARE.to_vec(rt.alloc())?, 3, 3, 4);
     let source: ImgRef<'_, u8> = Img::new_stride(PADDED.as_slice(), 3, 2, 4);
     assert!(rt; owner.is_valid() && source.is_valid());
     owner.copy_window(1, 1, source.sub_image(1, 0, 2, 2));
-    let after = [1u8, 2, 3, 0, 4, 2, 3, 0, 7, 6, 7];
-    assert!(rt; owner.buf().as_slice() == after.as_slice());
-    // Through a window for writing it is the same.
+    assert!(rt; owner.buf().as_slice() == WITH_PART.as_slice());
+    Ok(())
+}
+
+// Through a window for writing it is the same.
+#[test]
+fn a_window_for_writing_gets_an_image(rt: HostRuntime) {
     let mut cells = SQUARE;
     let mut lent: ImgRefMut<'_, u8> = Img::new_stride(cells.as_mut_slice(), 3, 3, 4);
-    assert!(rt; lent.is_valid());
+    let source: ImgRef<'_, u8> = Img::new_stride(PADDED.as_slice(), 3, 2, 4);
+    assert!(rt; lent.is_valid() && source.is_valid());
     lent.sub_image_mut(1, 1, 2, 2)
         .copy_from(source.sub_image(1, 0, 2, 2));
-    assert!(rt; cells == after);
-    Ok(())
+    assert!(rt; cells == WITH_PART);
 }
 
 #[test]

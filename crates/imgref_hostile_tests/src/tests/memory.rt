@@ -2,7 +2,7 @@
 //! memory.
 
 use imgref::{Img, ImgRef, ImgVec};
-use imgref_fixtures::{PADDED, SQUARE, padded};
+use imgref_fixtures::{PADDED, SQUARE, has_size, padded};
 use std::alloc::{AllocError, Global};
 use std::borrow::CowSlice;
 use std::test::Fail;
@@ -80,6 +80,10 @@ fn what_needs_no_memory_takes_none(rt: HostRuntime) {
     let low: ImgRef<'_, u8> = Img::new_stride(&SMALL[..3], 3, 0, 4);
     assert!(rt; is_joined(rt.alloc(), narrow, &[]) && is_joined(rt.alloc(), low, &[]));
     assert!(rt; is_made_owned(rt.alloc(), narrow, &[]) && is_made_owned(rt.alloc(), low, &[]));
+}
+
+#[test]
+fn what_has_no_cell_is_copied_without_memory(rt: HostRuntime) {
     let empty: ImgRef<'_, u8> = Img::new_stride(&SMALL[..0], 2, 0, 3);
     let owner: ImgVec<u8> = Img::new_stride(Vec::new(rt.alloc()), 2, 0, 3);
     let is_cloned = match owner.clone(rt.alloc()) {
@@ -89,21 +93,22 @@ fn what_needs_no_memory_takes_none(rt: HostRuntime) {
     assert!(rt; is_copied(rt.alloc(), empty) && is_cloned);
 }
 
+// Whether an image is there, with all cells of the nine.
+fn is_whole(image: Option<ImgVec<u8>>) -> bool {
+    match image {
+        Some(image) => image.buf().as_slice() == PADDED.as_slice() && image.stride() == 4,
+        None => false,
+    }
+}
+
 // Cells that are owned stay, with no growth.
 #[test]
 fn owned_cells_are_handed_on(rt: HostRuntime) -> Result<(), Fail> {
     let (first, second) = (padded(rt.alloc())?, padded(rt.alloc())?);
     let first: Img<CowSlice<'static, u8>> = first.into();
     let second: Img<CowSlice<'static, u8>> = second.into();
-    let is_owned = match first.into_owned(rt.alloc()) {
-        Ok(image) => image.buf().as_slice() == PADDED.as_slice() && image.stride() == 4,
-        Err(_) => false,
-    };
-    let is_whole = match second.into_vec(rt.alloc()) {
-        Ok(image) => image.buf().as_slice() == PADDED.as_slice() && image.stride() == 4,
-        Err(_) => false,
-    };
-    assert!(rt; is_owned && is_whole);
+    let (owned, whole) = (first.into_owned(rt.alloc()), second.into_vec(rt.alloc()));
+    assert!(rt; is_whole(owned.ok()) && is_whole(whole.ok()));
     Ok(())
 }
 
@@ -117,8 +122,7 @@ fn small(alloc: Global) -> Result<ImgVec<u8>, AllocError> {
 
 // Whether this is the small image.
 fn is_small(image: &ImgVec<u8>) -> bool {
-    image.buf().as_slice() == SMALL.as_slice()
-        && (image.width(), image.height(), image.stride()) == (2, 2, 3)
+    image.buf().as_slice() == SMALL.as_slice() && has_size(image, [2, 2, 3])
 }
 
 #[test]

@@ -32,23 +32,25 @@ fn meaning_of(count: usize, stride: usize) -> usize {
     }
 }
 
+// Whether two images are equal where they should be, and have one hash there.
+fn compares(first: ImgRef<'_, u8>, second: ImgRef<'_, u8>, is_same: bool) -> bool {
+    (first == second) == is_same
+        && first.same_pixels(second) == is_same
+        && (!is_same || hash_of(&first) == hash_of(&second))
+}
+
 #[test]
 fn short_buffers_are_equal_to_one_another_alone(rt: HostRuntime) -> Result<(), Fail> {
     for stride in [3, 4, 5, 6, 7, usize::MAX] {
         for count in 0..10usize {
             let first = first_cells(count, stride);
-            let is_whole = meaning_of(count, stride) > 0;
-            assert!(rt; first.is_valid() == is_whole, "{count} at {stride}");
+            let meaning = meaning_of(count, stride);
+            assert!(rt; first.is_valid() == (meaning > 0), "{count} at {stride}");
             for other_stride in [3, 4, 5, 6, 7, usize::MAX] {
                 for other_count in 0..10usize {
                     let second = first_cells(other_count, other_stride);
-                    let is_same = meaning_of(count, stride)
-                        == meaning_of(other_count, other_stride);
-                    assert!(rt; (first == second) == is_same, "{count} {stride}");
-                    assert!(rt; first.same_pixels(second) == is_same, "{count} {stride}");
-                    if is_same {
-                        assert!(rt; hash_of(&first) == hash_of(&second), "{count} {stride}");
-                    }
+                    let is_same = meaning == meaning_of(other_count, other_stride);
+                    assert!(rt; compares(first, second, is_same), "{count} {stride}");
                 }
             }
         }
@@ -56,27 +58,32 @@ fn short_buffers_are_equal_to_one_another_alone(rt: HostRuntime) -> Result<(), F
     Ok(())
 }
 
+// Both images as owners.
+fn compares_owners(owner: &ImgVec<u8>, other: &ImgVec<u8>, is_same: bool) -> bool {
+    (owner == other) == is_same
+        && owner.same_pixels(other.as_ref()) == is_same
+        && owner.as_ref().same_pixels(other.as_ref()) == is_same
+        && (!is_same || has_one_hash(owner, other))
+}
+
+fn has_one_hash(owner: &ImgVec<u8>, other: &ImgVec<u8>) -> bool {
+    let hash = hash_of(owner);
+    hash == hash_of(other) && hash == hash_of(&other.as_ref())
+}
+
+// Both images as lent cells.
+fn compares_lent(owner: &mut ImgVec<u8>, other: &mut ImgVec<u8>, is_same: bool) -> bool {
+    owner.as_mut().same_pixels(other.as_ref()) == is_same
+        && (owner.as_mut() == other.as_mut()) == is_same
+        && (!is_same || hash_of(&owner.as_mut()) == hash_of(&other.as_mut()))
+}
+
 // Both images as owners and as lent cells.
 fn check_kinds(rt: &impl Abort, owner: ImgVec<u8>, other: ImgVec<u8>, is_same: bool) {
     let mut owner = owner;
     let mut other = other;
-    assert!(rt;
-        (owner == other) == is_same
-            && owner.same_pixels(other.as_ref()) == is_same
-            && owner.as_ref().same_pixels(other.as_ref()) == is_same
-    );
-    if is_same {
-        assert!(rt;
-            hash_of(&owner) == hash_of(&other) && hash_of(&owner) == hash_of(&other.as_ref())
-        );
-    }
-    assert!(rt;
-        (owner.as_mut() == other.as_mut()) == is_same
-            && owner.as_mut().same_pixels(other.as_ref()) == is_same
-    );
-    if is_same {
-        assert!(rt; hash_of(&owner.as_mut()) == hash_of(&other.as_mut()));
-    }
+    assert!(rt; compares_owners(&owner, &other, is_same));
+    assert!(rt; compares_lent(&mut owner, &mut other, is_same));
 }
 
 #[test]
@@ -136,34 +143,60 @@ fn each_cell_that_is_there_has_a_place(rt: HostRuntime) -> Result<(), Fail> {
         let view = first_cells(count, 4);
         for y in 0..4usize {
             for x in 0..5usize {
-                let at = y.saturating_mul(4).saturating_add(x);
-                let expected = if x < 4 && at < count {
-                    PADDED.get(at).copied()
-                } else {
-                    None
-                };
+                let expected = cell_due(count, x, y);
                 assert!(rt; cell_at(view, x, y) == expected, "({x}, {y}) of {count}");
             }
         }
     }
-    let far = first_cells(9, usize::MAX);
-    assert!(rt;
-        (cell_at(far, 8, 0), cell_at(far, 9, 0), cell_at(far, 0, 1)) == (Some(9), None, None)
-    );
     Ok(())
 }
 
-// The cell of one place is 0 where it is there, and no other has changed.
-fn check_set(rt: &impl Abort, cells: &[u8], count: usize, at: Option<usize>) {
-    assert!(rt; cells.len() == count);
+// The cell that is due by column and line, of so many at stride 4.
+fn cell_due(count: usize, x: usize, y: usize) -> Option<u8> {
+    let at = y.saturating_mul(4).saturating_add(x);
+    if x < 4 && at < count {
+        PADDED.get(at).copied()
+    } else {
+        None
+    }
+}
+
+#[test]
+fn cells_at_the_greatest_stride_are_in_one_line(rt: HostRuntime) {
+    let far = first_cells(9, usize::MAX);
+    assert!(rt;
+        cell_at(far, 8, 0) == Some(9) && cell_at(far, 9, 0) == None && cell_at(far, 0, 1) == None
+    );
+}
+
+// Whether the cell of one place is 0 where it is there, and no other has changed.
+fn is_set(cells: &[u8], count: usize, at: Option<usize>) -> bool {
     for (number, cell) in cells.iter().enumerate() {
         let expected = if at == Some(number) {
             Some(&0)
         } else {
             PADDED.get(number)
         };
-        assert!(rt; Some(cell) == expected, "cell {number} of {count}");
+        if Some(cell) != expected {
+            return false;
+        }
     }
+    cells.len() == count
+}
+
+// Whether a write sets that cell alone, in an owner and in a lent image of so many cells.
+fn sets(alloc: Global, count: usize, x: usize, y: usize) -> Result<bool, AllocError> {
+    let at = y.saturating_mul(4).saturating_add(x);
+    let set = if at < count { Some(at) } else { None };
+    let mut owner = owned_cells(alloc, count, 4)?;
+    let mut other = owned_cells(alloc, count, 4)?;
+    let is_found = set_cell(&mut owner, x, y) == set.is_some()
+        && set_cell(&mut other.as_mut(), x, y) == set.is_some();
+    Ok(
+        is_found
+            && is_set(owner.buf().as_slice(), count, set)
+            && is_set(other.buf().as_slice(), count, set),
+    )
 }
 
 #[test]
@@ -171,44 +204,57 @@ fn a_write_by_place_changes_that_cell_alone(rt: HostRuntime) -> Result<(), Fail>
     for count in 0..10usize {
         for y in 0..3usize {
             for x in 0..4usize {
-                let at = y.saturating_mul(4).saturating_add(x);
-                let set = if at < count { Some(at) } else { None };
-                let mut owner = owned_cells(rt.alloc(), count, 4)?;
-                assert!(rt;
-                    set_cell(&mut owner, x, y) == set.is_some(),
-                    "({x}, {y}) of {count}"
-                );
-                check_set(&rt, owner.buf().as_slice(), count, set);
-                let mut owner = owned_cells(rt.alloc(), count, 4)?;
-                let mut lent = owner.as_mut();
-                assert!(rt;
-                    set_cell(&mut lent, x, y) == set.is_some(),
-                    "({x}, {y}) of {count}"
-                );
-                check_set(&rt, owner.buf().as_slice(), count, set);
+                assert!(rt; sets(rt.alloc(), count, x, y)?, "({x}, {y}) of {count}");
             }
         }
     }
     Ok(())
 }
 
-// The buffer cut into strides: how many whole ones, how many pieces, and all their cells.
-fn check_pieces(rt: &impl Abort, view: ImgRef<'_, u8>, count: usize, whole: usize, pieces: usize) {
-    assert!(rt; (view.height_padded(), view.rows_padded().count()) == (whole, pieces));
+// Whether the buffer is cut into this stride: so many whole ones, and so many pieces.
+fn is_cut<C: AsSlice<Item = u8>>(
+    image: &Img<C>,
+    stride: usize,
+    whole: usize,
+    pieces: usize,
+) -> bool {
+    image.width_padded() == stride
+        && image.height_padded() == whole
+        && image.rows_padded().count() == pieces
+}
+
+// Whether the pieces are the first so many cells.
+fn are_first_cells(view: ImgRef<'_, u8>, count: usize) -> bool {
     let mut at = 0usize;
     for piece in view.rows_padded() {
         for cell in piece {
-            assert!(rt; Some(cell) == PADDED.get(at), "cell {at} of {count}");
+            if Some(cell) != PADDED.get(at) {
+                return false;
+            }
             at = at.saturating_add(1);
         }
     }
-    assert!(rt; at == count);
+    at == count
+}
+
+// Sets the cells of each piece to 0, and answers how many cells are 0.
+fn cleared(owner: &mut ImgVec<u8>) -> usize {
+    let mut lent = owner.as_mut();
+    for piece in lent.rows_padded_mut() {
+        piece.fill(0);
+    }
+    owner
+        .buf()
+        .as_slice()
+        .iter()
+        .filter(|cell| **cell == 0)
+        .count()
 }
 
 #[test]
 fn short_buffers_are_cut_into_strides(rt: HostRuntime) -> Result<(), Fail> {
     // Cells, stride, whole strides, and pieces.
-    let cuts = [
+    for (count, stride, whole, pieces) in [
         (0, 4, 0, 0),
         (1, 4, 0, 1),
         (4, 4, 1, 1),
@@ -220,34 +266,18 @@ fn short_buffers_are_cut_into_strides(rt: HostRuntime) -> Result<(), Fail> {
         (9, 9, 1, 1),
         (9, usize::MAX, 0, 1),
         (0, usize::MAX, 0, 0),
-    ];
-    for (count, stride, whole, pieces) in cuts {
-        check_pieces(&rt, first_cells(count, stride), count, whole, pieces);
+    ] {
+        let view = first_cells(count, stride);
+        assert!(rt; is_cut(&view, stride, whole, pieces) && are_first_cells(view, count));
         let mut owner = owned_cells(rt.alloc(), count, stride)?;
         assert!(rt;
-            (owner.width_padded(), owner.height_padded()) == (stride, whole)
-                && owner.rows_padded().count() == pieces
-        );
-        check_pieces(&rt, ImgExt::as_ref(&owner), count, whole, pieces);
-        let lent = owner.as_mut();
-        assert!(rt;
-            (lent.width_padded(), lent.height_padded()) == (stride, whole)
-                && lent.rows_padded().count() == pieces
+            is_cut(&owner, stride, whole, pieces)
+                && is_cut(&ImgExt::as_ref(&owner), stride, whole, pieces)
+                && are_first_cells(ImgExt::as_ref(&owner), count)
+                && is_cut(&owner.as_mut(), stride, whole, pieces)
                 && owner.rows_padded_mut().count() == pieces
         );
-        let mut lent = owner.as_mut();
-        for piece in lent.rows_padded_mut() {
-            piece.fill(0);
-        }
-        assert!(rt;
-            owner
-                .buf()
-                .as_slice()
-                .iter()
-                .filter(|cell| **cell == 0)
-                .count()
-                == count
-        );
+        assert!(rt; cleared(&mut owner) == count, "{count} at {stride}");
     }
     Ok(())
 }

@@ -8,6 +8,7 @@ use imgref::{
     AsMutSlice, AsSlice, Img, ImgExt, ImgExtMut, ImgRef, ImgRefMut, ImgVec, Shape, Stretch, Window,
     fill_pixels,
 };
+use imgref_fixtures::has_size;
 use std::alloc::{AllocError, Global};
 use std::borrow::CowSlice;
 use std::collections::HashSet;
@@ -32,14 +33,19 @@ fn views_are_read_by_place(rt: HostRuntime) {
     let view = ImgRef::new_stride(UNITS.as_slice(), 3, 2, 4);
     assert!(rt;
         view.is_valid()
-            && view.has_window(1, 1, 2, 1)
-            && !view.has_window(1, 1, 3, 1)
             && view.get(2, 1) == Some(())
-            && (view.get(3, 0), view.get(0, 2)) == (None, None)
+            && view.get(3, 0) == None
+            && view.get(0, 2) == None
     );
-    assert!(rt; (view[(3usize, 1usize)], view[(0u32, 2u32)]) == ((), ()));
+    assert!(rt; view[(3usize, 1usize)] == () && view[(0u32, 2u32)] == ());
+}
+
+#[test]
+fn views_have_windows(rt: HostRuntime) {
+    let view = ImgRef::new_stride(UNITS.as_slice(), 3, 2, 4);
+    assert!(rt; view.is_valid() && view.has_window(1, 1, 2, 1) && !view.has_window(1, 1, 3, 1));
     let window = view.sub_image(1, 1, 2, 1);
-    assert!(rt; (window.buf().len(), window.width(), window.stride()) == (4, 2, 4));
+    assert!(rt; window.buf().len() == 4 && has_size(&window, [2, 1, 4]));
 }
 
 #[test]
@@ -47,23 +53,26 @@ fn views_are_read_one_by_one(rt: HostRuntime) {
     let view = ImgRef::new_stride(UNITS.as_slice(), 3, 2, 4);
     assert!(rt;
         view.is_valid()
-            && (view.row(1).len(), view.rows().count()) == (3, 2)
+            && view.row(1).len() == 3
+            && view.rows().count() == 2
             && view.rows().rev().count() == 2
-            && (view.pixels().count(), view.pixels_ref().count()) == (6, 6)
+            && view.pixels().count() == 6
+            && view.pixels_ref().count() == 6
     );
-    assert!(rt; (view.iter().count(), view.into_iter().count()) == (9, 9));
+    assert!(rt; view.iter().count() == 9 && view.into_iter().count() == 9);
 }
 
 #[test]
 fn views_are_cut_into_strides(rt: HostRuntime) {
     let view = ImgRef::new_stride(UNITS.as_slice(), 3, 2, 4);
     assert!(rt;
-        (view.width_padded(), view.height_padded()) == (4, 2)
+        view.width_padded() == 4
+            && view.height_padded() == 2
             && view.rows_padded().count() == 3
             && ImgExt::as_ref(&view).buf().as_slice().len() == 9
     );
     let (cells, shape) = view.into_parts();
-    assert!(rt; (cells.len(), shape.fits(7), shape.fits(6)) == (9, true, false));
+    assert!(rt; cells.len() == 9 && shape.fits(7) && !shape.fits(6));
 }
 
 #[test]
@@ -76,15 +85,29 @@ fn lent_pixels_are_written(rt: HostRuntime) {
     lent.fill(());
     lent[(3usize, 1usize)] = ();
     lent[(0u32, 2u32)] = ();
+    assert!(rt; is_as_before(&lent));
+    fill_pixels(cells.as_mut_slice(), Shape::new(3, 2, 4), ());
+    assert!(rt; cells == UNITS);
+}
+
+#[test]
+fn lent_pixels_are_moved(rt: HostRuntime) {
+    let mut cells = UNITS;
+    let mut lent = ImgRefMut::new_stride(cells.as_mut_slice(), 3, 2, 4);
     assert!(rt; lent.is_valid() && lent.has_window(1, 1, 2, 1));
     lent.fill_window(1, 1, 2, 1, ());
     lent.move_window(1, 1, 0, 0, 2, 1);
     lent.swap_rows(0, 1);
     lent.map_pixels(|unit| unit);
-    assert!(rt; lent.is_valid() && lent.get(2, 1) == Some(()) && lent.get(3, 1) == None);
-    assert!(rt; lent.same_pixels(ImgRef::new_stride(UNITS.as_slice(), 3, 2, 4)));
-    fill_pixels(cells.as_mut_slice(), Shape::new(3, 2, 4), ());
-    assert!(rt; cells == UNITS);
+    assert!(rt; is_as_before(&lent));
+}
+
+// Whether a lent image has its six pixels.
+fn is_as_before(lent: &ImgRefMut<'_, ()>) -> bool {
+    lent.is_valid()
+        && lent.get(2, 1) == Some(())
+        && lent.get(3, 1) == None
+        && lent.same_pixels(ImgRef::new_stride(UNITS.as_slice(), 3, 2, 4))
 }
 
 #[test]
@@ -113,9 +136,12 @@ fn windows_of_lent_cells_are_lent_on(rt: HostRuntime) {
     );
     assert!(rt; lent.is_valid() && lent.has_window(1, 1, 2, 1));
     let cut = lent.into_sub_image_mut(1, 1, 2, 1);
-    assert!(rt;
-        (cut.width(), cut.height(), cut.stride()) == (2, 1, 4) && cut.into_buf().len() == 4
-    );
+    assert!(rt; has_size(&cut, [2, 1, 4]) && cut.into_buf().len() == 4);
+}
+
+#[test]
+fn no_cell_of_lent_ones_makes_an_image(rt: HostRuntime) {
+    let mut cells = UNITS;
     let nothing = Stretch { start: 9, len: 0 };
     let part = ImgRefMut::from_stretch(cells.as_mut_slice(), nothing, Shape::new(0, 2, 4));
     assert!(rt; part.is_valid() && part.buf().is_empty());
@@ -131,7 +157,14 @@ fn windows_of_owners_are_lent(rt: HostRuntime) -> Result<(), Fail> {
             && owner.is_valid()
             && owner.has_window(1, 1, 2, 1)
             && owner.sub_image_mut(1, 1, 2, 1).buf().len() == 2
+            && owner.is_valid()
     );
+    Ok(())
+}
+
+#[test]
+fn owners_get_other_images(rt: HostRuntime) -> Result<(), Fail> {
+    let mut owner = units(rt.alloc())?;
     assert!(rt; owner.is_valid());
     let source = ImgRef::new(UNITS.as_slice(), 3, 2);
     assert!(rt;
@@ -152,50 +185,68 @@ fn rows_of_owners_are_joined(rt: HostRuntime) -> Result<(), Fail> {
     let mut owner = units(rt.alloc())?;
     assert!(rt; owner.is_valid());
     let (joined, width, height) = owner.as_ref().to_contiguous_buf(rt.alloc())?;
-    assert!(rt; (joined.as_ref().len(), width, height) == (6, 3, 2));
+    assert!(rt; joined.as_ref().len() == 6 && width == 3 && height == 2);
     drop(joined);
     owner.buf_mut().push(())?;
-    assert!(rt; owner.is_valid());
-    let (joined, width, height) = owner.as_contiguous_buf();
-    assert!(rt;
-        (joined.len(), width, height) == (6, 3, 2)
-            && (owner.buf().len(), owner.stride()) == (6, 3)
-            && owner.is_valid()
-            && owner.into_contiguous_buf().0.len() == 6
-    );
+    assert!(rt; is_joined_twice(owner));
     Ok(())
+}
+
+// Whether the rows of an owner are joined in place, and then again as the buffer is taken out.
+fn is_joined_twice(owner: ImgVec<()>) -> bool {
+    let mut owner = owner;
+    if !owner.is_valid() {
+        return false;
+    }
+    let (joined, width, height) = owner.as_contiguous_buf();
+    joined.len() == 6
+        && (width, height) == (3, 2)
+        && has_size(&owner, [3, 2, 3])
+        && owner.buf().len() == 6
+        && owner.is_valid()
+        && owner.into_contiguous_buf().0.len() == 6
+}
+
+// Whether an image has so many cells at this stride.
+fn has_cells(image: &ImgVec<()>, count: usize, stride: usize) -> bool {
+    image.buf().len() == count && image.stride() == stride
 }
 
 #[test]
 fn copies_have_each_cell(rt: HostRuntime) -> Result<(), Fail> {
     let mut cells = UNITS;
     let owner = units(rt.alloc())?;
-    assert!(rt;
-        owner.to_owned(rt.alloc())?.buf().len() == 9
-            && owner.clone(rt.alloc())?.buf().len() == 9
-            && owner.as_ref().to_owned(rt.alloc())?.buf().len() == 9
-    );
+    assert!(rt; has_cells(&owner.to_owned(rt.alloc())?, 9, 4));
+    assert!(rt; has_cells(&owner.clone(rt.alloc())?, 9, 4));
+    assert!(rt; has_cells(&owner.as_ref().to_owned(rt.alloc())?, 9, 4));
     let lent = ImgRefMut::new_stride(cells.as_mut_slice(), 3, 2, 4);
-    assert!(rt; lent.to_owned(rt.alloc())?.buf().len() == 9);
-    let shared: Img<CowSlice<'_, ()>> = owner.as_ref().into();
+    assert!(rt; has_cells(&lent.to_owned(rt.alloc())?, 9, 4));
+    Ok(())
+}
+
+#[test]
+fn lent_cells_become_owned(rt: HostRuntime) -> Result<(), Fail> {
+    let shared: Img<CowSlice<'_, ()>> = ImgRef::new_stride(UNITS.as_slice(), 3, 2, 4).into();
     assert!(rt; shared.is_valid());
     let Ok(joined) = shared.into_owned(rt.alloc()) else {
         return Err(AllocError.into());
     };
-    assert!(rt; (joined.buf().len(), joined.stride()) == (6, 3));
-    let shared: Img<CowSlice<'_, ()>> = owner.as_ref().into();
+    assert!(rt; has_cells(&joined, 6, 3));
+    Ok(())
+}
+
+#[test]
+fn lent_cells_become_owned_with_padding(rt: HostRuntime) -> Result<(), Fail> {
+    let shared: Img<CowSlice<'_, ()>> = ImgRef::new_stride(UNITS.as_slice(), 3, 2, 4).into();
     let Ok(whole) = shared.into_vec(rt.alloc()) else {
         return Err(AllocError.into());
     };
-    assert!(rt; (whole.buf().len(), whole.stride()) == (9, 4));
+    assert!(rt; has_cells(&whole, 9, 4));
     let owned: Img<CowSlice<'static, ()>> = whole.into();
-    assert!(rt;
-        owned
-            .into_vec(rt.alloc())
-            .map(|image| image.buf().len())
-            .ok()
-            == Some(9)
-    );
+    let Ok(same) = owned.into_vec(rt.alloc()) else {
+        return Err(AllocError.into());
+    };
+    assert!(rt; has_cells(&same, 9, 4));
     Ok(())
 }
 
@@ -212,14 +263,26 @@ fn sizes_alone_tell_images_apart(rt: HostRuntime) -> Result<(), Fail> {
             && packed != turned
             && owner == owner
             && ImgRefMut::new(cells.as_mut_slice(), 3, 2).same_pixels(packed)
-            && packed.is_valid()
-            && turned.is_valid()
     );
+    Ok(())
+}
+
+#[test]
+fn no_closure_is_asked_where_sizes_differ(rt: HostRuntime) {
+    let packed = ImgRef::new(UNITS.as_slice(), 3, 2);
+    let turned = ImgRef::new(UNITS.as_slice(), 2, 3);
+    assert!(rt; packed.is_valid() && turned.is_valid());
     assert!(rt;
         packed.same_pixels_by(packed, |_, _| true)
             && !packed.same_pixels_by(packed, |_, _| false)
             && !packed.same_pixels_by(turned, |_, _| true)
     );
+}
+
+#[test]
+fn images_of_one_size_are_one_key(rt: HostRuntime) -> Result<(), Fail> {
+    let packed = ImgRef::new(UNITS.as_slice(), 3, 2);
+    let turned = ImgRef::new(UNITS.as_slice(), 2, 3);
     let mut set = HashSet::new(rt.alloc());
     assert!(rt;
         set.insert(packed)?
@@ -234,10 +297,15 @@ fn buffers_are_exchanged(rt: HostRuntime) -> Result<(), Fail> {
     let owner = units(rt.alloc())?;
     assert!(rt; owner.iter().count() == 9);
     let other = owner.new_buf(UNITS.as_slice());
-    assert!(rt; (other.buf().len(), other.stride()) == (9, 4));
+    assert!(rt; other.buf().len() == 9 && other.stride() == 4);
     let same = owner.map_buf(|buf| buf);
     let failed: Result<ImgVec<()>, u8> = same.try_map_buf(|_buf| Err(7u8));
     assert!(rt; matches!(failed, Err(7)) && units(rt.alloc())?.into_iter().count() == 9);
+    Ok(())
+}
+
+#[test]
+fn cells_of_a_container_are_lent(rt: HostRuntime) -> Result<(), Fail> {
     let mut cells = UNITS.to_vec(rt.alloc())?;
     assert!(rt; cells.len() == 9 && cells.stretch_mut(2, 7).len() == 7 && cells.len() == 9);
     *cells.cell_mut(8) = ();

@@ -2,40 +2,56 @@
 
 use super::fixtures::{cells_of, pixel_at, window_mut};
 use imgref::{AsMutSlice, AsSlice, Img, ImgRef, ImgRefMut, Window};
-use imgref_fixtures::{PADDED, are_cleared, are_filled, numbered, numbers_of, padded, padded_view};
+use imgref_fixtures::{
+    PADDED, are_cleared, are_filled, has_size, numbered, numbers_of, padded, padded_mut,
+    padded_view,
+};
 use std::process::Abort;
 use std::test::Fail;
+
+// The pixel of a place of a window.
+fn pixel_in(window: Window, x: usize, y: usize) -> Option<u8> {
+    if x < window.width && y < window.height {
+        pixel_at(window.left.saturating_add(x), window.top.saturating_add(y))
+    } else {
+        None
+    }
+}
+
+// Whether an image has the pixels of a window by their places, and no other.
+fn has_pixels(found: ImgRef<'_, u8>, window: Window) -> bool {
+    if !found.is_valid() {
+        return false;
+    }
+    for y in 0..4usize {
+        for x in 0..4usize {
+            if found.get(x, y) != pixel_in(window, x, y) {
+                return false;
+            }
+        }
+    }
+    true
+}
+
+// Whether an image has so many cells, from this one of the nine on.
+fn has_cells(found: ImgRef<'_, u8>, first: usize, count: usize) -> bool {
+    for (at, cell) in found.iter().enumerate() {
+        if Some(cell) != PADDED.get(first.saturating_add(at)) {
+            return false;
+        }
+    }
+    found.buf().len() == count
+}
 
 // A window has its size, its pixels by their places, and these cells.
 fn check_view(rt: &impl Abort, found: ImgRef<'_, u8>, window: Window, count: usize) {
     let (left, top, width, height) = numbers_of(window);
     assert!(rt;
-        (found.width(), found.height()) == (width, height)
-            && found.stride() == 4
-            && found.is_valid()
+        has_size(&found, [width, height, 4])
+            && has_pixels(found, window)
+            && has_cells(found, cells_of(window).first, count),
+        "{left},{top},{width},{height}"
     );
-    for y in 0..4usize {
-        for x in 0..4usize {
-            let pixel = if x < width && y < height {
-                pixel_at(left.saturating_add(x), top.saturating_add(y))
-            } else {
-                None
-            };
-            assert!(rt;
-                found.get(x, y) == pixel,
-                "({x}, {y}) of {left},{top},{width},{height}"
-            );
-        }
-    }
-    let first = cells_of(window).first;
-    assert!(rt; found.buf().len() == count, "{left},{top},{width},{height}");
-    for (at, cell) in found.iter().enumerate() {
-        let expected = PADDED.get(first.saturating_add(at));
-        assert!(rt;
-            Some(cell) == expected,
-            "cell {at} of {left},{top},{width},{height}"
-        );
-    }
 }
 
 // Whether a window is inside an image, and what is read through it. An image that is only read has
@@ -61,6 +77,11 @@ fn is_in_image<C: AsMutSlice<Item = u8>>(rt: &impl Abort, image: &Img<C>, window
     is_shown!(rt, image, window)
 }
 
+// Whether a window lies in an image of 3 by 2 pixels.
+fn is_in_nine(window: Window) -> bool {
+    window.left.saturating_add(window.width) <= 3 && window.top.saturating_add(window.height) <= 2
+}
+
 #[test]
 fn sixty_windows_for_reading(rt: HostRuntime) -> Result<(), Fail> {
     let mut cells = PADDED;
@@ -70,18 +91,11 @@ fn sixty_windows_for_reading(rt: HostRuntime) -> Result<(), Fail> {
     let mut inside = 0u32;
     for number in 0..256usize {
         let window = numbered(number);
-        let is_inside = window.left.saturating_add(window.width) <= 3
-            && window.top.saturating_add(window.height) <= 2;
+        let is_inside = is_in_nine(window);
         assert!(rt;
-            is_in_view(&rt, view, window) == is_inside,
-            "window {number}"
-        );
-        assert!(rt;
-            is_in_image(&rt, &owner, window) == is_inside,
-            "window {number}"
-        );
-        assert!(rt;
-            is_in_image(&rt, &lent, window) == is_inside,
+            is_in_view(&rt, view, window) == is_inside
+                && is_in_image(&rt, &owner, window) == is_inside
+                && is_in_image(&rt, &lent, window) == is_inside,
             "window {number}"
         );
         if is_inside {
@@ -116,30 +130,39 @@ fn check_cells<C: AsMutSlice<Item = u8>>(
     let (left, top, width, height) = numbers_of(window);
     assert!(rt; image.is_valid() && image.has_window(left, top, width, height));
     let (parts, shape) = image.window_parts_mut(Window::new(left, top, width, height));
-    assert!(rt; (shape.width(), shape.height(), shape.stride()) == (width, height, 4));
+    assert!(rt; shape.width() == width && shape.height() == height && shape.stride() == 4);
     parts.fill(0);
     assert!(rt; are_cleared(image.buf().as_slice(), cells_of(window).first, count));
 }
 
-// Cells that are lent are cut down to a window, which is written in the same two ways.
-fn check_cut(rt: &impl Abort, window: Window) {
+// The same of lent cells.
+fn check_lent(rt: &impl Abort, window: Window) {
+    let padded = cells_of(window).padded;
+    let mut cells = PADDED;
+    check_pixels(rt, &mut padded_mut(&mut cells), window, padded);
+    let mut cells = PADDED;
+    check_cells(rt, &mut padded_mut(&mut cells), window, padded);
+}
+
+// Cells that are lent are cut down to a window.
+fn cut_to<'a>(rt: &impl Abort, cells: &'a mut [u8; 9], window: Window) -> ImgRefMut<'a, u8> {
     let (left, top, width, height) = numbers_of(window);
+    let image = padded_mut(cells);
+    assert!(rt; image.is_valid() && image.has_window(left, top, width, height));
+    image.into_sub_image_mut(left, top, width, height)
+}
+
+// Such a window is written in the same two ways.
+fn check_cut(rt: &impl Abort, window: Window) {
     let cells = cells_of(window);
     let mut buf = PADDED;
-    let image = ImgRefMut::new_stride(buf.as_mut_slice(), 3, 2, 4);
-    assert!(rt; image.is_valid() && image.has_window(left, top, width, height));
-    let mut cut = image.into_sub_image_mut(left, top, width, height);
+    let mut cut = cut_to(rt, &mut buf, window);
     check_view(rt, cut.as_ref(), window, cells.padded);
     assert!(rt; cut.is_valid());
     cut.fill(0);
     assert!(rt; are_filled(&buf, window));
     let mut buf = PADDED;
-    let image = ImgRefMut::new_stride(buf.as_mut_slice(), 3, 2, 4);
-    assert!(rt; image.is_valid() && image.has_window(left, top, width, height));
-    image
-        .into_sub_image_mut(left, top, width, height)
-        .into_buf()
-        .fill(0);
+    cut_to(rt, &mut buf, window).into_buf().fill(0);
     assert!(rt; are_cleared(&buf, cells.first, cells.padded));
 }
 
@@ -151,15 +174,10 @@ fn sixty_windows_for_writing(rt: HostRuntime) -> Result<(), Fail> {
     for number in 0..256usize {
         let window = numbered(number);
         if view.has_window(window.left, window.top, window.width, window.height) {
-            let due = cells_of(window);
-            check_pixels(&rt, &mut padded(rt.alloc())?, window, due.exact);
-            check_cells(&rt, &mut padded(rt.alloc())?, window, due.exact);
-            let mut cells = PADDED;
-            let mut lent = Img::new_stride(cells.as_mut_slice(), 3, 2, 4);
-            check_pixels(&rt, &mut lent, window, due.padded);
-            let mut cells = PADDED;
-            let mut lent = Img::new_stride(cells.as_mut_slice(), 3, 2, 4);
-            check_cells(&rt, &mut lent, window, due.padded);
+            let exact = cells_of(window).exact;
+            check_pixels(&rt, &mut padded(rt.alloc())?, window, exact);
+            check_cells(&rt, &mut padded(rt.alloc())?, window, exact);
+            check_lent(&rt, window);
             check_cut(&rt, window);
             inside = inside.saturating_add(1);
         }

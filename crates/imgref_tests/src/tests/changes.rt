@@ -113,6 +113,11 @@ fn a_window_is_mapped_and_its_rows_change_places(rt: HostRuntime) -> Result<(), 
         .sub_image_mut(1, 0, 2, 2)
         .map_pixels(|p| p.wrapping_mul(10));
     assert!(rt; owner.buf().as_slice() == [1u8, 20, 30, 4, 5, 60, 70, 8, 9].as_slice());
+    Ok(())
+}
+
+#[test]
+fn rows_of_a_window_change_places(rt: HostRuntime) -> Result<(), Fail> {
     let mut owner = square(rt.alloc())?;
     assert!(rt; owner.has_window(1, 1, 2, 2));
     let mut window = owner.sub_image_mut(1, 1, 2, 2);

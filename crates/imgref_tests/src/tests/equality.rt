@@ -38,21 +38,36 @@ fn is_one_key(
 
 #[test]
 fn equal_pixels_make_equal_images(rt: HostRuntime) -> Result<(), Fail> {
-    let mut packed: ImgVec<u8> = Img::new(PACKED.to_vec(rt.alloc())?, 2, 2);
+    let packed: ImgVec<u8> = Img::new(PACKED.to_vec(rt.alloc())?, 2, 2);
     let padded: ImgVec<u8> = Img::new_stride(PADDED.to_vec(rt.alloc())?, 2, 2, 3);
-    let mut short: ImgVec<u8> = Img::new_stride(SHORT.to_vec(rt.alloc())?, 2, 2, 3);
+    let short = short(rt.alloc())?;
     let line: ImgVec<u8> = Img::new(PACKED.to_vec(rt.alloc())?, 4, 1);
-    assert!(rt; packed == padded && padded == short && packed == short);
-    assert!(rt; packed != line);
+    assert!(rt; packed == padded && padded == short && packed == short && packed != line);
     assert!(rt; are_equal(&packed, &short) && !are_equal(&packed, &line));
-    assert!(rt; packed.as_ref() == short.as_ref());
-    assert!(rt; packed.as_mut() == short.as_mut());
     // Across kinds.
-    assert!(rt; packed.same_pixels(padded.as_ref()));
+    assert!(rt; packed.same_pixels(padded.as_ref()) && !packed.same_pixels(line.as_ref()));
+    Ok(())
+}
+
+fn short(alloc: Global) -> Result<ImgVec<u8>, AllocError> {
+    Ok(Img::new_stride(SHORT.to_vec(alloc)?, 2, 2, 3))
+}
+
+#[test]
+fn equal_pixels_make_equal_loans(rt: HostRuntime) -> Result<(), Fail> {
+    let mut packed: ImgVec<u8> = Img::new(PACKED.to_vec(rt.alloc())?, 2, 2);
+    let mut short = short(rt.alloc())?;
+    assert!(rt; packed.as_ref() == short.as_ref() && packed.as_mut() == short.as_mut());
+    // Across kinds.
     assert!(rt; packed.as_ref().same_pixels(short.as_ref()));
     assert!(rt; short.as_mut().same_pixels(packed.as_ref()));
-    assert!(rt; !packed.same_pixels(line.as_ref()));
-    // One pixel more.
+    Ok(())
+}
+
+#[test]
+fn another_pixel_makes_another_image(rt: HostRuntime) -> Result<(), Fail> {
+    let packed: ImgVec<u8> = Img::new(PACKED.to_vec(rt.alloc())?, 2, 2);
+    let mut short: ImgVec<u8> = Img::new_stride(SHORT.to_vec(rt.alloc())?, 2, 2, 3);
     short[(0usize, 0usize)] = 100;
     assert!(rt; packed != short && !packed.same_pixels(short.as_ref()));
     Ok(())
@@ -77,6 +92,12 @@ fn empty_images_and_short_buffers(rt: HostRuntime) -> Result<(), Fail> {
     let low: ImgRef<'_, u8> = Img::new_stride(none.as_slice(), 0, 3, 1);
     let high: ImgRef<'_, u8> = Img::new_stride(none.as_slice(), 0, 5, 1);
     assert!(rt; low == low && low != high);
+    Ok(())
+}
+
+#[test]
+fn images_that_do_not_fit_are_equal(rt: HostRuntime) -> Result<(), Fail> {
+    let none: [u8; 0] = [];
     // Neither of these fits.
     let cells = [7u8];
     let far: ImgRef<'_, u8> = Img::new_stride(cells.as_slice(), 2, 2, usize::MAX);

@@ -29,18 +29,20 @@ const AFTER: [u8; 9] = [1, 2, 3, 4, 5, 6, 0, 8, 9];
 #[test]
 fn a_write_lands_at_the_summed_place(rt: HostRuntime) -> Result<(), Fail> {
     let mut owner: ImgVec<u8> = ImgVec::new_stride(CELLS.to_vec(rt.alloc())?, 3, 2, 4);
-    assert!(rt; owner.is_valid());
-    assert!(rt; owner.shape().has_window(PLACE.first));
+    assert!(rt; owner.is_valid() && owner.shape().has_window(PLACE.first));
     put_nested(&mut owner, PLACE, 0);
     assert!(rt; owner.into_buf().as_slice() == AFTER.as_slice());
+    Ok(())
+}
+
+#[test]
+fn a_write_in_lent_cells_lands_at_the_summed_place(rt: HostRuntime) {
     let mut cells = CELLS;
     let mut lent: ImgRefMut<'_, u8> = ImgRefMut::new_stride(cells.as_mut_slice(), 3, 2, 4);
-    assert!(rt; lent.is_valid());
-    assert!(rt; lent.shape().has_window(PLACE.first));
+    assert!(rt; lent.is_valid() && lent.shape().has_window(PLACE.first));
     put_nested(&mut lent, PLACE, 0);
     assert!(rt; cells.as_slice() == AFTER.as_slice());
     let mut cells = CELLS;
     put_in_cells(&mut cells, Shape::new(3, 2, 4), PLACE, 0);
     assert!(rt; cells.as_slice() == AFTER.as_slice());
-    Ok(())
 }

@@ -3,9 +3,10 @@
 ghost use Rattle.image_model.specs.Layout.{Fits};
 ghost use Rattle.imgref.specs.Image.{mut_layout, vec_layout};
 
-use imgref::{ImgRef, ImgRefMut, ImgVec, Shape, fill_pixels};
+use imgref::{AsMutSlice, Img, ImgRef, ImgRefMut, ImgVec, Shape, fill_pixels};
 use imgref_examples::write_first;
-use imgref_fixtures::{PADDED, cells_of, is_over, len_of, padded};
+use imgref_fixtures::{PADDED, cells_of, is_over, len_of, padded, padded_mut};
+use std::process::Abort;
 use std::test::Fail;
 
 fn add_one(image: &mut ImgVec<u8>)
@@ -45,70 +46,72 @@ fn a_loop_writes_the_pixels_alone(rt: HostRuntime) -> Result<(), Fail> {
 
 #[test]
 fn pixels_without_size(rt: HostRuntime) -> Result<(), Fail> {
-    let mut cells = [(), (), (), (), ()];
+    let cells = [(), (), (), (), ()];
     let image = ImgRef::new_stride(cells.as_slice(), 2, 2, 3);
-    assert!(rt; image.is_valid());
-    assert!(rt; image.pixels().count() == 4);
+    assert!(rt; image.is_valid() && image.pixels().count() == 4);
     let mut pixels = image.pixels();
     for left in [4, 3, 2, 1] {
-        assert!(rt; len_of(&pixels) == left);
-        assert!(rt; pixels.next().is_some());
+        assert!(rt; len_of(&pixels) == left && pixels.next().is_some());
     }
-    assert!(rt; len_of(&pixels) == 0);
-    assert!(rt; is_over(&mut pixels) && is_over(&mut pixels));
-    let mut seen = image.pixels_ref();
-    for left in [4, 3, 2, 1] {
-        assert!(rt; len_of(&seen) == left);
-        assert!(rt; seen.next().is_some());
-    }
-    assert!(rt; is_over(&mut seen) && is_over(&mut seen));
-    let mut writing = ImgRefMut::new_stride(cells.as_mut_slice(), 2, 2, 3);
-    assert!(rt; writing.is_valid());
-    let mut items = writing.pixels_mut();
-    for left in [4, 3, 2, 1] {
-        assert!(rt; len_of(&items) == left);
-        assert!(rt; items.next().is_some());
-    }
-    assert!(rt; is_over(&mut items) && is_over(&mut items));
+    assert!(rt; len_of(&pixels) == 0 && is_over(&mut pixels) && is_over(&mut pixels));
     Ok(())
 }
 
 #[test]
-fn writes_before_a_drop_stand(rt: HostRuntime) -> Result<(), Fail> {
-    let left = [
-        [1u8, 2, 3, 4, 5, 6, 7, 8, 9],
-        [0, 2, 3, 4, 5, 6, 7, 8, 9],
-        [0, 0, 3, 4, 5, 6, 7, 8, 9],
-        [0, 0, 0, 4, 5, 6, 7, 8, 9],
-        [0, 0, 0, 4, 0, 6, 7, 8, 9],
-        [0, 0, 0, 4, 0, 0, 7, 8, 9],
-        [0, 0, 0, 4, 0, 0, 0, 8, 9],
-    ];
-    for count in 0..7usize {
-        let mut image = padded(rt.alloc())?;
-        assert!(rt; image.is_valid());
-        let mut pixels = image.pixels_mut();
-        for _ in 0..count {
-            if let Some(pixel) = pixels.next() {
-                *pixel = 0;
-            }
+fn pixels_without_size_are_seen(rt: HostRuntime) {
+    let cells = [(), (), (), (), ()];
+    let image = ImgRef::new_stride(cells.as_slice(), 2, 2, 3);
+    assert!(rt; image.is_valid());
+    let mut seen = image.pixels_ref();
+    for left in [4, 3, 2, 1] {
+        assert!(rt; len_of(&seen) == left && seen.next().is_some());
+    }
+    assert!(rt; is_over(&mut seen) && is_over(&mut seen));
+}
+
+#[test]
+fn pixels_without_size_are_lent(rt: HostRuntime) {
+    let mut cells = [(), (), (), (), ()];
+    let mut writing = ImgRefMut::new_stride(cells.as_mut_slice(), 2, 2, 3);
+    assert!(rt; writing.is_valid());
+    let mut items = writing.pixels_mut();
+    for left in [4, 3, 2, 1] {
+        assert!(rt; len_of(&items) == left && items.next().is_some());
+    }
+    assert!(rt; is_over(&mut items) && is_over(&mut items));
+}
+
+// Sets so many pixels to 0, and drops the iterator.
+fn clear_first<C: AsMutSlice<Item = u8>>(rt: &impl Abort, image: &mut Img<C>, count: usize) {
+    assert!(rt; image.is_valid());
+    let mut pixels = image.pixels_mut();
+    for _ in 0..count {
+        if let Some(pixel) = pixels.next() {
+            *pixel = 0;
         }
-        drop(pixels);
+    }
+    drop(pixels);
+}
+
+#[test]
+fn writes_before_a_drop_stand(rt: HostRuntime) -> Result<(), Fail> {
+    for (count, left) in [
+        (0usize, [1u8, 2, 3, 4, 5, 6, 7, 8, 9]),
+        (1, [0, 2, 3, 4, 5, 6, 7, 8, 9]),
+        (2, [0, 0, 3, 4, 5, 6, 7, 8, 9]),
+        (3, [0, 0, 0, 4, 5, 6, 7, 8, 9]),
+        (4, [0, 0, 0, 4, 0, 6, 7, 8, 9]),
+        (5, [0, 0, 0, 4, 0, 0, 7, 8, 9]),
+        (6, [0, 0, 0, 4, 0, 0, 0, 8, 9]),
+    ] {
+        let mut image = padded(rt.alloc())?;
+        clear_first(&rt, &mut image, count);
+        let mut cells = PADDED;
+        clear_first(&rt, &mut padded_mut(&mut cells), count);
         assert!(rt;
-            image.buf().as_slice() == left[count].as_slice(),
+            image.buf().as_slice() == left.as_slice() && cells == left,
             "after {count}"
         );
-        let mut cells = PADDED;
-        let mut lent = ImgRefMut::new_stride(cells.as_mut_slice(), 3, 2, 4);
-        assert!(rt; lent.is_valid());
-        let mut pixels = lent.pixels_mut();
-        for _ in 0..count {
-            if let Some(pixel) = pixels.next() {
-                *pixel = 0;
-            }
-        }
-        drop(pixels);
-        assert!(rt; cells == left[count], "after {count}");
     }
     Ok(())
 }
@@ -123,14 +126,15 @@ fn the_first_pixels_are_written(rt: HostRuntime) -> Result<(), Fail> {
     ];
     for (count, cells_left) in left {
         let mut image = padded(rt.alloc())?;
-        assert!(rt; image.is_valid());
-        write_first(&mut image, count, 0);
-        assert!(rt; image.buf().as_slice() == cells_left.as_slice(), "{count}");
         let mut cells = PADDED;
-        let mut lent = ImgRefMut::new_stride(cells.as_mut_slice(), 3, 2, 4);
-        assert!(rt; lent.is_valid());
+        let mut lent = padded_mut(&mut cells);
+        assert!(rt; image.is_valid() && lent.is_valid());
+        write_first(&mut image, count, 0);
         write_first(&mut lent, count, 0);
-        assert!(rt; cells == cells_left, "{count}");
+        assert!(rt;
+            image.buf().as_slice() == cells_left.as_slice() && cells == cells_left,
+            "{count}"
+        );
     }
     Ok(())
 }
@@ -141,8 +145,7 @@ fn one_row_at_the_greatest_stride(rt: HostRuntime) -> Result<(), Fail> {
     let mut image = ImgRefMut::new_stride(cells.as_mut_slice(), 1, 1, usize::MAX);
     assert!(rt; image.is_valid());
     let mut pixels = image.pixels();
-    assert!(rt; pixels.next() == Some(5));
-    assert!(rt; is_over(&mut pixels) && is_over(&mut pixels));
+    assert!(rt; pixels.next() == Some(5) && is_over(&mut pixels) && is_over(&mut pixels));
     image.fill(7);
     assert!(rt; cells == [7u8]);
     Ok(())
@@ -152,18 +155,23 @@ fn one_row_at_the_greatest_stride(rt: HostRuntime) -> Result<(), Fail> {
 fn fills_the_pixels_alone(rt: HostRuntime) -> Result<(), Fail> {
     let filled = [0u8, 0, 0, 4, 0, 0, 0, 8, 9];
     let mut owned = padded(rt.alloc())?;
-    assert!(rt; owned.is_valid());
-    owned.fill(0);
-    assert!(rt; owned.buf().as_slice() == filled.as_slice());
     let mut cells = PADDED;
-    let mut lent = ImgRefMut::new_stride(cells.as_mut_slice(), 3, 2, 4);
-    assert!(rt; lent.is_valid());
+    let mut lent = padded_mut(&mut cells);
+    assert!(rt; owned.is_valid() && lent.is_valid());
+    owned.fill(0);
     lent.fill(0);
-    assert!(rt; cells == filled);
+    assert!(rt; owned.buf().as_slice() == filled.as_slice() && cells == filled);
     let mut cells = PADDED;
     fill_pixels(&mut cells[1..], Shape::new(2, 2, 4), 0);
     assert!(rt; cells == [1u8, 0, 0, 4, 5, 0, 0, 8, 9]);
     Ok(())
+}
+
+// Whether each cursor over a lent image gives so many pixels.
+fn has_count(image: &mut ImgRefMut<'_, u8>, count: usize) -> bool
+    requires { Fits (mut_layout image.old) }
+{
+    count_lent(image) == count && count_seen(image) == count && count_written(image) == count
 }
 
 #[test]
@@ -172,15 +180,12 @@ fn each_kind_has_all_its_pixels(rt: HostRuntime) -> Result<(), Fail> {
     let mut others = cells_of(rt.alloc(), 10000, 0)?;
     for width in 1..10usize {
         for height in 1..15usize {
+            let count = width * height;
             let mut owner = ImgVec::new_stride(cells, width, height, 100);
-            assert!(rt; owner.is_valid());
-            assert!(rt; owner.pixels_mut().count() == width * height);
+            assert!(rt; owner.is_valid() && owner.pixels_mut().count() == count);
             cells = owner.into_buf();
             let mut lent = ImgRefMut::new_stride(others.as_mut_slice(), width, height, 100);
-            assert!(rt; lent.is_valid());
-            assert!(rt; count_lent(&lent) == width * height);
-            assert!(rt; count_seen(&lent) == width * height);
-            assert!(rt; count_written(&mut lent) == width * height);
+            assert!(rt; lent.is_valid() && has_count(&mut lent, count));
         }
     }
     Ok(())

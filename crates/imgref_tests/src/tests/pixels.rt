@@ -6,7 +6,7 @@ ghost use Rattle.image_model.specs.Rows.{pixels};
 ghost use Rattle.imgref.specs.Image.{width_of, height_of, ref_layout};
 ghost use Rattle.imgref.specs.Pixels.{copies_left};
 
-use imgref::{ImgRef, ImgRefMut, ImgVec, PixelsIter};
+use imgref::{ImgRef, ImgRefMut, ImgVec, PixelsIter, PixelsRefIter};
 use imgref_fixtures::{PADDED, cells_of, is_over, len_of, padded};
 use std::alloc::{AllocError, Global};
 use std::test::Fail;
@@ -97,6 +97,22 @@ fn gives_padded(alloc: Global, pixels: PixelsIter<'_, u8>) -> Result<bool, Alloc
     Ok(found.as_slice() == [1u8, 2, 3, 5, 6, 7].as_slice())
 }
 
+// Whether all that a cursor shows is those pixels.
+fn shows_padded(pixels: PixelsRefIter<'_, u8>) -> bool {
+    let mut pixels = pixels;
+    for expected in [1u8, 2, 3, 5, 6, 7] {
+        if pixels.next() != Some(&expected) {
+            return false;
+        }
+    }
+    pixels.next() == None && pixels.next() == None
+}
+
+// Whether these three are the next that an iterator gives.
+fn gives(pixels: &mut PixelsIter<'_, u8>, due: [Option<u8>; 3]) -> bool {
+    pixels.next() == due[0] && pixels.next() == due[1] && pixels.next() == due[2]
+}
+
 #[test]
 fn each_kind_gives_its_pixels(rt: HostRuntime) -> Result<(), Fail> {
     let mut cells = PADDED;
@@ -107,11 +123,7 @@ fn each_kind_gives_its_pixels(rt: HostRuntime) -> Result<(), Fail> {
     assert!(rt; gives_padded(rt.alloc(), owned.pixels())?);
     assert!(rt; gives_padded(rt.alloc(), lent.pixels())?);
     assert!(rt; gives_padded(rt.alloc(), view.pixels())?);
-    let mut seen = view.pixels_ref();
-    for expected in [1u8, 2, 3, 5, 6, 7] {
-        assert!(rt; seen.next() == Some(&expected));
-    }
-    assert!(rt; (seen.next(), seen.next()) == (None, None));
+    assert!(rt; shows_padded(view.pixels_ref()));
     Ok(())
 }
 
@@ -126,14 +138,12 @@ fn chains_and_loops_over_pixels(rt: HostRuntime) -> Result<(), Fail> {
             .fold(0, u64::wrapping_add))
             == 24
     );
-    assert!(rt; count_pixels(view) == 6);
-    assert!(rt; all_below(view, 8) && !all_below(view, 7));
-    assert!(rt; count_equal(view, 5) == 1);
-    assert!(rt; count_equal(view, 4) == 0);
-    assert!(rt; (sum_seen(view), wrapping_sum(view)) == (24, 24));
+    assert!(rt; count_pixels(view) == 6 && all_below(view, 8) && !all_below(view, 7));
+    assert!(rt; count_equal(view, 5) == 1 && count_equal(view, 4) == 0);
+    assert!(rt; sum_seen(view) == 24 && wrapping_sum(view) == 24);
     let mut pixels = view.pixels();
     skip_pixels(&mut pixels, 4);
-    assert!(rt; (pixels.next(), pixels.next(), pixels.next()) == (Some(6), Some(7), None));
+    assert!(rt; gives(&mut pixels, [Some(6), Some(7), None]));
     Ok(())
 }
 
@@ -167,17 +177,12 @@ fn sizes_of_pixels_that_are_no_copies(rt: HostRuntime) -> Result<(), Fail> {
         assert!(rt; pixels.size_hint() == (left, Some(left)));
         assert!(rt; pixels.next().map(|bead| bead.weight) == Some(weight));
     }
-    assert!(rt; pixels.size_hint() == (0, Some(0)));
-    assert!(rt; is_over(&mut pixels) && is_over(&mut pixels));
+    assert!(rt; pixels.size_hint() == (0, Some(0)) && is_over(&mut pixels) && is_over(&mut pixels));
     Ok(())
 }
 
 #[test]
 fn every_small_size_has_its_pixels(rt: HostRuntime) -> Result<(), Fail> {
-    let column = ImgRef::new([1u8, 2].as_slice(), 1, 2);
-    assert!(rt; column.is_valid());
-    let mut pixels = column.pixels();
-    assert!(rt; (pixels.next(), pixels.next(), pixels.next()) == (Some(1), Some(2), None));
     for width in 1..16usize {
         for height in 1..8usize {
             for padding in 0..3usize {
@@ -185,21 +190,42 @@ fn every_small_size_has_its_pixels(rt: HostRuntime) -> Result<(), Fail> {
                 let cells = cells_of(rt.alloc(), stride * height + padding, 1)?;
                 let image = ImgVec::new_stride(cells, width, height, stride);
                 assert!(rt; image.is_valid());
-                let sum = image
-                    .pixels()
-                    .map(|pixel| pixel as usize)
-                    .fold(0, usize::wrapping_add);
-                assert!(rt; (sum, image.pixels().count()) == (width * height, width * height));
-                let mut pixels = image.pixels();
-                for taken in 0..width * height {
-                    assert!(rt; len_of(&pixels) == width * height - taken);
-                    assert!(rt; pixels.next().is_some());
-                }
-                assert!(rt; is_over(&mut pixels) && len_of(&pixels) == 0);
+                assert!(rt; adds_to(&image, width * height));
+                assert!(rt; gives_count(image.pixels(), width * height));
             }
         }
     }
     Ok(())
+}
+
+// Whether the pixels are so many, and add to that.
+fn adds_to(image: &ImgVec<u8>, count: usize) -> bool {
+    if !image.is_valid() {
+        return false;
+    }
+    let sum = image
+        .pixels()
+        .map(|pixel| pixel as usize)
+        .fold(0, usize::wrapping_add);
+    sum == count && image.pixels().count() == count
+}
+
+// Whether so many pixels are left before each step, down to none.
+fn gives_count(pixels: PixelsIter<'_, u8>, count: usize) -> bool {
+    let mut pixels = pixels;
+    for taken in 0..count {
+        if len_of(&pixels) != count - taken || pixels.next().is_none() {
+            return false;
+        }
+    }
+    is_over(&mut pixels) && len_of(&pixels) == 0
+}
+
+#[test]
+fn a_column_gives_its_pixels(rt: HostRuntime) {
+    let column = ImgRef::new([1u8, 2].as_slice(), 1, 2);
+    assert!(rt; column.is_valid());
+    assert!(rt; gives(&mut column.pixels(), [Some(1), Some(2), None]));
 }
 
 #[test]

@@ -54,15 +54,12 @@ fn add_one(image: &mut ImgVec<u32>, x: usize, y: usize)
 fn a_place_names_a_cell(rt: HostRuntime) -> Result<(), Fail> {
     let mut cells = [1u8, 2, 3, 4, 5, 6, 7, 8];
     let image: ImgVec<u8> = Img::new_stride(cells.to_vec(rt.alloc())?, 2, 2, 3);
-    assert!(rt; image[(0u32, 0u32)] == 1);
-    assert!(rt; image[(1usize, 2usize)] == 8);
+    assert!(rt; image[(0u32, 0u32)] == 1 && image[(1usize, 2usize)] == 8);
     let lent = Img::new_stride(cells.as_slice(), 2, 2, 3);
-    assert!(rt; lent[(2u32, 0u32)] == 3);
-    assert!(rt; lent[(1usize, 0usize)] == 2);
+    assert!(rt; lent[(2u32, 0u32)] == 3 && lent[(1usize, 0usize)] == 2);
     assert!(rt; lent[(0usize, 1usize)] == 4);
     let written: ImgRefMut<'_, u8> = Img::new_stride(cells.as_mut_slice(), 2, 2, 3);
-    assert!(rt; written[(2u32, 0u32)] == 3);
-    assert!(rt; written[(1usize, 2usize)] == 8);
+    assert!(rt; written[(2u32, 0u32)] == 3 && written[(1usize, 2usize)] == 8);
     Ok(())
 }
 
@@ -70,42 +67,49 @@ fn a_place_names_a_cell(rt: HostRuntime) -> Result<(), Fail> {
 fn a_stride_past_u32_is_no_matter(rt: HostRuntime) -> Result<(), Fail> {
     let cells = [1u8, 2, 3];
     let image = Img::new_stride(cells.as_slice(), 1, 1, 4294967296);
-    assert!(rt; image[(0u32, 0u32)] == 1);
-    assert!(rt; image[(2u32, 0u32)] == 3);
+    assert!(rt; image[(0u32, 0u32)] == 1 && image[(2u32, 0u32)] == 3);
+    Ok(())
+}
+
+const CELLS: [u8; 8] = [1, 2, 3, 4, 5, 6, 7, 8];
+
+#[test]
+fn a_write_at_a_place_changes_one_cell(rt: HostRuntime) -> Result<(), Fail> {
+    let mut owned: ImgVec<u8> = Img::new_stride(CELLS.to_vec(rt.alloc())?, 2, 2, 3);
+    set_owned(&mut owned, 1, 1, 50);
+    owned[(2u32, 0u32)] = 30;
+    assert!(rt; owned.into_buf().as_slice() == [1u8, 2, 30, 4, 50, 6, 7, 8].as_slice());
     Ok(())
 }
 
 #[test]
-fn a_write_at_a_place_changes_one_cell(rt: HostRuntime) -> Result<(), Fail> {
-    let mut cells = [1u8, 2, 3, 4, 5, 6, 7, 8];
-    let mut owned: ImgVec<u8> = Img::new_stride(cells.to_vec(rt.alloc())?, 2, 2, 3);
-    set_owned(&mut owned, 1, 1, 50);
-    owned[(2u32, 0u32)] = 30;
-    assert!(rt; owned.into_buf().as_slice() == [1u8, 2, 30, 4, 50, 6, 7, 8].as_slice());
+fn a_write_at_a_place_of_lent_cells_changes_one(rt: HostRuntime) {
+    let mut cells = CELLS;
     let mut lent = Img::new_stride(cells.as_mut_slice(), 2, 2, 3);
     lent[(0usize, 1usize)] = 40;
     set_lent(&mut lent, 1, 2, 80);
     assert!(rt; cells.as_slice() == [1u8, 2, 3, 40, 5, 6, 7, 80].as_slice());
+}
+
+#[test]
+fn owners_are_indexed_through_the_bound(rt: HostRuntime) -> Result<(), Fail> {
+    let mut owned: ImgVec<u8> = Img::new_stride(CELLS.to_vec(rt.alloc())?, 2, 2, 3);
+    assert!(rt; cell(&owned, (0usize, 1usize)) == 4 && cell(&owned, (1u32, 0u32)) == 2);
+    put(&mut owned, (0usize, 1usize), 40);
+    assert!(rt; owned.into_buf().as_slice() == [1u8, 2, 3, 40, 5, 6, 7, 8].as_slice());
+    let mut owned: ImgVec<u8> = Img::new_stride(CELLS.to_vec(rt.alloc())?, 2, 2, 3);
+    put(&mut owned, (1u32, 0u32), 20);
+    assert!(rt; owned.into_buf().as_slice() == [1u8, 20, 3, 4, 5, 6, 7, 8].as_slice());
     Ok(())
 }
 
 #[test]
 fn each_kind_is_indexed_through_the_bound(rt: HostRuntime) -> Result<(), Fail> {
-    let mut cells = [1u8, 2, 3, 4, 5, 6, 7, 8];
-    let mut owned: ImgVec<u8> = Img::new_stride(cells.to_vec(rt.alloc())?, 2, 2, 3);
-    assert!(rt; cell(&owned, (0usize, 1usize)) == 4);
-    assert!(rt; cell(&owned, (1u32, 0u32)) == 2);
-    put(&mut owned, (0usize, 1usize), 40);
-    assert!(rt; owned.into_buf().as_slice() == [1u8, 2, 3, 40, 5, 6, 7, 8].as_slice());
-    let mut owned: ImgVec<u8> = Img::new_stride(cells.to_vec(rt.alloc())?, 2, 2, 3);
-    put(&mut owned, (1u32, 0u32), 20);
-    assert!(rt; owned.into_buf().as_slice() == [1u8, 20, 3, 4, 5, 6, 7, 8].as_slice());
+    let mut cells = CELLS;
     let lent = Img::new_stride(cells.as_slice(), 2, 2, 3);
-    assert!(rt; cell(&lent, (0usize, 1usize)) == 4);
-    assert!(rt; cell(&lent, (1u32, 0u32)) == 2);
+    assert!(rt; cell(&lent, (0usize, 1usize)) == 4 && cell(&lent, (1u32, 0u32)) == 2);
     let mut written = Img::new_stride(cells.as_mut_slice(), 2, 2, 3);
-    assert!(rt; cell(&written, (0usize, 1usize)) == 4);
-    assert!(rt; cell(&written, (1u32, 0u32)) == 2);
+    assert!(rt; cell(&written, (0usize, 1usize)) == 4 && cell(&written, (1u32, 0u32)) == 2);
     put(&mut written, (0usize, 1usize), 41);
     let mut written = Img::new_stride(cells.as_mut_slice(), 2, 2, 3);
     put(&mut written, (1u32, 0u32), 21);
@@ -117,13 +121,10 @@ fn each_kind_is_indexed_through_the_bound(rt: HostRuntime) -> Result<(), Fail> {
 fn pixels_of_no_size_have_places(rt: HostRuntime) -> Result<(), Fail> {
     let mut cells = [(); 5];
     let lent = Img::new_stride(cells.as_slice(), 2, 2, 3);
-    assert!(rt; lent.is_valid());
-    assert!(rt; lent.row(1).len() == 2);
-    assert!(rt; lent[(1usize, 1usize)] == ());
+    assert!(rt; lent.is_valid() && lent.row(1).len() == 2 && lent[(1usize, 1usize)] == ());
     let mut written = Img::new_stride(cells.as_mut_slice(), 2, 2, 3);
     written[(1u32, 1u32)] = ();
-    assert!(rt; written.is_valid());
-    assert!(rt; written.row_mut(0).len() == 2);
+    assert!(rt; written.is_valid() && written.row_mut(0).len() == 2);
     assert!(rt; !Img::new_stride(cells.as_slice(), 2, 3, 3).is_valid());
     Ok(())
 }

@@ -5,9 +5,10 @@ ghost use Rattle.image_model.specs.Layout.{Fits};
 ghost use Rattle.image_model.specs.Rows.{row_count};
 ghost use Rattle.imgref.specs.Image.{width_of, height_of, mut_layout, vec_layout};
 
-use imgref::{Img, ImgRefMut, ImgVec};
+use imgref::{AsMutSlice, Img, ImgRefMut, ImgVec};
 use imgref_examples::fill_last_row;
-use imgref_fixtures::{PADDED, cells_of, is_over, padded, square};
+use imgref_fixtures::{PADDED, cells_of, is_over, padded, padded_mut, square};
+use std::process::Abort;
 use std::test::Fail;
 
 fn count_for_writing(image: &mut ImgVec<u8>) -> usize
@@ -43,19 +44,18 @@ fn count_written(image: &mut ImgRefMut<'_, u8>, direction: u32) -> usize
 fn a_written_row_stands_alone(rt: HostRuntime) -> Result<(), Fail> {
     let left = [1u8, 2, 3, 4, 0, 0, 0, 8, 9];
     let mut owned = padded(rt.alloc())?;
-    assert!(rt; owned.is_valid());
-    if let Some(row) = owned.rows_mut().next_back() {
-        row.fill(0);
-    }
-    assert!(rt; owned.buf().as_slice() == left.as_slice());
     let mut cells = PADDED;
-    let mut lent: ImgRefMut<'_, u8> = Img::new_stride(cells.as_mut_slice(), 3, 2, 4);
-    assert!(rt; lent.is_valid());
-    if let Some(row) = lent.rows_mut().next_back() {
+    clear_last_row(&rt, &mut owned);
+    clear_last_row(&rt, &mut padded_mut(&mut cells));
+    assert!(rt; owned.buf().as_slice() == left.as_slice() && cells == left);
+    Ok(())
+}
+
+fn clear_last_row<C: AsMutSlice<Item = u8>>(rt: &impl Abort, image: &mut Img<C>) {
+    assert!(rt; image.is_valid());
+    if let Some(row) = image.rows_mut().next_back() {
         row.fill(0);
     }
-    assert!(rt; cells == left);
-    Ok(())
 }
 
 #[test]
@@ -91,22 +91,32 @@ fn rows_of_pixels_without_size(rt: HostRuntime) -> Result<(), Fail> {
 #[test]
 fn a_window_has_its_own_rows_for_writing(rt: HostRuntime) -> Result<(), Fail> {
     for direction in 0..3u32 {
-        let mut copy = padded(rt.alloc())?;
-        assert!(rt; copy.is_valid() && copy.has_window(1, 1, 2, 1));
-        let mut window = copy.sub_image_mut(1, 1, 2, 1);
-        assert!(rt; window.rows().next() == Some([6u8, 7].as_slice()));
-        assert!(rt; count_written(&mut window, direction) == 1);
+        assert!(rt; lends_row(&mut padded(rt.alloc())?, direction));
         let mut cells = PADDED;
-        let mut lent: ImgRefMut<'_, u8> = Img::new_stride(cells.as_mut_slice(), 3, 2, 4);
-        assert!(rt; lent.is_valid() && lent.has_window(1, 1, 2, 1));
-        assert!(rt; count_written(&mut lent.sub_image_mut(1, 1, 2, 1), direction) == 1);
-        let mut cells = PADDED;
-        let lent: ImgRefMut<'_, u8> = Img::new_stride(cells.as_mut_slice(), 3, 2, 4);
-        assert!(rt; lent.is_valid() && lent.has_window(1, 1, 2, 1));
-        let mut window = lent.into_sub_image_mut(1, 1, 2, 1);
-        assert!(rt; count_written(&mut window, direction) == 1);
+        assert!(rt; lends_row(&mut padded_mut(&mut cells), direction));
+        assert!(rt; is_cut_to_row(direction));
     }
     Ok(())
+}
+
+// Whether a window of an image lends its one row, counted in this direction.
+fn lends_row<C: AsMutSlice<Item = u8>>(image: &mut Img<C>, direction: u32) -> bool {
+    if !image.is_valid() || !image.has_window(1, 1, 2, 1) {
+        return false;
+    }
+    let mut window = image.sub_image_mut(1, 1, 2, 1);
+    window.rows().next() == Some([6u8, 7].as_slice()) && count_written(&mut window, direction) == 1
+}
+
+// The same where the image is cut down to it.
+fn is_cut_to_row(direction: u32) -> bool {
+    let mut cells = PADDED;
+    let image = padded_mut(&mut cells);
+    if !image.is_valid() || !image.has_window(1, 1, 2, 1) {
+        return false;
+    }
+    let mut window = image.into_sub_image_mut(1, 1, 2, 1);
+    count_written(&mut window, direction) == 1
 }
 
 #[test]

@@ -6,7 +6,7 @@ ghost use Rattle.image_model.specs.Rows.{row_count};
 ghost use Rattle.imgref.specs.Rows.{refs_left};
 ghost use Rattle.imgref.specs.Image.{width_of, height_of, ref_layout};
 
-use imgref::{Img, ImgRef, ImgRefMut, ImgVec, RowsIter};
+use imgref::{AsMutSlice, Img, ImgRef, ImgRefMut, ImgVec, RowsIter};
 use imgref_fixtures::{SQUARE, cells_of, is_over, len_of, padded};
 use std::test::Fail;
 
@@ -87,8 +87,7 @@ fn rows_come_from_both_ends(rt: HostRuntime) -> Result<(), Fail> {
     assert!(rt; gives_the_square(lent.rows()));
     assert!(rt; gives_the_square(view.rows()));
     let mut rows = view.rows();
-    assert!(rt; last_of(&mut rows) == Some([7u8, 8, 9].as_slice()));
-    assert!(rt; len_of(&rows) == 2);
+    assert!(rt; last_of(&mut rows) == Some([7u8, 8, 9].as_slice()) && len_of(&rows) == 2);
     Ok(())
 }
 
@@ -97,43 +96,51 @@ fn an_image_without_columns_has_no_row_and_no_pixel(rt: HostRuntime) -> Result<(
     let mut cells = [9u8, 9];
     let view = Img::new_stride(cells.as_slice(), 0, 2, 1);
     assert!(rt; view.is_valid());
-    assert!(rt; (view.height(), count_rows(view)) == (2, 0));
-    assert!(rt; is_over(&mut view.rows()));
+    assert!(rt; view.height() == 2 && count_rows(view) == 0 && is_over(&mut view.rows()));
     assert!(rt; is_over(&mut view.pixels()) && is_over(&mut view.pixels_ref()));
-    let mut lent: ImgRefMut<'_, u8> = Img::new_stride(cells.as_mut_slice(), 0, 2, 1);
-    assert!(rt; lent.is_valid());
-    assert!(rt; is_over(&mut lent.rows()) && is_over(&mut lent.rows_mut()));
-    assert!(rt; lent.is_valid() && is_over(&mut lent.pixels_mut()));
     let empty: ImgRef<'_, u8> = Img::new_stride(&[], 0, 3, 1);
-    assert!(rt; empty.is_valid());
-    assert!(rt; (empty.height(), count_rows(empty)) == (3, 0));
+    assert!(rt; empty.is_valid() && empty.height() == 3 && count_rows(empty) == 0);
+    let mut lent: ImgRefMut<'_, u8> = Img::new_stride(cells.as_mut_slice(), 0, 2, 1);
+    assert!(rt; lends_nothing(&mut lent));
     Ok(())
+}
+
+// Whether an image lends no row and no pixel.
+fn lends_nothing(lent: &mut ImgRefMut<'_, u8>) -> bool {
+    lent.is_valid()
+        && is_over(&mut lent.rows())
+        && is_over(&mut lent.rows_mut())
+        && lent.is_valid()
+        && is_over(&mut lent.pixels_mut())
 }
 
 #[test]
 fn an_image_without_lines_has_no_row(rt: HostRuntime) -> Result<(), Fail> {
     let mut cells = [0u8];
     let view = Img::new_stride(cells.as_slice(), 1, 0, 1);
-    assert!(rt; view.is_valid() && view.has_window(1, 0, 0, 0));
-    assert!(rt; count_rows(view) == 0);
+    assert!(rt; view.is_valid() && view.has_window(1, 0, 0, 0) && count_rows(view) == 0);
     assert!(rt; view.sub_image(1, 0, 0, 0).rows().count() == 0);
     let mut lent: ImgRefMut<'_, u8> = Img::new_stride(cells.as_mut_slice(), 1, 0, 1);
+    assert!(rt; lent.is_valid() && lent.rows_mut().count() == 0);
     assert!(rt; lent.is_valid() && lent.has_window(0, 0, 1, 0));
-    assert!(rt; lent.rows_mut().count() == 0);
     let mut window = lent.sub_image_mut(0, 0, 1, 0);
-    assert!(rt; (window.rows().count(), window.rows_mut().count()) == (0, 0));
+    assert!(rt; window.rows().count() == 0 && window.rows_mut().count() == 0);
     Ok(())
+}
+
+// Whether there are so many rows, counted in each direction.
+fn has_rows<C: AsMutSlice<Item = u8>>(image: &Img<C>, count: usize) -> bool {
+    image.is_valid()
+        && image.rows().count() == count
+        && image.rows().rev().count() == count
+        && image.rows().fuse().rev().count() == count
 }
 
 #[test]
 fn rows_far_apart(rt: HostRuntime) -> Result<(), Fail> {
     let image: ImgVec<u8> = Img::new_stride(cells_of(rt.alloc(), 10000, 0)?, 10, 15, 100);
-    assert!(rt; image.is_valid());
-    assert!(rt; image.rows().count() == 15);
-    assert!(rt; image.rows().rev().count() == 15);
-    assert!(rt; image.rows().fuse().rev().count() == 15);
-    assert!(rt; count_from_the_end(image.as_ref()) == 15);
-    assert!(rt; count_fused(image.as_ref()) == 15);
+    assert!(rt; image.is_valid() && has_rows(&image, 15));
+    assert!(rt; count_from_the_end(image.as_ref()) == 15 && count_fused(image.as_ref()) == 15);
     Ok(())
 }
 
@@ -143,8 +150,7 @@ fn a_window_has_its_own_rows(rt: HostRuntime) -> Result<(), Fail> {
     assert!(rt; owned.is_valid() && owned.has_window(1, 1, 2, 1));
     let window = owned.sub_image(1, 1, 2, 1);
     assert!(rt; window.rows().next() == Some([6u8, 7].as_slice()));
-    assert!(rt; window.rows().count() == 1);
-    assert!(rt; window.rows().rev().count() == 1);
+    assert!(rt; window.rows().count() == 1 && window.rows().rev().count() == 1);
     assert!(rt; window.rows().fuse().rev().count() == 1);
     Ok(())
 }
@@ -157,24 +163,27 @@ fn every_small_size_has_its_rows(rt: HostRuntime) -> Result<(), Fail> {
                 let stride = width + padding;
                 let cells = cells_of(rt.alloc(), stride * height + padding, 1)?;
                 let image: ImgVec<u8> = Img::new_stride(cells, width, height, stride);
-                assert!(rt; image.is_valid());
-                assert!(rt; image.rows().count() == height);
-                let mut rows = image.rows();
-                assert!(rt; rows.next().map(|row| row.len()) == Some(width));
-                assert!(rt; rows.size_hint() == (height - 1, Some(height - 1)));
-                assert!(rt; rows.count() == height - 1);
+                assert!(rt; image.is_valid() && image.rows().count() == height);
+                assert!(rt; gives_rows(image.rows(), width, height - 1));
             }
         }
     }
     Ok(())
 }
 
+// Whether the next row is so long, and so many are left then.
+fn gives_rows(rows: RowsIter<'_, u8>, width: usize, left: usize) -> bool {
+    let mut rows = rows;
+    rows.next().map(|row| row.len()) == Some(width)
+        && rows.size_hint() == (left, Some(left))
+        && rows.count() == left
+}
+
 #[test]
 fn one_row_at_the_greatest_stride(rt: HostRuntime) -> Result<(), Fail> {
     let mut cells = [5u8];
     let view: ImgRef<'_, u8> = Img::new_stride(cells.as_slice(), 1, 1, usize::MAX);
-    assert!(rt; view.is_valid());
-    assert!(rt; view.rows().next() == Some([5u8].as_slice()));
+    assert!(rt; view.is_valid() && view.rows().next() == Some([5u8].as_slice()));
     assert!(rt; count_rows(view) == 1);
     let mut image: ImgRefMut<'_, u8> = Img::new_stride(cells.as_mut_slice(), 1, 1, usize::MAX);
     assert!(rt; image.is_valid());
@@ -189,8 +198,7 @@ fn one_row_at_the_greatest_stride(rt: HostRuntime) -> Result<(), Fail> {
 fn loops_and_tests_over_rows(rt: HostRuntime) -> Result<(), Fail> {
     let view = Img::new_stride(SQUARE.as_slice(), 3, 3, 4);
     assert!(rt; view.is_valid());
-    assert!(rt; sum_of_last_column(view) == 18);
-    assert!(rt; !all_start_at(view.rows(), 1));
+    assert!(rt; sum_of_last_column(view) == 18 && !all_start_at(view.rows(), 1));
     let line = Img::new(SQUARE.as_slice(), 11, 1);
     assert!(rt; line.is_valid() && all_start_at(line.rows(), 1));
     Ok(())

@@ -29,21 +29,21 @@ fn set_row<T: Copy>(image: &mut ImgVec<T>, y: usize, values: &[T])
     image.row_mut(y).copy_from_slice(values);
 }
 
+// Whether the two rows have their pixels.
+fn has_both_rows<C: AsSlice<Item = u8>>(image: &Img<C>) -> bool {
+    if !image.is_valid() || image.height() != 2 {
+        return false;
+    }
+    image.row(0) == [1u8, 2].as_slice() && row_of(image, 1) == [4u8, 5].as_slice()
+}
+
 #[test]
 fn a_row_has_the_pixels_of_a_line(rt: HostRuntime) -> Result<(), Fail> {
     let mut cells = [1u8, 2, 3, 4, 5, 6, 7, 8];
     let owned: ImgVec<u8> = Img::new_stride(cells.to_vec(rt.alloc())?, 2, 2, 3);
-    assert!(rt; owned.is_valid());
-    assert!(rt; owned.row(0) == [1u8, 2].as_slice());
-    assert!(rt; row_of(&owned, 1) == [4u8, 5].as_slice());
-    let lent = Img::new_stride(cells.as_slice(), 2, 2, 3);
-    assert!(rt; lent.is_valid());
-    assert!(rt; lent.row(0) == [1u8, 2].as_slice());
-    assert!(rt; row_of(&lent, 1) == [4u8, 5].as_slice());
-    let written = Img::new_stride(cells.as_mut_slice(), 2, 2, 3);
-    assert!(rt; written.is_valid());
-    assert!(rt; written.row(0) == [1u8, 2].as_slice());
-    assert!(rt; row_of(&written, 1) == [4u8, 5].as_slice());
+    assert!(rt; has_both_rows(&owned));
+    assert!(rt; has_both_rows(&Img::new_stride(cells.as_slice(), 2, 2, 3)));
+    assert!(rt; has_both_rows(&Img::new_stride(cells.as_mut_slice(), 2, 2, 3)));
     Ok(())
 }
 
@@ -55,13 +55,11 @@ fn a_row_of_width_zero_is_empty(rt: HostRuntime) -> Result<(), Fail> {
             continue;
         }
         let mut owned: ImgVec<u8> = Img::new_stride(cells.to_vec(rt.alloc())?, 0, 2, stride);
-        assert!(rt; owned.row(1).len() == 0);
-        assert!(rt; owned.row_mut(1).len() == 0);
+        assert!(rt; owned.row(1).len() == 0 && owned.row_mut(1).len() == 0);
         let lent = Img::new_stride(cells.as_slice(), 0, 4294967295, stride);
         assert!(rt; lent.row(4294967294).len() == 0);
         let mut written = Img::new_stride(cells.as_mut_slice(), 0, 2, stride);
-        assert!(rt; written.row(1).len() == 0);
-        assert!(rt; written.row_mut(1).len() == 0);
+        assert!(rt; written.row(1).len() == 0 && written.row_mut(1).len() == 0);
     }
     Ok(())
 }
