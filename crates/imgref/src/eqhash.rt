@@ -38,7 +38,12 @@ where
 
     ghost laws = { equal_per C.cells C.Item.laws };
 
-    fn eq(&self, other: &Self) -> bool {
+    /// Whether both are one picture: as the clause `places` says it, without a row or a list.
+    fn eq(&self, other: &Self) -> bool
+        ensures value { result ≡ equal_by C.cells C.Item.eq self.now other.now }
+        ensures places { IsTrue result
+            ↔ Alike C.Item.eq (layout_by C.cells self.now) (layout_by C.cells other.now) }
+    {
         are_equal(
             self.buf.as_slice(),
             self.shape(),
