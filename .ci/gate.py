@@ -202,6 +202,17 @@ def gate(parts, only):
         cached, beside = scripts(CHECKS / "proofs"), scripts(CHECKS)
         parts += [of_ci, *built, proofs, bugs, *cached, *beside]
         side_by_side([[of_ci, [[it] for it in built]], [proofs, [[bugs], cached]], beside])
+        say(f"\n{functions()} functions proved · {tests()} tests · {bugs.passed} planted bugs refused")
+
+
+def functions():
+    """How many functions `rt ci` proved, those of the tests left out."""
+    return sum(map(int, re.findall(r"(?m)^logic=proved functions=(\d+)", (LOGS / "rt_ci.log").read_text())))
+
+
+def tests():
+    """How many tests it ran."""
+    return sum(map(int, re.findall(r"(?m)^test result: ok\. (\d+) passed", (LOGS / "rt_ci.log").read_text())))
 
 
 def building(*names):

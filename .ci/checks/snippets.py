@@ -4,7 +4,8 @@
 A snippet is a run of lines that are indented by four spaces. Those of docs/CALLERS.md, and each function in README.md, stand
 in a file of the crates, which the gate proves: the lines stand one after the other, however far they are indented there. A
 script in README.md or docs/SCRIPT.md gives what the page says, as the model tells (.ci/model.py). Each file that a document
-links to or names by its folders is there, and each definition that docs/GLOSSARY.md names stands in its file.
+links to or names by its folders is there, and each definition that docs/GLOSSARY.md names stands in its file. README.md counts
+the tests and the planted bugs that there are.
 """
 import pathlib
 import re
@@ -55,6 +56,13 @@ def tried(cases, name):
         cases.count(f"{name}: {lines[0]}", given[: len(due)] == due if within else given == due, f"the page says {due}, the model {given}")
 
 
+def counted(cases):
+    """README.md counts the tests and the planted bugs that there are. (The gate prints how many functions are proved.)"""
+    tests = sum(len(re.findall(r"^ *#\[test\]$", it.read_text(), re.MULTILINE)) for it in (ROOT / "crates").glob("*/src/**/*.rt"))
+    line = f"{tests} tests · {len([*(ROOT / 'crates').glob('*/must-fail/*.edit')])} planted bugs refused"
+    cases.count(f"README.md: {line}", line in (ROOT / "README.md").read_text())
+
+
 def missing_files(path):
     """What a document links to or names that isn't there. A name in capitals stands for any, and what is below `out` is built."""
     text = path.read_text()
@@ -87,6 +95,7 @@ def main():
         quoted(cases, name, texts)
     for name in ("README.md", "docs/SCRIPT.md"):
         tried(cases, name)
+    counted(cases)
     return cases.end()
 
 
