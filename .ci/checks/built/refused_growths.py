@@ -4,9 +4,9 @@
 No clause can say that memory is found, and every contract allows the answer that none was. So the script program is run on each
 example, and the one for video on a small stream with each kind of edits, with the first growth refused, then with the second,
 until a run has none to refuse. Each time but the last it must say `fault memory` alone, on the stream for faults, and end with
-status 3: so all memory is taken before the first byte is written. Of pictures those before may be written. Each test is run so
-too, and must pass or return the refusal as its result: an assertion that fails shows an answer that changed in the place of the
-error.
+status 3: so all memory is taken before the first byte is written. The one for video says how many pictures it has written, and
+wrote exactly those. Each test is run so too, and must pass or return the refusal as its result: an assertion that fails shows an
+answer that changed in the place of the error.
 """
 import concurrent.futures
 import os
@@ -58,12 +58,13 @@ def runs(library, command, given=b""):
 
 
 def of_program(library, command, given, told, ends):
-    """How many refused growths were told on this input, and what is wrong. `told` is what a refusal must leave, one of some outputs and
-    a status, and `ends` what a run must that has none: its output, and its status."""
+    """How many refused growths were told on this input, and what is wrong. `told` is what a refusal must leave, one of some outputs,
+    each with what it says then, and a status, and `ends` what a run must that has none: its output, and its status."""
     bad = []
     for number, (ran, was_refused) in enumerate(runs(library, command, given), 1):
-        says_so = b"fault memory\n" in ran.stdout + ran.stderr
-        outputs, status = told if was_refused else ([ends[0]], ends[1])
+        printed = ran.stdout + ran.stderr
+        outputs, status = told if was_refused else ({ends[0]: None}, ends[1])
+        says_so = (outputs.get(ran.stdout) or b"fault memory") in printed
         if says_so != was_refused or ran.stdout not in outputs or ran.returncode != status:
             bad.append(f"growth {number}: it printed {ran.stdout!r}, said {ran.stderr!r} and ended with status {ran.returncode}")
     return number - 1, bad
@@ -90,14 +91,14 @@ def main():
     resource.setrlimit(resource.RLIMIT_CORE, (0, 0))
     with tempfile.TemporaryDirectory(prefix="growths-") as room, concurrent.futures.ThreadPoolExecutor(4) as pool:
         library = made(room)
-        tries = [("imgref_run", [], script.name, script.read_bytes(), ([b"fault memory\n"], 3), model.answer(script.read_bytes())) for script in SCRIPTS]
+        tries = [("imgref_run", [], script.name, script.read_bytes(), ({b"fault memory\n": b"fault memory\n"}, 3), model.answer(script.read_bytes())) for script in SCRIPTS]
         listed = pathlib.Path(room, "edits")
         listed.write_text(f"{EDITS[-1]}\n")
         for label, words, edits in [*((it, it.split(), it) for it in EDITS), ("a file of edits", ["--edits", listed], EDITS[-1])]:
-            tries.append(("imgref_frames", words, label, VIDEO, ([b""], 3), (frames.answer(VIDEO, frames.edits_of(edits.split())), 0)))
+            tries.append(("imgref_frames", words, label, VIDEO, ({b"": b"fault memory 0\n"}, 3), (frames.answer(VIDEO, frames.edits_of(edits.split())), 0)))
         for words in PICTURE_EDITS:
             first, both = (frames.answer(it, frames.edits_of(words.split())) for it in (PICTURES[0], b"".join(PICTURES)))
-            tries.append(("imgref_frames", words.split(), f"pictures, {words}", b"".join(PICTURES), ([b"", first], 3), (both, 0)))
+            tries.append(("imgref_frames", words.split(), f"pictures, {words}", b"".join(PICTURES), ({b"": b"fault memory 0\n", first: b"fault memory 1\n"}, 3), (both, 0)))
         for name in ("imgref_run", "imgref_frames"):
             for program in both_builds(cases, name):
                 for _, words, label, given, told, ends in (it for it in tries if it[0] == name):

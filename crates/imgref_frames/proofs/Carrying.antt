@@ -1,5 +1,5 @@
 -- A stream that was carried: its front, and the pieces behind it.
-use Rattle.std.proofs.Common.{◌≡◌, ◌≢◌, ℕ, ◌+◌, Bool, true, false, List, [], ◌∷◌, ◌++◌, Option, Some, None, Result, Ok, Err, refl, sym, ap, ◌∙◌, subst, arith, append_assoc, inr, length, length-append, IfSome, All}
+use Rattle.std.proofs.Common.{◌≡◌, ◌≢◌, ℕ, ◌+◌, ◌<◌, Bool, true, false, List, [], ◌∷◌, ◌++◌, Option, Some, None, Result, Ok, Err, refl, sym, ap, ◌∙◌, subst, arith, append_assoc, inr, length, length-append, IfSome, All}
 use Rattle.std.specs.Io.KnownBytes.{Consumes, Appends, IsAtEnd}
 use Rattle.std.proofs.KnownBytes.{Consumes-nil, Consumes-trans, Appends-nil, Appends-trans, Keeps-refl}
 use Rattle.std.proofs.lemmas.List.{append-nil}
@@ -13,12 +13,12 @@ use Rattle.frame_formats.specs.declared.header.Format.{Format}
 use Rattle.frame_formats.specs.declared.plans.PlanFault.{PlanFault}
 use Rattle.frame_formats.specs.declared.plans.PlanFault.TheVariants.{Outside as NoPlan, Memory as NoMemory}
 use Rattle.imgref_frames.specs.Stream.{Piece, IsPiece, piece_text, pieces_text, made_text, all_made}
-use Rattle.imgref_frames.specs.Pictures.{PictureHead, IsPictureNotEdited, behind_letter}
-use Rattle.imgref_frames.specs.Passing.{Passed, PassedSome, PassedPart, Anything, PassesFrames, PassesPictures, IsNoPiece}
-use Rattle.imgref_frames.specs.Program.{Stream, IsStream, begins_picture, are_pictures, front, made_front, heads_of, Carries, CarriesUpTo, IsNoStream, StopsOutside, StopsForMemory, Writes, Follows, fault_of_plan}
+use Rattle.imgref_frames.specs.Pictures.{PictureHead, behind_letter}
+use Rattle.imgref_frames.specs.Passing.{Passed, PassedSome, PassedPart, Anything, AtHead, IsNotEditedNext, PassesFrames, PassesPictures}
+use Rattle.imgref_frames.specs.Program.{Stream, IsStream, begins_picture, are_pictures, front, made_front, heads_of, Carries, CarriesUpTo, CarriesSome, IsCounted, IsNoMore, BeginsVideo, IsNoStream, StopsOutside, StopsForMemory, Writes, Follows, fault_of_plan}
 use Rattle.imgref_frames.specs.Program.Stream.{video, pictures}
 use Rattle.imgref_frames.specs.declared.fault.RunFault.{RunFault}
-use Rattle.imgref_frames.specs.declared.fault.RunFault.TheVariants.{Header, Outside, Frame, Memory, Input, Output, Endless}
+use Rattle.imgref_frames.specs.declared.fault.RunFault.TheVariants.{Header, Outside, Frame, Memory, Input, Output}
 use Rattle.imgref_frames.proofs.FrameLines.{one_front, begun}
 use Rattle.imgref_frames.proofs.OneMore.{all_snoc, length_snoc, text_snoc, made_snoc}
 
@@ -33,6 +33,7 @@ module _ (edit : Edits) (stream : Stream) (is : IsStream edit stream) (r1 w0 w1 
       stream = stream;
       is = is;
       kind = kind;
+      within = p.within;
       pieces = p.pieces;
       are = p.are;
       count_is = p.count_is;
@@ -46,10 +47,9 @@ module _ (edit : Edits) (stream : Stream) (is : IsStream edit stream) (r1 w0 w1 
     lost : {A : Type 0} (count : ℕ) (new : Option (List ℕ)) (p : Passed (heads_of edit stream) count r1 None w1 new) → A
     lost count new p = absurd (Consumes-trans (Some bytes) r1 None (front stream) _ read p.read)
 
-    pub some : (ends : List ℕ → Type 0) (count : ℕ) (left new : Option (List ℕ)) (p : Passed (heads_of edit stream) count r1 left w1 new) → IfSome left ends → CarriesUpTo edit ends bytes w0 new
+    pub some : (ends : ℕ → List ℕ → Type 0) (count : ℕ) (left new : Option (List ℕ)) (p : Passed (heads_of edit stream) count r1 left w1 new) → IfSome left (ends count) → CarriesUpTo edit ends count bytes w0 new
     some ends count None new p end = lost count new p
     some ends count (Some rest) new p end = record {
-      count = count;
       rest = rest;
       text = made_front stream ++ all_made 0 p.pieces;
       carries = carries count rest new p;
@@ -57,22 +57,23 @@ module _ (edit : Edits) (stream : Stream) (is : IsStream edit stream) (r1 w0 w1 
       written = written count (Some rest) new p;
     }
 
-    pub at_end : (n : ℕ) (left new : Option (List ℕ)) (p : Passed (heads_of edit stream) n r1 left w1 new) → IsAtEnd left → (text : List ℕ) × Carries edit n bytes [] text × Appends w0 new text
-    at_end n None new p end = lost n new p
-    at_end n (Some rest) new p end =
+    pub at_end : (n : ℕ) (left new : Option (List ℕ)) (p : Passed (heads_of edit stream) n r1 left w1 new) → IsAtEnd left → IsCounted stream n → (text : List ℕ) × (c : Carries edit n bytes [] text) × IsCounted c.stream n × Appends w0 new text
+    unfolding carries
+    at_end n None new p end counted = lost n new p
+    at_end n (Some rest) new p end counted =
         let q : Passed (heads_of edit stream) n r1 (Some []) w1 new = subst (λ (l : List ℕ). Passed (heads_of edit stream) n r1 (Some l) w1 new) end p in
-        (made_front stream ++ all_made 0 q.pieces, carries n [] new q, written n (Some []) new q)
+        (made_front stream ++ all_made 0 q.pieces, carries n [] new q, counted, written n (Some []) new q)
 
-    pub up_to : (n : ℕ) (left new : Option (List ℕ)) (p : Passed (heads_of edit stream) n r1 left w1 new) → IfSome left (IsNoPiece (heads_of edit stream))
-        → (rest : List ℕ) × (text : List ℕ) × (c : Carries edit n bytes rest text) × IsNoPiece (heads_of edit c.stream) rest × Appends w0 new text
+    pub up_to : (n : ℕ) (left new : Option (List ℕ)) (p : Passed (heads_of edit stream) n r1 left w1 new) → IfSome left (IsNoMore edit stream n)
+        → (rest : List ℕ) × (text : List ℕ) × (c : Carries edit n bytes rest text) × IsNoMore edit c.stream n rest × Appends w0 new text
     unfolding carries
     up_to n None new p none = lost n new p
     up_to n (Some rest) new p none = (rest, made_front stream ++ all_made 0 p.pieces, carries n rest new p, none, written n (Some rest) new p)
 
-    part_read : (count : ℕ) (left held after new : Option (List ℕ)) (x : Piece) (p : Passed (heads_of edit stream) count r1 left w1 held) → IsPiece (heads_of edit stream) x → Consumes left after (piece_text x)
+    part_read : (count : ℕ) → count < 18446744073709551615 → (left held after new : Option (List ℕ)) (x : Piece) (p : Passed (heads_of edit stream) count r1 left w1 held) → IsPiece (heads_of edit stream) x → Consumes left after (piece_text x)
         → AppendsBeginning held new (made_text count x) → (n : ℕ) × (rest : List ℕ) × (text : List ℕ) × Carries edit n bytes rest text × AppendsBeginning w0 new text
-    part_read count left held None new x p piece more begins = absurd (Consumes-trans (Some bytes) left None _ _ (Consumes-trans (Some bytes) r1 left (front stream) _ read p.read) more)
-    part_read count left held (Some rest) new x p piece more begins =
+    part_read count within left held None new x p piece more begins = absurd (Consumes-trans (Some bytes) left None _ _ (Consumes-trans (Some bytes) r1 left (front stream) _ read p.read) more)
+    part_read count within left held (Some rest) new x p piece more begins =
         let pieces : List Piece = p.pieces ++ x ∷ [] in
         let joined : (made_front stream ++ all_made 0 p.pieces) ++ made_text count x ≡ made_front stream ++ all_made 0 pieces =
         append_assoc (made_front stream) (all_made 0 p.pieces) (made_text count x) ∙ ap (λ l. made_front stream ++ l) (sym (made_snoc 0 count p.pieces x (omega (arith, p.count_is)))) in (
@@ -83,6 +84,7 @@ module _ (edit : Edits) (stream : Stream) (is : IsStream edit stream) (r1 w0 w1 
             stream = stream;
             is = is;
             kind = kind;
+            within = omega (arith, within);
             pieces = pieces;
             are = all_snoc (IsPiece (heads_of edit stream)) p.pieces x p.are piece;
             count_is = length_snoc p.pieces x ∙ ap (λ k. k + 1) p.count_is;
@@ -94,7 +96,7 @@ module _ (edit : Edits) (stream : Stream) (is : IsStream edit stream) (r1 w0 w1 
         )
 
     pub part_of : (new : Option (List ℕ)) (p : PassedPart (heads_of edit stream) r1 w1 new) → (n : ℕ) × (rest : List ℕ) × (text : List ℕ) × Carries edit n bytes rest text × AppendsBeginning w0 new text
-    part_of new p = part_read p.count p.left p.held p.after new p.piece p.passed p.is p.read p.written
+    part_of new p = part_read p.count p.within p.left p.held p.after new p.piece p.passed p.is p.read p.written
 
 -- ---- by the answer
 
@@ -106,32 +108,30 @@ module _ (edit : Edits) (line : List ℕ) (recipe : Recipe) (is : IsStream edit 
       video_kind bytes None read = absurd read
       video_kind bytes (Some rest) read = line_begins line rest bytes read ∙ kind
 
-  pub frames_written : (r : Result ℕ RunFault) (input left new : Option (List ℕ)) → Consumes input r1 (line ++ 10 ∷ []) → PassesFrames r (heads_of edit (video line recipe)) r1 left w1 new → Writes r edit input w0 new
+  pub frames_written : (r : Result ℕ RunFault) (input left new : Option (List ℕ)) → Consumes input r1 (line ++ 10 ∷ []) → PassesFrames r recipe r1 left w1 new → Writes r edit input w0 new
   frames_written (Ok n) None left new read passes = tt
-  frames_written (Ok n) (Some bytes) left new read passes = at_end edit (video line recipe) is r1 w0 w1 wrote bytes (is_video bytes read) read n left new passes.0 passes.1
+  frames_written (Ok n) (Some bytes) left new read passes = at_end edit (video line recipe) is r1 w0 w1 wrote bytes (is_video bytes read) read n left new passes.1 passes.2 passes.0
   frames_written (Err (Frame n)) None left new read passes = tt
   frames_written (Err (Frame n)) (Some bytes) left new read passes = up_to edit (video line recipe) is r1 w0 w1 wrote bytes (is_video bytes read) read n passes.left new passes.passed passes.ends
   frames_written (Err Input) None left new read passes = inr tt
-  frames_written (Err Input) (Some bytes) left new read passes = inr (some edit (video line recipe) is r1 w0 w1 wrote bytes (is_video bytes read) read Anything passes.count passes.up_to.left new passes.up_to.passed passes.up_to.ends)
-  frames_written (Err Endless) None left new read passes = tt
-  frames_written (Err Endless) (Some bytes) left new read passes = some edit (video line recipe) is r1 w0 w1 wrote bytes (is_video bytes read) read Anything passes.count passes.up_to.left new passes.up_to.passed passes.up_to.ends
+  frames_written (Err Input) (Some bytes) left new read passes = inr (passes.count, some edit (video line recipe) is r1 w0 w1 wrote bytes (is_video bytes read) read Anything passes.count passes.up_to.left new passes.up_to.passed passes.up_to.ends)
   frames_written (Err Output) None left new read passes = tt
   frames_written (Err Output) (Some bytes) left new read passes = part_of edit (video line recipe) is r1 w0 w1 wrote bytes (is_video bytes read) read new passes
   frames_written _ input left new read passes = absurd passes
 
 module _ (edit : Edits) (bytes : List ℕ) (kind : begins_picture bytes ≡ true) (old new : Option (List ℕ)) where
-  stops : (ends : List ℕ → Type 0) → PassedSome (PictureHead edit) ends (Some bytes) old new → CarriesUpTo edit ends bytes old new
-  stops ends p = some edit pictures tt (Some bytes) old old (Appends-nil old) bytes kind (Consumes-nil (Some bytes)) ends p.count p.up_to.left new p.up_to.passed p.up_to.ends
+  stops : (ends : ℕ → List ℕ → Type 0) → PassedSome (PictureHead edit) ends (Some bytes) old new → CarriesSome edit ends bytes old new
+  stops ends p = (p.count, some edit pictures tt (Some bytes) old old (Appends-nil old) bytes kind (Consumes-nil (Some bytes)) ends p.count p.up_to.left new p.up_to.passed p.up_to.ends)
 
   pub pictures_written : (r : Result ℕ RunFault) (left : Option (List ℕ)) → PassesPictures r edit (Some bytes) left old new → Writes r edit (Some bytes) old new
-  pictures_written (Ok n) left passes = at_end edit pictures tt (Some bytes) old old (Appends-nil old) bytes kind (Consumes-nil (Some bytes)) n left new passes.0 passes.1
+  pictures_written (Ok n) left passes = at_end edit pictures tt (Some bytes) old old (Appends-nil old) bytes kind (Consumes-nil (Some bytes)) n left new passes.0 passes.1 tt
   pictures_written (Err (Frame n)) left passes = up_to edit pictures tt (Some bytes) old old (Appends-nil old) bytes kind (Consumes-nil (Some bytes)) n passes.left new passes.passed passes.ends
   pictures_written (Err Input) left passes = inr (stops Anything passes)
-  pictures_written (Err Endless) left passes = stops Anything passes
   pictures_written (Err Output) left passes = part_of edit pictures tt (Some bytes) old old (Appends-nil old) bytes kind (Consumes-nil (Some bytes)) new passes
   pictures_written (Err Header) left passes = (passes.0, subst (λ (b : Bool). IsNoStream b bytes) (sym kind) passes.1)
-  pictures_written (Err Outside) left passes = subst (λ (b : Bool). StopsOutside b edit bytes old new) (sym kind) (stops (IsPictureNotEdited edit) passes)
-  pictures_written (Err Memory) left passes = subst (λ (b : Bool). StopsForMemory b edit bytes old new) (sym kind) (stops Anything passes)
+  pictures_written (Err Outside) left passes = subst (λ (b : Bool). StopsOutside b edit bytes old new) (sym kind) (stops (IsNotEditedNext edit) passes)
+  pictures_written (Err (Memory n)) left passes =
+      subst (λ (b : Bool). StopsForMemory b n edit bytes old new) (sym kind) (some edit pictures tt (Some bytes) old old (Appends-nil old) bytes kind (Consumes-nil (Some bytes)) AtHead n passes.left new passes.passed passes.ends)
 
 -- ---- before the first frame
 
@@ -148,6 +148,7 @@ begun_line edit line recipe is kind (Some bytes) (Some rest) old new read begins
     stream = video line recipe;
     is = is;
     kind = line_begins line rest bytes read ∙ kind;
+    within = omega arith;
     pieces = [];
     are = tt;
     count_is = refl;
@@ -176,14 +177,18 @@ no_format edit line (Some rest) old one kind none (Some bytes) read = no_video b
     let same : other ≡ line = (one_front other line more rest (recursion_from_All _ other no) (recursion_from_All _ line one) (sym is ∙ read ∙ joined line rest)).0 in
     ap format_of same ∙ none)
 
+begins_line : (line : List ℕ) (format : Format) (rest bytes : List ℕ) → All (λ b. b ≢ 10) line → length line < 256 → bytes ≡ (line ++ 10 ∷ []) ++ rest → format_of line ≡ Some format → BeginsVideo bytes
+begins_line line format rest bytes one short read named = record { line = line; more = rest; format = format; one_line = one; short = short; read = read ∙ joined line rest; named = named }
+
 -- a line of a format that the edit is none for, or no memory was found
-pub not_planned : (e : PlanFault) (edit : Edits) (line : List ℕ) (format : Format) (left old : Option (List ℕ)) → All (λ b. b ≢ 10) line → begins_picture (line ++ 10 ∷ []) ≡ false → format_of line ≡ Some format → Tells (video_recipe edit line ≡ None) e
-    → Follows (Err (fault_of_plan e)) edit (line ++ 10 ∷ []) left old old
-not_planned NoPlan edit line format (Some rest) old one kind named tells (Some bytes) read = subst (λ (b : Bool). StopsOutside b edit bytes old old) (sym (line_begins line rest bytes read ∙ kind))
-    (Keeps-refl old, record { line = line; more = rest; format = format; one_line = one; read = read ∙ joined line rest; named = named; none = tells })
-not_planned NoMemory edit line format (Some rest) old one kind named tells (Some bytes) read = subst (λ (b : Bool). StopsForMemory b edit bytes old old) (sym (line_begins line rest bytes read ∙ kind)) (Keeps-refl old)
-not_planned _ edit line format left old one kind named tells None read = tt
-not_planned _ edit line format None old one kind named tells _ read = absurd read
+pub not_planned : (e : PlanFault) (edit : Edits) (line : List ℕ) (format : Format) (left old : Option (List ℕ)) → All (λ b. b ≢ 10) line → length line < 256 → begins_picture (line ++ 10 ∷ []) ≡ false → format_of line ≡ Some format → Tells (video_recipe edit line ≡ None) e
+    → Follows (Err (fault_of_plan 0 e)) edit (line ++ 10 ∷ []) left old old
+unfolding begins_line
+not_planned NoPlan edit line format (Some rest) old one short kind named tells (Some bytes) read = subst (λ (b : Bool). StopsOutside b edit bytes old old) (sym (line_begins line rest bytes read ∙ kind))
+    (Keeps-refl old, record { begins = begins_line line format rest bytes one short read named; none = tells })
+not_planned NoMemory edit line format (Some rest) old one short kind named tells (Some bytes) read = subst (λ (b : Bool). StopsForMemory b 0 edit bytes old old) (sym (line_begins line rest bytes read ∙ kind)) (refl, begins_line line format rest bytes one short read named, Keeps-refl old)
+not_planned _ edit line format left old one short kind named tells None read = tt
+not_planned _ edit line format None old one short kind named tells _ read = absurd read
 
 -- ---- the first byte
 

@@ -6,3 +6,4 @@ pub mod Rounds
 pub mod Carrying
 pub mod Outcomes
 pub mod Hiding
+pub mod OneOutput

@@ -1,5 +1,5 @@
 -- Pieces so far, and one more.
-use Rattle.std.proofs.Common.{◌≡◌, ℕ, ◌+◌, List, [], ◌∷◌, ◌++◌, Option, length, refl, sym, ap, ◌∙◌, subst, arith, append_assoc}
+use Rattle.std.proofs.Common.{◌≡◌, ℕ, ◌+◌, ◌<◌, ◌^◌, List, [], ◌∷◌, ◌++◌, Option, length, refl, sym, ap, ◌∙◌, subst, arith, append_assoc}
 use Rattle.std.specs.List.{AllByRecursion}
 use Rattle.std.specs.Io.KnownBytes.{Consumes, Appends}
 use Rattle.std.proofs.KnownBytes.{Consumes-nil, Consumes-trans, Appends-nil, Appends-trans}
@@ -27,11 +27,12 @@ made_snoc n m (y ∷ xs) x e = ap (λ l. made_text n y ++ l) (made_snoc (n + 1) 
 module _ (heads : List ℕ → Recipe → Type 0) where
   -- nothing yet
   pub none_passed : (r w : Option (List ℕ)) → Passed heads 0 r r w w
-  none_passed r w = record { pieces = []; are = tt; count_is = refl; read = Consumes-nil r; written = Appends-nil w }
+  none_passed r w = record { within = omega arith; pieces = []; are = tt; count_is = refl; read = Consumes-nil r; written = Appends-nil w }
 
   -- and nothing more
   pub passed_on : (n : ℕ) (r0 r1 r2 w0 w1 : Option (List ℕ)) → Passed heads n r0 r1 w0 w1 → Consumes r1 r2 [] → Passed heads n r0 r2 w0 w1
   passed_on n r0 r1 r2 w0 w1 p read = record {
+    within = p.within;
     pieces = p.pieces;
     are = p.are;
     count_is = p.count_is;
@@ -42,8 +43,9 @@ module _ (heads : List ℕ → Recipe → Type 0) where
   -- a piece was read
   module _ (n : ℕ) (x : Piece) (is : IsPiece heads x) (r0 r1 r2 w0 w1 w2 : Option (List ℕ)) (p : Passed heads n r0 r1 w0 w1) (read : Consumes r1 r2 (piece_text x)) where
     -- and what it becomes is written
-    pub one_more : Appends w1 w2 (made_text n x) → Passed heads (n + 1) r0 r2 w0 w2
-    one_more written = record {
+    pub one_more : n < 18446744073709551615 → Appends w1 w2 (made_text n x) → Passed heads (n + 1) r0 r2 w0 w2
+    one_more within written = record {
+      within = omega (arith, within);
       pieces = p.pieces ++ x ∷ [];
       are = all_snoc (IsPiece heads) p.pieces x p.are is;
       count_is = length_snoc p.pieces x ∙ ap (λ k. k + 1) p.count_is;
@@ -52,9 +54,10 @@ module _ (heads : List ℕ → Recipe → Type 0) where
     }
 
     -- and a beginning of that is written
-    pub part_more : AppendsBeginning w1 w2 (made_text n x) → PassedPart heads r0 w0 w2
-    part_more begins = record {
+    pub part_more : n < 18446744073709551615 → AppendsBeginning w1 w2 (made_text n x) → PassedPart heads r0 w0 w2
+    part_more within begins = record {
       count = n;
+      within = within;
       left = r1;
       held = w1;
       piece = x;

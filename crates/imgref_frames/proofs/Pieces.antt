@@ -1,14 +1,15 @@
 -- The pieces of a stream are read in one way.
-use Rattle.std.proofs.Common.{◌≡◌, ◌≢◌, ℕ, ◌<◌, List, [], ◌∷◌, ◌++◌, Option, Some, None, option_and_then, length, refl, sym, ap, ◌∙◌, arith, append_assoc, length-append, append-nil, IfSome}
+use Rattle.std.proofs.Common.{◌≡◌, ◌≢◌, ℕ, ◌<◌, List, [], ◌∷◌, ◌++◌, Option, Some, None, length, refl, sym, ap, ◌∙◌, arith, append_assoc, length-append, append-nil, IfSome}
 use Rattle.std.specs.Io.KnownBytes.{Consumes, IsAtEnd}
-use Rattle.text_model.proofs.Options.{some_is, bind_some}
+use Rattle.text_model.proofs.Options.{some_is}
 use Rattle.frame_formats.specs.Picture.{picture_of, ApartHeads, BeginsWithLetter}
 use Rattle.frame_formats.specs.Edits.{Edits}
 use Rattle.frame_formats.specs.Recipe.{Recipe, picture_recipe}
 use Rattle.imgref_frames.specs.Stream.{Piece, piece, IsPiece, piece_text}
 use Rattle.imgref_frames.specs.Video.{FrameHead, frame_line, with_head}
-use Rattle.imgref_frames.specs.Pictures.{PictureHead, IsPictureNotEdited}
-use Rattle.imgref_frames.specs.Passing.{IsNoPiece}
+use Rattle.imgref_frames.specs.Pictures.{IsHead, PictureHead, BeginsPicture, IsNoPicture, IsPictureNotEdited}
+use Rattle.imgref_frames.specs.Passing.{IsCut}
+use Rattle.frame_formats.specs.declared.picture.Picture.{Picture}
 use Rattle.imgref_frames.proofs.FrameLines.{one_line}
 
 -- no head begins another, and each has one recipe
@@ -25,14 +26,18 @@ frames_readable video = record {
   some = λ h r p. omega (arith, ap length p.head_is);
 }
 
+-- bytes begin with one head at most
+pub one_head : ApartHeads → (h k a b : List ℕ) (p q : Picture) → IsHead h p → IsHead k q → h ++ a ≡ k ++ b → (h ≡ k) × (p ≡ q) × (a ≡ b)
+one_head one h k a b p q is it e =
+    let same = one h k a b p q is.named it.named e in
+    (same.0, some_is p q (sym is.named ∙ ap picture_of same.0 ∙ it.named), same.1)
+
 pub pictures_readable : ApartHeads → BeginsWithLetter → (edit : Edits) → Readable (PictureHead edit)
 pictures_readable one some edit = record {
   apart = λ h k a b r s p q e.
-      let m = bind_some (picture_of h) (picture_recipe edit) r p in
-      let t = bind_some (picture_of k) (picture_recipe edit) s q in
-      let same = one h k a b m.0 t.0 m.1 t.1 e in
-      (same.0, some_is r s (sym p ∙ ap (λ l. option_and_then (picture_recipe edit) (picture_of l)) same.0 ∙ q), same.1);
-  some = λ h r p. let m = bind_some (picture_of h) (picture_recipe edit) r p in let letter = some h m.0 m.1 in omega (arith, ap length letter.1);
+      let same = one_head one h k a b p.picture q.picture p.is q.is e in
+      (same.0, some_is r s (sym p.edited ∙ ap (picture_recipe edit) same.1 ∙ q.edited), same.2);
+  some = λ h r p. let letter = some h p.picture p.is.named in omega (arith, ap length letter.1);
 }
 
 -- ---- pieces
@@ -58,29 +63,51 @@ module _ (heads : List ℕ → Recipe → Type 0) (law : Readable heads) where
   pub some_text : (p : Piece) (more : List ℕ) → IsPiece heads p → piece_text p ++ more ≢ []
   some_text p more is = λ none. omega (arith, ap length none, law.some p.head p.recipe is.0, length-append (piece_text p) more, length-append p.head p.cells)
 
-  -- and are no beginning of another
-  pub no_other : (p : Piece) (more : List ℕ) → IsPiece heads p → IsNoPiece heads (piece_text p ++ more) → ⊥
-  no_other p more is none = none.other p more is refl
+  -- the cells behind the head of a piece are not cut
+  pub not_cut : (p : Piece) (more bytes : List ℕ) → IsPiece heads p → bytes ≡ piece_text p ++ more → IsCut heads bytes → ⊥
+  not_cut p more bytes of is cut =
+      let one = law.apart p.head cut.head (p.cells ++ more) cut.cells p.recipe cut.recipe of.0 cut.is (sym (append_assoc p.head p.cells more) ∙ sym is ∙ cut.read) in
+      omega (arith, ap length one.2, length-append p.cells more, of.1, ap (λ (q : Recipe). q.size) one.1, cut.short)
 
-  -- fewer cells behind a head than it has are no piece
-  pub cut_piece : (h got : List ℕ) (r : Recipe) (old mid new : Option (List ℕ)) → heads h r → Consumes old mid h → Consumes mid new got → length got < r.size → IsAtEnd new → IfSome old (IsNoPiece heads)
+  -- cut cells have a head before them
+  pub cut_some : (bytes : List ℕ) → IsCut heads bytes → bytes ≢ []
+  cut_some bytes cut = λ none. omega (arith, ap length none, ap length cut.read, law.some cut.head cut.recipe cut.is, length-append cut.head cut.cells)
+
+  -- fewer cells behind a head than it has
+  pub cut_piece : (h got : List ℕ) (r : Recipe) (old mid new : Option (List ℕ)) → heads h r → Consumes old mid h → Consumes mid new got → length got < r.size → IsAtEnd new → IfSome old (IsCut heads)
   cut_piece h got r None mid new is read more short end = tt
   cut_piece h got r (Some bytes) None new is read more short end = absurd read
   cut_piece h got r (Some bytes) (Some rest) None is read more short end = absurd more
-  cut_piece h got r (Some bytes) (Some rest) (Some left) is read more short end =
-      let whole : bytes ≡ h ++ got = read ∙ ap (λ l. h ++ l) (more ∙ ap (λ l. got ++ l) end ∙ append-nil got) in
-      record {
-        some = λ none. omega (arith, ap length none, ap length whole, law.some h r is, length-append h got);
-        other = λ p behind of is_text.
-            let one = law.apart h p.head got (p.cells ++ behind) r p.recipe is of.0 (sym whole ∙ is_text ∙ append_assoc p.head p.cells behind) in
-            omega (arith, ap length one.2, length-append p.cells behind, of.1, ap (λ (q : Recipe). q.size) one.1, short);
-      }
+  cut_piece h got r (Some bytes) (Some rest) (Some left) is read more short end = record {
+    head = h;
+    cells = got;
+    recipe = r;
+    is = is;
+    short = short;
+    read = read ∙ ap (λ l. h ++ l) (more ∙ ap (λ l. got ++ l) end ∙ append-nil got);
+  }
+
+-- ---- pictures
+
+-- the head of a piece is one of a picture
+pub begins_piece : (edit : Edits) (p : Piece) (more bytes : List ℕ) → IsPiece (PictureHead edit) p → bytes ≡ piece_text p ++ more → BeginsPicture bytes
+begins_piece edit p more bytes of is = record { head = p.head; more = p.cells ++ more; picture = of.0.picture; is = of.0.is; read = is ∙ append_assoc p.head p.cells more }
+
+pub begins_cut : (edit : Edits) (bytes : List ℕ) → IsCut (PictureHead edit) bytes → BeginsPicture bytes
+begins_cut edit bytes cut = record { head = cut.head; more = cut.cells; picture = cut.is.picture; is = cut.is.is; read = cut.read }
+
+pub no_begin : (bytes : List ℕ) → IsNoPicture bytes → BeginsPicture bytes → ⊥
+no_begin bytes none b = none b.picture b.head b.more b.is b.read
 
 -- a picture that the edits are edits of is none that they are none for
-pub edited_picture : ApartHeads → (edit : Edits) (p : Piece) (more : List ℕ) → IsPiece (PictureHead edit) p → IsPictureNotEdited edit (piece_text p ++ more) → ⊥
-edited_picture one edit p more is not =
-    let m = bind_some (picture_of p.head) (picture_recipe edit) p.recipe is.0 in
-    let same = one p.head not.head (p.cells ++ more) not.more m.0 not.picture m.1 not.named (sym (append_assoc p.head p.cells more) ∙ not.read) in
-    let pictures : m.0 ≡ not.picture = some_is m.0 not.picture (sym m.1 ∙ ap picture_of same.0 ∙ not.named) in
-    let bad : Some p.recipe ≡ None = sym m.2 ∙ ap (picture_recipe edit) pictures ∙ not.none in
+edited_head : ApartHeads → (edit : Edits) (h a bytes : List ℕ) (r : Recipe) → PictureHead edit h r → bytes ≡ h ++ a → IsPictureNotEdited edit bytes → ⊥
+edited_head one edit h a bytes r is read not =
+    let same = one_head one h not.begins.head a not.begins.more is.picture not.begins.picture is.is not.begins.is (sym read ∙ not.begins.read) in
+    let bad : Some r ≡ None = sym is.edited ∙ ap (picture_recipe edit) same.1 ∙ not.none in
     cc
+
+pub edited_piece : ApartHeads → (edit : Edits) (p : Piece) (more bytes : List ℕ) → IsPiece (PictureHead edit) p → bytes ≡ piece_text p ++ more → IsPictureNotEdited edit bytes → ⊥
+edited_piece one edit p more bytes of is not = edited_head one edit p.head (p.cells ++ more) bytes p.recipe of.0 (is ∙ append_assoc p.head p.cells more) not
+
+pub edited_cut : ApartHeads → (edit : Edits) (bytes : List ℕ) → IsCut (PictureHead edit) bytes → IsPictureNotEdited edit bytes → ⊥
+edited_cut one edit bytes cut not = edited_head one edit cut.head cut.cells bytes cut.recipe cut.is cut.read not

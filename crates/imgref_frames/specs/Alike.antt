@@ -1,11 +1,12 @@
 -- Inputs that differ only in what an edit hides, and runs that can't tell them apart.
-use Rattle.std.specs.Prelude.{◌≡◌, ℕ, ◌+◌, List, [], ◌∷◌, ◌++◌, Option, Some, IfSome, Result, Ok}
+use Rattle.std.specs.Prelude.{◌≡◌, ◌<◌, ◌⊎◌, ℕ, ◌+◌, Bool, true, false, List, [], ◌∷◌, ◌++◌, length, Option, Some, IfSome, Result, Ok, Err}
 use Rattle.image_planes.specs.Unseen.{PlanesAlike}
 use Rattle.frame_formats.specs.Edits.{Edits}
 use Rattle.frame_formats.specs.Recipe.{Recipe}
 use Rattle.imgref_frames.specs.Program.{Stream, IsStream, begins_picture, are_pictures, front, heads_of, Writes}
 use Rattle.imgref_frames.specs.Stream.{Piece, IsPiece, pieces_text}
 use Rattle.imgref_frames.specs.declared.fault.RunFault.{RunFault}
+use Rattle.imgref_frames.specs.declared.fault.RunFault.TheVariants.{Header, Outside, Frame, Memory, Input, Output}
 
 -- two frames or pictures of this number have the same head, and differ only in what the steps of their number hide
 pub record PieceAlike (heads : List ℕ → Recipe → Type 0) (number : ℕ) (p q : Piece) : Type 0 where
@@ -20,7 +21,19 @@ PiecesAlike heads number [] [] = Unit {0}
 PiecesAlike heads number (p ∷ ps) (q ∷ qs) = PieceAlike heads number p q × PiecesAlike heads (number + 1) ps qs
 PiecesAlike heads number _ _ = ⊥
 
--- two inputs are streams of one kind, with the same heads, cells that differ only in what the edits hide, and the same rest behind them
+-- both are one head, and then any cells, too few for it
+pub record CutAlike (heads : List ℕ → Recipe → Type 0) (rest other : List ℕ) : Type 0 where
+  pub head : List ℕ
+  pub recipe : Recipe
+  pub is : heads head recipe
+  pub cells : List ℕ
+  pub others : List ℕ
+  pub short : length cells < recipe.size
+  pub other_short : length others < recipe.size
+  pub mine_is : rest ≡ head ++ cells
+  pub theirs_is : other ≡ head ++ others
+
+-- two inputs are streams of one kind, with the same heads, cells that differ only in what the edits hide, and the same rest behind them, or a frame that is cut
 pub record Alike (edit : Edits) (mine theirs : List ℕ) : Type 0 where
   pub stream : Stream
   pub is : IsStream edit stream
@@ -30,14 +43,39 @@ pub record Alike (edit : Edits) (mine theirs : List ℕ) : Type 0 where
   pub others : List Piece
   pub alike : PiecesAlike (heads_of edit stream) 0 pieces others
   pub rest : List ℕ
+  pub other : List ℕ
+  pub ends : (rest ≡ other) ⊎ CutAlike (heads_of edit stream) rest other
   pub mine_is : mine ≡ front stream ++ (pieces_text pieces ++ rest)
-  pub theirs_is : theirs ≡ front stream ++ (pieces_text others ++ rest)
+  pub theirs_is : theirs ≡ front stream ++ (pieces_text others ++ other)
 
--- whatever was answered and written is right for each alike input too: nothing of it tells what was hidden
+-- whatever was answered and written is right for each alike input too
 abbrev pub Hides : Result ℕ RunFault → Edits → Option (List ℕ) → Option (List ℕ) → Option (List ℕ) → Type 0
 Hides result edit input old new = IfSome input (λ mine. (theirs : List ℕ) → Alike edit mine theirs → Writes result edit (Some theirs) old new)
 
--- a run that comes to the end answers and writes one thing only
+-- whether a device or memory ended a run before its input told its end
+abbrev pub is_broken_off : Result ℕ RunFault → Bool
+is_broken_off (Ok n) = false
+is_broken_off (Err Header) = false
+is_broken_off (Err Outside) = false
+is_broken_off (Err (Frame n)) = false
+is_broken_off (Err (Memory n)) = true
+is_broken_off (Err Input) = true
+is_broken_off (Err Output) = true
+
+-- bytes that begin with others
+abbrev pub BeginsWith : List ℕ → List ℕ → Type 0
+BeginsWith bytes front = (more : List ℕ) × (bytes ≡ front ++ more)
+
+-- two answers and what each run wrote: one and the same, where neither was broken off, and else one output begins the other; what a run that wasn't broken off wrote has each other at its front
+pub record Agree (r s : Result ℕ RunFault) (new other : List ℕ) : Type 0 where
+  pub one_answer : is_broken_off r ≡ false → is_broken_off s ≡ false → r ≡ s
+  pub one_output : is_broken_off r ≡ false → is_broken_off s ≡ false → new ≡ other
+  pub mine_whole : is_broken_off r ≡ false → BeginsWith new other
+  pub theirs_whole : is_broken_off s ≡ false → BeginsWith other new
+  pub one_begins : BeginsWith new other ⊎ BeginsWith other new
+
+-- runs over one input, or over two that are alike, agree: nothing of answer or output tells what was hidden, but for where a device or memory broke a run off
 abbrev pub OneOutput : Type 0
 OneOutput =
-    (edit : Edits) (input old new other : List ℕ) (n m : ℕ) → Writes (Ok n) edit (Some input) (Some old) (Some new) → Writes (Ok m) edit (Some input) (Some old) (Some other) → (n ≡ m) × (new ≡ other)
+    (edit : Edits) (mine theirs old new other : List ℕ) (r s : Result ℕ RunFault) → (mine ≡ theirs) ⊎ Alike edit mine theirs
+    → Writes r edit (Some mine) (Some old) (Some new) → Writes s edit (Some theirs) (Some old) (Some other) → Agree r s new other

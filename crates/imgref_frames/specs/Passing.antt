@@ -1,19 +1,19 @@
 -- What was read and written of the pieces of a stream.
-use Rattle.std.specs.Prelude.{◌≡◌, ◌≢◌, ℕ, ◌<◌, ◌≤◌, List, [], ◌∷◌, ◌++◌, length, take, codes, Option, Result, Ok, Err, IfSome}
+use Rattle.std.specs.Prelude.{◌≡◌, ◌≢◌, ◌⊎◌, ℕ, ◌<◌, ◌≤◌, ◌^◌, List, [], ◌∷◌, ◌++◌, length, take, codes, Option, Result, Ok, Err, IfSome}
 use Rattle.std.specs.List.{AllByRecursion}
 use Rattle.std.specs.Io.KnownBytes.{Consumes, Appends, Keeps, IsAtEnd}
 use Rattle.devices.specs.Whole.{AppendsBeginning}
 use Rattle.frame_formats.specs.Edits.{Edits}
 use Rattle.frame_formats.specs.Recipe.{Recipe}
 use Rattle.imgref_frames.specs.Stream.{Piece, IsPiece, piece_text, pieces_text, made_text, all_made}
-use Rattle.imgref_frames.specs.Video.{AreParameters, frame_line}
-use Rattle.imgref_frames.specs.Pictures.{PictureHead, IsNoPicture, IsPictureNotEdited}
+use Rattle.imgref_frames.specs.Video.{AreParameters, FrameHead, frame_line}
+use Rattle.imgref_frames.specs.Pictures.{PictureHead, BeginsPicture, IsNoPicture, IsPictureNotEdited}
 use Rattle.imgref_frames.specs.declared.frames.Begin.{Begin}
 use Rattle.imgref_frames.specs.declared.frames.Begin.TheVariants.{Whole, Open, End as AtEnd, Other as NoWord}
 use Rattle.imgref_frames.specs.declared.frames.Found.{Found}
 use Rattle.imgref_frames.specs.declared.frames.Found.TheVariants.{Frame, End, Other}
 use Rattle.imgref_frames.specs.declared.fault.RunFault.{RunFault}
-use Rattle.imgref_frames.specs.declared.fault.RunFault.TheVariants.{Header, Outside, Frame as BadFrame, Memory, Input, Output, Endless}
+use Rattle.imgref_frames.specs.declared.fault.RunFault.TheVariants.{Header, Outside, Frame as BadFrame, Memory, Input, Output}
 
 -- the bytes are some, and don't begin with the line of a frame
 pub record IsNoFrameLine (bytes : List ℕ) : Type 0 where
@@ -49,33 +49,52 @@ abbrev pub LineIs : Result Found RunFault → List ℕ → Option (List ℕ) →
 LineIs (Ok found) line old new = IsLineFound found line old new
 LineIs (Err e) line old new = e ≡ Input
 
--- the bytes are some, and don't begin with a piece
-pub record IsNoPiece (heads : List ℕ → Recipe → Type 0) (bytes : List ℕ) : Type 0 where
+-- there are fewer cells behind a head than it has
+pub record IsCut (heads : List ℕ → Recipe → Type 0) (bytes : List ℕ) : Type 0 where
+  pub head : List ℕ
+  pub cells : List ℕ
+  pub recipe : Recipe
+  pub is : heads head recipe
+  pub short : length cells < recipe.size
+  pub read : bytes ≡ head ++ cells
+
+-- no frame stands behind so many: there is no line of one, or its cells are cut; or a number counts no more frames
+abbrev pub IsNoFrame : Recipe → ℕ → List ℕ → Type 0
+IsNoFrame video count bytes = (count ≡ 18446744073709551615) ⊎ (IsNoFrameLine bytes ⊎ IsCut (FrameHead video) bytes)
+
+-- something stands behind so many pictures, and it is none: there is no head, though one stands at the front, or its cells are cut; or a number counts no more pictures
+pub record IsNoNext (edit : Edits) (count : ℕ) (bytes : List ℕ) : Type 0 where
   pub some : bytes ≢ []
-  pub other : (p : Piece) (more : List ℕ) → IsPiece heads p → bytes ≡ piece_text p ++ more → ⊥
+  pub none : (count ≡ 18446744073709551615) ⊎ (((0 < count) × IsNoPicture bytes) ⊎ IsCut (PictureHead edit) bytes)
+
+-- so many pictures that a number counts one more, and then one that the edits are none for
+abbrev pub IsNotEditedNext : Edits → ℕ → List ℕ → Type 0
+IsNotEditedNext edit count bytes = (count < 18446744073709551615) × IsPictureNotEdited edit bytes
 
 -- so many pieces were read, and what they become was written, and nothing else
 pub record Passed (heads : List ℕ → Recipe → Type 0) (count : ℕ) (input left old new : Option (List ℕ)) : Type 0 where
+  pub within : count < 2 ^ 64
   pub pieces : List Piece
   pub are : AllByRecursion (IsPiece heads) pieces
   pub count_is : length pieces ≡ count
   pub read : Consumes input left (pieces_text pieces)
   pub written : Appends old new (all_made 0 pieces)
 
--- so many pieces were read and written, and this holds of what is left
-pub record PassedUpTo (heads : List ℕ → Recipe → Type 0) (stop : List ℕ → Type 0) (count : ℕ) (input old new : Option (List ℕ)) : Type 0 where
+-- so many pieces were read and written, and this holds of their number and of what is left
+pub record PassedUpTo (heads : List ℕ → Recipe → Type 0) (stop : ℕ → List ℕ → Type 0) (count : ℕ) (input old new : Option (List ℕ)) : Type 0 where
   pub left : Option (List ℕ)
   pub passed : Passed heads count input left old new
-  pub ends : IfSome left stop
+  pub ends : IfSome left (stop count)
 
--- some pieces were read and written, and this holds of what is left
-pub record PassedSome (heads : List ℕ → Recipe → Type 0) (stop : List ℕ → Type 0) (input old new : Option (List ℕ)) : Type 0 where
+-- the same of some number of pieces
+pub record PassedSome (heads : List ℕ → Recipe → Type 0) (stop : ℕ → List ℕ → Type 0) (input old new : Option (List ℕ)) : Type 0 where
   pub count : ℕ
   pub up_to : PassedUpTo heads stop count input old new
 
 -- some pieces were read and written, and a beginning of what the next becomes
 pub record PassedPart (heads : List ℕ → Recipe → Type 0) (input old new : Option (List ℕ)) : Type 0 where
   pub count : ℕ
+  pub within : count < 18446744073709551615
   pub left : Option (List ℕ)
   pub held : Option (List ℕ)
   pub piece : Piece
@@ -108,44 +127,44 @@ PassesCells (Err Output) recipe number input left old new = CellsPassed (Appends
 PassesCells (Err Input) recipe number input left old new = new ≡ old
 PassesCells (Err Header) recipe number input left old new = ⊥
 PassesCells (Err Outside) recipe number input left old new = ⊥
-PassesCells (Err Memory) recipe number input left old new = ⊥
-PassesCells (Err Endless) recipe number input left old new = ⊥
+PassesCells (Err (Memory n)) recipe number input left old new = ⊥
 
 -- ---- pieces by the answer of a run
 
 -- nothing is said of what is left
-abbrev pub Anything : List ℕ → Type 0
-Anything bytes = Unit {0}
+abbrev pub Anything : ℕ → List ℕ → Type 0
+Anything count bytes = Unit {0}
 
--- what a run over frames has read and written, by its answer
-abbrev pub PassesFrames : Result ℕ RunFault → (List ℕ → Recipe → Type 0) → Option (List ℕ) → Option (List ℕ) → Option (List ℕ) → Option (List ℕ) → Type 0
-PassesFrames (Ok n) heads input left old new = Passed heads n input left old new × IsAtEnd left
-PassesFrames (Err (BadFrame n)) heads input left old new = PassedUpTo heads (IsNoPiece heads) n input old new
-PassesFrames (Err Input) heads input left old new = PassedSome heads Anything input old new
-PassesFrames (Err Output) heads input left old new = PassedPart heads input old new
-PassesFrames (Err Endless) heads input left old new = PassedSome heads Anything input old new
-PassesFrames (Err Header) heads input left old new = ⊥
-PassesFrames (Err Outside) heads input left old new = ⊥
-PassesFrames (Err Memory) heads input left old new = ⊥
+-- before the next picture, whose head is there
+abbrev pub AtHead : ℕ → List ℕ → Type 0
+AtHead count bytes = BeginsPicture bytes
+
+-- what a run over the frames of a video has read and written, by its answer
+abbrev pub PassesFrames : Result ℕ RunFault → Recipe → Option (List ℕ) → Option (List ℕ) → Option (List ℕ) → Option (List ℕ) → Type 0
+PassesFrames (Ok n) video input left old new = (n < 18446744073709551615) × Passed (FrameHead video) n input left old new × IsAtEnd left
+PassesFrames (Err (BadFrame n)) video input left old new = PassedUpTo (FrameHead video) (IsNoFrame video) n input old new
+PassesFrames (Err Input) video input left old new = PassedSome (FrameHead video) Anything input old new
+PassesFrames (Err Output) video input left old new = PassedPart (FrameHead video) input old new
+PassesFrames (Err Header) video input left old new = ⊥
+PassesFrames (Err Outside) video input left old new = ⊥
+PassesFrames (Err (Memory n)) video input left old new = ⊥
 
 -- what a run over pictures has
 abbrev pub PassesPictures : Result ℕ RunFault → Edits → Option (List ℕ) → Option (List ℕ) → Option (List ℕ) → Option (List ℕ) → Type 0
 PassesPictures (Ok n) edit input left old new = Passed (PictureHead edit) n input left old new × IsAtEnd left
-PassesPictures (Err (BadFrame n)) edit input left old new = PassedUpTo (PictureHead edit) (IsNoPiece (PictureHead edit)) n input old new
+PassesPictures (Err (BadFrame n)) edit input left old new = PassedUpTo (PictureHead edit) (IsNoNext edit) n input old new
 PassesPictures (Err Input) edit input left old new = PassedSome (PictureHead edit) Anything input old new
 PassesPictures (Err Output) edit input left old new = PassedPart (PictureHead edit) input old new
-PassesPictures (Err Endless) edit input left old new = PassedSome (PictureHead edit) Anything input old new
 PassesPictures (Err Header) edit input left old new = Keeps old new × IfSome input IsNoPicture
-PassesPictures (Err Outside) edit input left old new = PassedSome (PictureHead edit) (IsPictureNotEdited edit) input old new
-PassesPictures (Err Memory) edit input left old new = PassedSome (PictureHead edit) Anything input old new
+PassesPictures (Err Outside) edit input left old new = PassedSome (PictureHead edit) (IsNotEditedNext edit) input old new
+PassesPictures (Err (Memory n)) edit input left old new = PassedUpTo (PictureHead edit) AtHead n input old new
 
 -- what a run over the picture of this number has
 abbrev pub PassesPicture : Result (Unit {0}) RunFault → Edits → ℕ → Option (List ℕ) → Option (List ℕ) → Option (List ℕ) → Option (List ℕ) → Type 0
 PassesPicture (Ok x) edit number input left old new = (p : Piece) × IsPiece (PictureHead edit) p × Consumes input left (piece_text p) × Appends old new (made_text number p)
-PassesPicture (Err (BadFrame n)) edit number input left old new = (n ≡ number) × IfSome input (IsNoPiece (PictureHead edit)) × (new ≡ old)
+PassesPicture (Err (BadFrame n)) edit number input left old new = (n ≡ number) × IfSome input (IsNoNext edit number) × (new ≡ old)
 PassesPicture (Err Output) edit number input left old new = (p : Piece) × IsPiece (PictureHead edit) p × Consumes input left (piece_text p) × AppendsBeginning old new (made_text number p)
 PassesPicture (Err Header) edit number input left old new = (number ≡ 0) × IfSome input IsNoPicture × (new ≡ old)
 PassesPicture (Err Outside) edit number input left old new = IfSome input (IsPictureNotEdited edit) × (new ≡ old)
-PassesPicture (Err Memory) edit number input left old new = new ≡ old
+PassesPicture (Err (Memory n)) edit number input left old new = (n ≡ number) × IfSome input BeginsPicture × (new ≡ old)
 PassesPicture (Err Input) edit number input left old new = new ≡ old
-PassesPicture (Err Endless) edit number input left old new = new ≡ old

@@ -1,32 +1,42 @@
 -- The heads of pictures, and what edits are for each.
-use Rattle.std.specs.Prelude.{◌≡◌, ℕ, List, [], ◌∷◌, ◌++◌, ◌⊎◌, Option, Some, None, Result, Ok, Err, IfSome}
+use Rattle.std.specs.Prelude.{◌≡◌, ◌<◌, ◌+◌, ◌^◌, ℕ, List, [], ◌∷◌, ◌++◌, Option, Some, None, Result, Ok, Err, IfSome, length}
 use Rattle.std.specs.Option.{option_map}
 use Rattle.std.specs.Io.KnownBytes.{Consumes}
-use Rattle.text_model.specs.Reading.{◌>>=◌}
 use Rattle.frame_formats.specs.Picture.{picture_of, scanned, start}
 use Rattle.frame_formats.specs.Edits.{Edits}
 use Rattle.frame_formats.specs.Recipe.{Recipe, picture_recipe}
 use Rattle.frame_formats.specs.declared.picture.Picture.{Picture}
 use Rattle.frame_formats.specs.declared.picture.Scan.{Scan}
 use Rattle.imgref_frames.specs.declared.fault.RunFault.{RunFault}
-use Rattle.imgref_frames.specs.declared.fault.RunFault.TheVariants.{Input, Endless}
+use Rattle.imgref_frames.specs.declared.fault.RunFault.TheVariants.{Input}
+
+-- the head of a picture, of fewer than 2 ^ 64 bytes
+pub record IsHead (head : List ℕ) (picture : Picture) : Type 0 where
+  pub counted : length head < 2 ^ 64
+  pub named : picture_of head ≡ Some picture
 
 -- a head names a picture that the edits are edits of
-abbrev pub PictureHead : Edits → List ℕ → Recipe → Type 0
-PictureHead edit head recipe = (picture_of head >>= picture_recipe edit) ≡ Some recipe
+pub record PictureHead (edit : Edits) (head : List ℕ) (recipe : Recipe) : Type 0 where
+  pub picture : Picture
+  pub is : IsHead head picture
+  pub edited : picture_recipe edit picture ≡ Some recipe
 
--- the bytes don't begin with the head of a picture
-abbrev pub IsNoPicture : List ℕ → Type 0
-IsNoPicture bytes = (picture : Picture) (head more : List ℕ) → picture_of head ≡ Some picture → bytes ≡ head ++ more → ⊥
-
--- they begin with the head of a picture that the edits are none for
-pub record IsPictureNotEdited (edit : Edits) (bytes : List ℕ) : Type 0 where
+-- the bytes begin with the head of a picture
+pub record BeginsPicture (bytes : List ℕ) : Type 0 where
   pub head : List ℕ
   pub more : List ℕ
   pub picture : Picture
+  pub is : IsHead head picture
   pub read : bytes ≡ head ++ more
-  pub named : picture_of head ≡ Some picture
-  pub none : picture_recipe edit picture ≡ None
+
+-- they don't
+abbrev pub IsNoPicture : List ℕ → Type 0
+IsNoPicture bytes = (picture : Picture) (head more : List ℕ) → IsHead head picture → bytes ≡ head ++ more → ⊥
+
+-- they begin with the head of a picture that the edits are none for
+pub record IsPictureNotEdited (edit : Edits) (bytes : List ℕ) : Type 0 where
+  pub begins : BeginsPicture bytes
+  pub none : picture_recipe edit begins.picture ≡ None
 
 -- what there was before a P was read
 abbrev pub behind_letter : Option (List ℕ) → Option (List ℕ)
@@ -34,16 +44,17 @@ behind_letter left = option_map (λ bytes. 80 ∷ bytes) left
 
 -- what was found in the place of a head, whose first letter was read
 abbrev pub IsHeadFound : Option Picture → Option (List ℕ) → Option (List ℕ) → Type 0
-IsHeadFound (Some picture) old new = (head : List ℕ) × (picture_of head ≡ Some picture) × Consumes (behind_letter old) new head
+IsHeadFound (Some picture) old new = (head : List ℕ) × IsHead head picture × Consumes (behind_letter old) new head
 IsHeadFound None old new = IfSome (behind_letter old) IsNoPicture
 
 abbrev pub HeadIs : Result (Option Picture) RunFault → Option (List ℕ) → Option (List ℕ) → Type 0
 HeadIs (Ok found) old new = IsHeadFound found old new
-HeadIs (Err e) old new = (e ≡ Input) ⊎ (e ≡ Endless)
+HeadIs (Err e) old new = e ≡ Input
 
--- the bytes that were read behind a letter took the scan this far, and no beginning of them, but for all, is a head
-pub record HeadBegun (scan : Scan) (old new : Option (List ℕ)) : Type 0 where
+-- so many bytes that were read behind a letter took the scan this far, and no beginning of them, but for all, is a head
+pub record HeadBegun (count : ℕ) (scan : Scan) (old new : Option (List ℕ)) : Type 0 where
   pub bytes : List ℕ
+  pub count_is : length bytes ≡ count + 1
   pub read : Consumes (behind_letter old) new bytes
   pub scan_is : scan ≡ scanned start bytes
   pub none : (picture : Picture) (head more : List ℕ) → picture_of head ≡ Some picture → bytes ≡ head ++ more → more ≡ []

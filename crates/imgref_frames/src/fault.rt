@@ -1,6 +1,7 @@
 //! Why a run ended.
 
 ghost use Rattle.std.specs.Prelude.{◌≡◌, Some};
+ghost use Rattle.imgref_frames.specs.Program.{fault_of_plan};
 
 use devices::{INPUT_TEXT, MEMORY_TEXT, OUTPUT_TEXT};
 use frame_formats::PlanFault;
@@ -16,18 +17,16 @@ pub enum RunFault {
     /// whole chroma samples, or has a colour where there is none. The pictures before it were
     /// written.
     Outside,
-    /// So many frames or pictures were read, and what comes after them isn't one. They were
-    /// written.
+    /// So many frames or pictures were read, and what comes after them isn't one, or no number
+    /// counts one more. They were written.
     Frame(u64),
-    /// Out of memory. Nothing of a video was written; the pictures before it were.
-    Memory,
+    /// Out of memory. So many pictures were read and written, and the head of one more was read.
+    /// For a video it is 0, and nothing was written.
+    Memory(u64),
     /// The reader failed. The frames or pictures before it were written.
     Input,
     /// The writer failed. The first part of the output was written.
     Output,
-    /// The number of frames or pictures, or of the bytes of a head, reaches the greatest number
-    /// that the program can count. The frames or pictures before were written.
-    Endless,
 }
 
 impl RunFault {
@@ -39,12 +38,11 @@ impl RunFault {
     {
         match self {
             RunFault::Header => 2,
-            RunFault::Memory => 3,
+            RunFault::Memory(_) => 3,
             RunFault::Input => 4,
             RunFault::Output => 5,
             RunFault::Outside => 6,
             RunFault::Frame(_) => 7,
-            RunFault::Endless => 8,
         }
     }
 }
@@ -59,23 +57,19 @@ impl fmt::Display for RunFault {
             RunFault::Header => write!(f, "fault header"),
             RunFault::Outside => write!(f, "fault outside"),
             RunFault::Frame(number) => write!(f, "fault frame {number}"),
-            RunFault::Memory => write!(f, "{MEMORY_TEXT}"),
+            RunFault::Memory(number) => write!(f, "{MEMORY_TEXT} {number}"),
             RunFault::Input => write!(f, "{INPUT_TEXT}"),
             RunFault::Output => write!(f, "{OUTPUT_TEXT}"),
-            RunFault::Endless => write!(f, "fault endless"),
         }
     }
 }
 
-impl From<PlanFault> for RunFault {
-    ghost use Rattle.imgref_frames.specs.Program.{fault_of_plan};
-
-    ghost from_gives = { λ plan e. e ≡ fault_of_plan plan };
-
-    fn from(fault: PlanFault) -> RunFault {
-        match fault {
-            PlanFault::Outside => RunFault::Outside,
-            PlanFault::Memory => RunFault::Memory,
-        }
+/// The fault of a plan after so many frames or pictures, as one of the run.
+pub(crate) fn fault_of_plan(count: u64, fault: PlanFault) -> RunFault
+    ensures { result ≡ fault_of_plan count fault }
+{
+    match fault {
+        PlanFault::Outside => RunFault::Outside,
+        PlanFault::Memory => RunFault::Memory(count),
     }
 }

@@ -5,7 +5,6 @@ ghost use Rattle.devices.specs.Device.{device_of, failures_of};
 ghost use Rattle.frame_formats.specs.Planned.{recipe_of, plan_room, plan_other_room};
 ghost use Rattle.imgref_frames.specs.Fault.{reader_failures, writer_failures};
 ghost use Rattle.imgref_frames.specs.Passing.{WordIs, LineIs, PassesFrames};
-ghost use Rattle.imgref_frames.specs.Video.{FrameHead};
 
 use crate::cells::pass_cells;
 use crate::fault::RunFault;
@@ -86,7 +85,8 @@ fn read_frame_line<R: Read>(reader: &mut Counted<R>, line: &mut [u8]) -> Result<
     }
 }
 
-/// Reads frame after frame, edits it and writes it. Returns the number of frames.
+/// Reads frame after frame, edits it and writes it. Returns the number of frames. After 2^64 - 1
+/// frames it reads no further.
 pub(crate) fn pass_frames<R: Read, W: Write>(
     reader: &mut Counted<R>,
     writer: &mut Counted<W>,
@@ -100,7 +100,7 @@ pub(crate) fn pass_frames<R: Read, W: Write>(
     requires other_room { plan_other_room plan.now ≤ length other.old }
     requires reader_counts { failures_of reader.old < u64.MAX }
     requires writer_counts { failures_of writer.old < u64.MAX }
-    ensures passes { PassesFrames result (FrameHead (recipe_of plan.now))
+    ensures passes { PassesFrames result (recipe_of plan.now)
         (R.remaining (device_of reader.old)) (R.remaining (device_of reader.new))
         (W.contents (device_of writer.old)) (W.contents (device_of writer.new)) }
     ensures reader_count { failures_of reader.new
@@ -120,5 +120,5 @@ pub(crate) fn pass_frames<R: Read, W: Write>(
             Err(fault) => return Err(fault),
         }
     }
-    Err(RunFault::Endless)
+    Err(RunFault::Frame(u64::MAX))
 }

@@ -73,7 +73,7 @@ fn refuse_words(rt: &HostRuntime, fault: WordsFault) -> ExitCode {
             let _ = eprintln!(rt; "fault words\n{USAGE}");
             ExitCode::from(1)
         }
-        WordsFault::Memory => end(rt, RunFault::Memory),
+        WordsFault::Memory => end(rt, RunFault::Memory(0)),
     }
 }
 

@@ -8,14 +8,15 @@ ghost use Rattle.imgref_frames.specs.Pictures.{HeadIs, behind_letter};
 ghost use Rattle.imgref_frames.specs.Request.{edits_of};
 
 use crate::cells::pass_cells;
-use crate::fault::RunFault;
+use crate::fault::{RunFault, fault_of_plan};
 use crate::request::Request;
 use devices::{Counted, read_byte};
 use frame_formats::{Picture, Plan, Scan, heads_end_themselves};
 use std::alloc::{AllocError, Global};
 use std::io::{Read, Write};
 
-// Reads the rest of a head, whose first letter was read; answers `None` where it is none.
+// Reads the rest of a head, whose first letter was read; answers `None` where it is none of fewer
+// than 2^64 bytes.
 fn read_head<R: Read>(reader: &mut Counted<R>) -> Result<Option<Picture>, RunFault>
     requires counts { failures_of reader.old < u64.MAX }
     ensures head { HeadIs result (R.remaining (device_of reader.old))
@@ -24,7 +25,7 @@ fn read_head<R: Read>(reader: &mut Counted<R>) -> Result<Option<Picture>, RunFau
 {
     heads_end_themselves();
     let mut scan = Scan::new().push(b'P');
-    for _ in 0..u64::MAX {
+    for _count in 0..u64::MAX {
         match scan {
             Scan::Done(picture) => return Ok(Some(picture)),
             Scan::Bad => return Ok(None),
@@ -37,7 +38,7 @@ fn read_head<R: Read>(reader: &mut Counted<R>) -> Result<Option<Picture>, RunFau
         };
         scan = scan.push(byte);
     }
-    Err(RunFault::Endless)
+    Ok(None)
 }
 
 // Makes so much room, where there is less.
@@ -61,6 +62,7 @@ fn pass_picture<R: Read, W: Write>(
 ) -> Result<(), RunFault>
     requires reader_counts { failures_of reader.old < u64.MAX }
     requires writer_counts { failures_of writer.old < u64.MAX }
+    requires numbers { number < u64.MAX }
     ensures passes { PassesPicture result (edits_of request.entry) number
         (behind_letter (R.remaining (device_of reader.old))) (R.remaining (device_of reader.new))
         (W.contents (device_of writer.old)) (W.contents (device_of writer.new)) }
@@ -83,13 +85,13 @@ fn pass_picture<R: Read, W: Write>(
     };
     let plan = match Plan::for_picture(alloc, picture, request.steps, request.framing) {
         Ok(plan) => plan,
-        Err(fault) => return Err(RunFault::from(fault)),
+        Err(fault) => return Err(fault_of_plan(number, fault)),
     };
     if make_room(alloc, cells, plan.room()).is_err() {
-        return Err(RunFault::Memory);
+        return Err(RunFault::Memory(number));
     }
     if make_room(alloc, other, plan.other_room()).is_err() {
-        return Err(RunFault::Memory);
+        return Err(RunFault::Memory(number));
     }
     pass_cells(reader, writer, &plan, number, plan.head(), cells, other)
 }
@@ -126,5 +128,5 @@ pub(crate) fn pass_pictures<R: Read, W: Write>(
             Err(_) => return Err(RunFault::Input),
         }
     }
-    Err(RunFault::Endless)
+    Err(RunFault::Frame(u64::MAX))
 }

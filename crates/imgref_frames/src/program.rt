@@ -1,6 +1,6 @@
 //! The program on any reader and writer: a video or pictures in, the same out, edited.
 
-ghost use Rattle.std.specs.Prelude.{◌≡◌, ◌≢◌, ◌<◌, ◌+◌, ◌++◌, ◌∷◌, [], All, false};
+ghost use Rattle.std.specs.Prelude.{◌≡◌, ◌≢◌, ◌<◌, ◌+◌, ◌++◌, ◌∷◌, [], All, length, false};
 ghost use Rattle.devices.specs.Device.{device_of, failures_of};
 ghost use Rattle.imgref_frames.specs.Fault.{reader_failures, writer_failures};
 ghost use Rattle.frame_formats.specs.Edits.{edits};
@@ -8,7 +8,7 @@ ghost use Rattle.imgref_frames.specs.Alike.{Hides, OneOutput};
 ghost use Rattle.imgref_frames.specs.Request.{edits_of};
 ghost use Rattle.imgref_frames.specs.Program.{Follows, Writes, begins_picture};
 
-use crate::fault::RunFault;
+use crate::fault::{RunFault, fault_of_plan};
 use crate::frames::pass_frames;
 use crate::pictures::pass_pictures;
 use crate::request::Request;
@@ -28,6 +28,7 @@ fn run_video<R: Read, W: Write>(
     writer: &mut Counted<W>,
 ) -> Result<u64, RunFault>
     requires one_line { All (λ b. b ≢ 10) line.now }
+    requires short { length line.now < 256 }
     requires kind { begins_picture (line.now ++ 10 ∷ []) ≡ false }
     requires reader_counts { failures_of reader.old < u64.MAX }
     requires writer_counts { failures_of writer.old < u64.MAX }
@@ -45,13 +46,13 @@ fn run_video<R: Read, W: Write>(
     };
     let plan = match Plan::for_video(alloc, line, format, request.steps, request.framing) {
         Ok(plan) => plan,
-        Err(fault) => return Err(RunFault::from(fault)),
+        Err(fault) => return Err(fault_of_plan(0, fault)),
     };
     let Ok(mut cells) = vec![in alloc; 0u8; plan.room()] else {
-        return Err(RunFault::Memory);
+        return Err(RunFault::Memory(0));
     };
     let Ok(mut other) = vec![in alloc; 0u8; plan.other_room()] else {
-        return Err(RunFault::Memory);
+        return Err(RunFault::Memory(0));
     };
     if write_all(writer, plan.head()).is_err() {
         return Err(RunFault::Output);
@@ -122,11 +123,13 @@ pub fn run<R: Read, W: Write>(
     ensures writer_count { failures_of writer.new
         ≡ failures_of writer.old + writer_failures result }
 
-    // Inputs that differ only in what a fill or a mosaic hides can't be told from one another.
+    // What was answered and written is right for each input that differs only in what a fill or a
+    // mosaic hides.
     ensures hiding { Hides result (edits steps.now framing) (R.remaining (device_of reader.old))
         (W.contents (device_of writer.old)) (W.contents (device_of writer.new)) }
 
-    // So the output is the only one of its input.
+    // Two such inputs get one answer and one output. Where memory, the reader or the writer fails, one
+    // output begins the other.
     ensures one_output { OneOutput }
 {
     recipes_hide();

@@ -4,8 +4,8 @@ use Rattle.devices.specs.Device.{device_of, failures_of}
 use Rattle.imgref_frames.proofs.pictures.read_head.Given as goal
 
 -- the bytes so far are no whole head, but for the last of them
-abbrev pub invariant-loop : goal.invariant-loop
-invariant-loop g l = record {
-  begun : HeadBegun l.scan (g.R.Read.remaining (device_of l.initial.reader)) (g.R.Read.remaining (device_of l.reader));
+abbrev pub invariant-loop-count : goal.invariant-loop-count
+invariant-loop-count g l = record {
+  begun : HeadBegun l._count l.scan (g.R.Read.remaining (device_of l.initial.reader)) (g.R.Read.remaining (device_of l.reader));
   read : failures_of l.reader ≡ failures_of l.initial.reader;
 }

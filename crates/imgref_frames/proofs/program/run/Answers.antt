@@ -7,7 +7,8 @@ use Rattle.frame_formats.specs.Edits.{edits}
 use Rattle.imgref_frames.specs.Program.{Writes}
 use Rattle.imgref_frames.specs.declared.fault.RunFault.TheVariants.{Header}
 use Rattle.imgref_frames.proofs.Carrying.{behind_first}
-use Rattle.imgref_frames.proofs.Hiding.{Laws, hides, one_output}
+use Rattle.imgref_frames.proofs.Hiding.{Laws, hides}
+use Rattle.imgref_frames.proofs.OneOutput.{one_output}
 use Rattle.imgref_frames.proofs.program.run.Goals as goal
 use Rattle.imgref_frames.proofs.program.run.Goals.{After-heads_end_themselves, After-pass_pictures}
 

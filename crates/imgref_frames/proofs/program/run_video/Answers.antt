@@ -9,6 +9,7 @@ use Rattle.frame_formats.specs.Recipe.{Recipe}
 use Rattle.imgref_frames.specs.Program.{Writes}
 use Rattle.imgref_frames.specs.declared.fault.RunFault.{RunFault}
 use Rattle.std.proofs.Common.{Err}
+use Rattle.frame_formats.specs.declared.plans.PlanFault.TheVariants.{Memory as NoMemory}
 use Rattle.imgref_frames.proofs.Outcomes.{at_ok, at_err}
 use Rattle.imgref_frames.proofs.Carrying.{begun_line, no_format, not_planned, frames_written}
 use Rattle.imgref_frames.proofs.program.run_video.Goals as goal
@@ -17,8 +18,17 @@ pub returns-in_default-clause-follows : goal.returns-in_default-clause-follows
 returns-in_default-clause-follows g c = no_format (edits_of c.args.request) c.args.line.now (g.R.Read.remaining (device_of c.args.reader.now)) (g.W.Write.contents (device_of c.args.writer.now)) c.requires.one_line c.requires.kind (sym c.in_default.ensures)
 
 pub returns-in-Err-clause-follows : goal.returns-in-Err-clause-follows
-returns-in-Err-clause-follows g c input read = subst (λ (e : RunFault). Writes (Err e) (edits_of c.args.request) input (g.W.Write.contents (device_of c.args.writer.now)) (g.W.Write.contents (device_of c.args.writer.now))) (sym c.from.ensures)
-    (not_planned c.in-Err.fault (edits_of c.args.request) c.args.line.now c.in-Some.format (g.R.Read.remaining (device_of c.args.reader.now)) (g.W.Write.contents (device_of c.args.writer.now)) c.requires.one_line c.requires.kind (sym c.in-Some.ensures) c.in-Err.ensures.fault input read)
+returns-in-Err-clause-follows g c input read = subst (λ (e : RunFault). Writes (Err e) (edits_of c.args.request) input (g.W.Write.contents (device_of c.args.writer.now)) (g.W.Write.contents (device_of c.args.writer.now))) (sym c.fault_of_plan.ensures)
+    (not_planned c.in-Err.fault (edits_of c.args.request) c.args.line.now c.in-Some.format (g.R.Read.remaining (device_of c.args.reader.now)) (g.W.Write.contents (device_of c.args.writer.now)) c.requires.one_line c.requires.short c.requires.kind (sym c.in-Some.ensures) c.in-Err.ensures.fault input read)
+
+-- no memory for a frame, and none for one of another size
+pub returns-in_default-vec-clause-follows : goal.returns-in_default-vec-clause-follows
+returns-in_default-vec-clause-follows g c input read =
+    not_planned NoMemory (edits_of c.args.request) c.args.line.now c.in-Some.format (g.R.Read.remaining (device_of c.args.reader.now)) (g.W.Write.contents (device_of c.args.writer.now)) c.requires.one_line c.requires.short c.requires.kind (sym c.in-Some.ensures) tt input read
+
+pub returns-in_default-vec-2-clause-follows : goal.returns-in_default-vec-2-clause-follows
+returns-in_default-vec-2-clause-follows g c input read =
+    not_planned NoMemory (edits_of c.args.request) c.args.line.now c.in-Some.format (g.R.Read.remaining (device_of c.args.reader.now)) (g.W.Write.contents (device_of c.args.writer.now)) c.requires.one_line c.requires.short c.requires.kind (sym c.in-Some.ensures) tt input read
 
 pub returns-then-is_err-clause-follows : goal.returns-then-is_err-clause-follows
 returns-then-is_err-clause-follows g c input read =
@@ -27,7 +37,7 @@ returns-then-is_err-clause-follows g c input read =
     let old = g.W.Write.contents (device_of c.args.writer.now) in
     let new = g.W.Write.contents (device_of c.write_all.new.writer) in
     let wrote : AppendsBeginning old new c.head.result.now = at_err c.write_all.result (sym c.is_err.ensures.value ∙ c.if-is_err.true) c.write_all.ensures.beginning in
-    begun_line (edits_of c.args.request) line recipe (c.requires.one_line, c.in-Ok.ensures.plan) c.requires.kind input (g.R.Read.remaining (device_of c.args.reader.now)) old new read (subst (AppendsBeginning old new) c.head.ensures wrote)
+    begun_line (edits_of c.args.request) line recipe (c.requires.one_line, c.requires.short, c.in-Ok.ensures.plan) c.requires.kind input (g.R.Read.remaining (device_of c.args.reader.now)) old new read (subst (AppendsBeginning old new) c.head.ensures wrote)
 
 pub returns-clause-follows : goal.returns-clause-follows
 returns-clause-follows g c input read =
@@ -37,4 +47,4 @@ returns-clause-follows g c input read =
     let held = g.W.Write.contents (device_of c.write_all.new.writer) in
     let left = g.R.Read.remaining (device_of c.args.reader.now) in
     let wrote : Appends old held c.head.result.now = at_ok c.write_all.result (sym c.is_err.ensures.value ∙ c.if-is_err.false) c.write_all.ensures.whole in
-    frames_written (edits_of c.args.request) line recipe (c.requires.one_line, c.in-Ok.ensures.plan) c.requires.kind left old held (subst (Appends old held) c.head.ensures wrote) c.pass_frames.result input (g.R.Read.remaining (device_of c.pass_frames.new.reader)) (g.W.Write.contents (device_of c.pass_frames.new.writer)) read c.pass_frames.ensures.passes
+    frames_written (edits_of c.args.request) line recipe (c.requires.one_line, c.requires.short, c.in-Ok.ensures.plan) c.requires.kind left old held (subst (Appends old held) c.head.ensures wrote) c.pass_frames.result input (g.R.Read.remaining (device_of c.pass_frames.new.reader)) (g.W.Write.contents (device_of c.pass_frames.new.writer)) read c.pass_frames.ensures.passes
