@@ -1,5 +1,5 @@
 #!/usr/bin/env python3
-"""Runs the program on scripts of many kinds, and compares each answer with that of an independent model (.ci/model.py).
+"""Runs the program on scripts of many kinds, and compares each output with that of an independent model (.ci/model.py).
 
 The scripts: each beginning of the script with every word, each of its bytes changed to each of ten others, and 2,000 random
 ones, most of them good. The seed is printed; `scripts.py SEED` takes another one. The program must be there, as `rt ci`
@@ -13,7 +13,7 @@ import sys
 
 sys.path.insert(0, str(pathlib.Path(__file__).resolve().parents[2]))
 import model
-from checking import ROOT, Cases, both_builds
+from checking import ONE_BUILD, ROOT, Cases, both_builds
 
 EVERY_WORD = (ROOT / "examples/every_word.script").read_bytes()
 OTHERS = b" \n\t\r,/0-\x00\xff"
@@ -98,7 +98,7 @@ def differs(program, script):
 
 def main(words):
     cases = Cases()
-    seed = int(words[0]) if words else SEED
+    seed = next((int(it) for it in words if it != ONE_BUILD), SEED)
     made = Random(seed)
     kinds = [
         ("beginnings", beginnings()),
