@@ -167,38 +167,39 @@ def copied_proofs(crate, bug):
 
 
 def is_apart(bug, others):
-    """Whether a bug can be planted beside these: both in copies, or in different functions."""
+    """Whether a bug can be tried beside these: all in copies, which a check of these alone tries, or in different functions."""
     functions = lambda it: {(file, f.name, f.number) for file, f in it.functions}
     for other in others:
         if bug.is_copied and other.is_copied:
             continue
-        if None in bug.functions or None in other.functions or functions(bug) & functions(other):
+        if bug.is_copied or other.is_copied or None in bug.functions or None in other.functions or functions(bug) & functions(other):
             return False
-        if not bug.is_copied and not other.is_copied and {it[:2] for it in bug.pairs} & {it[:2] for it in other.pairs}:
+        if {it[:2] for it in bug.pairs} & {it[:2] for it in other.pairs}:
             return False
     return True
 
 
 def batches(bugs):
     """Parts the bugs into those that are tried in one check: as few as can be, and of about one size."""
-    most = -(-len(bugs) // max(-(-len(bugs) // MOST), 1))
+    copied = sum(it.is_copied for it in bugs)
+    most = -(-copied // max(-(-copied // MOST), 1))
     found = []
     for bug in sorted(bugs, key=lambda it: it.is_copied):
-        batch = next((it for it in found if len(it) < most and is_apart(bug, it)), None)
+        batch = next((it for it in found if len(it) < (most if bug.is_copied else MOST) and is_apart(bug, it)), None)
         if batch is None:
             found.append(batch := [])
         batch.append(bug)
     return found
 
 
-def said_with(name, texts):
-    """What the check of a crate says with these texts in place of its own, over a copy of its cached proofs."""
+def said_with(name, texts, only=()):
+    """What the check of a crate, or of these functions, says with these texts in place of its own, over a copy of its cached proofs."""
     lines = []
     with room(name) as made:
         for file, text in texts.items():
             (made / file).parent.mkdir(parents=True, exist_ok=True)
             (made / file).write_text(text, encoding="utf-8")
-        status = run(["rt", "check", "--jobs", "1"], made, lines.append)
+        status = run(["rt", "check", "--jobs", "1", *(word for it in only for word in ("--only", it))], made, lines.append)
     return "".join(lines).rstrip("\n").split("\n"), status
 
 
@@ -238,7 +239,8 @@ def try_all(name, bugs):
                 text = (crate / file).read_text(encoding="utf-8")
             if text is not None:
                 planted.texts[file] = without(text, goals)
-        lines, status = said_with(name, planted.texts)
+        # (of a whole check the toolchain also writes how to go on with each open proof)
+        lines, status = said_with(name, planted.texts, [it.copy for it in left] if left[0].is_copied else ())
         first = first or (lines, status, planted.texts)
         if status != 1 or any(is_unreadable(it, planted.texts) for it in lines):
             break
