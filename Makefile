@@ -9,6 +9,7 @@
 # make c                   proves and builds the library for C: out/c/libimgref.a, libimgref.so, imgref.pc
 # make install PREFIX=..   builds it, and installs it with its header
 # make docs                writes docs/API.md and docs/INNER.md: every public call with its contract
+# make exports             writes the exports for cells of 2, 4 and 8 bytes from those for one byte
 # make bench [BENCH=..]    times the calls and the program beside plain loops; BENCH: options of tools/bench.py
 #
 # SCRIPT=- takes the script from standard input. With DESTDIR=.., make install puts its files below that folder.
@@ -17,7 +18,7 @@ SCRIPT ?= examples/first.script
 PREFIX ?= /usr/local
 export SCRIPT BUGS
 
-.PHONY: try run check test gate times frames c install docs bench
+.PHONY: try run check test gate times frames c install docs exports bench
 
 try:
 	@python3 tools/program.py try
@@ -48,6 +49,9 @@ install:
 
 docs:
 	@python3 tools/api_page.py
+
+exports:
+	@python3 tools/exports.py
 
 bench:
 	@python3 tools/bench.py $(BENCH)

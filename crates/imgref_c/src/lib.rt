@@ -5,8 +5,8 @@
 //! stays trusted that a pointer and a length are those of memory that the caller lends for the
 //! call.
 //!
-//! Each call on cells is one generic function, followed by its exports for cells of one, two, four
-//! and eight bytes. C has no generic functions, and Rattle's macros can't write functions.
+//! Each call on cells is one generic function. Its exports for cells of one, two, four and eight
+//! bytes are in the files of those names.
 #![tactic(auto)]
 
 mod images;
@@ -16,5 +16,9 @@ mod parts;
 mod places;
 mod status;
 mod tiles;
+mod u16_exports;
+mod u32_exports;
+mod u64_exports;
+mod u8_exports;
 mod window;
 mod windows;

@@ -8,7 +8,7 @@ use crate::status::Status;
 use image_ops::join_rows;
 
 // The rows are joined at the front of the cells; the cells after them stay.
-fn pack<T: Copy>(cells: &mut [T], claimed: ClaimedShape) -> Status
+pub(crate) fn pack<T: Copy>(cells: &mut [T], claimed: ClaimedShape) -> Status
     ensures status { result
         ≡ image_status (length cells.old) claimed.width claimed.height claimed.stride }
     ensures packs { Packs (code result)
@@ -19,64 +19,4 @@ fn pack<T: Copy>(cells: &mut [T], claimed: ClaimedShape) -> Status
     }
     join_rows(cells, claimed.shape());
     Status::Done
-}
-
-/// The rows are joined at the front of the cells; the cells after them stay.
-#[unsafe(no_mangle)]
-pub extern "C" fn imgref_u8_pack(
-    cells: &mut [u8],
-    width: usize,
-    height: usize,
-    stride: usize,
-) -> u32
-    ensures status { result ≡ code (image_status (length cells.old) width height stride) }
-    ensures packs { Packs result (layout cells.old width height stride) cells.new }
-{
-    let claimed = ClaimedShape::new(width, height, stride);
-    pack::<u8>(cells, claimed).code()
-}
-
-/// The rows are joined at the front of the cells; the cells after them stay.
-#[unsafe(no_mangle)]
-pub extern "C" fn imgref_u16_pack(
-    cells: &mut [u16],
-    width: usize,
-    height: usize,
-    stride: usize,
-) -> u32
-    ensures status { result ≡ code (image_status (length cells.old) width height stride) }
-    ensures packs { Packs result (layout cells.old width height stride) cells.new }
-{
-    let claimed = ClaimedShape::new(width, height, stride);
-    pack::<u16>(cells, claimed).code()
-}
-
-/// The rows are joined at the front of the cells; the cells after them stay.
-#[unsafe(no_mangle)]
-pub extern "C" fn imgref_u32_pack(
-    cells: &mut [u32],
-    width: usize,
-    height: usize,
-    stride: usize,
-) -> u32
-    ensures status { result ≡ code (image_status (length cells.old) width height stride) }
-    ensures packs { Packs result (layout cells.old width height stride) cells.new }
-{
-    let claimed = ClaimedShape::new(width, height, stride);
-    pack::<u32>(cells, claimed).code()
-}
-
-/// The rows are joined at the front of the cells; the cells after them stay.
-#[unsafe(no_mangle)]
-pub extern "C" fn imgref_u64_pack(
-    cells: &mut [u64],
-    width: usize,
-    height: usize,
-    stride: usize,
-) -> u32
-    ensures status { result ≡ code (image_status (length cells.old) width height stride) }
-    ensures packs { Packs result (layout cells.old width height stride) cells.new }
-{
-    let claimed = ClaimedShape::new(width, height, stride);
-    pack::<u64>(cells, claimed).code()
 }

@@ -1,0 +1,165 @@
+//! Made from `u8_exports.rt` by `make exports`: the same exports, for cells of type `u64`.
+
+ghost use Rattle.std.specs.Prelude.{◌≡◌, ◌==◌, ◌↔◌, IsTrue, length, Some};
+ghost use Rattle.imgref_c.specs.Words.{code, copy_status, from_c, grid_of, image_status, layout, mosaic_of, mosaic_status, move_status, pair_status, place_status, seen, uniform, window_status, Agree, Gives, Packs, Writes};
+
+use crate::images::ClaimedShape;
+use crate::window::ImgrefWindow;
+use crate::{packing, pairs, places, windows};
+
+/// Writes the pixel in column `x` of row `y` to `pixel`.
+#[unsafe(no_mangle)]
+pub extern "C" fn imgref_u64_get(
+    cells: &[u64],
+    width: usize,
+    height: usize,
+    stride: usize,
+    x: usize,
+    y: usize,
+    pixel: &mut u64,
+) -> u32
+    ensures status { result ≡ code (place_status (length cells.now) width height stride x y) }
+    ensures gives { Gives result pixel.old pixel.new
+        ((grid_of (layout cells.now width height stride)).pixel x y ≡ Some pixel.new) }
+{
+    let claimed = ClaimedShape::new(width, height, stride);
+    places::get(cells, claimed, (x, y), pixel).code()
+}
+
+/// The pixel in column `x` of row `y` becomes `value`.
+#[unsafe(no_mangle)]
+pub extern "C" fn imgref_u64_put(
+    cells: &mut [u64],
+    width: usize,
+    height: usize,
+    stride: usize,
+    x: usize,
+    y: usize,
+    value: u64,
+) -> u32
+    ensures status { result ≡ code (place_status (length cells.old) width height stride x y) }
+    ensures writes { Writes result width height stride cells.old cells.new x y (uniform 1 1 value) }
+{
+    let claimed = ClaimedShape::new(width, height, stride);
+    places::put(cells, claimed, (x, y), value).code()
+}
+
+/// Every pixel of the window becomes `value`.
+#[unsafe(no_mangle)]
+pub extern "C" fn imgref_u64_fill_window(
+    cells: &mut [u64],
+    width: usize,
+    height: usize,
+    stride: usize,
+    window: ImgrefWindow,
+    value: u64,
+) -> u32
+    ensures status { result
+        ≡ code (window_status (length cells.old) width height stride (from_c window)) }
+    ensures writes { Writes result width height stride cells.old cells.new window.left window.top
+        (uniform window.width window.height value) }
+{
+    let claimed = ClaimedShape::new(width, height, stride);
+    windows::fill_window(cells, claimed, window.as_window(), value).code()
+}
+
+/// Each tile of the window, from its corner on, gets the old pixel at the tile's corner.
+#[unsafe(no_mangle)]
+pub extern "C" fn imgref_u64_mosaic(
+    cells: &mut [u64],
+    width: usize,
+    height: usize,
+    stride: usize,
+    window: ImgrefWindow,
+    tile_width: usize,
+    tile_height: usize,
+) -> u32
+    ensures status { result ≡ code (mosaic_status (length cells.old) width height stride
+        (from_c window) tile_width tile_height) }
+    ensures writes { Writes result width height stride cells.old cells.new window.left window.top
+        (mosaic_of tile_width tile_height (seen width height stride cells.old (from_c window))) }
+{
+    let claimed = ClaimedShape::new(width, height, stride);
+    windows::mosaic(cells, claimed, window.as_window(), tile_width, tile_height).code()
+}
+
+/// The window `to` gets the pixels that the window `from` had; the two may overlap.
+#[unsafe(no_mangle)]
+pub extern "C" fn imgref_u64_move_window(
+    cells: &mut [u64],
+    width: usize,
+    height: usize,
+    stride: usize,
+    from: ImgrefWindow,
+    to: ImgrefWindow,
+) -> u32
+    ensures status { result
+        ≡ code (move_status (length cells.old) width height stride (from_c from) (from_c to)) }
+    ensures writes { Writes result width height stride cells.old cells.new to.left to.top
+        (seen width height stride cells.old (from_c from)) }
+{
+    let claimed = ClaimedShape::new(width, height, stride);
+    windows::move_window(cells, claimed, from.as_window(), to.as_window()).code()
+}
+
+/// The window gets the pixels of `source`, which has its size.
+#[unsafe(no_mangle)]
+pub extern "C" fn imgref_u64_copy_window(
+    cells: &mut [u64],
+    width: usize,
+    height: usize,
+    stride: usize,
+    window: ImgrefWindow,
+    source: &[u64],
+    source_width: usize,
+    source_height: usize,
+    source_stride: usize,
+) -> u32
+    ensures status { result ≡ code (copy_status (length cells.old) width height stride
+        (from_c window) (length source.now) source_width source_height source_stride) }
+    ensures writes { Writes result width height stride cells.old cells.new window.left window.top
+        (grid_of (layout source.now source_width source_height source_stride)) }
+{
+    let claimed = ClaimedShape::new(width, height, stride);
+    let claimed_source = ClaimedShape::new(source_width, source_height, source_stride);
+    pairs::copy_window(cells, claimed, source, claimed_source, window.as_window()).code()
+}
+
+/// Writes to `equal` whether two images have the same size and equal pixels at every place.
+#[unsafe(no_mangle)]
+pub extern "C" fn imgref_u64_equal(
+    cells: &[u64],
+    width: usize,
+    height: usize,
+    stride: usize,
+    other: &[u64],
+    other_width: usize,
+    other_height: usize,
+    other_stride: usize,
+    equal: &mut bool,
+) -> u32
+    ensures status { result ≡ code (pair_status (length cells.now) width height stride
+        (length other.now) other_width other_height other_stride) }
+    ensures gives { Gives result equal.old equal.new
+        (IsTrue equal.new ↔ Agree ◌==◌ (grid_of (layout cells.now width height stride))
+        (grid_of (layout other.now other_width other_height other_stride))) }
+{
+    let claimed = ClaimedShape::new(width, height, stride);
+    let claimed_other = ClaimedShape::new(other_width, other_height, other_stride);
+    pairs::equal_images(cells, claimed, other, claimed_other, equal).code()
+}
+
+/// The rows are joined at the front of the cells; the cells after them stay.
+#[unsafe(no_mangle)]
+pub extern "C" fn imgref_u64_pack(
+    cells: &mut [u64],
+    width: usize,
+    height: usize,
+    stride: usize,
+) -> u32
+    ensures status { result ≡ code (image_status (length cells.old) width height stride) }
+    ensures packs { Packs result (layout cells.old width height stride) cells.new }
+{
+    let claimed = ClaimedShape::new(width, height, stride);
+    packing::pack(cells, claimed).code()
+}
