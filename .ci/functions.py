@@ -5,7 +5,9 @@ A file is read by its layout, which `rt fmt` makes: a function ends at the first
 import dataclasses
 import re
 
-HEAD = re.compile(r"( *)((?:pub(?:\(\w+\))? )?(?:const )?(?:unsafe )?)fn (\w+)")
+from items import braced
+
+HEAD = re.compile(r"( *)((?:pub(?:\(\w+\))? )?(?:const )?(?:unsafe )?(?:extern \"C\" )?)fn (\w+)")
 OWNER = re.compile(r"(?:unsafe )?(impl|(?:pub(?:\(\w+\))? )?trait)\b(.*)")
 # What only one function may have: a name for the linker, or a place in a cycle of calls.
 UNIQUE = re.compile(r"\s*#\[.*\b(?:export_name|no_mangle|cycle|test|cfg)\b")
@@ -61,6 +63,43 @@ def function_at(text, part):
     body = "\n".join(lines[head + 1 : end])
     is_unique = any(UNIQUE.match(it) for it in lines[start:head]) or at >= end
     return Function(name, number, start, end, owner_of(lines, head, indent), is_unique, bool(re.search(rf"\b{name}\b *(?:::<[^;(]*>)?\(", body)))
+
+
+def span_of(text, name):
+    """The lines of the function of that name, from 0 and the end after the last, with its doc lines. Raises ValueError without one."""
+    found = next((line for line, it in function_names(text) if it == name), None)
+    if found is None:
+        raise ValueError(f"error: there is no function {name}")
+    lines = text.split("\n")
+    start, indent = found, HEAD.match(lines[found])[1]
+    while start and lines[start - 1].strip().startswith(("#[", "//")):
+        start -= 1
+    return start, lines.index(f"{indent}}}", found) + 1
+
+
+def with_function(text, name, change):
+    """The text of a file in which that function became what `change` makes of its text. Raises ValueError where that is the same."""
+    lines = text.split("\n")
+    start, end = span_of(text, name)
+    old = "\n".join(lines[start:end])
+    new = change(old)
+    if new == old:
+        raise ValueError(f"error: {name} is not changed")
+    return "\n".join([*lines[:start], new, *lines[end:]])
+
+
+def with_head(function, statement):
+    """The text of a function with that statement at the head of its body."""
+    head, brace, body = re.match(r"(?s)(.*?fn .*?\n?)( *\{\n|(?<= )\{\n)(.*)", function).groups()
+    return f"{head}{brace}{statement}\n{body}"
+
+
+def without_clause(function, name):
+    """The text of a function without its clause of that name. Raises ValueError where it has not one."""
+    opened = [*re.finditer(rf"(?m)^ *ensures\*? {name} (?=\{{)", function)]
+    if len(opened) != 1:
+        raise ValueError(f"error: there are {len(opened)} clauses {name}")
+    return function[: opened[0].start()] + function[braced(function, opened[0].end()) + 2 :]
 
 
 def owner_of(lines, head, indent):

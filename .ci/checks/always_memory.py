@@ -13,6 +13,7 @@ import sys
 
 sys.path.insert(0, str(pathlib.Path(__file__).resolve().parent.parent))
 from checking import Cases, changeable_copy
+from functions import with_function, with_head
 
 # No machine has so many bytes.
 NO_ROOM = "let _room: Vec<u8> = Vec::with_capacity(alloc, usize::MAX)?;"
@@ -43,14 +44,6 @@ def keep_tests(crate, files):
             (crate / f"src/tests/{name}.rt").unlink()
 
 
-def with_head(text, name, head):
-    """The file with that statement at the head of that function."""
-    changed, count = re.subn(rf"^( *)(pub fn {name}\b.*?\n\1\{{\n)", rf"\1\2{head}\n", text, count=1, flags=re.M | re.S)
-    if count != 1:
-        raise ValueError(f"error: there is no function {name}")
-    return changed
-
-
 def tests_of(crate):
     """How many tests of a crate pass and fail, or nothing where they are not run."""
     said = subprocess.run(["rt", "try", "--test", "--seconds", "600"], cwd=crate, stdin=subprocess.DEVNULL, stdout=subprocess.PIPE, stderr=subprocess.STDOUT, text=True).stdout
@@ -70,7 +63,7 @@ def main():
             path = copy / "crates" / crate / f"src/{file}.rt"
             whole = path.read_text()
             try:
-                path.write_text(with_head(whole, name, head))
+                path.write_text(with_function(whole, name, lambda it: with_head(it, head)))
                 found = tests_of(copy / "crates" / tests)
             except ValueError as why:
                 found = str(why)

@@ -1,36 +1,40 @@
 #!/usr/bin/env python3
-"""Shows that what `make run` says of its progress moves, on a log that was recorded (.ci/recorded/build.log).
-
-It is the log of the proofs of a crate and of those below it, from nothing. Each line has the second, the crate, and
-what the prover said, or that the proof of the crate begins or ends. They are given to the same class that `make run` shows,
-second by second.
-"""
+"""Shows that what `make run` says of its progress moves: the prover's lines of three crates go to the same class, second by second."""
 import pathlib
 import re
 import sys
 
 sys.path.insert(0, str(pathlib.Path(__file__).resolve().parent.parent))
-from checking import ROOT, Cases
+from checking import Cases
 from proving import Progress
 
-LOG = ROOT / ".ci/recorded/build.log"
-FUNCTIONS = re.compile(r"so far: \d+ of (\d+) functions checked")
 SHARE = re.compile(r"\d+:\d\d +(\d+) %")
+# Crates that are proved one after the other: how many functions each has, and the seconds before the first and of each.
+CRATES = {"shapes": (34, 20, 0.5), "images": (88, 24, 1.5), "program": (41, 40, 1)}
+
+
+def said():
+    """What the prover says: the second, the crate, and the line, or that its proof begins or ends."""
+    second = 0.0
+    for name, (count, loading, each) in CRATES.items():
+        yield second, name, "begins"
+        second += loading
+        for number in range(1, count + 1):
+            second += each
+            yield second, name, f"so far: {number} of {count} functions checked"
+        yield second, name, "ends"
 
 
 def shown(lines):
     """What is shown in each second, from 0 to the last."""
-    names = list(dict.fromkeys(it[1] for it in lines))
-    # (one chain in the order of the log: only that the shares move is looked at)
-    now = [0.0]
-    # (the sources of that day are gone, so a crate weighs by the functions that its log counts)
-    found = {it[1]: int(counted[1]) for it in lines if (counted := FUNCTIONS.match(it[2]))}
-    progress = Progress({it: 10 + found.get(it, 0) for it in names}, dict(zip(names, [[], *[[it] for it in names]])), lambda: now[0])
+    names, now = [*CRATES], [0.0]
+    weights = {name: 10 + count for name, (count, _, _) in CRATES.items()}
+    progress = Progress(weights, dict(zip(names, [[], *[[it] for it in names]])), lambda: now[0])
     texts, at = [], 0
     for second in range(int(lines[-1][0]) + 2):
         while at < len(lines) and lines[at][0] <= second:
-            now[0], (_, name, said) = lines[at][0], lines[at]
-            {"begins": progress.begin, "ends": progress.end}.get(said, lambda it: progress.hear(it, said))(name)
+            now[0], (_, name, line) = lines[at][0], lines[at]
+            {"begins": progress.begin, "ends": progress.end}.get(line, lambda it: progress.hear(it, line))(name)
             at += 1
         now[0] = float(second)
         texts.append(progress.text())
@@ -39,9 +43,7 @@ def shown(lines):
 
 def main():
     cases = Cases()
-    fields = [it.split("\t", 2) for it in LOG.read_text().splitlines()]
-    lines = [(float(second), name, said) for second, name, said in fields]
-    texts = shown(lines)
+    texts = shown([*said()])
     shares = [int(SHARE.match(it)[1]) for it in texts]
     cases.count("the share never falls", all(a <= b for a, b in zip(shares, shares[1:])), str(shares))
     cases.count("it ends with the whole", shares[-1] == 100, texts[-1])

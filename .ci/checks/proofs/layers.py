@@ -8,6 +8,7 @@ may the crate's entry be, which stands on it: `replay_into` is what users call. 
 its clauses, is still accepted, and fails the case.
 """
 import concurrent.futures
+import functools
 import pathlib
 import re
 import subprocess
@@ -15,6 +16,7 @@ import sys
 
 sys.path.insert(0, str(pathlib.Path(__file__).resolve().parents[2]))
 from checking import Cases
+from functions import with_function, without_clause
 from proving import Progress, processors, prove_changed, weights_of
 from workspace import room, with_those_below
 
@@ -39,30 +41,11 @@ CASES = [
 ]
 
 
-def clause(name):
-    return re.compile(rf"^ *ensures\*? {name} \{{.*?\}}\n(?= *(?:ensures\b|\{{))", re.M | re.S)
-
-
-def span(text, name):
-    """Where that function's text begins and ends, with its doc comment."""
-    found = re.search(rf"(?:^ *///?[^\n]*\n)*^( *)(?:pub )?fn {name}\b.*?^\1\}}\n", text, re.M | re.S)
-    if not found:
-        raise ValueError(f"error: there is no function {name}")
-    return found.span()
-
-
 def without(text, name, clauses, more):
     """The file without those clauses of that function, and without those functions."""
-    start, end = span(text, name)
-    function = text[start:end]
-    for it in clauses:
-        function, count = clause(it).subn("", function)
-        if count != 1:
-            raise ValueError(f"error: {name} has {count} clauses {it}")
-    text = text[:start] + function + text[end:]
+    text = with_function(text, name, lambda it: functools.reduce(without_clause, clauses, it))
     for it in more:
-        start, end = span(text, it)
-        text = text[:start] + text[end:]
+        text = with_function(text, it, lambda _: "")
     return text
 
 

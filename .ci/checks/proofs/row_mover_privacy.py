@@ -12,19 +12,12 @@ import sys
 
 sys.path.insert(0, str(pathlib.Path(__file__).resolve().parents[2]))
 from checking import Cases
+from functions import with_function
 from proving import Progress, prove_changed, weights_of
 from workspace import room, with_those_below
 
 MOVER, MOVES = "src/mover.rt", "src/moves.rt"
 BY_HAND = "shift_counted_but_written_by_hand"
-
-
-def function(text, name):
-    """Where that function's text begins and ends, with its doc comment."""
-    found = re.search(rf"(?:^    //[^\n]*\n)*^    pub fn {name}\(.*?^    \}}\n", text, re.M | re.S)
-    if not found:
-        raise ValueError(f"error: there is no function {name}")
-    return found.span()
 
 
 def writes_count(text):
@@ -68,12 +61,7 @@ def said_of(file, name, change):
     """What rt check says of the crate with that function of that file changed."""
     with room("row_mover") as crate:
         path = crate / file
-        whole = path.read_text(encoding="utf-8")
-        start, end = function(whole, name)
-        changed = change(whole[start:end])
-        if changed == whole[start:end]:
-            raise ValueError(f"error: {name} is not changed")
-        path.write_text(whole[:start] + changed + whole[end:], encoding="utf-8")
+        path.write_text(with_function(path.read_text(encoding="utf-8"), name, change), encoding="utf-8")
         return subprocess.run(["rt", "check"], cwd=crate, stdin=subprocess.DEVNULL, stdout=subprocess.PIPE, stderr=subprocess.STDOUT, text=True).stdout
 
 
