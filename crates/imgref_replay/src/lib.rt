@@ -1,5 +1,4 @@
-//! Commands over images: nested windows, and lists of commands with their replies. The crate also
-//! re-exports the tiles and the bands of `image_tiles`.
+//! Commands over images: nested windows, and lists of commands with their replies.
 #![tactic(auto)]
 
 mod copy;
@@ -9,7 +8,6 @@ mod run;
 mod step;
 
 pub use image_commands::{Command, Place, Refusal, Reply};
-pub use image_tiles::{BandsMut, TileCursor, TilesMut, Tiling};
 pub use imgref::Window;
 pub use path::{into_window_at, window_at};
 pub use run::{replay, replay_into, two_layouts};
