@@ -82,7 +82,7 @@ def is_alive(process):
         os.killpg(process.pid, 0)
     except OSError:
         return False
-    # (one that has ended, and that a thread hasn't waited for yet, is none)
+    # (one that has ended, and that a thread hasn't waited for yet, doesn't count)
     return process.poll() is None
 
 

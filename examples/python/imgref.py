@@ -45,7 +45,7 @@ _STATUS = ("done", "not an image", "the window is outside", "sizes differ", "the
 
 
 class Refused(ValueError):
-    """What the library answered in place of IMGREF_OK: nothing has changed."""
+    """The status that the library returned, which isn't IMGREF_OK: nothing has changed."""
 
     def __init__(self, status: int):
         super().__init__(_STATUS[status] if status < len(_STATUS) else f"status {status}")
@@ -108,7 +108,7 @@ def _library():
 
 
 def _declare(found):
-    """Says what each call of the library takes and answers."""
+    """Says what each call of the library takes and returns."""
     status, out = ctypes.c_uint32, ctypes.POINTER
     calls = {
         "is_image": ([_size] * 4, ctypes.c_bool),
@@ -322,7 +322,7 @@ class Image:
         self._call("move_window", _window(source), _window(target))
 
     def mosaic(self, window: Corners, tile_width: int, tile_height: int) -> None:
-        """Each tile of the window, from its corner on, gets the pixel that stood at the tile's corner."""
+        """Each tile of the window, from its corner on, gets the pixel that was at the tile's corner."""
         self._call("mosaic", _window(window), _number(tile_width), _number(tile_height))
 
     def pack(self) -> None:

@@ -137,7 +137,7 @@ impl Shape {
 
     fn stretch(self, len: usize, window: Window) -> Result<std::ops::Range<usize>, Refused> {
         let (mut start, mut count) = (0, 0);
-        // SAFETY: two numbers of this function's own take the answer.
+        // SAFETY: two numbers of this function's own take the result.
         done(unsafe { imgref_window(len, self.width, self.height, self.stride, window, &mut start, &mut count) })?;
         Ok(start..start + count)
     }
@@ -149,11 +149,11 @@ impl Shape {
     /// The windows of the tiles of this size, line by line.
     pub fn tiles(self, tile_width: usize, tile_height: usize) -> Result<impl Iterator<Item = Window>, Refused> {
         let mut count = 0;
-        // SAFETY: a number of this function's own takes the answer.
+        // SAFETY: a number of this function's own takes the result.
         done(unsafe { imgref_tile_count(self.width, self.height, tile_width, tile_height, &mut count) })?;
         Ok((0..count).map(move |number| {
             let mut tile = Window::default();
-            // SAFETY: a window of this closure's own takes the answer.
+            // SAFETY: a window of this closure's own takes the result.
             let answer = done(unsafe { imgref_tile(self.width, self.height, tile_width, tile_height, number, &mut tile) });
             debug_assert_eq!(answer, Ok(()));
             tile
@@ -258,7 +258,7 @@ impl<'a, T: Cell> ImageMut<'a, T> {
         done(unsafe { (T::CALLS.move_window)(self.cells.as_mut_ptr(), self.cells.len(), width, height, stride, from, to) })
     }
 
-    /// Each tile of the window, from its corner on, gets the pixel that stood at the tile's corner.
+    /// Each tile of the window, from its corner on, gets the pixel that was at the tile's corner.
     pub fn mosaic(&mut self, window: Window, tile_width: usize, tile_height: usize) -> Result<(), Refused> {
         let Shape { width, height, stride } = self.shape;
         done(unsafe { (T::CALLS.mosaic)(self.cells.as_mut_ptr(), self.cells.len(), width, height, stride, window, tile_width, tile_height) })
