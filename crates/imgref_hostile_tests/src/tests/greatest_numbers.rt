@@ -203,8 +203,8 @@ fn is_too_large(alloc: Global, (width, height, stride): Size) -> Result<bool, Al
     Ok(!owned.is_valid() && !view.is_valid() && !lent.is_valid())
 }
 
-// Where a product or a sum overflows, so many cells seem enough: 1, 1, 0, 0, 1, 3, 5, and 3 thrice. The
-// last two overflow nowhere.
+// Where a product or a sum overflows, so many cells seem enough: 1, 1, 0, 0, 1, 3, 5, and 3
+// thrice. The last two overflow nowhere.
 #[test]
 fn no_product_of_a_stride_wraps(rt: HostRuntime) -> Result<(), Fail> {
     for (width, height, stride) in [

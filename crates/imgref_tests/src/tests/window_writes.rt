@@ -84,7 +84,7 @@ fn the_whole_image_is_written_through(rt: HostRuntime) -> Result<(), Fail> {
     Ok(())
 }
 
-// Writes through the parts of a window, and returns whether they are those of the image of nine cells.
+// Writes through the parts of a window, and returns whether they are those of nine cells.
 fn writes_in_parts(owner: &mut ImgVec<u8>) -> bool {
     if !owner.is_valid() || !owner.has_window(1, 0, 2, 1) {
         return false;
