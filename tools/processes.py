@@ -17,6 +17,8 @@ OWN_GROUP = {"process_group": 0} if sys.version_info >= (3, 11) else {"preexec_f
 PATIENCE, PATIENCE_OF_SESSION = 10, 60
 RUNNING, SESSIONS, LOCK = set(), set(), threading.Lock()
 is_ending = False
+# Whether the main thread is starting a command, which a signal mustn't interrupt: nobody would know of it.
+is_main_starting, has_signal = False, False
 
 
 class Ending(Exception):
@@ -26,7 +28,7 @@ class Ending(Exception):
 @contextlib.contextmanager
 def started(words, in_session=False, **how):
     """Starts a command in a group of its own, or in a session of its own, which is there until the end of the block."""
-    with LOCK:
+    with LOCK, signals_wait():
         if is_ending:
             raise Ending()
         process = subprocess.Popen([str(it) for it in words], **({"start_new_session": True} if in_session else OWN_GROUP), **how)
@@ -35,7 +37,7 @@ def started(words, in_session=False, **how):
             SESSIONS.add(process)
     if is_ending:
         # (a signal came while it was being started, and may not have seen it)
-        kill(process, signal.SIGKILL)
+        end(process)
     try:
         with process:
             try:
@@ -46,6 +48,22 @@ def started(words, in_session=False, **how):
                 raise
     finally:
         RUNNING.discard(process)
+
+
+@contextlib.contextmanager
+def signals_wait():
+    """Has a signal wait until the end of the block, where the main thread runs it."""
+    global is_main_starting
+    if threading.current_thread() is not threading.main_thread():
+        yield
+        return
+    is_main_starting = True
+    try:
+        yield
+    finally:
+        is_main_starting = False
+        if has_signal:
+            interrupt()
 
 
 def run_to_end(words, **how):
@@ -61,6 +79,15 @@ def kill(process, number):
     if process.returncode is None:
         with contextlib.suppress(OSError):
             os.killpg(process.pid, number)
+
+
+def end(process):
+    """Ends a command: by TERM, so that it ends what it started itself, and by KILL where that takes too long."""
+    kill(process, signal.SIGTERM)
+    try:
+        process.wait(PATIENCE)
+    except subprocess.TimeoutExpired:
+        kill(process, signal.SIGKILL)
 
 
 def end_all():
@@ -86,15 +113,23 @@ def is_alive(process):
     return process.poll() is None
 
 
+def interrupt():
+    """Ends all commands, and then interrupts this process as Ctrl-C does."""
+    for it in (signal.SIGTERM, signal.SIGHUP, signal.SIGINT):
+        # (a signal that is ignored would be ignored in what starts now, too)
+        signal.signal(it, lambda *_: None)
+    end_all()
+    raise KeyboardInterrupt
+
+
 def end_on_signals():
     """Has TERM and HUP end this process as Ctrl-C does: by KeyboardInterrupt, once all that it started has ended."""
 
-    def end(number, _):
-        for it in (signal.SIGTERM, signal.SIGHUP, signal.SIGINT):
-            # (a signal that is ignored would be ignored in what starts now, too)
-            signal.signal(it, lambda *_: None)
-        end_all()
-        raise KeyboardInterrupt
+    def take(*_):
+        global has_signal
+        has_signal = True
+        if not is_main_starting:
+            interrupt()
 
-    for number in (signal.SIGTERM, signal.SIGHUP, signal.SIGINT):
-        signal.signal(number, end)
+    for it in (signal.SIGTERM, signal.SIGHUP, signal.SIGINT):
+        signal.signal(it, take)
