@@ -16,7 +16,7 @@ import sys
 
 from processes import end_on_signals, run_to_end
 from program import built, say
-from workspace import ROOT, is_fresh, product
+from workspace import ROOT, held, is_fresh, product
 
 NAME = "imgref_c"
 HEADER = ROOT / "include/imgref.h"
@@ -57,7 +57,6 @@ def toolchain():
 
 def link(archive):
     """Links an archive into one object that exports only the header's names, and makes both libraries from it."""
-    OUT.mkdir(parents=True, exist_ok=True)
     whole, shared, static = OUT / "imgref.o", OUT / f"libimgref.so.{ABI}", OUT / "libimgref.a"
     static.unlink(missing_ok=True)
     command(*compiler(), "-r", "-nostdlib", "-o", whole, "-Wl,--whole-archive", archive, "-Wl,--no-whole-archive", *toolchain())
@@ -85,8 +84,10 @@ def build():
     """Builds what has changed."""
     if built(NAME):
         raise Failure(f"{NAME} is not proved")
-    if not is_fresh(OUT / "libimgref.a", NAME):
-        link(product(NAME))
+    OUT.mkdir(parents=True, exist_ok=True)
+    with held(OUT):
+        if not is_fresh(OUT / "libimgref.a", NAME):
+            link(product(NAME))
     say(f"{OUT.relative_to(ROOT)}/libimgref.a, libimgref.so, imgref.pc")
 
 

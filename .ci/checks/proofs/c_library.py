@@ -1,5 +1,5 @@
 #!/usr/bin/env python3
-"""The library for C as its users have it: built, installed, and called from C, C++, Python and Rust.
+"""The library for C as its users have it: built, installed, and called from C and C++.
 
 It builds over what the proofs left (tools/c_library.py), and installs into a folder of its own. The calls from C run with
 the address and the undefined behaviour sanitizer. What isn't on the machine is named as skipped, and counts as neither.
@@ -8,39 +8,16 @@ import os
 import pathlib
 import re
 import shutil
-import subprocess
 import sys
 import tempfile
 
 sys.path.insert(0, str(pathlib.Path(__file__).resolve().parents[2]))
 from checking import ROOT, Cases
+from library import WARNINGS, counted, installed, run, skipped
 
-WARNINGS = ["-Wall", "-Wextra", "-Werror", "-pedantic"]
-COUNT = re.compile(r"(\d+) passed, (\d+) failed")
-RUST_COUNT = re.compile(r"test result: \w+\. (\d+) passed; (\d+) failed")
 # A picture of 2 by 3 in a frame of 4 by 2: its columns come into the middle, and its last row is cut off.
 PICTURE, FRAME = b"P5\n# two by three\n2 3\n255\nABCDEF", b"P5\n4 2\n255\n\0AB\0\0CD\0"
 COLOURS, WIDE_FRAME = b"P6 1 1 255 rgb", b"P6\n3 1\n255\n\0\0\0rgb\0\0\0"
-
-
-def run(words, **more):
-    """Runs a command: its status, what it wrote, and what it said besides."""
-    ran = subprocess.run([str(it) for it in words], stdin=more.pop("stdin", subprocess.DEVNULL) if "input" not in more else None, capture_output=True, **more)
-    return ran.returncode, ran.stdout, (ran.stdout + ran.stderr).decode(errors="replace")
-
-
-def counted(cases, label, said, status, form=COUNT):
-    """Takes the cases that a program counted."""
-    found = form.search(said)
-    passed, failed = map(int, found.groups()) if found else (0, 1)
-    cases.passed, cases.failed = cases.passed + passed, cases.failed + failed
-    if failed or status:
-        print(said)
-    cases.count(f"{label}: {passed} passed, {failed} failed, and its end", status == 0 and found)
-
-
-def skipped(name):
-    print(f"{name}: skipped, it isn't on this machine")
 
 
 def names(tool_words):
@@ -134,38 +111,16 @@ def check_letterbox(cases, compiler, prefix, room):
     cases.count("letterbox: a picture that is cut off", status == 1 and not wrote)
 
 
-def check_python(cases, prefix):
-    status, _, said = run([sys.executable, "calls.py"], cwd=ROOT / "examples/python", env=os.environ | {"IMGREF_LIBRARY": str(prefix / "lib/libimgref.so"), "PYTHONDONTWRITEBYTECODE": "1"})
-    for line in said.splitlines():
-        if "skipped" in line:
-            print(line)
-    counted(cases, "calls from Python", said, status)
-
-
-def check_rust(cases, prefix, room):
-    if not shutil.which("cargo"):
-        skipped("Rust (cargo)")
-        return
-    crate = shutil.copytree(ROOT / "examples/rust", room / "rust")
-    status, _, said = run(["cargo", "test", "--offline", "--lib"], cwd=crate, env=os.environ | {"IMGREF_LIB": str(prefix / "lib"), "CARGO_TARGET_DIR": str(room / "target")})
-    counted(cases, "calls from Rust", said, status, RUST_COUNT)
-
-
 def main():
     cases, compiler = Cases(), os.environ.get("CC", "cc").split()
     with tempfile.TemporaryDirectory(prefix="c-library-") as room:
         room = pathlib.Path(room)
-        prefix = room / "prefix"
-        status, _, said = run(["make", "-s", "install", f"PREFIX={prefix}"], cwd=ROOT)
-        cases.count("make install", status == 0, said)
-        if status == 0:
+        if prefix := installed(cases, room):
             check_names(cases, compiler, prefix)
             check_c(cases, compiler, prefix, room)
             check_cpp(cases, prefix, room)
             check_staged(cases, prefix, room)
             check_letterbox(cases, compiler, prefix, room)
-            check_python(cases, prefix)
-            check_rust(cases, prefix, room)
     return cases.end()
 
 
