@@ -30,4 +30,4 @@ pub use moving::move_pixels;
 pub use packing::{join_rows, pack};
 pub use pairs::agree_at_places;
 pub use swapping::swap_rows;
-pub use windows::{padded_part, padded_stretch_mut};
+pub use windows::{copy_window, fill_window, mosaic_window, padded_part, padded_stretch_mut};
