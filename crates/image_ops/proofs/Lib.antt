@@ -9,3 +9,4 @@ pub mod Corners
 pub mod Spreading
 pub mod Mosaics
 pub mod PlaceAnswers
+pub mod WindowWrites

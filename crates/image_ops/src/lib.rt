@@ -32,4 +32,4 @@ pub use packing::{join_rows, pack};
 pub use pairs::agree_at_places;
 pub use places::{map_places, zip_pixels};
 pub use swapping::swap_rows;
-pub use windows::{padded_part, padded_stretch_mut};
+pub use windows::{copy_window, fill_window, mosaic_window, padded_part, padded_stretch_mut};

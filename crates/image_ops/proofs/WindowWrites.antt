@@ -1,4 +1,4 @@
--- The part of an image that a window is, written.
+-- An image of which a window is written.
 use Rattle.std.proofs.Common.{◌≡◌, ℕ, ◌-◌, List, ◌++◌, length, take, drop-drop, sym, ap, ◌∙◌, subst}
 use borrow.Rule.Slice.PartMut.{mid_of, put_mid}
 use Rattle.image_model.specs.Layout.{Layout, layout, SameOutside}
@@ -7,7 +7,7 @@ use Rattle.image_model.specs.Windows.{Window, Stretch, exact_window, window_view
 use Rattle.image_model.proofs.Windows.{HasWindow, stretch_window, exact_has, handed_on, handed_on_grid, handed_on_outside, exact_grid}
 use Rattle.image_shape.specs.declared.shape.Shape.{Shape}
 use Rattle.image_shape.specs.Shape.{shaped}
-use Rattle.imgref_c.specs.Part.{IsPart, from_upto}
+use Rattle.image_ops.specs.Part.{IsPart, cells_upto}
 
 -- the cells of a window, in its shape
 module _ {T : Type 0} (cells : List T) (outer inner : Shape) (w : Window) (from upto : ℕ) (p : IsPart (length cells) outer inner w from upto) where
@@ -15,14 +15,14 @@ module _ {T : Type 0} (cells : List T) (outer inner : Shape) (w : Window) (from 
   l = shaped cells outer
 
   abbrev s : Stretch
-  s = from_upto from upto
+  s = cells_upto from upto
 
   -- its cells
   abbrev part : Layout T
   part = shaped (mid_of from (upto - from) cells) inner
 
   sized : (n : List T) → shaped n inner ≡ layout n w.width w.height l.stride
-  sized n = λ i. layout n (p.wide i) (p.high i) (p.same_stride i)
+  sized n = λ i. layout n (p.width i) (p.height i) (p.stride i)
 
   part_is : part ≡ exact_window l w
   part_is = sized (mid_of from (upto - from) cells) ∙ ap (stretch_window l w) p.is
@@ -39,13 +39,13 @@ module _ {T : Type 0} (cells : List T) (outer inner : Shape) (w : Window) (from 
     has = subst (HasWindow (length cells) l.stride w) (sym p.is) (exact_has (length cells) l.stride l.width l.height w p.fits p.inside)
 
     left_is : shaped left outer ≡ handed_on l s n
-    left_is = ap (λ behind. shaped (take from cells ++ (n ++ behind)) outer) (drop-drop (upto - from) from cells)
+    left_is = ap (λ rest. shaped (take from cells ++ (n ++ rest)) outer) (drop-drop (upto - from) from cells)
 
     stays : SameOutside (stretch_window l w s) (shaped n inner)
     stays = subst (λ (m : Layout T). SameOutside m (shaped n inner)) (part_is ∙ sym (ap (stretch_window l w) p.is)) same
 
     pub part_grid : grid_of (shaped left outer) ≡ patch (grid_of l) w.left w.top (grid_of (shaped n inner))
-    part_grid = ap (λ (m : Layout T). grid_of m) left_is ∙ handed_on_grid l w s has (shaped n inner) stays p.narrow p.inside
+    part_grid = ap (λ (m : Layout T). grid_of m) left_is ∙ handed_on_grid l w s has (shaped n inner) stays p.holds_width p.inside
 
     pub part_outside : SameOutside l (shaped left outer)
     part_outside = subst (λ (m : Layout T). SameOutside l m) (sym left_is) (handed_on_outside l w s has (shaped n inner) stays p.inside)
