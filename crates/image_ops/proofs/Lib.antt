@@ -9,3 +9,5 @@ pub mod Corners
 pub mod Spreading
 pub mod Mosaics
 pub mod PlaceAnswers
+pub mod Crossing
+pub mod FromPlaces

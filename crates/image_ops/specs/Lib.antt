@@ -3,3 +3,4 @@ pub mod Mapping
 pub mod Mosaic
 pub mod Pairs
 pub mod CellAnswers
+pub mod Gathered
