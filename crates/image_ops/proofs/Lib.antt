@@ -10,3 +10,5 @@ pub mod Spreading
 pub mod Mosaics
 pub mod PlaceAnswers
 pub mod WindowWrites
+pub mod Crossing
+pub mod FromPlaces

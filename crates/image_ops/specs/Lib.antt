@@ -4,3 +4,4 @@ pub mod Mosaic
 pub mod Pairs
 pub mod CellAnswers
 pub mod Part
+pub mod Gathered
