@@ -162,7 +162,7 @@ def crate_of(name):
 
 
 def home(name, crate):
-    """The crate in whose files a name stands that another crate offers."""
+    """The crate whose files define a name that another crate offers."""
     module = crate_of(crate).exports.get(name)
     return home(name, module) if module in crates() else crate
 
@@ -285,7 +285,7 @@ class Page:
         return self.crates if name in self.crates and self.path.name == "API.md" else [it for _, names, _ in PAGES.values() for it in names]
 
     def offered(self, crate, inlined):
-        """What the crate offers of others that stands elsewhere on the pages."""
+        """The items of other crates that this one offers and that are elsewhere on the pages."""
         links = []
         for name in (it for it in crate.others() if it not in inlined):
             of = home(name, crate.name)

@@ -49,7 +49,7 @@ def main():
     cases.count("it ends with the whole", shares[-1] == 100, texts[-1])
     cases.count("a crate is named from the first second on", all(re.search(r" [a-z_]+ (?:begins|\d+ of \d+)", it) for it in texts[1:-2]), "\n".join(texts[:5]))
     stands = max(map(len, runs(shares[:-1])))
-    cases.count("no share stands for longer than a minute", stands <= 60, f"{stands} seconds")
+    cases.count("no share stays for longer than a minute", stands <= 60, f"{stands} seconds")
     cases.count("functions are counted", any(re.search(r"\d+ of \d+", it) for it in texts))
     cases.count("what is left is told", any("min left" in it for it in texts))
     return cases.end()

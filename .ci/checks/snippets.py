@@ -1,10 +1,10 @@
 #!/usr/bin/env python3
 """The snippets of the documents are true.
 
-A snippet is a run of lines that are indented by four spaces. Those of docs/CALLERS.md, and each function in README.md, stand
-in a file of the crates, which the gate proves: the lines stand one after the other, however far they are indented there. A
+A snippet is a run of lines that are indented by four spaces. Those of docs/CALLERS.md, and each function in README.md, are
+in a file of the crates, which the gate proves: the lines are there in that order, however far they are indented. A
 script in README.md or docs/SCRIPT.md gives what the page says, as the model tells (.ci/model.py). Each file that a document
-links to or names by its folders is there, and each definition that docs/GLOSSARY.md names stands in its file. README.md counts
+links to or names by its folders is there, and each definition that docs/GLOSSARY.md names is in its file. README.md counts
 the tests and the planted bugs that there are.
 """
 import pathlib
@@ -35,15 +35,15 @@ def snippets(page):
 
 
 def quoted(cases, name, texts):
-    """Each snippet of code stands in the crates."""
+    """Each snippet of code is in the crates."""
     for snippet, _ in snippets((ROOT / name).read_text()):
         if name != "README.md" or re.match(r" *(?:pub )?fn ", snippet):
             stands = any(as_lines(snippet) in text for text in texts)
-            cases.count(f"{name}: {snippet.strip().splitlines()[0]}", stands, f"stands in no file of the crates:\n{snippet}")
+            cases.count(f"{name}: {snippet.strip().splitlines()[0]}", stands, f"is in no file of the crates:\n{snippet}")
 
 
 def tried(cases, name):
-    """Each script gives what stands behind it: a snippet, or the beginning of the output within the line."""
+    """Each script gives what comes after it: a snippet, or the beginning of the output within the line."""
     parts = snippets((ROOT / name).read_text())
     for (script, text), (output, _) in zip(parts, [*parts[1:], ("", "")]):
         lines = as_lines(script).strip().splitlines()
@@ -64,7 +64,7 @@ def counted(cases):
 
 
 def missing_files(path):
-    """What a document links to or names that isn't there. A name in capitals stands for any, and what is below `out` is built."""
+    """What a document links to or names that isn't there. A name in capitals means any, and what is below `out` is built."""
     text = path.read_text()
     yield from (it for it in LINK.findall(text) if not (path.parent / it).exists())
     for name in filter(FILE.fullmatch, SPAN.findall(text)):
@@ -75,7 +75,7 @@ def missing_files(path):
 
 
 def undefined(text):
-    """The definitions of the glossary that don't stand in their files, which are in image_model where no folder is named."""
+    """The definitions of the glossary that aren't in their files, which are in image_model where no folder is named."""
     for name, words in DEFINED.findall(text):
         file = ROOT / "crates" / name if "/" in name else ROOT / "crates/image_model/specs" / name
         stands = set(re.findall(r"\w+", file.read_text())) if file.exists() else set()

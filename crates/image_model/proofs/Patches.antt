@@ -130,7 +130,7 @@ of_nothing l x y g left top width height none = sym (is_patch (grid_of l) x y (v
 
 -- ---- in a view
 
--- a rectangle in a view, put where the view was seen, is one at the summed corner
+-- a rectangle in a view, put where the view was seen, is one at the sum of the corners
 pub fill_in_view : {T : Type 0} (g : Grid T) (left top width height x y columns lines : ℕ) (value : T) → x + columns ≤ width → y + lines ≤ height
     → patch g left top (patch (view g left top width height) x y (uniform columns lines value)) ≡ patch g (left + x) (top + y) (uniform columns lines value)
 unfolding uniform

@@ -8,3 +8,4 @@ pub mod Swaps
 pub mod Corners
 pub mod Spreading
 pub mod Mosaics
+pub mod PlaceAnswers

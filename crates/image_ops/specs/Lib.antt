@@ -2,3 +2,4 @@ pub mod Clones
 pub mod Mapping
 pub mod Mosaic
 pub mod Pairs
+pub mod CellAnswers

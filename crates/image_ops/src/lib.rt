@@ -16,6 +16,7 @@ mod mosaic;
 mod moving;
 mod packing;
 mod pairs;
+mod places;
 mod swapping;
 mod windows;
 
@@ -29,5 +30,6 @@ pub use mosaic::mosaic_cells;
 pub use moving::move_pixels;
 pub use packing::{join_rows, pack};
 pub use pairs::agree_at_places;
+pub use places::{map_places, zip_pixels};
 pub use swapping::swap_rows;
 pub use windows::{padded_part, padded_stretch_mut};

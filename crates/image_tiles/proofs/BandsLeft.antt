@@ -81,7 +81,7 @@ module _ {T : Type 0} (xs : List T) (w n s bh : ℕ) (wide : 0 < w) (some : 0 < 
       mul_step : s * (k - 1) + s ≡ s * k
       mul_step = let e : k ≡ suc (k - 1) = omega (arith, some, high) in sym (mul-suc s (k - 1)) ∙ ap (λ i. s * i) (sym e)
 
-  -- the first band comes off, and the padding behind it is skipped next
+  -- the first band comes off, and the padding after it is skipped next
   pub first_off : bands (layout xs w n s) bh ≡ layout (take len xs) w k s ∷ bands (layout rest w (n - k) s) bh
   first_off = grind (arith, counted, first, map_along, further, cond-false, nat_tests)
 

@@ -55,7 +55,7 @@ pub record Order : Type 0 where
 abbrev pub order : List ℕ → List Argument → Order
 order word arguments = record { word = word; arguments = arguments }
 
--- a word, the kinds of what stands after it, and what stands there for a command of this form
+-- a word, the kinds of the fields after it, and what these fields are for a command of this form
 pub record Form : Type 0 where
   pub word : List ℕ
   pub kinds : List Kind
