@@ -94,9 +94,15 @@ export class Stage {
     }
     const whole = `M0 0H${this.canvas.width}V${this.canvas.height}H0Z`;
     dim.setAttribute("d", `${whole}M${left} ${top}h${width}v${height}h${-width}Z`);
-    const size = (matchMedia("(pointer: coarse)").matches ? 24 : 12) / this.scale;
+    // (a finger needs larger ones, which are outside, so that what is between them can be seen)
+    const isCoarse = matchMedia("(pointer: coarse)").matches;
+    const size = (isCoarse ? 24 : 12) / this.scale, out = isCoarse ? size : size / 2;
+    const along = (begin, length, isEnd, most) =>
+      isCoarse ? Math.min(Math.max(isEnd ? begin + length : begin - out, 0), most - size)
+        : begin + isEnd * length - out;
     handles.forEach((it, index) => {
-      const x = left + (index % 2) * width - size / 2, y = top + (index >> 1) * height - size / 2;
+      const x = along(left, width, index % 2, this.canvas.width);
+      const y = along(top, height, index >> 1, this.canvas.height);
       setAll(it, { x, y, width: size, height: size });
     });
   }

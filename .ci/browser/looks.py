@@ -6,7 +6,7 @@ PHONE = {"width": 360, "height": 740, "deviceScaleFactor": 2, "mobile": True}
 # Fields and buttons without a name that a screen reader says.
 NAMELESS = """return [...document.querySelectorAll('button, input, select, textarea, [role=img], [role=group]')]
 .filter((it) => !it.hidden && !(it.textContent.trim() || it.labels?.length || it.getAttribute('aria-label'))).map((it) => it.outerHTML)"""
-# Texts whose contrast with what is behind them is under 4.5, as the browser computes colours.
+# Texts whose contrast with their background is under 4.5, as the browser computes colours.
 FAINT = """const c = document.createElement('canvas').getContext('2d', { willReadFrequently: true });
 const rgb = (s) => { c.clearRect(0, 0, 1, 1); c.fillStyle = s; c.fillRect(0, 0, 1, 1); return [...c.getImageData(0, 0, 1, 1).data]; };
 const light = (v) => v.slice(0, 3).map((x) => x / 255).map((x) => (x <= 0.04045 ? x / 12.92 : ((x + 0.055) / 1.055) ** 2.4))
