@@ -106,7 +106,7 @@ def declared(crate, below, name):
 
 @dataclasses.dataclass
 class Entry:
-    """An item of a crate: where it stands, the words of its clauses, the block that it belongs to, and its anchor."""
+    """An item of a crate: where it is, the words of its clauses, the block that it belongs to, and its anchor."""
 
     crate: str
     path: pathlib.Path

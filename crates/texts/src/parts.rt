@@ -50,7 +50,7 @@ impl<'a> Parts<'a> {
     }
 }
 
-// Where the byte first stands.
+// Where the byte first occurs.
 fn find(bytes: &[u8], byte: u8) -> Option<usize>
     ensures { result ≡ position (λ b. b == byte) bytes.now }
 {
