@@ -24,6 +24,8 @@ IMPORT = re.compile(r'^import \{[^}]*\} from "\./([\w.]+)";\n', re.MULTILINE)
 PORT = 8000
 # How a line begins that is only a comment.
 COMMENTS = ("//", "/**", "/* ", "<!--")
+# What a style sheet means is the same without white space at these marks.
+SPACE = re.compile(r"\s*([{};,]|:(?=\s))\s*")
 
 
 class Failure(Exception):
@@ -86,8 +88,8 @@ def build():
     if not is_fresh(OUT / MODULE, NAME):
         make_module()
     (OUT / FIRST).write_text(slim(bundled(FIRST, set())))
-    for it in ("index.html", "style.css"):
-        (OUT / it).write_text(slim((SOURCES / it).read_text()))
+    (OUT / "index.html").write_text(slim((SOURCES / "index.html").read_text()))
+    (OUT / "style.css").write_text(SPACE.sub(r"\1", slim((SOURCES / "style.css").read_text())))
     size = sum(it.stat().st_size for it in OUT.iterdir())
     say(f"{OUT.relative_to(ROOT)}/index.html, {size // 1000} KB with the files beside it")
 

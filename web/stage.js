@@ -55,8 +55,14 @@ export class Stage {
   /** Chooses the size on the screen. */
   fit() {
     const { width, height } = this.canvas;
-    const room = [this.stage.clientWidth / width, Math.max(240, 0.72 * innerHeight) / height];
-    this.scale = this.actual.checked ? 1 : Math.min(...room, MOST_SCALE);
+    if (this.stage.clientWidth === 0) {
+      // (the other tab is shown)
+      return;
+    }
+    const below = innerHeight - this.stage.getBoundingClientRect().top - scrollY - 16;
+    const high = Math.max(below, 0.6 * innerHeight) / height;
+    const fitting = Math.min((this.stage.clientWidth - 4) / width, high, MOST_SCALE);
+    this.scale = this.actual.checked ? 1 : fitting;
     this.frame.style.width = `${width * this.scale}px`;
     this.frame.style.height = `${height * this.scale}px`;
     this.overlay.style.setProperty("--unit", 1 / this.scale);
@@ -70,10 +76,13 @@ export class Stage {
     groups.slice(edits.length).forEach((it) => it.remove());
     edits.forEach((edit, index) => {
       const group = groups[index] ?? newGroup(this.overlay, index);
-      group.style.display = isOnStage(edit) ? "" : "none";
+      const isShown = isOnStage(edit);
+      group.style.display = isShown ? "" : "none";
       group.setAttribute("class", `${edit.word}${index === selected ? " selected" : ""}`);
       group.setAttribute("aria-label", `${textOf(edit)}, rectangle ${index + 1}`);
-      this.place(group, edit);
+      if (isShown) {
+        this.place(group, edit);
+      }
     });
   }
 
@@ -85,9 +94,15 @@ export class Stage {
     }
     const whole = `M0 0H${this.canvas.width}V${this.canvas.height}H0Z`;
     dim.setAttribute("d", `${whole}M${left} ${top}h${width}v${height}h${-width}Z`);
-    const size = (matchMedia("(pointer: coarse)").matches ? 24 : 12) / this.scale;
+    // (a finger needs larger ones, which are outside, so that what is between them can be seen)
+    const isCoarse = matchMedia("(pointer: coarse)").matches;
+    const size = (isCoarse ? 24 : 12) / this.scale, out = isCoarse ? size : size / 2;
+    const along = (begin, length, isEnd, most) =>
+      isCoarse ? Math.min(Math.max(isEnd ? begin + length : begin - out, 0), most - size)
+        : begin + isEnd * length - out;
     handles.forEach((it, index) => {
-      const x = left + (index % 2) * width - size / 2, y = top + (index >> 1) * height - size / 2;
+      const x = along(left, width, index % 2, this.canvas.width);
+      const y = along(top, height, index >> 1, this.canvas.height);
       setAll(it, { x, y, width: size, height: size });
     });
   }

@@ -9,3 +9,6 @@ pub mod Corners
 pub mod Spreading
 pub mod Mosaics
 pub mod PlaceAnswers
+pub mod WindowWrites
+pub mod Crossing
+pub mod FromPlaces
