@@ -38,11 +38,7 @@ unfolding number_of digits_of
 number_three (a ∷ b ∷ c ∷ xs) long low high low2 high2 low3 high3 = grind (arith, nat_tests)
 number_three _ long low high low2 high2 low3 high3 = absurd (omega arith)
 
-<<<<<<< HEAD
 -- the first of the parts is what comes before the first separator
-=======
--- the first of the parts is read where the separator first occurs
->>>>>>> 0fcc1c26a0e2d9b819f953cde9c2b3a34e8f4dd0
 pub first_at : {A : Type 0} (read : List ℕ → Option A) (separator : ℕ) (xs : List ℕ) (at : ℕ) (x : A) → position (λ b. eqb b separator) xs ≡ Some at → read (take at xs) ≡ Some x
     → first_of_parts read (parts_of separator xs) ≡ Some (x, parts_of separator (take (length xs - (at + 1)) (drop (at + 1) xs)))
 unfolding first_of_parts
