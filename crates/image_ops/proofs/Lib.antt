@@ -11,3 +11,4 @@ pub mod Mosaics
 pub mod PlaceAnswers
 pub mod Crossing
 pub mod FromPlaces
+pub mod PixelsMade

@@ -4,3 +4,5 @@ pub mod Mosaic
 pub mod Pairs
 pub mod CellAnswers
 pub mod Gathered
+pub mod Made
+pub mod Turned
