@@ -37,12 +37,7 @@ pub use packing::{join_rows, pack};
 pub use pairs::agree_at_places;
 pub use places::{map_places, zip_pixels};
 pub use swapping::swap_rows;
-<<<<<<< HEAD
-pub use windows::{copy_window, fill_window, mosaic_window, padded_part, padded_stretch_mut};
-pub use turning::{transpose_pixels, turn_half_pixels, turn_left_pixels, turn_right_pixels};
-=======
 pub use turning::{
     Turn, transpose_pixels, turn_half_pixels, turn_left_pixels, turn_pixels, turn_right_pixels,
 };
-pub use windows::{padded_part, padded_stretch_mut};
->>>>>>> faa90b988ff5a16fc0c3d20dff660d41acbec9ac
+pub use windows::{copy_window, fill_window, mosaic_window, padded_part, padded_stretch_mut};
