@@ -12,3 +12,4 @@ pub mod PlaceAnswers
 pub mod WindowWrites
 pub mod Crossing
 pub mod FromPlaces
+pub mod PixelsMade

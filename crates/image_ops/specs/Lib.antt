@@ -5,3 +5,5 @@ pub mod Pairs
 pub mod CellAnswers
 pub mod Part
 pub mod Gathered
+pub mod Made
+pub mod Turned

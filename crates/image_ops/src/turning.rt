@@ -5,6 +5,7 @@ ghost use Rattle.image_model.specs.Layout.{Fits, SameOutside};
 ghost use Rattle.image_model.specs.Turns.{transposed, turned_right, turned_half, turned_left};
 ghost use Rattle.image_shape.specs.Shape.{shape_width, shape_height, shaped_grid, shaped};
 ghost use Rattle.image_ops.specs.Gathered.{AreGathered};
+ghost use Rattle.image_ops.specs.Turned.{turned, turned_width, turned_height};
 
 use image_rows::row;
 use image_shape::Shape;
@@ -120,5 +121,41 @@ pub fn turn_half_pixels<T: Copy>(cells: &mut [T], shape: Shape, source: &[T], so
         let place = shape.row(cells.len(), y);
         let from = row(source, source_shape, source_shape.height() - 1 - y);
         copy_back(&mut cells[place.range()], from);
+    }
+}
+
+/// A turn of an image, clockwise.
+#[derive(Clone, Copy, PartialEq, Eq)]
+pub enum Turn {
+    /// By a quarter: the first row becomes the last column.
+    Right,
+    /// By a half: the first row becomes the last one, from right to left.
+    Half,
+    /// By three quarters: the first row becomes the first column, from the bottom.
+    Left,
+}
+
+/// Every pixel of `shape` in `cells` becomes the pixel of the turned source at its place; the
+/// padding stays. Both fit (`Shape::fits`), and `shape` has the size of the turned source.
+pub fn turn_pixels<T: Copy>(
+    cells: &mut [T],
+    shape: Shape,
+    source: &[T],
+    source_shape: Shape,
+    turn: Turn,
+)
+    requires fits { Fits (shaped cells.old shape) }
+    requires source_fits { Fits (shaped source.now source_shape) }
+    requires columns { shape_width shape
+        ≡ turned_width turn (shape_width source_shape) (shape_height source_shape) }
+    requires lines { shape_height shape
+        ≡ turned_height turn (shape_width source_shape) (shape_height source_shape) }
+    ensures grid { shaped_grid cells.new shape ≡ turned turn (shaped_grid source.now source_shape) }
+    ensures outside { SameOutside (shaped cells.old shape) (shaped cells.new shape) }
+{
+    match turn {
+        Turn::Right => turn_right_pixels(cells, shape, source, source_shape),
+        Turn::Half => turn_half_pixels(cells, shape, source, source_shape),
+        Turn::Left => turn_left_pixels(cells, shape, source, source_shape),
     }
 }

@@ -38,8 +38,11 @@ unfolding number_of digits_of
 number_three (a ∷ b ∷ c ∷ xs) long low high low2 high2 low3 high3 = grind (arith, nat_tests)
 number_three _ long low high low2 high2 low3 high3 = absurd (omega arith)
 
--- the first of the parts is read where the separator first occurs
+-- the first of the parts is what comes before the first separator
 pub first_at : {A : Type 0} (read : List ℕ → Option A) (separator : ℕ) (xs : List ℕ) (at : ℕ) (x : A) → position (λ b. eqb b separator) xs ≡ Some at → read (take at xs) ≡ Some x
     → first_of_parts read (parts_of separator xs) ≡ Some (x, parts_of separator (take (length xs - (at + 1)) (drop (at + 1) xs)))
 unfolding first_of_parts
 first_at read separator xs at x here found = rw (slice_split-at (λ b. eqb b separator) xs at here, found) refl
+
+-- what reading a number of at most three digits needs
+pub ruleset short_numbers = (at_one, at_two, at_three, number_one, number_two, number_three)

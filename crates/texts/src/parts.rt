@@ -67,7 +67,7 @@ impl<'a> Parts<'a> {
 }
 
 // The number of at most three digits before the first such byte, and how many digits it has.
-#[tactic(auto, using(text_model::proofs::ShortNumbers::at_one, text_model::proofs::ShortNumbers::at_two, text_model::proofs::ShortNumbers::at_three, text_model::proofs::ShortNumbers::number_one, text_model::proofs::ShortNumbers::number_two, text_model::proofs::ShortNumbers::number_three))]
+#[tactic(auto, using(text_model::proofs::ShortNumbers::short_numbers))]
 fn short_number(bytes: &[u8], end: u8) -> Option<(usize, usize)>
     ensures digits { IfSome result
         (λ found. position (λ b. b == end) bytes.now ≡ Some found.1) }
