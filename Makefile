@@ -7,6 +7,7 @@
 #
 # make frames              proves and builds the program for video and pictures: crates/imgref_frames/out/imgref_frames
 # make c                   proves and builds the library for C: out/c/libimgref.a, libimgref.so, imgref.pc
+# make python              builds the package for Python over it, with cffi: out/python/imgref-..whl
 # make install PREFIX=..   builds it, and installs it with its header
 # make web                 proves and builds the page that covers parts of a picture: out/web/index.html
 # make web-serve [PORT=..] the same, and serves it on this machine alone
@@ -20,7 +21,7 @@ SCRIPT ?= examples/first.script
 PREFIX ?= /usr/local
 export SCRIPT BUGS
 
-.PHONY: try run check test gate times frames c install web web-serve docs exports bench
+.PHONY: try run check test gate times frames c python install web web-serve docs exports bench
 
 try:
 	@python3 tools/program.py try
@@ -45,6 +46,9 @@ frames:
 
 c:
 	@python3 tools/c_library.py build
+
+python:
+	@python3 tools/python_package.py build
 
 install:
 	@python3 tools/c_library.py install "$(PREFIX)" "$(DESTDIR)"

@@ -7,7 +7,7 @@
                                     (with BUGS=changed only those of functions that differ from the last landed commit)
     gate.py check                   proofs and tests of what has changed, over cached proofs: no planted bug is tried
 
-Each part ends with 'N passed, M failed'. All that it said is in the folder out/, and is shown where it fails. At the end stands
+Each part ends with 'N passed, M failed'. All that it said is in the folder out/, and is shown where it fails. At the end comes
 a table of the parts, and then a line that adds them up. TERM, HUP and Ctrl-C end all parts.
 
 `rt ci` works on a copy of the repository without the planted bugs, so that it proves everything from nothing. The planted bugs

@@ -19,8 +19,8 @@ SO_FAR = re.compile(r"so far: (\d+) of (\d+) functions checked")
 LARGE, MOST_JOBS = 30, 4
 # By how much a proof is faster by two jobs or by four.
 FASTER = {1: 1.0, 2: 1.5, 3: 1.8, 4: 2.0}
-# What waits for no other crate gives way to the longest chain of crates.
-GIVES_WAY = 10
+# A chain of crates counts as long from this share of the longest on. What is in no long chain gives way.
+LONG, GIVES_WAY = 0.85, 10
 
 
 def weight(name):
@@ -146,7 +146,7 @@ def chains(names):
     return found
 
 
-def work_on(name, jobs, is_first, progress):
+def work_on(name, jobs, is_long, progress):
     """Proves and builds a crate in a room, and keeps what was made. Raises Failed where it is not proved."""
     lines = []
 
@@ -157,7 +157,7 @@ def work_on(name, jobs, is_first, progress):
     progress.begin(name, jobs)
     with room(name) as made:
         command = with_jobs(command_of(name), jobs)
-        if run(command if is_first else ["nice", "-n", str(GIVES_WAY), *command], made, hear):
+        if run(command if is_long else ["nice", "-n", str(GIVES_WAY), *command], made, hear):
             raise Failed(name, "".join(lines))
         keep(made, name)
     progress.end(name)
@@ -174,11 +174,11 @@ def prove(names, progress):
             for name in sorted(ready, key=lambda it: -chain[it]):
                 if len(running) >= count:
                     break
-                is_first = all(chain[name] >= chain[it] for it in running.values())
-                jobs = jobs_of(name, is_first, count - len(running), len(ready))
+                is_long = all(chain[name] >= LONG * chain[it] for it in running.values())
+                jobs = jobs_of(name, is_long, count - len(running), len(ready))
                 left.remove(name)
                 ready.remove(name)
-                running[pool.submit(work_on, name, jobs, is_first, progress)] = name
+                running[pool.submit(work_on, name, jobs, is_long, progress)] = name
             ended = concurrent.futures.wait(running, return_when=concurrent.futures.FIRST_COMPLETED).done
             for it in ended:
                 running.pop(it)
@@ -187,10 +187,10 @@ def prove(names, progress):
         raise failed
 
 
-def jobs_of(name, is_first, idle, ready):
-    """How many jobs a proof takes: the first of the longest chain all that help it, another what no other crate waits for."""
+def jobs_of(name, is_long, idle, ready):
+    """How many jobs a proof takes: the first of a long chain all that help it, another what no other crate waits for."""
     most = min(processors(), MOST_JOBS)
-    if is_first and weight(name) > LARGE:
+    if is_long and weight(name) > LARGE:
         return most
     return max(1, min(most, idle // max(ready, 1), 2))
 

@@ -16,6 +16,7 @@
 
 mod blit;
 mod buffers;
+mod by_place;
 mod containers;
 mod contiguous;
 mod copies;
@@ -28,6 +29,7 @@ mod pairs;
 mod pixels;
 mod places;
 mod rows;
+mod turns;
 mod window;
 
 pub use containers::{AsMutSlice, AsSlice};

@@ -93,9 +93,8 @@ impl<C: AsMutSlice> Img<C> {
         ensures fits { Fits (layout_by C.cells self.new) }
         ensures container { OnlyCellsChange C.cells C.with_cells self.old self.new }
     {
-        let shape = self.shape();
-        let len = self.buf.as_slice().len();
-        fill_pixels(self.buf.stretch_mut(0, len), shape, value);
+        let (cells, shape) = self.all_parts_mut();
+        fill_pixels(cells, shape, value);
     }
 
     /// Every pixel becomes the result of `f` for it, row by row and from left to right; the padding
@@ -117,9 +116,8 @@ impl<C: AsMutSlice> Img<C> {
         ensures fits { Fits (layout_by C.cells self.new) }
         ensures container { OnlyCellsChange C.cells C.with_cells self.old self.new }
     {
-        let shape = self.shape();
-        let len = self.buf.as_slice().len();
-        map_pixels(self.buf.stretch_mut(0, len), shape, &f);
+        let (cells, shape) = self.all_parts_mut();
+        map_pixels(cells, shape, &f);
     }
 }
 

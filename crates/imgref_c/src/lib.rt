@@ -12,7 +12,6 @@
 mod images;
 mod packing;
 mod pairs;
-mod parts;
 mod places;
 mod status;
 mod tiles;
@@ -20,5 +19,4 @@ mod u16_exports;
 mod u32_exports;
 mod u64_exports;
 mod u8_exports;
-mod window;
 mod windows;
