@@ -19,6 +19,7 @@ TOOLS = {
     "make run": ["tools/program.py", "run"],
     "make try": ["tools/program.py", "try"],
     "make c": ["tools/c_library.py", "build"],
+    "make python": ["tools/python_package.py", "build"],
     "make bench": ["tools/bench.py"],
     "make times": ["tools/times.py", "image_shape"],
     "make test": [".ci/gate.py", "test"],
