@@ -19,11 +19,8 @@ TOOLS = {
     "make run": ["tools/program.py", "run"],
     "make try": ["tools/program.py", "try"],
     "make c": ["tools/c_library.py", "build"],
-<<<<<<< HEAD
     "make web": ["tools/web.py", "build"],
-=======
     "make python": ["tools/python_package.py", "build"],
->>>>>>> 10bc72a0705a7fa6fff3d331b1f6d77ae4e21431
     "make bench": ["tools/bench.py"],
     "make times": ["tools/times.py", "image_shape"],
     "make test": [".ci/gate.py", "test"],

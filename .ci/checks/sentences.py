@@ -64,12 +64,8 @@ LINK = re.compile(r"!?\[([^\]]*)\]\([^)]*\)")
 ENDS = re.compile(r"(?<=[.!?])[)*'\"]*\s+")
 BEGINS = re.compile(r"\s*(?:[-*] |\d+\. |#+ |\|)")
 # Comments and texts within quotes, by the ending of a file; those of Python are found by its own tokens.
-<<<<<<< HEAD
-SAID = {".antt": re.compile(r"--.*"), "": re.compile(r"#.*")}
-DOCUMENTED = re.compile(r"(?:^ *//[/!].*\n)+", re.MULTILINE)
-=======
 SAID = {".antt": re.compile(r"--.*"), "": re.compile(r"#.*"), ".1": re.compile(r".+"), ".3": re.compile(r".+")}
->>>>>>> 10bc72a0705a7fa6fff3d331b1f6d77ae4e21431
+DOCUMENTED = re.compile(r"(?:^ *//[/!].*\n)+", re.MULTILINE)
 SAID_IN_CODE = re.compile(r'//.*|/\*.*|^ *\*.*|"(?:[^"\\]|\\.)*"')
 OF_PYTHON = {tokenize.COMMENT, tokenize.STRING, getattr(tokenize, "FSTRING_MIDDLE", tokenize.STRING)}
 
