@@ -1,13 +1,14 @@
 #!/usr/bin/env python3
-"""The page for a browser: out/web/ with index.html, page.js, style.css and imgref.wasm, over the proved crate imgref_c.
+"""The page for a browser: out/web/ with index.html, page.js, style.css and imgref.wasm.
 
-    web.py build          proves the crate for WebAssembly where a source has changed, and builds the page
-    web.py serve [PORT]   the same, and serves the page on this machine alone: http://127.0.0.1:8000/
+    web.py build          proves imgref_c for WebAssembly where it has changed, and builds the page
+    web.py serve [PORT]   the same, and serves it on this machine alone: http://127.0.0.1:8000/
 
-The kind of a crate is in crates.txt, where imgref_c is a static library. So it is built as `wasm64` in a room (workspace.py)
-that has another line for it. page.js is the modules of web/ in one file, each after those that it imports. Comments and indents
-are left out of what a browser loads.
+The kind of a crate is in crates.txt, where imgref_c is a static library. So it is built as `wasm64`
+in a room (workspace.py) that has another line for it. page.js is the modules of web/ in one file,
+each after those that it imports. Comments and indents are left out of what a browser loads.
 """
+import contextlib
 import functools
 import http.server
 import re
@@ -15,7 +16,7 @@ import sys
 
 from processes import end_on_signals, run_to_end
 from program import built, say
-from workspace import ROOT, crates, is_fresh, room
+from workspace import ROOT, crates, held, is_fresh, room
 
 NAME, KIND = "imgref_c", "wasm64"
 SOURCES, OUT = ROOT / "web", ROOT / "out/web"
@@ -45,7 +46,9 @@ def bundled(name, done):
 
 def slim(text):
     """The text without lines that are only a comment, and without what lines are indented by."""
-    return "".join(f"{it}\n" for it in map(str.strip, text.splitlines()) if it and not it.startswith(COMMENTS))
+    return "".join(
+        f"{it}\n" for it in map(str.strip, text.splitlines()) if it and not it.startswith(COMMENTS)
+    )
 
 
 def number_at(data, at):
@@ -57,7 +60,7 @@ def number_at(data, at):
 
 
 def without_names(data):
-    """A WebAssembly file without its custom sections, as that of names: these hold no code and no data."""
+    """A WebAssembly file without its custom sections: these hold names, no code and no data."""
     kept, at = data[:8], 8
     while at < len(data):
         size, begin = number_at(data, at + 1)
@@ -75,9 +78,11 @@ def make_module():
     with room(NAME) as folder:
         listed = folder.parent.parent / "crates.txt"
         text, count = re.subn(rf"(?m)^{NAME} staticlib:", f"{NAME} {KIND}:", listed.read_text())
+        if count != 1:
+            raise Failure(f"crates.txt has no line '{NAME} staticlib:'")
         listed.write_text(text)
         ran = run_to_end(["rt", "lib"], cwd=folder)
-        if ran.returncode or count != 1:
+        if ran.returncode:
             raise Failure(f"{ran.stdout}{ran.stderr}\n{NAME} is not proved as {KIND}")
         (OUT / MODULE).write_bytes(without_names((folder / "out" / f"{NAME}.wasm").read_bytes()))
 
@@ -85,8 +90,9 @@ def make_module():
 def build():
     """Builds what has changed."""
     OUT.mkdir(parents=True, exist_ok=True)
-    if not is_fresh(OUT / MODULE, NAME):
-        make_module()
+    with held(OUT):
+        if not is_fresh(OUT / MODULE, NAME):
+            make_module()
     (OUT / FIRST).write_text(slim(bundled(FIRST, set())))
     (OUT / "index.html").write_text(slim((SOURCES / "index.html").read_text()))
     (OUT / "style.css").write_text(SPACE.sub(r"\1", slim((SOURCES / "style.css").read_text())))
@@ -97,7 +103,11 @@ def build():
 def serve(port):
     """Serves the page on this machine alone, until Ctrl-C."""
     handler = functools.partial(http.server.SimpleHTTPRequestHandler, directory=OUT)
-    with http.server.ThreadingHTTPServer(("127.0.0.1", port), handler) as server:
+    try:
+        server = http.server.ThreadingHTTPServer(("127.0.0.1", port), handler)
+    except (OSError, OverflowError) as why:
+        raise Failure(f"port {port} can't be used: {why}. Try make web-serve PORT=9000") from None
+    with server, contextlib.suppress(KeyboardInterrupt):
         say(f"http://127.0.0.1:{server.server_port}/ until Ctrl-C")
         server.serve_forever()
 
@@ -105,9 +115,9 @@ def serve(port):
 def main(words):
     if words == ["build"]:
         build()
-    elif words[:1] == ["serve"] and len(words) <= 2:
+    elif words[:1] == ["serve"] and len(words) <= 2 and all(it.isdecimal() for it in words[1:]):
         build()
-        serve(int(words[1]) if len(words) == 2 else PORT)
+        serve(int(words[1]) if words[1:] else PORT)
     else:
         sys.exit(__doc__)
 

@@ -1,4 +1,4 @@
-// The proved calls of the library, over the memory of the WebAssembly module (docs/C.md, include/imgref.h).
+// The proved calls of the library (docs/C.md, include/imgref.h), over the memory of the module.
 //
 // An image is where its cells begin in that memory, their number, a width, a height and a stride. A
 // window is its corner and its size. All numbers go to the module as BigInt of 64 bits.
@@ -12,7 +12,9 @@ export const STATUS_WORDS = [
   "There is no pixel in that column and row.",
   "A tile needs at least one column and one row.",
 ];
-export const [DONE, NOT_AN_IMAGE, WINDOW_OUTSIDE, SIZES_DIFFER, PLACE_OUTSIDE, NO_TILE] = STATUS_WORDS.keys();
+export const [
+  DONE, NOT_AN_IMAGE, WINDOW_OUTSIDE, SIZES_DIFFER, PLACE_OUTSIDE, NO_TILE
+] = STATUS_WORDS.keys();
 
 const PAGE = 65536;
 // What calls read and write through pointers: two windows, two numbers and one cell.
@@ -103,7 +105,9 @@ export class Library {
   }
 
   hasWindow(width, height, window) {
-    return Boolean(this.calls.imgref_has_window(...numbers(width, height), this.windowAt(FROM, window)));
+    return Boolean(
+      this.calls.imgref_has_window(...numbers(width, height), this.windowAt(FROM, window))
+    );
   }
 
   /** A window of an image, as an image of its own over the same cells. */
@@ -121,7 +125,9 @@ export class Library {
   }
 
   fill(image, window, value) {
-    this.run(`imgref_u${image.bits}_fill_window`, ...cells(image), this.windowAt(FROM, window), value);
+    this.run(
+      `imgref_u${image.bits}_fill_window`, ...cells(image), this.windowAt(FROM, window), value
+    );
   }
 
   mosaic(image, window, tileWidth, tileHeight) {
@@ -148,7 +154,9 @@ export class Library {
   }
 
   get(image, x, y) {
-    this.run(`imgref_u${image.bits}_get`, ...cells(image), ...numbers(x, y), BigInt(this.scratch + CELL));
+    this.run(
+      `imgref_u${image.bits}_get`, ...cells(image), ...numbers(x, y), BigInt(this.scratch + CELL)
+    );
     const view = new DataView(this.memory.buffer, this.scratch + CELL, 8);
     return image.bits === 8 ? view.getUint8(0) : view.getUint32(0, true);
   }

@@ -6,7 +6,7 @@ const SVG = "http://www.w3.org/2000/svg";
 /** The greatest number of a text. */
 export const GREATEST = 2n ** 64n - 1n;
 
-/** Whether a field is a number, without a sign and without a zero in front, and at most so large. */
+/** Whether a field is a number with no sign and no zero in front, and at most so large. */
 export function isNumber(field, most = GREATEST) {
   return NUMBER.test(field ?? "") && BigInt(field) <= most;
 }

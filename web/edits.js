@@ -41,7 +41,9 @@ export function textOf(edit) {
     mosaic: `${edit.tileWidth},${edit.tileHeight}`,
     move: `${edit.x},${edit.y}`,
   }[word];
-  return [word, `${left},${top},${width},${height}`, ...(last === undefined ? [] : [last])].join(" ");
+  return [
+    word, `${left},${top},${width},${height}`, ...(last === undefined ? [] : [last])
+  ].join(" ");
 }
 
 /** The edits of a text with one edit on each line; empty lines are ignored. */
@@ -67,7 +69,9 @@ function editOf(line, number) {
   }
   const form = Object.hasOwn(WORDS, word) && WORDS[word];
   if (!form) {
-    throw new BadEdit(number, `an edit begins with ${Object.keys(WORDS).join(", ")}, and not with '${word}'.`);
+    throw new BadEdit(
+      number, `an edit begins with ${Object.keys(WORDS).join(", ")}, and not with '${word}'.`
+    );
   }
   const lists = fields.map(numbersOf);
   const edit = lists.every(Boolean) && made(word, lists);
@@ -97,7 +101,9 @@ function made(word, [window, last, ...more]) {
   switch (word) {
     case "fill": {
       const colour = last.length === 1 ? [last[0], last[0], last[0]] : last;
-      return colour.length === 3 && colour.every((it) => it <= 255) ? { ...rectangle, colour } : null;
+      return colour.length === 3 && colour.every((it) => it <= 255) ? {
+        ...rectangle, colour
+      } : null;
     }
     case "mosaic":
       return isPair ? { ...rectangle, tileWidth: last[0], tileHeight: last[1] } : null;

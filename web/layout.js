@@ -6,11 +6,16 @@ import { FAULT_WORDS, outputOf, readScript, runScript, windowsAlong } from "./sc
 // The size of a cell on the screen, the room for the measures, and what is drawn at most.
 const SIDE = 44, ROOM = 36, MOST_COLUMNS = 64, MOST_CELLS = 1024;
 const EXAMPLES = {
-  "Nested windows": "image 3 2 4 1 2 3 4 5 6 7 8 9\nget 0 1,0,2,2/1,0,1,2 0 1\nput 0 1,1,2,1 0 0 9\nget 0 - 1 1\n",
-  "Padding stays": "image 3 2 4 1 2 3 4 5 6 7 8 9\nfill 0 1,0,2,2 0\ncount 0 - 0\ncompact 0\n",
-  "An overlapping copy": "image 3 3 4 1 2 3 0 4 5 6 0 7 8 9\nblit 0 0,0,2,2 0 1,1,2,2\nblit 0 0,0,1,1 0 0,0,2,1\n",
-  "A mosaic": "image 3 3 3 1 2 3 4 5 6 7 8 9\nmosaic 0 - 2 2\nmosaic 0 - 0 2\nmosaic 0 1,1,2,2 5 5\n",
-  "Two strides": "image 2 2 2 1 2 3 4\nimage 2 2 5 1 2 0 0 0 3 4\nsame 0 - 1 -\nput 1 - 1 1 8\nsame 0 - 1 -\nblit 1 - 0 -\n",
+  "Nested windows": ["image 3 2 4 1 2 3 4 5 6 7 8 9", "get 0 1,0,2,2/1,0,1,2 0 1",
+    "put 0 1,1,2,1 0 0 9", "get 0 - 1 1"],
+  "Padding stays": ["image 3 2 4 1 2 3 4 5 6 7 8 9", "fill 0 1,0,2,2 0", "count 0 - 0",
+    "compact 0"],
+  "An overlapping copy": ["image 3 3 4 1 2 3 0 4 5 6 0 7 8 9", "blit 0 0,0,2,2 0 1,1,2,2",
+    "blit 0 0,0,1,1 0 0,0,2,1"],
+  "A mosaic": ["image 3 3 3 1 2 3 4 5 6 7 8 9", "mosaic 0 - 2 2", "mosaic 0 - 0 2",
+    "mosaic 0 1,1,2,2 5 5"],
+  "Two strides": ["image 2 2 2 1 2 3 4", "image 2 2 5 1 2 0 0 0 3 4", "same 0 - 1 -",
+    "put 1 - 1 1 8", "same 0 - 1 -", "blit 1 - 0 -"],
 };
 
 class LayoutTab {
@@ -36,10 +41,14 @@ class LayoutTab {
     const now = runScript(this.library, script, at);
     find("first").disabled = find("back").disabled = at === 0;
     find("next").disabled = find("last").disabled = at === commands.length;
-    find("step").textContent = bad ? `fault line ${bad}: ${script.why}` : stepText(at, commands.length, all.replies[at - 1]);
+    find("step").textContent = bad ? `fault line ${bad}: ${script.why}` : stepText(
+      at, commands.length, all.replies[at - 1]
+    );
     find("step").classList.toggle("problem", bad > 0);
     find("lines").replaceChildren(...script.lines.map((it, index) => this.line(it, index)));
-    find("output").textContent = (bad ? [`fault line ${bad}`] : outputOf(all)).map((it) => `${it}\n`).join("");
+    find("output").textContent = (
+      bad ? [`fault line ${bad}`] : outputOf(all)
+    ).map((it) => `${it}\n`).join("");
     const shown = now.images.map((image, index) => pictureOf(image, index, commands[at - 1]));
     find("images").replaceChildren(...shown);
   }
@@ -68,14 +77,16 @@ function stepText(at, count, reply) {
     return "There is no command.";
   }
   const fault = reply?.startsWith("refused ") ? `: ${FAULT_WORDS[Number(reply.slice(8))]}` : "";
-  return at ? `Step ${at} of ${count}: ${reply}${fault}` : `Before the first of ${count} ${count === 1 ? "step" : "steps"}`;
+  const before = `Before the first of ${plural(count, "step")}`;
+  return at ? `Step ${at} of ${count}: ${reply}${fault}` : before;
 }
 
 /** An image drawn as cells, with the windows of the command that was carried out last. */
 function pictureOf(image, index, command) {
   const figure = document.createElement("figure"), caption = document.createElement("figcaption");
   const { width, height, stride, values } = image;
-  caption.textContent = `Image ${index}: ${width} by ${height} pixels, stride ${stride}, ${plural(values.length, "cell")}`;
+  const cells = plural(values.length, "cell");
+  caption.textContent = `Image ${index}: ${width} by ${height} pixels, stride ${stride}, ${cells}`;
   figure.append(caption);
   if (stride > MOST_COLUMNS || values.length > MOST_CELLS) {
     const note = document.createElement("p");
@@ -84,13 +95,17 @@ function pictureOf(image, index, command) {
     return figure;
   }
   const columns = Number(stride), rows = Math.max(Math.ceil(values.length / columns), 1);
+  const wide = columns * SIDE + ROOM + 4;
   const svg = addDrawn(figure, "svg", {
-    viewBox: `${-ROOM} ${-ROOM} ${columns * SIDE + ROOM + 4} ${rows * SIDE + 2 * ROOM}`, role: "img",
-    width: columns * SIDE + ROOM + 4, "aria-label": `${caption.textContent}: ${values.join(" ")}`,
+    viewBox: `${-ROOM} ${-ROOM} ${wide} ${rows * SIDE + 2 * ROOM}`, width: wide, role: "img",
+    "aria-label": `${caption.textContent}: ${values.join(" ")}`,
   });
   values.forEach((value, at) => {
     const x = at % columns, y = Math.floor(at / columns), isPixel = x < width && y < height;
-    addDrawn(svg, "rect", { class: isPixel ? "pixel" : "padding", x: x * SIDE, y: y * SIDE, width: SIDE, height: SIDE });
+    addDrawn(
+      svg, "rect",
+      { class: isPixel ? "pixel" : "padding", x: x * SIDE, y: y * SIDE, width: SIDE, height: SIDE }
+    );
     addDrawn(svg, "text", { x: (x + 0.5) * SIDE, y: (y + 0.5) * SIDE }).textContent = value;
   });
   measures(svg, Number(width), Number(height), columns, rows);
@@ -115,7 +130,10 @@ function measures(svg, width, height, columns, rows) {
   }
   if (drawn > 0) {
     line(`M-8 1V${drawn * SIDE - 1}M-12 1h8M-12 ${drawn * SIDE - 1}h8`);
-    text(-20, (drawn * SIDE) / 2, `height ${height}`, { transform: `rotate(-90 -20 ${(drawn * SIDE) / 2})` });
+    text(
+      -20, (drawn * SIDE) / 2, `height ${height}`,
+      { transform: `rotate(-90 -20 ${(drawn * SIDE) / 2})` }
+    );
   }
   const low = rows * SIDE + 8;
   line(`M1 ${low}H${columns * SIDE - 1}M1 ${low - 4}v8M${columns * SIDE - 1} ${low - 4}v8`);
@@ -128,19 +146,30 @@ function outlines(svg, image, { word, numbers }, path, at) {
   windows.forEach((it, index) => {
     const isLast = index === path.length - 1, inset = isLast ? 3 : 1;
     const box = boxOf(it, inset);
-    addDrawn(svg, "rect", { class: `window${isLast ? " last" : ""}${at ? " second" : ""}`, ...box });
+    addDrawn(
+      svg, "rect", { class: `window${isLast ? " last" : ""}${at ? " second" : ""}`, ...box }
+    );
   });
   if ((word === "get" || word === "put") && windows.length === path.length) {
     const [x, y] = numbers, window = windows.at(-1) ?? { left: 0n, top: 0n, ...image };
     if (x < window.width && y < window.height) {
-      addDrawn(svg, "rect", { class: "place", ...boxOf({ left: window.left + x, top: window.top + y, width: 1n, height: 1n }, 7) });
+      addDrawn(
+        svg, "rect",
+        {
+          class: "place",
+          ...boxOf({ left: window.left + x, top: window.top + y, width: 1n, height: 1n }, 7)
+        }
+      );
     }
   }
 }
 
 function boxOf({ left, top, width, height }, inset) {
   const [x, y, wide, high] = [left, top, width, height].map((it) => Number(it) * SIDE);
-  return { x: x + inset, y: y + inset, width: Math.max(wide - 2 * inset, 0), height: Math.max(high - 2 * inset, 0) };
+  return {
+    x: x + inset, y: y + inset, width: Math.max(wide - 2 * inset, 0),
+    height: Math.max(high - 2 * inset, 0)
+  };
 }
 
 function plural(count, word) {
@@ -152,7 +181,7 @@ export function startLayout(library) {
   const tab = new LayoutTab(library);
   find("example").append(...Object.keys(EXAMPLES).map((it) => new Option(it)));
   const choose = () => {
-    find("script").value = EXAMPLES[find("example").value];
+    find("script").value = EXAMPLES[find("example").value].map((it) => `${it}\n`).join("");
     tab.read();
   };
   find("example").addEventListener("change", choose);

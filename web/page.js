@@ -1,7 +1,7 @@
 // Loads the module, forbids all further requests, and starts both tabs.
 
 import { loadLibraries, NoMemory64 } from "./calls.js";
-import { startPicture } from "./picture.js";
+import { startPicture } from "./controls.js";
 import { startLayout } from "./layout.js";
 
 const OLD_BROWSER =

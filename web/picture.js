@@ -9,13 +9,16 @@ import { Stage, isOnStage } from "./stage.js";
 const MOST_SIDE = 32767, MOST_PIXELS = 100e6;
 // Changes by keys within this time are undone together, in milliseconds.
 const TOGETHER = 1000;
+const LATE =
+  "Note: a move comes before a fill or a mosaic. It may carry pixels out of what is covered.";
 const HINTS = {
   fill: "Leaves nothing of what it covers.",
-  mosaic: "Keeps one pixel of each tile, so text and numbers can be guessed. Use a fill for secrets.",
+  mosaic: "Keeps one pixel of each tile, so a text can be guessed. Use a fill for secrets.",
   crop: "Only what is inside is saved.",
 };
 
-class PictureTab {
+/** What a person sees and does in the tab. */
+export class PictureTab {
   constructor(library) {
     this.library = library;
     this.forget();
@@ -45,11 +48,17 @@ class PictureTab {
     try {
       bitmap = await createImageBitmap(file);
     } catch {
-      return turn === this.turn && this.say(`This browser can't read ${file.name} as a picture. Nothing has changed.`, true);
+      return turn === this.turn && this.say(
+        `This browser can't read ${file.name} as a picture. Nothing has changed.`, true
+      );
     }
     const { width, height } = bitmap;
-    if (turn === this.turn && (Math.max(width, height) > MOST_SIDE || width * height > MOST_PIXELS)) {
-      this.say(`${file.name} has ${width} by ${height} pixels, which is too large for this page.`, true);
+    if (
+      turn === this.turn && (Math.max(width, height) > MOST_SIDE || width * height > MOST_PIXELS)
+    ) {
+      this.say(
+        `${file.name} has ${width} by ${height} pixels, which is too large for this page.`, true
+      );
     } else if (turn === this.turn) {
       this.take(file.name, bitmap);
     }
@@ -63,14 +72,15 @@ class PictureTab {
       const pixels = new Pixels(this.library, bitmap.width, bitmap.height);
       pixels.bytes().set(this.stage.read(bitmap));
       Object.assign(this, { pixels, name });
-      this.say(`${name}: ${pixels.width} by ${pixels.height} pixels. Draw a rectangle over what you want to cover.`);
+      const size = `${pixels.width} by ${pixels.height} pixels`;
+      this.say(`${name}: ${size}. Draw a rectangle over what you want to cover.`);
     } catch (why) {
       this.say(why.message, true);
     }
     this.render();
   }
 
-  /** Shows another list of edits, and keeps the old one for undo. Whether they can be carried out. */
+  /** Shows other edits, and keeps the old ones for undo. Whether they can be carried out. */
   commit(edits, by = "") {
     const began = performance.now();
     if (!this.show(edits)) {
@@ -98,7 +108,7 @@ class PictureTab {
     }
     const late = edits.findIndex((it) => it.word === "move");
     const isLate = late >= 0 && edits.slice(late).some(covers);
-    this.say(isLate ? "Note: a move comes before a fill or a mosaic. It may carry pixels out of what is covered." : "Done.");
+    this.say(isLate ? LATE : "Done.");
     return true;
   }
 
@@ -117,7 +127,9 @@ class PictureTab {
     const word = document.querySelector("[name=tool]:checked").value;
     const { left, top, width, height } = rectangle, edit = { word, left, top, width, height };
     const colour = find("colour").value.match(/\w\w/g).map((it) => parseInt(it, 16));
-    const [tileWidth, tileHeight] = ["tile-width", "tile-height"].map((it) => Math.floor(find(it).valueAsNumber) || 0);
+    const [tileWidth, tileHeight] = ["tile-width", "tile-height"].map(
+      (it) => Math.floor(find(it).valueAsNumber) || 0
+    );
     return { ...edit, ...{ fill: { colour }, mosaic: { tileWidth, tileHeight } }[word] };
   }
 
@@ -157,7 +169,8 @@ class PictureTab {
     const edit = this.edits[this.selected];
     if (edit && isOnStage(edit)) {
       document.querySelector(`[name=tool][value=${edit.word}]`).checked = true;
-      find("colour").value = edit.colour ? `#${edit.colour.map((it) => it.toString(16).padStart(2, "0")).join("")}` : find("colour").value;
+      const colour = edit.colour?.map((it) => it.toString(16).padStart(2, "0")).join("");
+      find("colour").value = colour ? `#${colour}` : find("colour").value;
       find("tile-width").value = edit.tileWidth ?? find("tile-width").value;
       find("tile-height").value = edit.tileHeight ?? find("tile-height").value;
     }
@@ -169,7 +182,9 @@ class PictureTab {
     const old = this.edits[this.selected];
     const edit = old && isOnStage(old) && this.made(old);
     if (edit && textOf(edit) !== textOf(old)) {
-      const others = this.edits.toSpliced(this.selected, 1).filter((it) => !resizes(edit) || !resizes(it));
+      const others = this.edits.toSpliced(this.selected, 1).filter(
+        (it) => !resizes(edit) || !resizes(it)
+      );
       const at = resizes(edit) ? others.length : Math.min(this.selected, others.length);
       if (this.commit(others.toSpliced(at, 0, edit))) {
         this.selected = at;
@@ -214,12 +229,15 @@ class PictureTab {
     if (!blob) {
       return this.say("This browser can't save a picture of this size.", true);
     }
-    const link = Object.assign(document.createElement("a"), { href: URL.createObjectURL(blob), download: name });
+    const link = Object.assign(
+      document.createElement("a"), { href: URL.createObjectURL(blob), download: name }
+    );
     link.click();
     setTimeout(() => URL.revokeObjectURL(link.href), 60000);
     const edits = `${count} ${count === 1 ? "edit" : "edits"}`;
     const what = count ? `with ${edits}` : "and nothing is covered";
-    this.say(`Saved ${name}: ${canvas.width} by ${canvas.height} pixels, ${what}. All else in the file was dropped.`);
+    const size = `${canvas.width} by ${canvas.height} pixels`;
+    this.say(`Saved ${name}: ${size}, ${what}. All else in the file was dropped.`);
   }
 
   render() {
@@ -230,7 +248,9 @@ class PictureTab {
     for (const it of ["save", "add", "apply", "copy"]) {
       find(it).disabled = !hasPicture;
     }
-    find("edits").replaceChildren(...edits.map((it, index) => this.item(it, index === selected, index)));
+    find("edits").replaceChildren(
+      ...edits.map((it, index) => this.item(it, index === selected, index))
+    );
     find("no-edits").hidden = edits.length > 0;
     find("selected").disabled = !edit;
     for (const it of ["left", "top", "width", "height"]) {
@@ -239,7 +259,9 @@ class PictureTab {
     find("text").value = edits.map((it) => `${textOf(it)}\n`).join("");
     const tool = document.querySelector("[name=tool]:checked").value;
     find("hint").textContent = HINTS[tool];
-    document.querySelectorAll("[data-for]").forEach((it) => { it.hidden = it.dataset.for !== tool; });
+    document.querySelectorAll("[data-for]").forEach(
+      (it) => { it.hidden = it.dataset.for !== tool; }
+    );
   }
 
   /** A line of the list of edits, which selects its edit. */
@@ -255,54 +277,4 @@ class PictureTab {
 
 function sizeOf({ width, height }) {
   return { width, height };
-}
-
-/** Starts the tab over a library. */
-export function startPicture(library) {
-  const tab = new PictureTab(library);
-  const on = (id, name, act) => find(id).addEventListener(name, act);
-  on("open", "click", () => find("file").click());
-  on("file", "change", ({ target }) => {
-    if (target.files[0]) {
-      tab.open(target.files[0]);
-      target.value = "";
-    }
-  });
-  on("undo", "click", () => tab.step(tab.past, tab.future));
-  on("redo", "click", () => tab.step(tab.future, tab.past));
-  on("save", "click", () => tab.save());
-  on("add", "click", () => tab.addInMiddle());
-  on("remove", "click", () => tab.remove(tab.selected));
-  on("apply", "click", () => tab.applyText());
-  on("copy", "click", () => tab.copyText());
-  on("tools", "change", () => tab.retool());
-  on("selected", "change", () => tab.change(tab.selected, rectangleOfFields()));
-  document.addEventListener("keydown", (event) => keys(tab, event));
-  document.addEventListener("paste", (event) => {
-    const file = [...event.clipboardData.files][0];
-    return file && tab.open(file);
-  });
-  document.addEventListener("dragover", (event) => event.preventDefault());
-  document.addEventListener("drop", (event) => {
-    event.preventDefault();
-    const file = event.dataTransfer.files[0];
-    return file && tab.open(file);
-  });
-  tab.render();
-}
-
-function rectangleOfFields() {
-  const values = ["left", "top", "width", "height"].map((it) => [it, Math.max(Math.floor(find(it).valueAsNumber) || 0, 0)]);
-  return Object.fromEntries(values);
-}
-
-function keys(tab, event) {
-  const isText = event.target.matches("textarea, input:not([type=radio], [type=checkbox])");
-  const key = event.key.toLowerCase();
-  if (isText || !tab.pixels || !(event.ctrlKey || event.metaKey) || (key !== "z" && key !== "y")) {
-    return;
-  }
-  event.preventDefault();
-  const isUndo = key === "z" && !event.shiftKey;
-  tab.step(...(isUndo ? [tab.past, tab.future] : [tab.future, tab.past]));
 }

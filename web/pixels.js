@@ -1,7 +1,7 @@
-// A picture whose pixels are in the module's memory, once. Each change is one of the module's calls.
+// A picture whose pixels are in the module's memory, once. Each change is a call of the module.
 //
-// Before an edit, the pixels that it will change are copied to a place of their own, so that it can be
-// taken back. These copies are a stack: the last edit is taken back first.
+// Before an edit, the pixels that it will change are copied to a place of their own, so that it can
+// be taken back. These copies are a stack: the last edit is taken back first.
 
 import { Refused, WINDOW_OUTSIDE } from "./calls.js";
 import { BadEdit, resizes, textOf } from "./edits.js";
@@ -35,7 +35,7 @@ export class Pixels {
     this.library.release(this.begin);
   }
 
-  /** Shows these edits, and tells which rectangles have changed. Where one is refused, nothing has changed. */
+  /** Shows these edits, and returns what has changed: nothing, where one is refused. */
   show(edits) {
     const before = this.applied.map((it) => it.edit);
     const same = commonLength(before, edits);
@@ -99,7 +99,7 @@ export class Pixels {
     }
   }
 
-  /** Takes all edits back but so many, the last one first, and tells which rectangles have changed. */
+  /** Takes all edits back but so many, the last one first, and returns what has changed. */
   takeBack(count) {
     const changed = [];
     while (this.applied.length > count) {
@@ -142,13 +142,18 @@ export function sizeAfter(edit, image) {
   const sum = (...all) => all.map(BigInt).reduce((total, it) => total + it);
   return edit.word === "crop"
     ? { width: BigInt(edit.width), height: BigInt(edit.height) }
-    : { width: sum(edit.left, image.width, edit.right), height: sum(edit.top, image.height, edit.bottom) };
+    : {
+      width: sum(edit.left, image.width, edit.right),
+      height: sum(edit.top, image.height, edit.bottom)
+    };
 }
 
 /** Cells of four bytes for a picture of this size, at the top of the memory. */
 function taken(library, width, height) {
   const count = width * height;
-  return { at: library.take(4 * count), count, width, height, stride: Math.max(width, 1), bits: 32 };
+  return {
+    at: library.take(4 * count), count, width, height, stride: Math.max(width, 1), bits: 32
+  };
 }
 
 /** The rectangle that an edit writes. */
@@ -167,6 +172,8 @@ function cellOf([red, green, blue]) {
 
 /** With how many equal edits two lists begin. */
 function commonLength(some, others) {
-  const differs = some.findIndex((it, index) => !others[index] || textOf(it) !== textOf(others[index]));
+  const differs = some.findIndex(
+    (it, index) => !others[index] || textOf(it) !== textOf(others[index])
+  );
   return differs < 0 ? some.length : differs;
 }

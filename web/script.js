@@ -67,7 +67,8 @@ export function readScript(library, text) {
 
 function numberOf(field, most = GREATEST) {
   if (!isNumber(field, most)) {
-    throw new BadLine(field === "" ? "two spaces, or one at the end" : `'${field ?? ""}' is no number from 0 to ${most}`);
+    const why = `'${field ?? ""}' is no number from 0 to ${most}`;
+    throw new BadLine(field === "" ? "two spaces, or one at the end" : why);
   }
   return BigInt(field);
 }
@@ -103,7 +104,9 @@ function commandOf(word, fields) {
   if (fields.length !== form.length) {
     throw new BadLine(`${word} has ${form.length} fields`);
   }
-  const read = { index: numberOf, number: numberOf, pixel: (it) => numberOf(it, GREATEST_PIXEL), path: pathOf };
+  const read = {
+    index: numberOf, number: numberOf, pixel: (it) => numberOf(it, GREATEST_PIXEL), path: pathOf
+  };
   const values = form.map((kind, index) => read[kind](fields[index]));
   const of = (kind) => values.filter((_, index) => form[index] === kind);
   const paths = of("path");
@@ -121,7 +124,12 @@ export function runScript(library, script, count) {
 
 /** The lines that the program prints after these replies and images. */
 export function outputOf({ replies, images }) {
-  return [...replies, ...images.map(({ width, height, stride, values }) => ["image", width, height, stride, ...values].join(" "))];
+  return [
+    ...replies,
+    ...images.map(
+      ({ width, height, stride, values }) => ["image", width, height, stride, ...values].join(" ")
+    )
+  ];
 }
 
 function placed(library, { width, height, stride, values }) {

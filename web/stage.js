@@ -125,7 +125,9 @@ export class Stage {
     this.overlay.setPointerCapture(event.pointerId);
     const group = event.target.closest("g"), index = group ? indexOf(group) : -1;
     const corner = event.target.dataset.corner;
-    this.drag = { group, index, corner, from: this.at(event), screen: [event.clientX, event.clientY] };
+    this.drag = {
+      group, index, corner, from: this.at(event), screen: [event.clientX, event.clientY]
+    };
     this.drag.old = group && this.edits[index];
     if (group) {
       group.focus();
@@ -233,11 +235,15 @@ function between([left, top], [right, bottom]) {
 /** A rectangle moved by so much, and kept inside a picture of this size. */
 function shifted({ left, top, width, height }, dx, dy, wide, high) {
   const inside = (value, most) => Math.min(Math.max(value, 0), Math.max(most, 0));
-  return { left: inside(left + dx, wide - width), top: inside(top + dy, high - height), width, height };
+  return {
+    left: inside(left + dx, wide - width), top: inside(top + dy, high - height), width, height
+  };
 }
 
 /** A rectangle whose right and lower edge are moved by so much; at least one pixel is left. */
 function resized({ left, top, width, height }, dx, dy, wide, high) {
   const inside = (value, most) => Math.min(Math.max(value, 1), Math.max(most, 1));
-  return { left, top, width: inside(width + dx, wide - left), height: inside(height + dy, high - top) };
+  return {
+    left, top, width: inside(width + dx, wide - left), height: inside(height + dy, high - top)
+  };
 }

@@ -1,4 +1,4 @@
-"""A browser by its driver, over the WebDriver protocol, and a server of the page that notes each request.
+"""A browser by its driver, over the WebDriver protocol, and a server that notes each request.
 
 It needs Chromium and its driver (Debian: chromium, chromium-driver), and nothing else.
 """
@@ -18,15 +18,20 @@ import urllib.error
 import urllib.request
 
 BROWSERS, DRIVERS = ("chromium", "chromium-browser", "google-chrome"), ("chromedriver",)
+SCRIPTS = pathlib.Path(__file__).resolve().parent / "scripts"
+CHANGE = """const it = document.getElementById(arguments[0]); it.value = arguments[1];
+for (const kind of ["input", "change"]) { it.dispatchEvent(new Event(kind, { bubbles: true })); }"""
 # How long something is waited for, in seconds: the machine may be busy.
 PATIENCE = 60
 ELEMENT = "element-6066-11e4-a52e-4f735466cecf"
 KEYS = {
     "Tab": "\ue004", "Shift": "\ue008", "Control": "\ue009", "Escape": "\ue00c", "Delete": "\ue017",
-    "Left": "\ue012", "Up": "\ue013", "Right": "\ue014", "Down": "\ue015", "Enter": "\ue007", "Space": " ",
+    "Left": "\ue012", "Up": "\ue013", "Right": "\ue014", "Down": "\ue015", "Enter": "\ue007",
 }
-FLAGS = ("--headless=new", "--no-sandbox", "--disable-gpu", "--window-size=1280,1200", "--force-device-scale-factor=1",
-         "--disable-background-networking", "--hide-scrollbars")
+FLAGS = (
+    "--headless=new", "--no-sandbox", "--disable-gpu", "--window-size=1280,1200",
+    "--hide-scrollbars", "--force-device-scale-factor=1", "--disable-background-networking",
+)
 
 
 def found(names):
@@ -40,7 +45,9 @@ class Browser:
     def __init__(self, driver, program, folder):
         self.port_file, self.folder = folder / "driver.log", folder
         self.log = open(self.port_file, "w", encoding="utf-8")
-        self.process = subprocess.Popen([driver, "--port=0"], stdin=subprocess.DEVNULL, stdout=self.log, stderr=self.log)
+        self.process = subprocess.Popen(
+            [driver, "--port=0"], stdin=subprocess.DEVNULL, stdout=self.log, stderr=self.log
+        )
         try:
             self.base = f"http://127.0.0.1:{until(self.port)}"
             wanted = {"goog:loggingPrefs": {"performance": "ALL", "browser": "ALL"},
@@ -66,7 +73,9 @@ class Browser:
 
     def ask(self, method, path, body=None):
         data = None if method != "POST" else json.dumps(body or {}).encode()
-        request = urllib.request.Request(f"{self.base}{path}", data, {"Content-Type": "application/json"}, method=method)
+        request = urllib.request.Request(
+            f"{self.base}{path}", data, {"Content-Type": "application/json"}, method=method
+        )
         try:
             with urllib.request.urlopen(request, timeout=180) as answer:
                 return json.load(answer)["value"]
@@ -83,9 +92,18 @@ class Browser:
         """Runs a script in the page, and returns what it returns."""
         return self.ask("POST", "/execute/sync", {"script": script, "args": values})
 
-    def wait(self, script, *values):
-        """Runs a script in the page which calls its last argument with what it gives."""
-        return self.ask("POST", "/execute/async", {"script": script, "args": values})
+    def script(self, name, *values):
+        """Runs a script of the folder `scripts` in the page, and returns what it returns."""
+        return self.run((SCRIPTS / f"{name}.js").read_text(), *values)
+
+    def wait_for(self, name, *values):
+        """The same of a script that calls its last argument with what it gives."""
+        text = (SCRIPTS / f"{name}.js").read_text()
+        return self.ask("POST", "/execute/async", {"script": text, "args": values})
+
+    def change(self, name, value):
+        """Gives a field another value, as a person does."""
+        self.run(CHANGE, name, value)
 
     def element(self, selector):
         return self.ask("POST", "/element", {"using": "css selector", "value": selector})[ELEMENT]
@@ -105,9 +123,16 @@ class Browser:
 
     def drag(self, *places, kind="mouse"):
         """Presses at the first place of the window, goes to the others, and lets go."""
-        moves = [{"type": "pointerMove", "duration": 0, "x": round(x), "y": round(y)} for x, y in places]
-        acts = [moves[0], {"type": "pointerDown", "button": 0}, *moves[1:], {"type": "pointerUp", "button": 0}]
-        pointer = {"type": "pointer", "id": kind, "parameters": {"pointerType": kind}, "actions": acts}
+        moves = [
+            {"type": "pointerMove", "duration": 0, "x": round(x), "y": round(y)} for x, y in places
+        ]
+        acts = [
+            moves[0], {"type": "pointerDown", "button": 0}, *moves[1:],
+            {"type": "pointerUp", "button": 0}
+        ]
+        pointer = {
+            "type": "pointer", "id": kind, "parameters": {"pointerType": kind}, "actions": acts
+        }
         self.ask("POST", "/actions", {"actions": [pointer]})
 
     def text(self, selector):
@@ -118,12 +143,24 @@ class Browser:
 
     def requests(self):
         """The addresses that the page asked for since the last call, as the browser logged them."""
-        said = [json.loads(it["message"])["message"] for it in self.ask("POST", "/se/log", {"type": "performance"})]
-        return [it["params"]["request"]["url"] for it in said if it["method"] == "Network.requestWillBeSent"]
+        said = [
+            json.loads(it["message"])["message"] for it in self.ask(
+                "POST", "/se/log", {"type": "performance"}
+            )
+        ]
+        return [
+            it["params"]["request"]["url"] for it in said if it[
+                "method"
+            ] == "Network.requestWillBeSent"
+        ]
 
     def faults(self):
         """What the browser's console said of errors since the last call."""
-        return [it["message"] for it in self.ask("POST", "/se/log", {"type": "browser"}) if it["level"] == "SEVERE"]
+        return [
+            it["message"] for it in self.ask(
+                "POST", "/se/log", {"type": "browser"}
+            ) if it["level"] == "SEVERE"
+        ]
 
     def saved(self, name):
         """The bytes of a file that the page saves, and removes it."""
@@ -148,7 +185,9 @@ def browser():
     """A browser until the end of the block, or None where this machine lacks one or its driver."""
     program, driver = found(BROWSERS), found(DRIVERS)
     if not program or not driver:
-        missing = " and ".join(name for name, it in (("chromium", program), ("chromedriver", driver)) if not it)
+        missing = " and ".join(
+            name for name, it in (("chromium", program), ("chromedriver", driver)) if not it
+        )
         print(f"browser ({missing}): skipped, it isn't on this machine")
         yield None
         return

@@ -1,4 +1,4 @@
-"""The tab 'Picture' in a browser: what it saves, by a model, by imgref_frames, and by what a person does with it."""
+"""The tab 'Picture' in a browser: what it saves, by a model and by imgref_frames, and pointers."""
 import subprocess
 
 import frames
@@ -6,39 +6,46 @@ from browser import png
 from browser.driver import until
 
 WIDTH, HEIGHT = 60, 40
-# Lists of edits, each carried out on one picture: the model, imgref_frames and the page have to agree.
+# Lists of edits, each for one picture: the model, imgref_frames and the page have to agree.
 LISTS = (
-    "fill 10,8,20,12 0", "fill 10,8,20,12 200,30,7", "fill 0,0,60,40 255", "fill 59,39,1,1 9", "fill 60,40,0,0 1", "fill 5,5,0,9 1",
-    "mosaic 4,4,30,20 8,8", "mosaic 1,2,57,37 7,5", "mosaic 0,0,60,40 1000,1000", "mosaic 3,3,9,9 1,1",
-    "mosaic 0,0,60,40 18446744073709551615,3", "move 0,0,20,20 30,15", "move 0,0,30,20 5,4", "move 5,4,30,20 0,0", "move 0,0,60,40 0,0",
-    "crop 7,9,30,20", "crop 0,0,60,40", "crop 59,0,1,40", "pad 1,2,3,4 16", "pad 0,0,0,0 9", "pad 0,5,0,0 255",
-    "fill 10,8,20,12 0\nmosaic 20,10,30,20 8,8", "mosaic 20,10,30,20 8,8\nfill 10,8,20,12 0", "mosaic 0,0,40,40 4,4\nmosaic 3,3,40,30 9,9\ncrop 2,2,50,30",
-    "fill 1,1,9,9 1,2,3\nmove 0,0,20,20 30,15\nfill 30,0,20,20 77\npad 2,2,2,2 128", "fill 0,0,9,9 5\nfill 3,3,9,9 6\nfill 6,6,9,9 7\nmove 0,0,15,15 3,3",
+    "fill 10,8,20,12 0", "fill 10,8,20,12 200,30,7", "fill 0,0,60,40 255", "fill 59,39,1,1 9",
+    "fill 60,40,0,0 1", "fill 5,5,0,9 1", "mosaic 4,4,30,20 8,8", "mosaic 1,2,57,37 7,5",
+    "mosaic 0,0,60,40 1000,1000", "mosaic 3,3,9,9 1,1", "mosaic 0,0,60,40 18446744073709551615,3",
+    "move 0,0,20,20 30,15", "move 0,0,30,20 5,4", "move 5,4,30,20 0,0", "move 0,0,60,40 0,0",
+    "crop 7,9,30,20", "crop 0,0,60,40", "crop 59,0,1,40", "pad 1,2,3,4 16", "pad 0,0,0,0 9",
+    "pad 0,5,0,0 255", "fill 10,8,20,12 0\nmosaic 20,10,30,20 8,8",
+    "mosaic 20,10,30,20 8,8\nfill 10,8,20,12 0",
+    "mosaic 0,0,40,40 4,4\nmosaic 3,3,40,30 9,9\ncrop 2,2,50,30",
+    "fill 1,1,9,9 1,2,3\nmove 0,0,20,20 30,15\nfill 30,0,20,20 77\npad 2,2,2,2 128",
+    "fill 0,0,9,9 5\nfill 3,3,9,9 6\nfill 6,6,9,9 7\nmove 0,0,15,15 3,3",
 )
 # Lines that are no edits, and edits that can't be carried out, with what the page says.
 BAD = {
     "fill 10,8,20,12": "Line 1: 'fill 10,8,20,12' is not of the form fill L,T,W,H V",
-    "fill 10,8,20,12 256": "is not of the form fill", "fill 10,8,20,12 1,2": "is not of the form fill", "fill 10,8,20 1": "is not of the form fill",
-    "fill 010,8,20,12 1": "is not of the form fill", "fill -1,8,20,12 1": "is not of the form fill", "fill  1,8,20,12 1": "is not of the form fill",
-    "fill 1,8,20,12 1 ": "is not of the form fill", "fill 18446744073709551616,0,1,1 1": "is not of the form fill", "mosaic 0,0,9,9 3": "is not of the form mosaic",
-    "FILL 0,0,1,1 1": "an edit begins with fill, mosaic, move, crop, pad, and not with 'FILL'", "toString 0,0,1,1 1": "an edit begins with",
-    "0..5 fill 0,0,1,1 1": "a picture has one frame, so leave out the range 0..5.", "fill 0,0,1,1 1 fill 0,0,1,1 1": "is not of the form fill",
-    "crop 0,0,9,9\nfill 0,0,1,1 1": "Line 2: at most one crop or pad is allowed, and it must come last.", "crop 0,0,9,9\npad 0,0,1,1 1": "Line 2: at most one",
-    "fill 50,8,20,12 1": "Line 1: The rectangle reaches outside the picture.", "fill 0,30,20,12 1": "Line 1: The rectangle reaches outside the picture.",
-    "fill 18446744073709551615,0,2,2 1": "Line 1: The rectangle reaches outside the picture.", "fill 9007199254740993,0,0,0 1": "reaches outside",
-    "fill 0,0,1,1 1\n\nmosaic 0,0,9,9 0,3": "Line 3: A tile needs at least one column and one row.", "mosaic 0,0,9,9 3,0": "A tile needs",
-    "move 0,0,20,20 50,0": "reaches outside", "crop 0,0,0,5": "reaches outside", "crop 0,0,61,5": "reaches outside", "pad 0,0,4294967295,0 1": "reaches outside",
+    "fill 10,8,20,12 256": "is not of the form fill",
+    "fill 10,8,20,12 1,2": "is not of the form fill", "fill 10,8,20 1": "is not of the form fill",
+    "fill 010,8,20,12 1": "is not of the form fill", "fill -1,8,20,12 1": "is not of the form fill",
+    "fill  1,8,20,12 1": "is not of the form fill", "fill 1,8,20,12 1 ": "is not of the form fill",
+    "fill 18446744073709551616,0,1,1 1": "is not of the form fill",
+    "mosaic 0,0,9,9 3": "is not of the form mosaic",
+    "FILL 0,0,1,1 1": "an edit begins with fill, mosaic, move, crop, pad, and not with 'FILL'",
+    "toString 0,0,1,1 1": "an edit begins with",
+    "0..5 fill 0,0,1,1 1": "a picture has one frame, so leave out the range 0..5.",
+    "fill 0,0,1,1 1 fill 0,0,1,1 1": "is not of the form fill",
+    "crop 0,0,9,9\nfill 0,0,1,1 1": "Line 2: at most one crop or pad is allowed, and it must",
+    "crop 0,0,9,9\npad 0,0,1,1 1": "Line 2: at most one",
+    "fill 50,8,20,12 1": "Line 1: The rectangle reaches outside the picture.",
+    "fill 0,30,20,12 1": "Line 1: The rectangle reaches outside the picture.",
+    "fill 18446744073709551615,0,2,2 1": "Line 1: The rectangle reaches outside the picture.",
+    "fill 9007199254740993,0,0,0 1": "reaches outside",
+    "fill 0,0,1,1 1\n\nmosaic 0,0,9,9 0,3": "Line 3: A tile needs at least one column and one row.",
+    "mosaic 0,0,9,9 3,0": "A tile needs", "move 0,0,20,20 50,0": "reaches outside",
+    "crop 0,0,0,5": "reaches outside", "crop 0,0,61,5": "reaches outside",
+    "pad 0,0,4294967295,0 1": "reaches outside",
 }
-# Edits, a rectangle of which nothing may be seen, and one of which something is.
-HIDDEN = (
-    ("fill 10,8,20,12 0", (10, 8, 20, 12), (30, 8, 1, 1)),
-    ("fill 10,8,20,12 9,8,7", (10, 8, 20, 12), (9, 19, 1, 1)),
-    ("mosaic 8,8,32,16 8,8", (9, 9, 7, 7), (16, 8, 1, 1)),
-    ("crop 30,0,30,40", (0, 0, 30, 40), (30, 39, 1, 1)),
-    ("fill 4,4,8,8 1\nmove 0,0,20,20 30,15", (4, 4, 8, 8), (3, 4, 1, 1)),
-    ("move 40,0,20,20 0,0", (0, 0, 20, 20), (40, 0, 1, 1)),
-    ("fill 4,4,8,8 1\npad 1,1,1,1 7", (4, 4, 8, 8), (12, 11, 1, 1)),
-)
+# Whether the page has started, or has said why not.
+STARTED = """return document.documentElement.dataset.ready === 'yes'
+|| !document.getElementById('problem').hidden"""
 PIXELS = png.by_chance(WIDTH, HEIGHT, "page")
 
 
@@ -50,7 +57,11 @@ class Page:
 
     def start(self):
         self.browser.open(self.url)
-        until(lambda: self.browser.run("return document.documentElement.dataset.ready === 'yes' || !document.getElementById('problem').hidden"))
+        until(
+            lambda: self.browser.run(
+                STARTED
+            )
+        )
 
     def give(self, name, data):
         """Gives the page a file, and waits for what it says of it."""
@@ -68,7 +79,12 @@ class Page:
 
     def apply(self, text):
         """Gives the page a list of edits as text."""
-        self.browser.run("document.querySelector('details:has(#text)').open = true; document.getElementById('text').value = arguments[0]; document.getElementById('apply').click()", text)
+        self.browser.run(
+            "document.querySelector('details:has(#text)').open = true;"
+            "document.getElementById('text').value = arguments[0];"
+            "document.getElementById('apply').click()",
+            text
+        )
         return self.status()
 
     def list(self):
@@ -82,13 +98,15 @@ class Page:
 
     def shown(self):
         """The pixels on the screen, as a number that tells them apart."""
-        return self.browser.run(
-            "const c = document.getElementById('canvas'); const d = c.getContext('2d').getImageData(0, 0, c.width, c.height).data;"
-            "let h = 7; for (const b of d) { h = (Math.imul(h, 31) + b) | 0; } return h")
+        return self.browser.script("shown")
 
     def on_screen(self, *places):
         """Places of the picture as places of the window."""
-        box = self.browser.run("const c = document.getElementById('canvas'); c.scrollIntoView({ block: 'nearest' }); const b = c.getBoundingClientRect(); return [b.left, b.top, b.width / c.width, b.height / c.height]")
+        box = self.browser.run(
+            "const it = document.getElementById('canvas'); it.scrollIntoView({ block: 'nearest' });"
+            "const box = it.getBoundingClientRect();"
+            "return [box.left, box.top, box.width / it.width, box.height / it.height]"
+        )
         return [(box[0] + x * box[2], box[1] + y * box[3]) for x, y in places]
 
     def drag(self, *places, **how):
@@ -112,11 +130,22 @@ def check_lists(page, program):
         said, words = page.apply(text), text.split()
         saved = png.ppm_of(page.save())
         label = text.replace("\n", "; ")
-        page.count(f"{label}: carried out", page.list() == f"{text}\n" and (said == "Done." or said.startswith("Note:") and "move" in text), said)
+        page.count(
+            f"{label}: carried out",
+            page.list() == f"{text}\n" and (
+                said == "Done." or said.startswith("Note:") and "move" in text
+            ),
+            said
+        )
         page.count(f"{label}: by the model", saved == by_model(words))
         if program:
-            ran = subprocess.run([program, *words], input=png.ppm(WIDTH, HEIGHT, PIXELS), capture_output=True)
-            page.count(f"{label}: by imgref_frames", ran.returncode == 0 and saved == ran.stdout, ran.stderr)
+            ran = subprocess.run(
+                [program, *words], input=png.ppm(WIDTH, HEIGHT, PIXELS), capture_output=True
+            )
+            page.count(
+                f"{label}: by imgref_frames", ran.returncode == 0 and saved == ran.stdout,
+                ran.stderr
+            )
 
 
 def check_bad_lists(page):
@@ -126,11 +155,19 @@ def check_bad_lists(page):
     before = page.list(), page.shown()
     for text, why in BAD.items():
         said = page.apply(text)
-        well = why in said and page.browser.run("return document.getElementById('status').classList.contains('problem')")
+        well = why in said and page.browser.run(
+            "return document.getElementById('status').classList.contains('problem')"
+        )
         same = page.shown() == before[1]
         page.browser.run("document.getElementById('undo').focus()")
         page.count(f"{text!r} is refused, and nothing has changed", well and same, f"{same} {said}")
-    page.count("the list is as before", page.browser.run("return [...document.querySelectorAll('#edits button')].map((it) => it.textContent + '\\n').join('')") == before[0])
+    page.count(
+        "the list is as before",
+        page.browser.run(
+            "const lines = [...document.querySelectorAll('#edits button')];"
+            "return lines.map((it) => it.textContent + '\\n').join('')"
+        ) == before[0]
+    )
 
 
 def check_pointer(page):
@@ -141,7 +178,10 @@ def check_pointer(page):
     page.count("it is saved", png.ppm_of(page.save()) == by_model("fill 10,8,20,12 0".split()))
     page.drag((15, 12), (16, 12), (18, 17))
     page.count("the mouse moves it", page.list() == "fill 13,13,20,12 0\n")
-    page.count("what it covered before is there again", png.ppm_of(page.save()) == by_model("fill 13,13,20,12 0".split()))
+    page.count(
+        "what it covered before is there again",
+        png.ppm_of(page.save()) == by_model("fill 13,13,20,12 0".split())
+    )
     page.drag((33, 25), (36, 28), (40.1, 29.9))
     page.count("the mouse resizes it at a corner", page.list() == "fill 13,13,27,17 0\n")
     page.drag((13, 13), (40, 30), (45, 35))
@@ -150,18 +190,28 @@ def check_pointer(page):
     page.count("a rectangle stays inside the picture", page.list() == "fill 0,0,5,5 0\n")
     page.choose("mosaic")
     page.count("a tool changes the selected rectangle", page.list() == "mosaic 0,0,5,5 16,16\n")
-    page.browser.run("const it = document.getElementById('tile-width'); it.value = 2; it.dispatchEvent(new Event('change', { bubbles: true }))")
+    page.browser.change("tile-width", "2")
     page.count("so does the size of a tile", page.list() == "mosaic 0,0,5,5 2,16\n")
     page.drag((30, 30), (30.01, 30.01))
     page.count("a click draws nothing", page.list() == "mosaic 0,0,5,5 2,16\n")
     page.drag((49.5, 29.5), (30, 20), (20.5, 10.5), kind="touch")
-    page.count("a finger draws a mosaic, from right to left", page.list() == "mosaic 0,0,5,5 2,16\nmosaic 20,10,30,20 2,16\n")
+    page.count(
+        "a finger draws a mosaic, from right to left",
+        page.list() == "mosaic 0,0,5,5 2,16\nmosaic 20,10,30,20 2,16\n"
+    )
     page.choose("crop")
-    page.count("a rectangle becomes a crop", page.list() == "mosaic 0,0,5,5 2,16\ncrop 20,10,30,20\n")
+    page.count(
+        "a rectangle becomes a crop", page.list() == "mosaic 0,0,5,5 2,16\ncrop 20,10,30,20\n"
+    )
     page.drag((35, 10), (35, 12), (35, 14.1))
-    page.count("a crop is moved by its edge", page.list() == "mosaic 0,0,5,5 2,16\ncrop 20,14,30,20\n")
+    page.count(
+        "a crop is moved by its edge", page.list() == "mosaic 0,0,5,5 2,16\ncrop 20,14,30,20\n"
+    )
     page.browser.press("Escape")
-    page.count("Escape deselects it", page.browser.run("return document.getElementById('selected').disabled"))
+    page.count(
+        "Escape deselects it",
+        page.browser.run("return document.getElementById('selected').disabled")
+    )
     words = "mosaic 0,0,5,5 2,16\nfill 22,12,6,6 0\ncrop 20,10,30,20\n"
     page.open()
     page.apply("mosaic 0,0,5,5 2,16\ncrop 20,10,30,20")
@@ -170,87 +220,17 @@ def check_pointer(page):
     page.count("a fill inside a crop comes before it", page.list() == words)
     page.count("they are saved", png.ppm_of(page.save()) == by_model(words.split()))
     page.browser.click("#edits li:nth-child(2) button")
-    fields = page.browser.run("return ['left', 'top', 'width', 'height'].map((it) => document.getElementById(it).value).join()")
+    fields = page.browser.run(
+        "const names = ['left', 'top', 'width', 'height'];"
+        "return names.map((it) => document.getElementById(it).value).join()"
+    )
     page.count("an edit of the list is selected", fields == "22,12,6,6")
-    page.browser.run("const it = document.getElementById('width'); it.value = 9; it.dispatchEvent(new Event('change', { bubbles: true }))")
+    page.browser.change("width", "9")
     page.count("its field changes it", "fill 22,12,9,6 0\n" in page.list())
-    page.browser.run("const it = document.getElementById('left'); it.value = 59; it.dispatchEvent(new Event('change', { bubbles: true }))")
-    page.count("a field that leads outside is refused", "outside" in page.status() and "fill 22,12,9,6 0\n" in page.list())
+    page.browser.change("left", "59")
+    page.count(
+        "a field that leads outside is refused",
+        "outside" in page.status() and "fill 22,12,9,6 0\n" in page.list()
+    )
     page.browser.click("#remove")
     page.count("it is removed", page.list() == "mosaic 0,0,5,5 2,16\ncrop 20,10,30,20\n")
-
-
-def check_keys(page):
-    """The same by keys alone."""
-    page.open()
-    page.choose("fill")
-    page.browser.run("document.getElementById('add').focus()")
-    page.browser.press("Enter")
-    page.count("a rectangle is added in the middle", page.list() == "fill 22,15,15,10 0\n")
-    page.count("it has the keys", page.browser.run("return document.activeElement.getAttribute('aria-label')") == "fill 22,15,15,10 0, rectangle 1")
-    earlier = []
-    for keys, text in ((("Right",), "23,15,15,10"), (("Down",), "23,16,15,10"), (("Left",), "22,16,15,10"), (("Up",), "22,15,15,10"),
-                       (("Control", "Right"), "32,15,15,10"), (("Shift", "Right"), "32,15,16,10"), (("Shift", "Up"), "32,15,16,9"),
-                       (("Control", "Shift", "Down"), "32,15,16,19"), (("Control", "Left"), "22,15,16,19")):
-        earlier.append(page.list())
-        page.browser.press(*keys)
-        page.count(f"{'+'.join(keys)} gives {text}", page.list() == f"fill {text} 0\n")
-    page.count("it is saved", png.ppm_of(page.save()) == by_model("fill 22,15,16,19 0".split()))
-    page.browser.press("Control", "z")
-    page.count("Ctrl+Z takes keys back that were pressed together", page.list() in earlier)
-    page.browser.press("Control", "y")
-    page.count("Ctrl+Y brings it again", page.list() == "fill 22,15,16,19 0\n")
-    page.browser.run("document.querySelector('#overlay g').focus()")
-    page.browser.press("Delete")
-    page.count("Delete removes it", page.list() == "")
-    page.browser.press("Control", "z")
-    page.count("and Ctrl+Z brings it again", page.list() == "fill 22,15,16,19 0\n")
-    page.browser.press("Control", "Shift", "z")
-    page.count("and Ctrl+Shift+Z removes it again", page.list() == "")
-    order = []
-    page.browser.run("document.activeElement.blur(); window.scrollTo(0, 0); document.getElementById('picture-tab').focus()")
-    for _ in range(8):
-        page.browser.press("Tab")
-        order.append(page.browser.run("return document.activeElement.id || document.activeElement.value || document.activeElement.tagName"))
-    page.count("Tab goes from the tools to the list", order[:6] == ["picture", "open", "undo", "save", "actual", "fill"] or order[:5] == ["open", "undo", "save", "actual", "fill"], order)
-
-
-def check_undo(page):
-    """Undo gives each earlier picture exactly, and redo each later one."""
-    page.open()
-    texts = ["fill 1,1,30,20 9", "fill 1,1,30,20 9\nmosaic 5,5,40,30 6,6", "mosaic 5,5,40,30 6,6", "mosaic 5,5,40,30 6,6\nmove 0,0,30,30 20,7", "move 0,0,30,30 20,7", "fill 1,1,3,3 4\nmove 0,0,30,30 20,7\ncrop 0,0,9,9"]
-    seen = [page.shown()]
-    for it in texts:
-        page.apply(it)
-        seen.append(page.shown())
-    page.count("each list shows another picture, but for the crop", len(set(seen[:-1])) == len(seen) - 1)
-    for at in range(len(texts) - 1, -1, -1):
-        page.browser.run("document.getElementById('undo').click()")
-        page.count(f"undo to list {at}", page.shown() == seen[at] and page.list() == (f"{texts[at - 1]}\n" if at else ""))
-    page.count("nothing is left to undo", page.browser.run("return document.getElementById('undo').disabled"))
-    page.count("all undone is the picture itself", png.ppm_of(page.save()) == png.ppm(WIDTH, HEIGHT, PIXELS))
-    for at, it in enumerate(texts, 1):
-        page.browser.run("document.getElementById('redo').click()")
-        page.count(f"redo to list {at}", page.shown() == seen[at] and page.list() == f"{it}\n")
-    page.browser.run("document.getElementById('undo').click()")
-    page.apply("fill 0,0,1,1 1")
-    page.count("a new edit ends what could be redone", page.browser.run("return document.getElementById('redo').disabled"))
-
-
-def exchanged(pixels, window):
-    """Other bytes in a rectangle."""
-    left, top, width, height = window
-    return frames.exchanged(pixels, 0, 3 * WIDTH, (3 * left, top, 3 * width, height))
-
-
-def check_hidden(page):
-    """Pictures that differ only in what is covered give the same file, byte for byte; those that differ beside it don't."""
-    for text, hidden, seen in HIDDEN:
-        saved = []
-        for pixels in (PIXELS, exchanged(PIXELS, hidden), exchanged(PIXELS, seen)):
-            page.open(pixels)
-            page.apply(text)
-            saved.append(page.save())
-        label = text.replace("\n", "; ")
-        page.count(f"{label}: hidden pixels exchanged give the same file", saved[0] == saved[1])
-        page.count(f"{label}: shown pixels exchanged don't", saved[0] != saved[2])

@@ -1,4 +1,4 @@
-"""PNG and PPM files as the checks of the page need them: written and read here, apart from any browser."""
+"""PNG and PPM files, written and read here, so that no browser is needed for it."""
 import random
 import struct
 import zlib
@@ -17,7 +17,10 @@ def png(width, height, pixels, more=(), kind=2):
     row = width * CHANNELS[kind]
     lines = b"".join(b"\0" + pixels[at:at + row] for at in range(0, row * height, row))
     head = struct.pack(">IIBBBBB", width, height, 8, kind, 0, 0, 0)
-    chunks = [chunk(b"IHDR", head), *(chunk(*it) for it in more), chunk(b"IDAT", zlib.compress(lines, 1)), chunk(b"IEND", b"")]
+    chunks = [
+        chunk(b"IHDR", head), *(chunk(*it) for it in more), chunk(b"IDAT", zlib.compress(lines, 1)),
+        chunk(b"IEND", b"")
+    ]
     return SIGNATURE + b"".join(chunks)
 
 
@@ -38,7 +41,9 @@ def size_of(data):
 def nearest(left, up, corner):
     """Paeth's choice among the bytes at the left, above, and above the left."""
     guess = left + up - corner
-    return min((abs(guess - left), 0, left), (abs(guess - up), 1, up), (abs(guess - corner), 2, corner))[2]
+    return min(
+        (abs(guess - left), 0, left), (abs(guess - up), 1, up), (abs(guess - corner), 2, corner)
+    )[2]
 
 
 def unfiltered(kind, line, above, wide):

@@ -1,32 +1,38 @@
 #!/usr/bin/env python3
 """The page that covers parts of a picture (docs/WEB.md), in a browser.
 
-It builds the page over what the proofs left (tools/web.py), serves it on this machine, and does what a person does: opens
-pictures, covers, undoes and saves. Saved files are compared with a model (.ci/frames.py) and with imgref_frames on the same
-picture, and the layouts with a model of scripts (.ci/model.py). Where Chromium or its driver isn't on the machine, what needs
-them is named as skipped. With the word --screenshots it writes those of the documents, and checks nothing.
+It builds the page over what the proofs left (tools/web.py), serves it on this machine, and does
+what a person does: opens pictures, covers, undoes and saves. Saved files are compared with a model
+(.ci/frames.py) and with imgref_frames on the same picture. The layouts are compared with a model of
+scripts (.ci/model.py). Where Chromium or its driver isn't on the machine, what needs them is named
+as skipped. With the word --screenshots it writes those of the documents, and checks nothing.
 """
 import pathlib
 import re
+import signal
 import subprocess
 import sys
+import urllib.request
 
 sys.path.insert(0, str(pathlib.Path(__file__).resolve().parents[2]))
-from browser import files, layout, looks, picture, shots
+from browser import acts, files, layout, looks, picture, shots
 from browser.driver import browser, served
 from checking import ROOT, Cases
 
 OUT = ROOT / "out/web"
 FILES = {"index.html", "page.js", "style.css", "imgref.wasm"}
 MOST_BYTES = 100_000
-# The sections of a WebAssembly file that hold names of other modules, and those that hold neither code nor data.
+# The sections of a WebAssembly file with names of other modules, and those without code and data.
 IMPORTS, CUSTOM = 2, 0
 PROGRAM = ROOT / "crates/imgref_frames/out/imgref_frames"
 
 
 def made(cases, *words):
     """Whether a command of the Makefile ends well."""
-    ran = subprocess.run(["make", "-s", *words], cwd=ROOT, stdin=subprocess.DEVNULL, capture_output=True, text=True, errors="replace")
+    ran = subprocess.run(
+        ["make", "-s", *words], cwd=ROOT, stdin=subprocess.DEVNULL, capture_output=True, text=True,
+        errors="replace"
+    )
     cases.count(f"make {' '.join(words)}", ran.returncode == 0, ran.stdout + ran.stderr)
     return ran.returncode == 0
 
@@ -56,15 +62,56 @@ def check_files(cases):
     size = sum(map(len, found.values()))
     cases.count(f"they have under {MOST_BYTES} bytes", size < MOST_BYTES, size)
     module = found["imgref.wasm"]
-    cases.count("the module imports nothing", module[:4] == b"\0asm" and IMPORTS not in sections(module) and CUSTOM not in sections(module))
+    cases.count(
+        "the module imports nothing",
+        module[:4] == b"\0asm" and IMPORTS not in sections(module) and CUSTOM not in sections(
+            module
+        )
+    )
     texts = {name: it.decode() for name, it in found.items() if name != "imgref.wasm"}
     addresses = {it for text in texts.values() for it in re.findall(r"\w+://[^\s\"'`]+", text)}
     cases.count("they name no server", addresses == {"http://www.w3.org/2000/svg"}, addresses)
-    policy = re.search(r'http-equiv="Content-Security-Policy" content="([^"]*)"', texts["index.html"])
+    policy = re.search(
+        r'http-equiv="Content-Security-Policy" content="([^"]*)"', texts["index.html"]
+    )
     allowed = policy and [tuple(it.split(" ", 1)) for it in policy[1].split("; ")]
-    wanted = [("default-src", "'none'"), ("script-src", "'self' 'wasm-unsafe-eval'"), ("style-src", "'self'"), ("connect-src", "'self'"), ("img-src", "data:"), ("base-uri", "'none'"), ("form-action", "'none'")]
+    wanted = [
+        ("default-src", "'none'"), ("script-src", "'self' 'wasm-unsafe-eval'"),
+        ("style-src", "'self'"), ("connect-src", "'self'"), ("img-src", "data:"),
+        ("base-uri", "'none'"), ("form-action", "'none'")
+    ]
     cases.count("the policy allows the page's own files alone", allowed == wanted, allowed)
-    cases.count("the page asks for one file by itself", len(re.findall(r"\bfetch\(|XMLHttpRequest|sendBeacon|WebSocket|importScripts|import\(", texts["page.js"])) == 1)
+    cases.count(
+        "the page asks for one file by itself",
+        len(
+            re.findall(
+                r"\bfetch\(|XMLHttpRequest|sendBeacon|WebSocket|importScripts|import\(",
+                texts["page.js"]
+            )
+        ) == 1
+    )
+
+
+def check_served(cases):
+    """`make web-serve` serves the files until Ctrl-C, and says so where its port is taken."""
+    command = [sys.executable, str(ROOT / "tools/web.py"), "serve"]
+    how = {"cwd": ROOT, "stdin": subprocess.DEVNULL, "stderr": subprocess.PIPE, "text": True}
+    server = subprocess.Popen([*command, "0"], **how)
+    try:
+        said = iter(server.stderr.readline, "")
+        url = next((it.split()[0] for it in said if it.startswith("http://127.0.0.1:")), "")
+        for name in sorted(FILES):
+            with urllib.request.urlopen(f"{url}{name}") as answer:
+                same = answer.read() == (OUT / name).read_bytes()
+            cases.count(f"make web-serve serves {name}", same)
+        port = url.split(":")[-1].strip("/")
+        taken = subprocess.run([*command, port], timeout=60, **how)
+        told = f"port {port} can't be used" in taken.stderr
+        cases.count("make web-serve: a port that is taken", taken.returncode == 1 and told, taken.stderr)
+    finally:
+        server.send_signal(signal.SIGINT)
+        left = server.communicate(timeout=60)[1]
+    cases.count("make web-serve ends by Ctrl-C", server.returncode == 0, left[-500:])
 
 
 def check_page(cases, program):
@@ -74,13 +121,16 @@ def check_page(cases, program):
             return
         page = picture.Page(found, url, cases)
         page.start()
-        cases.count("the page starts", found.run("return document.documentElement.dataset.ready") == "yes", found.text("#problem"))
+        cases.count(
+            "the page starts", found.run("return document.documentElement.dataset.ready") == "yes",
+            found.text("#problem")
+        )
         picture.check_lists(page, program)
         picture.check_bad_lists(page)
         picture.check_pointer(page)
-        picture.check_keys(page)
-        picture.check_undo(page)
-        picture.check_hidden(page)
+        acts.check_keys(page)
+        acts.check_undo(page)
+        acts.check_hidden(page)
         files.check_wrong_files(page)
         files.check_dropped(page)
         files.check_small(page)
@@ -102,6 +152,7 @@ def main(words):
                 shots.take(picture.Page(found, url, cases), ROOT / "docs")
             return cases.end()
         check_files(cases)
+        check_served(cases)
         check_page(cases, PROGRAM if made(cases, "frames") else None)
     return cases.end()
 
