@@ -56,6 +56,8 @@ TICS = {
     r"lies? (?:apart|beside)": "doesn't overlap, is next to",
     r"summed (?:place|corner)": "the sum of the corners",
     r"written apart from": "that shares nothing with",
+    r"but for (?!\w+ing)": "except",
+    r"how far the proofs are": "proof progress",
     r"is a case and no": "belongs in",
 }
 TIC = [(re.compile(rf"\b(?:{it})\b", re.IGNORECASE), better) for it, better in TICS.items()]

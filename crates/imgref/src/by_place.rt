@@ -76,8 +76,8 @@ impl<C: AsMutSlice> Img<C> {
 
 impl<T> ImgVec<T> {
     /// The image of `width` by `height` pixels whose pixels are the results of `f` for each column
-    /// and row, row by row and from left to right. It has no padding: its stride is the width, or 1
-    /// for width 0. (In the Rust crate this is the caller's loop over `push`.)
+    /// and row. It goes row by row and from left to right. There is no padding: the stride is the
+    /// width, or 1 for width 0. (In the Rust crate this is the caller's loop over `push`.)
     ///
     /// # Requires
     ///
