@@ -24,7 +24,7 @@ WRITTEN = {"API.md", "INNER.md"}
 UNREAD = {"frame_formats", "imgref_frames"}
 # What is searched for odd words besides the documents: their comments and their texts within quotes.
 SOURCES = ["Makefile", "crates/*/src/**/*.rt", "crates/*/specs/**/*.antt", "crates/*/proofs/**/*.antt", "tools/*.py", ".ci/**/*.py"]
-SOURCES += [".ci/c/*.[ch]", "include/*.h", "bench/*.[cr]*", "examples/**/*.[chpr]*", "include/*.hpp", "bindings/**/*.[hpr]*", "man/*"]
+SOURCES += [".ci/c/*.[ch]", "include/*.h", "bench/*.[cr]*", "examples/**/*.[chpr]*", "include/*.hpp", "bindings/**/*.[hpr]*", "man/*", "web/*.*"]
 # Words and phrases that are hard to understand, each with what to say.
 TICS = {
     r"want of memory": "out of memory",
@@ -66,7 +66,7 @@ LINK = re.compile(r"!?\[([^\]]*)\]\([^)]*\)")
 ENDS = re.compile(r"(?<=[.!?])[)*'\"]*\s+")
 BEGINS = re.compile(r"\s*(?:[-*] |\d+\. |#+ |\|)")
 # Comments and texts within quotes, by the ending of a file; those of Python are found by its own tokens.
-SAID = {".antt": re.compile(r"--.*"), "": re.compile(r"#.*"), ".1": re.compile(r".+"), ".3": re.compile(r".+")}
+SAID = {".antt": re.compile(r"--.*"), "": re.compile(r"#.*"), ".html": re.compile(r".+"), ".1": re.compile(r".+"), ".3": re.compile(r".+")}
 DOCUMENTED = re.compile(r"(?:^ *//[/!].*\n)+", re.MULTILINE)
 SAID_IN_CODE = re.compile(r'//.*|/\*.*|^ *\*.*|"(?:[^"\\]|\\.)*"')
 OF_PYTHON = {tokenize.COMMENT, tokenize.STRING, getattr(tokenize, "FSTRING_MIDDLE", tokenize.STRING)}
