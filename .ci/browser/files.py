@@ -5,6 +5,7 @@ import time
 
 import frames
 from browser import picture, png
+from browser.driver import until
 
 # What a file may hold besides pixels: it must not be in the saved one.
 SECRET = b"51.5007N 0.1246W taken by Ada"
@@ -13,6 +14,8 @@ CHUNKS = {b"IHDR", b"IDAT", b"IEND", b"sRGB", b"gAMA", b"cHRM", b"sBIT", b"cICP"
 LARGE = 4000, 3000
 # How many milliseconds an edit of a large picture may take, in the fastest of some tries.
 MOST_MILLISECONDS, TRIES = 100, 8
+# What the page says of a copy, with and without the right to the clipboard.
+COPIED = ("Copied.", "The text is selected: copy it with Ctrl+C.")
 # The colour on the screen at a place.
 PIXEL = """const context = document.getElementById('canvas').getContext('2d');
 return [...context.getImageData(...arguments, 1, 1).data].slice(0, 3)"""
@@ -60,6 +63,32 @@ def check_wrong_files(page):
     page.count(
         "it still saves", png.ppm_of(page.save()) == picture.by_model("fill 2,2,9,9 3".split())
     )
+
+
+def check_given(page):
+    """A file that is dropped or pasted is opened, and edited at its actual size."""
+    data = png.png(picture.WIDTH, picture.HEIGHT, picture.PIXELS)
+    for kind in ("drop", "paste"):
+        page.open(b"\1\2\3", 1, 1)
+        page.browser.run("document.getElementById('status').textContent = 'Opening'")
+        page.browser.script("given", kind, f"{kind}.png", base64.b64encode(data).decode())
+        said = until(lambda: page.status() if not page.status().startswith("Opening") else "")
+        well = said.startswith(f"{kind}.png: 60 by 40 pixels.")
+        page.count(f"a {kind} opens a picture", well, said)
+        same = png.ppm_of(page.save(kind)) == png.ppm(picture.WIDTH, picture.HEIGHT, picture.PIXELS)
+        page.count(f"a {kind} gives its pixels", same)
+    page.browser.click("#actual")
+    page.choose("fill")
+    page.drag((3.1, 4.1), (9, 9), (22.9, 13.9))
+    size = page.browser.run("return document.getElementById('frame').style.width")
+    # (the browser rounds the places of a pointer)
+    drawn = zip(map(int, page.list().split()[1].split(",")), (3, 4, 20, 10))
+    well = size == "60px" and all(abs(it - wanted) <= 1 for it, wanted in drawn)
+    page.count("at its actual size it is drawn on", well, size)
+    page.browser.click("#actual")
+    page.browser.run("document.getElementById('copy').click()")
+    said = until(lambda: page.status() if page.status() != "Done." else "")
+    page.count("the text is copied, or selected", said in COPIED, said)
 
 
 def check_dropped(page):
