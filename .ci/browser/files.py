@@ -10,16 +10,32 @@ SECRET = b"51.5007N 0.1246W taken by Ada"
 # The chunks of a saved file: its size, the pixels, and at most that they are sRGB.
 CHUNKS = {b"IHDR", b"IDAT", b"IEND", b"sRGB", b"gAMA", b"cHRM", b"sBIT", b"cICP", b"iCCP"}
 LARGE = 4000, 3000
-# How many milliseconds an edit of a large picture may take, in the fastest of some tries.
-MOST_MILLISECONDS, TRIES = 100, 8
-# And how long the page may be busy at a time while it opens or saves one.
-MOST_BUSY = 300
+# How many milliseconds an edit of a large picture may take, and how long the page may be busy at a
+# time while it opens or saves one. The machine may be busy too: the fastest of some tries counts.
+MOST_MILLISECONDS, MOST_BUSY, TRIES = 100, 300, 20
 # What is done, and the lists of edits before and after it.
 LARGE_EDITS = (
     ("a fill of a ninth", "", "fill 100,200,1333,1000 0"),
     ("a mosaic of a ninth", "", "mosaic 100,200,1333,1000 16,16"),
     ("a fill of all", "", "fill 0,0,4000,3000 9"),
     ("a rectangle moved", "fill 100,200,1333,1000 0", "fill 300,200,1333,1000 0"),
+)
+# Small pictures, each with an edit.
+SMALL = (
+    (1, 1, "fill 0,0,1,1 1,2,3"),
+    (1, 1, "mosaic 0,0,1,1 1,1"),
+    (1, 1, "move 0,0,1,1 0,0"),
+    (1, 1, "crop 0,0,1,1"),
+    (1, 1, "pad 1,1,1,1 9"),
+    (1, 9, "mosaic 0,1,1,8 3,3"),
+    (9, 1, "fill 3,0,2,1 7"),
+)
+# How a camera may have been held, the size that is shown, and its first and last colour.
+HELD = (
+    (1, (32, 16), ("blue", "white")),
+    (3, (32, 16), ("white", "blue")),
+    (6, (16, 32), ("blue", "white")),
+    (8, (16, 32), ("white", "blue")),
 )
 # What the page says of a copy, with and without the right to the clipboard.
 COPIED = ("Copied.", "The text is selected: copy it with Ctrl+C.")
@@ -52,19 +68,21 @@ def check_wrong_files(page):
     page.apply("fill 1,1,9,9 3")
     before = page.list(), page.shown()
     whole = png.png(picture.WIDTH, picture.HEIGHT, picture.PIXELS)
-    wrong = {"text.png": b"this is no picture", "empty.png": b"", "head.png": whole[
-        :30
-    ], "bytes.jpg": bytes(range(256)) * 20,
-             "page.html": b"<!doctype html><p>hello", "zip.png": b"PK\x03\x04" + bytes(
-                 100
-             ), "huge.png": png.png(0x7FFFFFFF, 0, b"")}
+    wrong = {
+        "text.png": b"this is no picture",
+        "empty.png": b"",
+        "head.png": whole[:30],
+        "bytes.jpg": bytes(range(256)) * 20,
+        "page.html": b"<!doctype html><p>hello",
+        "zip.png": b"PK\x03\x04" + bytes(100),
+        "huge.png": png.png(0x7FFFFFFF, 0, b""),
+        "wide.png": png.png(32768, 1, bytes(3 * 32768)),
+    }
     for name, data in wrong.items():
         page.browser.run("document.getElementById('status').textContent = 'Opening'")
         said = page.give(name, data)
-        page.count(
-            f"{name} is refused in words",
-            name in said and "can't read" in said or "too large" in said, said
-        )
+        why = "32768 by 1 pixels, which is too large" if name == "wide.png" else "can't read"
+        page.count(f"{name} is refused in words", name in said and why in said, said)
         page.count(f"{name} changes nothing", (page.list(), page.shown()) == before)
     page.count("the page goes on", page.apply("fill 2,2,9,9 3") == "Done.")
     page.count(
@@ -121,10 +139,7 @@ def check_dropped(page):
         "All else in the file was dropped." in page.status()
     )
     plain = in_browser(page, "jpeg")
-    for orientation, size, corners in (
-        (1, (32, 16), ("blue", "white")), (3, (32, 16), ("white", "blue")),
-        (6, (16, 32), ("blue", "white")), (8, (16, 32), ("white", "blue"))
-    ):
+    for orientation, size, corners in HELD:
         data = plain[:2] + exif(orientation) + plain[2:]
         page.browser.run("document.getElementById('status').textContent = 'Opening'")
         page.give(f"held{orientation}.jpg", data)
@@ -146,20 +161,13 @@ def check_dropped(page):
 
 def check_small(page):
     """A picture of one pixel, of one column, and of one row."""
-    for width, height, text in ((1, 1, "fill 0,0,1,1 1,2,3"), (1, 1, "mosaic 0,0,1,1 1,1"), (
-        1, 1, "move 0,0,1,1 0,0"
-    ), (1, 1, "crop 0,0,1,1"), (1, 1, "pad 1,1,1,1 9"),
-                                (1, 9, "mosaic 0,1,1,8 3,3"), (9, 1, "fill 3,0,2,1 7")):
+    for width, height, text in SMALL:
         pixels = png.by_chance(width, height, "small")
         page.open(pixels, width, height)
         said = page.apply(text)
-        page.count(
-            f"{width} by {height}: {text}",
-            said == "Done." and png.ppm_of(page.save()) == picture.by_model(
-                text.split(), pixels, width, height
-            ),
-            said
-        )
+        wanted = picture.by_model(text.split(), pixels, width, height)
+        well = said == "Done." and png.ppm_of(page.save()) == wanted
+        page.count(f"{width} by {height}: {text}", well, said)
     page.open(b"\1\2\3", 1, 1)
     page.choose("fill")
     page.browser.run("document.getElementById('add').click()")
@@ -186,12 +194,17 @@ def large_row():
     return bytes((x * it) & 255 for x in range(LARGE[0]) for it in (1, 3, 7))
 
 
+def is_quick(tries, most):
+    """Whether one of some tries took less than so many milliseconds."""
+    return min(tries, default=most) < most
+
+
 def check_large(page):
     """12 megapixels: opened, covered and saved, without a pause that a person notices."""
     width, height = LARGE
     pixels, busy = large_row() * height, {"opening": [], "saving": []}
     page.browser.script("pauses")
-    for _ in range(3):
+    while len(busy["saving"]) < TRIES and any(not is_quick(it, MOST_BUSY) for it in busy.values()):
         page.open(pixels, width, height, "large.png")
         page.count("12 megapixels are opened", f"{width} by {height}" in page.status())
         busy["opening"].append(max(page.browser.script("pauses"), default=0))
@@ -200,7 +213,7 @@ def check_large(page):
         saved = page.save("large")
         busy["saving"].append(max(page.browser.script("pauses"), default=0))
     for label, found in busy.items():
-        well = min(found) < MOST_BUSY
+        well = is_quick(found, MOST_BUSY)
         page.count(f"12 megapixels: {label} is busy for under {MOST_BUSY} ms", well, found)
         print(f"  {label}: {found} ms")
     places = ((63, 63), (64, 70), (100, 200), (1100, 200))
@@ -222,9 +235,9 @@ def check_large_edits(page):
     """Edits of 12 megapixels, each after another list of edits."""
     for label, before, text in LARGE_EDITS:
         took = []
-        for _ in range(TRIES):
+        while len(took) < TRIES and not is_quick(took, MOST_MILLISECONDS):
             page.browser.script("timed", before)
             took.append(round(page.browser.script("timed", text)))
-        well = page.status() == "Done." and min(took) < MOST_MILLISECONDS
+        well = page.status() == "Done." and is_quick(took, MOST_MILLISECONDS)
         page.count(f"12 megapixels: {label} takes under {MOST_MILLISECONDS} ms", well, took)
-        print(f"  {label}: {sorted(took)} ms")
+        print(f"  {label}: {took} ms")
