@@ -74,7 +74,7 @@ def make_module():
     below = crates()[NAME]
     if built(*below):
         raise Failure(f"what {NAME} depends on is not proved")
-    say(f"{NAME} is proved and built for WebAssembly now, in about half a minute.")
+    say(f"{NAME} is proved and built for WebAssembly now, in about a minute.")
     with room(NAME) as folder:
         listed = folder.parent.parent / "crates.txt"
         text, count = re.subn(rf"(?m)^{NAME} staticlib:", f"{NAME} {KIND}:", listed.read_text())

@@ -28,12 +28,16 @@ export function startPicture(library) {
     const file = [...event.clipboardData.files][0];
     return file && tab.open(file);
   });
-  document.addEventListener("dragover", (event) => event.preventDefault());
-  document.addEventListener("drop", (event) => {
-    event.preventDefault();
-    const file = event.dataTransfer.files[0];
-    return file && tab.open(file);
-  });
+  for (const name of ["dragover", "drop"]) {
+    document.addEventListener(name, (event) => {
+      // (a text that is dragged goes where it always goes)
+      if (event.dataTransfer.types.includes("Files")) {
+        event.preventDefault();
+        const file = event.dataTransfer.files[0];
+        return name === "drop" && file && tab.open(file);
+      }
+    });
+  }
   tab.render();
 }
 

@@ -49,8 +49,9 @@ class LayoutTab {
     find("output").textContent = (
       bad ? [`fault line ${bad}`] : outputOf(all)
     ).map((it) => `${it}\n`).join("");
-    const shown = now.images.map((image, index) => pictureOf(image, index, commands[at - 1]));
-    find("images").replaceChildren(...shown);
+    find("images").replaceChildren(...now.images.map(
+      (image, index) => pictureOf(this.library, image, index, commands[at - 1])
+    ));
   }
 
   /** A line of the script, with the reply where its command has been carried out. */
@@ -82,7 +83,7 @@ function stepText(at, count, reply) {
 }
 
 /** An image drawn as cells, with the windows of the command that was carried out last. */
-function pictureOf(image, index, command) {
+function pictureOf(library, image, index, command) {
   const figure = document.createElement("figure"), caption = document.createElement("figcaption");
   const { width, height, stride, values } = image;
   const cells = plural(values.length, "cell");
@@ -111,7 +112,7 @@ function pictureOf(image, index, command) {
   measures(svg, Number(width), Number(height), columns, rows);
   for (const [at, { index: number, path }] of (command?.spots ?? []).entries()) {
     if (Number(number) === index) {
-      outlines(svg, image, command, path, at);
+      outlines(svg, image, command, windowsAlong(library, image, path), path.length, at);
     }
   }
   return figure;
@@ -141,16 +142,15 @@ function measures(svg, width, height, columns, rows) {
 }
 
 /** The windows along a path, the last one bold, and the place of a get or a put. */
-function outlines(svg, image, { word, numbers }, path, at) {
-  const windows = windowsAlong(image, path);
+function outlines(svg, image, { word, numbers }, windows, length, at) {
   windows.forEach((it, index) => {
-    const isLast = index === path.length - 1, inset = isLast ? 3 : 1;
+    const isLast = index === length - 1, inset = isLast ? 3 : 1;
     const box = boxOf(it, inset);
     addDrawn(
       svg, "rect", { class: `window${isLast ? " last" : ""}${at ? " second" : ""}`, ...box }
     );
   });
-  if ((word === "get" || word === "put") && windows.length === path.length) {
+  if ((word === "get" || word === "put") && windows.length === length) {
     const [x, y] = numbers, window = windows.at(-1) ?? { left: 0n, top: 0n, ...image };
     if (x < window.width && y < window.height) {
       addDrawn(

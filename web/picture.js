@@ -68,6 +68,7 @@ export class PictureTab {
   /** Takes a decoded picture into the module's memory. */
   take(name, bitmap) {
     this.forget();
+    const { top } = this.library;
     try {
       const pixels = new Pixels(this.library, bitmap.width, bitmap.height);
       pixels.bytes().set(this.stage.read(bitmap));
@@ -75,6 +76,7 @@ export class PictureTab {
       const size = `${pixels.width} by ${pixels.height} pixels`;
       this.say(`${name}: ${size}. Draw a rectangle over what you want to cover.`);
     } catch (why) {
+      this.library.release(top);
       this.say(why.message, true);
     }
     this.render();

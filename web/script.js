@@ -161,28 +161,31 @@ function replyTo(library, images, command) {
   }
 }
 
-/** The window of an image that a path leads to. */
-function windowOf(library, image, path) {
-  return path.reduce((outer, it) => {
-    if (!library.hasWindow(outer.width, outer.height, it)) {
-      throw new Fault(OUTSIDE);
-    }
-    return { ...it, left: outer.left + it.left, top: outer.top + it.top };
-  }, { left: 0n, top: 0n, width: image.width, height: image.height });
-}
-
-/** Where each window of a path is in its image, up to the first that isn't inside. */
-export function windowsAlong(image, path) {
+/** Where the windows of a path are in their image, up to the first that isn't inside. */
+export function windowsAlong(library, image, path) {
   const found = [];
-  let outer = { left: 0n, top: 0n, width: image.width, height: image.height };
+  let outer = wholeOf(image);
   for (const it of path) {
-    if (it.left + it.width > outer.width || it.top + it.height > outer.height) {
+    if (!library.hasWindow(outer.width, outer.height, it)) {
       break;
     }
     outer = { ...it, left: outer.left + it.left, top: outer.top + it.top };
     found.push(outer);
   }
   return found;
+}
+
+/** The window of an image that a path leads to. */
+function windowOf(library, image, path) {
+  const found = windowsAlong(library, image, path);
+  if (found.length < path.length) {
+    throw new Fault(OUTSIDE);
+  }
+  return found.at(-1) ?? wholeOf(image);
+}
+
+function wholeOf({ width, height }) {
+  return { left: 0n, top: 0n, width, height };
 }
 
 function carriedOut(library, { word, numbers, pixel }, [image, other], [window, otherWindow]) {

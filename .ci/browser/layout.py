@@ -13,7 +13,8 @@ fill 0 1,1,2,1 0
 get 0 9,9,9,9 0 0
 compact 0
 """
-WORDS = ("get", "put", "fill", "count", "same", "blit", "mosaic", "compact")
+# The numbers of a window, a place or a tile.
+NUMBERS = [0, 0, 0, 1, 1, 1, 2, 2, 2, 3, 3, 4, 8, 2**64 - 1]
 
 
 def by_chance(chance):
@@ -23,31 +24,29 @@ def by_chance(chance):
         width, height = chance.randrange(4), chance.randrange(4)
         stride = max(width, 1) + chance.randrange(3)
         count = (stride * (height - 1) + width if width and height else 0) + chance.randrange(3)
-        lines.append(
-            " ".join(
-                map(
-                    str,
-                    ["image", width, height, stride, *(chance.randrange(4) for _ in range(count))]
-                )
-            )
-        )
-    number = lambda: chance.choice(
-        [0, 0, 1, 1, 2, 2, 3, 2**64 - 1]
-    ) if chance.random() < 0.9 else chance.randrange(9)
-    path = lambda: "/".join(
-        ",".join(str(number()) for _ in range(4)) for _ in range(chance.randrange(1, 3))
-    ) if chance.random() < 0.6 else "-"
-    spot = lambda: [chance.choice([0, 0, 1, 2]), path()]
-    for _ in range(6):
-        word = chance.choice(WORDS)
-        more = {"get": [number(), number()], "put": [
-            number(), number(), chance.randrange(256)
-        ], "fill": [chance.randrange(4)], "count": [chance.randrange(4)],
-                "same": spot(), "blit": spot(), "mosaic": [number(), number()]}
-        lines.append(
-            " ".join(map(str, [word, *(spot() + more[word] if word != "compact" else spot()[:1])]))
-        )
-    return "".join(f"{it}\n" for it in lines)
+        cells = [chance.randrange(4) for _ in range(count)]
+        lines.append(["image", width, height, stride, *cells])
+    lines += [command_by_chance(chance) for _ in range(6)]
+    return "".join(" ".join(map(str, it)) + "\n" for it in lines)
+
+
+def command_by_chance(chance):
+    """The fields of a command by chance."""
+    number = lambda: chance.choice(NUMBERS)
+    window = lambda: ",".join(str(number()) for _ in range(4))
+    path = lambda: "/".join(window() for _ in range(chance.randrange(1, 3)))
+    spot = lambda: [chance.choice([0, 0, 1, 2]), path() if chance.random() < 0.6 else "-"]
+    more = {
+        "get": [number(), number()],
+        "put": [number(), number(), chance.randrange(256)],
+        "fill": [chance.randrange(4)],
+        "count": [chance.randrange(4)],
+        "same": spot(),
+        "blit": spot(),
+        "mosaic": [number(), number()],
+    }
+    word = chance.choice([*more, "compact"])
+    return [word, *spot(), *more[word]] if word in more else [word, spot()[0]]
 
 
 def is_text(data):
@@ -72,18 +71,13 @@ def check_output(page):
     lines = [f"{it}\n".encode() for it in listed["alone"]] + [
         f"image 1 1 1 5\n{it}\n".encode() for it in listed["after image 1 1 1 5"]
     ]
-    wrong = [
-        it for it in lines if is_text(it) and page.browser.run(RUN, it.decode()) != model.answer(
-            it
-        )[0].decode()
-    ]
+    is_wrong = lambda it: page.browser.run(RUN, it.decode()) != model.answer(it)[0].decode()
+    wrong = [it for it in lines if is_text(it) and is_wrong(it)]
     page.cases.count(f"layout: {len(lines)} bad lines", lines and not wrong, wrong)
     chance = random.Random("layout")
-    scripts = [by_chance(chance) for _ in range(300)]
-    wrong = [
-        it for it in scripts if page.browser.run(RUN, it) != model.answer(it.encode())[0].decode()
-    ]
-    page.cases.count(f"layout: {len(scripts)} scripts by chance", not wrong, "\n".join(wrong[:3]))
+    scripts = [by_chance(chance).encode() for _ in range(300)]
+    wrong = [it for it in scripts if is_wrong(it)]
+    page.cases.count(f"layout: {len(scripts)} scripts by chance", not wrong, wrong[:3])
 
 
 def check_steps(page):

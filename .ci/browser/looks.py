@@ -2,7 +2,25 @@
 
 from browser import png
 
+# The phone, and what is done on it: the tab, and the edits of a picture where there is one.
 PHONE = {"width": 360, "height": 740, "deviceScaleFactor": 2, "mobile": True}
+ON_PHONE = (
+    ("at first", "picture", None),
+    ("with a picture", "picture", ""),
+    ("with edits", "picture", "fill 100,100,80,80 1,200,3\nmosaic 0,0,300,900 16,16"),
+    ("the layout", "layout", None),
+)
+# What a browser or a server lacks: a script that makes it so, and what the page says then.
+OLD = {
+    "no 64-bit memories": (
+        "WebAssembly.compile = () => Promise.reject(new WebAssembly.CompileError('memory'))",
+        "no 64-bit WebAssembly memories",
+    ),
+    "no module": (
+        "const old = window.fetch; window.fetch = () => old('missing.wasm')",
+        "is not on this server",
+    ),
+}
 WIDE = "return [document.scrollingElement.scrollWidth, innerWidth]"
 
 
@@ -24,12 +42,8 @@ def check_names(page):
             faint = page.browser.script("faint")
             page.cases.count(f"{tab}: contrast of each text, {scheme}", not faint, faint)
     page.browser.devtools("Emulation.setEmulatedMedia", features=[])
-    page.cases.count(
-        "a language and a title",
-        page.browser.run("return [document.documentElement.lang, document.title]") == [
-            "en", "Cover parts of a picture"
-        ]
-    )
+    named = page.browser.run("return [document.documentElement.lang, document.title]")
+    page.cases.count("a language and a title", named == ["en", "Cover parts of a picture"], named)
     page.browser.run("document.getElementById('layout-tab').focus()")
     page.browser.press("Left")
     chosen = """return [document.activeElement.id,
@@ -45,17 +59,11 @@ def check_phone(page):
     page.browser.devtools("Emulation.setDeviceMetricsOverride", **PHONE)
     page.browser.devtools("Emulation.setTouchEmulationEnabled", enabled=True)
     page.start()
-    for label, tab, act in (("at first", "picture", lambda: None), (
-        "with a picture", "picture", lambda: page.open(png.by_chance(300, 900, "phone"), 300, 900)
-    ),
-                            (
-                                "with edits", "picture",
-                                lambda: page.apply(
-                                    "fill 100,100,80,80 1,200,3\nmosaic 0,0,300,900 16,16"
-                                )
-                            ), ("the layout", "layout", lambda: None)):
+    for label, tab, edits in ON_PHONE:
         page.browser.click(f"#{tab}-tab")
-        act()
+        if edits is not None:
+            page.open(png.by_chance(300, 900, "phone"), 300, 900)
+            page.apply(edits)
         wide, inner = page.browser.run(WIDE)
         page.cases.count(
             f"a phone, {label}: nothing is wider than the screen", wide <= inner, (wide, inner)
@@ -98,17 +106,7 @@ def check_silence(page, asked, other, other_asked):
 
 def check_old(page):
     """A browser without 64-bit memories, and a server without the module, are reported in words."""
-    for label, script, words in (
-        (
-            "no 64-bit memories",
-            "WebAssembly.compile = () => Promise.reject(new WebAssembly.CompileError('memory'))",
-            "no 64-bit WebAssembly memories"
-        ),
-        (
-            "no module", "const old = window.fetch; window.fetch = () => old('missing.wasm')",
-            "is not on this server"
-        ),
-    ):
+    for label, (script, words) in OLD.items():
         made = page.browser.devtools("Page.addScriptToEvaluateOnNewDocument", source=script)
         page.start()
         problem = page.browser.run(

@@ -43,6 +43,7 @@ BAD = {
     "crop 0,0,0,5": "reaches outside", "crop 0,0,61,5": "reaches outside",
     "pad 0,0,4294967295,0 1": "reaches outside",
 }
+IS_PROBLEM = "return document.getElementById('status').classList.contains('problem')"
 # Whether the page has started, or has said why not.
 STARTED = """return document.documentElement.dataset.ready === 'yes'
 || !document.getElementById('problem').hidden"""
@@ -57,11 +58,7 @@ class Page:
 
     def start(self):
         self.browser.open(self.url)
-        until(
-            lambda: self.browser.run(
-                STARTED
-            )
-        )
+        until(lambda: self.browser.run(STARTED))
 
     def give(self, name, data):
         """Gives the page a file, and waits for what it says of it."""
@@ -130,13 +127,8 @@ def check_lists(page, program):
         said, words = page.apply(text), text.split()
         saved = png.ppm_of(page.save())
         label = text.replace("\n", "; ")
-        page.count(
-            f"{label}: carried out",
-            page.list() == f"{text}\n" and (
-                said == "Done." or said.startswith("Note:") and "move" in text
-            ),
-            said
-        )
+        is_told = said == "Done." or said.startswith("Note:") and "move" in text
+        page.count(f"{label}: carried out", is_told and page.list() == f"{text}\n", said)
         page.count(f"{label}: by the model", saved == by_model(words))
         if program:
             ran = subprocess.run(
@@ -155,9 +147,7 @@ def check_bad_lists(page):
     before = page.list(), page.shown()
     for text, why in BAD.items():
         said = page.apply(text)
-        well = why in said and page.browser.run(
-            "return document.getElementById('status').classList.contains('problem')"
-        )
+        well = why in said and page.browser.run(IS_PROBLEM)
         same = page.shown() == before[1]
         page.browser.run("document.getElementById('undo').focus()")
         page.count(f"{text!r} is refused, and nothing has changed", well and same, f"{same} {said}")

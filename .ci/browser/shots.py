@@ -1,4 +1,4 @@
-"""The screenshots of the documents: a made-up picture with its edits, and a script with its image."""
+"""The screenshots of the documents: a picture with its edits, and a script with its image."""
 import base64
 
 SCRIPT = """image 4 3 6 1 2 3 4 0 0 5 6 7 8 0 0 9 10 11 12

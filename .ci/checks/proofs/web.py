@@ -107,7 +107,8 @@ def check_served(cases):
         port = url.split(":")[-1].strip("/")
         taken = subprocess.run([*command, port], timeout=60, **how)
         told = f"port {port} can't be used" in taken.stderr
-        cases.count("make web-serve: a port that is taken", taken.returncode == 1 and told, taken.stderr)
+        well = taken.returncode == 1 and told
+        cases.count("make web-serve: a port that is taken", well, taken.stderr)
     finally:
         server.send_signal(signal.SIGINT)
         left = server.communicate(timeout=60)[1]
@@ -132,6 +133,7 @@ def check_page(cases, program):
         acts.check_undo(page)
         acts.check_hidden(page)
         files.check_wrong_files(page)
+        files.check_given(page)
         files.check_dropped(page)
         files.check_small(page)
         files.check_clear(page)
