@@ -341,7 +341,7 @@ static struct job made(size_t side, size_t cell) {
     return j;
 }
 
-/* All columns of one call on one size. They have to answer the same. */
+/* All columns of one call on one size. They have to return the same. */
 static void compare(const char *name, size_t cell, size_t side, work *const all[COLUMNS]) {
     struct job j = made(side, cell);
     double best[COLUMNS] = {0};
@@ -349,10 +349,10 @@ static void compare(const char *name, size_t cell, size_t side, work *const all[
         if (all[k]) {
             uint64_t answer = j.answer;
             all[k](&j);
-            if (k && j.answer != answer) fprintf(stderr, "%s, side %zu: column %d answers otherwise\n", name, side, k), abort();
+            if (k && j.answer != answer) fprintf(stderr, "%s, side %zu: column %d returns another result\n", name, side, k), abort();
         }
     int times = side < 100 ? 100 : side < 1000 ? 4 : 1;
-    /* A slow call gets fewer turns: about a third of a second for all columns. */
+    /* A slow call gets fewer iterations: about a third of a second for all columns. */
     double began = now();
     for (int turn = 0; turn < rounds && (turn < 5 || now() - began < 3e8); turn++)
         for (int k = 0; k < COLUMNS; k++)

@@ -1,5 +1,5 @@
-//! Calls on all cells in a shape: windows, equality and hash, comparison by a closure, copies
-//! without padding; fills, copies, maps and mosaics of the pixels; moves in place.
+//! Calls on all cells in a shape. They give windows, compare, hash, and copy without padding. They
+//! fill, copy and map pixels, make mosaics, and move pixels in place.
 //!
 //! Cells are a slice or a `Vec`, and a [`Shape`](image_shape::Shape) says where the rows of the
 //! image are in them. The crate hides the loops over rows, and that shifts of a
@@ -40,4 +40,4 @@ pub use swapping::swap_rows;
 pub use turning::{
     Turn, transpose_pixels, turn_half_pixels, turn_left_pixels, turn_pixels, turn_right_pixels,
 };
-pub use windows::{padded_part, padded_stretch_mut};
+pub use windows::{copy_window, fill_window, mosaic_window, padded_part, padded_stretch_mut};

@@ -1,5 +1,5 @@
-//! Calls that change every pixel by a closure that takes its place, or the pixel of another image
-//! there; and an image made by a closure from the places of a size.
+//! Calls that change every pixel by a closure. It takes the pixel's place, or the pixel of another
+//! image there. And an image made by a closure from the places of a size.
 
 ghost use Rattle.std.specs.Prelude.{◌≡◌, ◌*◌, ◌^◌, ◌<◌, IsOk, IfOk};
 ghost use Rattle.image_model.specs.Layout.{Fits, SameOutside};
@@ -38,9 +38,9 @@ impl<C: AsMutSlice> Img<C> {
         map_places(self.buf.stretch_mut(0, len), shape, &f);
     }
 
-    /// Every pixel becomes the result of `f` for it and the pixel of `other` at its place, row by
-    /// row and from left to right; the padding stays. The two strides may differ. (In the Rust
-    /// crate this is the caller's loop over two iterators.)
+    /// Every pixel becomes the result of `f` for it and the pixel of `other` at its place. It goes
+    /// row by row and from left to right, and the padding stays. The two strides may differ. (In the
+    /// Rust crate this is the caller's loop over two iterators.)
     ///
     /// # Requires
     ///
@@ -76,8 +76,8 @@ impl<C: AsMutSlice> Img<C> {
 
 impl<T> ImgVec<T> {
     /// The image of `width` by `height` pixels whose pixels are the results of `f` for each column
-    /// and row, row by row and from left to right. It has no padding: its stride is the width, or 1
-    /// for width 0. (In the Rust crate this is the caller's loop over `push`.)
+    /// and row. It goes row by row and from left to right. There is no padding: the stride is the
+    /// width, or 1 for width 0. (In the Rust crate this is the caller's loop over `push`.)
     ///
     /// # Requires
     ///
