@@ -5,7 +5,7 @@ use Rattle.std.specs.Prelude.{ℕ, ◌+◌, ◌-◌, ◌*◌, ◌/◌, Bool, nat
 abbrev pub mix_of : ℕ → ℕ → ℕ → ℕ
 mix_of alpha p q = (q * alpha + p * (255 - alpha)) / 255
 
--- how far two numbers lie apart
+-- the difference of two numbers
 abbrev pub apart : ℕ → ℕ → ℕ
 apart m n = (m - n) + (n - m)
 
