@@ -1,4 +1,4 @@
-"""What imgref_frames must answer by docs/FRAMES.md: a model over the raw bytes, written apart from the program."""
+"""What imgref_frames must print by docs/FRAMES.md: a model over the raw bytes, which shares nothing with the program."""
 import re
 import subprocess
 
@@ -164,7 +164,7 @@ def size_after(size, edits):
 
 def answer(data, edits):
     """What is written for these bytes; a fault tells what was written before it. An edit has the numbers of its first frame and
-    of the first behind its last, its word, its window and what follows that."""
+    of the first after its last, its word, its window and what follows that."""
     return pictures(data, edits) if data[:1] == b"P" else video(data, edits)
 
 
@@ -241,7 +241,7 @@ def differing(program, tries):
 
 
 def exchanged(data, start, row, window):
-    """Other bytes in a window of a plane whose rows have so many bytes, the first of which stands at `start`."""
+    """Other bytes in a window of a plane whose rows have so many bytes, the first of which is at `start`."""
     out, (left, top, width, height) = bytearray(data), window
     for y in range(top, top + height):
         for at in range(start + y * row + left, start + y * row + left + width):

@@ -28,7 +28,7 @@ class Function:
 
     @property
     def is_copyable(self):
-        """Whether a copy under another name stands beside it and means the same."""
+        """Whether a copy under another name is next to it and means the same."""
         return self.owner is not None and not self.is_unique and not self.is_recursive
 
     def text(self, file):
@@ -47,7 +47,7 @@ def function_names(text):
 
 
 def function_at(text, part):
-    """The function in which a part of the text stands, or None where it stands in none."""
+    """The function that has a part of the text, or None where no function has it."""
     lines, at = text.split("\n"), text[: text.index(part)].count("\n")
     before = [(line, name) for line, name in function_names(text) if line <= at]
     if not before:
@@ -103,11 +103,11 @@ def without_clause(function, name):
 
 
 def owner_of(lines, head, indent):
-    """The type of the `impl` that a function stands in, "" where it stands in a module, or None in a trait or its `impl`."""
+    """The type of the `impl` that a function is in, "" where it is in a module, or None in a trait or its `impl`."""
     if not indent:
         return ""
     above = next((it for it in reversed(lines[:head]) if it and not it.startswith((" ", "}", "//", "#"))), "")
-    # (a `where` and the brace may stand on lines of their own)
+    # (a `where` and the brace may have lines of their own)
     lines_above = [it for it in reversed(lines[:head]) if OWNER.match(it)]
     found = OWNER.match(lines_above[0]) if lines_above else None
     if not found or found[1] != "impl":
@@ -120,7 +120,7 @@ def owner_of(lines, head, indent):
 
 
 def without_parameters(said):
-    """What stands after the parameters of an `impl`."""
+    """What comes after the parameters of an `impl`."""
     depth = 0
     for at, it in enumerate(said):
         depth += (it == "<") - (it == ">" and said[at - 1] != "-")

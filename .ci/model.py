@@ -1,4 +1,4 @@
-"""What the program must answer to a script, by docs/SCRIPT.md alone. It shares nothing with the program.
+"""What the program must print for a script, by docs/SCRIPT.md alone. It shares nothing with the program.
 
 An image is a map from places to pixels, beside the cells that are no pixel; windows are sets of places. `answer` gives what
 is written and the status.

@@ -99,7 +99,7 @@ def folder_of(bug, texts, crate):
 
 
 def applied(texts, pairs):
-    """Changes the texts of the files by pairs of old and new text, each of which must stand there once."""
+    """Changes the texts of the files by pairs of old and new text, each of which must be there once."""
     for file, old, new in pairs:
         if texts[file].count(old) != 1:
             raise ValueError(f"{file} has the text {texts[file].count(old)} times, and not once: {old}")
@@ -116,7 +116,7 @@ class Planted:
 
 
 def plant(bugs, crate):
-    """Plants bugs together: copies of functions behind the functions, and the other bugs in the functions themselves."""
+    """Plants bugs together: copies of functions after the functions, and the other bugs in the functions themselves."""
     files = {file for bug in bugs for file, _, _ in bug.pairs}
     texts = {file: (crate / file).read_text(encoding="utf-8") for file in files}
     copies = collections.defaultdict(list)

@@ -1,5 +1,5 @@
 /* What a program has to do at the least with a script of one image: it reads the numbers of a line and writes them again.
- * It stands beside the script program in tools/bench.py. */
+ * It is compared with the script program in tools/bench.py. */
 #include <stdio.h>
 #include <stdlib.h>
 #include <string.h>

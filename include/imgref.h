@@ -4,22 +4,23 @@
  * cell y * stride + x; every other cell is padding. The stride is at least 1 and at least the width, width and height are
  * below 2^32, and the cells reach the last pixel: imgref_is_image tells. An image with no pixel may have no cell.
  *
- * A cell has 1, 2, 4 or 8 bytes: each call on cells stands here for uint8_t, uint16_t, uint32_t and uint64_t. A pixel of
+ * A cell has 1, 2, 4 or 8 bytes: each call on cells is here for uint8_t, uint16_t, uint32_t and uint64_t. A pixel of
  * three bytes is three cells of one byte, and its window has three times the columns.
  *
- * Units     Widths, columns and left are counted in pixels, heights, rows and top too, strides and lengths in cells.
- * Answers   A call answers IMGREF_OK, or which test failed first. Unless it is IMGREF_OK nothing has changed: no cell, and
- *           nothing that a pointer for an answer points to.
- * Padding   No call that writes changes padding but imgref_*_pack, which moves rows over it.
- * Memory    The caller owns all of it and lends it for the call. No call keeps a pointer, takes memory or blocks, so any
- *           number of threads may call at once on memory that none of them shares.
+ * Units     Widths, columns and left are counted in pixels, and so are heights, rows and top. Strides and lengths are
+ *           counted in cells.
+ * Results   A call returns IMGREF_OK, or which test failed first. Unless it is IMGREF_OK nothing has changed: no cell, and
+ *           nothing that a pointer for a result points to.
+ * Padding   No call that writes changes padding, except imgref_*_pack, which moves rows over it.
+ * Memory    The caller owns all memory and lends it for the call. No call keeps a pointer, allocates memory or blocks. So
+ *           any number of threads may call at the same time, on memory that none of them shares.
  * Overlap   What a call may write must share no byte with anything else that the same call is given. What it only reads may
  *           overlap. imgref_*_move_window goes between two windows of one image, which may overlap.
- * Pointers  No pointer may be null, also where its length is 0: any other does there, as that of a variable of the cell's
- *           type, and nothing behind it is read or written. Cells lie at a multiple of their size.
+ * Pointers  No pointer may be null, even where its length is 0. Any other pointer will do there, for example that of a
+ *           variable of the cell's type; nothing is read or written there. Cells are aligned to a multiple of their size.
  * Lengths   A length is the number of cells that may be read (and, where they aren't const, written) from the pointer on.
  *
- * What is proved rests on these last three: no call can test them.
+ * The proofs assume what Overlap, Pointers and Lengths say: no call can test it.
  */
 #ifndef IMGREF_H
 #define IMGREF_H
@@ -38,7 +39,7 @@
 extern "C" {
 #endif
 
-/* What a call answers. */
+/* What a call returns. */
 typedef uint32_t imgref_status;
 #define IMGREF_OK ((imgref_status)0)             /* it is done */
 #define IMGREF_NOT_AN_IMAGE ((imgref_status)1)   /* a length, width, height and stride that are no image */
@@ -48,7 +49,7 @@ typedef uint32_t imgref_status;
 #define IMGREF_NO_TILE ((imgref_status)5)        /* there is no tile of that number, or a tile would have no pixel */
 
 /* A window of an image: the column and the row of its corner, and its size. It is inside where left + width is at most the
- * image's width and top + height at most its height, so an empty one at the edge is. No such sum wraps.
+ * image's width and top + height at most its height, so an empty one at the edge is. No such sum overflows.
  * In C++ imgref_window without `struct` is the call of that name, so the struct has the name imgref_rect too. */
 typedef struct imgref_window {
     size_t left;
@@ -87,10 +88,10 @@ imgref_status imgref_tile(size_t width, size_t height, size_t tile_width, size_t
  *              (of either), WINDOW_OUTSIDE, SIZES_DIFFER.
  * move_window  The window `to` gets the pixels that the window `from` had; they may overlap. NOT_AN_IMAGE, WINDOW_OUTSIDE (of
  *              either), SIZES_DIFFER.
- * mosaic       Each tile of the window, from the window's corner on, gets the pixel that stood at the tile's corner.
+ * mosaic       Each tile of the window, from the window's corner on, gets the pixel that was at the tile's corner.
  *              NOT_AN_IMAGE, WINDOW_OUTSIDE, NO_TILE (a tile of no pixel).
  * pack         The rows come one after the other at the front of the cells, with no padding: from then on the stride is the
- *              width, or 1 for width 0, and the pixels are the first width * height cells. The cells behind them stay.
+ *              width, or 1 for width 0, and the pixels are the first width * height cells. The cells after them stay.
  *              NOT_AN_IMAGE.
  * equal        Whether two images have one size and equal pixels at every place goes to `equal`; strides and padding don't
  *              count. NOT_AN_IMAGE (of either).

@@ -106,7 +106,7 @@ def declared(crate, below, name):
 
 @dataclasses.dataclass
 class Entry:
-    """An item of a crate: where it stands, the words of its clauses, the block that it belongs to, and its anchor."""
+    """An item of a crate: where it is, the words of its clauses, the block that it belongs to, and its anchor."""
 
     crate: str
     path: pathlib.Path
@@ -138,9 +138,8 @@ class Crate:
 
 def exported(text):
     """Each name that a root file offers, with the module or the crate that it comes from."""
-    for line in text:
-        if used := re.match(r"pub use (\w+)::(?:\{(.*)\}|(\w+));", line):
-            yield from ((it.strip(), used[1]) for it in (used[2] or used[3]).split(","))
+    for module, names, name in re.findall(r"(?m)^pub use (\w+)::(?:\{([^}]*)\}|(\w+));", "\n".join(text)):
+        yield from ((it.strip(), module) for it in (names or name).split(",") if it.strip())
 
 
 def entries(crate, path):
@@ -162,7 +161,7 @@ def crate_of(name):
 
 
 def home(name, crate):
-    """The crate in whose files a name stands that another crate offers."""
+    """The crate whose files define a name that another crate offers."""
     module = crate_of(crate).exports.get(name)
     return home(name, module) if module in crates() else crate
 
@@ -285,7 +284,7 @@ class Page:
         return self.crates if name in self.crates and self.path.name == "API.md" else [it for _, names, _ in PAGES.values() for it in names]
 
     def offered(self, crate, inlined):
-        """What the crate offers of others that stands elsewhere on the pages."""
+        """The items of other crates that this one offers and that are elsewhere on the pages."""
         links = []
         for name in (it for it in crate.others() if it not in inlined):
             of = home(name, crate.name)

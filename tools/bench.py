@@ -4,14 +4,14 @@
     bench.py [--rounds N] [--sides N,..] [--pixels N] [--commands N] [--frames N] [--beside PROGRAM] [--crate FOLDER] [--video] [--write]
 
 First it proves and builds what has changed: the script program, the library for C, and the crate bench_exports. The runs of
-what is compared are interleaved, and the least time of each counts. The video program is timed where it is built
+what is compared are interleaved, and the least time of each counts. The calls are timed in several builds that differ only in
+where their code lies in memory: a difference smaller than the spread over these builds tells nothing. The video program is timed where it is built
 (`make frames`); --video builds it. So does --write, which also puts the tables into docs/PERFORMANCE.md and the plot into
 docs/speed.svg: use it on an idle machine. CC names the C compiler (cc). With a rustc the loops in Rust are timed too, and,
 with a FOLDER that has the sources of the Rust crate, its calls. PROGRAM is another script program, for example one that was
 built from an earlier state: its runs are interleaved with those of this one.
 """
 import argparse
-import math
 import os
 import pathlib
 import random
@@ -28,6 +28,7 @@ import c_library
 from c_library import Failure, command, compiler, toolchain
 from processes import end_on_signals, started
 from program import built, say
+from speed_tables import Call, call_tables, frames_table, plot, script_table
 from workspace import ROOT, is_proved, product
 
 OUT = ROOT / "out/bench"
@@ -35,10 +36,10 @@ PAGE, PLOT = ROOT / "docs/PERFORMANCE.md", ROOT / "docs/speed.svg"
 BEGIN, END = "<!-- table of make bench -->", "<!-- end of the table -->"
 # The processor that rt builds for, which rustc is told too.
 RUST = ["rustc", "--edition", "2021", "-C", "opt-level=3", "-C", "target-cpu=x86-64-v2", "-C", "panic=abort", "-C", "codegen-units=1"]
-# The heads of the columns that compare a call: with what, in the order of the times that the C side writes.
-COMPARED = ("vs. loop in C", "vs. plain C call", "vs. loop in Rust", "vs. Rust crate")
 # How often each program runs on each script and each video.
 RUNS = 7
+# The builds in which the calls are timed: the code of each lies so many bytes after that of the one before it.
+BUILDS, APART = 5, 16
 # How many bytes the planes of a frame have: 1920 by 1080 of brightness, and half as many of chroma.
 CELLS = 1920 * 1080 * 3 // 2
 # The same of a picture in colour, and the head before it.
@@ -97,23 +98,40 @@ def make(crate, speed, numbers, with_video):
     if built("imgref_run", *["imgref_frames"] * with_video, c_library.NAME, "bench_exports"):
         raise Failure("what is timed is not proved")
     c_library.build()
-    ours = [product("bench_exports"), ROOT / "out/c/libimgref.a", *toolchain()]
-    command(*compiler(), "-O2", f"-I{ROOT / 'include'}", "-o", speed, ROOT / "bench/speed.c", *rust(crate), *ours, "-lpthread", "-ldl", "-lm")
+    ours = [*rust(crate), product("bench_exports"), ROOT / "out/c/libimgref.a", *toolchain()]
+    for k in range(BUILDS):
+        # (what is linked first lies first: so many bytes of nothing move all code after them)
+        shift = OUT / "shift.s"
+        shift.write_text(f'.section .note.GNU-stack,"",@progbits\n.text\n.balign 64\n.skip {APART * k + 1}\n')
+        command(*compiler(), "-O2", f"-I{ROOT / 'include'}", "-o", f"{speed}{k}", shift, ROOT / "bench/speed.c", *ours, "-lpthread", "-ldl", "-lm")
     command(*compiler(), "-O2", "-o", numbers, ROOT / "bench/numbers.c")
 
 
-def calls(speed, rounds, sides):
-    """The rows that the C side writes: the call, the cell, the side, its time and the times of what it is compared with."""
+def calls_of(build, speed, rounds, sides):
+    """The rows that the C side of a build writes: the call, the cell and the side, and then the call's time and the times of what it
+    is compared with."""
     rows = []
     with started([speed, str(rounds), *map(str, sides)], stdout=subprocess.PIPE, text=True) as ran:
         for line in ran.stdout:
             name, cell, side, *times = line.rstrip("\n").split("\t")
-            rows.append((name, {"1": "u8", "4": "u32"}[cell], int(side), *map(float, times)))
-            say(f"\r{len(rows)} calls: {name:40}", end="" if sys.stderr.isatty() else "\n")
-    say("")
+            rows.append(((name, {"1": "u8", "4": "u32"}[cell], int(side)), [float(it) for it in times]))
+            if sys.stderr.isatty():
+                say(f"\rbuild {build + 1} of {BUILDS}, {len(rows)} calls: {name:40}", end="")
     if ran.returncode:
         raise Failure("the C side of the benchmark failed")
+    say(f"\rbuild {build + 1} of {BUILDS}: {len(rows)} calls{'':40}")
     return rows
+
+
+def calls(speed, rounds, sides):
+    """Each call, timed in each build."""
+    builds = [calls_of(k, f"{speed}{k}", rounds, sides) for k in range(BUILDS)]
+    found = []
+    for rows in zip(*builds):
+        times = [it for _, it in rows]
+        quotients = [[it[0] / it[k] for it in times if it[k]] for k in range(1, len(times[0]))]
+        found.append(Call(*rows[0][0], min(it[0] for it in times), quotients))
+    return found
 
 
 def pixels(count):
@@ -209,10 +227,6 @@ def frames_rows(count):
             yield name, edit, count / least[edit], *(least[it] / least[edit] if it else None for it in ("cat", "dd", filters.get(edit)))
 
 
-def quotient(a, b):
-    return f"{a / b:.2f}" if b else "–"
-
-
 def first_line(*words):
     """The first line that a command prints, or that it isn't there."""
     return command(*words).splitlines()[0] if shutil.which(words[0]) else f"no {words[0]}"
@@ -224,74 +238,8 @@ def conditions(rounds):
     return (
         f"Measured on {time.strftime('%Y-%m-%d')}. Processor: {processor.group(1) if processor else 'unknown'}, {os.cpu_count()} logical cores. "
         f"C: {first_line(*compiler(), '--version')}. Rust: {first_line('rustc', '--version')}. Rattle: {first_line('rt', 'version')}. "
-        f"Rounds: {rounds}. Load average over a minute before the timing: {os.getloadavg()[0]:.2f}"
+        f"Rounds: {rounds} in each of {BUILDS} builds. Load average over a minute before the timing: {os.getloadavg()[0]:.2f}"
     )
-
-
-def markdown(head, rows):
-    """A table in Markdown."""
-    line = lambda cells: f"| {' | '.join(cells)} |"
-    return "\n".join([line(head), "|" + "---|" * len(head), *map(line, rows)])
-
-
-def slowness(row):
-    """The greatest quotient of a call to what does the same work: the loops in C and in Rust, and the Rust crate's call."""
-    _, _, _, time, loop, _, rust, crate = row
-    return max((time / it for it in (loop, rust, crate) if it), default=0)
-
-
-def call_tables(rows, sides):
-    """The calls in Markdown: a table for each side. What is slower than one of its comparisons stands first."""
-    parts = []
-    for side in sides:
-        ordered = sorted((it for it in rows if it[2] == side), key=slowness, reverse=True)
-        cells = [[it[0], f"`{it[1]}`", f"{it[3]:.0f} ns", *(quotient(it[3], other) for other in it[4:])] for it in ordered]
-        parts.append(f"### Images of {side} by {side} pixels\n\n" + markdown(["Call", "Cell", "Time", *COMPARED], cells))
-    return "\n\n".join(parts)
-
-
-def script_table(rows, is_beside):
-    """The scripts in Markdown, the slowest beside plain C first. The other program's column says how many times as long it takes."""
-    head = ["Script", "Size", "Time", "Script per second", "Memory per byte of script", "vs. plain C", *["time of the other program"] * is_beside]
-    cells = []
-    for name, count, seconds, memory, plain, other in sorted(rows, key=lambda it: it[2] / it[4] if it[4] else 0, reverse=True):
-        cells.append([name, f"{count / 1e6:.1f} MB", f"{seconds:.3f} s", f"{count / seconds / 1e6:.0f} MB", f"{memory / count:.1f}", quotient(seconds, plain), *[quotient(other, seconds)] * is_beside])
-    return "## The script program\n\n" + markdown(head, cells)
-
-
-def frames_table(rows):
-    """The edits of the video program in Markdown, the slowest beside what they are compared with first."""
-    head = ["Input", "Edit", "Per second", "Speed vs. `cat`", "Speed vs. `dd`", "Speed vs. ffmpeg's filter"]
-    ordered = sorted(rows, key=lambda it: min(share for share in it[3:] if share))
-    cells = [[it[0], f"`{it[1]}`", f"{it[2]:.0f}", *(f"{share:.2f}" if share else "–" for share in it[3:])] for it in ordered]
-    return "## The video program\n\n" + markdown(head, cells)
-
-
-def plot(rows, sides):
-    """The quotients to the loop in C as an SVG, on a logarithmic axis from the least to the greatest: a line for each call that
-    has such a loop, a dot for each side. The slowest stands first."""
-    rows = sorted((it for it in rows if it[4]), key=lambda it: it[3] / it[4], reverse=True)
-    names = list(dict.fromkeys(it[:2] for it in rows))
-    powers = [math.log2(it[3] / it[4]) for it in rows]
-    low, high = min(-1, math.floor(min(powers))), max(1, math.ceil(max(powers)))
-    left, wide, line, top = 220, 560, 18, 84
-    bottom, width = top + line * len(names), left + wide + 40
-    at = lambda power: left + wide * (power - low) / (high - low)
-    colours = ["#1b6ca8", "#d1495b", "#5a9a3c", "#8a5fa8", "#c98a1b", "#4b4b4b"]
-    drawn = [f'<svg xmlns="http://www.w3.org/2000/svg" width="{width}" height="{bottom + 44}" font-family="sans-serif" font-size="11">']
-    drawn += ['<rect width="100%" height="100%" fill="white"/>', f'<text x="{width // 2}" y="20" text-anchor="middle" font-size="14">Time of each call, divided by the time of a loop in C</text>']
-    for k, side in enumerate(sides):
-        drawn.append(f'<circle cx="{left + 130 * k}" cy="42" r="4" fill="{colours[k % 6]}"/><text x="{left + 130 * k + 8}" y="46">{side} by {side} pixels</text>')
-    for power in range(low, high + 1):
-        drawn.append(f'<path d="M{at(power):.0f} {top - 8}V{bottom}" stroke="{"#000" if power == 0 else "#ccc"}"/><text x="{at(power):.0f}" y="{top - 12}" text-anchor="middle">{2 ** power if power >= 0 else f"1/{2 ** -power}"}</text>')
-    for k, (name, cell) in enumerate(names):
-        y = top + line * k + 9
-        drawn.append(f'<text x="{left - 10}" y="{y + 4}" text-anchor="end">{cell} {name}</text>')
-        for it in rows:
-            if it[:2] == (name, cell):
-                drawn.append(f'<circle cx="{at(math.log2(it[3] / it[4])):.1f}" cy="{y}" r="4" fill="{colours[sides.index(it[2]) % 6]}"/>')
-    drawn.append(f'<text x="{left + wide // 2}" y="{bottom + 26}" text-anchor="middle">quotient of the times, logarithmic: left of 1 the call is faster than the loop in C, right of 1 slower</text>')
-    return "\n".join([*drawn, "</svg>", ""])
 
 
 def report(asked, sides, numbers, with_video):
@@ -308,7 +256,7 @@ def report(asked, sides, numbers, with_video):
 
 def main():
     options = argparse.ArgumentParser(description=__doc__.split("\n")[0])
-    options.add_argument("--rounds", type=int, default=400)
+    options.add_argument("--rounds", type=int, default=160)
     options.add_argument("--sides", default="16,64,512,2048")
     options.add_argument("--pixels", type=int, default=4_000_000)
     options.add_argument("--commands", type=int, default=400_000)

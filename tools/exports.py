@@ -16,7 +16,7 @@ SOURCE = "u8_exports.rt"
 TYPES = {"imgref_c": ("u16", "u32", "u64"), "bench_exports": ("u32",)}
 # The type of a cell, alone or between the underscores of a name.
 CELL = re.compile(r"(?<![A-Za-z0-9])u8(?![A-Za-z0-9])")
-# Above it stand the doc lines of the file itself.
+# Above it are the doc lines of the file itself.
 FIRST = "\nghost use "
 # `rt fmt` gives each parameter a line where a signature has more than 100 columns.
 SIGNATURE, COLUMNS = re.compile(r"(?m)^(pub extern .*)\((.*)\)(.*)$"), 100

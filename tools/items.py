@@ -20,7 +20,7 @@ class Clause:
 
 @dataclasses.dataclass
 class Item:
-    """An item of a file: what it is, its `///` lines, its signature, its clauses, and what stands in it."""
+    """An item of a file: what it is, its `///` lines, its signature, its clauses, and the items inside."""
 
     kind: str
     name: str
@@ -53,7 +53,7 @@ def clauses_of(text):
 
 
 def head_end(lines, at, pad):
-    """The last line of what stands before a body, or of an item without one."""
+    """The last line before a body, or of an item without one."""
     for end in range(at, len(lines)):
         line = lines[end]
         if line in (f"{pad}{{", f"{pad}{{}}") or line.endswith((";", "}")) and not CLAUSE.match(line) and end == at:

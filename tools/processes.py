@@ -1,10 +1,11 @@
 """Commands that end with the process that started them, also where that one is ended by TERM, HUP or Ctrl-C.
 
 Each command gets a process group of its own, so that all that it starts can be ended with it. A command of the toolchain ends
-what it started itself once it is ended, also in other groups.
+what it started itself once it is ended, also in other groups. So each command first gets TERM, and time to do so.
 """
 import contextlib
 import os
+import pathlib
 import signal
 import subprocess
 import sys
@@ -15,10 +16,11 @@ import time
 OWN_GROUP = {"process_group": 0} if sys.version_info >= (3, 11) else {"preexec_fn": os.setpgrp}
 # How long a command has to end what it started, in seconds, before it is killed; and one with a session, which ends others so.
 PATIENCE, PATIENCE_OF_SESSION = 10, 60
+SIGNALS = (signal.SIGTERM, signal.SIGHUP, signal.SIGINT)
 RUNNING, SESSIONS, LOCK = set(), set(), threading.Lock()
 is_ending = False
-# Whether the main thread is starting a command, which a signal mustn't interrupt: nobody would know of it.
-is_main_starting, has_signal = False, False
+# Whether the main thread starts a command now, and whether a signal came.
+is_starting = has_signal = False
 
 
 class Ending(Exception):
@@ -26,18 +28,33 @@ class Ending(Exception):
 
 
 @contextlib.contextmanager
+def unbroken():
+    """A block that no signal breaks off, where end_on_signals was called: a signal that comes in it waits for its end."""
+    global is_starting
+    if threading.current_thread() is not threading.main_thread():
+        # (signals are handled in the main thread alone)
+        yield
+        return
+    is_starting = True
+    try:
+        yield
+    finally:
+        is_starting = False
+        if has_signal:
+            end_now()
+
+
+@contextlib.contextmanager
 def started(words, in_session=False, **how):
     """Starts a command in a group of its own, or in a session of its own, which is there until the end of the block."""
-    with LOCK, signals_wait():
+    # (a command that runs is in RUNNING: a signal waits for the first thread that starts one, and end_all for the others)
+    with unbroken(), LOCK:
         if is_ending:
             raise Ending()
         process = subprocess.Popen([str(it) for it in words], **({"start_new_session": True} if in_session else OWN_GROUP), **how)
         RUNNING.add(process)
         if in_session:
             SESSIONS.add(process)
-    if is_ending:
-        # (a signal came while it was being started, and may not have seen it)
-        end(process)
     try:
         with process:
             try:
@@ -48,22 +65,6 @@ def started(words, in_session=False, **how):
                 raise
     finally:
         RUNNING.discard(process)
-
-
-@contextlib.contextmanager
-def signals_wait():
-    """Has a signal wait until the end of the block, where the main thread runs it."""
-    global is_main_starting
-    if threading.current_thread() is not threading.main_thread():
-        yield
-        return
-    is_main_starting = True
-    try:
-        yield
-    finally:
-        is_main_starting = False
-        if has_signal:
-            interrupt()
 
 
 def run_to_end(words, **how):
@@ -81,19 +82,13 @@ def kill(process, number):
             os.killpg(process.pid, number)
 
 
-def end(process):
-    """Ends a command: by TERM, so that it ends what it started itself, and by KILL where that takes too long."""
-    kill(process, signal.SIGTERM)
-    try:
-        process.wait(PATIENCE)
-    except subprocess.TimeoutExpired:
-        kill(process, signal.SIGKILL)
-
-
 def end_all():
     """Ends all commands, and has none start any more."""
     global is_ending
     is_ending = True
+    # (what another thread is starting is in RUNNING as soon as that thread gives the lock back)
+    if LOCK.acquire(timeout=PATIENCE):
+        LOCK.release()
     left, ends = [*RUNNING], time.monotonic() + (PATIENCE_OF_SESSION if SESSIONS else PATIENCE)
     for it in left:
         kill(it, signal.SIGTERM)
@@ -101,35 +96,62 @@ def end_all():
         time.sleep(0.05)
     for it in left:
         kill(it, signal.SIGKILL)
+        for number in members(it):
+            with contextlib.suppress(OSError):
+                os.kill(number, signal.SIGKILL)
+
+
+def members(process):
+    """The processes of a command's session, also those in other groups; none where it has no session of its own."""
+    for it in pathlib.Path("/proc").glob("[0-9]*/stat") if process in SESSIONS else ():
+        with contextlib.suppress(OSError):
+            state, _, _, session, *_ = it.read_text().rpartition(")")[2].split()
+            if int(session) == process.pid and state not in "ZX":
+                yield int(it.parent.name)
 
 
 def is_alive(process):
-    """Whether a process of the command's group is left."""
+    """Whether a process of the command's group or session is left."""
+    if process in SESSIONS:
+        return any(True for _ in members(process))
     try:
         os.killpg(process.pid, 0)
     except OSError:
         return False
-    # (one that has ended, and that a thread hasn't waited for yet, is none)
+    # (one that has ended, and that a thread hasn't waited for yet, doesn't count)
     return process.poll() is None
 
 
-def interrupt():
-    """Ends all commands, and then interrupts this process as Ctrl-C does."""
-    for it in (signal.SIGTERM, signal.SIGHUP, signal.SIGINT):
+def end_now():
+    """Ends all that this process started, and then this process as Ctrl-C does: by KeyboardInterrupt."""
+    for it in SIGNALS:
         # (a signal that is ignored would be ignored in what starts now, too)
         signal.signal(it, lambda *_: None)
     end_all()
     raise KeyboardInterrupt
 
 
+def nudge(signals):
+    """Has the main thread see a signal. One that another thread got, or that came as the main thread began to wait, doesn't end
+    that wait."""
+    os.read(signals, 1)
+    while not has_signal:
+        signal.pthread_kill(threading.main_thread().ident, signal.SIGTERM)
+        time.sleep(0.1)
+
+
 def end_on_signals():
-    """Has TERM and HUP end this process as Ctrl-C does: by KeyboardInterrupt, once all that it started has ended."""
+    """Has TERM and HUP end this process as Ctrl-C does, once all that it started has ended."""
 
     def take(*_):
         global has_signal
         has_signal = True
-        if not is_main_starting:
-            interrupt()
+        if not is_starting:
+            end_now()
 
-    for it in (signal.SIGTERM, signal.SIGHUP, signal.SIGINT):
+    signals, noted = os.pipe()
+    os.set_blocking(noted, False)
+    signal.set_wakeup_fd(noted, warn_on_full_buffer=False)
+    threading.Thread(target=nudge, args=(signals,), daemon=True).start()
+    for it in SIGNALS:
         signal.signal(it, take)

@@ -1,6 +1,6 @@
 /* Calls each function of imgref.h with random arguments, good and bad, beside a model that was written from the header alone:
- * it goes place by place, and multiplies in 128 bits. A series of a function passes where each call answered what the model
- * says, left exactly the model's cells, and every answer that the header gives the function was seen.
+ * it goes place by place, and multiplies in 128 bits. A series of a function passes where each call returned what the model
+ * says, left exactly the model's cells, and every status that the header gives the function was seen.
  *
  * Ends with the line 'N passed, M failed'. */
 #include "imgref.h"
@@ -48,7 +48,7 @@ static bool is_inside(struct sizes is, struct imgref_window w) {
     return (unsigned __int128)w.left + w.width <= is.width && (unsigned __int128)w.top + w.height <= is.height;
 }
 
-/* An image of this size, with padding and cells behind its last pixel. */
+/* An image of this size, with padding and cells after its last pixel. */
 static struct sizes sized(size_t width, size_t height) {
     struct sizes is = {.width = width, .height = height, .stride = width + any() % 4};
     is.stride += !is.stride;
@@ -93,12 +93,12 @@ static void count(const char *name, bool is_well) {
     failed += !is_well;
 }
 
-/* Many calls of one function, which have to give each of these answers once at least. */
+/* Many calls of one function, which have to return each of these statuses at least once. */
 static void series(const char *name, imgref_status (*one)(struct sizes), unsigned wanted) {
     unsigned seen = 0;
     well = true;
     for (int k = 0; k < ROUNDS; k++) seen |= 1u << one(any_sizes());
-    if (seen != wanted) printf("%s: answers %x, wanted %x\n", name, seen, wanted);
+    if (seen != wanted) printf("%s: returns %x, wanted %x\n", name, seen, wanted);
     count(name, well && seen == wanted);
 }
 
@@ -201,7 +201,7 @@ static void by_hand(void) {
     count("by hand: past the edge", imgref_u8_fill_window(cells, 9, 3, 2, 4, past, 7) == IMGREF_WINDOW_OUTSIDE && cells[2] == 0);
     count("by hand: empty at the corner", imgref_u8_fill_window(cells, 9, 3, 2, 4, corner, 7) == IMGREF_OK && cells[8] == 92);
     count("by hand: a cell too few", imgref_u8_put(cells, 6, 3, 2, 4, 0, 0, 7) == IMGREF_NOT_AN_IMAGE && cells[0] == 1);
-    count("by hand: no product wraps", imgref_u8_put(cells, 9, 3, UINT32_MAX, SIZE_MAX, 0, 0, 7) == IMGREF_NOT_AN_IMAGE && cells[0] == 1);
+    count("by hand: no product overflows", imgref_u8_put(cells, 9, 3, UINT32_MAX, SIZE_MAX, 0, 0, 7) == IMGREF_NOT_AN_IMAGE && cells[0] == 1);
     count("by hand: pack", imgref_u8_pack(cells, 9, 3, 2, 4) == IMGREF_OK && !memcmp(cells, (uint8_t[]){1, 0, 0, 4, 0, 0, 0, 91, 92}, 9));
     count("by hand: no cell", imgref_u8_fill_window(&pixel, 0, 0, 5, 1, (struct imgref_window){0, 2, 0, 3}, 7) == IMGREF_OK && pixel == 6);
 }

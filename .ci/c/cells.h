@@ -31,7 +31,7 @@ static void MINE(set)(CELL *cells, const struct MINE(image) *it, size_t x, size_
     cells[GUARD + y * it->is.stride + x] = value;
 }
 
-/* Whether the call answered this and left this of all cells, guards included. Frees the expected list. */
+/* Whether the call returned this and left these cells, guards included. Frees the expected list. */
 static bool MINE(left)(const struct MINE(image) *it, CELL *expected, imgref_status status, imgref_status wanted) {
     bool well = status == wanted && !memcmp(it->list, expected, (it->is.len + 2 * GUARD) * sizeof(CELL));
     free(expected);

@@ -1,7 +1,7 @@
 #!/usr/bin/env python3
 """Shows that the tests refuse a call that is always out of memory.
 
-Every contract of a call that takes memory allows the answer that none was found, so no planted bug of `must-fail/` can show
+Every contract of a call that takes memory allows the result out of memory, so no planted bug of `must-fail/` can show
 such a call. The tests that use it are first run as they are, in a copy of the repository, and must pass. Then each case puts
 that result at the head of one call, and runs these tests again: some must fail now, since a test returns out of memory as its
 result. Files of tests that use none of the calls are left out of the copy.
@@ -19,7 +19,7 @@ from functions import with_function, with_head
 NO_ROOM = "let _room: Vec<u8> = Vec::with_capacity(alloc, usize::MAX)?;"
 HANDED_BACK = "if true { return Err(self); }"
 
-# The crate, the file and the function, what stands at its head, and the crate whose tests are run.
+# The crate, the file and the function, what is put at its head, and the crate whose tests are run.
 CASES = [
     ("imgref", "contiguous", "to_contiguous_buf", NO_ROOM, "imgref_hostile_tests"),
     ("imgref", "copies", "to_owned", NO_ROOM, "imgref_hostile_tests"),

@@ -1,7 +1,7 @@
 #!/usr/bin/env python3
 """docs/API.md and docs/INNER.md are what `make docs` writes, and they are whole.
 
-Each page is compared with what tools/api_page.py makes of the code today. Each public function of its crates stands on it, as
+Each page is compared with what tools/api_page.py makes of the code today. Each public function of its crates is on it, as
 a search of the files by words alone finds them. Each link leads to the line of that definition, or to a place of the page.
 """
 import pathlib
@@ -20,7 +20,7 @@ ANCHOR = re.compile(r'<a id="([^"]+)">')
 
 
 def functions(crates):
-    """The public functions of crates, with the file that each stands in."""
+    """The public functions of crates, with the file of each."""
     for crate in crates:
         for path in sorted((ROOT / "crates" / crate / "src").glob("*.rt")):
             yield from ((path.relative_to(ROOT), it) for it in FUNCTION.findall(path.read_text()))

@@ -56,7 +56,7 @@ def lacks(told_of, head, label):
     if re.search(r"^ *requires\b", text, re.MULTILINE) and "/// # Requires" not in told_of:
         yield f"{label} has a condition and no `# Requires`"
     if answer and "/// # Errors" not in told_of:
-        yield f"{label} answers a Result and has no `# Errors`"
+        yield f"{label} returns a Result and has no `# Errors`"
 
 
 def faults(path):

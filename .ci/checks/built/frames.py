@@ -1,7 +1,7 @@
 #!/usr/bin/env python3
-"""Shows what imgref_frames answers on real video: by a model written apart from it, and by ffmpeg.
+"""Shows what imgref_frames does with real video: by a model that shares nothing with it, and by ffmpeg.
 
-The contract speaks of readers and writers; here stand what `main` prints and its status, small streams of each sampling, each
+The contract speaks of readers and writers; here are tried what `main` prints and its status, small streams of each sampling, each
 beginning of one, each byte of its line changed, and hidden pixels exchanged. Both builds are run that `rt ci` leaves. Where
 the machine has no ffmpeg or no GNU parallel, the cases with it are left out, and a line says 'skipped'.
 """
@@ -64,11 +64,11 @@ def by_model(cases, program):
     longest = [("fill 0,0,2,2 9".split(), video("420", 4, 2, 2, parameters=(b"", b" " + b"x" * count))) for count in (0, 1, 248, 249, 250, 300)]
     count_tries(cases, "a frame's line has at most 256 bytes", program, longest)
     outside = [(it.split(), video("420")) for it in ("fill 1,0,2,2 9", "fill 0,0,2,10 9", "mosaic 0,0,4,4 1,2", "mosaic 0,0,4,4 0,2", "move 0,0,4,4 10,0", "crop 0,0,0,4", "crop 0,0,3,4", "pad 1,0,0,0 9", "pad 0,0,4294967284,0 9", "pad 0,0,0,18446744073709551615 9")]
-    count_tries(cases, "an edit that is none of the video is refused", program, outside)
+    count_tries(cases, "an edit that doesn't suit the video is refused", program, outside)
     shown = hidden = video("mono")
     for frame in range(3):
         hidden = exchanged(hidden, shown.index(b"\n") + 1 + frame * (6 + 12 * 8) + 6, 12, (4, 2, 6, 4))
-    cases.count("hidden pixels can't be told from the output", hidden != shown and ends(program, FILL.split(), hidden) == ends(program, FILL.split(), shown))
+    cases.count("the output reveals nothing of hidden pixels", hidden != shown and ends(program, FILL.split(), hidden) == ends(program, FILL.split(), shown))
 
 
 def by_words(cases, program):

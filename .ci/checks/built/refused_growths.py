@@ -1,12 +1,12 @@
 #!/usr/bin/env python3
 """Refuses each growth of the programs and of every test in turn, on what `rt ci` built.
 
-No clause can say that memory is found, and every contract allows the answer that none was. So the script program is run on each
+No clause can say that memory is found, and every contract allows the result out of memory. So the script program is run on each
 example, and the one for video on a small stream with each kind of edits, with the first growth refused, then with the second,
 until a run has none to refuse. Each time but the last it must say `fault memory` alone, on the stream for faults, and end with
 status 3: so all memory is taken before the first byte is written. The one for video says how many pictures it has written, and
 wrote exactly those. Each test is run so too, and must pass or return the refusal as its result: an assertion that fails shows an
-answer that changed in the place of the error.
+result that changed in the place of the error.
 """
 import concurrent.futures
 import os
@@ -26,7 +26,7 @@ SCRIPTS = sorted((ROOT / "examples").glob("*.script"))
 # A video of two frames of 4 by 2 pixels, and words of edits: a list of two, and each that changes the size.
 VIDEO = b"YUV4MPEG2 W4 H2 C420 F25:1\n" + b"FRAME\n0123456789AB" * 2
 EDITS = ("fill 0,0,2,2 16 1..2 move 0,0,2,2 2,0", "mosaic 0,0,4,2 2,2 crop 0,0,2,2", "pad 2,2,2,2 16")
-# A picture in colour and a larger grey one behind it, and words of edits.
+# A picture in colour and a larger grey one after it, and words of edits.
 PICTURES = (b"P6 2 2 255 0123456789AB", b"P5 5 3 255 0123456789ABCDE")
 PICTURE_EDITS = ("fill 0,0,2,2 16", "mosaic 0,0,2,2 2,2 crop 0,0,2,1", "pad 2,2,2,2 16")
 # What a test says whose result is the refusal: of a call, of a push to a vector, and of a run.
@@ -39,7 +39,7 @@ MOST = 10_000
 
 
 def made(room):
-    """Compiles REFUSES by the toolchain's own clang, and answers the library that it makes."""
+    """Compiles REFUSES by the toolchain's own clang, and returns the library that it makes."""
     kit = pathlib.Path(subprocess.run(["rt", "doc"], check=True, capture_output=True, text=True).stdout.strip()).parent / "toolchain/bin"
     how = ["-shared", "-fPIC", "-O1", "-nostdlib", f"--ld-path={kit}/ld.lld"]
     subprocess.run([kit / "clang", *how, "-o", f"{room}/refused_growth.so", REFUSES], check=True)
@@ -59,7 +59,7 @@ def runs(library, command, given=b""):
 
 
 def of_program(library, command, given, told, ends):
-    """How many refused growths were told on this input, and what is wrong. `told` is what a refusal must leave, one of some outputs,
+    """How many refused growths were reported on this input, and what is wrong. `told` is what a refusal must leave, one of some outputs,
     each with what it says then, and a status, and `ends` what a run must that has none: its output, and its status."""
     bad = []
     for number, (ran, was_refused) in enumerate(runs(library, command, given), 1):
@@ -104,7 +104,7 @@ def main():
             for program in both_builds(cases, name):
                 for _, words, label, given, told, ends in (it for it in tries if it[0] == name):
                     growths, bad = of_program(library, [program, *words], given, told, ends)
-                    cases.count(f"{program.name}, {label}: {growths} refused growths are told, and nothing else is written", growths > 0 and not bad, "\n".join(bad[:3]))
+                    cases.count(f"{program.name}, {label}: {growths} refused growths are reported, and nothing else is written", growths > 0 and not bad, "\n".join(bad[:3]))
         for crate in (it for it in crates() if says(it, "#[test]")):
             for program in built(crate, ("_tests",)) or [None]:
                 found = [*pool.map(lambda test: of_test(library, program, test), tests_of(program) if program else [])]

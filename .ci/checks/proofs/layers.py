@@ -4,7 +4,7 @@
 A body of `as_contiguous_buf` that moves pixel by pixel, or one of `move_inside` that uses no mover, could meet every
 contract. So each case takes a clause out of the contract of a lower function, in a room (tools/workspace.py), and asks
 `rt check` about the crate of the upper one: the lower crate must still be proved, and the upper function must not be. Nor
-may the crate's entry be, which stands on it: `replay_into` is what users call. A body that bypasses the layer needs none of
+may the crate's entry be, which depends on it: `replay_into` is what users call. A body that bypasses the layer needs none of
 its clauses, is still accepted, and fails the case.
 """
 import concurrent.futures
@@ -22,7 +22,7 @@ from workspace import room, with_those_below
 
 ROUND = "layer_goes_round"
 
-# What a crate's users call, which stands on the functions of its cases.
+# What a crate's users call, which depends on the functions of its cases.
 ENTRIES = {"imgref_replay": "run::replay_into"}
 
 # The lower crate, file and function, and the clauses taken out; the upper crate and function; and what of the lower crate

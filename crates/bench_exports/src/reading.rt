@@ -85,8 +85,7 @@ pub(crate) fn hash<T: Hash>(image: &ImgRef<'_, T>) -> u64 {
     hasher.finish()
 }
 
-// The joined rows in a buffer of their own, which is given back. The answer is how many cells it
-// had.
+// The joined rows in a buffer of their own, which is freed again. The result is its length.
 pub(crate) fn to_contiguous_buf<T: Copy>(alloc: Global, image: &ImgRef<'_, T>) -> usize
     requires fits { Fits (ref_layout image.now) }
     requires clones_equal { ClonesEqual T.is_clone (joined_rows (ref_layout image.now)) }

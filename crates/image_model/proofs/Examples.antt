@@ -93,7 +93,7 @@ one_pixel_window = refl
 two_rows_unfit : is_fitting (image (7 ∷ []) 2 2 (2 ^ 64 - 1)) ≡ false
 two_rows_unfit = refl
 
--- where twice the stride is 2 ^ 64 the sum doesn't wrap to a fit
+-- where twice the stride is 2 ^ 64 the sum doesn't overflow to a fit
 wrapped_sum_unfit : is_fitting (image (7 ∷ []) 1 3 (2 ^ 63)) ≡ false
 wrapped_sum_unfit = refl
 

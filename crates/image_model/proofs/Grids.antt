@@ -84,7 +84,7 @@ module _ {T : Type 0} (g : Grid T) (left top width height x y : ℕ) (p : Grid T
       ∙ ap (λ n. g.pixel n (top + (v - top))) back_u
       ∙ ap (λ n. g.pixel u n) back_v
 
-  -- a patch of a view, put where the view was seen, is a patch at the summed corner
+  -- a patch of a view, put where the view was seen, is a patch at the sum of the corners
   pub patch_of_view : x + p.width ≤ width → y + p.height ≤ height → patch g left top (patch (view g left top width height) x y p) ≡ patch g (left + x) (top + y) p
   unfolding patch view
   patch_of_view wide high = is_patch g (left + x) (top + y) p outer inside outside

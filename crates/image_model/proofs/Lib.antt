@@ -20,3 +20,9 @@ pub mod Swaps
 pub mod Flips
 pub mod Examples
 pub mod WindowExamples
+pub mod Sweeps
+pub mod Reading
+pub mod Counts
+pub mod ByPlace
+pub mod Turns
+pub mod TurnExamples

@@ -9,7 +9,7 @@ use Rattle.image_model.proofs.Places.{cell_within, outside_fits}
 use Rattle.image_model.proofs.Grids.{pixel_at, same_grids}
 
 -- each place of a layout that fits has a pixel
-has_pixel : {T : Type 0} (l : Layout T) → Fits l → (x y : ℕ) → x < l.width → y < l.height → (p : T) × (pixel l x y ≡ Some p)
+pub has_pixel : {T : Type 0} (l : Layout T) → Fits l → (x y : ℕ) → x < l.width → y < l.height → (p : T) × (pixel l x y ≡ Some p)
 has_pixel l fits x y column line =
     elim (slice_get_cases l.cells (cell_of l x y)).1 [
       | inl (p, _, here, _) ↦ (p, here)

@@ -130,7 +130,7 @@ of_nothing l x y g left top width height none = sym (is_patch (grid_of l) x y (v
 
 -- ---- in a view
 
--- a rectangle in a view, put where the view was seen, is one at the summed corner
+-- a rectangle in a view, put where the view was seen, is one at the sum of the corners
 pub fill_in_view : {T : Type 0} (g : Grid T) (left top width height x y columns lines : ℕ) (value : T) → x + columns ≤ width → y + lines ≤ height
     → patch g left top (patch (view g left top width height) x y (uniform columns lines value)) ≡ patch g (left + x) (top + y) (uniform columns lines value)
 unfolding uniform
@@ -141,5 +141,5 @@ fill_in_view g left top width height x y columns lines value across down = patch
 -- what the edge cuts, and what was put
 pub ruleset patches = (clipped, clipped_image, past_edge, of_nothing, put_pixel)
 
--- what stands at a place
+-- what is at a place
 pub ruleset at_places = (in_patch, beside_patch, in_view, in_uniform, in_one_row, in_row, put_pixel)

@@ -67,7 +67,7 @@ has_along count stride (w ∷ path) v s wide has e =
     (has_along count stride path (nested v w) (stretch_within s (padded_stretch s.len stride w)) (omega (arith, p.0)) inner p.1)
 
 module _ {T : Type 0} (l : Layout T) (path : List Window) (wide : l.width ≤ l.stride) (fits : Fits l) (inside : first_outside l.width l.height path ≡ None) where
-  -- the stretch of a path has its window: where that isn't empty, from the summed corner on
+  -- the stretch of a path has its window: where that isn't empty, from the sum of the corners on
   pub path_has : HasWindow (length l.cells) l.stride (path_window l.width l.height path) (path_stretch l.stride (whole l.cells) path)
   path_has =
       let all : HasWindow (length l.cells) l.stride (window 0 0 l.width l.height) (whole l.cells) = record {

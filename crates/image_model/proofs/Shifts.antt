@@ -10,7 +10,7 @@ use Rattle.image_model.specs.Windows.{Window, IsInside, window_view}
 use Rattle.image_model.specs.Shifts.{MovesRows, IsCellOf}
 use Rattle.image_model.proofs.Grids.{covers_decides, pixel_at, at_place, is_patch}
 
--- the cell of a place of a window is that of the summed place
+-- the cell of a place of a window is that of the corner plus the place
 in_window : (stride corner x y : ℕ) (w : Window) → corner ≡ stride * w.top + w.left → corner + y * stride + x ≡ (w.top + y) * stride + (w.left + x)
 in_window stride corner x y w e = omega (arith, add-mul w.top y stride, mul_comm stride w.top)
 

@@ -55,7 +55,7 @@ module _ {X : Type 0} (f : ℕ → List X) (w : ℕ) (each : (y : ℕ) → lengt
   length-lines a (suc n) = omega (arith, length-append (f a) (flat_map f (range_with_len (a + 1) n)), each a, length-lines (a + 1) n, suc-mul n w)
 
 module _ (width height tile_width tile_height : ℕ) (wide : 0 < tile_width) (high : 0 < tile_height) where
-  -- how many tiles stand in a line, and how many lines
+  -- how many tiles are in a line, and how many lines there are
   abbrev columns : ℕ
   columns = tile_count tile_width width
 

@@ -99,7 +99,7 @@ module _ {T : Type 0} (l : Layout T) (w : Window) (s : Stretch) (has : HasWindow
   pub window_cell : (x y : ℕ) → x < w.width → y < w.height → s.start + (y * l.stride + x) ≡ cell_of l (w.left + x) (w.top + y)
   window_cell x y column line = grind arith
 
-  -- a window's place has the pixel of the summed place
+  -- a window's place has the pixel of the corner plus the place
   pub window_pixel : (x y : ℕ) → x < w.width → y < w.height → pixel (stretch_window l w s) x y ≡ pixel l (w.left + x) (w.top + y)
   window_pixel x y column line = grind (arith, stretch_cell)
 

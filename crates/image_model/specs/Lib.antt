@@ -10,3 +10,6 @@ pub mod Mapped
 pub mod MappedRows
 pub mod Swaps
 pub mod Flips
+pub mod Tables
+pub mod ByPlace
+pub mod Turns

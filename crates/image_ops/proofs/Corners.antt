@@ -31,7 +31,7 @@ start_starts size x some =
     let same : x / size ≡ tile_start size x / size = sym (div-mul-add (x / size) size 0 some) ∙ ap (λ n. n / size) there in
     sym (tile_start-is size (tile_start size x)) ∙ sym (ap (λ n. n * size) same) ∙ tile_start-is size x
 
--- behind the first number of a tile is another one of it
+-- after the first number of a tile comes another one of it
 pub start_before : (size y : ℕ) → 0 < size → 0 < y % size → tile_start size (y - 1) ≡ tile_start size y
 start_before size y some within =
     start_of size (tile_start size y) some (start_starts size y some) (y - 1) (omega (arith, within)) (omega (arith, within, mod_below y size some))

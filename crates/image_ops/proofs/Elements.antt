@@ -1,6 +1,7 @@
 -- Pairs of elements of two rows are the pixels of a place.
-use Rattle.std.proofs.Common.{◌≡◌, ℕ, ◌+◌, ◌<◌, Bool, List, inl, inr, subst, sym, ap, ◌∙◌, arith, Some}
+use Rattle.std.proofs.Common.{◌≡◌, ℕ, ◌+◌, ◌<◌, Bool, List, length, inl, inr, subst, sym, ap, ◌∙◌, arith, Some}
 use Rattle.std.proofs.lemmas.Bool.{cases_lt}
+use Rattle.std.proofs.lemmas.Option.{slice_get_past}
 use Rattle.std.specs.List.{slice_get}
 use Rattle.std.specs.Borrow.{Bor}
 use Rattle.image_model.specs.Layout.{Layout, pixel}
@@ -29,4 +30,12 @@ one_row_more P width y above this x j column upto =
     elim (cases_lt j y) [
       | inl earlier ↦ above x j column earlier
       | inr last ↦ let same : y ≡ j = omega (arith, upto, last) in subst (λ n. P x n) same (this x column)
+    ]
+
+-- an item of a list has a number below its length
+pub in_row : {T : Type 0} (xs : List T) (x : ℕ) (p : T) (n : ℕ) → slice_get xs x ≡ Some p → length xs ≡ n → x < n
+in_row xs x p n here long =
+    elim (cases_lt x (length xs)) [
+      | inl inside ↦ omega (arith, inside, long)
+      | inr past ↦ absurd (cc (sym (slice_get_past xs x past) ∙ here))
     ]

@@ -8,4 +8,8 @@ pub mod Swaps
 pub mod Corners
 pub mod Spreading
 pub mod Mosaics
+pub mod PlaceAnswers
 pub mod WindowWrites
+pub mod Crossing
+pub mod FromPlaces
+pub mod PixelsMade

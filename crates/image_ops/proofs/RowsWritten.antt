@@ -84,7 +84,7 @@ module _ {T : Type 0} (IsRight : ℕ → ℕ → Option T → Type 0) (old now :
       row_length =
           omega (arith, begins, ends, row_reached (length old) s.width s.height s.stride y fits below, so.as_many, length-take (upto - from) (drop from now), length-drop from now)
 
-      -- one row more, of the cells that a loop leaves: those before the row, the row, and those behind it
+      -- one row more, of the cells that a loop leaves: those before the row, the row, and those after it
       pub row_written : (line : List T) → length line ≡ s.width → ((x : ℕ) → x < s.width → IsRight x y (slice_get line x))
           → RowsDone IsRight old (take from now ++ (line ++ drop (upto - from) (drop from now))) s (y + 1)
       row_written line long right =

@@ -105,7 +105,7 @@ module _ {T : Type 0} (tile : ℕ) (some : 0 < tile) (old : List T) where
           within = omega arith;
         }
 
-    -- the same of the cells that a loop leaves: those before the tile, the tile, and those behind it
+    -- the same of the cells that a loop leaves: those before the tile, the tile, and those after it
     pub one_tile_more : SpreadUpto tile old (take corner now ++ (replicate len pixel ++ drop (corner + len - corner) (drop corner now))) (corner + len) (corner + len)
     one_tile_more =
         let back : corner + len - corner ≡ len = omega arith in

@@ -1,4 +1,4 @@
--- What the walks of both pixel cursors over a pointer share: their machine value, an `if`'s first arm, and a count behind a `&`. Assumes `Logic`.
+-- What the walks of both pixel cursors over a pointer share: their machine value, an `if`'s first arm, and a count that a `&` points to. Assumes `Logic`.
 use Rattle.std.proofs.Common.{refl, ℕ, ◌<◌, ◌^◌, List, [], ◌∷◌, w64}
 use Rattle.borrow_laws.proofs.Walking.{Ura, ty_int, skip, cond, Val, vint, vptr, vstruct, vcons, vnil, Lft, Share, flft, fat, Logic, Item, flt_i, flt_l, ‵, ◌$◌, move, drop, rewrite, fsplit, fjoin, feq_i, feq_l, post, any_q, usize, cell_at, part_at, hidden_shr, Wp, Env, Calls, Loops, after_seq}
 use mir.Syntax as syntax
@@ -22,7 +22,7 @@ abbrev pub then_arm : syntax.Body → syntax.Body
 then_arm (cond x₀ x₁ x₂) = x₁
 then_arm x₀ = skip
 
--- a `usize` behind a `&` is looked at: [the word; the way back]
+-- a `usize` that a `&` points to is looked at: [the word; the way back]
 module _ {M : Type 1} {𝓤 : Ura M} {𝓛 : Logic 𝓤} {K : Type 0} {Γ : List (Item 𝓤)} {G : Goal 𝓤 𝓛.H} where
   pub word_in : K → Soaks G → {κ : Lft} {q : Share} (n b at : ℕ)
       → ((q' : Share) → n < 2 ^ 64 → Seq K 𝓛 (‵ (fat q' (ty_int w64) b at (vint w64 n)) ∷ Shut 𝓛 κ q (part_at usize q' n b at) ∷ Γ) G) → Seq K 𝓛 (‵ (hidden_shr usize κ n b at) ∷ ‵ (flft κ q) ∷ Γ) G

@@ -52,7 +52,7 @@ module _ {M : Type 1} {𝓤 : Ura M} (𝓛 : Logic 𝓤) (R : RattleType) (ℓ :
   takes = qed 𝓛 (‵ (fobs γ ((coded_list R.coded).code all)) ∷ ‵ (fbor κ (Body (Arr (mem R) (length all)) b o γ)) ∷ ‵ (flft κ q) ∷ []) ∵ updating ! $
       open_ref ! tt (Arr (mem R) (length all)) {x = all} {b = b} {o = o} $ fsplit ! $ drop ! $
       use1 𝓛 (‵ (cells (mem R) front b o) ⊛ ‵ (cells (mem R) (y ∷ back) b here)) (cut_app 𝓛 (mem R) front (y ∷ back) b o) $ split ! $ move ! (1 ∷ []) $ fsplit ! $
-      -- [the pixel; the cells behind it; those before; the open borrow; obs; auth]
+      -- [the pixel; the cells after it; those before; the open borrow; obs; auth]
       move ! (1 ∷ []) $ feq_i ! ℕ (length back) (length back) refl $ fjoin ! $ move ! (3 ∷ 4 ∷ 5 ∷ 1 ∷ 0 ∷ 2 ∷ []) $ group ! 6 $
       use1 𝓛 (later (some (λ (γs : GName × GName). (‵ (fobs γs.0 (R.coded.code y)) ⊛ ‵ (fbor κ (Body (mem R) b here γs.0))) ⊛ (‵ (fobs γs.1 ((coded_list R.coded).code back)) ⊛ ‵ (fbor κ (Body (Arr (mem R) (length back)) b next γs.1)))
       ⊛ ‵ (flft κ q) ⊛ ‵ (after₂ (Arr (mem R) 0) (mem R) (Arr (mem R) 0) γ γs.0 γs.1 joins))))
@@ -70,7 +70,7 @@ module _ {M : Type 1} {𝓤 : Ura M} (𝓛 : Logic 𝓤) (R : RattleType) (γ : 
       let back = qed 𝓛 [] ∵ each ! (λ (z : R.Denot). wand 𝓤 (A.auth γ (R.coded.code z)) (sem 𝓛 (fex R.Denot (From z)))) (λ z. assume ! (‵ (fauth γ (R.coded.code z))) $ feq_i ! R.Denot z z refl $ fjoin ! $ fpack ! R.Denot (From z) z $ done !) in
       record { apply = λ a p. (said.apply a p, back.apply a p) }
 
--- the counts of a cursor behind a `&`
+-- the counts of a cursor that a `&` points to
 module _ (a : NamedLft) (R : RattleType) {M : Type 1} {𝓤 : Ura M} (𝓛 : Logic 𝓤) (κ : Lft) where
   pub shown : (d : PixelsIterMut R.Denot) (b o : ℕ) → ent 𝓤 (sem 𝓛 (hidden_shr (P.the_row a R) κ d b o))
       (sep 𝓤 (sem 𝓛 (hidden_shr usize κ d.remaining b (o + 8))) (sep 𝓤 (sem 𝓛 (hidden_shr usize κ d.rows_left b (o + 16))) (sem 𝓛 (hidden_shr usize κ d.width b (o + 24)))))

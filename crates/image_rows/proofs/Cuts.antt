@@ -12,7 +12,7 @@ use Rattle.image_rows.specs.declared.writing.RowsIterMut.{RowsIterMut}
 use Rattle.image_rows.specs.Rows.{near, far, beside, let_go, muts_left, Yields}
 use Rattle.image_rows.proofs.RowsLeft.{rows_none, suc_times, first_off, last_off}
 
--- rows that are so spaced have a column, lie apart, and lie within so many cells
+-- rows that are so spaced have a column, don't overlap, and are within so many cells
 abbrev pub Lies : Spacing → ℕ → Type 0
 Lies s n = (0 < s.count → 0 < s.width) × (s.width ≤ s.stride) × (0 < s.count → s.skip + span s.count s ≤ n)
 

@@ -76,9 +76,9 @@ module _ {T : Type 0} (cells : List T) (w s : ℕ) where
   length-rows_left zero some = ap length (rows_none 0 refl)
   length-rows_left (suc n) some = length-rows (layout cells w (suc n) s) ∙ row_count-wide w (suc n) (some (omega arith))
 
--- the rows behind cells that are skipped
+-- the rows after cells that are skipped
 module _ {T : Type 0} (cells : List T) (skip w s n : ℕ) (wide : 0 < w) (some : 0 < n) (narrow : w ≤ s) where
-  -- the first row comes off, and the padding behind it is skipped next
+  -- the first row comes off, and the padding after it is skipped next
   pub first_off : rows (layout (drop skip cells) w n s) ≡ drop skip (take (skip + w) cells) ∷ rows (layout (drop (s - w) (drop (skip + w) cells)) w (n - 1) s)
   first_off =
       let on : w + (s - w) ≡ s = omega arith in

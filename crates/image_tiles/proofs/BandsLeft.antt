@@ -81,7 +81,7 @@ module _ {T : Type 0} (xs : List T) (w n s bh : ℕ) (wide : 0 < w) (some : 0 < 
       mul_step : s * (k - 1) + s ≡ s * k
       mul_step = let e : k ≡ suc (k - 1) = omega (arith, some, high) in sym (mul-suc s (k - 1)) ∙ ap (λ i. s * i) (sym e)
 
-  -- the first band comes off, and the padding behind it is skipped next
+  -- the first band comes off, and the padding after it is skipped next
   pub first_off : bands (layout xs w n s) bh ≡ layout (take len xs) w k s ∷ bands (layout rest w (n - k) s) bh
   first_off = grind (arith, counted, first, map_along, further, cond-false, nat_tests)
 
@@ -122,7 +122,7 @@ bands_fit l bh fits high =
           absurd (omega (arith, inn, ap (λ w. band_count w l.height bh) e))
     ]
 
--- an iterator gives as many bands as tiles stand along its rows
+-- an iterator gives as many bands as there are tiles along its rows
 pub counted_left : {T : Type 0} (s : BandsMut T) → length (bands_left s) ≡ tile_count s.spacing.band_height s.spacing.rows.count
 unfolding bands_left
 counted_left s = let p = s.spacing.rows in length-bands (drop p.skip s.cells.now) p.width p.count p.stride s.spacing.band_height s.some s.high

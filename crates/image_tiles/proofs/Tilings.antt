@@ -63,7 +63,7 @@ module _ (width height tile_width tile_height : ℕ) (wide : 0 < tile_width) (hi
       off : drop k all ≡ it ∷ drop (k + 1) all
       off = drop_more all k it (slice_get_within all k it there) ∙ ap (λ w. w ∷ drop (k + 1) all) (get_or_from_slice_get all k it it there)
 
-      -- it stands first of those that are left
+      -- it is the first of those that are left
       first : left_at tile_columns tile_rows tile_column tile_row ≡ it ∷ drop (k + 1) all
       first = cond-true (is_place tile_columns tile_rows tile_column tile_row) _ _ here ∙ off
 
@@ -71,15 +71,15 @@ module _ (width height tile_width tile_height : ℕ) (wide : 0 < tile_width) (hi
       pub count : length (left_at tile_columns tile_rows tile_column tile_row) ≡ (tile_rows - tile_row - 1) * tile_columns + (tile_columns - tile_column)
       count = grind (arith, places, nat_tests, cond-true, length-drop, length-all, add-mul, suc-mul)
 
-      -- with a tile column behind it, the next tile stands there
+      -- with a tile column after it, the next tile is there
       pub right : tile_column + 1 < tile_columns → left_at tile_columns tile_rows tile_column tile_row ≡ it ∷ left_at tile_columns tile_rows (tile_column + 1) tile_row
       right more = grind (arith, first, cond-true, is_place_decides)
 
-      -- behind the last tile column it is the first one of the tile row below
+      -- after the last tile column it is the first one of the tile row below
       pub down : tile_columns ≤ tile_column + 1 → left_at tile_columns tile_rows tile_column tile_row ≡ it ∷ left_at tile_columns tile_rows 0 (tile_row + 1)
       down last = grind (arith, suc-mul, first, cond-true, is_place_decides, cond-false, false_from_ne_true, drop_all, length-all)
 
--- the windows that are left are the next one and those behind it
+-- the windows that are left are the next one and those after it
 pub goes_on : (t : Tiling) → has_tile t ≡ true → windows_left t ≡ tile_now t ∷ windows_left (stepped t)
 unfolding windows_left
 goes_on t here = grind (arith, lt-ltb, right, cond-true, false_from_ne_true, ltb-true, down, cond-false)

@@ -17,7 +17,7 @@ pub struct Tiling {
     height: usize,
     tile_width: usize,
     tile_height: usize,
-    // How many tiles stand side by side, and how many tile rows there are.
+    // How many tiles are side by side, and how many tile rows there are.
     tile_columns: usize,
     tile_rows: usize,
     // Where the next tile is: counted in tiles, so that no sum of corners can overflow.

@@ -9,7 +9,7 @@ use Rattle.image_model.proofs.Grids.{same_grids_of}
 use Rattle.image_model.proofs.Compaction.{packed_grid, packed_is_fit}
 use Rattle.image_model.proofs.Places.{cell_within}
 
--- at the least stride they show the image, whatever stands behind them
+-- at the least stride they show the image, whatever comes after them
 pub joined_shows : {T : Type 0} (l : Layout T) (rest : List T) → Fits l → grid_of (layout (joined_rows l ++ rest) l.width l.height (least_stride l.width)) ≡ grid_of l
 joined_shows l rest fits =
     same_grids_of (layout (joined_rows l ++ rest) l.width l.height (least_stride l.width)) (packed l) refl refl

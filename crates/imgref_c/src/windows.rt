@@ -31,7 +31,7 @@ pub(crate) fn fill_window<T: Copy>(
     Status::Done
 }
 
-// Each tile of the window, from its corner on, gets the pixel that stood at the tile's corner.
+// Each tile of the window, from its corner on, gets the pixel that was at the tile's corner.
 pub(crate) fn mosaic<T: Copy>(
     cells: &mut [T],
     claimed: ClaimedShape,

@@ -1,4 +1,4 @@
--- Counting: by steps of one that could wrap, where the whole count fits; and of pixels by their places.
+-- Counting: by steps of one that could overflow, where the whole count fits; and of pixels by their places.
 use Rattle.std.proofs.Common.{◌≡◌, refl, ℕ, ◌+◌, ◌<◌, ◌≤◌, ◌^◌, ◌%◌, arith, Bool, true, false, cond, List, [], ◌∷◌, length, map, Option, Some, None, ◌∙◌, sym, ap, count_by}
 use Rattle.std.proofs.Math.Nat.{mod-eq_of_lt}
 use Rattle.std.specs.List.{fold, filter_map, flat_map, range_with_len, cons_option}
@@ -13,7 +13,7 @@ module _ {T : Type 0} (test : T → Bool) where
   abbrev pub step : ℕ → T → ℕ
   step count x = cond (test x) ((count + 1) % 2 ^ 64) count
 
-  -- nothing wraps below the limit
+  -- nothing overflows below the limit
   stepped : (x : T) (count : ℕ) → count + 1 < 2 ^ 64 → step count x ≡ count + cond (test x) 1 0
   stepped x count small = grind (arith, mod-eq_of_lt)
 

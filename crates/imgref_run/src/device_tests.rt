@@ -87,7 +87,7 @@ fn a_writer_that_fails(rt: HostRuntime) -> Result<(), Fail> {
     Ok(())
 }
 
-// Whether a device answered this, or else its error.
+// Whether a device returned this, or else its error.
 fn is_answer<T: PartialEq + Drop>(found: std::io::Result<T>, due: Option<T>) -> bool {
     match found {
         Ok(answer) => due == Some(answer),
@@ -95,7 +95,7 @@ fn is_answer<T: PartialEq + Drop>(found: std::io::Result<T>, due: Option<T>) -> 
     }
 }
 
-// A counted reader asks its device once a call, and passes on what that answers: an error, some
+// A counted reader asks its device once a call, and passes on what that returns: an error, some
 // bytes, the end.
 #[test]
 fn a_counted_reader_asks_once(rt: HostRuntime) {
@@ -108,7 +108,7 @@ fn a_counted_reader_asks_once(rt: HostRuntime) {
     assert!(rt; place == *b"abc\0");
 }
 
-// Whether a write answers so many bytes, or else the sink's error, and the failures and the calls
+// Whether a write returns so many bytes, or else the sink's error, and the failures and the calls
 // that are counted then.
 fn writes(
     writer: &mut Counted<Sink>,
@@ -128,7 +128,7 @@ fn flushes(writer: &mut Counted<Sink>, due: Option<()>, counts: (u64, usize)) ->
         && (writer.failures(), writer.device().flushes) == counts
 }
 
-// So does a counted writer. An answer of no byte is a failure where there was one to take.
+// So does a counted writer. A result of no byte is a failure where there was one to take.
 #[test]
 fn a_counted_writer_asks_once(rt: HostRuntime) {
     let mut writer = Counted::new(Sink::new(2, Failing::Error(2)));

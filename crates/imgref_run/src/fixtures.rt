@@ -45,7 +45,7 @@ impl<'a> Read for Source<'a> {
     }
 }
 
-// What a writer answers where it fails.
+// What a writer returns where it fails.
 #[derive(Clone, Copy, PartialEq, Eq)]
 pub(crate) enum Failing {
     Never,
@@ -122,7 +122,7 @@ pub(crate) struct Due<'a> {
     pub(crate) failures: [u64; 2],
 }
 
-// Runs the program, and answers the calls of the reader and of the writer, and the flushes. Where
+// Runs the program, and returns the calls of the reader and of the writer, and the flushes. Where
 // memory is refused nothing is written, and the test ends with that.
 pub(crate) fn calls_of(
     rt: &impl Abort,

@@ -43,7 +43,7 @@ pub fn run<R: Read, W: Write>(
         (W.contents (device_of writer.old)) (W.contents (device_of writer.new)) }
     ensures read { ReadsAll result (R.remaining (device_of reader.new)) }
 
-    // Each count grew exactly where the answer is that device's fault.
+    // Each count grew exactly where the result is that device's fault.
     ensures reader_count { failures_of reader.new
         ≡ failures_of reader.old + reader_failures result }
     ensures writer_count { failures_of writer.new

@@ -93,7 +93,7 @@ module _ {T : Type 0} (l : Layout T) (bh : ℕ) (value : T) (high : 0 < bh) (nar
       no_skip : r.spacing.rows.skip ≡ 0
       no_skip = ap (λ (p : BandSpacing). p.rows.skip) spacing
 
-      -- the band's cells, and behind them the others
+      -- the band's cells, and after them the others
       parts : l.cells ≡ (buf_of band).now ++ cells_left t
       parts = sym cells ∙ moved.0 ∙ ap (λ n. (take n (cells_left r) ++ (buf_of band).now) ++ cells_left t) no_skip
 

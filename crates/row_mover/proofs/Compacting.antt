@@ -9,7 +9,7 @@ use Rattle.image_model.proofs.Rows.{HasRows, joined_upto, joined_upto_more, leng
 use Rattle.row_mover.specs.State.{State}
 use Rattle.row_mover.proofs.Shifting.{IsShifted}
 
--- the list with its first y rows joined at the front, and as it was behind them
+-- the list with its first y rows joined at the front, and as it was after them
 abbrev pub compacted_upto : {T : Type 0} → Layout T → ℕ → List T
 compacted_upto l y = joined_upto l y ++ drop (y * l.width) l.cells
 
@@ -20,7 +20,7 @@ pub record IsCompactedUpto {T : Type 0} (old now : State T) (width height stride
   pub count_is : now.shifts + 1 ≡ old.shifts + y
   pub lender_stays : now.lender ≡ old.lender
 
--- behind a changed front of the same length the list is as before
+-- after a changed front of the same length the list is as before
 drop_behind : {T : Type 0} (front cells : List T) (n k : ℕ) → length front ≡ n → drop (n + k) (front ++ drop n cells) ≡ drop (n + k) cells
 drop_behind front cells n k e =
     sym (drop-drop k n (front ++ drop n cells)) ∙ ap (λ xs. drop k xs) (drop_at front (drop n cells) n e) ∙ drop-drop k n cells

@@ -28,7 +28,7 @@ module _ {T : Type 0} (cells : List T) (start len target : ℕ) (up : start ≤ 
   pub back_first : (n : ℕ) → n ≤ len → shifted (shifted cells (start + (len - n)) n (target + (len - n))) start (len - n) target ≡ shifted cells start len target
   back_first n enough = same_lists _ _ (grind (arith, places)) (λ k d below. grind (arith, places))
 
--- towards the front the first cells are copied first, and no cell behind them is written
+-- towards the front the first cells are copied first, and no cell after them is written
 module _ {T : Type 0} (cells : List T) (start len target : ℕ) (down : target ≤ start) (source : start + len ≤ length cells) where
   pub front_more : (done n : ℕ) → done + n ≤ len → shifted (shifted cells start done target) (start + done) n (target + done) ≡ shifted cells start (done + n) target
   front_more done n within = same_lists _ _ (grind (arith, places)) (λ k d below. grind (arith, places))

@@ -19,7 +19,7 @@ lacks-windows : (c : ℕ) (ws : List Window) → c < 48 → 44 ≢ c → IsPath 
 lacks-windows c [] small ne all = tt
 lacks-windows c (w ∷ ws) small ne all = (lacks-window_text c w small ne all.0, lacks-windows c ws small ne all.1)
 
--- a dash stands in no window
+-- no window has a dash
 no_dash : (w : Window) (ws : List Window) → IsPath (w ∷ ws) → bytes_eq (join_with_byte 47 (map window_text (w ∷ ws))) (45 ∷ []) ≡ false
 no_dash w ws all =
     let text = join_with_byte 47 (map window_text (w ∷ ws)) in

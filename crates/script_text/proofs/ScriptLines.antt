@@ -7,7 +7,7 @@ use Rattle.script_text.specs.Script.{whole_lines, lines_of}
 
 -- ---- the next line
 
--- an empty last piece is none
+-- an empty last piece is no line
 pub no_line : (piece : List ℕ) (left : List (List ℕ)) → length piece ≡ 0 → left ≡ [] → whole_lines (piece ∷ left) ≡ []
 no_line piece left empty last = rw (last, empty) refl
 

@@ -10,7 +10,7 @@ use Rattle.script_text.specs.Line.{Kind, a_number, a_pixel, a_place, Argument, n
 use Rattle.script_text.specs.declared.fault.LineFault.{LineFault}
 use Rattle.script_text.specs.declared.fault.LineFault.TheVariants.{Memory, Bad}
 
--- ---- what a function of the program that reads has answered, beside what is read
+-- ---- the result of a function of the program that reads, besides what is read
 
 -- out of memory, nothing is said; else there is nothing to read
 abbrev pub Fails : {Y : Type 0} → LineFault → Option Y → Type 0
@@ -30,7 +30,7 @@ path_of field = if bytes_eq field (45 ∷ []) then Some [] else each_of window_o
 abbrev pub path_at : List (List ℕ) → Option (List Window × List (List ℕ))
 path_at parts = first_of_parts path_of parts
 
--- ---- what stands after a word
+-- ---- what follows a word
 
 -- an image's number and a path, and the fields after them
 unfoldable pub place_at : List (List ℕ) → Option (Argument × List (List ℕ))

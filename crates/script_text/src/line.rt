@@ -72,7 +72,7 @@ fn parse(alloc: Global, text: &[u8]) -> Result<Line, LineFault>
 }
 
 /// The one image or command that the line, which has no line feed, is the text of. `Bad` is
-/// answered only where there is none.
+/// returned only where there is none.
 #[tactic(auto, using(crate::proofs::LineTexts::line_found))]
 pub(crate) fn read_line(alloc: Global, text: &[u8]) -> Result<Line, LineFault>
     ensures found { IfOk result (λ line. IsLineOf text.now (entry_of line)) }

@@ -13,7 +13,7 @@ fn tiles_of<'a>(rt: &impl Abort, cells: &'a mut [u8; 11], size: usize) -> TilesM
     TilesMut::new(image, size, size)
 }
 
-// Sets each pixel of the next tile, and answers its width, height, stride and the length of its
+// Sets each pixel of the next tile, and returns its width, height, stride and the length of its
 // buffer.
 fn mark(tiles: &mut TilesMut<'_, u8>, value: u8) -> Option<[usize; 4]> {
     let mut tile = tiles.next_tile()?;

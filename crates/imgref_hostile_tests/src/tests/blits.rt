@@ -9,7 +9,7 @@ use std::test::Fail;
 // Two numbers: column and line, or width and height.
 type Pair = (usize, usize);
 
-// Moves a window of an image that fits, and answers whether it lies inside before and after.
+// Moves a window of an image that fits, and returns whether it is inside before and after.
 fn moves<C: AsMutSlice<Item = u8>>(image: &mut Img<C>, from: Pair, to: Pair, size: Pair) -> bool {
     let is_inside = image.has_window(from.0, from.1, size.0, size.1)
         && image.has_window(to.0, to.1, size.0, size.1);

@@ -46,7 +46,7 @@ fn set_first_two<T: Copy>(cells: &mut [T], value: T)
     image[(0usize, 1usize)] = value;
 }
 
-// The slice that an image was made of, taken out of it: the same loan.
+// The slice that an image was made of, taken out of it: the same borrow.
 fn there_and_back<T>(cells: &mut [T]) -> &mut [T]
     ensures same_loan { result.ghost_name ≡ cells.entry.ghost_name }
     ensures value { result.now ≡ cells.old }

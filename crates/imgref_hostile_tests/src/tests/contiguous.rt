@@ -7,7 +7,7 @@ use std::borrow::CowSlice;
 use std::process::Abort;
 use std::test::Fail;
 
-// Two by two with one cell of padding after each row, and two behind them.
+// Two by two with one cell of padding after each row, and two after them.
 const SMALL: [u8; 8] = [1, 2, 3, 4, 5, 6, 7, 8];
 
 // Each number's lowest byte.

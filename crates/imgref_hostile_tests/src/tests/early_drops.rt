@@ -7,13 +7,13 @@ use imgref_fixtures::{PADDED, SQUARE, len_of, next_from, padded, padded_mut, pla
 use std::process::Abort;
 use std::test::Fail;
 
-// Four rows of three pixels, or of one with two cells of padding behind it.
+// Four rows of three pixels, or of one with two cells of padding after it.
 const TWELVE: [u8; 12] = [1, 2, 3, 4, 5, 6, 7, 8, 9, 10, 11, 12];
 
 // What is written in each row that is taken.
 const WRITTEN: u8 = 100;
 
-// Writes the next row from the front or from the back, and answers whether there is one.
+// Writes the next row from the front or from the back, and returns whether there is one.
 fn write_next(rows: &mut RowsIterMut<'_, u8>, is_front: bool) -> bool {
     match next_from(rows, is_front) {
         Some(row) => {
@@ -180,7 +180,7 @@ fn take_pixels(rt: &impl Abort, image: &mut ImgRefMut<'_, u8>, steps: usize) {
     }
 }
 
-// Sets the next pixel to 0, and answers whether there is one.
+// Sets the next pixel to 0, and returns whether there is one.
 fn clear_next(pixels: &mut PixelsIterMut<'_, u8>) -> bool {
     match pixels.next() {
         Some(pixel) => {

@@ -24,7 +24,7 @@ const NUMBERS: [usize; 10] = [
     18446744073709551615,
 ];
 
-// Whether a stretch of a side lies within it: no sum of the two wraps.
+// Whether a stretch of a side lies within it: no sum of the two overflows.
 fn is_within(start: usize, len: usize, side: usize) -> bool {
     match start.checked_add(len) {
         Some(end) => end <= side,
@@ -203,8 +203,8 @@ fn is_too_large(alloc: Global, (width, height, stride): Size) -> Result<bool, Al
     Ok(!owned.is_valid() && !view.is_valid() && !lent.is_valid())
 }
 
-// Where a product or a sum wraps, so many cells seem to do: 1, 1, 0, 0, 1, 3, 5, and 3 thrice. The
-// last two wrap nowhere.
+// Where a product or a sum overflows, so many cells seem enough: 1, 1, 0, 0, 1, 3, 5, and 3
+// thrice. The last two overflow nowhere.
 #[test]
 fn no_product_of_a_stride_wraps(rt: HostRuntime) -> Result<(), Fail> {
     for (width, height, stride) in [

@@ -7,7 +7,7 @@ use std::test::Fail;
 // The greatest width and height.
 const LAST: usize = 4294967295;
 
-// Whether an image of the greatest size has its last pixel, and no other behind it.
+// Whether an image of the greatest size has its last pixel, and no other after it.
 fn has_last_pixel(view: ImgRef<'_, ()>) -> bool {
     view.is_valid()
         && view.has_window(LAST - 1, LAST - 1, 1, 1)
@@ -62,7 +62,7 @@ fn reads_by_the_greatest_numbers<const N: usize>(rt: &impl Abort) -> Result<(), 
     Ok(())
 }
 
-// Writes the last pixel by each call, and answers whether the image has it.
+// Writes the last pixel by each call, and returns whether the image has it.
 fn writes_last_pixel(lent: &mut ImgRefMut<'_, ()>) -> bool {
     if !lent.is_valid() || !lent.has_window(LAST - 1, LAST - 1, 1, 1) {
         return false;

@@ -7,7 +7,7 @@ use std::alloc::{AllocError, Global};
 use std::borrow::CowSlice;
 use std::test::Fail;
 
-// Two by two with one cell of padding after each row, and two behind them.
+// Two by two with one cell of padding after each row, and two after them.
 const SMALL: [u8; 8] = [1, 2, 3, 4, 5, 6, 7, 8];
 
 // Whether the rows of an image are joined to these and all its cells copied, or memory was refused;
@@ -83,7 +83,7 @@ fn is_copied(alloc: Global, image: ImgRef<'_, u8>) -> bool {
     }
 }
 
-// No growth may fall in these calls: an answer that tells of one is an error here.
+// These calls allocate nothing: a result that is out of memory is an error here.
 #[test]
 fn what_needs_no_memory_takes_none(rt: HostRuntime) {
     let four: ImgRef<'_, u8> = Img::new(&SMALL[..4], 2, 2);

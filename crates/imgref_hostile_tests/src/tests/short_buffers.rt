@@ -237,7 +237,7 @@ fn are_first_cells(view: ImgRef<'_, u8>, count: usize) -> bool {
     at == count
 }
 
-// Sets the cells of each piece to 0, and answers how many cells are 0.
+// Sets the cells of each piece to 0, and returns how many cells are 0.
 fn cleared(owner: &mut ImgVec<u8>) -> usize {
     let mut lent = owner.as_mut();
     for piece in lent.rows_padded_mut() {

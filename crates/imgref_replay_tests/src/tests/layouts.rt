@@ -48,7 +48,7 @@ fn all_commands() -> [Line<u8>; 12] {
     ]
 }
 
-// Answers whether the two lists agree.
+// Whether the two lists agree.
 fn three_images(rt: &impl Abort, alloc: Global) -> Result<bool, AllocError> {
     let commands = commands(alloc, &all_commands())?;
     assert!(rt; commands.len() == 12);
@@ -93,7 +93,7 @@ fn three_images(rt: &impl Abort, alloc: Global) -> Result<bool, AllocError> {
     Ok(true)
 }
 
-// Answers whether the two images agree.
+// Whether the two images agree.
 fn one_image(rt: &impl Abort, alloc: Global) -> Result<bool, AllocError> {
     let lines = [
         Line::Put(0, [1, 1, 2, 1], 0, 0, 9u8),

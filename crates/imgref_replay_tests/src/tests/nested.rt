@@ -153,7 +153,7 @@ fn shows_windows(count: usize, size: [usize; 3]) -> bool {
     true
 }
 
-// The buffers go up to one cell behind whole strides.
+// The buffers go up to one cell after whole strides.
 #[test]
 fn each_window_of_every_small_image_is_read(rt: HostRuntime) {
     for number in 0..64usize {

@@ -89,7 +89,7 @@ fn pixels_of_no_size_have_cells_too(rt: HostRuntime) {
     assert!(rt; found == Ok((1, 2, 5)));
 }
 
-// Writes a value in a window, where it has the place. The answer is the number of the first window
+// Writes a value in a window, where it has the place. The result is the number of the first window
 // outside, or whether the window has the place.
 fn write_at<T: Copy>(
     image: &mut ImgVec<T>,

@@ -7,7 +7,7 @@ use std::alloc::{AllocError, Global};
 use std::collections::HashSet;
 use std::test::Fail;
 
-// Two by two: packed, with padding behind each row, and with padding between the two rows.
+// Two by two: packed, with padding after each row, and with padding between the two rows.
 const PACKED: [u8; 4] = [0, 1, 2, 3];
 
 const PADDED: [u8; 6] = [0, 1, 255, 2, 3, 255];

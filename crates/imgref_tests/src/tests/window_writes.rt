@@ -16,7 +16,7 @@ fn set<C: AsMutSlice<Item = u8>>(image: &mut Img<C>, x: usize, y: usize, value: 
     true
 }
 
-// A window of the first column has these cells, and a write behind its pixel is in the image.
+// A window of the first column has these cells, and a write after its pixel is in the image.
 fn check_column<C: AsMutSlice<Item = u8>>(rt: &impl Abort, image: &mut Img<C>, cells: &[u8]) {
     assert!(rt; image.is_valid() && image.has_window(0, 0, 1, 2));
     let mut window = image.sub_image_mut(0, 0, 1, 2);
@@ -84,7 +84,7 @@ fn the_whole_image_is_written_through(rt: HostRuntime) -> Result<(), Fail> {
     Ok(())
 }
 
-// Writes through the parts of a window, and answers whether they are those of the image of nine cells.
+// Writes through the parts of a window, and returns whether they are those of nine cells.
 fn writes_in_parts(owner: &mut ImgVec<u8>) -> bool {
     if !owner.is_valid() || !owner.has_window(1, 0, 2, 1) {
         return false;

@@ -1,4 +1,4 @@
--- What was read stands behind what was there.
+-- What was read comes after what was there.
 use Rattle.std.proofs.Common.{arith}
 use Rattle.std.proofs.lemmas.Grind.{common_steps}
 use Rattle.devices.proofs.Filling.{read_more}

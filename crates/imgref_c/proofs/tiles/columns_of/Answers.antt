@@ -1,4 +1,4 @@
--- The tile stands in that column and line.
+-- The tile is in that column and line.
 use Rattle.std.proofs.Common.{sym, subst, ℕ}
 use Rattle.imgref_c.specs.Numbering.{Numbered}
 use Rattle.imgref_c.proofs.Numbering.{numbered}

@@ -101,15 +101,15 @@ cover_first_spec 𝓤 𝓛 𝓜 𝓡 wired X Y LX LY CY gh d gs ds gc dc bm bs b
     nothing ! $ move ! (10 ∷ 0 ∷ []) $ fjoin ! $ owned ! usize (Is usize) (uint_Makes 𝓛 w64) count (vint w64 count ∷ []) (refl, low_count) $ fjoin ! $ move ! (1 ∷ 0 ∷ []) $ fjoin ! $
     nothing ! $ move ! (6 ∷ 0 ∷ []) $ join ! $ move ! (5 ∷ 0 ∷ []) $ join ! $ move ! (3 ∷ 0 ∷ []) $ join ! $ join ! $
     nothing ! $ use0 𝓛 (raw (fact 𝓤 (κ₂ ⊑ Y.lives))) (fact_i 𝓤 (κ₂ ⊑ Y.lives) (emp 𝓤) inY) $ join ! $ move ! (1 ∷ 0 ∷ []) $ use2 𝓛 (raw (G₂.pre z₂)) (id⊢ 𝓤 _) $
-    -- [what the call asks; what is kept of the loan; the end of β; κ₁; what follows; what is kept]
+    -- [what the call asks; what is kept of the borrow; the end of β; κ₁; what follows; what is kept]
     calls_at ! fm G₂ (writing.met 𝓤 𝓛 𝓜 𝓡 (compiled.calls-imgref_examples::pixels::write_next 𝓡.env wired) Y LY CY gc dc bc) z₂ (and_then ! (get ! refl) (and_then ! (get ! refl) (and_then ! (get ! refl) (no_more !)))) (λ v₂.
     use1 𝓛 (later (some (λ (u : Unit {0}). ((‵ (flft β qβ) ⊛ ‵ (flft α (Share.right qα)) ⊛ ‵ (flft κ₂ q₂) ⊛ ‵ ftrue) ⊛ ‵ (unit.own_val u (v₂ ∷ []))) ⊛ some (λ (ws : Sort × (Unit {0} × (Unit {0} × Unit {0}))). ‵ (lasts (W.ended Y gc dc) z₂.0.0 z₂.0.3 ws) ⊛ ‵ (writes_first R count value r ws.0))))) (id⊢ 𝓤 _) $
     await ! tt $ pick ! (λ u. split ! $ split ! $ move ! (1 ∷ []) $ feq_l ! (λ is_unit. lands_as ! (ap only is_unit) refl (tt, tt) $
     move ! (1 ∷ []) $ pick ! (λ ws₂. let t : Sort = ws₂.0 in split ! $ fsplit ! $ fsplit ! $
-    -- [the cursor's last value; its borrow; nothing; what it fills; the tokens; what is kept of the loan; the end of β; κ₁; what follows; what is kept]
+    -- [the cursor's last value; its borrow; nothing; what it fills; the tokens; what is kept of the borrow; the end of β; κ₁; what follows; what is kept]
     move ! (4 ∷ []) $ split3 ! $ move ! (0 ∷ 8 ∷ []) $ use2 𝓛 (later (‵ (fdead β) ⊛ ‵ (flft α (Share.left qα)))) (apply∗ 𝓤 (𝓛.A.lft β qβ) _) $ await ! tt $ split ! $
     move ! (1 ∷ 2 ∷ []) $ use2 𝓛 (‵ (flft α qα)) (𝓛.lfts.lft_join α qα) $
-    -- [α; β is over; κ₂; the cursor's last value; its borrow; nothing; what it fills; what is kept of the loan; κ₁; what follows; what is kept]
+    -- [α; β is over; κ₂; the cursor's last value; its borrow; nothing; what it fills; what is kept of the borrow; κ₁; what follows; what is kept]
     move ! (1 ∷ 7 ∷ 3 ∷ []) $ use3 𝓛 (later (‵ (part_at cursor full_share t (l 4) 0))) (ref_back 𝓛 cursor β ε t (l 4) 0) $ await ! tt $
     use1 𝓛 (some (λ (v₃ : Val). ‵ (fat full_share spelled (l 4) 0 v₃) ⊛ ‵ (cursor.own_val t (v₃ ∷ [])))) (part_out_at 𝓛 cursor refl full_share t (l 4) 0 spelled refl) $ pick ! (λ v₃. split ! $
     move ! (1 ∷ []) $ peeks ! cursor (Is cursor) (shows 𝓛 cursor) t (v₃ ∷ []) (λ is₃.

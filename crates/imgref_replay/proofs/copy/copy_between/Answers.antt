@@ -37,7 +37,7 @@ returns-then-source-target g c =
     subst (λ j. ShowsCopy i a.to.left a.to.top (window_view (grid_at (grids_of images) j) (as_window a.from)) (map vec_layout images) (map vec_layout (set images i moved.new.self))) (sym c.if-source-target.true)
     (copied images i i a.to.left a.to.top (as_window a.from) old old moved.new.self r.target r.target is is moved.ensures.grid moved.ensures.outside moved.ensures.fits r.fit)
 
--- ---- the image that is read stands in front
+-- ---- the image that is read is in front
 
 pub copy_over-requires : goal.copy_over-requires
 copy_over-requires g c =
@@ -66,7 +66,7 @@ returns-then-source-target-2 g c =
     subst (λ all. ShowsCopy a.target a.to.left a.to.top copy (map vec_layout images) (map vec_layout all)) (sym (set_back images _ _ a.target value cut over.new.image))
     (copied images a.target a.source a.to.left a.to.top (as_window a.from) old seen over.new.image r.target r.source is seen_is over.ensures.grid over.ensures.outside over.ensures.fits r.fit)
 
--- ---- the image that is written stands in front
+-- ---- the image that is written is in front
 
 pub copy_over-requires-else-source-target-2 : goal.copy_over-requires-else-source-target-2
 copy_over-requires-else-source-target-2 g c =

@@ -113,7 +113,7 @@ cover_band_spec 𝓤 𝓛 𝓜 𝓡 wired X Y LX LY CY gh d gs ds gc dc bm bs bc
     nothing ! $ move ! (1 ∷ 0 ∷ []) $ fjoin ! $
     nothing ! $ move ! (6 ∷ 0 ∷ []) $ join ! $ move ! (5 ∷ 0 ∷ []) $ join ! $ move ! (3 ∷ 0 ∷ []) $ join ! $ join ! $
     nothing ! $ use0 𝓛 (raw (fact 𝓤 (κ₂ ⊑ Y.lives))) (fact_i 𝓤 (κ₂ ⊑ Y.lives) (emp 𝓤) inY) $ join ! $ move ! (1 ∷ 0 ∷ []) $ use2 𝓛 (raw (G₂.pre z₂)) (id⊢ 𝓤 _) $
-    -- [what the call asks; what is kept of the loan; the end of β; κ₁; what follows; what is kept; the value]
+    -- [what the call asks; what is kept of the borrow; the end of β; κ₁; what follows; what is kept; the value]
     calls_at ! fm G₂ (stepping.met 𝓤 𝓛 𝓜 𝓡 (compiled.calls-image_tiles::bands::BandsMut::next 𝓡.env wired) Y LY) z₂ (and_then ! (get ! refl) (no_more !)) (λ v₂.
     let Slice : RattleType = MutSlice (named 0) α R in
     let Image : RattleType = img_row (named 0) α R in
@@ -124,11 +124,11 @@ cover_band_spec 𝓤 𝓛 𝓜 𝓡 wired X Y LX LY CY gh d gs ds gc dc bm bs bc
     ⊛ (‵ (hands_on R r m ws.0) ⊛ raw (fact 𝓤 (YieldsFirstBy mut_layout bands_left r m ws.0)) ⊛ raw (fact 𝓤 (Moves r m ws.0))))))) (id⊢ 𝓤 _) $
     await ! tt $ pick ! (λ m. split ! $ split ! $ move ! (2 ∷ []) $ pick ! (λ ws₂. let t : Sort = ws₂.0 in split ! $ fsplit ! $ fsplit ! $ move ! (3 ∷ []) $ split3 ! $ move ! (1 ∷ []) $
     heard ! (YieldsFirstBy mut_layout bands_left r m t) (λ steps. move ! (1 ∷ []) $ heard ! (Moves r m t) (λ moved.
-    -- [what follows the row; how the iterator ends; its borrow; nothing; the tokens; the row; what is kept of the loan; the end of β; κ₁; what follows; what is kept; the value]
+    -- [what follows the row; how the iterator ends; its borrow; nothing; the tokens; the row; what is kept of the borrow; the end of β; κ₁; what follows; what is kept; the value]
     move ! (4 ∷ []) $ split3 ! $ move ! (2 ∷ []) $ split ! $ move ! (1 ∷ []) $ drop ! $
     move ! (1 ∷ 9 ∷ []) $ use2 𝓛 (later (‵ (fdead β) ⊛ ‵ (flft α (Share.left qα)))) (apply∗ 𝓤 (𝓛.A.lft β qβ) _) $ await ! tt $ split ! $
     move ! (1 ∷ 3 ∷ []) $ use2 𝓛 (‵ (flft α qα)) (𝓛.lfts.lft_join α qα) $
-    -- [α; β is over; κ₂; what follows the row; how the iterator ends; its borrow; nothing; the row; what is kept of the loan; κ₁; what follows; what is kept; the value]
+    -- [α; β is over; κ₂; what follows the row; how the iterator ends; its borrow; nothing; the row; what is kept of the borrow; κ₁; what follows; what is kept; the value]
     move ! (1 ∷ 8 ∷ 4 ∷ []) $ use3 𝓛 (later (‵ (part_at Rows full_share t (l 4) 0))) (ref_back 𝓛 Rows β ε t (l 4) 0) $ await ! tt $
     use1 𝓛 (some (λ (v₃ : Val). ‵ (fat full_share spelled (l 4) 0 v₃) ⊛ ‵ (Rows.own_val t (v₃ ∷ [])))) (part_out_at 𝓛 Rows refl full_share t (l 4) 0 spelled refl) $ pick ! (λ v₃. split ! $
     move ! (1 ∷ []) $ peeks ! Rows (Is Rows) (shows 𝓛 Rows) t (v₃ ∷ []) (λ is₃. let t₃ = told t (v₃ ∷ []) is₃ in

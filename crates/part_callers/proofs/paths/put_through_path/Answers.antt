@@ -1,4 +1,4 @@
--- A pixel put in the window of a path is put at the summed place.
+-- A pixel put in the window of a path is put at the sum of the corners plus its place.
 use Rattle.std.proofs.Common.{ℕ, ◌+◌, ◌≤◌, List, ap, ◌∙◌, arith}
 use Rattle.image_model.specs.Grid.{Grid, grid_of, patch, uniform}
 use Rattle.image_model.specs.Windows.{Window, corner_left, corner_top, path_width, path_height}

@@ -1,0 +1,46 @@
+"""What the checks of the library and of its bindings share: running a command, and taking the cases that it counted."""
+import pathlib
+import re
+import subprocess
+
+from checking import ROOT
+
+WARNINGS = ["-Wall", "-Wextra", "-Werror", "-pedantic"]
+COUNT = re.compile(r"(\d+) passed, (\d+) failed")
+RUST_COUNT = re.compile(r"test result: \w+\. (\d+) passed; (\d+) failed")
+
+
+def run(words, **more):
+    """Runs a command: its status, what it wrote, and what it said besides."""
+    ran = subprocess.run([str(it) for it in words], stdin=more.pop("stdin", subprocess.DEVNULL) if "input" not in more else None, capture_output=True, **more)
+    return ran.returncode, ran.stdout, (ran.stdout + ran.stderr).decode(errors="replace")
+
+
+def counted(cases, label, said, status, form=COUNT):
+    """Takes the cases that a program counted."""
+    found = form.search(said)
+    passed, failed = map(int, found.groups()) if found else (0, 1)
+    cases.passed, cases.failed = cases.passed + passed, cases.failed + failed
+    if failed or status:
+        print(said)
+    cases.count(f"{label}: {passed} passed, {failed} failed, and its end", status == 0 and found)
+
+
+def skipped(name):
+    """Says that something isn't tried, since it isn't on the machine."""
+    print(f"{name}: skipped, it isn't on this machine")
+
+
+def say_skipped(said):
+    """Says what a program that was tried has skipped."""
+    for line in said.splitlines():
+        if "skipped" in line:
+            print(line)
+
+
+def installed(cases, room):
+    """The folder below which the library is installed, or None where that fails."""
+    prefix = pathlib.Path(room) / "prefix"
+    status, _, said = run(["make", "-s", "install", f"PREFIX={prefix}"], cwd=ROOT)
+    cases.count("make install", status == 0, said)
+    return prefix if status == 0 else None

@@ -1,0 +1,118 @@
+"""Where a buffer's pixels are: its memory, the format of its numbers, its shape and its strides."""
+from __future__ import annotations
+
+from operator import index
+from typing import Any, NamedTuple
+
+from ._cells import KINDS, Cell, cell_of, size_of
+from ._native import lib
+from ._types import Buffer
+
+# A colour image has at most so many numbers in a pixel.
+MOST_CHANNELS = 4
+
+
+class Memory(NamedTuple):
+    """The memory of an object, which stays where it is while `view` is there. Shape and strides are those of the buffer, and
+    strides are counted in bytes."""
+
+    view: memoryview
+    start: int
+    bytes: int
+    cell: Cell
+    shape: tuple[int, ...]
+    strides: tuple[int, ...]
+    is_writable: bool
+
+
+def memory_of(owner: Buffer) -> Memory:
+    """The memory of an object that has the buffer protocol, or else the array interface with its data as a buffer."""
+    try:
+        view = memoryview(owner)
+    except BufferError as why:
+        raise TypeError(f"the buffer isn't memory with strides: {why}") from why
+    except TypeError:
+        told = getattr(owner, "__array_interface__", None)
+        if not isinstance(told, dict):
+            raise
+        return _by_interface(told)
+    if view.suboffsets:
+        raise TypeError("the buffer is pointers to rows")
+    shape, cell = view.shape or (), cell_of(view.format, view.itemsize)
+    # (contiguous items may come without strides, as from ctypes)
+    strides = view.strides or packed_strides(shape, cell.size)
+    return Memory(view, lib.memory_of(id(view)), view.nbytes, cell, shape, strides, not view.readonly)
+
+
+def _by_interface(told: dict[str, Any]) -> Memory:
+    """The memory of an object that has only the array interface, such as an image of PIL: its data is a copy for reading."""
+    form, shape, data = told.get("typestr"), told.get("shape"), told.get("data")
+    if not isinstance(form, str) or not isinstance(shape, tuple) or told.get("strides") is not None or told.get("mask") is not None:
+        raise TypeError("no array interface of packed numbers")
+    order, kind, digits = form[:1], form[1:2], form[2:]
+    letters = KINDS.get(kind, "") if digits in ("1", "2", "4", "8") else ""
+    known = [it for it in letters if size_of(it) == int(digits)] if letters else []
+    if not known or order not in "<>|":
+        raise TypeError(f"no cell: {form!r} is no integer, float or bool of 1, 2, 4 or 8 bytes")
+    try:
+        view = memoryview(data)  # type: ignore[arg-type]
+    except (TypeError, BufferError) as why:
+        raise TypeError("the array interface gives no buffer: take numpy.asarray of it") from why
+    cell = cell_of((order if order in "<>" else "=") + known[0], int(digits))
+    numbers = tuple(map(index, shape))
+    strides, count = packed_strides(numbers, cell.size), cell.size
+    for it in numbers:
+        count *= it
+    if min(numbers, default=0) < 0 or not view.c_contiguous or view.nbytes != count:
+        raise TypeError("the array interface gives another number of bytes than its shape has")
+    return Memory(view, lib.memory_of(id(view)), count, cell, numbers, strides, False)
+
+
+def packed_strides(shape: tuple[int, ...], size: int) -> tuple[int, ...]:
+    """The strides of numbers that follow each other, the last index fastest."""
+    strides, step = [], size
+    for it in reversed(shape):
+        strides.append(step)
+        step *= it
+    return tuple(reversed(strides))
+
+
+class Sizes(NamedTuple):
+    """An image's width and height in pixels, its stride and its length in numbers, and how many of these are a pixel."""
+
+    width: int
+    height: int
+    stride: int
+    length: int
+    channels: int
+
+
+def shaped(memory: Memory) -> Sizes:
+    """The sizes of a buffer of two dimensions, or of three for a colour image, with the numbers up to its last pixel."""
+    if len(memory.shape) not in (2, 3):
+        raise TypeError("a buffer that hasn't two or three dimensions needs a width and a height")
+    height, width, channels = (*memory.shape, 1)[:3]
+    size, whole = memory.cell.size, memory.cell.size * known(channels)
+    line, step = memory.strides[:2]
+    if height < 2 or not width:
+        line = max(width, 1) * whole
+    if width > 1 and step != whole or channels > 1 and memory.strides[2] != size or line % size or line < 0:
+        raise ValueError("no image: the columns have gaps, or the rows go upwards (copy_of copies such pixels)")
+    stride = line // size
+    return Sizes(width, height, stride, stride * (height - 1) + width * channels if width and height else 0, channels)
+
+
+def sized(memory: Memory, width: Any, height: Any, stride: Any, channels: Any) -> Sizes:
+    """The sizes that are given with a buffer of one dimension, and how many numbers it has."""
+    size = memory.cell.size
+    if len(memory.shape) != 1 or memory.bytes > size and memory.strides[0] != size:
+        raise TypeError("sizes go with a buffer of one dimension")
+    width, height, channels = index(width), index(height), known(1 if channels is None else index(channels))
+    return Sizes(width, height, max(width, 1) * channels if stride is None else index(stride), memory.bytes // size, channels)
+
+
+def known(channels: int) -> int:
+    """How many numbers a pixel has, where there may be so many."""
+    if not 1 <= channels <= MOST_CHANNELS:
+        raise TypeError(f"a pixel has 1 to {MOST_CHANNELS} numbers, not {channels}")
+    return channels

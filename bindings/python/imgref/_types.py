@@ -1,0 +1,39 @@
+"""What the calls take and raise."""
+from __future__ import annotations
+
+from typing import Any, NamedTuple, Sequence, Tuple, Union
+
+# A number in Python: a bool is an int.
+Number = Union[int, float]
+# A pixel: a number, or as many as a colour image has.
+Pixel = Union[Number, Sequence[Number]]
+# What has the buffer protocol, or `__array_interface__`.
+Buffer = Any
+
+_STATUS = ("done", "not an image", "the window is outside", "sizes differ", "the place is outside", "no such tile")
+
+
+class Refused(ValueError):
+    """The library refused, and nothing has changed. `status` is what it returned (imgref.h)."""
+
+    status: int
+
+    def __init__(self, status: int):
+        super().__init__(_STATUS[status] if status < len(_STATUS) else f"status {status}")
+        self.status = status
+
+    def __reduce__(self) -> tuple[type[Refused], tuple[int]]:
+        return Refused, (self.status,)
+
+
+class Window(NamedTuple):
+    """The column and the row of a window's corner, and its size, in pixels."""
+
+    left: int
+    top: int
+    width: int
+    height: int
+
+
+# A window, or four numbers in its order.
+Corners = Union[Window, Tuple[int, int, int, int]]

@@ -1,0 +1,97 @@
+"""Each call of the package. Prints a line for each case, and 'N passed, M failed'."""
+import array
+import copy
+import doctest
+import pickle
+import typing
+
+import imgref
+from counting import check, end, raises
+from imgref import Image, Refused, Window
+
+
+def of_a_bytearray():
+    frame = bytearray([1, 2, 3, 90, 4, 5, 6, 91, 92])
+    image = Image(frame, 3, 2, 4)
+    check("get", image.get(2, 1) == 6 and raises(Refused, image.get, 3, 1))
+    image.fill(Window(1, 0, 2, 2), 0)
+    check("fill", frame == bytearray([1, 0, 0, 90, 4, 0, 0, 91, 92]))
+    check("no window", raises(Refused, image.fill, Window(2, 0, 2, 2), 7) and frame[2] == 0)
+    check("no number", raises(ValueError, image.fill, Window(-1, 0, 2, 2), 7) and raises(ValueError, image.get, 1 << 64, 0))
+    image.window(Window(1, 1, 2, 1)).put(1, 0, 77)
+    check("a window is the same memory", frame[6] == 77)
+    image.move_window(Window(0, 0, 2, 2), Window(1, 0, 2, 2))
+    check("move", frame == bytearray([1, 1, 0, 90, 4, 4, 0, 91, 92]))
+    image.mosaic(image.whole, 2, 2)
+    check("mosaic", frame == bytearray([1, 1, 0, 90, 1, 1, 0, 91, 92]))
+    check("tiles", [*image.tiles(2, 2)] == [Window(0, 0, 2, 2), Window(2, 0, 1, 2)] and raises(Refused, lambda: [*image.tiles(0, 2)]))
+    image.pack()
+    check("pack", frame == bytearray([1, 1, 0, 1, 1, 0, 0, 91, 92]) and image.stride == 3)
+    check("no image", raises(Refused, Image, frame, 5, 2) and raises(Refused, Image, frame, 4, 2, 3))
+    check("no cell", Image(bytearray(), 0, 7) == Image(b"", 0, 7, 9))
+
+
+def of_other_buffers():
+    pixels, plane = array.array("i", [-1, -2, -3, -4, -5, -6]), memoryview(bytes(range(12))).cast("B", (3, 4))
+    image = Image(pixels, 2, 3)
+    image.put(1, 2, -2000000000)
+    check("signed cells of four bytes", pixels[5] == -2000000000 and image.get(0, 1) == -3)
+    reals = array.array("d", [0.5] * 4)
+    Image(reals, 2, 2).fill(Window(0, 0, 1, 2), -1.25)
+    check("floats of eight bytes", reals.tolist() == [-1.25, 0.5, -1.25, 0.5])
+    shown, copied = Image(plane), bytearray(12)
+    check("a memoryview of two dimensions", (shown.width, shown.height, shown.stride) == (4, 3, 4) and shown.get(3, 2) == 11)
+    check("read only", raises(TypeError, shown.put, 0, 0, 1))
+    Image(copied, 4, 3).copy_from(shown)
+    check("copy", copied == bytes(range(12)) and Image(copied, 4, 3) == shown)
+    check("sizes differ", raises(Refused, Image(copied, 4, 3).copy_window, Window(0, 0, 2, 2), shown))
+    both = Image(copied, 4, 3)
+    check("shared memory", raises(ValueError, both.window(Window(0, 0, 2, 2)).copy_from, both.window(Window(1, 1, 2, 2))))
+    signed = Image(array.array("b", bytes(12)), 4, 3)
+    check("two formats", raises(TypeError, both.copy_from, signed) and copied == bytes(range(12)))
+    check("misaligned cells", raises(ValueError, Image, memoryview(bytearray(9))[1:].cast("i"), 1, 2))
+
+
+def of_equal_images():
+    frame = bytearray([1, 2, 3, 90, 4, 5, 6])
+    image, same, wide = Image(frame, 3, 2, 4), Image(bytes([1, 2, 3, 4, 5, 6]), 3, 2), Image(bytes(6), 3, 2)
+    check("== and !=", (image == same, image != same, image == wide, image != wide) == (True, False, False, True))
+    others = (Image(array.array("b", [1, 2, 3, 4, 5, 6]), 3, 2), Image(frame, 2, 3), frame, None, 3)
+    check("== beside anything", all(type(image == it) is bool and image != it and it != image for it in others))
+    check("repr", repr(image) == "<imgref.Image of 3 by 2 pixels, stride 4, format 'B'>")
+    check("no hash", raises(TypeError, hash, image))
+    copy.copy(image).put(0, 0, 77)
+    check("a copy is the same memory", image.get(0, 0) == 77 and raises(TypeError, copy.deepcopy, image))
+
+
+def of_copies():
+    frame = bytearray([1, 2, 3, 90, 4, 5, 6, 91, 92])
+    image = Image(frame, 3, 2, 4)
+    made = image.copy()
+    check("copy", (made.stride, made.tobytes(), image.tobytes(), made == image) == (3, b"\1\2\3\4\5\6", b"\1\2\3\4\5\6", True))
+    made.fill(made.whole, 0)
+    check("a copy has memory of its own", frame[0] == 1 and not made.readonly)
+    part = image.window(Window(1, 0, 2, 2))
+    check("the bytes of a window", part.tobytes() == bytes([2, 3, 5, 6]))
+    check("a copy of an empty window", image.window((3, 1, 0, 1)).copy().whole == Window(0, 0, 0, 1))
+    check("no pickle takes memory along", all(raises(TypeError, pickle.dumps, it) for it in (image, part)))
+    check("a pickled refusal", pickle.loads(pickle.dumps(Refused(2))).status == 2)
+    check("memory that an image holds isn't resized", raises(BufferError, frame.append, 1))
+
+
+def of_hints():
+    """Each annotation names a type that is there."""
+    publics = [it for it in vars(Image).values() if callable(it) and hasattr(it, "__annotations__")]
+    hints = [typing.get_type_hints(it) for it in [*publics, Image.width.fget, Image.copy_of, Window, Refused.__init__]]
+    check("type hints", len(publics) > 14 and all(isinstance(it, dict) for it in hints))
+    check("all that is promised is there", all(hasattr(imgref, it) for it in imgref.__all__))
+
+
+of_a_bytearray()
+of_other_buffers()
+of_equal_images()
+of_copies()
+of_hints()
+examples = doctest.testmod(imgref)
+check("the examples of the module", examples.attempted and not examples.failed)
+end()

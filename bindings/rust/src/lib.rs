@@ -1,0 +1,91 @@
+//! Strided 2-D images over proved calls, by the names of the crate `imgref`.
+//!
+//! An image is a buffer with a width, a height and a stride: a slice ([`ImgRef`]), a mutable slice ([`ImgRefMut`]) or a `Vec`
+//! ([`ImgVec`]). The pixel in column `x` of row `y` is `y * stride + x` of the buffer, and all else is padding. A pixel is an
+//! integer of 1, 2, 4 or 8 bytes ([`Cell`]).
+//!
+//! ```
+//! use imgref_proved::{ImgRefMut, Window};
+//!
+//! let mut cells = [1u8, 2, 3, 0, 4, 5, 6, 0, 0]; // 3 by 2 pixels at stride 4
+//! let mut image = ImgRefMut::new_stride(&mut cells[..], 3, 2, 4)?;
+//! image.fill_window(Window::new(1, 0, 2, 2), 7)?;
+//! image.sub_image_mut(0, 1, 2, 1)?.put(0, 0, 9)?;
+//! assert_eq!(image.get(2, 1), Ok(7));
+//! assert_eq!(cells, [1, 7, 7, 0, 9, 7, 7, 0, 0]);
+//! # Ok::<(), imgref_proved::Refused>(())
+//! ```
+//!
+//! Where the original panics, a call here returns [`Refused`], and nothing has changed. Only the index `image[(x, y)]` panics.
+//! The borrow checker says that what is written is not also read, so every function is safe. The calls that aren't in the
+//! original have the names of the C interface.
+
+use std::fmt;
+
+mod buffers;
+mod calls;
+mod images;
+mod places;
+pub use buffers::{Buffer, BufferMut};
+pub use calls::Cell;
+pub use images::{Img, ImgRef, ImgRefMut, ImgVec};
+
+/// What a call was refused for. Nothing has changed then.
+#[derive(Clone, Copy, Debug, PartialEq, Eq)]
+pub enum Refused {
+    /// The cells are no image of that width, height and stride.
+    NotAnImage,
+    /// A window isn't inside the image.
+    WindowOutside,
+    /// A window differs in size from what comes into it.
+    SizesDiffer,
+    /// There is no pixel in that column and row.
+    PlaceOutside,
+    /// There is no tile of that number, or a tile would have no pixel.
+    NoTile,
+}
+
+impl fmt::Display for Refused {
+    fn fmt(&self, f: &mut fmt::Formatter<'_>) -> fmt::Result {
+        f.write_str(match self {
+            Self::NotAnImage => "not an image",
+            Self::WindowOutside => "the window is outside",
+            Self::SizesDiffer => "sizes differ",
+            Self::PlaceOutside => "the place is outside",
+            Self::NoTile => "no such tile",
+        })
+    }
+}
+
+impl std::error::Error for Refused {}
+
+fn done(status: u32) -> Result<(), Refused> {
+    match status {
+        0 => Ok(()),
+        1 => Err(Refused::NotAnImage),
+        2 => Err(Refused::WindowOutside),
+        3 => Err(Refused::SizesDiffer),
+        4 => Err(Refused::PlaceOutside),
+        _ => Err(Refused::NoTile),
+    }
+}
+
+/// The column and the row of a window's corner, and its size.
+#[repr(C)]
+#[derive(Clone, Copy, Debug, Default, PartialEq, Eq, Hash)]
+pub struct Window {
+    pub left: usize,
+    pub top: usize,
+    pub width: usize,
+    pub height: usize,
+}
+
+impl Window {
+    /// The window with its corner in this column and row.
+    pub const fn new(left: usize, top: usize, width: usize, height: usize) -> Self {
+        Window { left, top, width, height }
+    }
+}
+
+#[cfg(test)]
+mod tests;

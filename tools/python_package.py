@@ -1,0 +1,49 @@
+#!/usr/bin/env python3
+"""The package for Python: a wheel in out/python, over the library for C.
+
+    python_package.py build    proves and builds the library where one of its sources has changed, and builds the wheel
+
+It needs cffi (Debian: python3-cffi) and a C compiler, which CC names (cc). The wheel is for the Python that runs this; PYTHON
+names another one. `pip install --no-index out/python/imgref-..whl` installs it.
+"""
+import os
+import shutil
+import sys
+
+import c_library
+from processes import end_on_signals, run_to_end
+from program import say
+from workspace import ROOT
+
+SOURCES = ROOT / "bindings/python"
+OUT = ROOT / "out/python"
+# Builds the wheel as pip would: by the package's own hook.
+HOOK = "import sys; sys.path.insert(0, sys.argv[1]); import backend\ntry: print(backend.build_wheel(sys.argv[2]))\nexcept backend.Failure as why: sys.exit(str(why))"
+
+
+def build():
+    """Builds the wheel, and returns its path."""
+    c_library.build()
+    shutil.rmtree(OUT, ignore_errors=True)
+    OUT.mkdir(parents=True)
+    python = os.environ.get("PYTHON") or sys.executable
+    ran = run_to_end([python, "-B", "-c", HOOK, SOURCES, OUT], env=os.environ | {"IMGREF_INCLUDE": str(c_library.HEADER.parent), "IMGREF_LIB": str(c_library.OUT)})
+    if ran.returncode:
+        raise c_library.Failure(f"{ran.stdout}{ran.stderr}".strip())
+    return OUT / ran.stdout.splitlines()[-1]
+
+
+def main(words):
+    if words != ["build"]:
+        sys.exit(__doc__)
+    say(f"{build().relative_to(ROOT)}")
+
+
+if __name__ == "__main__":
+    end_on_signals()
+    try:
+        main(sys.argv[1:])
+    except c_library.Failure as why:
+        sys.exit(str(why))
+    except KeyboardInterrupt:
+        sys.exit("interrupted: what is proved so far stays")
