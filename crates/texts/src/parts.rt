@@ -1,7 +1,9 @@
 //! Bytes that are split at a separator.
 
-ghost use Rattle.std.specs.Prelude.{◌≡◌, ◌↔◌, ◌==◌, ◌∷◌, [], IsTrue, MatchOption, position};
+ghost use Rattle.std.specs.Prelude.{◌≡◌, ◌≤◌, ◌-◌, ◌↔◌, ◌==◌, ◌∷◌, [], IsTrue, None, IfSome, MatchOption, take, position};
+ghost use Rattle.std.specs.List.{position_or_len};
 ghost use Rattle.text_model.specs.Parts.{parts_of};
+ghost use Rattle.text_model.specs.Reading.{number_of, first_of_parts};
 ghost use Rattle.texts.specs.Parts.{parts_left};
 
 /// The parts that are left of bytes that are split at a separator. The empty list of bytes is one
@@ -31,6 +33,24 @@ impl<'a> Parts<'a> {
         self.rest.is_none()
     }
 
+    /// The number that the next part is the text of, where it has at most three digits. Else `None`,
+    /// and no part is taken. Most numbers of a text are such: here each byte of one is looked at once.
+    #[tactic(auto, using(text_model::proofs::ShortNumbers::first_and_others, text_model::proofs::ShortNumbers::first_alone))]
+    pub(crate) fn next_short(&mut self) -> Option<usize>
+        ensures found { IfSome result (λ number.
+            first_of_parts number_of (parts_left self.old) ≡ Some (number, parts_left self.new)) }
+        ensures unchanged { result ≡ None → self.new ≡ self.old }
+    {
+        let rest = self.rest?;
+        let (number, digits) = short_number(rest, self.separator)?;
+        if digits < rest.len() {
+            self.rest = Some(&rest[digits + 1..]);
+            return Some(number);
+        }
+        self.rest = None;
+        Some(number)
+    }
+
     /// The next part, or `None` where no part is left.
     pub fn next_part(&mut self) -> Option<&'a [u8]>
         ensures { MatchOption result (parts_left self.old ≡ [])
@@ -50,9 +70,52 @@ impl<'a> Parts<'a> {
     }
 }
 
-// Where the byte first stands.
+// The number of at most three digits that comes before the first such byte, or is all of the bytes,
+// and how many digits it has.
+#[tactic(auto, using(text_model::proofs::ShortNumbers::short_numbers))]
+fn short_number(bytes: &[u8], end: u8) -> Option<(usize, usize)>
+    ensures digits { IfSome result
+        (λ found. position_or_len (λ b. b == end) bytes.now ≡ found.1) }
+    ensures number { IfSome result
+        (λ found. number_of (take found.1 bytes.now) ≡ Some found.0) }
+{
+    if bytes.is_empty() || end >= b'0' || !bytes[0].is_ascii_digit() {
+        return None;
+    }
+    let one = value(bytes[0]);
+    if bytes.len() == 1 || bytes[1] == end {
+        return Some((one, 1));
+    }
+    if one == 0 || !bytes[1].is_ascii_digit() {
+        return None;
+    }
+    let two = one * 10 + value(bytes[1]);
+    if bytes.len() == 2 || bytes[2] == end {
+        return Some((two, 2));
+    }
+    if !bytes[2].is_ascii_digit() {
+        return None;
+    }
+    let three = two * 10 + value(bytes[2]);
+    if bytes.len() == 3 || bytes[3] == end {
+        return Some((three, 3));
+    }
+    None
+}
+
+// Where the byte first occurs.
 fn find(bytes: &[u8], byte: u8) -> Option<usize>
     ensures { result ≡ position (λ b. b == byte) bytes.now }
 {
     bytes.iter().position(|b| *b == byte)
+}
+
+/// The value of a digit.
+pub(crate) fn value(digit: u8) -> usize
+    requires low { 48 ≤ digit }
+    requires high { digit ≤ 57 }
+    ensures value { result ≡ digit - 48 }
+    ensures small { result ≤ 9 }
+{
+    (digit - b'0') as usize
 }
