@@ -99,7 +99,7 @@ def by_words(cases, program):
         cases.count(f"{name} ends with status {status}", done.returncode == status, str(done))
 
 
-# Words, an input, and what stands in a line behind the fault that they end in.
+# Words, an input, and a part of a line that is printed after the fault.
 REASONS = (
     ("fill 0,0,2,2 9 fill 1,0,2,2 9", "420", "edit 2: column 1 is no multiple of 2"),
     ("fill 0,1,2,2 9", "420", "edit 1: row 1 is no multiple of 2"),
@@ -126,7 +126,7 @@ def by_options(cases, program):
     lines = lines_said(program, edits.split(), video("420"))
     cases.count("a range that isn't reached is noted", lines == ["note: edit 2: the input has 3 frames, and ends before its range 3..5", ""], str(lines))
     cases.count("a range that isn't reached is a fault where asked", ends(program, ["--strict", *edits.split()], video("420")) == (out, "fault range", 8))
-    cases.count("a range that is reached is none", ends(program, ["--strict", *edits.replace("3..", "2..").split()], video("420"))[1:] == ("", 0))
+    cases.count("a range that is reached is no fault", ends(program, ["--strict", *edits.replace("3..", "2..").split()], video("420"))[1:] == ("", 0))
     size = 12 * 8 * 3 // 2
     cases.count("the limit is enough", ends(program, ["--limit", str(size), "fill", "0,0,2,2", "9"], video("420")) == (out, "", 0))
     cases.count("a byte less is out of memory", ends(program, ["--limit", str(size - 1), "fill", "0,0,2,2", "9"], video("420")) == (b"", "fault memory 0", 3))
