@@ -9,6 +9,8 @@
 # make c                   proves and builds the library for C: out/c/libimgref.a, libimgref.so, imgref.pc
 # make python              builds the package for Python over it, with cffi: out/python/imgref-..whl
 # make install PREFIX=..   builds it, and installs it with its header
+# make web                 proves and builds the page that covers parts of a picture: out/web/index.html
+# make web-serve [PORT=..] the same, and serves it on this machine alone
 # make docs                writes docs/API.md and docs/INNER.md: every public call with its contract
 # make exports             writes the exports for cells of 2, 4 and 8 bytes from those for one byte
 # make bench [BENCH=..]    times the calls and the program beside plain loops; BENCH: options of tools/bench.py
@@ -19,7 +21,7 @@ SCRIPT ?= examples/first.script
 PREFIX ?= /usr/local
 export SCRIPT BUGS
 
-.PHONY: try run check test gate times frames c python install docs exports bench
+.PHONY: try run check test gate times frames c python install web web-serve docs exports bench
 
 try:
 	@python3 tools/program.py try
@@ -50,6 +52,12 @@ python:
 
 install:
 	@python3 tools/c_library.py install "$(PREFIX)" "$(DESTDIR)"
+
+web:
+	@python3 tools/web.py build
+
+web-serve:
+	@python3 tools/web.py serve $(PORT)
 
 docs:
 	@python3 tools/api_page.py

@@ -255,7 +255,7 @@ def differing(program, tries):
 
 
 def exchanged(data, start, row, window):
-    """Other bytes in a window of a plane whose rows have so many bytes, the first of which stands at `start`."""
+    """Other bytes in a window of a plane whose rows have so many bytes, the first of which is at `start`."""
     out, (left, top, width, height) = bytearray(data), window
     for y in range(top, top + height):
         for at in range(start + y * row + left, start + y * row + left + width):

@@ -7,7 +7,7 @@
                                     (with BUGS=changed only those of functions that differ from the last landed commit)
     gate.py check                   proofs and tests of what has changed, over cached proofs: no planted bug is tried
 
-Each part ends with 'N passed, M failed'. All that it said is in the folder out/, and is shown where it fails. At the end stands
+Each part ends with 'N passed, M failed'. All that it said is in the folder out/, and is shown where it fails. At the end comes
 a table of the parts, and then a line that adds them up. TERM, HUP and Ctrl-C end all parts.
 
 `rt ci` works on a copy of the repository without the planted bugs, so that it proves everything from nothing. The planted bugs
@@ -40,7 +40,7 @@ MINUTES = {"test": 15, "gate": 70, "check": 15}
 COUNT = re.compile(r"(\d+) passed, (\d+) failed")
 # What is shown of a long part while it goes on: each proof that has ended, and what failed.
 ENDED = re.compile(r"== (\w+(?:: its tests)?)$")
-# How far the proofs are, of which a line is shown now and then.
+# Proof progress, of which a line is shown now and then.
 PROGRESS, EVERY = re.compile(r"\d+:\d\d +\d+ %"), 30
 TOLD = re.compile(r"rt: .*NOT PROVED|rt: .*FAILED|.*NOT REFUSED|.*FAILED")
 LOGS = ROOT / "out"
@@ -143,7 +143,7 @@ class Memory:
 
 
 def scripts(folder, top=ROOT, words=(), without=()):
-    """The checks of a folder but for some, which run in the repository or in its copy, with these words."""
+    """The checks of a folder except some, which run in the repository or in its copy, with these words."""
     return [Part(it.name, [sys.executable, str(top / it.relative_to(ROOT)), *words], top) for it in sorted(folder.glob("*.py")) if it.name not in without]
 
 

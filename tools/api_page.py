@@ -106,7 +106,7 @@ def declared(crate, below, name):
 
 @dataclasses.dataclass
 class Entry:
-    """An item of a crate: where it stands, the words of its clauses, the block that it belongs to, and its anchor."""
+    """An item of a crate: where it is, the words of its clauses, the block that it belongs to, and its anchor."""
 
     crate: str
     path: pathlib.Path
@@ -138,9 +138,8 @@ class Crate:
 
 def exported(text):
     """Each name that a root file offers, with the module or the crate that it comes from."""
-    for line in text:
-        if used := re.match(r"pub use (\w+)::(?:\{(.*)\}|(\w+));", line):
-            yield from ((it.strip(), used[1]) for it in (used[2] or used[3]).split(","))
+    for module, names, name in re.findall(r"(?m)^pub use (\w+)::(?:\{([^}]*)\}|(\w+));", "\n".join(text)):
+        yield from ((it.strip(), module) for it in (names or name).split(",") if it.strip())
 
 
 def entries(crate, path):

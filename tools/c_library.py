@@ -3,8 +3,9 @@
 
     c_library.py build             proves the crate where one of its sources has changed, and builds the library
     c_library.py install PREFIX [DESTDIR]
-                                   the same, and copies the library and include/imgref.h below PREFIX. With DESTDIR the
-                                   files go below DESTDIR/PREFIX, and name only PREFIX: for a package
+                                   the same for the two programs too, and copies below PREFIX: the library, its headers, the
+                                   programs, the man pages, and what pkg-config and CMake read. With DESTDIR the files go
+                                   below DESTDIR/PREFIX, and name only PREFIX: for a package
 
 CC names the compiler that links (cc). Only names that begin with imgref_ are exported. What the crate needs of the
 toolchain's own C code is linked in, so that a user needs no toolchain.
@@ -20,6 +21,9 @@ from workspace import ROOT, held, is_fresh, product
 
 NAME = "imgref_c"
 HEADER = ROOT / "include/imgref.h"
+HEADERS = [HEADER, ROOT / "include/imgref.hpp"]
+PROGRAMS = ("imgref_run", "imgref_frames")
+MAN = ROOT / "man"
 OUT = ROOT / "out/c"
 # The version of this port (CHANGELOG.md), and the number that changes where a built caller has to be built again.
 VERSION, ABI = "0.1.0", "1"
@@ -43,6 +47,22 @@ def package(prefix, include, lib):
     places = f"prefix={prefix}\nincludedir={include}\nlibdir={lib}\n"
     named = f"Name: imgref\nDescription: Strided 2D images, over proved calls\nVersion: {VERSION}\n"
     return f"{places}\n{named}Cflags: -I${{includedir}}\nLibs: -L${{libdir}} -limgref\n"
+
+
+def cmake():
+    """What CMake's find_package reads: two targets with paths that begin at the file itself, so the folder may be moved."""
+    targets = {"imgref": ("SHARED", f"libimgref.so.{ABI}", f"IMPORTED_SONAME libimgref.so.{ABI}"), "static": ("STATIC", "libimgref.a", "IMPORTED_LINK_INTERFACE_LANGUAGES C")}
+    lines = ["# imgref::imgref is the shared object, and imgref::static the archive.", 'get_filename_component(_imgref_prefix "${CMAKE_CURRENT_LIST_DIR}/../../.." ABSOLUTE)']
+    for name, (kind, file, more) in targets.items():
+        properties = f'IMPORTED_LOCATION "${{_imgref_prefix}}/lib/{file}" INTERFACE_INCLUDE_DIRECTORIES "${{_imgref_prefix}}/include" {more}'
+        lines += [f"if(NOT TARGET imgref::{name})", f"  add_library(imgref::{name} {kind} IMPORTED)", f"  set_target_properties(imgref::{name} PROPERTIES {properties})", "endif()"]
+    lines += [f'set(imgref_VERSION "{VERSION}")', "unset(_imgref_prefix)", ""]
+    # (before 1.0.0 the second number may change what a caller sees)
+    major, minor = VERSION.split(".")[:2]
+    fits = f'PACKAGE_FIND_VERSION VERSION_GREATER "{VERSION}" OR NOT PACKAGE_FIND_VERSION MATCHES "^{major}(\\.{minor}(\\..*)?)?$"'
+    version = [f'set(PACKAGE_VERSION "{VERSION}")', f"if({fits})", "  set(PACKAGE_VERSION_COMPATIBLE FALSE)", "else()", "  set(PACKAGE_VERSION_COMPATIBLE TRUE)"]
+    version += ["  if(PACKAGE_FIND_VERSION VERSION_EQUAL PACKAGE_VERSION)", "    set(PACKAGE_VERSION_EXACT TRUE)", "  endif()", "endif()", ""]
+    return {"imgref-config.cmake": "\n".join(lines), "imgref-config-version.cmake": "\n".join(version)}
 
 
 def compiler():
@@ -91,19 +111,36 @@ def build():
     say(f"{OUT.relative_to(ROOT)}/libimgref.a, libimgref.so, imgref.pc")
 
 
+def installed():
+    """The folders below a prefix, each with the files that are copied into it."""
+    return {
+        "include": HEADERS,
+        "lib": [OUT / "libimgref.a", OUT / f"libimgref.so.{ABI}"],
+        "bin": [product(it) for it in PROGRAMS],
+        **{f"share/man/man{it}": sorted(MAN.glob(f"*.{it}")) for it in (1, 3)},
+    }
+
+
 def install(prefix, stage=""):
-    """Copies the header, both libraries and the file for pkg-config below `prefix`. With a `stage` they go below that folder."""
+    """Copies all that a user has below `prefix`. With a `stage` it goes below that folder."""
     build()
+    if built(*PROGRAMS):
+        raise Failure("the programs are not proved")
     named = os.path.abspath(prefix)
     prefix = pathlib.Path(os.path.abspath(stage) + named if stage else named)
-    for below, sources in {"include": [HEADER], "lib": [OUT / "libimgref.a", OUT / f"libimgref.so.{ABI}"]}.items():
+    for below, sources in installed().items():
         (prefix / below).mkdir(parents=True, exist_ok=True)
         for it in sources:
             shutil.copy2(it, prefix / below / it.name)
     linked(prefix / "lib", is_installed=True)
-    (prefix / "lib/pkgconfig").mkdir(exist_ok=True)
-    (prefix / "lib/pkgconfig/imgref.pc").write_text(package(named, "${prefix}/include", "${prefix}/lib"))
+    texts = {"lib/pkgconfig/imgref.pc": package(named, "${prefix}/include", "${prefix}/lib")}
+    texts |= {f"lib/cmake/imgref/{name}": text for name, text in cmake().items()}
+    for below, text in texts.items():
+        (prefix / below).parent.mkdir(parents=True, exist_ok=True)
+        (prefix / below).write_text(text)
     say(f"installed below {prefix}")
+    if not stage:
+        say(f"Where the system doesn't look for libraries in {prefix / 'lib'}: run ldconfig, or link with -Wl,-rpath,{prefix / 'lib'}")
 
 
 def main(words):

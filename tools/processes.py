@@ -19,8 +19,8 @@ PATIENCE, PATIENCE_OF_SESSION = 10, 60
 SIGNALS = (signal.SIGTERM, signal.SIGHUP, signal.SIGINT)
 RUNNING, SESSIONS, LOCK = set(), set(), threading.Lock()
 is_ending = False
-# Whether the main thread starts a command now, and whether a signal came meanwhile.
-is_starting = is_late = False
+# Whether the main thread starts a command now, and whether a signal came.
+is_starting = has_signal = False
 
 
 class Ending(Exception):
@@ -40,7 +40,7 @@ def unbroken():
         yield
     finally:
         is_starting = False
-        if is_late:
+        if has_signal:
             end_now()
 
 
@@ -131,15 +131,27 @@ def end_now():
     raise KeyboardInterrupt
 
 
+def nudge(signals):
+    """Has the main thread see a signal. One that another thread got, or that came as the main thread began to wait, doesn't end
+    that wait."""
+    os.read(signals, 1)
+    while not has_signal:
+        signal.pthread_kill(threading.main_thread().ident, signal.SIGTERM)
+        time.sleep(0.1)
+
+
 def end_on_signals():
     """Has TERM and HUP end this process as Ctrl-C does, once all that it started has ended."""
 
-    def end(*_):
-        global is_late
-        if is_starting:
-            is_late = True
-        else:
+    def take(*_):
+        global has_signal
+        has_signal = True
+        if not is_starting:
             end_now()
 
-    for number in SIGNALS:
-        signal.signal(number, end)
+    signals, noted = os.pipe()
+    os.set_blocking(noted, False)
+    signal.set_wakeup_fd(noted, warn_on_full_buffer=False)
+    threading.Thread(target=nudge, args=(signals,), daemon=True).start()
+    for it in SIGNALS:
+        signal.signal(it, take)

@@ -44,7 +44,7 @@ def slowness(call):
 
 
 def call_tables(rows, sides):
-    """The calls in Markdown: a table for each side. What is slower than one of its comparisons stands first."""
+    """The calls in Markdown: a table for each side. What is slower than one of its comparisons comes first."""
     parts = []
     for side in sides:
         ordered = sorted((it for it in rows if it.side == side), key=slowness, reverse=True)
@@ -72,7 +72,7 @@ def frames_table(rows):
 
 def plot(rows, sides):
     """The quotients to the loop in C as an SVG, on a logarithmic axis from the least to the greatest: a line for each call that
-    has such a loop, a dot for each side. The slowest stands first."""
+    has such a loop, a dot for each side. The slowest comes first."""
     to_loop = lambda it: statistics.median(it.quotients[0])
     rows = sorted((it for it in rows if it.quotients[0]), key=to_loop, reverse=True)
     names = list(dict.fromkeys((it.name, it.cell) for it in rows))

@@ -19,6 +19,8 @@ TOOLS = {
     "make run": ["tools/program.py", "run"],
     "make try": ["tools/program.py", "try"],
     "make c": ["tools/c_library.py", "build"],
+    "make web": ["tools/web.py", "build"],
+    "make python": ["tools/python_package.py", "build"],
     "make bench": ["tools/bench.py"],
     "make times": ["tools/times.py", "image_shape"],
     "make test": [".ci/gate.py", "test"],
@@ -32,7 +34,8 @@ sleep 600 &
 echo "$$ $!" >> "$WAITING"
 wait
 """
-# A tool that gets TERM while it starts `rt`, in its first thread or in another one, or in a session.
+# A tool that gets TERM while it starts `rt`, in its first thread or in another one, or in a session. The thread that starts it
+# gets the signal, while the first one waits.
 STARTS = """
 import os, signal, subprocess, sys, threading, time
 sys.path.insert(0, "tools")
@@ -43,7 +46,7 @@ class Started(subprocess.Popen):
         super().__init__(*words, **how)
         while not os.path.exists(os.environ["WAITING"]):
             time.sleep(0.05)
-        os.kill(os.getpid(), signal.SIGTERM)
+        signal.pthread_kill(threading.get_ident(), signal.SIGTERM)
         time.sleep(0.5)
 
 def start():

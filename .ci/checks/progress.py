@@ -48,10 +48,10 @@ def main():
     cases.count("the share never falls", all(a <= b for a, b in zip(shares, shares[1:])), str(shares))
     cases.count("it ends with the whole", shares[-1] == 100, texts[-1])
     cases.count("a crate is named from the first second on", all(re.search(r" [a-z_]+ (?:begins|\d+ of \d+)", it) for it in texts[1:-2]), "\n".join(texts[:5]))
-    stands = max(map(len, runs(shares[:-1])))
-    cases.count("no share stays for longer than a minute", stands <= 60, f"{stands} seconds")
+    longest = max(map(len, runs(shares[:-1])))
+    cases.count("no share stays for longer than a minute", longest <= 60, f"{longest} seconds")
     cases.count("functions are counted", any(re.search(r"\d+ of \d+", it) for it in texts))
-    cases.count("what is left is told", any("min left" in it for it in texts))
+    cases.count("what is left is shown", any("min left" in it for it in texts))
     return cases.end()
 
 

@@ -5,7 +5,9 @@ A snippet is a run of lines that are indented by four spaces. Those of docs/CALL
 in a file of the crates, which the gate proves: the lines are there in that order, however far they are indented. A
 script in README.md or docs/SCRIPT.md gives what the page says, as the model tells (.ci/model.py). Each file that a document
 links to or names by its folders is there, and each definition that docs/GLOSSARY.md names is in its file. README.md counts
-the tests and the planted bugs that there are.
+the tests and the planted bugs that there are, and docs/CALLERS.md lists each call of an image that doesn't require a fit.
+docs/DECISIONS.md lists each function that is proved by hand. Each name in docs/PROMISES.md and docs/ARCHITECTURE.md is in a
+source.
 """
 import pathlib
 import re
@@ -15,10 +17,18 @@ sys.path.insert(0, str(pathlib.Path(__file__).resolve().parent.parent))
 import model
 from checking import ROOT, Cases
 
+import api_page
+
 SNIPPET = re.compile(r"(?:^    .*\n)+", re.MULTILINE)
 SPAN = re.compile(r"`([^`]+)`")
 LINK = re.compile(r"\]\(([^)#:]+)(?:#[^)]*)?\)")
 DEFINED = re.compile(r"`([\w/]+\.antt)`: (`\w+`(?:, `\w+`)*)")
+# The types and traits whose calls are those of an image.
+OF_IMAGES = ("Img", "ImgVec", "ImgRef", "ImgRefMut", "ImgExt", "ImgExtMut")
+# What docs/CALLERS.md names beside the calls of an image where it lists exceptions.
+BESIDE = {"HasCell", "hash", "next_tile", "remaining"}
+# Where the names of the documents are.
+SOURCES = ("crates/*/src/**/*.rt", "crates/*/specs/**/*.antt", "crates/*/proofs/**/*.antt", "tools/*.py", ".ci/**/*.py", "include/*", "Makefile")
 FILE = re.compile(r"[\w.+-]+(?:/[\w.+-]+)+/?")
 
 
@@ -82,8 +92,45 @@ def undefined(text):
         yield from (f"{word} of {name}" for word in SPAN.findall(words) if word not in stands)
 
 
+def without_fit():
+    """The public calls on an image that don't require that it fits, by their contracts."""
+    for it in api_page.crate_of("imgref").entries:
+        of = it.block and (it.block.name if it.block.kind == "trait" else api_page.subject(it.block)[0])
+        is_call = it.item.kind == "fn" and (it.item.is_public or it.block and it.block.kind == "trait") and "self" in " ".join(it.item.head)
+        if is_call and of in OF_IMAGES and not any("Fits" in clause.text for clause in it.item.clauses if clause.kind == "requires"):
+            yield it.item.name
+
+
+def exceptions(cases):
+    """docs/CALLERS.md lists the calls that don't require a fit."""
+    listed = (ROOT / "docs/CALLERS.md").read_text().split("These are the exceptions:\n\n")[-1].split("\n\n")[0]
+    named, found = {it for it in SPAN.findall(listed) if it.isidentifier()} - BESIDE, {*without_fit()}
+    cases.count("docs/CALLERS.md: the calls that don't require a fit", named == found, f"not listed: {sorted(found - named)}, not such: {sorted(named - found)}")
+
+
+def by_hand(cases):
+    """docs/DECISIONS.md lists the functions with a whole proof by hand. (TheLaw is a part of one.)"""
+    section = (ROOT / "docs/DECISIONS.md").read_text().split("\n## Proved by hand\n")[-1].split("\n## ")[0]
+    names = {it.parent.name for it in (ROOT / "crates").glob("*/proofs/**/Proof.antt")} - {"TheLaw"}
+    missing = sorted(names - {*re.findall(r"\w+", section)})
+    cases.count("docs/DECISIONS.md: the functions that are proved by hand", not missing, f"not listed: {missing}")
+
+
+def unknown_names(text, known):
+    """The names in pieces of code of a document that no source has."""
+    spans = SPAN.findall(re.sub("```.*?```", "", text, flags=re.DOTALL))
+    return sorted({word for it in spans for word in re.findall(r"[A-Za-z_]\w*", it) if word not in known})
+
+
 def main():
     cases = Cases()
+    exceptions(cases)
+    by_hand(cases)
+    paths = [it for pattern in SOURCES for it in ROOT.glob(pattern)]
+    known = {word for it in paths for word in re.findall(r"\w+", f"{it.relative_to(ROOT)} {it.read_text()}")}
+    for name in ("docs/PROMISES.md", "docs/ARCHITECTURE.md"):
+        missing = [it for it in unknown_names((ROOT / name).read_text(), known) if not (ROOT / it).exists()]
+        cases.count(f"{name}: its names are in the sources", not missing, f"in no source: {missing}")
     missing = list(undefined((ROOT / "docs/GLOSSARY.md").read_text()))
     cases.count("docs/GLOSSARY.md: its definitions", not missing, f"not there: {', '.join(missing)}")
     for path in [ROOT / "README.md", ROOT / "CONTRIBUTING.md", ROOT / "CHANGELOG.md", *sorted((ROOT / "docs").glob("*.md"))]:

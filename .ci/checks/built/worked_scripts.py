@@ -31,7 +31,7 @@ def fault(line):
 
 
 def worked():
-    """Each worked script with its output: as it stands, without its last line feed, and the images that it leaves."""
+    """Each worked script with its output: as it is, without its last line feed, and the images that it leaves."""
     for path in sorted(FOLDER.glob("*.script")):
         script, output = path.read_bytes(), path.with_suffix(".out").read_bytes()
         images = b"".join(it for it in output.splitlines(keepends=True) if it.startswith(b"image "))

@@ -13,12 +13,25 @@ import tempfile
 
 sys.path.insert(0, str(pathlib.Path(__file__).resolve().parents[2]))
 from checking import ROOT, Cases
+from c_library import VERSION
 from library import RUST_COUNT, counted, installed, run, say_skipped, skipped
 
 PYTHON = ROOT / "bindings/python"
 # The tests of the package, each a program that counts.
 TESTS = ("calls", "formats", "shapes", "colours", "speed")
 DOCTEST = "import doctest, sys; failed, tried = doctest.testfile(sys.argv[1], module_relative=False); print(f'{tried - failed} passed, {failed} failed')"
+
+# A project of cargo's that adds the crate.
+RUST_USER = """use imgref_proved::ImgVec;
+
+fn main() -> Result<(), imgref_proved::Refused> {
+    let mut image = ImgVec::new(vec![1u8, 2, 3, 4, 5, 6], 3, 2)?;
+    let mut window = image.sub_image_mut(1, 0, 2, 2)?;
+    window.fill_window(window.whole(), 7)?;
+    println!("{:?}", image.into_buf());
+    Ok(())
+}
+"""
 
 
 def check_python(cases, room):
@@ -42,7 +55,7 @@ def check_python(cases, room):
     status, _, said = run([python, "-c", DOCTEST, ROOT / "docs/PYTHON.md"], cwd=room, env=quiet)
     counted(cases, "docs/PYTHON.md", said, status)
     check_sources(cases, room, python, quiet)
-    check_hints(cases, room, python, quiet)
+    check_hints(cases, room, python)
 
 
 def check_sources(cases, room, python, quiet):
@@ -56,30 +69,68 @@ def check_sources(cases, room, python, quiet):
     cases.count("pip wheel without the library", status != 0 and "make c" in said, said)
 
 
-def check_hints(cases, room, python, quiet):
-    """The type hints, by mypy."""
-    if run([python, "-c", "import mypy"])[0]:
+def check_hints(cases, room, python):
+    """The type hints, by mypy: those of the installed package, and what a user's code may say of it."""
+    if not shutil.which("mypy"):
         skipped("Python's type hints (mypy)")
         return
-    (room / "user.py").write_text("import imgref\n\nframe = imgref.Image(bytearray(6), 3, 2)\nis_equal: bool = frame == frame.window((0, 0, 3, 2))\n")
-    for label, words in (("the package", ["-p", "imgref"]), ("a user of it", ["user.py"])):
-        status, _, said = run([python, "-m", "mypy", "--strict", *words], cwd=room, env=quiet)
-        cases.count(f"mypy --strict: {label}", status == 0, said)
+    head = "import imgref\n\nframe = imgref.Image(bytearray(6), 3, 2)\n"
+    users = {
+        "is_equal: bool = frame == frame.window((0, 0, 3, 2))": True,
+        "frame.fill(imgref.Window(0, 0, 1, 1), 0.5)": True,
+        "frame.fill((0, 0, 1, 1), (1, 2, 3))": True,
+        'frame.put("0", 0, 1)': False,
+        "frame.window((0, 0, 1))": False,
+        "frame.width = 3": False,
+    }
+    words = ["mypy", "--strict", "--python-executable", python]
+    status, _, said = run([*words, "-p", "imgref"], cwd=room)
+    cases.count("mypy --strict: the package", status == 0, said)
+    for line, is_well in users.items():
+        (room / "user.py").write_text(f"{head}{line}\n")
+        status, _, said = run([*words, "user.py"], cwd=room)
+        cases.count(f"mypy {'takes' if is_well else 'refuses'}: {line}", (status == 0) == is_well, said)
+
+
+def check_versions(cases):
+    """Every file that has the version has the one of tools/c_library.py, which CHANGELOG.md has last."""
+    forms = {
+        "include/imgref.h": r'#define IMGREF_VERSION "([^"]+)"',
+        "bindings/python/pyproject.toml": r'(?m)^version = "([^"]+)"',
+        "bindings/python/backend.py": r'VERSION = "imgref", "([^"]+)"',
+        "bindings/python/imgref/__init__.py": r'__version__ = "([^"]+)"',
+        "bindings/rust/Cargo.toml": r'(?m)^version = "([^"]+)"',
+        "CHANGELOG.md": r"(?m)^## \[(\d[^\]]*)\]",
+        **{f"man/{it.name}": r'"imgref ([^"]+)"' for it in (ROOT / "man").iterdir()},
+    }
+    for name, form in forms.items():
+        found = re.search(form, (ROOT / name).read_text())
+        cases.count(f"{name} has the version {VERSION}", found and found[1] == VERSION, str(found))
 
 
 def check_rust(cases, prefix, room):
-    """The crate's own tests, and a project that adds it by its path."""
+    """The crate's own tests and examples, and a project that adds it by its path."""
     if not shutil.which("cargo"):
         skipped("Rust (cargo)")
         return
     crate = shutil.copytree(ROOT / "bindings/rust", room / "rust")
-    found = os.environ | {"IMGREF_LIB": str(prefix / "lib"), "CARGO_TARGET_DIR": str(room / "target")}
-    status, _, said = run(["cargo", "test", "--offline", "--lib"], cwd=crate, env=found)
-    counted(cases, "calls from Rust", said, status, RUST_COUNT)
+    found = os.environ | {"IMGREF_LIB": str(prefix / "lib"), "CARGO_TARGET_DIR": str(room / "target"), "RUSTFLAGS": "-D warnings"}
+    for label, words in (("calls from Rust", ["--lib"]), ("Rust's examples", ["--doc"])):
+        status, _, said = run(["cargo", "test", "--offline", *words], cwd=crate, env=found)
+        counted(cases, label, said, status, RUST_COUNT)
+    user = room / "rust_user"
+    (user / "src").mkdir(parents=True)
+    (user / "src/main.rs").write_text(RUST_USER)
+    # (without the variable the crate finds the library in the repository that it is in)
+    for label, path, env in (("installed", crate, found), ("in the repository", ROOT / "bindings/rust", {it: text for it, text in found.items() if it != "IMGREF_LIB"})):
+        (user / "Cargo.toml").write_text(f'[package]\nname = "user"\nversion = "0.0.0"\nedition = "2021"\n\n[dependencies]\nimgref-proved = {{ path = "{path}" }}\n')
+        status, wrote, said = run(["cargo", "run", "--offline", "--quiet"], cwd=user, env=env)
+        cases.count(f"a project of cargo by path, {label}", (status, wrote) == (0, b"[1, 7, 7, 4, 7, 7]\n"), said)
 
 
 def main():
     cases = Cases()
+    check_versions(cases)
     with tempfile.TemporaryDirectory(prefix="bindings-") as room:
         room = pathlib.Path(room)
         if prefix := installed(cases, room):

@@ -13,11 +13,22 @@ import tempfile
 
 sys.path.insert(0, str(pathlib.Path(__file__).resolve().parents[2]))
 from checking import ROOT, Cases
-from library import WARNINGS, counted, installed, run, skipped
+from library import WARNINGS, counted, installed, run, say_skipped, skipped
 
 # A picture of 2 by 3 in a frame of 4 by 2: its columns come into the middle, and its last row is cut off.
 PICTURE, FRAME = b"P5\n# two by three\n2 3\n255\nABCDEF", b"P5\n4 2\n255\n\0AB\0\0CD\0"
+HIDDEN = b"P5\n3 2\n255\nABCDEF"
 COLOURS, WIDE_FRAME = b"P6 1 1 255 rgb", b"P6\n3 1\n255\n\0\0\0rgb\0\0\0"
+
+# A project that links both libraries.
+CMAKE = """cmake_minimum_required(VERSION 3.10)
+project(user C)
+find_package(imgref ${WANTED} REQUIRED)
+add_executable(with_shared main.c)
+target_link_libraries(with_shared imgref::imgref)
+add_executable(with_static main.c)
+target_link_libraries(with_static imgref::static)
+"""
 
 
 def names(tool_words):
@@ -73,6 +84,100 @@ def check_cpp(cases, prefix, room):
             counted(cases, f"calls from C++, {label}", said, status)
 
 
+def check_view(cases, prefix, room):
+    """The view of imgref.hpp by each standard and compiler that is there, under sanitizers, and the example in C++."""
+    compilers = dict.fromkeys([os.environ.get("CXX", "c++"), "clang++"])
+    for compiler in (it.split() for it in compilers):
+        if not shutil.which(compiler[0]):
+            skipped(f"C++ ({compiler[0]})")
+            continue
+        for standard in ("-std=c++17", "-std=c++20", "-std=c++23"):
+            label = f"view.cpp, {' '.join(compiler)} {standard}"
+            if run([*compiler, standard, "-fsyntax-only", "-x", "c++", "/dev/null"])[0]:
+                skipped(label)
+                continue
+            words = [*standard.split(), "-O1", "-g", *WARNINGS, "-fsanitize=address,undefined", "-fno-sanitize-recover=all", f"-I{prefix / 'include'}"]
+            status, _, said = run([*compiler, *words, ROOT / ".ci/c/view.cpp", "-o", room / "view", prefix / "lib/libimgref.a"])
+            cases.count(label, status == 0, said)
+            if status == 0:
+                status, _, said = run([room / "view"])
+                say_skipped(said)
+                counted(cases, f"calls of {label}", said, status)
+    compiler = os.environ.get("CXX", "c++").split()
+    if shutil.which(compiler[0]):
+        check_hide(cases, compiler, prefix, room)
+        check_reading(cases, compiler, prefix, room)
+
+
+def check_hide(cases, compiler, prefix, room):
+    """The example in C++ hides a window, and writes nothing where it is refused."""
+    status, _, said = run([*compiler, "-std=c++17", "-O2", *WARNINGS, f"-I{prefix / 'include'}", ROOT / "examples/cpp/hide.cpp", "-o", room / "hide", prefix / "lib/libimgref.a"])
+    cases.count("hide.cpp", status == 0, said)
+    for label, words, given, wanted in (("a window", "1 0 2 2 2", HIDDEN, b"P5\n3 2\n255\nABBDBB"), ("no window", "2 0 2 2 2", HIDDEN, None), ("cut off", "1 0 2 2 2", HIDDEN[:-1], None), ("no number", "1 0 2 -2 2", HIDDEN, None)):
+        status, wrote, said = run([room / "hide", *words.split()], input=given)
+        cases.count(f"hide: {label}", (status, wrote) == ((1, b"") if wanted is None else (0, wanted)), said)
+
+
+def check_reading(cases, compiler, prefix, room):
+    """A call that writes through a view for reading doesn't compile, nor does a pixel of three bytes; the other calls do."""
+    head = "#include <imgref.hpp>\nstruct three { char c[3]; };\nint main() { unsigned char c[6] = {}; const unsigned char *r = c; imgref::view<const unsigned char> v(r, 6, 3, 2, 3);"
+    for line, is_well in (("return v.get(0, 0);", True), ("v.put(0, 0, 1);", False), ("v.fill(1);", False), ("v.pack();", False), ("imgref::view<unsigned char> w = v;", False), ("imgref::view<three> *w = nullptr; return w->empty();", False)):
+        (room / "reading.cpp").write_text(f"{head} {line} }}\n")
+        status, _, said = run([*compiler, "-std=c++17", f"-I{prefix / 'include'}", "-fsyntax-only", room / "reading.cpp"])
+        cases.count(f"{'compiles' if is_well else 'is refused'}: {line}", (status == 0) == is_well, said)
+
+
+def check_cmake(cases, prefix, room):
+    """A project of CMake finds the package, and links the shared object and the archive; also once the folder has moved."""
+    if not shutil.which("cmake"):
+        skipped("CMake (cmake)")
+        return
+    project = room / "project"
+    project.mkdir()
+    (project / "CMakeLists.txt").write_text(CMAKE)
+    (project / "main.c").write_text("#include <imgref.h>\nint main(void) { return !imgref_is_image(6, 3, 2, 3); }\n")
+    moved = shutil.copytree(prefix, room / "moved", symlinks=True)
+    for label, where in (("installed", prefix), ("moved", moved)):
+        made = room / f"build-{label}"
+        status, _, said = run(["cmake", "-S", project, "-B", made, f"-DCMAKE_PREFIX_PATH={where}", "-DWANTED=0.1"])
+        built = run(["cmake", "--build", made]) if status == 0 else (1, b"", said)
+        cases.count(f"CMake, {label}", built[0] == 0, built[2])
+        cases.count(f"CMake's programs, {label}", built[0] == 0 and all(run([made / it])[0] == 0 for it in ("with_shared", "with_static")))
+    for version, is_well in (("", True), ("0.1.0", True), ("0.1.1", False), ("0.2", False), ("1", False), ("0", True)):
+        status, _, said = run(["cmake", "-S", project, "-B", room / f"build-{version}", f"-DCMAKE_PREFIX_PATH={prefix}", f"-DWANTED={version}"])
+        cases.count(f"find_package(imgref {version}) {'finds' if is_well else 'refuses'} it", (status == 0) == is_well, said)
+
+
+def check_man(cases, prefix):
+    """The man pages have no fault of form. They name each call of the header, and each edit and command of the programs."""
+    pages = {it.name: it.read_text() for it in sorted((prefix / "share/man").glob("*/*"))}
+    cases.count("the man pages", list(pages) == ["imgref_frames.1", "imgref_run.1", "imgref.3"], str(list(pages)))
+    if shutil.which("groff"):
+        for it in sorted((prefix / "share/man").glob("*/*")):
+            status, _, said = run(["groff", "-man", "-Tutf8", "-ww", "-z", it])
+            cases.count(f"{it.name}: its form", status == 0 and not said, said)
+    else:
+        skipped("the form of the man pages (groff)")
+    header = (prefix / "include/imgref.h").read_text()
+    calls = set(re.findall(r"\b(imgref_\w+)\(size_t", header)) | {f"imgref_u8_{it}" for it in re.findall(r"imgref_##NAME##_(\w+)\(", header)}
+    lacking = [it for it in [*calls, *re.findall(r"#define (IMGREF_[A-Z_]+) \(", header)] if it not in pages.get("imgref.3", "")]
+    cases.count("imgref.3 names each call and status", len(calls) == 5 + 8 and not lacking, str(lacking))
+    words = set(re.findall(r"(?m)^\| `(\w+) I PATH", (ROOT / "docs/SCRIPT.md").read_text())) | {"image", "compact"}
+    lacking = [it for it in words if f'.BI "{it} "' not in pages.get("imgref_run.1", "")]
+    cases.count("imgref_run.1 names each command", len(words) > 7 and not lacking, str(lacking))
+    words = set(re.findall(r"(?m)^\| `(\w+) L,T,", (ROOT / "docs/FRAMES.md").read_text()))
+    lacking = [it for it in words if f'.BI "{it} "' not in pages.get("imgref_frames.1", "")]
+    cases.count("imgref_frames.1 names each edit", len(words) > 4 and not lacking, str(lacking))
+
+
+def check_programs(cases, prefix):
+    """Both programs run from where they are installed."""
+    status, wrote, said = run([prefix / "bin/imgref_run"], input=b"image 2 1 2 1 2\nput 0 - 1 0 9\n")
+    cases.count("imgref_run is installed", (status, wrote) == (0, b"done\nimage 2 1 2 1 9\n"), said)
+    status, wrote, said = run([prefix / "bin/imgref_frames", "fill", "0,0,1,1", "66"], input=b"P5\n2 1\n255\nAA")
+    cases.count("imgref_frames is installed", (status, wrote) == (0, b"P5\n2 1\n255\nBA"), said)
+
+
 def check_staged(cases, prefix, room):
     """DESTDIR has the files that lie below PREFIX without it, and nothing in them names it."""
 
@@ -119,6 +224,10 @@ def main():
             check_names(cases, compiler, prefix)
             check_c(cases, compiler, prefix, room)
             check_cpp(cases, prefix, room)
+            check_view(cases, prefix, room)
+            check_cmake(cases, prefix, room)
+            check_man(cases, prefix)
+            check_programs(cases, prefix)
             check_staged(cases, prefix, room)
             check_letterbox(cases, compiler, prefix, room)
     return cases.end()

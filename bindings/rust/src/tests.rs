@@ -1,85 +1,140 @@
-//! Each call once.
+//! Each call on each kind of buffer, and each refusal.
 
-use super::{Image, ImageMut, Refused, Shape, Window};
-
-fn window(left: usize, top: usize, width: usize, height: usize) -> Window {
-    Window { left, top, width, height }
-}
-
-fn shape(width: usize, height: usize, stride: usize) -> Shape {
-    Shape { width, height, stride }
-}
+use super::{Cell, Img, ImgRef, ImgRefMut, ImgVec, Refused, Window};
 
 // 3 by 2 at stride 4: the cells 3, 7 and 8 are padding.
 const CELLS: [u8; 9] = [1, 2, 3, 90, 4, 5, 6, 91, 92];
 
+fn image(cells: &mut [u8]) -> ImgRefMut<'_, u8> {
+    ImgRefMut::new_stride(cells, 3, 2, 4).unwrap()
+}
+
 #[test]
 fn gets_and_puts() {
     let mut cells = CELLS;
-    let mut image = ImageMut::new(&mut cells, shape(3, 2, 4)).unwrap();
-    assert_eq!(image.as_image().get(2, 1), Ok(6));
-    assert_eq!(image.as_image().get(3, 1), Err(Refused::PlaceOutside));
+    let mut image = image(&mut cells);
+    assert_eq!(image.get(2, 1), Ok(6));
+    assert_eq!(image.get(3, 1), Err(Refused::PlaceOutside));
+    assert_eq!(image.put(0, 2, 7), Err(Refused::PlaceOutside));
     image.put(0, 1, 7).unwrap();
-    assert_eq!(cells, [1, 2, 3, 90, 7, 5, 6, 91, 92]);
+    assert_eq!(image[(0, 1)], 7);
+    image[(1, 1)] += 3;
+    assert_eq!(cells, [1, 2, 3, 90, 7, 8, 6, 91, 92]);
+}
+
+#[test]
+#[should_panic(expected = "a pixel of the image")]
+fn has_no_place_outside() {
+    let _ = ImgRef::new_stride(&CELLS[..], 3, 2, 4).unwrap()[(3, 0)];
 }
 
 #[test]
 fn fills_a_window_and_no_padding() {
     let mut cells = CELLS;
-    let mut image = ImageMut::new(&mut cells, shape(3, 2, 4)).unwrap();
-    image.fill_window(window(1, 0, 2, 2), 0).unwrap();
-    assert_eq!(image.fill_window(window(2, 0, 2, 2), 7), Err(Refused::WindowOutside));
+    let mut image = image(&mut cells);
+    image.fill_window(Window::new(1, 0, 2, 2), 0).unwrap();
+    assert_eq!(image.fill_window(Window::new(2, 0, 2, 2), 7), Err(Refused::WindowOutside));
+    assert_eq!(image.fill_window(Window::new(usize::MAX, 0, 2, 2), 7), Err(Refused::WindowOutside));
     assert_eq!(cells, [1, 0, 0, 90, 4, 0, 0, 91, 92]);
 }
 
 #[test]
 fn copies_and_moves() {
-    let (mut cells, source) = ([0u32; 6], [1, 2, 3, 4]);
-    let mut image = ImageMut::new(&mut cells, shape(3, 2, 3)).unwrap();
-    let source = Image::new(&source, shape(2, 2, 2)).unwrap();
-    image.copy_window(window(1, 0, 2, 2), source).unwrap();
-    assert_eq!(image.copy_window(window(0, 0, 1, 1), source), Err(Refused::SizesDiffer));
-    image.move_window(window(1, 0, 2, 2), window(0, 0, 2, 2)).unwrap();
-    assert_eq!(cells, [1, 2, 2, 3, 4, 4]);
+    let mut image = ImgVec::new(vec![0u32; 6], 3, 2).unwrap();
+    let source = Img::new([1u32, 2, 3, 4], 2, 2).unwrap();
+    image.copy_window(Window::new(1, 0, 2, 2), source.as_ref()).unwrap();
+    assert_eq!(image.copy_window(Window::new(0, 0, 1, 1), source.as_ref()), Err(Refused::SizesDiffer));
+    image.move_window(Window::new(1, 0, 2, 2), Window::new(0, 0, 2, 2)).unwrap();
+    assert_eq!(image.into_buf(), [1, 2, 2, 3, 4, 4]);
 }
 
 #[test]
 fn windows_are_the_same_cells() {
     let mut cells = CELLS;
-    let mut image = ImageMut::new(&mut cells, shape(3, 2, 4)).unwrap();
-    image.window(window(1, 1, 2, 1)).unwrap().put(1, 0, 77).unwrap();
-    let read = Image::new(&cells, shape(3, 2, 4)).unwrap();
-    assert_eq!(read.window(window(1, 0, 2, 2)).unwrap().get(1, 1), Ok(77));
-    assert_eq!(read.window(window(3, 2, 0, 0)).unwrap().cells(), [0u8; 0]);
+    let mut image = image(&mut cells);
+    image.sub_image_mut(1, 1, 2, 1).unwrap().put(1, 0, 77).unwrap();
+    image.as_mut().sub_image_mut(0, 0, 1, 1).unwrap()[(0, 0)] = 78;
+    let read = ImgRef::new_stride(&cells[..], 3, 2, 4).unwrap();
+    assert_eq!(read.sub_image(1, 0, 2, 2).unwrap().get(1, 1), Ok(77));
+    assert_eq!(read[(0, 0)], 78);
+    assert_eq!(read.sub_image(3, 2, 0, 0).unwrap().buf().len(), 0);
+    assert_eq!(read.sub_image(3, 2, 1, 0).err(), Some(Refused::WindowOutside));
+}
+
+#[test]
+fn gives_rows_and_pixels() {
+    let mut cells = CELLS;
+    let mut image = image(&mut cells);
+    assert_eq!(image.rows().collect::<Vec<_>>(), [[1, 2, 3], [4, 5, 6]]);
+    assert_eq!(image.rows().rev().len(), 2);
+    assert_eq!(image.pixels().collect::<Vec<_>>(), [1, 2, 3, 4, 5, 6]);
+    assert_eq!(image.to_contiguous_buf(), (vec![1, 2, 3, 4, 5, 6], 3, 2));
+    image.rows_mut().for_each(|it| it[0] = 0);
+    image.pixels_mut().for_each(|it| *it += 1);
+    assert_eq!(cells, [1, 3, 4, 90, 1, 6, 7, 91, 92]);
+    let none = ImgVec::<u16>::new(vec![], 0, 7).unwrap();
+    assert_eq!((none.rows().count(), none.pixels().count(), none.stride()), (0, 0, 1));
+    assert_eq!(ImgVec::<u16>::new(vec![], 7, 0).unwrap().rows().count(), 0);
 }
 
 #[test]
 fn makes_mosaics_and_tiles() {
     let mut cells = CELLS;
-    let mut image = ImageMut::new(&mut cells, shape(3, 2, 4)).unwrap();
-    let tiles: Vec<Window> = image.shape().tiles(2, 2).unwrap().collect();
-    assert_eq!(tiles, [window(0, 0, 2, 2), window(2, 0, 1, 2)]);
-    assert_eq!(image.shape().tiles(0, 2).err(), Some(Refused::NoTile));
-    image.mosaic(window(0, 0, 3, 2), 2, 2).unwrap();
+    let mut image = image(&mut cells);
+    let tiles: Vec<Window> = image.tiles(2, 2).unwrap().collect();
+    assert_eq!(tiles, [Window::new(0, 0, 2, 2), Window::new(2, 0, 1, 2)]);
+    assert_eq!(image.tiles(0, 2).err(), Some(Refused::NoTile));
+    assert_eq!(image.mosaic(image.whole(), 2, 0), Err(Refused::NoTile));
+    image.mosaic(Window::new(0, 0, 3, 2), 2, 2).unwrap();
     assert_eq!(cells, [1, 1, 3, 90, 1, 1, 3, 91, 92]);
 }
 
 #[test]
-fn packs_and_compares() {
-    let (mut cells, first) = (CELLS, CELLS);
-    let first = Image::new(&first, shape(3, 2, 4)).unwrap();
-    let mut image = ImageMut::new(&mut cells, shape(3, 2, 4)).unwrap();
-    image.pack().unwrap();
-    assert_eq!(image.shape().stride, 3);
-    assert_eq!(image.as_image().same_pixels(first), Ok(true));
-    assert_eq!(image.as_image().same_pixels(first.window(window(0, 0, 3, 1)).unwrap()), Ok(false));
+fn joins_rows_and_compares() {
+    let mut cells = CELLS;
+    let first = Img::new_stride(CELLS, 3, 2, 4).unwrap();
+    let mut image = image(&mut cells);
+    assert_eq!(image.as_contiguous_buf(), Ok((&[1, 2, 3, 4, 5, 6][..], 3, 2)));
+    assert_eq!((image.width(), image.height(), image.stride()), (3, 2, 3));
+    assert!(image == first && first == image && image != first.sub_image(0, 0, 3, 1).unwrap());
     assert_eq!(cells, [1, 2, 3, 4, 5, 6, 6, 91, 92]);
+    let owned = ImgVec::new_stride(CELLS.to_vec(), 3, 2, 4).unwrap();
+    assert_eq!(owned.clone(), first);
+    assert_eq!(owned.into_contiguous_buf(), Ok((vec![1, 2, 3, 4, 5, 6], 3, 2)));
+}
+
+fn calls_on<T: Cell + std::fmt::Debug>(least: T, most: T) {
+    let mut image = ImgVec::new_stride(vec![least; 7], 3, 2, 4).unwrap();
+    image.fill_window(Window::new(1, 0, 2, 2), most).unwrap();
+    image.put(0, 0, most).unwrap();
+    image.move_window(Window::new(0, 1, 1, 1), Window::new(2, 1, 1, 1)).unwrap();
+    image.mosaic(Window::new(0, 1, 2, 1), 1, 1).unwrap();
+    assert_eq!(image.get(1, 1), Ok(most));
+    let mut other = ImgVec::new(vec![least; 6], 3, 2).unwrap();
+    assert!(other != image);
+    other.copy_window(other.whole(), image.as_ref()).unwrap();
+    assert!(other == image);
+    assert_eq!(image.buf()[..], [most, most, most, least, least, most, least]);
+    assert_eq!(image.into_contiguous_buf().unwrap().0, [most, most, most, least, most, least]);
+}
+
+#[test]
+fn takes_each_integer() {
+    calls_on(0, u8::MAX);
+    calls_on(i8::MIN, i8::MAX);
+    calls_on(0, u16::MAX);
+    calls_on(i16::MIN, -1);
+    calls_on(0, u32::MAX);
+    calls_on(i32::MIN, -1);
+    calls_on(0, u64::MAX);
+    calls_on(i64::MIN, -1);
 }
 
 #[test]
 fn refuses_what_is_no_image() {
-    for (width, height, stride) in [(3, 3, 4), (3, 2, 2), (3, 2, 0), (3, usize::MAX, usize::MAX)] {
-        assert_eq!(Image::new(&CELLS, shape(width, height, stride)).err(), Some(Refused::NotAnImage));
+    for (width, height, stride) in [(3, 3, 4), (3, 2, 2), (3, 2, 0), (3, usize::MAX, usize::MAX), (1 << 32, 0, 1 << 32)] {
+        assert_eq!(ImgRef::new_stride(&CELLS[..], width, height, stride).err(), Some(Refused::NotAnImage));
     }
-    assert!(Image::<u64>::new(&[], shape(0, 7, 1)).is_ok());
+    assert!(ImgRef::<u64>::new(&[], 0, 7).is_ok());
+    assert_eq!(Refused::NotAnImage.to_string(), "not an image");
 }

@@ -141,5 +141,5 @@ fill_in_view g left top width height x y columns lines value across down = patch
 -- what the edge cuts, and what was put
 pub ruleset patches = (clipped, clipped_image, past_edge, of_nothing, put_pixel)
 
--- what stands at a place
+-- what is at a place
 pub ruleset at_places = (in_patch, beside_patch, in_view, in_uniform, in_one_row, in_row, put_pixel)

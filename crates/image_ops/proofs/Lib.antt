@@ -9,3 +9,7 @@ pub mod Corners
 pub mod Spreading
 pub mod Mosaics
 pub mod PlaceAnswers
+pub mod WindowWrites
+pub mod Crossing
+pub mod FromPlaces
+pub mod PixelsMade

@@ -3,3 +3,7 @@ pub mod Mapping
 pub mod Mosaic
 pub mod Pairs
 pub mod CellAnswers
+pub mod Part
+pub mod Gathered
+pub mod Made
+pub mod Turned

@@ -1,5 +1,5 @@
-//! Calls on all cells in a shape: windows, equality and hash, comparison by a closure, copies
-//! without padding; fills, copies, maps and mosaics of the pixels; moves in place.
+//! Calls on all cells in a shape. They give windows, compare, hash, and copy without padding. They
+//! fill, copy and map pixels, make mosaics, and move pixels in place.
 //!
 //! Cells are a slice or a `Vec`, and a [`Shape`](image_shape::Shape) says where the rows of the
 //! image are in them. The crate hides the loops over rows, and that shifts of a
@@ -10,7 +10,9 @@ mod clones;
 mod copy;
 mod equality;
 mod fill;
+mod flipping;
 mod hashing;
+mod making;
 mod map;
 mod mosaic;
 mod moving;
@@ -18,13 +20,16 @@ mod packing;
 mod pairs;
 mod places;
 mod swapping;
+mod turning;
 mod windows;
 
 pub use clones::{cloned, contiguous, joined_clones};
 pub use copy::copy_pixels;
 pub use equality::are_equal;
 pub use fill::{fill_cells, fill_pixels};
+pub use flipping::{flip_columns, flip_rows, swap_columns};
 pub use hashing::hash_pixels;
+pub use making::make_pixels;
 pub use map::map_pixels;
 pub use mosaic::mosaic_cells;
 pub use moving::move_pixels;
@@ -32,4 +37,7 @@ pub use packing::{join_rows, pack};
 pub use pairs::agree_at_places;
 pub use places::{map_places, zip_pixels};
 pub use swapping::swap_rows;
-pub use windows::{padded_part, padded_stretch_mut};
+pub use turning::{
+    Turn, transpose_pixels, turn_half_pixels, turn_left_pixels, turn_pixels, turn_right_pixels,
+};
+pub use windows::{copy_window, fill_window, mosaic_window, padded_part, padded_stretch_mut};

@@ -11,11 +11,11 @@ use crate::fill::fill_cells;
 use image_shape::{Shape, Stretch};
 
 // From this width on a tile's part of a row is filled by one call.
-const WIDE: usize = 16;
+const FILLED_WIDTH: usize = 16;
 
 // Each cell becomes the first one of its tile, cell by cell.
 fn spread_by_cells<T: Copy>(row: &mut [T], tile_width: usize)
-    requires wide { 0 < tile_width }
+    requires tile_width { 0 < tile_width }
     ensures { IsSpread tile_width row.old row.new }
 {
     let Some(first) = row.first() else {
@@ -34,7 +34,7 @@ fn spread_by_cells<T: Copy>(row: &mut [T], tile_width: usize)
 
 // The same, tile by tile.
 fn spread_by_tiles<T: Copy>(row: &mut [T], tile_width: usize)
-    requires wide { 0 < tile_width }
+    requires tile_width { 0 < tile_width }
     ensures { IsSpread tile_width row.old row.new }
 {
     let mut corner = 0;
@@ -48,13 +48,13 @@ fn spread_by_tiles<T: Copy>(row: &mut [T], tile_width: usize)
 
 // The same, by what is faster for such tiles. A tile of one cell shows that cell.
 fn spread<T: Copy>(row: &mut [T], tile_width: usize)
-    requires wide { 0 < tile_width }
+    requires tile_width { 0 < tile_width }
     ensures { IsSpread tile_width row.old row.new }
 {
     if tile_width == 1 {
         return;
     }
-    if tile_width < WIDE {
+    if tile_width < FILLED_WIDTH {
         spread_by_cells(row, tile_width);
     } else {
         spread_by_tiles(row, tile_width);
@@ -74,16 +74,16 @@ fn repeat_row<T: Copy>(cells: &mut [T], row: Stretch, target: usize)
 /// Writes, at every place of `shape`, the old pixel at the corner of the place's tile. The padding
 /// stays.
 ///
-/// It goes row by row. In the first row of a tile each pixel becomes the one at its tile's corner,
-/// and each other row is a copy of the row above it.
+/// It goes row by row. In the first row of a tile each pixel becomes the one at its tile's corner.
+/// Each other row is a copy of the row above it.
 ///
 /// # Requires
 ///
 /// The cells fit the shape, and a tile has columns and rows.
 pub fn mosaic_cells<T: Copy>(cells: &mut [T], shape: Shape, tile_width: usize, tile_height: usize)
     requires fits { Fits (shaped cells.old shape) }
-    requires wide { 0 < tile_width }
-    requires high { 0 < tile_height }
+    requires tile_width { 0 < tile_width }
+    requires tile_height { 0 < tile_height }
     ensures grid { grid_of (shaped cells.new shape)
         ≡ mosaic tile_width tile_height (grid_of (shaped cells.old shape)) }
     ensures outside { SameOutside (shaped cells.old shape) (shaped cells.new shape) }

@@ -1,13 +1,19 @@
-//! Windows of cells in a shape.
+//! Windows of cells in a shape: read, lent for writing, filled, copied to, or made a mosaic.
 
-ghost use Rattle.std.specs.Prelude.{◌≡◌, length};
-ghost use Rattle.image_model.specs.Layout.{Fits};
-ghost use Rattle.image_model.specs.Grid.{grid_of};
+ghost use Rattle.std.specs.Prelude.{◌≡◌, ◌<◌, ◌≤◌, length};
+ghost use Rattle.image_model.specs.Layout.{Fits, Reaches, SameOutside};
+ghost use Rattle.image_model.specs.Grid.{grid_of, patch, uniform};
 ghost use Rattle.image_model.specs.Windows.{window_view, IsInside, IsWithin, padded_stretch, padded_window, stretch_cells};
 ghost use Rattle.image_shape.specs.Shape.{shape_width, shape_height, shape_stride, shaped_grid, shaped};
 ghost use Rattle.image_shape.specs.Window.{as_window, as_stretch};
+ghost use Rattle.image_ops.specs.Mosaic.{mosaic};
+ghost use Rattle.image_ops.specs.Part.{IsPart};
 
+use crate::copy::copy_pixels;
+use crate::fill::fill_pixels;
+use crate::mosaic::mosaic_cells;
 use image_shape::{Shape, Stretch, Window};
+use std::ops::Range;
 
 /// The cells and the shape of a window, with whole strides where the cells have them. `cells` fits
 /// `shape`, and the window is inside it.
@@ -45,4 +51,80 @@ pub fn padded_stretch_mut<T>(
 {
     let stretch = shape.stretch(true, cells.len(), window);
     (cells, stretch, shape.window(window))
+}
+
+// The numbers of the window's cells, of `count` cells that fit the shape, and the window's shape.
+fn exact_part(count: usize, shape: Shape, window: Window) -> (Range<usize>, Shape)
+    requires fits { Reaches count (shape_width shape) (shape_height shape) (shape_stride shape) }
+    requires inside { IsInside (shape_width shape) (shape_height shape) (as_window window) }
+    ensures part { IsPart count shape result.1 (as_window window) result.0.start result.0.end }
+    ensures order { result.0.start ≤ result.0.end }
+    ensures within { result.0.end ≤ count }
+{
+    let part = shape.stretch(false, count, window);
+    (part.range(), shape.window(window))
+}
+
+// The three calls below are not inlined. The tests of a call for C hold so many numbers that the
+// loop over the rows would have no register left: at rows of 64 bytes it took a third longer.
+
+/// Every pixel of the window becomes `value`; every other cell stays. The cells fit the shape, and
+/// the window is inside it.
+#[inline(never)]
+pub fn fill_window<T: Copy>(cells: &mut [T], shape: Shape, window: Window, value: T)
+    requires fits { Fits (shaped cells.old shape) }
+    requires inside { IsInside (shape_width shape) (shape_height shape) (as_window window) }
+    ensures grid { shaped_grid cells.new shape ≡ patch (shaped_grid cells.old shape)
+        window.left window.top (uniform window.width window.height value) }
+    ensures outside { SameOutside (shaped cells.old shape) (shaped cells.new shape) }
+{
+    let (part, inner) = exact_part(cells.len(), shape, window);
+    fill_pixels(&mut cells[part], inner, value);
+}
+
+/// The window gets the pixels of `source`, which has its size; every other cell stays. Both fit
+/// their shapes, and the window is inside `shape`.
+#[inline(never)]
+pub fn copy_window<T: Copy>(
+    cells: &mut [T],
+    shape: Shape,
+    window: Window,
+    source: &[T],
+    source_shape: Shape,
+)
+    requires fits { Fits (shaped cells.old shape) }
+    requires inside { IsInside (shape_width shape) (shape_height shape) (as_window window) }
+    requires source_fits { Fits (shaped source.now source_shape) }
+    requires same_width { window.width ≡ shape_width source_shape }
+    requires same_height { window.height ≡ shape_height source_shape }
+    ensures grid { shaped_grid cells.new shape ≡ patch (shaped_grid cells.old shape)
+        window.left window.top (shaped_grid source.now source_shape) }
+    ensures outside { SameOutside (shaped cells.old shape) (shaped cells.new shape) }
+{
+    let (part, inner) = exact_part(cells.len(), shape, window);
+    copy_pixels(&mut cells[part], inner, source, source_shape);
+}
+
+/// Writes, at every place of the window, the old pixel at the corner of the place's tile; every
+/// other cell stays. Tiles are counted from the window's corner. The cells fit the shape, the
+/// window is inside it, and a tile has columns and rows.
+#[inline(never)]
+pub fn mosaic_window<T: Copy>(
+    cells: &mut [T],
+    shape: Shape,
+    window: Window,
+    tile_width: usize,
+    tile_height: usize,
+)
+    requires fits { Fits (shaped cells.old shape) }
+    requires inside { IsInside (shape_width shape) (shape_height shape) (as_window window) }
+    requires tile_width { 0 < tile_width }
+    requires tile_height { 0 < tile_height }
+    ensures grid { shaped_grid cells.new shape
+        ≡ patch (shaped_grid cells.old shape) window.left window.top (mosaic tile_width tile_height
+        (window_view (shaped_grid cells.old shape) (as_window window))) }
+    ensures outside { SameOutside (shaped cells.old shape) (shaped cells.new shape) }
+{
+    let (part, inner) = exact_part(cells.len(), shape, window);
+    mosaic_cells(&mut cells[part], inner, tile_width, tile_height);
 }

@@ -1,6 +1,7 @@
 //! A width, a height and a stride.
 
-ghost use Rattle.std.specs.Prelude.{◌≡◌, ◌+◌, ◌-◌, ◌*◌, ◌/◌, ◌^◌, ◌≤◌, ◌<◌, ◌↔◌, IsTrue};
+ghost use Rattle.std.specs.Prelude.{◌≡◌, ◌+◌, ◌-◌, ◌*◌, ◌/◌, ◌^◌, ◌≤◌, ◌<◌, ◌↔◌, IsTrue, IfSome};
+ghost use Rattle.std.specs.Option.{is_some};
 ghost use Rattle.image_model.specs.Compaction.{least_stride};
 ghost use Rattle.image_model.specs.Layout.{Reaches};
 ghost use Rattle.image_model.specs.Rows.{row_count};
@@ -9,8 +10,8 @@ ghost use Rattle.image_shape.specs.Window.{as_window, as_stretch};
 
 use crate::window::{Stretch, Window};
 
-/// The width and the height of an image in pixels, and its stride: the number of cells from the
-/// start of a row to the start of the next one.
+/// The width and the height of an image in pixels, and its stride. The stride is the number of
+/// cells from the start of a row to the start of the next one.
 ///
 /// The stride is at least 1 and at least the width, and the width and the height are at most
 /// `u32::MAX`.
@@ -25,9 +26,13 @@ pub struct Shape {
 
 impl Shape {
     // These name the type itself, whose ghost fields are declared above.
-    ghost use Rattle.image_shape.specs.Shape.{shape_width, shape_height, shape_stride};
+    ghost use Rattle.image_shape.specs.Shape.{shape_width, shape_height, shape_stride, is_shape};
 
     /// The shape of `width` by `height` pixels whose rows begin `stride` cells apart.
+    ///
+    /// # Requires
+    ///
+    /// There is such a shape: `checked` tests it.
     pub fn new(width: usize, height: usize, stride: usize) -> Shape
         requires stride_positive { 1 ≤ stride }
         requires holds_width { width ≤ stride }
@@ -42,6 +47,21 @@ impl Shape {
             height: height as u32,
             stride,
         }
+    }
+
+    /// The same shape where there is one. `None` where the stride is 0 or less than the width, or
+    /// where the width or the height is greater than `u32::MAX`.
+    pub fn checked(width: usize, height: usize, stride: usize) -> Option<Shape>
+        ensures exists { is_some result ≡ is_shape width height stride }
+        ensures width { IfSome result (λ shape. shape_width shape ≡ width) }
+        ensures height { IfSome result (λ shape. shape_height shape ≡ height) }
+        ensures stride { IfSome result (λ shape. shape_stride shape ≡ stride) }
+    {
+        let greatest = u32::MAX as usize;
+        if stride == 0 || width > stride || width > greatest || height > greatest {
+            return None;
+        }
+        Some(Shape::new(width, height, stride))
     }
 
     /// The number of pixels in a row.

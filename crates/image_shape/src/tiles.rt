@@ -19,8 +19,8 @@ pub fn tiles_along(len: usize, tile: usize) -> usize
     if len == 0 { 0 } else { (len - 1) / tile + 1 }
 }
 
-/// The tile in tile column `column` of tile row `row` of a size: its corner is a multiple of the tile
-/// size, and it is cut at the right and the lower edge.
+/// The tile in tile column `column` of tile row `row` of a size. Its corner is a multiple of the
+/// tile size, and it is cut at the right and the lower edge.
 ///
 /// # Requires
 ///
@@ -33,8 +33,8 @@ pub fn tile_at(
     column: usize,
     row: usize,
 ) -> Window
-    requires wide { 0 < tile_width }
-    requires high { 0 < tile_height }
+    requires tile_width { 0 < tile_width }
+    requires tile_height { 0 < tile_height }
     requires column_inside { column * tile_width < width }
     requires row_inside { row * tile_height < height }
     ensures value { as_window result ≡ tile width height tile_width tile_height column row }

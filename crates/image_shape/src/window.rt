@@ -5,7 +5,9 @@ ghost use Rattle.image_model.specs.Windows.{window, is_inside, IsWithin, stretch
 
 use std::ops::Range;
 
-/// A window of an image or of another window: its corner and its size, in pixels.
+/// A window of an image or of another window: its corner and its size, in pixels. C sees it with
+/// this layout.
+#[repr(C)]
 #[derive(Clone, Copy, PartialEq, Eq)]
 pub struct Window {
     /// The column of its corner.

@@ -122,7 +122,7 @@ bands_fit l bh fits high =
           absurd (omega (arith, inn, ap (λ w. band_count w l.height bh) e))
     ]
 
--- an iterator gives as many bands as tiles stand along its rows
+-- an iterator gives as many bands as there are tiles along its rows
 pub counted_left : {T : Type 0} (s : BandsMut T) → length (bands_left s) ≡ tile_count s.spacing.band_height s.spacing.rows.count
 unfolding bands_left
 counted_left s = let p = s.spacing.rows in length-bands (drop p.skip s.cells.now) p.width p.count p.stride s.spacing.band_height s.some s.high

@@ -63,7 +63,7 @@ module _ (width height tile_width tile_height : ℕ) (wide : 0 < tile_width) (hi
       off : drop k all ≡ it ∷ drop (k + 1) all
       off = drop_more all k it (slice_get_within all k it there) ∙ ap (λ w. w ∷ drop (k + 1) all) (get_or_from_slice_get all k it it there)
 
-      -- it stands first of those that are left
+      -- it is the first of those that are left
       first : left_at tile_columns tile_rows tile_column tile_row ≡ it ∷ drop (k + 1) all
       first = cond-true (is_place tile_columns tile_rows tile_column tile_row) _ _ here ∙ off
 

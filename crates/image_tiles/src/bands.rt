@@ -44,7 +44,7 @@ impl BandSpacing {
         requires holds_width { self.rows.width ≤ self.rows.stride }
         requires width_bound { self.rows.width < 2 ^ 32 }
         requires rows_fit { self.rows.count < 2 ^ 32 }
-        requires high { 0 < self.band_height }
+        requires band_height { 0 < self.band_height }
         requires reach { self.rows.skip
             + (self.rows.stride * (self.rows.count - 1) + self.rows.width) < 2 ^ 64 }
         ensures outer { result.outer ≡ outer_cut First (band_rows self) self.rows }
@@ -70,8 +70,8 @@ impl BandSpacing {
 
 /// The bands of an image for writing, from top to bottom: of full width, with `band_height` rows
 /// each; the last may have fewer. The buffer of a band of `k` rows has `stride * (k - 1) + width`
-/// cells. Several bands may exist at the same time. When the iterator is dropped, even early, the
-/// bands that it has returned keep what was written in them, and all other cells, padding included,
+/// cells. Several bands may exist at the same time. The iterator may be dropped at any point. Then
+/// the bands that it has returned keep what was written in them. All other cells, padding included,
 /// are as they were.
 #[derive(Drop)]
 pub struct BandsMut<'a, T> {
@@ -98,7 +98,7 @@ impl<'a, T> BandsMut<'a, T> {
     #[tactic(auto, unfolding(crate::specs::Bands::bands_left))]
     pub fn new(img: ImgRefMut<'a, T>, band_height: usize) -> BandsMut<'a, T>
         requires fits { Fits (mut_layout img) }
-        requires high { 0 < band_height }
+        requires band_height { 0 < band_height }
         ensures name { bands_name result ≡ (buf_of img.entry).ghost_name }
         ensures cells { cells_left result ≡ (buf_of img.entry).now }
         ensures spacing { spacing_left result ≡ band_spacing (width_of img.entry)

@@ -38,8 +38,8 @@ impl<C: AsMutSlice> TileCursor<C> {
     /// The image fits (`is_valid`), and both tile sizes are positive.
     pub fn new(img: Img<C>, tile_width: usize, tile_height: usize) -> Self
         requires fits { Fits (layout_by C.cells img) }
-        requires wide { 0 < tile_width }
-        requires high { 0 < tile_height }
+        requires tile_width { 0 < tile_width }
+        requires tile_height { 0 < tile_height }
         ensures image { image_of result ≡ img }
         ensures left { tiles_left C.cells result
             ≡ tiles (width_of img) (height_of img) tile_width tile_height }

@@ -17,7 +17,7 @@ pub struct Tiling {
     height: usize,
     tile_width: usize,
     tile_height: usize,
-    // How many tiles stand side by side, and how many tile rows there are.
+    // How many tiles are side by side, and how many tile rows there are.
     tile_columns: usize,
     tile_rows: usize,
     // Where the next tile is: counted in tiles, so that no sum of corners can overflow.
@@ -42,8 +42,8 @@ impl Tiling {
     /// Both tile sizes are positive: compare the numbers.
     #[tactic(auto, using(crate::proofs::Tilings::all_left, image_model::proofs::Tiles::tiles_cover, image_model::proofs::Tiles::tiles_inside), unfolding(crate::specs::Tiling::windows_left))]
     pub fn new(width: usize, height: usize, tile_width: usize, tile_height: usize) -> Tiling
-        requires wide { 0 < tile_width }
-        requires high { 0 < tile_height }
+        requires tile_width { 0 < tile_width }
+        requires tile_height { 0 < tile_height }
         ensures windows { windows_left result ≡ tiles width height tile_width tile_height }
         ensures inside { All (IsInside width height) (windows_left result) }
         ensures each_once { EachPlaceInOne width height (windows_left result) }

@@ -103,3 +103,7 @@ mut_layout i = layout_by (λ s. s.now) i
 -- and its grid
 abbrev pub mut_grid : {T : Type 0} → Img (MutBor (List T)) → Grid T
 mut_grid i = grid_of (mut_layout i)
+
+-- an image of borrowed pixels still holds the same borrow: a caller that lent it needs this to know what was written
+abbrev pub SameBorrow : {T : Type 0} → Img (MutBor (List T)) → Img (MutBor (List T)) → Type 0
+SameBorrow old new = (buf_of new).ghost_name ≡ (buf_of old).ghost_name

@@ -9,9 +9,9 @@ ghost use Rattle.image_model.specs.Windows.{IsInside, window, window_view};
 ghost use Rattle.image_shape.specs.Window.{as_window};
 ghost use Rattle.imgref.specs.Image.{width_of, height_of, grid_by, layout_by, OnlyCellsChange, ref_grid, ref_layout};
 
-use crate::containers::{AsMutSlice, AsSlice};
+use crate::containers::AsMutSlice;
 use crate::img::{Img, ImgRef};
-use image_ops::{copy_pixels, move_pixels, swap_rows};
+use image_ops::{copy_pixels, copy_window, move_pixels, swap_rows};
 use image_shape::Window;
 
 impl<C: AsMutSlice> Img<C> {
@@ -33,9 +33,7 @@ impl<C: AsMutSlice> Img<C> {
         ensures fits { Fits (layout_by C.cells self.new) }
         ensures container { OnlyCellsChange C.cells C.with_cells self.old self.new }
     {
-        let shape = self.shape();
-        let len = self.buf.as_slice().len();
-        let cells = self.buf.stretch_mut(0, len);
+        let (cells, shape) = self.all_parts_mut();
         copy_pixels(cells, shape, source.buf, source.shape());
     }
 
@@ -58,9 +56,9 @@ impl<C: AsMutSlice> Img<C> {
         ensures fits { Fits (layout_by C.cells self.new) }
         ensures container { OnlyCellsChange C.cells C.with_cells self.old self.new }
     {
-        let place = Window::new(left, top, source.width(), source.height());
-        let (cells, shape) = self.window_parts_mut(place);
-        copy_pixels(cells, shape, source.buf, source.shape());
+        let window = Window::new(left, top, source.width(), source.height());
+        let (cells, shape) = self.all_parts_mut();
+        copy_window(cells, shape, window, source.buf, source.shape());
     }
 
     /// The window with the size of `source` and its corner at column `left` of row `top` gets the
@@ -85,15 +83,14 @@ impl<C: AsMutSlice> Img<C> {
         ensures container { OnlyCellsChange C.cells C.with_cells self.old self.new }
     {
         let target = Window::new(left, top, source.width, source.height);
-        let shape = self.shape();
-        let len = self.buf.as_slice().len();
-        move_pixels(self.buf.stretch_mut(0, len), shape, source, target);
+        let (cells, shape) = self.all_parts_mut();
+        move_pixels(cells, shape, source, target);
     }
 
-    /// The window of `width` by `height` pixels with its corner at column `to_left` of row `to_top`
-    /// gets the old pixels of the window at column `from_left` of row `from_top`. The two may
-    /// overlap, and every other cell stays. No memory is allocated: the rows are moved within the
-    /// buffer.
+    /// One window gets the old pixels of another. Both have `width` by `height` pixels. The corner
+    /// of the one that is read is at column `from_left` of row `from_top`. That of the one that is
+    /// written is at column `to_left` of row `to_top`. The two may overlap, and every other cell
+    /// stays. No memory is allocated: the rows are moved within the buffer.
     ///
     /// # Requires
     ///
@@ -142,8 +139,7 @@ impl<C: AsMutSlice> Img<C> {
         ensures fits { Fits (layout_by C.cells self.new) }
         ensures container { OnlyCellsChange C.cells C.with_cells self.old self.new }
     {
-        let shape = self.shape();
-        let len = self.buf.as_slice().len();
-        swap_rows(self.buf.stretch_mut(0, len), shape, y, z);
+        let (cells, shape) = self.all_parts_mut();
+        swap_rows(cells, shape, y, z);
     }
 }

@@ -16,6 +16,7 @@
 
 mod blit;
 mod buffers;
+mod by_place;
 mod containers;
 mod contiguous;
 mod copies;
@@ -28,10 +29,11 @@ mod pairs;
 mod pixels;
 mod places;
 mod rows;
+mod turns;
 mod window;
 
 pub use containers::{AsMutSlice, AsSlice};
-pub use image_ops::fill_pixels;
+pub use image_ops::{Turn, fill_pixels};
 pub use image_pixels::{PixelsIter, PixelsIterMut, PixelsRefIter};
 pub use image_rows::{End, RowsIter, RowsIterMut};
 pub use image_shape::{Shape, Stretch, Window};

@@ -93,9 +93,8 @@ impl<C: AsMutSlice> Img<C> {
         ensures fits { Fits (layout_by C.cells self.new) }
         ensures container { OnlyCellsChange C.cells C.with_cells self.old self.new }
     {
-        let shape = self.shape();
-        let len = self.buf.as_slice().len();
-        fill_pixels(self.buf.stretch_mut(0, len), shape, value);
+        let (cells, shape) = self.all_parts_mut();
+        fill_pixels(cells, shape, value);
     }
 
     /// Every pixel becomes the result of `f` for it, row by row and from left to right; the padding
@@ -117,9 +116,8 @@ impl<C: AsMutSlice> Img<C> {
         ensures fits { Fits (layout_by C.cells self.new) }
         ensures container { OnlyCellsChange C.cells C.with_cells self.old self.new }
     {
-        let shape = self.shape();
-        let len = self.buf.as_slice().len();
-        map_pixels(self.buf.stretch_mut(0, len), shape, &f);
+        let (cells, shape) = self.all_parts_mut();
+        map_pixels(cells, shape, &f);
     }
 }
 
@@ -146,8 +144,8 @@ impl<C: AsMutSlice> Img<C> {
     ///
     /// Once the borrow ends, the pixels are what was last written, and everything else is as
     /// before. The contract of `exact_pixels_mut`, which returns the same cursor, says so. A caller
-    /// with a generated proof learns from this call only that the size, the stride and the number
-    /// of cells stay, so that the image fits.
+    /// with a generated proof learns less from this call: the size, the stride and the number of
+    /// cells stay, so the image fits.
     ///
     /// # Requires
     ///

@@ -74,8 +74,7 @@ impl<C: AsMutSlice> Img<C> {
         ensures countable { length (muts_left result) < 2 ^ 64 }
         ensures wide { All (λ row. length row ≡ width_of self.old) (muts_left result) }
     {
-        let shape = self.shape();
-        let len = self.buf.as_slice().len();
-        RowsIterMut::new(self.buf.stretch_mut(0, len), shape)
+        let (cells, shape) = self.all_parts_mut();
+        RowsIterMut::new(cells, shape)
     }
 }

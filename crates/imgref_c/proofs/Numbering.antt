@@ -19,7 +19,7 @@ pub counted : (width height tile_width tile_height : ℕ) → 0 < tile_width →
     → length (tiles width height tile_width tile_height) ≡ tile_count tile_height height * tile_count tile_width width
 counted width height tile_width tile_height wide high = length-tiles width height tile_width tile_height wide high
 
--- where it stands
+-- where it is
 pub numbered : (width height tile_width tile_height number : ℕ) → 0 < tile_width → 0 < tile_height → number < length (tiles width height tile_width tile_height)
     → Numbered width height tile_width tile_height number (tile_count tile_width width)
 numbered width height tile_width tile_height number wide high below =

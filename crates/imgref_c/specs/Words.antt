@@ -6,6 +6,5 @@ pub use Rattle.image_model.specs.Tiles.{tiles}
 pub use Rattle.image_ops.specs.Mosaic.{mosaic as mosaic_of}
 pub use Rattle.image_shape.specs.Window.{as_window}
 pub use Rattle.imgref_c.specs.Status.{code, is_image as passes, IsImage, image_status, place_status, window_status, copy_status, move_status, pair_status, mosaic_status, tiles_status, tile_status}
-pub use Rattle.imgref_c.specs.Window.{from_c}
 pub use Rattle.imgref_c.specs.Numbering.{Numbered}
 pub use Rattle.imgref_c.specs.Calls.{seen, Writes, Packs, Finds, Gives}

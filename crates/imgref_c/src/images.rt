@@ -1,11 +1,10 @@
 //! What is an image, which windows are inside, and which cells a window has.
 
 ghost use Rattle.std.specs.Prelude.{◌≡◌, ◌↔◌, ◌≤◌, ◌<◌, ◌^◌, IsTrue};
-ghost use Rattle.imgref_c.specs.Words.{code, exact_stretch, from_c, passes, window_status, Finds, IsImage, IsInside};
+ghost use Rattle.imgref_c.specs.Words.{as_window, code, exact_stretch, passes, window_status, Finds, IsImage, IsInside};
 
 use crate::status::Status;
-use crate::window::ImgrefWindow;
-use image_shape::Shape;
+use image_shape::{Shape, Window};
 
 /// The width, the height and the stride that a caller in C claims for an image.
 #[derive(Clone, Copy)]
@@ -37,14 +36,10 @@ impl ClaimedShape {
         ensures value { result ≡ passes len self.width self.height self.stride }
         ensures means { IsTrue result ↔ IsImage len self.width self.height self.stride }
     {
-        let greatest = u32::MAX as usize;
-        if self.stride == 0 || self.width > self.stride {
-            return false;
+        match Shape::checked(self.width, self.height, self.stride) {
+            Some(shape) => shape.fits(len),
+            None => false,
         }
-        if self.width > greatest || self.height > greatest {
-            return false;
-        }
-        self.shape().fits(len)
     }
 
     /// The same as a shape, where the numbers are valid (`is_image` tests them).
@@ -61,8 +56,9 @@ impl ClaimedShape {
     }
 }
 
-/// Whether so many cells are an image of this size and stride: the stride is positive and at least
-/// the width, width and height are below 2^32, and the cells reach the last pixel, if there is one.
+/// Whether so many cells are an image of this size and stride. The stride has to be positive and at
+/// least the width, and width and height below 2^32. The cells have to reach the last pixel, if
+/// there is one.
 #[unsafe(no_mangle)]
 pub extern "C" fn imgref_is_image(len: usize, width: usize, height: usize, stride: usize) -> bool
     ensures { IsTrue result ↔ IsImage len width height stride }
@@ -72,10 +68,10 @@ pub extern "C" fn imgref_is_image(len: usize, width: usize, height: usize, strid
 
 /// Whether a window is inside an image of this size. An empty one at the edge is.
 #[unsafe(no_mangle)]
-pub extern "C" fn imgref_has_window(width: usize, height: usize, window: ImgrefWindow) -> bool
-    ensures { IsTrue result ↔ IsInside width height (from_c window) }
+pub extern "C" fn imgref_has_window(width: usize, height: usize, window: Window) -> bool
+    ensures { IsTrue result ↔ IsInside width height (as_window window) }
 {
-    window.as_window().is_inside(width, height)
+    window.is_inside(width, height)
 }
 
 /// Where a window's cells begin among those of the image, and how many there are up to its last
@@ -86,13 +82,13 @@ pub extern "C" fn imgref_window(
     width: usize,
     height: usize,
     stride: usize,
-    window: ImgrefWindow,
+    window: Window,
     start: &mut usize,
     count: &mut usize,
 ) -> u32
-    ensures status { result ≡ code (window_status len width height stride (from_c window)) }
+    ensures status { result ≡ code (window_status len width height stride (as_window window)) }
     ensures finds { Finds result start.old count.old start.new count.new len
-        (exact_stretch stride (from_c window)) }
+        (exact_stretch stride (as_window window)) }
     ensures image { result ≡ 0 → IsImage count.new window.width window.height stride }
 {
     let claimed = ClaimedShape::new(width, height, stride);
@@ -100,7 +96,6 @@ pub extern "C" fn imgref_window(
         return Status::NotAnImage.code();
     }
     let shape = claimed.shape();
-    let window = window.as_window();
     if !shape.has_window(window) {
         return Status::WindowOutside.code();
     }

@@ -4,7 +4,6 @@ ghost use Rattle.std.specs.Prelude.{◌≡◌, ◌==◌, ◌↔◌, IsTrue, leng
 ghost use Rattle.imgref_c.specs.Words.{as_window, code, copy_status, grid_of, layout, pair_status, Agree, Gives, Writes};
 
 use crate::images::ClaimedShape;
-use crate::parts::copy_part;
 use crate::status::Status;
 use image_shape::Window;
 use imgref::ImgRef;
@@ -34,7 +33,7 @@ pub(crate) fn copy_window<T: Copy>(
     if window.width != claimed_source.width || window.height != claimed_source.height {
         return Status::SizesDiffer;
     }
-    copy_part(cells, shape, window, source, claimed_source.shape());
+    image_ops::copy_window(cells, shape, window, source, claimed_source.shape());
     Status::Done
 }
 

@@ -4,8 +4,8 @@ ghost use Rattle.std.specs.Prelude.{◌≡◌, length, Some};
 ghost use Rattle.imgref_c.specs.Words.{code, grid_of, layout, place_status, uniform, Gives, Writes};
 
 use crate::images::ClaimedShape;
-use crate::parts::fill_part;
 use crate::status::Status;
+use image_ops::fill_window;
 use image_shape::Window;
 use imgref::ImgRef;
 
@@ -50,11 +50,7 @@ pub(crate) fn put<T: Copy>(
     if place.0 >= claimed.width || place.1 >= claimed.height {
         return Status::PlaceOutside;
     }
-    fill_part(
-        cells,
-        claimed.shape(),
-        Window::new(place.0, place.1, 1, 1),
-        value,
-    );
+    let pixel = Window::new(place.0, place.1, 1, 1);
+    fill_window(cells, claimed.shape(), pixel, value);
     Status::Done
 }

@@ -1,19 +1,18 @@
 //! The tiles of a size, as numbers.
 
 ghost use Rattle.std.specs.Prelude.{◌≡◌, ◌<◌, ◌^◌, length, Some, slice_get};
-ghost use Rattle.imgref_c.specs.Words.{code, from_c, tile_status, tiles, tiles_status, Gives, Numbered};
+ghost use Rattle.imgref_c.specs.Words.{as_window, code, tile_status, tiles, tiles_status, Gives, Numbered};
 
 use crate::status::Status;
-use crate::window::ImgrefWindow;
-use image_shape::{tile_at, tiles_along};
+use image_shape::{Shape, Window, tile_at, tiles_along};
 
 // How many tiles a size has.
 #[tactic(auto, using(crate::proofs::Numbering::count_fits, crate::proofs::Numbering::counted))]
 fn count_of(width: usize, height: usize, tile_width: usize, tile_height: usize) -> usize
     requires width_bound { width < 2 ^ 32 }
     requires height_bound { height < 2 ^ 32 }
-    requires wide { 0 < tile_width }
-    requires high { 0 < tile_height }
+    requires tile_width { 0 < tile_width }
+    requires tile_height { 0 < tile_height }
     ensures { result ≡ length (tiles width height tile_width tile_height) }
 {
     tiles_along(height, tile_height) * tiles_along(width, tile_width)
@@ -27,8 +26,8 @@ fn columns_of(
     tile_height: usize,
     number: usize,
 ) -> usize
-    requires wide { 0 < tile_width }
-    requires high { 0 < tile_height }
+    requires tile_width { 0 < tile_width }
+    requires tile_height { 0 < tile_height }
     requires below { number < length (tiles width height tile_width tile_height) }
     ensures { Numbered width height tile_width tile_height number result }
 {
@@ -42,30 +41,28 @@ fn window_of(
     tile_width: usize,
     tile_height: usize,
     number: usize,
-) -> ImgrefWindow
-    requires wide { 0 < tile_width }
-    requires high { 0 < tile_height }
+) -> Window
+    requires tile_width { 0 < tile_width }
+    requires tile_height { 0 < tile_height }
     requires below { number < length (tiles width height tile_width tile_height) }
-    ensures { slice_get (tiles width height tile_width tile_height) number ≡ Some (from_c result) }
+    ensures { slice_get (tiles width height tile_width tile_height) number ≡ Some (as_window result) }
 {
     let columns = columns_of(width, height, tile_width, tile_height, number);
-    let tile = tile_at(
+    tile_at(
         width,
         height,
         tile_width,
         tile_height,
         number % columns,
         number / columns,
-    );
-    ImgrefWindow::from_window(tile)
+    )
 }
 
 // Whether this is the size of an image, and a tile has a pixel.
 fn tested(width: usize, height: usize, tile_width: usize, tile_height: usize) -> Status
     ensures { result ≡ tiles_status width height tile_width tile_height }
 {
-    let greatest = u32::MAX as usize;
-    if width > greatest || height > greatest {
+    if Shape::checked(width, height, width.max(1)).is_none() {
         return Status::NotAnImage;
     }
     if tile_width == 0 || tile_height == 0 {
@@ -103,11 +100,11 @@ pub extern "C" fn imgref_tile(
     tile_width: usize,
     tile_height: usize,
     number: usize,
-    window: &mut ImgrefWindow,
+    window: &mut Window,
 ) -> u32
     ensures status { result ≡ code (tile_status width height tile_width tile_height number) }
     ensures gives { Gives result window.old window.new
-        (slice_get (tiles width height tile_width tile_height) number ≡ Some (from_c window.new)) }
+        (slice_get (tiles width height tile_width tile_height) number ≡ Some (as_window window.new)) }
 {
     let status = tested(width, height, tile_width, tile_height);
     if status != Status::Done {

@@ -4,11 +4,11 @@
 //! two, four and eight bytes are copies of this one, which `make exports` writes.
 
 ghost use Rattle.std.specs.Prelude.{◌≡◌, ◌==◌, ◌↔◌, IsTrue, length, Some};
-ghost use Rattle.imgref_c.specs.Words.{code, copy_status, from_c, grid_of, image_status, layout, mosaic_of, mosaic_status, move_status, pair_status, place_status, seen, uniform, window_status, Agree, Gives, Packs, Writes};
+ghost use Rattle.imgref_c.specs.Words.{as_window, code, copy_status, grid_of, image_status, layout, mosaic_of, mosaic_status, move_status, pair_status, place_status, seen, uniform, window_status, Agree, Gives, Packs, Writes};
 
 use crate::images::ClaimedShape;
-use crate::window::ImgrefWindow;
 use crate::{packing, pairs, places, windows};
+use image_shape::Window;
 
 /// Writes the pixel in column `x` of row `y` to `pixel`.
 #[unsafe(no_mangle)]
@@ -54,16 +54,16 @@ pub extern "C" fn imgref_u8_fill_window(
     width: usize,
     height: usize,
     stride: usize,
-    window: ImgrefWindow,
+    window: Window,
     value: u8,
 ) -> u32
     ensures status { result
-        ≡ code (window_status (length cells.old) width height stride (from_c window)) }
+        ≡ code (window_status (length cells.old) width height stride (as_window window)) }
     ensures writes { Writes result width height stride cells.old cells.new window.left window.top
         (uniform window.width window.height value) }
 {
     let claimed = ClaimedShape::new(width, height, stride);
-    windows::fill_window(cells, claimed, window.as_window(), value).code()
+    windows::fill_window(cells, claimed, window, value).code()
 }
 
 /// Each tile of the window, from its corner on, gets the old pixel at the tile's corner.
@@ -73,17 +73,17 @@ pub extern "C" fn imgref_u8_mosaic(
     width: usize,
     height: usize,
     stride: usize,
-    window: ImgrefWindow,
+    window: Window,
     tile_width: usize,
     tile_height: usize,
 ) -> u32
     ensures status { result ≡ code (mosaic_status (length cells.old) width height stride
-        (from_c window) tile_width tile_height) }
+        (as_window window) tile_width tile_height) }
     ensures writes { Writes result width height stride cells.old cells.new window.left window.top
-        (mosaic_of tile_width tile_height (seen width height stride cells.old (from_c window))) }
+        (mosaic_of tile_width tile_height (seen width height stride cells.old (as_window window))) }
 {
     let claimed = ClaimedShape::new(width, height, stride);
-    windows::mosaic(cells, claimed, window.as_window(), tile_width, tile_height).code()
+    windows::mosaic(cells, claimed, window, tile_width, tile_height).code()
 }
 
 /// The window `to` gets the pixels that the window `from` had; the two may overlap.
@@ -93,16 +93,16 @@ pub extern "C" fn imgref_u8_move_window(
     width: usize,
     height: usize,
     stride: usize,
-    from: ImgrefWindow,
-    to: ImgrefWindow,
+    from: Window,
+    to: Window,
 ) -> u32
     ensures status { result
-        ≡ code (move_status (length cells.old) width height stride (from_c from) (from_c to)) }
+        ≡ code (move_status (length cells.old) width height stride (as_window from) (as_window to)) }
     ensures writes { Writes result width height stride cells.old cells.new to.left to.top
-        (seen width height stride cells.old (from_c from)) }
+        (seen width height stride cells.old (as_window from)) }
 {
     let claimed = ClaimedShape::new(width, height, stride);
-    windows::move_window(cells, claimed, from.as_window(), to.as_window()).code()
+    windows::move_window(cells, claimed, from, to).code()
 }
 
 /// The window gets the pixels of `source`, which has its size.
@@ -112,20 +112,20 @@ pub extern "C" fn imgref_u8_copy_window(
     width: usize,
     height: usize,
     stride: usize,
-    window: ImgrefWindow,
+    window: Window,
     source: &[u8],
     source_width: usize,
     source_height: usize,
     source_stride: usize,
 ) -> u32
     ensures status { result ≡ code (copy_status (length cells.old) width height stride
-        (from_c window) (length source.now) source_width source_height source_stride) }
+        (as_window window) (length source.now) source_width source_height source_stride) }
     ensures writes { Writes result width height stride cells.old cells.new window.left window.top
         (grid_of (layout source.now source_width source_height source_stride)) }
 {
     let claimed = ClaimedShape::new(width, height, stride);
     let claimed_source = ClaimedShape::new(source_width, source_height, source_stride);
-    pairs::copy_window(cells, claimed, source, claimed_source, window.as_window()).code()
+    pairs::copy_window(cells, claimed, source, claimed_source, window).code()
 }
 
 /// Writes to `equal` whether two images have the same size and equal pixels at every place.

@@ -4,9 +4,8 @@ ghost use Rattle.std.specs.Prelude.{◌≡◌, length};
 ghost use Rattle.imgref_c.specs.Words.{as_window, code, mosaic_of, mosaic_status, move_status, seen, uniform, window_status, Writes};
 
 use crate::images::ClaimedShape;
-use crate::parts::{fill_part, mosaic_part};
 use crate::status::Status;
-use image_ops::move_pixels;
+use image_ops::{mosaic_window, move_pixels};
 use image_shape::Window;
 
 // Every pixel of the window becomes `value`.
@@ -28,7 +27,7 @@ pub(crate) fn fill_window<T: Copy>(
     if !shape.has_window(window) {
         return Status::WindowOutside;
     }
-    fill_part(cells, shape, window, value);
+    image_ops::fill_window(cells, shape, window, value);
     Status::Done
 }
 
@@ -56,7 +55,7 @@ pub(crate) fn mosaic<T: Copy>(
     if tile_width == 0 || tile_height == 0 {
         return Status::NoTile;
     }
-    mosaic_part(cells, shape, window, tile_width, tile_height);
+    mosaic_window(cells, shape, window, tile_width, tile_height);
     Status::Done
 }
 

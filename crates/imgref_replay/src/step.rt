@@ -12,7 +12,6 @@ ghost use Rattle.imgref_replay.specs.Step.{IsInsideOf, first_fault, IsStep};
 ghost use Rattle.imgref_replay.specs.Run.{IsRun};
 
 use crate::copy::copy_between;
-use crate::mosaic::mosaic_window;
 use crate::path::path_window;
 use image_commands::{Command, Place, Refusal, Reply};
 use imgref::{ImgRef, ImgVec, Window};
@@ -223,7 +222,7 @@ fn mosaic<T: Copy + Eq>(
     if tile_width == 0 || tile_height == 0 {
         return Err(Refusal::NoTile);
     }
-    mosaic_window(&mut images[spot.image], window, tile_width, tile_height);
+    images[spot.image].mosaic_inside(window, tile_width, tile_height);
     Ok(Reply::Done)
 }
 

@@ -16,7 +16,7 @@ use imgref::{AsMutSlice, Img};
 // The bands of an image.
 fn bands_of<'a, C: AsMutSlice>(image: &'a mut Img<C>, band_height: usize) -> BandsMut<'a, C::Item>
     requires fits { Fits (layout_by C.cells image.old) }
-    requires high { 0 < band_height }
+    requires band_height { 0 < band_height }
     ensures* lent { sem 𝓛 (follows (the_row C.row) (Array C.Item.row 0) image.entry.ghost_name
         (bands_name result) (with_all C.cells C.with_cells image.old)) }
     ensures cells { cells_left result ≡ C.cells (buf_of image.old) }
@@ -32,7 +32,7 @@ fn cover_band<'a, C: AsMutSlice>(image: &'a mut Img<C>, band_height: usize, valu
 where
     C::Item: Copy + 'a,
     requires fits { Fits (layout_by C.cells image.old) }
-    requires high { 0 < band_height }
+    requires band_height { 0 < band_height }
     ensures { HasFirstBand (layout_by C.cells image.old) band_height value
         (layout_by C.cells image.new) }
 {
@@ -53,7 +53,7 @@ pub fn fill_first_band<'a, C: AsMutSlice>(image: &'a mut Img<C>, band_height: us
 where
     C::Item: Copy + 'a,
     requires fits { Fits (layout_by C.cells image.old) }
-    requires high { 0 < band_height }
+    requires band_height { 0 < band_height }
     ensures grid { grid_by C.cells image.new ≡ patch (grid_by C.cells image.old) 0 0
         (uniform (width_of image.old) (min band_height (height_of image.old)) value) }
     ensures outside { SameOutside (layout_by C.cells image.old) (layout_by C.cells image.new) }

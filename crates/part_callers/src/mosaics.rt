@@ -49,8 +49,8 @@ fn mosaic_of<'a, T: Copy>(
     tile_height: usize,
 ) -> ImgRefMut<'a, T>
     requires fits { Fits (mut_layout img) }
-    requires wide { 0 < tile_width }
-    requires high { 0 < tile_height }
+    requires tile_width { 0 < tile_width }
+    requires tile_height { 0 < tile_height }
     ensures same_reference { (buf_of result).ghost_name ≡ (buf_of img.entry).ghost_name }
     ensures grid { grid_of (mut_layout result)
         ≡ mosaic tile_width tile_height (grid_of (mut_layout img.entry)) }
@@ -69,8 +69,8 @@ fn into_mosaic<T: Copy>(
     tile_height: usize,
 ) -> &mut [T]
     requires fits { Fits (shaped cells.old shape) }
-    requires wide { 0 < tile_width }
-    requires high { 0 < tile_height }
+    requires tile_width { 0 < tile_width }
+    requires tile_height { 0 < tile_height }
     ensures same_reference { result.ghost_name ≡ cells.entry.ghost_name }
     ensures grid { grid_of (shaped result.now shape)
         ≡ mosaic tile_width tile_height (grid_of (shaped cells.old shape)) }
@@ -93,8 +93,8 @@ pub fn mosaic_by_tiles<T: Copy>(
     tile_height: usize,
 )
     requires fits { Fits (shaped cells.old shape) }
-    requires wide { 0 < tile_width }
-    requires high { 0 < tile_height }
+    requires tile_width { 0 < tile_width }
+    requires tile_height { 0 < tile_height }
     ensures grid { grid_of (shaped cells.new shape)
         ≡ mosaic tile_width tile_height (grid_of (shaped cells.old shape)) }
     ensures outside { SameOutside (shaped cells.old shape) (shaped cells.new shape) }

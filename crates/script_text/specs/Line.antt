@@ -14,7 +14,7 @@ use Rattle.text_model.specs.Fields.{IsWord, IsPixel}
 use Rattle.script_text.specs.declared.line.Line.{Line}
 use Rattle.script_text.specs.declared.line.Line.TheVariants.{Image, Command as Ordered}
 
--- ---- what stands after a command's word
+-- ---- what follows a command's word
 
 -- a number, a pixel, or the number of an image with a path
 pub data Kind : Type 0 where
@@ -47,7 +47,7 @@ IsArgument (place image path) = IsWord image × IsPath path
 
 -- ---- commands
 
--- a command as its word and what stands after it
+-- a command as its word and what follows it
 pub record Order : Type 0 where
   pub word : List ℕ
   pub arguments : List Argument
@@ -93,7 +93,7 @@ forms =
 abbrev pub form_of : List ℕ → Option Form
 form_of word = find (λ f. bytes_eq word f.word) forms
 
--- what stands after this word
+-- what follows this word
 abbrev pub kinds_of : List ℕ → Option (List Kind)
 kinds_of word = option_map (λ f. f.kinds) (form_of word)
 
@@ -139,7 +139,7 @@ abbrev pub entry_of : Line → Entry
 entry_of (Image i) = image_line (vec_layout i)
 entry_of (Ordered c) = order_line (order_of c)
 
--- its fields: the word, and then the sizes and all cells of an image, or what stands after the word of a command
+-- its fields: the word, and then the sizes and all cells of an image, or what follows the word of a command
 abbrev pub entry_fields : Entry → List (List ℕ)
 entry_fields (image_line i) = sizes_fields i ++ map decimal i.cells
 entry_fields (order_line o) = o.word ∷ flat_map argument_fields o.arguments

@@ -30,7 +30,7 @@ path_of field = if bytes_eq field (45 ∷ []) then Some [] else each_of window_o
 abbrev pub path_at : List (List ℕ) → Option (List Window × List (List ℕ))
 path_at parts = first_of_parts path_of parts
 
--- ---- what stands after a word
+-- ---- what follows a word
 
 -- an image's number and a path, and the fields after them
 unfoldable pub place_at : List (List ℕ) → Option (Argument × List (List ℕ))

@@ -21,8 +21,8 @@ pub(crate) fn read_each<T: Field>(
     ensures { Gives (λ values. values.items) result (each_of T.reading (parts_left parts.old)) }
 {
     let mut values = Vec::with_capacity(alloc, room)?;
-    while let Some(part) = parts.next_part() {
-        let Some(value) = T::read(part) else {
+    while !parts.is_done() {
+        let Some(value) = texts::next(parts) else {
             return Err(LineFault::Bad);
         };
         values.push(value)?;

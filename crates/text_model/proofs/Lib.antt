@@ -3,3 +3,4 @@ pub mod FieldNumbers
 pub mod PartsCut
 pub mod PartsJoined
 pub mod FieldTexts
+pub mod ShortNumbers

@@ -1,4 +1,4 @@
--- Bytes that are cut where a byte first stands.
+-- Bytes that are cut where a byte first occurs.
 use Rattle.std.proofs.Common.{◌≡◌, ℕ, ◌+◌, ◌-◌, ◌≤◌, Bool, true, false, cond, not, suc, List, [], ◌∷◌, length, take, drop, Some, None, refl, ap, arith}
 use Rattle.std.specs.List.{slice_split, position, position_or_len, onto_first}
 use Rattle.std.proofs.lemmas.List.{take_rest}

@@ -4,7 +4,7 @@ ghost use Rattle.std.specs.Prelude.{◌≡◌, ◌≢◌, ◌≤◌, ◌-◌, �
 ghost use Rattle.text_model.specs.Reading.{Finds, digits_of, number_of, pixel_of, window_of, first_of_parts};
 ghost use Rattle.texts.specs.Parts.{parts_left};
 
-use crate::parts::Parts;
+use crate::parts::{Parts, value};
 use image_shape::Window;
 
 /// A value that one piece of text denotes.
@@ -14,6 +14,15 @@ pub trait Field: Copy {
 
     fn read(piece: &[u8]) -> Option<Self>
         ensures { result ≡ reading piece.now };
+
+    // The value that the next part denotes.
+    #[tactic(auto, unfolding(text_model::specs::Reading::first_of_parts))]
+    fn next(parts: &mut Parts<'_>) -> Option<Self>
+        ensures { Finds (λ x. (x, parts_left parts.new)) result
+            (first_of_parts reading (parts_left parts.old)) }
+    {
+        Self::read(parts.next_part()?)
+    }
 }
 
 /// A number: each has one text, without a sign and without leading zeros.
@@ -25,6 +34,14 @@ impl Field for usize {
         match piece {
             [b'0', _, ..] | [b'+', ..] => None,
             _ => digits(piece),
+        }
+    }
+
+    #[tactic(auto, unfolding(text_model::specs::Reading::first_of_parts))]
+    fn next(parts: &mut Parts<'_>) -> Option<usize> {
+        match parts.next_short() {
+            Some(number) => Some(number),
+            None => Self::read(parts.next_part()?),
         }
     }
 }
@@ -46,16 +63,6 @@ fn digits(piece: &[u8]) -> Option<usize>
     }
 }
 
-// The value of a digit.
-fn value(digit: u8) -> usize
-    requires low { 48 ≤ digit }
-    requires high { digit ≤ 57 }
-    ensures value { result ≡ digit - 48 }
-    ensures small { result ≤ 9 }
-{
-    (digit - b'0') as usize
-}
-
 // The same of any number of digits.
 fn any_digits(piece: &[u8]) -> Option<usize>
     requires { slice_index piece.now 0 ≢ 43 }
@@ -74,6 +81,11 @@ impl Field for u8 {
     #[tactic(auto, unfolding(text_model::specs::Reading::pixel_of))]
     fn read(piece: &[u8]) -> Option<u8> {
         u8::try_from(usize::read(piece)?).ok()
+    }
+
+    #[tactic(auto, unfolding(text_model::specs::Reading::first_of_parts, text_model::specs::Reading::pixel_of))]
+    fn next(parts: &mut Parts<'_>) -> Option<u8> {
+        u8::try_from(usize::next(parts)?).ok()
     }
 }
 
@@ -94,10 +106,9 @@ impl Field for Window {
 }
 
 /// The value that the next part denotes.
-#[tactic(auto, unfolding(text_model::specs::Reading::first_of_parts))]
 pub fn next<T: Field>(parts: &mut Parts<'_>) -> Option<T>
     ensures { Finds (λ x. (x, parts_left parts.new)) result
         (first_of_parts T.reading (parts_left parts.old)) }
 {
-    T::read(parts.next_part()?)
+    T::next(parts)
 }

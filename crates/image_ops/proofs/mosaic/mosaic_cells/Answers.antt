@@ -32,7 +32,7 @@ loop-y-preserved g c =
       | goal.else-y-tile_height-eq0 w ↦
           let later : 0 < y % th = omega (arith, w.if-y-tile_height-eq0.false) in
           let above = w.row_above in
-          rw (w.cells-is, w.repeat_row.ensures) (row_repeated old s tw th c.loop-y.cells y c.loop-y.invariant c.requires.fits below above.result row.result c.requires.high later above.ensures.start (above.ensures.len ∙ row.ensures.len) row.ensures.start)
+          rw (w.cells-is, w.repeat_row.ensures) (row_repeated old s tw th c.loop-y.cells y c.loop-y.invariant c.requires.fits below above.result row.result c.requires.tile_height later above.ensures.start (above.ensures.len ∙ row.ensures.len) row.ensures.start)
     ]
 
 pub returns-clause-grid : goal.returns-clause-grid

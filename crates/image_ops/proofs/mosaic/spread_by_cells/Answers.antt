@@ -7,7 +7,7 @@ use Rattle.image_ops.proofs.mosaic.spread_by_cells.Goals as goal
 
 pub loop-x-preserved : goal.loop-x-preserved
 loop-x-preserved g c =
-    let some = c.requires.wide in
+    let some = c.requires.tile_width in
     let old = c.args.row.now in
     let now = c.loop-x.row in
     let x = c.loop-x.x in

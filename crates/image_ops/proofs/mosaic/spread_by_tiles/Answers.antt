@@ -22,4 +22,4 @@ loop-corner-preserved g c =
     let many : length (take (corner + len - corner) (drop corner now)) ≡ len = omega (arith, is, below, so.as_many, length-take (corner + len - corner) (drop corner now), length-drop corner now) in
     subst (λ line. SpreadUpto c.args.tile_width old (take corner now ++ (line ++ drop (corner + len - corner) (drop corner now))) (corner + len) (corner + len))
     (sym (c.fill_cells.ensures ∙ ap (λ n. replicate n pixel) many))
-    (one_tile_more c.args.tile_width c.requires.wide old now corner len pixel so shows below (omega (arith, is)) (omega (arith, is, below, so.as_many)) ends)
+    (one_tile_more c.args.tile_width c.requires.tile_width old now corner len pixel so shows below (omega (arith, is)) (omega (arith, is, below, so.as_many)) ends)

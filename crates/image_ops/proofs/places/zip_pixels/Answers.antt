@@ -1,12 +1,12 @@
 -- The rows so far are answers, and nothing else has changed.
-use Rattle.std.proofs.Common.{◌≡◌, ◌+◌, ◌*◌, ◌<◌, ◌∙◌, ap, sym, arith, rules, Some}
+use Rattle.std.proofs.Common.{◌≡◌, ◌+◌, ◌<◌, ◌∙◌, ap, sym, arith, rules, Some}
 use Rattle.std.specs.List.{slice_get}
 use Rattle.image_model.specs.Layout.{pixel}
 use Rattle.image_model.specs.Rows.{row_count}
 use Rattle.image_shape.specs.Shape.{shaped}
 use Rattle.image_model.proofs.ByPlace.{is_zipped}
 use Rattle.image_model.proofs.Rows.{row_count-le, row_pixel}
-use Rattle.image_ops.proofs.PlaceAnswers.{cell_of_row, row_answers_at, IsAnswerAt}
+use Rattle.image_ops.proofs.PlaceAnswers.{cell_of_row}
 use Rattle.image_ops.proofs.Elements.{in_row, row_element}
 use Rattle.image_ops.proofs.RowsWritten.{row_written, row_length, all_right}
 use Rattle.image_ops.proofs.places.zip_pixels.Goals as goal

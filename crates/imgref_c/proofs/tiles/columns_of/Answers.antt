@@ -9,4 +9,4 @@ returns c =
     let a = c.args in
     let r = c.requires in
     let stands : ℕ → Type 0 = λ columns. Numbered a.width a.height a.tile_width a.tile_height a.number columns in
-    subst stands (sym c.tiles_along.ensures.value) (numbered a.width a.height a.tile_width a.tile_height a.number r.wide r.high r.below)
+    subst stands (sym c.tiles_along.ensures.value) (numbered a.width a.height a.tile_width a.tile_height a.number r.tile_width r.tile_height r.below)

@@ -10,6 +10,6 @@ invariant-loop-input g l = record {
   unfailing : failures_of l.reader ≡ failures_of l.initial.reader;
 }
 
--- each turn adds a byte, and a length has an end
+-- each iteration adds a byte, and a length has an end
 abbrev pub decreases-loop-input : goal.decreases-loop-input
 decreases-loop-input g l = 2 ^ 64 - vec_len l.input

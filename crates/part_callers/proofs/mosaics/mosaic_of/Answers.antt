@@ -22,4 +22,4 @@ returns-clause-grid g c =
     ∙ c.flatten_rest.ensures.grid
     ∙ ap (λ (j : Img (MutBor (List g.row.T.Denot))). all_flattened (grid_of (mut_layout j)) (windows_left (tiling_of made.result))) made.ensures.image
     ∙ ap (all_flattened (grid_of (mut_layout i))) (sym (all_left made.result fits) ∙ made.ensures.left)
-    ∙ mosaic_is (width_of i) (height_of i) c.args.tile_width c.args.tile_height c.requires.wide c.requires.high (pixel (mut_layout i))
+    ∙ mosaic_is (width_of i) (height_of i) c.args.tile_width c.args.tile_height c.requires.tile_width c.requires.tile_height (pixel (mut_layout i))

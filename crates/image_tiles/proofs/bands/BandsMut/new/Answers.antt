@@ -15,13 +15,13 @@ returns-clause-bands g c = search rules
 
 pub returns-clause-fit : goal.returns-clause-fit
 returns-clause-fit g c =
-    subst (λ (ls : List (Layout g.row.T.Denot)). All Fits ls) (sym (returns-clause-bands g c)) (bands_fit (mut_layout c.args.img) c.args.band_height c.requires.fits c.requires.high)
+    subst (λ (ls : List (Layout g.row.T.Denot)). All Fits ls) (sym (returns-clause-bands g c)) (bands_fit (mut_layout c.args.img) c.args.band_height c.requires.fits c.requires.band_height)
 
 pub returns-clause-views : goal.returns-clause-views
-returns-clause-views g c = ap (λ (ls : List (Layout g.row.T.Denot)). map grid_of ls) (returns-clause-bands g c) ∙ bands_show (mut_layout c.args.img) c.args.band_height c.requires.fits c.requires.high
+returns-clause-views g c = ap (λ (ls : List (Layout g.row.T.Denot)). map grid_of ls) (returns-clause-bands g c) ∙ bands_show (mut_layout c.args.img) c.args.band_height c.requires.fits c.requires.band_height
 
 pub returns-clause-inside : goal.returns-clause-inside
-returns-clause-inside g c = bands_inside (width_of c.args.img) (height_of c.args.img) c.args.band_height c.requires.high
+returns-clause-inside g c = bands_inside (width_of c.args.img) (height_of c.args.img) c.args.band_height c.requires.band_height
 
 pub returns-clause-each_once : goal.returns-clause-each_once
-returns-clause-each_once g c = bands_cover (width_of c.args.img) (height_of c.args.img) c.args.band_height c.requires.high
+returns-clause-each_once g c = bands_cover (width_of c.args.img) (height_of c.args.img) c.args.band_height c.requires.band_height

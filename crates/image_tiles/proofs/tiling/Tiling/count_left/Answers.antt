@@ -1,4 +1,4 @@
--- As many are left as stand from the next one on in its tile row, and in the tile rows below.
+-- As many are left as there are from the next one on in its tile row, and in the tile rows below.
 use Rattle.std.proofs.Common.{rules}
 use Rattle.std.proofs.lemmas.Bool.Decides.{nat_tests}
 use Rattle.image_tiles.proofs.Tilings.{counted, sum_is, sum_past}

@@ -1,0 +1,133 @@
+"""The tab 'Picture' in a browser: keys, undo, and files that reveal nothing of what is covered."""
+import frames
+from browser import png
+from browser.picture import HEIGHT, PIXELS, WIDTH, by_model
+
+# Edits, a rectangle of which nothing may be seen, and one of which something is.
+HIDDEN = (
+    ("fill 10,8,20,12 0", (10, 8, 20, 12), (30, 8, 1, 1)),
+    ("fill 10,8,20,12 9,8,7", (10, 8, 20, 12), (9, 19, 1, 1)),
+    ("mosaic 8,8,32,16 8,8", (9, 9, 7, 7), (16, 8, 1, 1)),
+    ("crop 30,0,30,40", (0, 0, 30, 40), (30, 39, 1, 1)),
+    ("fill 4,4,8,8 1\nmove 0,0,20,20 30,15", (4, 4, 8, 8), (3, 4, 1, 1)),
+    ("move 40,0,20,20 0,0", (0, 0, 20, 20), (40, 0, 1, 1)),
+    ("fill 4,4,8,8 1\npad 1,1,1,1 7", (4, 4, 8, 8), (12, 11, 1, 1)),
+)
+
+
+def check_keys(page):
+    """The same by keys alone."""
+    page.open()
+    page.choose("fill")
+    page.browser.run("document.getElementById('add').focus()")
+    page.browser.press("Enter")
+    page.count("a rectangle is added in the middle", page.list() == "fill 22,15,15,10 0\n")
+    page.count(
+        "it has the keys",
+        page.browser.run(
+            "return document.activeElement.getAttribute('aria-label')"
+        ) == "fill 22,15,15,10 0, rectangle 1"
+    )
+    earlier = []
+    for keys, text in ((("Right",), "23,15,15,10"), (("Down",), "23,16,15,10"), (
+        ("Left",), "22,16,15,10"
+    ), (("Up",), "22,15,15,10"),
+                       (("Control", "Right"), "32,15,15,10"), (("Shift", "Right"), "32,15,16,10"), (
+                           ("Shift", "Up"), "32,15,16,9"
+                       ),
+                       (("Control", "Shift", "Down"), "32,15,16,19"), (
+                           ("Control", "Left"), "22,15,16,19"
+                       )):
+        earlier.append(page.list())
+        page.browser.press(*keys)
+        page.count(f"{'+'.join(keys)} gives {text}", page.list() == f"fill {text} 0\n")
+    page.count("it is saved", png.ppm_of(page.save()) == by_model("fill 22,15,16,19 0".split()))
+    page.browser.press("Control", "z")
+    page.count("Ctrl+Z takes keys back that were pressed together", page.list() in earlier)
+    page.browser.press("Control", "y")
+    page.count("Ctrl+Y brings it again", page.list() == "fill 22,15,16,19 0\n")
+    page.browser.run("document.querySelector('#overlay g').focus()")
+    page.browser.press("Delete")
+    page.count("Delete removes it", page.list() == "")
+    page.browser.press("Control", "z")
+    page.count("and Ctrl+Z brings it again", page.list() == "fill 22,15,16,19 0\n")
+    page.browser.press("Control", "Shift", "z")
+    page.count("and Ctrl+Shift+Z removes it again", page.list() == "")
+    order = []
+    page.browser.run(
+        "document.activeElement.blur(); window.scrollTo(0, 0);"
+        "document.getElementById('picture-tab').focus()"
+    )
+    for _ in range(8):
+        page.browser.press("Tab")
+        order.append(
+            page.browser.run(
+                "const it = document.activeElement; return it.id || it.value || it.tagName"
+            )
+        )
+    page.count(
+        "Tab goes from the tools to the list",
+        order[:6] == ["picture", "open", "undo", "save", "actual", "fill"] or order[:5] == [
+            "open", "undo", "save", "actual", "fill"
+        ],
+        order
+    )
+
+
+def check_undo(page):
+    """Undo gives each earlier picture exactly, and redo each later one."""
+    page.open()
+    texts = [
+        "fill 1,1,30,20 9", "fill 1,1,30,20 9\nmosaic 5,5,40,30 6,6", "mosaic 5,5,40,30 6,6",
+        "mosaic 5,5,40,30 6,6\nmove 0,0,30,30 20,7", "move 0,0,30,30 20,7",
+        "fill 1,1,3,3 4\nmove 0,0,30,30 20,7\ncrop 0,0,9,9"
+    ]
+    seen = [page.shown()]
+    for it in texts:
+        page.apply(it)
+        seen.append(page.shown())
+    page.count(
+        "each list shows another picture, except the crop", len(set(seen[:-1])) == len(seen) - 1
+    )
+    for at in range(len(texts) - 1, -1, -1):
+        page.browser.run("document.getElementById('undo').click()")
+        page.count(
+            f"undo to list {at}",
+            page.shown() == seen[at] and page.list() == (f"{texts[at - 1]}\n" if at else "")
+        )
+    page.count(
+        "nothing is left to undo",
+        page.browser.run("return document.getElementById('undo').disabled")
+    )
+    page.count(
+        "all undone is the picture itself",
+        png.ppm_of(page.save()) == png.ppm(WIDTH, HEIGHT, PIXELS)
+    )
+    for at, it in enumerate(texts, 1):
+        page.browser.run("document.getElementById('redo').click()")
+        page.count(f"redo to list {at}", page.shown() == seen[at] and page.list() == f"{it}\n")
+    page.browser.run("document.getElementById('undo').click()")
+    page.apply("fill 0,0,1,1 1")
+    page.count(
+        "a new edit ends what could be redone",
+        page.browser.run("return document.getElementById('redo').disabled")
+    )
+
+
+def exchanged(pixels, window):
+    """Other bytes in a rectangle."""
+    left, top, width, height = window
+    return frames.exchanged(pixels, 0, 3 * WIDTH, (3 * left, top, 3 * width, height))
+
+
+def check_hidden(page):
+    """Pictures that differ only in what is covered give the same file, and others don't."""
+    for text, hidden, seen in HIDDEN:
+        saved = []
+        for pixels in (PIXELS, exchanged(PIXELS, hidden), exchanged(PIXELS, seen)):
+            page.open(pixels)
+            page.apply(text)
+            saved.append(page.save())
+        label = text.replace("\n", "; ")
+        page.count(f"{label}: hidden pixels exchanged give the same file", saved[0] == saved[1])
+        page.count(f"{label}: shown pixels exchanged don't", saved[0] != saved[2])

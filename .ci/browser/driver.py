@@ -1,0 +1,219 @@
+"""A browser by its driver, over the WebDriver protocol, and a server that notes each request.
+
+It needs Chromium and its driver (Debian: chromium, chromium-driver), and nothing else.
+"""
+import base64
+import contextlib
+import functools
+import http.server
+import json
+import os
+import pathlib
+import shutil
+import subprocess
+import tempfile
+import threading
+import time
+import urllib.error
+import urllib.request
+
+BROWSERS, DRIVERS = ("chromium", "chromium-browser", "google-chrome"), ("chromedriver",)
+SCRIPTS = pathlib.Path(__file__).resolve().parent / "scripts"
+CHANGE = """const it = document.getElementById(arguments[0]); it.value = arguments[1];
+for (const kind of ["input", "change"]) { it.dispatchEvent(new Event(kind, { bubbles: true })); }"""
+# How long something is waited for, in seconds: the machine may be busy.
+PATIENCE = 60
+ELEMENT = "element-6066-11e4-a52e-4f735466cecf"
+KEYS = {
+    "Tab": "\ue004", "Shift": "\ue008", "Control": "\ue009", "Escape": "\ue00c", "Delete": "\ue017",
+    "Left": "\ue012", "Up": "\ue013", "Right": "\ue014", "Down": "\ue015", "Enter": "\ue007",
+}
+FLAGS = (
+    "--headless=new", "--no-sandbox", "--disable-gpu", "--window-size=1280,1200",
+    "--hide-scrollbars", "--force-device-scale-factor=1", "--disable-background-networking",
+)
+
+
+def found(names):
+    """The first of these programs that is on this machine."""
+    return next(filter(None, map(shutil.which, names)), None)
+
+
+class Browser:
+    """A session of a browser."""
+
+    def __init__(self, driver, program, folder):
+        self.port_file, self.folder = folder / "driver.log", folder
+        self.log = open(self.port_file, "w", encoding="utf-8")
+        self.process = subprocess.Popen(
+            [driver, "--port=0"], stdin=subprocess.DEVNULL, stdout=self.log, stderr=self.log
+        )
+        try:
+            self.base = f"http://127.0.0.1:{until(self.port)}"
+            wanted = {"goog:loggingPrefs": {"performance": "ALL", "browser": "ALL"},
+                      "goog:chromeOptions": {"binary": program, "args": list(FLAGS)}}
+            made = self.ask("POST", "/session", {"capabilities": {"alwaysMatch": wanted}})
+            self.base += f"/session/{made['sessionId']}"
+        except BaseException:
+            self.process.kill()
+            raise
+        self.devtools("Browser.setDownloadBehavior", behavior="allow", downloadPath=str(folder))
+
+    def port(self):
+        """The port that the driver chose, which its log says."""
+        words = self.port_file.read_text().split("successfully on port ")
+        return words[1].split(".")[0] if len(words) > 1 else None
+
+    def end(self):
+        with contextlib.suppress(OSError):
+            self.ask("DELETE", "")
+        self.process.terminate()
+        self.process.wait()
+        self.log.close()
+
+    def ask(self, method, path, body=None):
+        data = None if method != "POST" else json.dumps(body or {}).encode()
+        request = urllib.request.Request(
+            f"{self.base}{path}", data, {"Content-Type": "application/json"}, method=method
+        )
+        try:
+            with urllib.request.urlopen(request, timeout=180) as answer:
+                return json.load(answer)["value"]
+        except urllib.error.HTTPError as why:
+            raise RuntimeError(json.load(why)["value"]["message"]) from None
+
+    def devtools(self, command, **values):
+        return self.ask("POST", "/goog/cdp/execute", {"cmd": command, "params": values})
+
+    def open(self, url):
+        self.ask("POST", "/url", {"url": url})
+
+    def run(self, script, *values):
+        """Runs a script in the page, and returns what it returns."""
+        return self.ask("POST", "/execute/sync", {"script": script, "args": values})
+
+    def script(self, name, *values):
+        """Runs a script of the folder `scripts` in the page, and returns what it returns."""
+        return self.run((SCRIPTS / f"{name}.js").read_text(), *values)
+
+    def wait_for(self, name, *values):
+        """The same of a script that calls its last argument with what it gives."""
+        text = (SCRIPTS / f"{name}.js").read_text()
+        return self.ask("POST", "/execute/async", {"script": text, "args": values})
+
+    def change(self, name, value):
+        """Gives a field another value, as a person does."""
+        self.run(CHANGE, name, value)
+
+    def element(self, selector):
+        return self.ask("POST", "/element", {"using": "css selector", "value": selector})[ELEMENT]
+
+    def click(self, selector):
+        self.ask("POST", f"/element/{self.element(selector)}/click")
+
+    def type(self, selector, text):
+        self.ask("POST", f"/element/{self.element(selector)}/value", {"text": text})
+
+    def press(self, *keys):
+        """Presses one key with those before it held down."""
+        held, key = [KEYS.get(it, it) for it in keys[:-1]], KEYS.get(keys[-1], keys[-1])
+        acts = [{"type": "keyDown", "value": it} for it in (*held, key)]
+        acts += [{"type": "keyUp", "value": it} for it in (key, *reversed(held))]
+        self.ask("POST", "/actions", {"actions": [{"type": "key", "id": "keys", "actions": acts}]})
+
+    def drag(self, *places, kind="mouse"):
+        """Presses at the first place of the window, goes to the others, and lets go."""
+        moves = [
+            {"type": "pointerMove", "duration": 0, "x": round(x), "y": round(y)} for x, y in places
+        ]
+        acts = [
+            moves[0], {"type": "pointerDown", "button": 0}, *moves[1:],
+            {"type": "pointerUp", "button": 0}
+        ]
+        pointer = {
+            "type": "pointer", "id": kind, "parameters": {"pointerType": kind}, "actions": acts
+        }
+        self.ask("POST", "/actions", {"actions": [pointer]})
+
+    def text(self, selector):
+        return self.run("return document.querySelector(arguments[0]).textContent", selector)
+
+    def screenshot(self):
+        return base64.b64decode(self.ask("GET", "/screenshot"))
+
+    def requests(self):
+        """The addresses that the page asked for since the last call, as the browser logged them."""
+        said = [
+            json.loads(it["message"])["message"] for it in self.ask(
+                "POST", "/se/log", {"type": "performance"}
+            )
+        ]
+        return [
+            it["params"]["request"]["url"] for it in said if it[
+                "method"
+            ] == "Network.requestWillBeSent"
+        ]
+
+    def faults(self):
+        """What the browser's console said of errors since the last call."""
+        return [
+            it["message"] for it in self.ask(
+                "POST", "/se/log", {"type": "browser"}
+            ) if it["level"] == "SEVERE"
+        ]
+
+    def saved(self, name):
+        """The bytes of a file that the page saves, and removes it."""
+        path = self.folder / name
+        data = until(lambda: path.exists() and path.read_bytes())
+        path.unlink()
+        return data
+
+
+def until(tells):
+    """What a function gives as soon as it gives something."""
+    ends = time.monotonic() + PATIENCE
+    while time.monotonic() < ends:
+        if value := tells():
+            return value
+        time.sleep(0.02)
+    raise RuntimeError("waited in vain")
+
+
+@contextlib.contextmanager
+def browser():
+    """A browser until the end of the block, or None where this machine lacks one or its driver."""
+    program, driver = found(BROWSERS), found(DRIVERS)
+    if not program or not driver:
+        missing = " and ".join(
+            name for name, it in (("chromium", program), ("chromedriver", driver)) if not it
+        )
+        print(f"browser ({missing}): skipped, it isn't on this machine")
+        yield None
+        return
+    with tempfile.TemporaryDirectory(prefix="browser-", ignore_cleanup_errors=True) as room:
+        made = Browser(driver, program, pathlib.Path(room))
+        try:
+            yield made
+        finally:
+            made.end()
+
+
+@contextlib.contextmanager
+def served(folder):
+    """The address at which a folder is served, and the list of the paths that were asked for."""
+    asked = []
+
+    class Handler(http.server.SimpleHTTPRequestHandler):
+        def log_message(self, *_):
+            asked.append(self.path)
+
+    handler = functools.partial(Handler, directory=os.fspath(folder))
+    with http.server.ThreadingHTTPServer(("127.0.0.1", 0), handler) as server:
+        thread = threading.Thread(target=server.serve_forever, daemon=True)
+        thread.start()
+        try:
+            yield f"http://127.0.0.1:{server.server_port}/", asked
+        finally:
+            server.shutdown()
+            thread.join()

@@ -1,0 +1,45 @@
+// A picture of a street, with a face and a number plate, as a PNG.
+const done = arguments[arguments.length - 1];
+const canvas = Object.assign(document.createElement("canvas"), { width: 960, height: 600 });
+const context = canvas.getContext("2d"), sky = context.createLinearGradient(0, 0, 0, 420);
+const box = (colour, left, top, width, height, radius = 0) => {
+  context.fillStyle = colour;
+  context.beginPath();
+  context.roundRect(left, top, width, height, radius);
+  context.fill();
+};
+const disc = (colour, x, y, radius, from = 0, to = 7) => {
+  context.fillStyle = colour;
+  context.beginPath();
+  context.arc(x, y, radius, from, to);
+  context.fill();
+};
+sky.addColorStop(0, "#7db4e6");
+sky.addColorStop(1, "#f4e3c8");
+box(sky, 0, 0, 960, 600);
+context.fillStyle = "#6f8f5a";
+context.fill(new Path2D("M0 430Q260 300 520 420Q760 500 960 380V600H0Z"));
+box("#8a8f98", 0, 500, 960, 100);
+box("#b33a3a", 430, 400, 430, 110, 24);
+box("#b33a3a", 500, 330, 260, 90, 30);
+box("#cfe3f2", 525, 348, 95, 55);
+box("#cfe3f2", 635, 348, 100, 55);
+disc("#222", 520, 515, 38);
+disc("#222", 770, 515, 38);
+box("#fff", 590, 448, 140, 38);
+context.fillStyle = "#111";
+context.font = "bold 30px sans-serif";
+context.fillText("B 47 KRX", 594, 478);
+box("#3d5a80", 170, 320, 110, 200, 30);
+disc("#e0ac84", 225, 262, 58);
+disc("#4a2f1d", 225, 245, 60, Math.PI, 0);
+disc("#222", 204, 262, 6);
+disc("#222", 246, 262, 6);
+context.strokeStyle = "#8c3b2e";
+context.lineWidth = 4;
+context.beginPath();
+context.arc(225, 280, 22, 0.3, 2.8);
+context.stroke();
+const reader = new FileReader();
+reader.onload = () => done(reader.result.split(",")[1]);
+canvas.toBlob((it) => reader.readAsDataURL(it));

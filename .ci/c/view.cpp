@@ -1,0 +1,153 @@
+// Each call of imgref.hpp, and each refusal. Ends with the line 'N passed, M failed'.
+#include <imgref.hpp>
+
+#include <algorithm>
+#include <array>
+#include <cmath>
+#include <cstdio>
+#include <string>
+#include <vector>
+
+static unsigned passed = 0, failed = 0;
+
+static void check(const char *label, bool is_well) {
+    ++(is_well ? passed : failed);
+    std::printf("%s: %s\n", label, is_well ? "passed" : "FAILED");
+}
+
+// Whether a call is refused with a status.
+template <class Call> static bool is_refused(imgref_status status, Call call) {
+    try {
+        call();
+    } catch (const imgref::refused &why) {
+        return why.status() == status && std::string(why.what()).size() > 3;
+    }
+    return false;
+}
+
+template <class Call> static bool is_invalid(Call call) {
+    try {
+        call();
+    } catch (const imgref::refused &) {
+        return false;
+    } catch (const std::invalid_argument &) {
+        return true;
+    }
+    return false;
+}
+
+struct colour {
+    std::uint8_t red, green, blue, alpha;
+};
+static bool operator==(colour a, colour b) { return a.red == b.red && a.green == b.green && a.blue == b.blue && a.alpha == b.alpha; }
+
+// Each call on pixels of a type: 3 by 2 at stride 4, where the cells 3 and 7 are padding.
+template <class T> static void calls_on(const char *label, std::array<T, 9> pixels, const T &other) {
+    using namespace imgref;
+    const std::array<T, 9> p = pixels;
+    view image(pixels, 3, 2, 4);
+    static_assert(std::is_same_v<decltype(image), view<T>>);
+    bool is_well = image.get(2, 1) == p[6] && image.row(1)[1] == p[5] && image.width() == 3 && image.height() == 2 && image.stride() == 4 && image.size() == 9;
+    image.put(0, 1, other);
+    is_well = is_well && pixels == std::array<T, 9>{p[0], p[1], p[2], p[3], other, p[5], p[6], p[7], p[8]};
+    image.fill({1, 0, 2, 2}, other);
+    is_well = is_well && pixels == std::array<T, 9>{p[0], other, other, p[3], other, other, other, p[7], p[8]};
+    image.move({0, 0, 2, 2}, {1, 0, 2, 2});
+    is_well = is_well && pixels == std::array<T, 9>{p[0], p[0], other, p[3], other, other, other, p[7], p[8]};
+    image.window({1, 0, 2, 2}).mosaic(2, 2);
+    is_well = is_well && pixels == std::array<T, 9>{p[0], p[0], p[0], p[3], other, p[0], p[0], p[7], p[8]};
+    const std::vector<T> source{p[4], p[5], p[6], p[0]};
+    image.copy({1, 0, 2, 2}, view(source, 2, 2));
+    is_well = is_well && pixels == std::array<T, 9>{p[0], p[4], p[5], p[3], other, p[6], p[0], p[7], p[8]};
+    is_well = is_well && image.window({1, 0, 2, 2}) == view(source, 2, 2) && image.window({0, 0, 2, 2}) != view(source, 2, 2);
+    view<const T> reading = image;
+    is_well = is_well && reading == image && reading.get(1, 0) == p[4];
+    image.pack();
+    is_well = is_well && image.stride() == 3 && pixels == std::array<T, 9>{p[0], p[4], p[5], other, p[6], p[0], p[0], p[7], p[8]};
+    image.fill(other);
+    check(label, is_well && std::count(pixels.begin(), pixels.end(), other) >= 6);
+}
+
+static void refusals() {
+    using namespace imgref;
+    std::array<std::uint16_t, 9> pixels{1, 2, 3, 90, 4, 5, 6, 91, 92};
+    const auto before = pixels;
+    view image(pixels, 3, 2, 4);
+    std::vector<std::uint16_t> apart{7, 7, 7, 7};
+    const std::size_t most = static_cast<std::size_t>(-1);
+    check("no image", is_refused(IMGREF_NOT_AN_IMAGE, [&] { view(pixels, 3, 3, 4); }) && is_refused(IMGREF_NOT_AN_IMAGE, [&] { view(pixels, 3, 2, 2); }) &&
+                          is_refused(IMGREF_NOT_AN_IMAGE, [&] { view(pixels, 3, most, most); }));
+    check("no place", is_refused(IMGREF_PLACE_OUTSIDE, [&] { image.get(3, 0); }) && is_refused(IMGREF_PLACE_OUTSIDE, [&] { image.put(0, 2, 7); }) &&
+                          is_refused(IMGREF_PLACE_OUTSIDE, [&] { image.row(2); }));
+    check("no window", is_refused(IMGREF_WINDOW_OUTSIDE, [&] { image.fill({2, 0, 2, 2}, 7); }) && is_refused(IMGREF_WINDOW_OUTSIDE, [&] { image.window({most, 0, 2, 2}); }) &&
+                           is_refused(IMGREF_WINDOW_OUTSIDE, [&] { image.move({0, 0, 1, 1}, {3, 0, 1, 1}); }));
+    check("sizes differ", is_refused(IMGREF_SIZES_DIFFER, [&] { image.copy({0, 0, 1, 1}, view(apart, 2, 2)); }));
+    check("no tile", is_refused(IMGREF_NO_TILE, [&] { image.mosaic(0, 2); }) && is_refused(IMGREF_NO_TILE, [&] { image.tiles(2, 0); }) &&
+                         is_refused(IMGREF_NO_TILE, [&] { image.tiles(2, 2)[2]; }));
+    check("shared memory", is_invalid([&] { image.window({0, 0, 2, 2}).copy(image.window({1, 0, 2, 2})); }));
+    check("misaligned pixels", is_invalid([&] { view(reinterpret_cast<std::uint16_t *>(reinterpret_cast<char *>(pixels.data()) + 1), 2, 1, 1, 1); }));
+    check("no pixels", is_invalid([&] { view(static_cast<std::uint16_t *>(nullptr), 2, 1, 1, 1); }));
+    check("nothing has changed", pixels == before);
+}
+
+static void empty_images() {
+    using namespace imgref;
+    std::vector<double> none;
+    view image(none, 0, 7);
+    image.fill(1.5);
+    image.mosaic(2, 2);
+    image.pack();
+    check("an image of no pixel", image.empty() && image == view(none, 0, 7) && image != view(none, 7, 0) && image.stride() == 1 && image.tiles(2, 2).size() == 0);
+    std::array<double, 6> pixels{};
+    check("an empty window", view(pixels, 3, 2).window({3, 2, 0, 0}).empty() && view(pixels, 3, 2).window({1, 1, 0, 1}).row(0) == pixels.data());
+    const double zero = 0.0, nan = std::nan("");
+    const std::array<double, 1> zeros{zero}, negative{-zero}, nans{nan}, same{nan};
+    check("pixels are compared by their bits", view(zeros, 1, 1) != view(negative, 1, 1) && view(nans, 1, 1) == view(same, 1, 1));
+}
+
+static void tiles() {
+    using namespace imgref;
+    std::array<std::uint8_t, 6> pixels{};
+    view image(pixels, 3, 2);
+    std::vector<std::array<std::size_t, 4>> found;
+    for (rect it : image.tiles(2, 2)) found.push_back({it.left, it.top, it.width, it.height});
+    check("tiles", found == std::vector<std::array<std::size_t, 4>>{{0, 0, 2, 2}, {2, 0, 1, 2}});
+}
+
+#ifdef IMGREF_HAS_MDSPAN
+static void spans() {
+    using namespace imgref;
+    std::array<float, 9> pixels{1, 2, 3, 90, 4, 5, 6, 91, 92};
+    using extents = std::dextents<std::size_t, 2>;
+    const std::layout_stride::mapping<extents> rows(extents(2, 3), std::array<std::size_t, 2>{4, 1});
+    std::mdspan<float, extents, std::layout_stride> span(pixels.data(), rows);
+    view image(span);
+    image.put(2, 1, 7.0f);
+    auto back = image.as_mdspan();
+    check("std::mdspan", image.stride() == 4 && image.width() == 3 && image.height() == 2 && back.extent(0) == 2 && back.stride(0) == 4 && pixels[6] == 7.0f);
+    check("std::mdspan of joined rows", view(std::mdspan<float, extents>(pixels.data(), 3, 3)).stride() == 3);
+    check("std::mdspan by columns", is_invalid([&] { view(std::mdspan<float, extents, std::layout_left>(pixels.data(), 3, 3)); }));
+}
+#endif
+
+int main() {
+    calls_on<std::uint8_t>("cells of uint8_t", {1, 2, 3, 90, 4, 5, 6, 91, 92}, 200);
+    calls_on<std::int16_t>("cells of int16_t", {-1, 2, 3, 90, 4, 5, 6, 91, 92}, -200);
+    calls_on<float>("cells of float", {1, 2, 3, 90, 4, 5, 6, 91, 92}, -0.5f);
+    calls_on<double>("cells of double", {1, 2, 3, 90, 4, 5, 6, 91, 92}, 1e300);
+    calls_on<std::uint64_t>("cells of uint64_t", {1, 2, 3, 90, 4, 5, 6, 91, 92}, ~std::uint64_t(0));
+    alignas(4) const std::array<colour, 9> colours{{{1, 2, 3, 4}, {2, 2, 3, 4}, {3, 2, 3, 4}, {90, 0, 0, 0}, {4, 2, 3, 4}, {5, 2, 3, 4}, {6, 2, 3, 4}, {91, 0, 0, 0}, {92, 0, 0, 0}}};
+    alignas(4) std::array<colour, 9> kept = colours;
+    imgref::view(kept, 3, 2, 4).fill({1, 0, 2, 2}, {7, 7, 7, 255});
+    check("cells of a colour", kept[5] == colour{7, 7, 7, 255} && kept[3] == colours[3] && kept[0] == colours[0]);
+    refusals();
+    empty_images();
+    tiles();
+#ifdef IMGREF_HAS_MDSPAN
+    spans();
+#else
+    std::printf("std::mdspan: skipped, it isn't on this machine\n");
+#endif
+    std::printf("%u passed, %u failed\n", passed, failed);
+    return failed || !passed;
+}

@@ -1,0 +1,107 @@
+//! The functions of the library, and the types that a cell may have.
+
+use crate::Window;
+
+extern "C" {
+    pub(crate) fn imgref_is_image(len: usize, width: usize, height: usize, stride: usize) -> bool;
+    pub(crate) fn imgref_window(len: usize, width: usize, height: usize, stride: usize, window: Window, start: *mut usize, count: *mut usize) -> u32;
+    pub(crate) fn imgref_tile_count(width: usize, height: usize, tile_width: usize, tile_height: usize, count: *mut usize) -> u32;
+    pub(crate) fn imgref_tile(width: usize, height: usize, tile_width: usize, tile_height: usize, number: usize, window: *mut Window) -> u32;
+}
+
+/// An integer of 1, 2, 4 or 8 bytes: what a pixel may be.
+///
+/// # Safety
+///
+/// `Bits` has the size of this type, and every bit pattern is a value of it.
+pub unsafe trait Cell: Copy + Eq + Default {
+    #[doc(hidden)]
+    type Bits: Bits;
+    #[doc(hidden)]
+    fn to_bits(self) -> Self::Bits;
+    #[doc(hidden)]
+    fn of_bits(bits: Self::Bits) -> Self;
+}
+
+/// A cell as the library has it, with the functions on it.
+///
+/// # Safety
+///
+/// The functions are those of the library for this very type.
+#[doc(hidden)]
+pub unsafe trait Bits: Copy + Default {
+    const CALLS: Calls<Self>;
+}
+
+#[doc(hidden)]
+pub struct Calls<T> {
+    pub(crate) get: unsafe extern "C" fn(*const T, usize, usize, usize, usize, usize, usize, *mut T) -> u32,
+    pub(crate) put: unsafe extern "C" fn(*mut T, usize, usize, usize, usize, usize, usize, T) -> u32,
+    pub(crate) fill_window: unsafe extern "C" fn(*mut T, usize, usize, usize, usize, Window, T) -> u32,
+    pub(crate) copy_window: unsafe extern "C" fn(*mut T, usize, usize, usize, usize, Window, *const T, usize, usize, usize, usize) -> u32,
+    pub(crate) move_window: unsafe extern "C" fn(*mut T, usize, usize, usize, usize, Window, Window) -> u32,
+    pub(crate) mosaic: unsafe extern "C" fn(*mut T, usize, usize, usize, usize, Window, usize, usize) -> u32,
+    pub(crate) pack: unsafe extern "C" fn(*mut T, usize, usize, usize, usize) -> u32,
+    pub(crate) equal: unsafe extern "C" fn(*const T, usize, usize, usize, usize, *const T, usize, usize, usize, usize, *mut bool) -> u32,
+}
+
+macro_rules! cells {
+    ($($module:ident $cell:ty, $signed:ty: $get:literal $put:literal $fill_window:literal $copy_window:literal $move_window:literal $mosaic:literal $pack:literal $equal:literal;)*) => {$(
+        mod $module {
+            use super::{Bits, Calls, Cell, Window};
+
+            extern "C" {
+                #[link_name = $get]
+                fn get(cells: *const $cell, len: usize, width: usize, height: usize, stride: usize, x: usize, y: usize, pixel: *mut $cell) -> u32;
+                #[link_name = $put]
+                fn put(cells: *mut $cell, len: usize, width: usize, height: usize, stride: usize, x: usize, y: usize, value: $cell) -> u32;
+                #[link_name = $fill_window]
+                fn fill_window(cells: *mut $cell, len: usize, width: usize, height: usize, stride: usize, window: Window, value: $cell) -> u32;
+                #[link_name = $copy_window]
+                fn copy_window(cells: *mut $cell, len: usize, width: usize, height: usize, stride: usize, window: Window, source: *const $cell, source_len: usize, source_width: usize, source_height: usize, source_stride: usize) -> u32;
+                #[link_name = $move_window]
+                fn move_window(cells: *mut $cell, len: usize, width: usize, height: usize, stride: usize, from: Window, to: Window) -> u32;
+                #[link_name = $mosaic]
+                fn mosaic(cells: *mut $cell, len: usize, width: usize, height: usize, stride: usize, window: Window, tile_width: usize, tile_height: usize) -> u32;
+                #[link_name = $pack]
+                fn pack(cells: *mut $cell, len: usize, width: usize, height: usize, stride: usize) -> u32;
+                #[link_name = $equal]
+                fn equal(cells: *const $cell, len: usize, width: usize, height: usize, stride: usize, other: *const $cell, other_len: usize, other_width: usize, other_height: usize, other_stride: usize, equal: *mut bool) -> u32;
+            }
+
+            // SAFETY: the header declares these functions for this type.
+            unsafe impl Bits for $cell {
+                const CALLS: Calls<Self> = Calls { get, put, fill_window, copy_window, move_window, mosaic, pack, equal };
+            }
+
+            // SAFETY: an integer has the size of its bits, and each of them is a value.
+            unsafe impl Cell for $cell {
+                type Bits = Self;
+                fn to_bits(self) -> Self {
+                    self
+                }
+                fn of_bits(bits: Self) -> Self {
+                    bits
+                }
+            }
+
+            // SAFETY: the same.
+            unsafe impl Cell for $signed {
+                type Bits = $cell;
+                fn to_bits(self) -> $cell {
+                    self as $cell
+                }
+                fn of_bits(bits: $cell) -> Self {
+                    bits as $signed
+                }
+            }
+        }
+    )*};
+}
+
+cells! {
+    of_u8 u8, i8: "imgref_u8_get" "imgref_u8_put" "imgref_u8_fill_window" "imgref_u8_copy_window" "imgref_u8_move_window" "imgref_u8_mosaic" "imgref_u8_pack" "imgref_u8_equal";
+    of_u16 u16, i16: "imgref_u16_get" "imgref_u16_put" "imgref_u16_fill_window" "imgref_u16_copy_window" "imgref_u16_move_window" "imgref_u16_mosaic" "imgref_u16_pack" "imgref_u16_equal";
+    of_u32 u32, i32: "imgref_u32_get" "imgref_u32_put" "imgref_u32_fill_window" "imgref_u32_copy_window" "imgref_u32_move_window" "imgref_u32_mosaic" "imgref_u32_pack" "imgref_u32_equal";
+    of_u64 u64, i64: "imgref_u64_get" "imgref_u64_put" "imgref_u64_fill_window" "imgref_u64_copy_window" "imgref_u64_move_window" "imgref_u64_mosaic" "imgref_u64_pack" "imgref_u64_equal";
+}

@@ -1,0 +1,260 @@
+//! Images, and the calls on them.
+
+use std::ops::Range;
+
+use crate::calls::{imgref_is_image, imgref_tile, imgref_tile_count, imgref_window, Bits, Calls};
+use crate::{done, Buffer, BufferMut, Cell, Refused, Window};
+
+/// A buffer with a width and a height in pixels and a stride in cells.
+#[derive(Clone, Copy, Debug)]
+pub struct Img<Container> {
+    pub(crate) buf: Container,
+    pub(crate) width: usize,
+    pub(crate) height: usize,
+    pub(crate) stride: usize,
+}
+
+/// An image over borrowed cells, for reading.
+pub type ImgRef<'slice, Pixel> = Img<&'slice [Pixel]>;
+/// An image over borrowed cells, for writing.
+pub type ImgRefMut<'slice, Pixel> = Img<&'slice mut [Pixel]>;
+/// An image that owns its cells.
+pub type ImgVec<Pixel> = Img<Vec<Pixel>>;
+
+impl<Container> Img<Container> {
+    /// The columns.
+    pub const fn width(&self) -> usize {
+        self.width
+    }
+
+    /// The rows.
+    pub const fn height(&self) -> usize {
+        self.height
+    }
+
+    /// How many cells a row begins after the one before it.
+    pub const fn stride(&self) -> usize {
+        self.stride
+    }
+
+    /// The buffer, with its padding.
+    pub const fn buf(&self) -> &Container {
+        &self.buf
+    }
+
+    /// The same without the image.
+    pub fn into_buf(self) -> Container {
+        self.buf
+    }
+
+    /// The window of all.
+    pub const fn whole(&self) -> Window {
+        Window::new(0, 0, self.width, self.height)
+    }
+
+    /// The windows of the tiles of this size, line by line.
+    ///
+    /// # Errors
+    ///
+    /// [`Refused::NoTile`] for a tile of no pixel.
+    pub fn tiles(&self, tile_width: usize, tile_height: usize) -> Result<impl ExactSizeIterator<Item = Window> + DoubleEndedIterator, Refused> {
+        let (width, height, mut count) = (self.width, self.height, 0);
+        // SAFETY: a number of this function's own takes the result.
+        done(unsafe { imgref_tile_count(width, height, tile_width, tile_height, &mut count) })?;
+        Ok((0..count).map(move |number| {
+            let mut tile = Window::default();
+            // SAFETY: a window of this closure's own takes the result.
+            let answer = done(unsafe { imgref_tile(width, height, tile_width, tile_height, number, &mut tile) });
+            debug_assert_eq!(answer, Ok(()));
+            tile
+        }))
+    }
+}
+
+/// The library's functions on the cells of a buffer.
+pub(crate) const fn calls_on<Container: Buffer>() -> Calls<<Container::Pixel as Cell>::Bits> {
+    <Container::Pixel as Cell>::Bits::CALLS
+}
+
+// SAFETY of the calls below: a slice is memory of its length that stays for the call, its pointer is never null, also where it
+// is empty, its cells lie at multiples of their size, and a `&mut` shares nothing with any other parameter.
+impl<Container: Buffer> Img<Container> {
+    /// The image of this buffer whose rows are joined.
+    ///
+    /// # Errors
+    ///
+    /// [`Refused::NotAnImage`] where the buffer doesn't reach the last pixel.
+    pub fn new(buf: Container, width: usize, height: usize) -> Result<Self, Refused> {
+        Self::new_stride(buf, width, height, width.max(1))
+    }
+
+    /// The image of this buffer at a stride.
+    ///
+    /// # Errors
+    ///
+    /// [`Refused::NotAnImage`] where the buffer doesn't reach the last pixel, the stride is 0 or below the width, or a size
+    /// is 2^32 or more.
+    pub fn new_stride(buf: Container, width: usize, height: usize, stride: usize) -> Result<Self, Refused> {
+        // SAFETY: numbers alone.
+        let is_image = unsafe { imgref_is_image(buf.cells().len(), width, height, stride) };
+        is_image.then_some(Img { buf, width, height, stride }).ok_or(Refused::NotAnImage)
+    }
+
+    /// The same for reading.
+    #[allow(clippy::should_implement_trait)]
+    pub fn as_ref(&self) -> ImgRef<'_, Container::Pixel> {
+        Img { buf: self.buf.cells(), width: self.width, height: self.height, stride: self.stride }
+    }
+
+    /// The pixel in column `x` of row `y`.
+    ///
+    /// # Errors
+    ///
+    /// [`Refused::PlaceOutside`].
+    pub fn get(&self, x: usize, y: usize) -> Result<Container::Pixel, Refused> {
+        let (cells, mut bits) = (self.buf.cells(), Default::default());
+        done(unsafe { (calls_on::<Container>().get)(cells.as_ptr().cast(), cells.len(), self.width, self.height, self.stride, x, y, &mut bits) })?;
+        Ok(Container::Pixel::of_bits(bits))
+    }
+
+    /// A window as an image over the same cells.
+    ///
+    /// # Errors
+    ///
+    /// [`Refused::WindowOutside`].
+    pub fn sub_image(&self, left: usize, top: usize, width: usize, height: usize) -> Result<ImgRef<'_, Container::Pixel>, Refused> {
+        let stretch = self.stretch(Window::new(left, top, width, height))?;
+        Ok(Img { buf: &self.buf.cells()[stretch], width, height, stride: self.stride })
+    }
+
+    /// The cells of a window.
+    pub(crate) fn stretch(&self, window: Window) -> Result<Range<usize>, Refused> {
+        let (mut start, mut count) = (0, 0);
+        // SAFETY: two numbers of this function's own take the result.
+        done(unsafe { imgref_window(self.buf.cells().len(), self.width, self.height, self.stride, window, &mut start, &mut count) })?;
+        Ok(start..start + count)
+    }
+
+    /// The rows, each as a slice of its `width` pixels. An image of width 0 has no row.
+    pub fn rows(&self) -> impl ExactSizeIterator<Item = &[Container::Pixel]> + DoubleEndedIterator {
+        let (cells, width) = (self.buf.cells(), self.width);
+        cells.chunks(self.stride).take(if width == 0 { 0 } else { self.height }).map(move |it| &it[..width])
+    }
+
+    /// The pixels, row by row.
+    pub fn pixels(&self) -> impl Iterator<Item = Container::Pixel> + '_ {
+        self.rows().flatten().copied()
+    }
+
+    /// The pixels in joined rows, with the width and the height.
+    pub fn to_contiguous_buf(&self) -> (Vec<Container::Pixel>, usize, usize) {
+        (self.rows().collect::<Vec<_>>().concat(), self.width, self.height)
+    }
+}
+
+impl<Container: BufferMut> Img<Container> {
+    /// The same for writing, over the same cells.
+    #[allow(clippy::should_implement_trait)]
+    pub fn as_mut(&mut self) -> ImgRefMut<'_, Container::Pixel> {
+        Img { width: self.width, height: self.height, stride: self.stride, buf: self.buf.cells_mut() }
+    }
+
+    /// The pixel in column `x` of row `y` becomes `value`.
+    ///
+    /// # Errors
+    ///
+    /// [`Refused::PlaceOutside`].
+    pub fn put(&mut self, x: usize, y: usize, value: Container::Pixel) -> Result<(), Refused> {
+        let cells = self.buf.cells_mut();
+        done(unsafe { (calls_on::<Container>().put)(cells.as_mut_ptr().cast(), cells.len(), self.width, self.height, self.stride, x, y, value.to_bits()) })
+    }
+
+    /// Every pixel of the window becomes `value`.
+    ///
+    /// # Errors
+    ///
+    /// [`Refused::WindowOutside`].
+    pub fn fill_window(&mut self, window: Window, value: Container::Pixel) -> Result<(), Refused> {
+        let cells = self.buf.cells_mut();
+        done(unsafe { (calls_on::<Container>().fill_window)(cells.as_mut_ptr().cast(), cells.len(), self.width, self.height, self.stride, window, value.to_bits()) })
+    }
+
+    /// The window gets the pixels of `source`, which has its size.
+    ///
+    /// # Errors
+    ///
+    /// [`Refused::WindowOutside`], [`Refused::SizesDiffer`].
+    pub fn copy_window(&mut self, window: Window, source: ImgRef<'_, Container::Pixel>) -> Result<(), Refused> {
+        let (cells, from) = (self.buf.cells_mut(), source.buf);
+        done(unsafe {
+            (calls_on::<Container>().copy_window)(cells.as_mut_ptr().cast(), cells.len(), self.width, self.height, self.stride, window, from.as_ptr().cast(), from.len(), source.width, source.height, source.stride)
+        })
+    }
+
+    /// The window `to` gets the pixels that the window `from` had; they may overlap.
+    ///
+    /// # Errors
+    ///
+    /// [`Refused::WindowOutside`] for either, [`Refused::SizesDiffer`].
+    pub fn move_window(&mut self, from: Window, to: Window) -> Result<(), Refused> {
+        let cells = self.buf.cells_mut();
+        done(unsafe { (calls_on::<Container>().move_window)(cells.as_mut_ptr().cast(), cells.len(), self.width, self.height, self.stride, from, to) })
+    }
+
+    /// Each tile of the window, from its corner on, gets the pixel that was at the tile's corner.
+    ///
+    /// # Errors
+    ///
+    /// [`Refused::WindowOutside`], [`Refused::NoTile`].
+    pub fn mosaic(&mut self, window: Window, tile_width: usize, tile_height: usize) -> Result<(), Refused> {
+        let cells = self.buf.cells_mut();
+        done(unsafe { (calls_on::<Container>().mosaic)(cells.as_mut_ptr().cast(), cells.len(), self.width, self.height, self.stride, window, tile_width, tile_height) })
+    }
+
+    /// Joins the rows at the front of the buffer: the stride is the width from now on, or 1 for width 0. Returns the pixels,
+    /// the width and the height. The cells after them stay.
+    ///
+    /// # Errors
+    ///
+    /// None for a buffer that gives the same cells on each call.
+    pub fn as_contiguous_buf(&mut self) -> Result<(&[Container::Pixel], usize, usize), Refused> {
+        let cells = self.buf.cells_mut();
+        done(unsafe { (calls_on::<Container>().pack)(cells.as_mut_ptr().cast(), cells.len(), self.width, self.height, self.stride) })?;
+        self.stride = self.width.max(1);
+        Ok((&self.buf.cells()[..self.width * self.height], self.width, self.height))
+    }
+
+    /// A window as an image over the same cells.
+    ///
+    /// # Errors
+    ///
+    /// [`Refused::WindowOutside`].
+    pub fn sub_image_mut(&mut self, left: usize, top: usize, width: usize, height: usize) -> Result<ImgRefMut<'_, Container::Pixel>, Refused> {
+        let stretch = self.stretch(Window::new(left, top, width, height))?;
+        Ok(Img { buf: &mut self.buf.cells_mut()[stretch], width, height, stride: self.stride })
+    }
+
+    /// The rows for writing, each as a slice of its `width` pixels. An image of width 0 has no row.
+    pub fn rows_mut(&mut self) -> impl ExactSizeIterator<Item = &mut [Container::Pixel]> + DoubleEndedIterator {
+        let (width, height, stride) = (self.width, self.height, self.stride);
+        self.buf.cells_mut().chunks_mut(stride).take(if width == 0 { 0 } else { height }).map(move |it| &mut it[..width])
+    }
+
+    /// The pixels for writing, row by row.
+    pub fn pixels_mut(&mut self) -> impl Iterator<Item = &mut Container::Pixel> {
+        self.rows_mut().flatten()
+    }
+}
+
+impl<T: Cell> ImgVec<T> {
+    /// The same as [`Img::as_contiguous_buf`], with a `Vec` of exactly the pixels.
+    ///
+    /// # Errors
+    ///
+    /// None.
+    pub fn into_contiguous_buf(mut self) -> Result<(Vec<T>, usize, usize), Refused> {
+        let count = self.as_contiguous_buf()?.0.len();
+        self.buf.truncate(count);
+        Ok((self.buf, self.width, self.height))
+    }
+}

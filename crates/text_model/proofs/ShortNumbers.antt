@@ -1,0 +1,48 @@
+-- Numbers of one to three digits before the first separator.
+use Rattle.std.proofs.Common.{◌≡◌, ℕ, ◌<◌, ◌≤◌, ◌+◌, ◌-◌, ◌*◌, Bool, true, false, cond, eqb, List, [], ◌∷◌, length, take, drop, get_or, Option, Some, refl, arith}
+use Rattle.std.specs.List.{position}
+use Rattle.std.specs.Str.{all_ascii_digits}
+use Rattle.std.specs.Str.Parse.{digits_value}
+use Rattle.std.proofs.lemmas.Bool.Decides.{nat_tests}
+use Rattle.text_model.specs.Parts.{parts_of}
+use Rattle.text_model.specs.Reading.{digits_of, number_of, first_of_parts}
+use Rattle.text_model.proofs.PartsCut.{slice_split-at}
+
+pub at_one : (p : ℕ → Bool) (xs : List ℕ) → 1 < length xs → p (get_or xs 0 0) ≡ false → p (get_or xs 1 0) ≡ true → position p xs ≡ Some 1
+at_one p (a ∷ b ∷ xs) long other here = rw (other, here) (grind (arith, nat_tests))
+at_one p _ long other here = absurd (omega arith)
+
+pub at_two : (p : ℕ → Bool) (xs : List ℕ) → 2 < length xs → p (get_or xs 0 0) ≡ false → p (get_or xs 1 0) ≡ false → p (get_or xs 2 0) ≡ true → position p xs ≡ Some 2
+at_two p (a ∷ b ∷ c ∷ xs) long other other2 here = rw (other, other2, here) (grind (arith, nat_tests))
+at_two p _ long other other2 here = absurd (omega arith)
+
+pub at_three : (p : ℕ → Bool) (xs : List ℕ) → 3 < length xs → p (get_or xs 0 0) ≡ false → p (get_or xs 1 0) ≡ false → p (get_or xs 2 0) ≡ false → p (get_or xs 3 0) ≡ true → position p xs ≡ Some 3
+at_three p (a ∷ b ∷ c ∷ d ∷ xs) long other other2 other3 here = rw (other, other2, other3, here) (grind (arith, nat_tests))
+at_three p _ long other other2 other3 here = absurd (omega arith)
+
+-- the number of one digit, of two, and of three
+pub number_one : (xs : List ℕ) → 0 < length xs → 48 ≤ get_or xs 0 0 → get_or xs 0 0 ≤ 57 → number_of (take 1 xs) ≡ Some (get_or xs 0 0 - 48)
+unfolding number_of digits_of
+number_one (a ∷ xs) long low high = grind (arith, nat_tests)
+number_one _ long low high = absurd (omega arith)
+
+pub number_two : (xs : List ℕ) → 1 < length xs → 49 ≤ get_or xs 0 0 → get_or xs 0 0 ≤ 57 → 48 ≤ get_or xs 1 0 → get_or xs 1 0 ≤ 57
+    → number_of (take 2 xs) ≡ Some ((get_or xs 0 0 - 48) * 10 + (get_or xs 1 0 - 48))
+unfolding number_of digits_of
+number_two (a ∷ b ∷ xs) long low high low2 high2 = grind (arith, nat_tests)
+number_two _ long low high low2 high2 = absurd (omega arith)
+
+pub number_three : (xs : List ℕ) → 2 < length xs → 49 ≤ get_or xs 0 0 → get_or xs 0 0 ≤ 57 → 48 ≤ get_or xs 1 0 → get_or xs 1 0 ≤ 57 → 48 ≤ get_or xs 2 0 → get_or xs 2 0 ≤ 57
+    → number_of (take 3 xs) ≡ Some (((get_or xs 0 0 - 48) * 10 + (get_or xs 1 0 - 48)) * 10 + (get_or xs 2 0 - 48))
+unfolding number_of digits_of
+number_three (a ∷ b ∷ c ∷ xs) long low high low2 high2 low3 high3 = grind (arith, nat_tests)
+number_three _ long low high low2 high2 low3 high3 = absurd (omega arith)
+
+-- the first of the parts is what comes before the first separator
+pub first_at : {A : Type 0} (read : List ℕ → Option A) (separator : ℕ) (xs : List ℕ) (at : ℕ) (x : A) → position (λ b. eqb b separator) xs ≡ Some at → read (take at xs) ≡ Some x
+    → first_of_parts read (parts_of separator xs) ≡ Some (x, parts_of separator (take (length xs - (at + 1)) (drop (at + 1) xs)))
+unfolding first_of_parts
+first_at read separator xs at x here found = rw (slice_split-at (λ b. eqb b separator) xs at here, found) refl
+
+-- what reading a number of at most three digits needs
+pub ruleset short_numbers = (at_one, at_two, at_three, number_one, number_two, number_three)

@@ -1,0 +1,337 @@
+// imgref.hpp: the calls of imgref.h for C++17 and later, on a view over memory of the caller's.
+//
+//     std::vector<float> cells(width * height);
+//     imgref::view image(cells, width, height);            // imgref::view<float>
+//     image.fill({8, 8, 64, 64}, 0.5f);                    // a window: left, top, width, height
+//     image.window({0, 0, 32, 32}).mosaic(4, 4);           // a view over the same memory
+//
+// A view is a pointer, a length, a width, a height and a stride, all counted in pixels. It owns nothing and is copied like a
+// pointer, as std::span. view<const T> is for reading, and each view<T> converts to it. A pixel is any trivially copyable type
+// of 1, 2, 4 or 8 bytes that lies at a multiple of its size. Pixels are compared by their bits.
+//
+// Where the library refuses, a call throws imgref::refused with the status of imgref.h, and nothing has changed. What the
+// library can't see is tested here, and throws std::invalid_argument: misaligned pixels, and a source that shares memory with
+// what is written. That the memory is there stays the caller's.
+#ifndef IMGREF_HPP
+#define IMGREF_HPP
+
+#include <imgref.h>
+
+#include <cstddef>
+#include <cstdint>
+#include <cstring>
+#include <functional>
+#include <iterator>
+#include <stdexcept>
+#include <type_traits>
+
+#if defined(__has_include)
+#if __has_include(<version>)
+#include <version>
+#endif
+#endif
+#if defined(__cpp_lib_mdspan) && __cpp_lib_mdspan >= 202207L
+#include <array>
+#include <mdspan>
+#define IMGREF_HAS_MDSPAN 1
+#endif
+
+namespace imgref {
+
+// The column and the row of a window's corner, and its size.
+using rect = imgref_rect;
+
+// The library refused, and nothing has changed.
+class refused : public std::invalid_argument {
+public:
+    explicit refused(imgref_status status) : std::invalid_argument(text(status)), status_(status) {}
+
+    // What the call returned: one of the statuses of imgref.h.
+    imgref_status status() const noexcept { return status_; }
+
+private:
+    static const char *text(imgref_status status) noexcept {
+        switch (status) {
+        case IMGREF_NOT_AN_IMAGE: return "not an image";
+        case IMGREF_WINDOW_OUTSIDE: return "the window is outside";
+        case IMGREF_SIZES_DIFFER: return "sizes differ";
+        case IMGREF_PLACE_OUTSIDE: return "the place is outside";
+        case IMGREF_NO_TILE: return "no such tile";
+        default: return "refused";
+        }
+    }
+
+    imgref_status status_;
+};
+
+namespace detail {
+
+inline void done(imgref_status status) {
+    if (status != IMGREF_OK) throw refused(status);
+}
+
+// The calls for cells of so many bytes.
+template <std::size_t Size> struct calls;
+
+#define IMGREF_CALLS_OF(SIZE, NAME, CELL)                                                                                    \
+    template <> struct calls<SIZE> {                                                                                         \
+        using cell = CELL;                                                                                                   \
+        static constexpr auto get = imgref_##NAME##_get;                                                                     \
+        static constexpr auto put = imgref_##NAME##_put;                                                                     \
+        static constexpr auto fill_window = imgref_##NAME##_fill_window;                                                     \
+        static constexpr auto copy_window = imgref_##NAME##_copy_window;                                                     \
+        static constexpr auto move_window = imgref_##NAME##_move_window;                                                     \
+        static constexpr auto mosaic = imgref_##NAME##_mosaic;                                                               \
+        static constexpr auto pack = imgref_##NAME##_pack;                                                                   \
+        static constexpr auto equal = imgref_##NAME##_equal;                                                                 \
+    };
+IMGREF_CALLS_OF(1, u8, std::uint8_t)
+IMGREF_CALLS_OF(2, u16, std::uint16_t)
+IMGREF_CALLS_OF(4, u32, std::uint32_t)
+IMGREF_CALLS_OF(8, u64, std::uint64_t)
+#undef IMGREF_CALLS_OF
+
+// What a view of no pixel may point to, since no pointer may be null.
+inline std::uint64_t nowhere = 0;
+
+} // namespace detail
+
+// The windows of the tiles of a size, line by line: what `for (imgref::rect tile : image.tiles(16, 16))` goes over.
+class tile_range {
+public:
+    class iterator {
+    public:
+        using iterator_category = std::input_iterator_tag;
+        using value_type = rect;
+        using difference_type = std::ptrdiff_t;
+        using pointer = const rect *;
+        using reference = rect;
+
+        iterator() = default;
+        iterator(const tile_range *tiles, std::size_t number) : tiles_(tiles), number_(number) {}
+        rect operator*() const { return (*tiles_)[number_]; }
+        iterator &operator++() {
+            ++number_;
+            return *this;
+        }
+        iterator operator++(int) {
+            iterator before = *this;
+            ++number_;
+            return before;
+        }
+        friend bool operator==(const iterator &a, const iterator &b) { return a.number_ == b.number_; }
+        friend bool operator!=(const iterator &a, const iterator &b) { return a.number_ != b.number_; }
+
+    private:
+        const tile_range *tiles_ = nullptr;
+        std::size_t number_ = 0;
+    };
+
+    // Throws refused (IMGREF_NO_TILE) for a tile of no pixel.
+    tile_range(std::size_t width, std::size_t height, std::size_t tile_width, std::size_t tile_height)
+        : width_(width), height_(height), tile_width_(tile_width), tile_height_(tile_height) {
+        detail::done(imgref_tile_count(width, height, tile_width, tile_height, &count_));
+    }
+
+    std::size_t size() const noexcept { return count_; }
+    iterator begin() const { return {this, 0}; }
+    iterator end() const { return {this, count_}; }
+    // The tile of a number below size().
+    rect operator[](std::size_t number) const {
+        rect tile{};
+        detail::done(imgref_tile(width_, height_, tile_width_, tile_height_, number, &tile));
+        return tile;
+    }
+
+private:
+    std::size_t width_, height_, tile_width_, tile_height_, count_ = 0;
+};
+
+template <class T> class view {
+    static_assert(std::is_trivially_copyable_v<T>, "a pixel is copied as bytes");
+    static_assert(sizeof(T) == 1 || sizeof(T) == 2 || sizeof(T) == 4 || sizeof(T) == 8, "a pixel has 1, 2, 4 or 8 bytes");
+    static_assert(!std::is_volatile_v<T>, "a pixel isn't volatile");
+    using calls = detail::calls<sizeof(T)>;
+    using cell = typename calls::cell;
+    template <class U> friend class view;
+
+public:
+    using element_type = T;
+    using value_type = std::remove_cv_t<T>;
+    using size_type = std::size_t;
+
+    // The image of `len` pixels from a pointer on. Throws refused where they are no image of that size and stride.
+    view(T *pixels, std::size_t len, std::size_t width, std::size_t height, std::size_t stride)
+        : pixels_(pixels), len_(len), width_(width), height_(height), stride_(stride) {
+        if (reinterpret_cast<std::uintptr_t>(pixels) % sizeof(T)) throw std::invalid_argument("the pixels are misaligned");
+        if (!pixels && len) throw std::invalid_argument("no pixels");
+        if (!imgref_is_image(len, width, height, stride)) throw refused(IMGREF_NOT_AN_IMAGE);
+    }
+
+    // The same of a container with data() and size(), or of an array. Without a stride its rows are joined.
+    template <class Pixels, class = std::enable_if_t<std::is_convertible_v<decltype(std::data(std::declval<Pixels &>())), T *>>>
+    view(Pixels &pixels, std::size_t width, std::size_t height, std::size_t stride)
+        : view(std::data(pixels), std::size(pixels), width, height, stride) {}
+    template <class Pixels, class = std::enable_if_t<std::is_convertible_v<decltype(std::data(std::declval<Pixels &>())), T *>>>
+    view(Pixels &pixels, std::size_t width, std::size_t height) : view(pixels, width, height, width ? width : 1) {}
+
+    // A view for reading of one for writing.
+    template <class U, class = std::enable_if_t<std::is_same_v<const U, T> && !std::is_same_v<U, T>>>
+    view(const view<U> &other) noexcept
+        : pixels_(other.pixels_), len_(other.len_), width_(other.width_), height_(other.height_), stride_(other.stride_) {}
+
+    T *data() const noexcept { return pixels_; }
+    std::size_t size() const noexcept { return len_; }
+    std::size_t width() const noexcept { return width_; }
+    std::size_t height() const noexcept { return height_; }
+    std::size_t stride() const noexcept { return stride_; }
+    bool empty() const noexcept { return !width_ || !height_; }
+    // The window of all.
+    rect whole() const noexcept { return {0, 0, width_, height_}; }
+
+    // The width() pixels of a row, for a loop. Throws refused where there is no such row.
+    T *row(std::size_t y) const {
+        if (y >= height_) throw refused(IMGREF_PLACE_OUTSIDE);
+        return width_ ? pixels_ + y * stride_ : pixels_;
+    }
+
+    // The pixel in column x of row y.
+    value_type get(std::size_t x, std::size_t y) const {
+        cell bits = 0;
+        detail::done(calls::get(cells(), len_, width_, height_, stride_, x, y, &bits));
+        return value(bits);
+    }
+
+    // The pixel in column x of row y becomes `pixel`.
+    void put(std::size_t x, std::size_t y, const value_type &pixel) const {
+        detail::done(calls::put(written(), len_, width_, height_, stride_, x, y, bits(pixel)));
+    }
+
+    // Every pixel of the window, or of all, becomes `pixel`.
+    void fill(const rect &window, const value_type &pixel) const {
+        detail::done(calls::fill_window(written(), len_, width_, height_, stride_, window, bits(pixel)));
+    }
+    void fill(const value_type &pixel) const { fill(whole(), pixel); }
+
+    // The window, or all, gets the pixels of `source`, which has its size and shares no memory with this image.
+    void copy(const rect &window, view<const value_type> source) const {
+        cell *cells = written();
+        if (shares(source)) throw std::invalid_argument("the images share memory: move goes within one");
+        detail::done(calls::copy_window(cells, len_, width_, height_, stride_, window, source.cells(), source.len_, source.width_,
+                                        source.height_, source.stride_));
+    }
+    void copy(view<const value_type> source) const { copy(whole(), source); }
+
+    // The window `to` gets the pixels that the window `from` had; they may overlap.
+    void move(const rect &from, const rect &to) const {
+        detail::done(calls::move_window(written(), len_, width_, height_, stride_, from, to));
+    }
+
+    // Each tile of the window, or of all, gets the pixel that was at the tile's corner.
+    void mosaic(const rect &window, std::size_t tile_width, std::size_t tile_height) const {
+        detail::done(calls::mosaic(written(), len_, width_, height_, stride_, window, tile_width, tile_height));
+    }
+    void mosaic(std::size_t tile_width, std::size_t tile_height) const { mosaic(whole(), tile_width, tile_height); }
+
+    // The rows are joined at the front of the memory: the stride of this view is the width from now on, or 1 for width 0. Other
+    // views over the memory show moved pixels.
+    void pack() {
+        detail::done(calls::pack(written(), len_, width_, height_, stride_));
+        stride_ = width_ ? width_ : 1;
+    }
+
+    // The window as a view over the same memory.
+    view window(const rect &window) const {
+        std::size_t start = 0, count = 0;
+        detail::done(imgref_window(len_, width_, height_, stride_, window, &start, &count));
+        view made = *this;
+        made.pixels_ = count ? pixels_ + start : pixels_;
+        made.len_ = count;
+        made.width_ = window.width;
+        made.height_ = window.height;
+        return made;
+    }
+
+    tile_range tiles(std::size_t tile_width, std::size_t tile_height) const { return {width_, height_, tile_width, tile_height}; }
+
+#ifdef IMGREF_HAS_MDSPAN
+    // The image of an mdspan of rows and columns whose columns have no gaps. Throws std::invalid_argument where they have.
+    template <class Extents, class Layout>
+    explicit view(const std::mdspan<T, Extents, Layout> &other)
+        : view(other.data_handle(), other.mapping().required_span_size(), other.extent(1), other.extent(0), row_step(other)) {}
+
+    // The pixels as an mdspan of rows and columns: [y, x].
+    std::mdspan<T, std::dextents<std::size_t, 2>, std::layout_stride> as_mdspan() const {
+        using extents = std::dextents<std::size_t, 2>;
+        std::array<std::size_t, 2> steps{stride_, 1};
+        return {pixels_, std::layout_stride::mapping<extents>(extents(height_, width_), steps)};
+    }
+#endif
+
+private:
+    const cell *cells() const noexcept {
+        return pixels_ ? reinterpret_cast<const cell *>(pixels_) : reinterpret_cast<const cell *>(&detail::nowhere);
+    }
+
+    cell *written() const noexcept {
+        static_assert(!std::is_const_v<T>, "this view is for reading: a view<T> without const writes");
+        return pixels_ ? reinterpret_cast<cell *>(pixels_) : reinterpret_cast<cell *>(&detail::nowhere);
+    }
+
+    bool shares(const view<const value_type> &other) const noexcept {
+        std::less<const value_type *> before;
+        return len_ && other.len_ && before(pixels_, other.pixels_ + other.len_) && before(other.pixels_, pixels_ + len_);
+    }
+
+    static cell bits(const value_type &pixel) noexcept {
+        cell made;
+        std::memcpy(&made, &pixel, sizeof made);
+        return made;
+    }
+
+    static value_type value(const cell &bits) noexcept {
+        std::remove_const_t<value_type> made;
+        std::memcpy(&made, &bits, sizeof made);
+        return made;
+    }
+
+#ifdef IMGREF_HAS_MDSPAN
+    template <class Extents, class Layout> static std::size_t row_step(const std::mdspan<T, Extents, Layout> &other) {
+        static_assert(Extents::rank() == 2, "an image has rows and columns");
+        if (!other.is_strided() || (other.extent(1) > 1 && other.stride(1) != 1)) throw std::invalid_argument("the columns have gaps");
+        std::size_t width = static_cast<std::size_t>(other.extent(1));
+        return other.extent(0) > 1 && width ? static_cast<std::size_t>(other.stride(0)) : width ? width : 1;
+    }
+#endif
+
+    T *pixels_;
+    std::size_t len_, width_, height_, stride_;
+};
+
+template <class Pixels> view(Pixels &, std::size_t, std::size_t) -> view<std::remove_pointer_t<decltype(std::data(std::declval<Pixels &>()))>>;
+template <class Pixels>
+view(Pixels &, std::size_t, std::size_t, std::size_t) -> view<std::remove_pointer_t<decltype(std::data(std::declval<Pixels &>()))>>;
+template <class T> view(T *, std::size_t, std::size_t, std::size_t, std::size_t) -> view<T>;
+
+// Whether two images have one size and equal bits in every pixel. Strides and padding don't count.
+template <class T> bool equal(const view<const T> &one, const view<const T> &other) {
+    using calls = detail::calls<sizeof(T)>;
+    bool is_equal = false;
+    const auto *first = one.data() ? static_cast<const void *>(one.data()) : &detail::nowhere;
+    const auto *second = other.data() ? static_cast<const void *>(other.data()) : &detail::nowhere;
+    using cell = typename calls::cell;
+    detail::done(calls::equal(static_cast<const cell *>(first), one.size(), one.width(), one.height(), one.stride(),
+                              static_cast<const cell *>(second), other.size(), other.width(), other.height(), other.stride(), &is_equal));
+    return is_equal;
+}
+
+template <class T, class U> std::enable_if_t<std::is_same_v<std::remove_const_t<T>, std::remove_const_t<U>>, bool> operator==(const view<T> &one, const view<U> &other) {
+    return equal<std::remove_const_t<T>>(one, other);
+}
+template <class T, class U> std::enable_if_t<std::is_same_v<std::remove_const_t<T>, std::remove_const_t<U>>, bool> operator!=(const view<T> &one, const view<U> &other) {
+    return !equal<std::remove_const_t<T>>(one, other);
+}
+
+} // namespace imgref
+
+#endif

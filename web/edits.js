@@ -1,0 +1,120 @@
+// Edits and their text, in the words of docs/FRAMES.md.
+
+import { isNumber } from "./common.js";
+
+const RANGE = /^[0-9]*\.\.[0-9]*$/;
+const WORDS = {
+  fill: "fill L,T,W,H V or fill L,T,W,H R,G,B",
+  mosaic: "mosaic L,T,W,H TW,TH",
+  move: "move L,T,W,H X,Y",
+  crop: "crop L,T,W,H",
+  pad: "pad L,T,R,B V",
+};
+
+/** A line that is no edit, or an edit that can't be carried out: its number, from 1, and why. */
+export class BadEdit extends Error {
+  constructor(line, why) {
+    super(`Line ${line}: ${why}`);
+    this.line = line;
+  }
+}
+
+/** Whether an edit gives the picture another size. */
+export function resizes(edit) {
+  return edit.word === "crop" || edit.word === "pad";
+}
+
+/** Whether an edit covers what was there. */
+export function covers(edit) {
+  return edit.word === "fill" || edit.word === "mosaic";
+}
+
+/** An edit as a line. */
+export function textOf(edit) {
+  const { word, left, top, width, height } = edit;
+  if (word === "pad") {
+    return `pad ${left},${top},${edit.right},${edit.bottom} ${edit.colour[0]}`;
+  }
+  const [red, green, blue] = edit.colour ?? [];
+  const last = {
+    fill: red === green && green === blue ? `${red}` : `${red},${green},${blue}`,
+    mosaic: `${edit.tileWidth},${edit.tileHeight}`,
+    move: `${edit.x},${edit.y}`,
+  }[word];
+  return [
+    word, `${left},${top},${width},${height}`, ...(last === undefined ? [] : [last])
+  ].join(" ");
+}
+
+/** The edits of a text with one edit on each line; empty lines are ignored. */
+export function editsOf(text) {
+  const edits = [];
+  text.split("\n").forEach((line, index) => {
+    if (line === "") {
+      return;
+    }
+    const edit = editOf(line, index + 1);
+    if (edits.some(resizes)) {
+      throw new BadEdit(index + 1, "at most one crop or pad is allowed, and it must come last.");
+    }
+    edits.push({ ...edit, line: index + 1 });
+  });
+  return edits;
+}
+
+function editOf(line, number) {
+  const [word, ...fields] = line.split(" ");
+  if (RANGE.test(word)) {
+    throw new BadEdit(number, `a picture has one frame, so leave out the range ${word}.`);
+  }
+  const form = Object.hasOwn(WORDS, word) && WORDS[word];
+  if (!form) {
+    throw new BadEdit(
+      number, `an edit begins with ${Object.keys(WORDS).join(", ")}, and not with '${word}'.`
+    );
+  }
+  const lists = fields.map(numbersOf);
+  const edit = lists.every(Boolean) && made(word, lists);
+  if (!edit) {
+    throw new BadEdit(number, `'${line}' is not of the form ${form}.`);
+  }
+  return edit;
+}
+
+/** The numbers of a field, or null where it has another form. */
+function numbersOf(field) {
+  const parts = field.split(",");
+  if (!parts.every((it) => isNumber(it))) {
+    return null;
+  }
+  // (a number that JavaScript can't hold exactly stays a BigInt)
+  return parts.map((it) => (Number.isSafeInteger(Number(it)) ? Number(it) : BigInt(it)));
+}
+
+function made(word, [window, last, ...more]) {
+  if (window?.length !== 4 || more.length > 0 || (word === "crop") !== (last === undefined)) {
+    return null;
+  }
+  const [left, top, width, height] = window;
+  const rectangle = { word, left, top, width, height };
+  const isPair = last?.length === 2;
+  switch (word) {
+    case "fill": {
+      const colour = last.length === 1 ? [last[0], last[0], last[0]] : last;
+      return colour.length === 3 && colour.every((it) => it <= 255) ? {
+        ...rectangle, colour
+      } : null;
+    }
+    case "mosaic":
+      return isPair ? { ...rectangle, tileWidth: last[0], tileHeight: last[1] } : null;
+    case "move":
+      return isPair ? { ...rectangle, x: last[0], y: last[1] } : null;
+    case "pad": {
+      const isGrey = last.length === 1 && last[0] <= 255;
+      const colour = [last[0], last[0], last[0]];
+      return isGrey ? { word, left, top, right: width, bottom: height, colour } : null;
+    }
+    default:
+      return rectangle;
+  }
+}

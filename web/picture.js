@@ -1,0 +1,280 @@
+// The tab 'Picture': open, cover, undo, and save as PNG.
+
+import { find } from "./common.js";
+import { Pixels } from "./pixels.js";
+import { BadEdit, covers, editsOf, resizes, textOf } from "./edits.js";
+import { Stage, isOnStage } from "./stage.js";
+
+// What a canvas takes in each browser that has 64-bit memories.
+const MOST_SIDE = 32767, MOST_PIXELS = 100e6;
+// Changes by keys within this time are undone together, in milliseconds.
+const TOGETHER = 1000;
+const LATE =
+  "Note: a move comes before a fill or a mosaic. It may carry pixels out of what is covered.";
+const HINTS = {
+  fill: "Leaves nothing of what it covers.",
+  mosaic: "Keeps one pixel of each tile, so a text can be guessed. Use a fill for secrets.",
+  crop: "Only what is inside is saved.",
+};
+
+/** What a person sees and does in the tab. */
+export class PictureTab {
+  constructor(library) {
+    this.library = library;
+    this.forget();
+    this.stage = new Stage({
+      draw: (it) => this.add(it),
+      change: (index, it, by) => this.change(index, it, by),
+      select: (index) => this.select(index),
+      remove: (index) => this.remove(index),
+    });
+  }
+
+  /** No picture, and no edits. */
+  forget() {
+    this.pixels?.end();
+    Object.assign(this, { pixels: null, edits: [], past: [], future: [], selected: -1, byKeys: 0 });
+  }
+
+  say(text, isProblem = false) {
+    find("status").textContent = text;
+    find("status").classList.toggle("problem", isProblem);
+  }
+
+  async open(file) {
+    const turn = (this.turn = {});
+    this.say(`Opening ${file.name} …`);
+    let bitmap;
+    try {
+      bitmap = await createImageBitmap(file);
+    } catch {
+      return turn === this.turn && this.say(
+        `This browser can't read ${file.name} as a picture. Nothing has changed.`, true
+      );
+    }
+    const { width, height } = bitmap;
+    if (
+      turn === this.turn && (Math.max(width, height) > MOST_SIDE || width * height > MOST_PIXELS)
+    ) {
+      this.say(
+        `${file.name} has ${width} by ${height} pixels, which is too large for this page.`, true
+      );
+    } else if (turn === this.turn) {
+      this.take(file.name, bitmap);
+    }
+    bitmap.close();
+  }
+
+  /** Takes a decoded picture into the module's memory. */
+  take(name, bitmap) {
+    this.forget();
+    try {
+      const pixels = new Pixels(this.library, bitmap.width, bitmap.height);
+      pixels.bytes().set(this.stage.read(bitmap));
+      Object.assign(this, { pixels, name });
+      const size = `${pixels.width} by ${pixels.height} pixels`;
+      this.say(`${name}: ${size}. Draw a rectangle over what you want to cover.`);
+    } catch (why) {
+      this.say(why.message, true);
+    }
+    this.render();
+  }
+
+  /** Shows other edits, and keeps the old ones for undo. Whether they can be carried out. */
+  commit(edits, by = "") {
+    const began = performance.now();
+    if (!this.show(edits)) {
+      return false;
+    }
+    const isTogether = by === "keys" && began - this.byKeys < TOGETHER;
+    this.byKeys = by === "keys" ? began : 0;
+    if (!isTogether) {
+      this.past.push(this.edits);
+    }
+    [this.edits, this.future] = [edits, []];
+    this.selected = Math.min(this.selected, edits.length - 1);
+    this.render();
+    return true;
+  }
+
+  show(edits) {
+    try {
+      const changed = this.pixels.show(edits);
+      this.stage.put(this.pixels.bytes(), changed);
+    } catch (why) {
+      this.stage.put(this.pixels.bytes(), [{ left: 0, top: 0, ...sizeOf(this.pixels) }]);
+      this.say(why.message, true);
+      return false;
+    }
+    const late = edits.findIndex((it) => it.word === "move");
+    const isLate = late >= 0 && edits.slice(late).some(covers);
+    this.say(isLate ? LATE : "Done.");
+    return true;
+  }
+
+  step(from, to) {
+    if (from.length > 0 && this.show(from.at(-1))) {
+      to.push(this.edits);
+      this.edits = from.pop();
+      [this.selected, this.byKeys] = [-1, 0];
+      this.render();
+      this.say(from === this.past ? "Undone." : "Redone.");
+    }
+  }
+
+  /** The edit that the tools say, at a rectangle. */
+  made(rectangle) {
+    const word = document.querySelector("[name=tool]:checked").value;
+    const { left, top, width, height } = rectangle, edit = { word, left, top, width, height };
+    const colour = find("colour").value.match(/\w\w/g).map((it) => parseInt(it, 16));
+    const [tileWidth, tileHeight] = ["tile-width", "tile-height"].map(
+      (it) => Math.floor(find(it).valueAsNumber) || 0
+    );
+    return { ...edit, ...{ fill: { colour }, mosaic: { tileWidth, tileHeight } }[word] };
+  }
+
+  add(rectangle) {
+    const edit = this.made(rectangle), last = this.edits.at(-1);
+    const kept = last && resizes(last) ? this.edits.slice(0, -1) : this.edits;
+    const end = last && resizes(last) && !resizes(edit) ? [last] : [];
+    if (this.commit([...kept, edit, ...end])) {
+      this.select(kept.length);
+    }
+  }
+
+  /** Adds a rectangle in the middle, and gives the keys to it. */
+  addInMiddle() {
+    const { width, height } = sizeOf(this.pixels);
+    const [wide, high] = [Math.ceil(width / 4), Math.ceil(height / 4)];
+    this.add({ left: (width - wide) >> 1, top: (height - high) >> 1, width: wide, height: high });
+    this.stage.focus(this.selected);
+  }
+
+  /** Gives an edit another rectangle. */
+  change(index, { left, top, width, height }, by) {
+    const edit = { ...this.edits[index], left, top, width, height };
+    if (textOf(edit) !== textOf(this.edits[index])) {
+      this.commit(this.edits.with(index, edit), by);
+    }
+    this.render();
+  }
+
+  remove(index) {
+    this.selected = -1;
+    this.commit(this.edits.toSpliced(index, 1));
+  }
+
+  select(index) {
+    this.selected = this.edits[index] ? index : -1;
+    const edit = this.edits[this.selected];
+    if (edit && isOnStage(edit)) {
+      document.querySelector(`[name=tool][value=${edit.word}]`).checked = true;
+      const colour = edit.colour?.map((it) => it.toString(16).padStart(2, "0")).join("");
+      find("colour").value = colour ? `#${colour}` : find("colour").value;
+      find("tile-width").value = edit.tileWidth ?? find("tile-width").value;
+      find("tile-height").value = edit.tileHeight ?? find("tile-height").value;
+    }
+    this.render();
+  }
+
+  /** The tools have changed: so does the selected rectangle. */
+  retool() {
+    const old = this.edits[this.selected];
+    const edit = old && isOnStage(old) && this.made(old);
+    if (edit && textOf(edit) !== textOf(old)) {
+      const others = this.edits.toSpliced(this.selected, 1).filter(
+        (it) => !resizes(edit) || !resizes(it)
+      );
+      const at = resizes(edit) ? others.length : Math.min(this.selected, others.length);
+      if (this.commit(others.toSpliced(at, 0, edit))) {
+        this.selected = at;
+      }
+    }
+    this.render();
+  }
+
+  /** The edits of the text in the place of the present ones. */
+  applyText() {
+    try {
+      const edits = editsOf(find("text").value);
+      this.selected = -1;
+      this.commit(edits);
+    } catch (why) {
+      if (!(why instanceof BadEdit)) {
+        throw why;
+      }
+      this.say(why.message, true);
+    }
+  }
+
+  async copyText() {
+    find("text").select();
+    try {
+      await navigator.clipboard.writeText(find("text").value);
+      this.say("Copied.");
+    } catch {
+      this.say("The text is selected: copy it with Ctrl+C.");
+    }
+  }
+
+  async save() {
+    const name = `${this.name.replace(/\.[^.]*$/, "") || "picture"}-covered.png`;
+    const canvas = document.createElement("canvas"), count = this.edits.length;
+    this.pixels.output((bytes, width, height) => {
+      [canvas.width, canvas.height] = [width, height];
+      canvas.getContext("2d").putImageData(new ImageData(bytes, width), 0, 0);
+    });
+    this.say(`Saving ${name} …`);
+    const blob = await new Promise((done) => canvas.toBlob(done, "image/png"));
+    if (!blob) {
+      return this.say("This browser can't save a picture of this size.", true);
+    }
+    const link = Object.assign(
+      document.createElement("a"), { href: URL.createObjectURL(blob), download: name }
+    );
+    link.click();
+    setTimeout(() => URL.revokeObjectURL(link.href), 60000);
+    const edits = `${count} ${count === 1 ? "edit" : "edits"}`;
+    const what = count ? `with ${edits}` : "and nothing is covered";
+    const size = `${canvas.width} by ${canvas.height} pixels`;
+    this.say(`Saved ${name}: ${size}, ${what}. All else in the file was dropped.`);
+  }
+
+  render() {
+    const { edits, selected } = this, edit = edits[selected], hasPicture = Boolean(this.pixels);
+    this.stage.render(edits, selected);
+    find("undo").disabled = this.past.length === 0;
+    find("redo").disabled = this.future.length === 0;
+    for (const it of ["save", "add", "apply", "copy"]) {
+      find(it).disabled = !hasPicture;
+    }
+    find("edits").replaceChildren(
+      ...edits.map((it, index) => this.item(it, index === selected, index))
+    );
+    find("no-edits").hidden = edits.length > 0;
+    find("selected").disabled = !edit;
+    for (const it of ["left", "top", "width", "height"]) {
+      find(it).value = edit?.[it] ?? "";
+    }
+    find("text").value = edits.map((it) => `${textOf(it)}\n`).join("");
+    const tool = document.querySelector("[name=tool]:checked").value;
+    find("hint").textContent = HINTS[tool];
+    document.querySelectorAll("[data-for]").forEach(
+      (it) => { it.hidden = it.dataset.for !== tool; }
+    );
+  }
+
+  /** A line of the list of edits, which selects its edit. */
+  item(edit, isSelected, index) {
+    const line = document.createElement("li"), button = document.createElement("button");
+    button.textContent = textOf(edit);
+    button.setAttribute("aria-pressed", isSelected);
+    button.addEventListener("click", () => this.select(index));
+    line.append(button);
+    return line;
+  }
+}
+
+function sizeOf({ width, height }) {
+  return { width, height };
+}

@@ -1,0 +1,179 @@
+// A picture whose pixels are in the module's memory, once. Each change is a call of the module.
+//
+// Before an edit, the pixels that it will change are copied to a place of their own, so that it can
+// be taken back. These copies are a stack: the last edit is taken back first.
+
+import { Refused, WINDOW_OUTSIDE } from "./calls.js";
+import { BadEdit, resizes, textOf } from "./edits.js";
+
+const MOST = 2n ** 32n;
+
+/** A picture of so many columns and rows. */
+export class Pixels {
+  constructor(library, width, height) {
+    this.library = library;
+    this.begin = library.top;
+    this.image = taken(library, width, height);
+    this.applied = [];
+  }
+
+  get width() {
+    return this.image.width;
+  }
+
+  get height() {
+    return this.image.height;
+  }
+
+  /** The bytes red, green, blue and alpha of each pixel, row by row. */
+  bytes() {
+    return this.library.bytes(this.image.at, 4 * this.image.count);
+  }
+
+  /** Gives the memory back. */
+  end() {
+    this.library.release(this.begin);
+  }
+
+  /** Shows these edits, and returns what has changed: nothing, where one is refused. */
+  show(edits) {
+    const before = this.applied.map((it) => it.edit);
+    const same = commonLength(before, edits);
+    const changed = this.takeBack(same);
+    for (const [index, edit] of edits.entries()) {
+      if (index < same) {
+        continue;
+      }
+      try {
+        changed.push(this.apply(edit));
+      } catch (why) {
+        this.takeBack(same);
+        before.slice(same).forEach((it) => this.apply(it));
+        throw why instanceof Refused ? new BadEdit(edit.line ?? index + 1, why.message) : why;
+      }
+    }
+    return changed;
+  }
+
+  /** Carries out one edit, and tells which rectangle it changed. */
+  apply(edit) {
+    const { library, image } = this;
+    if (resizes(edit)) {
+      this.checkSize(edit);
+      this.applied.push({ edit, window: null });
+      return empty();
+    }
+    const window = changedBy(edit), top = library.top;
+    const source = library.part(image, window);
+    const old = taken(library, window.width, window.height);
+    try {
+      library.copy(old, { ...window, left: 0, top: 0 }, source);
+      this.change(edit);
+    } catch (why) {
+      library.release(top);
+      throw why;
+    }
+    this.applied.push({ edit, window, old, top });
+    return window;
+  }
+
+  /** The call of an edit. */
+  change(edit) {
+    switch (edit.word) {
+      case "fill":
+        return this.library.fill(this.image, edit, cellOf(edit.colour));
+      case "mosaic":
+        return this.library.mosaic(this.image, edit, edit.tileWidth, edit.tileHeight);
+      default:
+        return this.library.move(this.image, edit, changedBy(edit));
+    }
+  }
+
+  /** Refuses a crop or a pad that leaves no pixel, or more than an image can have. */
+  checkSize(edit) {
+    const isCrop = edit.word === "crop";
+    const { width, height } = sizeAfter(edit, this.image);
+    const isInside = !isCrop || this.library.hasWindow(this.width, this.height, edit);
+    if (!isInside || width === 0n || height === 0n || width >= MOST || height >= MOST) {
+      throw new Refused(WINDOW_OUTSIDE);
+    }
+  }
+
+  /** Takes all edits back but so many, the last one first, and returns what has changed. */
+  takeBack(count) {
+    const changed = [];
+    while (this.applied.length > count) {
+      const { window, old, top } = this.applied.pop();
+      if (window) {
+        this.library.copy(this.image, window, old);
+        this.library.release(top);
+        changed.push(window);
+      }
+    }
+    return changed;
+  }
+
+  /** What is saved, after a crop or a pad: calls `use` with its bytes, width and height. */
+  output(use) {
+    const edit = this.applied.at(-1)?.edit;
+    if (!edit || !resizes(edit)) {
+      return use(this.bytes(), this.width, this.height);
+    }
+    const { library, image } = this, top = library.top;
+    try {
+      const { width, height } = sizeAfter(edit, image);
+      const made = taken(library, Number(width), Number(height));
+      const whole = { left: 0, top: 0, width, height };
+      if (edit.word === "crop") {
+        library.copy(made, whole, library.part(image, edit));
+      } else {
+        library.fill(made, whole, cellOf(edit.colour));
+        library.copy(made, { ...edit, width: this.width, height: this.height }, image);
+      }
+      return use(library.bytes(made.at, 4 * made.count), made.width, made.height);
+    } finally {
+      library.release(top);
+    }
+  }
+}
+
+/** The size that a crop or a pad leaves. */
+export function sizeAfter(edit, image) {
+  const sum = (...all) => all.map(BigInt).reduce((total, it) => total + it);
+  return edit.word === "crop"
+    ? { width: BigInt(edit.width), height: BigInt(edit.height) }
+    : {
+      width: sum(edit.left, image.width, edit.right),
+      height: sum(edit.top, image.height, edit.bottom)
+    };
+}
+
+/** Cells of four bytes for a picture of this size, at the top of the memory. */
+function taken(library, width, height) {
+  const count = width * height;
+  return {
+    at: library.take(4 * count), count, width, height, stride: Math.max(width, 1), bits: 32
+  };
+}
+
+/** The rectangle that an edit writes. */
+function changedBy({ word, left, top, width, height, x, y }) {
+  return word === "move" ? { left: x, top: y, width, height } : { left, top, width, height };
+}
+
+function empty() {
+  return { left: 0, top: 0, width: 0, height: 0 };
+}
+
+/** A colour as a cell: its bytes in memory are red, green, blue, and 255 for opaque. */
+function cellOf([red, green, blue]) {
+  return (red | (green << 8) | (blue << 16) | (255 << 24)) >>> 0;
+}
+
+/** With how many equal edits two lists begin. */
+function commonLength(some, others) {
+  const differs = some.findIndex(
+    (it, index) => !others[index] || textOf(it) !== textOf(others[index])
+  );
+  return differs < 0 ? some.length : differs;
+}

@@ -1,0 +1,249 @@
+// The picture on the screen, with its rectangles: drawn, moved and resized by pointer or by keys.
+
+import { addDrawn, find, setAll } from "./common.js";
+import { textOf } from "./edits.js";
+
+const CORNERS = ["left top", "right top", "left bottom", "right bottom"];
+// How far a pointer goes before it draws, and the most that a small picture is enlarged.
+const SLACK = 4, MOST_SCALE = 32;
+const ARROWS = { ArrowLeft: [-1, 0], ArrowRight: [1, 0], ArrowUp: [0, -1], ArrowDown: [0, 1] };
+
+/** Whether an edit has a rectangle that can be moved on the picture. */
+export function isOnStage(edit) {
+  return ["fill", "mosaic", "crop"].includes(edit.word);
+}
+
+export class Stage {
+  /** The `acts` are called with what a person does: `draw`, `change`, `select` and `remove`. */
+  constructor(acts) {
+    this.acts = acts;
+    this.drag = null;
+    for (const it of ["stage", "frame", "canvas", "overlay", "actual", "drop"]) {
+      this[it] = find(it);
+    }
+    this.context = this.canvas.getContext("2d", { willReadFrequently: true });
+    this.overlay.addEventListener("pointerdown", (event) => this.press(event));
+    this.overlay.addEventListener("pointermove", (event) => this.pull(event));
+    this.overlay.addEventListener("pointerup", (event) => this.release(event));
+    this.overlay.addEventListener("pointercancel", () => this.cancel());
+    this.overlay.addEventListener("keydown", (event) => this.key(event));
+    this.overlay.addEventListener("focusin", (event) => this.acts.select(indexOf(event.target)));
+    window.addEventListener("resize", () => this.fit());
+    this.actual.addEventListener("change", () => this.fit());
+  }
+
+  /** Shows a picture that the browser decoded, and returns its bytes. */
+  read(bitmap) {
+    const { canvas, context } = this;
+    [canvas.width, canvas.height] = [bitmap.width, bitmap.height];
+    context.drawImage(bitmap, 0, 0);
+    this.overlay.setAttribute("viewBox", `0 0 ${canvas.width} ${canvas.height}`);
+    this.frame.hidden = false;
+    this.drop.hidden = true;
+    this.fit();
+    return context.getImageData(0, 0, canvas.width, canvas.height).data;
+  }
+
+  /** Puts these rectangles of a picture's bytes on the screen. */
+  put(bytes, rectangles) {
+    const image = new ImageData(bytes, this.canvas.width);
+    for (const { left, top, width, height } of rectangles) {
+      this.context.putImageData(image, 0, 0, left, top, width, height);
+    }
+  }
+
+  /** Chooses the size on the screen. */
+  fit() {
+    const { width, height } = this.canvas;
+    if (this.stage.clientWidth === 0) {
+      // (the other tab is shown)
+      return;
+    }
+    const below = innerHeight - this.stage.getBoundingClientRect().top - scrollY - 16;
+    const high = Math.max(below, 0.6 * innerHeight) / height;
+    const fitting = Math.min((this.stage.clientWidth - 4) / width, high, MOST_SCALE);
+    this.scale = this.actual.checked ? 1 : fitting;
+    this.frame.style.width = `${width * this.scale}px`;
+    this.frame.style.height = `${height * this.scale}px`;
+    this.overlay.style.setProperty("--unit", 1 / this.scale);
+    this.render(this.edits ?? [], this.selected);
+  }
+
+  /** Draws the rectangles of these edits, one of them as the selected one. */
+  render(edits, selected) {
+    [this.edits, this.selected] = [edits, selected];
+    const groups = [...this.overlay.querySelectorAll("g")];
+    groups.slice(edits.length).forEach((it) => it.remove());
+    edits.forEach((edit, index) => {
+      const group = groups[index] ?? newGroup(this.overlay, index);
+      const isShown = isOnStage(edit);
+      group.style.display = isShown ? "" : "none";
+      group.setAttribute("class", `${edit.word}${index === selected ? " selected" : ""}`);
+      group.setAttribute("aria-label", `${textOf(edit)}, rectangle ${index + 1}`);
+      if (isShown) {
+        this.place(group, edit);
+      }
+    });
+  }
+
+  place(group, rectangle) {
+    const { left, top, width, height } = rectangle;
+    const [under, over, dim, ...handles] = group.children;
+    for (const it of [under, over]) {
+      setAll(it, { x: left, y: top, width, height });
+    }
+    const whole = `M0 0H${this.canvas.width}V${this.canvas.height}H0Z`;
+    dim.setAttribute("d", `${whole}M${left} ${top}h${width}v${height}h${-width}Z`);
+    // (a finger needs larger ones, which are outside, so that what is between them can be seen)
+    const isCoarse = matchMedia("(pointer: coarse)").matches;
+    const size = (isCoarse ? 24 : 12) / this.scale, out = isCoarse ? size : size / 2;
+    const along = (begin, length, isEnd, most) =>
+      isCoarse ? Math.min(Math.max(isEnd ? begin + length : begin - out, 0), most - size)
+        : begin + isEnd * length - out;
+    handles.forEach((it, index) => {
+      const x = along(left, width, index % 2, this.canvas.width);
+      const y = along(top, height, index >> 1, this.canvas.height);
+      setAll(it, { x, y, width: size, height: size });
+    });
+  }
+
+  /** Where a pointer is, in pixels of the picture. */
+  at(event) {
+    const box = this.canvas.getBoundingClientRect();
+    const within = (value, most) => Math.min(Math.max(value, 0), most);
+    return [
+      within(((event.clientX - box.left) / box.width) * this.canvas.width, this.canvas.width),
+      within(((event.clientY - box.top) / box.height) * this.canvas.height, this.canvas.height),
+    ];
+  }
+
+  press(event) {
+    if (event.button !== 0 || this.drag) {
+      return;
+    }
+    event.preventDefault();
+    this.overlay.setPointerCapture(event.pointerId);
+    const group = event.target.closest("g"), index = group ? indexOf(group) : -1;
+    const corner = event.target.dataset.corner;
+    this.drag = {
+      group, index, corner, from: this.at(event), screen: [event.clientX, event.clientY]
+    };
+    this.drag.old = group && this.edits[index];
+    if (group) {
+      group.focus();
+    } else {
+      this.acts.select(-1);
+    }
+  }
+
+  pull(event) {
+    const { drag } = this;
+    const far = drag && Math.hypot(event.clientX - drag.screen[0], event.clientY - drag.screen[1]);
+    if (!drag || (!drag.now && far < SLACK)) {
+      return;
+    }
+    if (!drag.group) {
+      drag.group = newGroup(this.overlay, -1);
+      drag.group.setAttribute("class", "draft");
+    }
+    drag.now = this.dragged(drag, this.at(event));
+    this.place(drag.group, drag.now);
+  }
+
+  /** The rectangle that a drag makes. */
+  dragged({ old, corner, from }, to) {
+    const { width, height } = this.canvas;
+    if (!old) {
+      return between(from.map((it, axis) => Math.min(it, to[axis])).map(Math.floor),
+        from.map((it, axis) => Math.max(it, to[axis])).map(Math.ceil));
+    }
+    if (!corner) {
+      return shifted(old, Math.round(to[0] - from[0]), Math.round(to[1] - from[1]), width, height);
+    }
+    const fixed = [corner.includes("left") ? old.left + old.width : old.left,
+      corner.includes("top") ? old.top + old.height : old.top];
+    const other = to.map(Math.round);
+    return between(fixed.map((it, axis) => Math.min(it, other[axis])),
+      fixed.map((it, axis) => Math.max(it, other[axis])));
+  }
+
+  release(event) {
+    this.pull(event);
+    const drag = this.cancel();
+    if (drag?.now && drag.old) {
+      this.acts.change(drag.index, drag.now);
+    } else if (drag?.now) {
+      this.acts.draw(drag.now);
+    }
+  }
+
+  /** Ends a drag, and takes its rectangle off the screen. */
+  cancel() {
+    const { drag } = this;
+    this.drag = null;
+    if (drag && !drag.old) {
+      drag.group?.remove();
+    }
+    this.render(this.edits, this.selected);
+    return drag;
+  }
+
+  key(event) {
+    const index = indexOf(event.target), edit = this.edits[index], arrow = ARROWS[event.key];
+    if (!edit) {
+      return;
+    }
+    if (event.key === "Delete" || event.key === "Backspace") {
+      this.acts.remove(index);
+    } else if (event.key === "Escape") {
+      this.acts.select(-1);
+      event.target.blur();
+    } else if (arrow) {
+      const [dx, dy] = arrow.map((it) => it * (event.ctrlKey || event.metaKey ? 10 : 1));
+      const { width, height } = this.canvas;
+      const moved = event.shiftKey ? resized : shifted;
+      this.acts.change(index, moved(edit, dx, dy, width, height), "keys");
+    } else {
+      return;
+    }
+    event.preventDefault();
+  }
+
+  /** Gives the keys to a rectangle. */
+  focus(index) {
+    this.overlay.querySelectorAll("g")[index]?.focus();
+  }
+}
+
+function newGroup(overlay, index) {
+  const group = addDrawn(overlay, "g", { tabindex: 0, role: "button", "data-index": index });
+  addDrawn(group, "rect", { class: "under" });
+  addDrawn(group, "rect", { class: "over" });
+  addDrawn(group, "path", { class: "dim", "fill-rule": "evenodd" });
+  CORNERS.forEach((it) => addDrawn(group, "rect", { class: "handle", "data-corner": it }));
+  return group;
+}
+
+function indexOf(element) {
+  return Number(element.closest("g")?.dataset.index ?? -1);
+}
+
+function between([left, top], [right, bottom]) {
+  return { left, top, width: right - left, height: bottom - top };
+}
+
+/** A rectangle moved by so much, and kept inside a picture of this size. */
+function shifted({ left, top, width, height }, dx, dy, wide, high) {
+  const inside = (value, most) => Math.min(Math.max(value, 0), Math.max(most, 0));
+  return {
+    left: inside(left + dx, wide - width), top: inside(top + dy, high - height), width, height
+  };
+}
+
+/** A rectangle whose right and lower edge are moved by so much; at least one pixel is left. */
+function resized({ left, top, width, height }, dx, dy, wide, high) {
+  const inside = (value, most) => Math.min(Math.max(value, 1), Math.max(most, 1));
+  return {
+    left, top, width: inside(width + dx, wide - left), height: inside(height + dy, high - top)
+  };
+}
