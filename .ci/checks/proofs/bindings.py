@@ -104,6 +104,7 @@ def check_versions(cases):
         "bindings/python/backend.py": r'VERSION = "imgref", "([^"]+)"',
         "bindings/python/imgref/__init__.py": r'__version__ = "([^"]+)"',
         "bindings/rust/Cargo.toml": r'(?m)^version = "([^"]+)"',
+        "crates/imgref_frames/src/main.rt": r'VERSION: &str = "imgref_frames ([^"]+)"',
         "CHANGELOG.md": r"(?m)^## \[(\d[^\]]*)\]",
         **{f"man/{it.name}": r'"imgref ([^"]+)"' for it in (ROOT / "man").iterdir()},
     }
