@@ -44,7 +44,7 @@ def changeable_copy():
 
 
 def built(name, endings):
-    """What `rt` left of a crate in its folder out/: the programs NAME with these endings, but for one that is older than a source."""
+    """What `rt` left of a crate in its folder out/: the programs NAME with these endings, except one that is older than a source."""
     programs = [ROOT / "crates" / name / "out" / f"{name}{it}" for it in endings]
     return [it for it in programs if is_fresh(it, name)]
 

@@ -40,7 +40,7 @@ MINUTES = {"test": 15, "gate": 70, "check": 15}
 COUNT = re.compile(r"(\d+) passed, (\d+) failed")
 # What is shown of a long part while it goes on: each proof that has ended, and what failed.
 ENDED = re.compile(r"== (\w+(?:: its tests)?)$")
-# How far the proofs are, of which a line is shown now and then.
+# Proof progress, of which a line is shown now and then.
 PROGRESS, EVERY = re.compile(r"\d+:\d\d +\d+ %"), 30
 TOLD = re.compile(r"rt: .*NOT PROVED|rt: .*FAILED|.*NOT REFUSED|.*FAILED")
 LOGS = ROOT / "out"
@@ -143,7 +143,7 @@ class Memory:
 
 
 def scripts(folder, top=ROOT, words=(), without=()):
-    """The checks of a folder but for some, which run in the repository or in its copy, with these words."""
+    """The checks of a folder except some, which run in the repository or in its copy, with these words."""
     return [Part(it.name, [sys.executable, str(top / it.relative_to(ROOT)), *words], top) for it in sorted(folder.glob("*.py")) if it.name not in without]
 
 

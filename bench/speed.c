@@ -36,6 +36,15 @@
     X(nested, "sum of a window of a window")                                                                                         \
     X(map_pixels, "map_pixels")                                                                                                      \
     X(swap_rows, "swap_rows, all")                                                                                                   \
+    X(map_places, "map_places")                                                                                                      \
+    X(zip_pixels, "zip_pixels")                                                                                                      \
+    X(from_places, "from_places")                                                                                                    \
+    X(flip_rows, "flip_rows")                                                                                                        \
+    X(flip_columns, "flip_columns")                                                                                                  \
+    X(swap_columns, "swap_columns")                                                                                                  \
+    X(transpose_into, "transpose_into")                                                                                              \
+    X(turn_into, "turn_into, a quarter")                                                                                             \
+    X(half_turn, "turn_into, a half")                                                                                                \
     X(mosaic, "mosaic 16 by 16")                                                                                                     \
     X(small, "mosaic 2 by 2")                                                                                                        \
     X(low, "mosaic 16 by 1")                                                                                                         \
@@ -76,7 +85,20 @@ static void *room(size_t bytes) {
     void bench_##NAME##_tiles(CELL *cells, size_t len, size_t width, size_t height, size_t stride);                                  \
     void bench_##NAME##_bands(CELL *cells, size_t len, size_t width, size_t height, size_t stride);                                  \
     void bench_##NAME##_map_pixels(CELL *cells, size_t len, size_t width, size_t height, size_t stride);                             \
-    void bench_##NAME##_swap_rows(CELL *cells, size_t len, size_t width, size_t height, size_t stride, size_t y, size_t z);
+    void bench_##NAME##_swap_rows(CELL *cells, size_t len, size_t width, size_t height, size_t stride, size_t y, size_t z);          \
+    void bench_##NAME##_map_places(CELL *cells, size_t len, size_t width, size_t height, size_t stride);                             \
+    void bench_##NAME##_zip_pixels(CELL *cells, size_t len, size_t width, size_t height, size_t stride, const CELL *source, size_t source_len,\
+                                   size_t source_stride);                                                                            \
+    size_t bench_##NAME##_from_places(size_t width, size_t height);                                                                  \
+    void bench_##NAME##_flip_rows(CELL *cells, size_t len, size_t width, size_t height, size_t stride);                              \
+    void bench_##NAME##_flip_columns(CELL *cells, size_t len, size_t width, size_t height, size_t stride);                           \
+    void bench_##NAME##_swap_columns(CELL *cells, size_t len, size_t width, size_t height, size_t stride);                           \
+    void bench_##NAME##_transpose_into(CELL *cells, size_t len, size_t side, size_t stride, const CELL *source, size_t source_len,   \
+        size_t source_stride);                                                                                                       \
+    void bench_##NAME##_turn_into(CELL *cells, size_t len, size_t side, size_t stride, const CELL *source, size_t source_len,        \
+        size_t source_stride);                                                                                                       \
+    void bench_##NAME##_half_turn(CELL *cells, size_t len, size_t side, size_t stride, const CELL *source, size_t source_len,        \
+        size_t source_stride);
 EXPORTS(u8, uint8_t)
 EXPORTS(u32, uint32_t)
 
@@ -119,7 +141,16 @@ EXPORTS(u32, uint32_t)
     void call_##NAME##_map_pixels(struct job *j) { bench_##NAME##_map_pixels(IMAGE); }                                               \
     void call_##NAME##_swap_rows(struct job *j) {                                                                                    \
         for (size_t y = 0; y < j->side / 2; y++) bench_##NAME##_swap_rows(IMAGE, y, j->side - 1 - y);                                \
-    }
+    }                                                                                                                                \
+    void call_##NAME##_map_places(struct job *j) { bench_##NAME##_map_places(IMAGE); }                                               \
+    void call_##NAME##_zip_pixels(struct job *j) { bench_##NAME##_zip_pixels(IMAGE, j->source, j->source_len, j->source_stride); }   \
+    void call_##NAME##_from_places(struct job *j) { j->answer = bench_##NAME##_from_places(j->side, j->side); }                      \
+    void call_##NAME##_flip_rows(struct job *j) { bench_##NAME##_flip_rows(IMAGE); }                                                 \
+    void call_##NAME##_flip_columns(struct job *j) { bench_##NAME##_flip_columns(IMAGE); }                                           \
+    void call_##NAME##_swap_columns(struct job *j) { bench_##NAME##_swap_columns(IMAGE); }                                           \
+    void call_##NAME##_transpose_into(struct job *j) { bench_##NAME##_transpose_into(j->cells, j->len, j->side, j->stride, j->source, j->source_len, j->source_stride); }\
+    void call_##NAME##_turn_into(struct job *j) { bench_##NAME##_turn_into(j->cells, j->len, j->side, j->stride, j->source, j->source_len, j->source_stride); }\
+    void call_##NAME##_half_turn(struct job *j) { bench_##NAME##_half_turn(j->cells, j->len, j->side, j->stride, j->source, j->source_len, j->source_stride); }
 CALLS(u8, uint8_t)
 CALLS(u32, uint32_t)
 
@@ -195,6 +226,51 @@ CALLS(u32, uint32_t)
                 lower[x] = kept;                                                                                                     \
             }                                                                                                                        \
         }                                                                                                                            \
+    }                                                                                                                                \
+    void loop_##NAME##_map_places(struct job *j) {                                                                                   \
+        for (size_t y = 0; y < j->side; y++)                                                                                         \
+            for (size_t x = 0; x < j->side; x++) ROW(CELL, y)[x] ^= (CELL)(x ^ y);                                                   \
+    }                                                                                                                                \
+    void loop_##NAME##_zip_pixels(struct job *j) {                                                                                   \
+        for (size_t y = 0; y < j->side; y++)                                                                                         \
+            for (size_t x = 0; x < j->side; x++)                                                                                     \
+                if (ROW(CELL, y)[x] < SOURCE(CELL, y)[x]) ROW(CELL, y)[x] = SOURCE(CELL, y)[x];                                      \
+    }                                                                                                                                \
+    void loop_##NAME##_from_places(struct job *j) {                                                                                  \
+        CELL *made = room(j->side * j->side * sizeof(CELL));                                                                         \
+        for (size_t y = 0; y < j->side; y++)                                                                                         \
+            for (size_t x = 0; x < j->side; x++) made[y * j->side + x] = (CELL)(x ^ y);                                              \
+        j->answer = j->side * j->side;                                                                                               \
+        __asm__ volatile("" ::"r"(made) : "memory");                                                                                 \
+        free(made);                                                                                                                  \
+    }                                                                                                                                \
+    void loop_##NAME##_flip_rows(struct job *j) { loop_##NAME##_swap_rows(j); }                                                      \
+    void loop_##NAME##_flip_columns(struct job *j) {                                                                                 \
+        for (size_t y = 0; y < j->side; y++)                                                                                         \
+            for (size_t x = 0; x < j->side / 2; x++) {                                                                               \
+                CELL kept = ROW(CELL, y)[x];                                                                                         \
+                ROW(CELL, y)[x] = ROW(CELL, y)[j->side - 1 - x];                                                                     \
+                ROW(CELL, y)[j->side - 1 - x] = kept;                                                                                \
+            }                                                                                                                        \
+    }                                                                                                                                \
+    void loop_##NAME##_swap_columns(struct job *j) {                                                                                 \
+        for (size_t y = 0; y < j->side; y++) {                                                                                       \
+            CELL kept = ROW(CELL, y)[0];                                                                                             \
+            ROW(CELL, y)[0] = ROW(CELL, y)[j->side - 1];                                                                             \
+            ROW(CELL, y)[j->side - 1] = kept;                                                                                        \
+        }                                                                                                                            \
+    }                                                                                                                                \
+    void loop_##NAME##_transpose_into(struct job *j) {                                                                               \
+        for (size_t y = 0; y < j->side; y++)                                                                                         \
+            for (size_t x = 0; x < j->side; x++) ROW(CELL, y)[x] = SOURCE(CELL, x)[y];                                               \
+    }                                                                                                                                \
+    void loop_##NAME##_turn_into(struct job *j) {                                                                                    \
+        for (size_t y = 0; y < j->side; y++)                                                                                         \
+            for (size_t x = 0; x < j->side; x++) ROW(CELL, y)[x] = SOURCE(CELL, j->side - 1 - x)[y];                                 \
+    }                                                                                                                                \
+    void loop_##NAME##_half_turn(struct job *j) {                                                                                    \
+        for (size_t y = 0; y < j->side; y++)                                                                                         \
+            for (size_t x = 0; x < j->side; x++) ROW(CELL, y)[x] = SOURCE(CELL, j->side - 1 - y)[j->side - 1 - x];                   \
     }                                                                                                                                \
     /* Each cell of a tile becomes the one at its corner. */                                                                         \
     static void NAME##_tiles(struct job *j, size_t wide, size_t high) {                                                              \

@@ -28,16 +28,26 @@ impl Job {
     }
 }
 
-trait Pixel: Copy + Eq + Hash + Into<u64> + std::ops::Not<Output = Self> {
+trait Pixel: Copy + Ord + Hash + Into<u64> + std::ops::Not<Output = Self> + std::ops::BitXor<Output = Self> {
     const SEVEN: Self;
+
+    fn of(number: usize) -> Self;
 }
 
 impl Pixel for u8 {
     const SEVEN: u8 = 7;
+
+    fn of(number: usize) -> u8 {
+        number as u8
+    }
 }
 
 impl Pixel for u32 {
     const SEVEN: u32 = 7;
+
+    fn of(number: usize) -> u32 {
+        number as u32
+    }
 }
 
 /// Exports a function for both kinds of pixels: `|job, cells|` and what it does.
@@ -186,6 +196,77 @@ mod loops {
         }
     }
 
+    unsafe fn map_places<T: Pixel>(job: &mut Job) {
+        let cells = unsafe { job.cells::<T>() };
+        for y in 0..job.side {
+            for (x, pixel) in cells[y * job.stride..][..job.side].iter_mut().enumerate() {
+                *pixel = *pixel ^ T::of(x ^ y);
+            }
+        }
+    }
+
+    unsafe fn zip_pixels<T: Pixel>(job: &mut Job) {
+        let (cells, source) = unsafe { (job.cells::<T>(), job.source::<T>()) };
+        for y in 0..job.side {
+            let from = &source[y * job.source_stride..][..job.side];
+            for (p, q) in cells[y * job.stride..][..job.side].iter_mut().zip(from) {
+                *p = (*p).max(*q);
+            }
+        }
+    }
+
+    unsafe fn from_places<T: Pixel>(job: &mut Job) {
+        let mut made = Vec::with_capacity(job.side * job.side);
+        for y in 0..job.side {
+            for x in 0..job.side {
+                made.push(T::of(x ^ y));
+            }
+        }
+        job.answer = std::hint::black_box(made).len() as u64;
+    }
+
+    unsafe fn flip_columns<T: Pixel>(job: &mut Job) {
+        let cells = unsafe { job.cells::<T>() };
+        for y in 0..job.side {
+            cells[y * job.stride..][..job.side].reverse();
+        }
+    }
+
+    unsafe fn swap_columns<T: Pixel>(job: &mut Job) {
+        let cells = unsafe { job.cells::<T>() };
+        for y in 0..job.side {
+            cells[y * job.stride..][..job.side].swap(0, job.side - 1);
+        }
+    }
+
+    unsafe fn transpose_into<T: Pixel>(job: &mut Job) {
+        let (cells, source) = unsafe { (job.cells::<T>(), job.source::<T>()) };
+        for y in 0..job.side {
+            for (x, pixel) in cells[y * job.stride..][..job.side].iter_mut().enumerate() {
+                *pixel = source[x * job.source_stride + y];
+            }
+        }
+    }
+
+    unsafe fn turn_into<T: Pixel>(job: &mut Job) {
+        let (cells, source) = unsafe { (job.cells::<T>(), job.source::<T>()) };
+        for y in 0..job.side {
+            for (x, pixel) in cells[y * job.stride..][..job.side].iter_mut().enumerate() {
+                *pixel = source[(job.side - 1 - x) * job.source_stride + y];
+            }
+        }
+    }
+
+    unsafe fn half_turn<T: Pixel>(job: &mut Job) {
+        let (cells, source) = unsafe { (job.cells::<T>(), job.source::<T>()) };
+        for y in 0..job.side {
+            let from = &source[(job.side - 1 - y) * job.source_stride..][..job.side];
+            for (p, q) in cells[y * job.stride..][..job.side].iter_mut().zip(from.iter().rev()) {
+                *p = *q;
+            }
+        }
+    }
+
     unsafe fn by_tiles<T: Pixel>(job: &mut Job, wide: usize, high: usize) {
         let cells = unsafe { job.cells::<T>() };
         for top in (0..job.side).step_by(high) {
@@ -236,6 +317,15 @@ mod loops {
     timed!(rust_u8_nested, rust_u32_nested, nested);
     timed!(rust_u8_map_pixels, rust_u32_map_pixels, map_pixels);
     timed!(rust_u8_swap_rows, rust_u32_swap_rows, swap_rows);
+    timed!(rust_u8_map_places, rust_u32_map_places, map_places);
+    timed!(rust_u8_zip_pixels, rust_u32_zip_pixels, zip_pixels);
+    timed!(rust_u8_from_places, rust_u32_from_places, from_places);
+    timed!(rust_u8_flip_rows, rust_u32_flip_rows, swap_rows);
+    timed!(rust_u8_flip_columns, rust_u32_flip_columns, flip_columns);
+    timed!(rust_u8_swap_columns, rust_u32_swap_columns, swap_columns);
+    timed!(rust_u8_transpose_into, rust_u32_transpose_into, transpose_into);
+    timed!(rust_u8_turn_into, rust_u32_turn_into, turn_into);
+    timed!(rust_u8_half_turn, rust_u32_half_turn, half_turn);
     timed!(rust_u8_mosaic, rust_u32_mosaic, mosaic);
     timed!(rust_u8_small, rust_u32_small, small);
     timed!(rust_u8_low, rust_u32_low, low);

@@ -34,7 +34,7 @@ def say(text, end="\n"):
 
 @contextlib.contextmanager
 def shown(progress):
-    """Shows how far the proofs are, each second on a terminal, and else now and then on a line of its own."""
+    """Shows proof progress, each second on a terminal, and else now and then on a line of its own."""
     is_terminal, ended = sys.stderr.isatty(), threading.Event()
 
     def show():

@@ -1,4 +1,4 @@
-"""Proves and builds crates side by side, each as soon as those below it are proved, and says how far that is.
+"""Proves and builds crates side by side, each as soon as those below it are proved, and shows progress.
 
 `rt` builds the crates below a program one after the other. Here each crate is proved in a room of its own (workspace.py), and
 what it made and cached is moved to the crate's folder, where `rt` finds it.
@@ -32,7 +32,7 @@ def weight(name):
 
 
 class Progress:
-    """How far the proofs are, by what the prover said, and how long they still take.
+    """The progress of the proofs, by what the prover said, and how long they still take.
 
     What is left is told from the crates' weights. How many seconds a unit of weight takes on this machine is learnt from the
     crates that are done."""

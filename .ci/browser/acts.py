@@ -83,7 +83,7 @@ def check_undo(page):
         page.apply(it)
         seen.append(page.shown())
     page.count(
-        "each list shows another picture, but for the crop", len(set(seen[:-1])) == len(seen) - 1
+        "each list shows another picture, except the crop", len(set(seen[:-1])) == len(seen) - 1
     )
     for at in range(len(texts) - 1, -1, -1):
         page.browser.run("document.getElementById('undo').click()")

@@ -131,7 +131,7 @@ def check_steps(page):
         [[1, 1, 0], [1, 1, 1]]
     )
     page.browser.run(RUN, "image 1 1 1 5\nfill 0 - 256\n")
-    count("a bad line is told", step(), "fault line 2: '256' is no number from 0 to 255")
+    count("a bad line is reported", step(), "fault line 2: '256' is no number from 0 to 255")
     page.browser.run(RUN, f"image 100 20 100{' 7' * 2000}\nfill 0 - 1\n")
     count(
         "a large image is not drawn", page.browser.text("#images p"), "It is too large to be drawn."

@@ -105,7 +105,7 @@ def check_silence(page, asked, other, other_asked):
 
 
 def check_old(page):
-    """A browser without 64-bit memories, and a server without the module, are told in words."""
+    """A browser without 64-bit memories, and a server without the module, are reported in words."""
     for label, (script, words) in OLD.items():
         made = page.browser.devtools("Page.addScriptToEvaluateOnNewDocument", source=script)
         page.start()

@@ -20,6 +20,7 @@ TOOLS = {
     "make try": ["tools/program.py", "try"],
     "make c": ["tools/c_library.py", "build"],
     "make web": ["tools/web.py", "build"],
+    "make python": ["tools/python_package.py", "build"],
     "make bench": ["tools/bench.py"],
     "make times": ["tools/times.py", "image_shape"],
     "make test": [".ci/gate.py", "test"],

@@ -51,7 +51,7 @@ def main():
     longest = max(map(len, runs(shares[:-1])))
     cases.count("no share stays for longer than a minute", longest <= 60, f"{longest} seconds")
     cases.count("functions are counted", any(re.search(r"\d+ of \d+", it) for it in texts))
-    cases.count("what is left is told", any("min left" in it for it in texts))
+    cases.count("what is left is shown", any("min left" in it for it in texts))
     return cases.end()
 
 

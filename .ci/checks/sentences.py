@@ -1,9 +1,9 @@
 #!/usr/bin/env python3
 """The documents are in plain English: short sentences, and no odd words.
 
-A sentence has at most 25 words, and README.md has at most 120 lines. A paragraph, a list item, a heading and a cell of a table
-are read as sentences; blocks of code are left out. A piece of code within a line counts as one word. A sentence that is too
-long is shown with its number of words.
+A sentence has at most 25 words, also in the `///` and `//!` lines of crates, and README.md has at most 120 lines. A paragraph, a
+list item, a heading and a cell of a table are read as sentences; blocks of code are left out. A piece of code within a line
+counts as one word. A sentence that is too long is shown with its number of words.
 
 No document, no comment and no text within quotes of a source has a word of TICS: each such line is shown with the better word.
 The pages of WRITTEN are left out, since a tool makes them from the lines of the code.
@@ -24,7 +24,7 @@ WRITTEN = {"API.md", "INNER.md"}
 UNREAD = {"frame_formats", "imgref_frames"}
 # What is searched for odd words besides the documents: their comments and their texts within quotes.
 SOURCES = ["Makefile", "crates/*/src/**/*.rt", "crates/*/specs/**/*.antt", "crates/*/proofs/**/*.antt", "tools/*.py", ".ci/**/*.py"]
-SOURCES += [".ci/c/*.[ch]", "include/*.h", "bench/*.[cr]*", "examples/**/*.[chpr]*"]
+SOURCES += [".ci/c/*.[ch]", "include/*.h", "bench/*.[cr]*", "examples/**/*.[chpr]*", "include/*.hpp", "bindings/**/*.[hpr]*", "man/*", "web/*.*"]
 # Words and phrases that are hard to understand, each with what to say.
 TICS = {
     r"want of memory": "out of memory",
@@ -56,6 +56,8 @@ TICS = {
     r"lies? (?:apart|beside)": "doesn't overlap, is next to",
     r"summed (?:place|corner)": "the sum of the corners",
     r"written apart from": "that shares nothing with",
+    r"but for (?!\w+ing)": "except",
+    r"how far the proofs are": "proof progress",
     r"is a case and no": "belongs in",
 }
 TIC = [(re.compile(rf"\b(?:{it})\b", re.IGNORECASE), better) for it, better in TICS.items()]
@@ -64,7 +66,8 @@ LINK = re.compile(r"!?\[([^\]]*)\]\([^)]*\)")
 ENDS = re.compile(r"(?<=[.!?])[)*'\"]*\s+")
 BEGINS = re.compile(r"\s*(?:[-*] |\d+\. |#+ |\|)")
 # Comments and texts within quotes, by the ending of a file; those of Python are found by its own tokens.
-SAID = {".antt": re.compile(r"--.*"), "": re.compile(r"#.*")}
+SAID = {".antt": re.compile(r"--.*"), "": re.compile(r"#.*"), ".html": re.compile(r".+"), ".1": re.compile(r".+"), ".3": re.compile(r".+")}
+DOCUMENTED = re.compile(r"(?:^ *//[/!].*\n)+", re.MULTILINE)
 SAID_IN_CODE = re.compile(r'//.*|/\*.*|^ *\*.*|"(?:[^"\\]|\\.)*"')
 OF_PYTHON = {tokenize.COMMENT, tokenize.STRING, getattr(tokenize, "FSTRING_MIDDLE", tokenize.STRING)}
 
@@ -118,6 +121,17 @@ def odd(path):
             yield from (f"  {path.relative_to(ROOT)}:{at}: '{it.group()}', say '{better}': {line.strip()}" for it in tic.finditer(plain))
 
 
+def too_long(text, label=""):
+    """Each sentence with too many words."""
+    yield from (f"  {label}{words(it)} words: {it.strip()}" for it in sentences(text) if words(it) > MOST_WORDS)
+
+
+def long_in_code(path):
+    """Those of the doc lines of a file."""
+    for block in DOCUMENTED.findall(path.read_text()):
+        yield from too_long(re.sub(r"(?m)^ *//[/!] ?", "", block), f"{path.relative_to(ROOT)}: ")
+
+
 def main():
     cases = Cases()
     documents = [it for it in (*sorted(ROOT.glob("*.md")), *sorted((ROOT / "docs").glob("*.md"))) if it.name not in WRITTEN]
@@ -126,9 +140,10 @@ def main():
         found = [line for it in paths for line in odd(it)]
         cases.count(f"no odd words in {label}", paths and not found, "\n".join(found))
     for path in documents:
-        long = [it for it in sentences(path.read_text()) if words(it) > MOST_WORDS]
-        shown = "\n".join(f"  {words(it)} words: {it.strip()}" for it in long)
-        cases.count(f"{path.relative_to(ROOT)}: no sentence of more than {MOST_WORDS} words", not long, shown)
+        long = list(too_long(path.read_text()))
+        cases.count(f"{path.relative_to(ROOT)}: no sentence of more than {MOST_WORDS} words", not long, "\n".join(long))
+    long = [line for it in sources if it.suffix == ".rt" for line in long_in_code(it)]
+    cases.count(f"doc lines of the crates: no sentence of more than {MOST_WORDS} words", not long, "\n".join(long))
     lines = len((ROOT / "README.md").read_text().splitlines())
     cases.count(f"README.md: at most {README_LINES} lines", lines <= README_LINES, f"  {lines} lines")
     return cases.end()

@@ -5,8 +5,9 @@ A snippet is a run of lines that are indented by four spaces. Those of docs/CALL
 in a file of the crates, which the gate proves: the lines are there in that order, however far they are indented. A
 script in README.md or docs/SCRIPT.md gives what the page says, as the model tells (.ci/model.py). Each file that a document
 links to or names by its folders is there, and each definition that docs/GLOSSARY.md names is in its file. README.md counts
-the tests and the planted bugs that there are, and docs/CALLERS.md lists each call of an image that doesn't require a fit. Each
-name in docs/PROMISES.md and docs/ARCHITECTURE.md is in a source.
+the tests and the planted bugs that there are, and docs/CALLERS.md lists each call of an image that doesn't require a fit.
+docs/DECISIONS.md lists each function that is proved by hand. Each name in docs/PROMISES.md and docs/ARCHITECTURE.md is in a
+source.
 """
 import pathlib
 import re
@@ -107,6 +108,14 @@ def exceptions(cases):
     cases.count("docs/CALLERS.md: the calls that don't require a fit", named == found, f"not listed: {sorted(found - named)}, not such: {sorted(named - found)}")
 
 
+def by_hand(cases):
+    """docs/DECISIONS.md lists the functions with a whole proof by hand. (TheLaw is a part of one.)"""
+    section = (ROOT / "docs/DECISIONS.md").read_text().split("\n## Proved by hand\n")[-1].split("\n## ")[0]
+    names = {it.parent.name for it in (ROOT / "crates").glob("*/proofs/**/Proof.antt")} - {"TheLaw"}
+    missing = sorted(names - {*re.findall(r"\w+", section)})
+    cases.count("docs/DECISIONS.md: the functions that are proved by hand", not missing, f"not listed: {missing}")
+
+
 def unknown_names(text, known):
     """The names in pieces of code of a document that no source has."""
     spans = SPAN.findall(re.sub("```.*?```", "", text, flags=re.DOTALL))
@@ -116,6 +125,7 @@ def unknown_names(text, known):
 def main():
     cases = Cases()
     exceptions(cases)
+    by_hand(cases)
     paths = [it for pattern in SOURCES for it in ROOT.glob(pattern)]
     known = {word for it in paths for word in re.findall(r"\w+", f"{it.relative_to(ROOT)} {it.read_text()}")}
     for name in ("docs/PROMISES.md", "docs/ARCHITECTURE.md"):

@@ -36,7 +36,7 @@ static void hide(const imgref::rect &window, std::size_t tile) {
     imgref::view picture(pixels, width, height);
     picture.mosaic(window, tile, tile);
 
-    std::cout << "P5\n" << width << ' ' << height << '\n' << most << '\n';
+    std::cout << "P5\n" << width << ' ' << height << '\n' << most << '\n'; // the head of a PGM
     std::cout.write(reinterpret_cast<const char *>(pixels.data()), static_cast<std::streamsize>(pixels.size()));
     if (!std::cout.flush()) throw std::invalid_argument("not written");
 }

@@ -27,7 +27,7 @@ CASES = [
     ("an input that can't be read is a fault", FOLDER, None, b"fault input\n", 4),
     ("an output that takes nothing is a fault", SCRIPT, FULL, None, 4),
     ("a closed output is a fault", SCRIPT, CLOSED, None, 4),
-    ("a bad line is told by the status alone where nothing can be printed", BAD, FULL, None, 2),
+    ("a bad line is reported by the status alone where nothing can be printed", BAD, FULL, None, 2),
 ]
 
 

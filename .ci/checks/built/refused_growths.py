@@ -58,7 +58,7 @@ def runs(library, command, given=b""):
 
 
 def of_program(library, command, given, told, ends):
-    """How many refused growths were told on this input, and what is wrong. `told` is what a refusal must leave, one of some outputs,
+    """How many refused growths were reported on this input, and what is wrong. `told` is what a refusal must leave, one of some outputs,
     each with what it says then, and a status, and `ends` what a run must that has none: its output, and its status."""
     bad = []
     for number, (ran, was_refused) in enumerate(runs(library, command, given), 1):
@@ -103,7 +103,7 @@ def main():
             for program in both_builds(cases, name):
                 for _, words, label, given, told, ends in (it for it in tries if it[0] == name):
                     growths, bad = of_program(library, [program, *words], given, told, ends)
-                    cases.count(f"{program.name}, {label}: {growths} refused growths are told, and nothing else is written", growths > 0 and not bad, "\n".join(bad[:3]))
+                    cases.count(f"{program.name}, {label}: {growths} refused growths are reported, and nothing else is written", growths > 0 and not bad, "\n".join(bad[:3]))
         for crate in (it for it in crates() if says(it, "#[test]")):
             for program in built(crate, ("_tests",)) or [None]:
                 found = [*pool.map(lambda test: of_test(library, program, test), tests_of(program) if program else [])]

@@ -55,7 +55,7 @@ def check_python(cases, room):
     status, _, said = run([python, "-c", DOCTEST, ROOT / "docs/PYTHON.md"], cwd=room, env=quiet)
     counted(cases, "docs/PYTHON.md", said, status)
     check_sources(cases, room, python, quiet)
-    check_hints(cases, room, python, quiet)
+    check_hints(cases, room, python)
 
 
 def check_sources(cases, room, python, quiet):
@@ -69,15 +69,27 @@ def check_sources(cases, room, python, quiet):
     cases.count("pip wheel without the library", status != 0 and "make c" in said, said)
 
 
-def check_hints(cases, room, python, quiet):
-    """The type hints, by mypy."""
-    if run([python, "-c", "import mypy"])[0]:
+def check_hints(cases, room, python):
+    """The type hints, by mypy: those of the installed package, and what a user's code may say of it."""
+    if not shutil.which("mypy"):
         skipped("Python's type hints (mypy)")
         return
-    (room / "user.py").write_text("import imgref\n\nframe = imgref.Image(bytearray(6), 3, 2)\nis_equal: bool = frame == frame.window((0, 0, 3, 2))\n")
-    for label, words in (("the package", ["-p", "imgref"]), ("a user of it", ["user.py"])):
-        status, _, said = run([python, "-m", "mypy", "--strict", *words], cwd=room, env=quiet)
-        cases.count(f"mypy --strict: {label}", status == 0, said)
+    head = "import imgref\n\nframe = imgref.Image(bytearray(6), 3, 2)\n"
+    users = {
+        "is_equal: bool = frame == frame.window((0, 0, 3, 2))": True,
+        "frame.fill(imgref.Window(0, 0, 1, 1), 0.5)": True,
+        "frame.fill((0, 0, 1, 1), (1, 2, 3))": True,
+        'frame.put("0", 0, 1)': False,
+        "frame.window((0, 0, 1))": False,
+        "frame.width = 3": False,
+    }
+    words = ["mypy", "--strict", "--python-executable", python]
+    status, _, said = run([*words, "-p", "imgref"], cwd=room)
+    cases.count("mypy --strict: the package", status == 0, said)
+    for line, is_well in users.items():
+        (room / "user.py").write_text(f"{head}{line}\n")
+        status, _, said = run([*words, "user.py"], cwd=room)
+        cases.count(f"mypy {'takes' if is_well else 'refuses'}: {line}", (status == 0) == is_well, said)
 
 
 def check_versions(cases):

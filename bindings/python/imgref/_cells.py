@@ -87,7 +87,9 @@ def _whole(form: str, letter: str, bits: int) -> tuple[Callable[[Number], int], 
 def _by_struct(packed: struct.Struct, letter: str) -> tuple[Callable[[Number], int], Callable[[int], Number]]:
     """The functions of a float, a bool, or an integer in the other byte order."""
     form, bits = packed.format, struct.Struct("=" + {1: "B", 2: "H", 4: "I", 8: "Q"}[packed.size])
-    pack, unpack, to_bytes, of_bytes = packed.pack, packed.unpack, bits.pack, bits.unpack
+    pack, to_bytes = packed.pack, bits.pack
+    unpack: Callable[[bytes], tuple[Number]] = packed.unpack  # type: ignore[assignment]
+    of_bytes: Callable[[bytes], tuple[int]] = bits.unpack  # type: ignore[assignment]
 
     def wrong(value: Number, why: Exception) -> ValueError:
         return ValueError(f"{value!r} doesn't fit into a cell of format {form!r}: {why}")

@@ -241,7 +241,7 @@ class Image(Layout):
         equal = _equal(image, second)
         if equal < 0:
             raise Refused(-equal)
-        return equal == 1
+        return bool(equal)
 
     __hash__ = None  # type: ignore[assignment]
 

@@ -54,7 +54,7 @@ class Layout:
     @property
     def stride(self) -> int:
         """The numbers from the start of a row to that of the next: `channels` of them are a pixel."""
-        return self._image.stride * (self._pixels.channels // self._step)
+        return int(self._image.stride) * (self._pixels.channels // self._step)
 
     @property
     def format(self) -> str:
@@ -75,9 +75,11 @@ class Layout:
     def __array_interface__(self) -> dict[str, Any]:
         """The pixels for NumPy (`numpy.asarray`) and PIL (`PIL.Image.fromarray`), which copies them."""
         size, image = self._pixels.cell.size, self._image
-        shape, strides = (self._height, self._width), (image.stride * image.size, size * self._pixels.channels)
-        if self._pixels.channels > 1:
-            shape, strides = (*shape, self._pixels.channels), (*strides, size)
+        channels = self._pixels.channels
+        shape: tuple[int, ...] = (self._height, self._width)
+        strides: tuple[int, ...] = (image.stride * image.size, size * channels)
+        if channels > 1:
+            shape, strides = (*shape, channels), (*strides, size)
         data = (image.cells, not self._writable)
         return {"version": 3, "shape": shape, "typestr": self._pixels.cell.typestr, "data": data, "strides": strides}
 

@@ -49,7 +49,7 @@ def of_other_buffers():
     check("shared memory", raises(ValueError, both.window(Window(0, 0, 2, 2)).copy_from, both.window(Window(1, 1, 2, 2))))
     signed = Image(array.array("b", bytes(12)), 4, 3)
     check("two formats", raises(TypeError, both.copy_from, signed) and copied == bytes(range(12)))
-    check("cells that lie askew", raises(ValueError, Image, memoryview(bytearray(9))[1:].cast("i"), 1, 2))
+    check("misaligned cells", raises(ValueError, Image, memoryview(bytearray(9))[1:].cast("i"), 1, 2))
 
 
 def of_equal_images():

@@ -59,11 +59,11 @@ impl<Container> Img<Container> {
     /// [`Refused::NoTile`] for a tile of no pixel.
     pub fn tiles(&self, tile_width: usize, tile_height: usize) -> Result<impl ExactSizeIterator<Item = Window> + DoubleEndedIterator, Refused> {
         let (width, height, mut count) = (self.width, self.height, 0);
-        // SAFETY: a number of this function's own takes the answer.
+        // SAFETY: a number of this function's own takes the result.
         done(unsafe { imgref_tile_count(width, height, tile_width, tile_height, &mut count) })?;
         Ok((0..count).map(move |number| {
             let mut tile = Window::default();
-            // SAFETY: a window of this closure's own takes the answer.
+            // SAFETY: a window of this closure's own takes the result.
             let answer = done(unsafe { imgref_tile(width, height, tile_width, tile_height, number, &mut tile) });
             debug_assert_eq!(answer, Ok(()));
             tile
@@ -130,7 +130,7 @@ impl<Container: Buffer> Img<Container> {
     /// The cells of a window.
     pub(crate) fn stretch(&self, window: Window) -> Result<Range<usize>, Refused> {
         let (mut start, mut count) = (0, 0);
-        // SAFETY: two numbers of this function's own take the answer.
+        // SAFETY: two numbers of this function's own take the result.
         done(unsafe { imgref_window(self.buf.cells().len(), self.width, self.height, self.stride, window, &mut start, &mut count) })?;
         Ok(start..start + count)
     }

@@ -64,7 +64,7 @@ one_taken words old new n taken first all = grind (arith, map_some, same_eqb)
 pub fewer_taken : (words : List (List ℕ)) (old new : Edits) (n : ℕ) → Taken words old new n → old.framing ≡ None → (n ≡ length words → ⊥) → with_one (plain old) words ≡ None
 fewer_taken words old new n taken first fewer = grind (arith, map_some, other_eqb)
 
--- there is none, or one would stand behind a crop or a pad
+-- there is none, or one would come after a crop or a pad
 pub none_taken : (words : List (List ℕ)) (old : Edits) → (old.framing ≡ None → edit_at words ≡ None) → with_one (plain old) words ≡ None
 none_taken words old none = grind arith
 
@@ -86,7 +86,7 @@ bad_line old line left lines is none = ap (with_lines old) is ∙ ap (λ (o : Op
 
 -- ---- edits that begin with others
 
--- the first edits' steps stand at the front of the others'
+-- the first edits' steps are at the front of the others'
 pub record Begins (old new : Plain) : Type 0 where
   pub more : List (Step Paint)
   pub steps : new.steps ≡ old.steps ++ more

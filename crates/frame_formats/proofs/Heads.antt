@@ -25,7 +25,7 @@ done_is : (s : Scan) (p : Picture) → done_as s ≡ Some p → s ≡ Done p
 done_is (Done q) p e = cc
 done_is _ p e = absurd cc
 
--- bytes behind a head are no part of one
+-- bytes after a head are no part of one
 no_more : (s : Scan) (p q : Picture) (y : ℕ) (ys : List ℕ) → done_as s ≡ Some p → done_as (scanned (pushed s y) ys) ≡ Some q → ⊥
 no_more s p q y ys done longer = grind (arith, bad_is, done_is)
 
@@ -55,11 +55,11 @@ begins (x ∷ xs) p e =
 
 -- ---- the head that is written
 
--- a digit behind white space
+-- a digit after white space
 plain_digit : (d : ℕ) → d < 10 → (is_white (48 + d) ≡ false) × (eqb (48 + d) 35 ≡ false) × (is_digit (48 + d) ≡ true) × (48 + d - 48 ≡ d)
 plain_digit d small = (grind arith, grind arith, grind arith, omega arith)
 
--- states in which a number is read, told by their number: a digit goes behind it
+-- states in which a number is read, told by their number: a digit goes after it
 abbrev ReadsDigits : (Option ℕ → Head) → Type 0
 ReadsDigits head = (number : Option ℕ) (d : ℕ) → d < 10 → pushed (more (head number)) (48 + d) ≡ with_number head (with_digit number d)
 

@@ -20,7 +20,7 @@ abbrev pub picture_layers : Bool → List Layer
 picture_layers false = Pixels Only ∷ []
 picture_layers true = Pixels Red ∷ Pixels Green ∷ Pixels Blue ∷ []
 
--- behind the plane of brightness there may be two planes of chroma samples, one for so many columns and rows of pixels
+-- after the plane of brightness there may be two planes of chroma samples, one for so many columns and rows of pixels
 abbrev pub sampled : ℕ → ℕ → List Layer
 sampled x y = Pixels Only ∷ Samples x y ∷ Samples x y ∷ []
 

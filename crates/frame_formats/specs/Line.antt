@@ -4,14 +4,14 @@ use Rattle.std.specs.List.{flat_map}
 use Rattle.std.specs.Fmt.{decimal}
 use Rattle.text_model.specs.Parts.{parts_of}
 
--- a field behind its space: those of the width and the height name the new ones
+-- a field after its space: those of the width and the height name the new ones
 abbrev pub resized_field : ℕ → ℕ → List ℕ → List ℕ
 resized_field width height field =
     if slice_index field 0 == 87 then 32 ∷ 87 ∷ decimal width
     else if slice_index field 0 == 72 then 32 ∷ 72 ∷ decimal height
     else 32 ∷ field
 
--- the fields behind the first
+-- the fields after the first
 abbrev pub resized_fields : ℕ → ℕ → List (List ℕ) → List ℕ
 resized_fields width height fields = flat_map (resized_field width height) fields
 

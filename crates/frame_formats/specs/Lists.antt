@@ -9,7 +9,7 @@ use Rattle.frame_formats.specs.Words.{Named, edit_at}
 use Rattle.frame_formats.specs.declared.framing.Framing.{Framing}
 use Rattle.frame_formats.specs.declared.words.Edits.{Edits}
 
--- words are these edits, one behind the other, where this became of the size before: no edit stands behind a crop or a pad
+-- words are these edits, one after the other, where this became of the size before: no edit comes after a crop or a pad
 abbrev pub AreEdits : List Named → Option Framing → List (List ℕ) → Type 0
 AreEdits [] framing words = words ≡ []
 AreEdits (e ∷ es) framing words = (framing ≡ None) × (edit_at words ≡ Some e) × AreEdits es e.framing (drop e.count words)
@@ -19,7 +19,7 @@ abbrev pub framing_after : List Named → Option Framing → Option Framing
 framing_after [] framing = framing
 framing_after (e ∷ es) framing = framing_after es e.framing
 
--- edits with those behind them that words are
+-- edits with those after them that words are
 pub record Adds (words : List (List ℕ)) (old new : Edits) : Type 0 where
   pub edits : List Named
   pub are : AreEdits edits old.framing words
@@ -40,7 +40,7 @@ edit_of words = edit_at words >>= λ e. if e.count == length words then Some e e
 abbrev pub with_one : Plain → List (List ℕ) → Option Plain
 with_one old words = if is_none old.framing then option_map (λ e. edits (old.steps ++ e.steps) e.framing) (edit_of words) else None
 
--- edits with the one that a line is, its words with one space between two; an empty line is none
+-- edits with the one that a line is, its words with one space between two; an empty line is ignored
 abbrev pub with_line : Plain → List ℕ → Option Plain
 with_line old line = if is_nil line then Some old else with_one old (parts_of 32 line)
 

@@ -56,7 +56,7 @@ after_digit (Width colour width) digit = with_number (Width colour) (with_digit 
 after_digit (Height colour width height) digit = with_number (Height colour width) (with_digit height digit)
 after_digit (Greatest colour width height greatest) digit = with_number (Greatest colour width height) (with_digit greatest digit)
 
--- behind the two bytes of the kind
+-- after the two bytes of the kind
 abbrev pub in_head : Head → ℕ → Scan
 in_head head byte =
     if is_white byte then after_white head

@@ -20,7 +20,7 @@ pub enum Framing {
     },
 }
 
-// How many pixels there are with those before and behind.
+// How many pixels there are with those before and after.
 fn padded_size(before: usize, pixels: usize, behind: usize) -> Option<usize>
     ensures { result ≡ padded_size before pixels behind }
 {

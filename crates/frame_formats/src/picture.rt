@@ -75,7 +75,7 @@ fn with_digit(number: Option<usize>, digit: usize) -> Option<usize>
     }
 }
 
-// Adds a digit, and answers whether the number is then in range.
+// Adds a digit, and returns whether the number is then in range.
 fn push_digit(number: &mut Option<usize>, digit: usize) -> bool
     ensures number { number.new ≡ with_digit number.old digit }
     ensures fits { result ≡ is_some (with_digit number.old digit) }

@@ -1,5 +1,5 @@
-//! Calls on all cells in a shape: windows, equality and hash, comparison by a closure, copies
-//! without padding; fills, copies, maps and mosaics of the pixels; moves in place.
+//! Calls on all cells in a shape. They give windows, compare, hash, and copy without padding. They
+//! fill, copy and map pixels, make mosaics, and move pixels in place.
 //!
 //! Cells are a slice or a `Vec`, and a [`Shape`](image_shape::Shape) says where the rows of the
 //! image are in them. The crate hides the loops over rows, and that shifts of a

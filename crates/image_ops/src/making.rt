@@ -20,8 +20,9 @@ fn push_row<T, F: Fn(usize, usize) -> T>(pixels: &mut Vec<T>, width: usize, y: u
     }
 }
 
-/// The results of `f` for each place of a size, row by row and from left to right, in a buffer of
-/// their own, whose memory is allocated at once. Where there is no place, nothing is allocated.
+/// The results of `f` for each place of a size, row by row and from left to right. They are in a
+/// buffer of their own, whose memory is allocated at once. Where there is no place, nothing is
+/// allocated.
 pub fn make_pixels<T, F: Fn(usize, usize) -> T>(
     alloc: Global,
     width: usize,

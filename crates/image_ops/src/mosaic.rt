@@ -74,8 +74,8 @@ fn repeat_row<T: Copy>(cells: &mut [T], row: Stretch, target: usize)
 /// Writes, at every place of `shape`, the old pixel at the corner of the place's tile. The padding
 /// stays.
 ///
-/// It goes row by row. In the first row of a tile each pixel becomes the one at its tile's corner,
-/// and each other row is a copy of the row above it.
+/// It goes row by row. In the first row of a tile each pixel becomes the one at its tile's corner.
+/// Each other row is a copy of the row above it.
 ///
 /// # Requires
 ///

@@ -19,9 +19,9 @@ fn map_row<T: Copy, F: Fn(usize, usize, T) -> T>(cells: &mut [T], y: usize, f: &
     }
 }
 
-/// Every pixel of `shape` in `cells` becomes the result of `f` for its column, its row and itself,
-/// row by row and from left to right; the padding stays. The cells must fit; `Shape::fits` tests
-/// it.
+/// Every pixel of `shape` in `cells` becomes the result of `f` for its column, its row and itself.
+/// It goes row by row and from left to right, and the padding stays. The cells must fit;
+/// `Shape::fits` tests it.
 pub fn map_places<T: Copy, F: Fn(usize, usize, T) -> T>(cells: &mut [T], shape: Shape, f: &F)
     requires fits { Fits (shaped cells.old shape) }
     requires callable { TakesEachPlace (F.pre f.now) (shaped cells.old shape) }
@@ -49,7 +49,7 @@ fn zip_row<T: Copy, U: Copy, F: Fn(T, U) -> T>(cells: &mut [T], others: &[U], f:
 }
 
 /// Every pixel of `shape` in `cells` becomes the result of `f` for it and the pixel of the other
-/// image at its place, row by row and from left to right; the padding stays. Both fit
+/// image at its place. It goes row by row and from left to right, and the padding stays. Both fit
 /// (`Shape::fits`) and have the same size; their strides may differ.
 pub fn zip_pixels<T: Copy, U: Copy, F: Fn(T, U) -> T>(
     cells: &mut [T],

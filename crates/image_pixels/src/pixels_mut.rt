@@ -15,8 +15,8 @@ use std::marker::{Model, PhantomData};
 
 /// The pixels of an image for writing, row by row and from left to right, without the padding.
 ///
-/// It is a pointer and counts, as `PixelsRefIter` is. When the cursor is dropped, at any point, the
-/// pixels that it has returned keep what was written in them, and all other cells are as they were.
+/// It is a pointer and counts, as `PixelsRefIter` is. The cursor may be dropped at any point. Then
+/// the pixels that it has returned keep what was written in them. All other cells are as they were.
 pub struct PixelsIterMut<'a, T> {
     current: *mut T,
     remaining: usize,

@@ -21,9 +21,9 @@ pub(crate) fn part<T>(cells: &mut [T], end: End, at: usize) -> (&mut [T], &mut [
     }
 }
 
-/// Two parts of the cells, at the given end: the cells between the inner and the outer cut, and the
-/// cells on the far side of the outer cut. The cells on the near side of the inner cut aren't
-/// returned, and stay as they are.
+/// Two parts of the cells, at the given end. One is the cells between the inner and the outer cut,
+/// the other the cells on the far side of the outer cut. The cells on the near side of the inner
+/// cut aren't returned, and stay as they are.
 ///
 /// This splits rows and bands off. The inner cut is counted from the first of the cells that the
 /// outer cut splits off.

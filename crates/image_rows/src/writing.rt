@@ -14,8 +14,8 @@ use image_shape::{End, Shape, Spacing};
 use std::iter::{ExactSizeIterator, FusedIterator};
 
 /// The rows of an image for writing, from either end: each a slice of `width` cells, without the
-/// padding. An image of width 0 has no row. When the iterator is dropped, at any point, the rows
-/// that it has returned keep what was written in them, and all other cells are as they were.
+/// padding. An image of width 0 has no row. The iterator may be dropped at any point. Then the rows
+/// that it has returned keep what was written in them. All other cells are as they were.
 #[derive(Drop)]
 pub struct RowsIterMut<'a, T> {
     cells: &'a mut [T],

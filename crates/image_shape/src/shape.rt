@@ -10,8 +10,8 @@ ghost use Rattle.image_shape.specs.Window.{as_window, as_stretch};
 
 use crate::window::{Stretch, Window};
 
-/// The width and the height of an image in pixels, and its stride: the number of cells from the
-/// start of a row to the start of the next one.
+/// The width and the height of an image in pixels, and its stride. The stride is the number of
+/// cells from the start of a row to the start of the next one.
 ///
 /// The stride is at least 1 and at least the width, and the width and the height are at most
 /// `u32::MAX`.
@@ -49,7 +49,7 @@ impl Shape {
         }
     }
 
-    /// The same shape where there is one: `None` where the stride is 0 or less than the width, or
+    /// The same shape where there is one. `None` where the stride is 0 or less than the width, or
     /// where the width or the height is greater than `u32::MAX`.
     pub fn checked(width: usize, height: usize, stride: usize) -> Option<Shape>
         ensures exists { is_some result ≡ is_shape width height stride }

@@ -19,8 +19,8 @@ pub fn tiles_along(len: usize, tile: usize) -> usize
     if len == 0 { 0 } else { (len - 1) / tile + 1 }
 }
 
-/// The tile in tile column `column` of tile row `row` of a size: its corner is a multiple of the tile
-/// size, and it is cut at the right and the lower edge.
+/// The tile in tile column `column` of tile row `row` of a size. Its corner is a multiple of the
+/// tile size, and it is cut at the right and the lower edge.
 ///
 /// # Requires
 ///

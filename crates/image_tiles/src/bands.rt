@@ -70,8 +70,8 @@ impl BandSpacing {
 
 /// The bands of an image for writing, from top to bottom: of full width, with `band_height` rows
 /// each; the last may have fewer. The buffer of a band of `k` rows has `stride * (k - 1) + width`
-/// cells. Several bands may exist at the same time. When the iterator is dropped, even early, the
-/// bands that it has returned keep what was written in them, and all other cells, padding included,
+/// cells. Several bands may exist at the same time. The iterator may be dropped at any point. Then
+/// the bands that it has returned keep what was written in them. All other cells, padding included,
 /// are as they were.
 #[derive(Drop)]
 pub struct BandsMut<'a, T> {

@@ -3,3 +3,4 @@ pub mod SameImages
 pub mod WindowShapes
 pub mod ImageValues
 pub mod Writes
+pub mod Made

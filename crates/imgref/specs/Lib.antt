@@ -4,6 +4,7 @@ pub use Rattle.image_shape.specs.Window
 pub use Rattle.image_ops.specs.Clones
 pub use Rattle.image_ops.specs.Mosaic
 pub use Rattle.image_ops.specs.Pairs
+pub use Rattle.image_ops.specs.Turned
 pub use Rattle.image_rows.specs.Rows
 pub use Rattle.image_pixels.specs.Marks
 pub use Rattle.image_pixels.specs.Pixels

@@ -10,6 +10,7 @@ pub use Rattle.image_model.specs.Flips.{flipped, flipped_upto}
 pub use Rattle.image_model.specs.Tables.{table, table_upto, is_before}
 pub use Rattle.image_model.specs.ByPlace.{mapped_places, zipped}
 pub use Rattle.image_model.specs.Turns.{columns_swapped, mirrored, transposed, turned_right, turned_half, turned_left}
+pub use Rattle.image_ops.specs.Turned.{turned, turned_width, turned_height}
 pub use Rattle.image_shape.specs.Window.{as_window}
 pub use Rattle.image_shape.specs.Shape.{shaped, shape_width, shape_height}
 pub use Rattle.imgref.specs.Image.{buf_of, OnlyCellsChange, SameBorrow, width_of, height_of, stride_of, vec_layout, ref_layout, mut_layout, layout_by, vec_grid, ref_grid, mut_grid, grid_by}

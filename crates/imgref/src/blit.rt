@@ -87,10 +87,10 @@ impl<C: AsMutSlice> Img<C> {
         move_pixels(cells, shape, source, target);
     }
 
-    /// The window of `width` by `height` pixels with its corner at column `to_left` of row `to_top`
-    /// gets the old pixels of the window at column `from_left` of row `from_top`. The two may
-    /// overlap, and every other cell stays. No memory is allocated: the rows are moved within the
-    /// buffer.
+    /// One window gets the old pixels of another. Both have `width` by `height` pixels. The corner
+    /// of the one that is read is at column `from_left` of row `from_top`. That of the one that is
+    /// written is at column `to_left` of row `to_top`. The two may overlap, and every other cell
+    /// stays. No memory is allocated: the rows are moved within the buffer.
     ///
     /// # Requires
     ///

@@ -15,7 +15,7 @@ impl<C: AsSlice> Img<C> {
     ///
     /// # Requires
     ///
-    /// Facts about the callback, which no call tests: it may be called with the container, and the
+    /// Facts about the callback, which no call tests. It may be called with the container, and the
     /// container that it returns has as many cells, padding included.
     pub fn map_buf<N: AsSlice, F: FnOnce(C) -> N>(self, callback: F) -> Img<N>
         requires callable { F.pre callback (buf_of self) }
@@ -33,8 +33,8 @@ impl<C: AsSlice> Img<C> {
     ///
     /// # Requires
     ///
-    /// Facts about the callback, which no call tests: it may be called with the container, and
-    /// where it returns `Ok`, the new container has as many cells, padding included.
+    /// Facts about the callback, which no call tests. It may be called with the container. Where
+    /// it returns `Ok`, the new container has as many cells, padding included.
     ///
     /// # Errors
     ///

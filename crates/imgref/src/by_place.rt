@@ -1,14 +1,16 @@
-//! Calls that change every pixel by a closure that takes its place, or the pixel of another image
-//! there; and an image made by a closure from the places of a size.
+//! Calls that change every pixel by a closure. It takes the pixel's place, or the pixel of another
+//! image there. And an image made by a closure from the places of a size.
 
-ghost use Rattle.std.specs.Prelude.{◌≡◌};
+ghost use Rattle.std.specs.Prelude.{◌≡◌, ◌*◌, ◌^◌, ◌<◌, IsOk, IfOk};
 ghost use Rattle.image_model.specs.Layout.{Fits, SameOutside};
-ghost use Rattle.image_model.specs.ByPlace.{TakesEachPlace, HasPlaceAnswers, IsMappedByPlace, TakesBothPixels, HasZipAnswers, IsZipped};
-ghost use Rattle.imgref.specs.Image.{width_of, height_of, layout_by, OnlyCellsChange, ref_layout};
+ghost use Rattle.image_model.specs.ByPlace.{TakesEachPlace, HasPlaceAnswers, IsMappedByPlace, TakesBothPixels, HasZipAnswers, IsZipped, TakesPlacesOf, IsTable};
+ghost use Rattle.image_model.specs.Compaction.{least_stride};
+ghost use Rattle.imgref.specs.Image.{width_of, height_of, layout_by, stride_of, OnlyCellsChange, ref_layout, vec_layout};
 
 use crate::containers::{AsMutSlice, AsSlice};
-use crate::img::{Img, ImgRef};
-use image_ops::{map_places, zip_pixels};
+use crate::img::{Img, ImgRef, ImgVec};
+use image_ops::{make_pixels, map_places, zip_pixels};
+use std::alloc::{AllocError, Global};
 
 impl<C: AsMutSlice> Img<C> {
     /// Every pixel becomes the result of `f` for its column, its row and itself, row by row and
@@ -36,9 +38,9 @@ impl<C: AsMutSlice> Img<C> {
         map_places(self.buf.stretch_mut(0, len), shape, &f);
     }
 
-    /// Every pixel becomes the result of `f` for it and the pixel of `other` at its place, row by
-    /// row and from left to right; the padding stays. The two strides may differ. (In the Rust
-    /// crate this is the caller's loop over two iterators.)
+    /// Every pixel becomes the result of `f` for it and the pixel of `other` at its place. It goes
+    /// row by row and from left to right, and the padding stays. The two strides may differ. (In the
+    /// Rust crate this is the caller's loop over two iterators.)
     ///
     /// # Requires
     ///
@@ -69,5 +71,40 @@ impl<C: AsMutSlice> Img<C> {
         let len = self.buf.as_slice().len();
         let cells = self.buf.stretch_mut(0, len);
         zip_pixels(cells, shape, other.buf, other.shape(), &f);
+    }
+}
+
+impl<T> ImgVec<T> {
+    /// The image of `width` by `height` pixels whose pixels are the results of `f` for each column
+    /// and row. It goes row by row and from left to right. There is no padding: the stride is the
+    /// width, or 1 for width 0. (In the Rust crate this is the caller's loop over `push`.)
+    ///
+    /// # Requires
+    ///
+    /// Width and height are at most `u32::MAX`, and `f` can be called with each place of the size:
+    /// compare the numbers.
+    ///
+    /// # Errors
+    ///
+    /// Out of memory. This never happens where there is no place.
+    #[tactic(auto, using(crate::proofs::Made::made_images))]
+    pub fn from_places<F: Fn(usize, usize) -> T>(
+        alloc: Global,
+        width: usize,
+        height: usize,
+        f: F,
+    ) -> Result<ImgVec<T>, AllocError>
+        requires width_bound { width < 2 ^ 32 }
+        requires height_bound { height < 2 ^ 32 }
+        requires callable { TakesPlacesOf (F.pre f) width height }
+        ensures grid { IfOk result (λ i. IsTable (F.post f) (vec_layout i)) }
+        ensures width { IfOk result (λ i. width_of i ≡ width) }
+        ensures height { IfOk result (λ i. height_of i ≡ height) }
+        ensures stride { IfOk result (λ i. stride_of i ≡ least_stride width) }
+        ensures fits { IfOk result (λ i. Fits (vec_layout i)) }
+        ensures succeeds { width * height ≡ 0 → IsOk result }
+    {
+        let pixels = make_pixels(alloc, width, height, &f)?;
+        Ok(Img::new_stride(pixels, width, height, width.max(1)))
     }
 }

@@ -20,7 +20,7 @@ use std::borrow::CowSlice;
 impl<T: Copy> ImgVec<T> {
     /// The joined rows, and the width and the height in pixels.
     ///
-    /// The image keeps its size and its pixels and nothing else: its buffer becomes exactly the
+    /// The image keeps its size and its pixels and nothing else. Its buffer becomes exactly the
     /// joined rows, and its stride the width, or 1 at width 0. No memory is allocated or freed: the
     /// rows are moved within the buffer, and for an image that is already packed nothing is moved.
     /// (In the Rust crate the stride stays.)

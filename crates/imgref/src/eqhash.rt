@@ -11,9 +11,9 @@ use image_ops::{are_equal, hash_pixels};
 use std::hash::{Hash, Hasher};
 
 impl<C: AsSlice> Img<C> {
-    /// Whether this image and another, of any kind, are equal in the sense of `==`, which compares
-    /// images of one kind: they have the same size, and either both fit and have equal pixels at
-    /// every place, or neither fits. There is no condition. This call replaces the Rust crate's
+    /// Whether this image and another, of any kind, are equal. They are if they have the same size,
+    /// and either both fit and have equal pixels at every place, or neither fits. There is no
+    /// condition. `==` is the same test for images of one kind; this call replaces the Rust crate's
     /// `==` between kinds.
     pub fn same_pixels(&self, other: ImgRef<'_, C::Item>) -> bool
     where

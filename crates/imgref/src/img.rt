@@ -9,9 +9,9 @@ use crate::containers::AsSlice;
 use image_shape::{Shape, Window};
 use std::alloc::AllocError;
 
-/// A container of cells seen as an image: its width and height in pixels, and the stride, the
-/// number of cells from the start of a row to the start of the next one. The cells that belong to
-/// no pixel are padding.
+/// A container of cells seen as an image, by a width and a height in pixels, and a stride. The
+/// stride is the number of cells from the start of a row to the start of the next one. The cells
+/// that belong to no pixel are padding.
 ///
 /// Every image has a stride of at least 1 and of at least its width, and a width and a height of at
 /// most `u32::MAX`. Nothing is known of the number of cells: `is_valid` tests whether there are

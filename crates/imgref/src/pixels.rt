@@ -144,8 +144,8 @@ impl<C: AsMutSlice> Img<C> {
     ///
     /// Once the borrow ends, the pixels are what was last written, and everything else is as
     /// before. The contract of `exact_pixels_mut`, which returns the same cursor, says so. A caller
-    /// with a generated proof learns from this call only that the size, the stride and the number
-    /// of cells stay, so that the image fits.
+    /// with a generated proof learns less from this call: the size, the stride and the number of
+    /// cells stay, so the image fits.
     ///
     /// # Requires
     ///

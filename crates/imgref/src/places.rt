@@ -1,5 +1,5 @@
-//! Pixels by their places: the pixel at a place, and writing one value at a place, in a row or in a
-//! window, and mosaics of windows.
+//! Pixels by their places. Calls read the pixel at a place, or write one value at a place, in a row
+//! or in a window. One makes a mosaic of a window.
 
 ghost use Rattle.std.specs.Prelude.{◌≡◌, ◌<◌};
 ghost use Rattle.image_model.specs.Layout.{Fits, SameOutside};

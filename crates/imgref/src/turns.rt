@@ -4,12 +4,13 @@
 ghost use Rattle.std.specs.Prelude.{◌≡◌, ◌<◌};
 ghost use Rattle.image_model.specs.Layout.{Fits, SameOutside};
 ghost use Rattle.image_model.specs.Flips.{flipped};
-ghost use Rattle.image_model.specs.Turns.{columns_swapped, mirrored};
-ghost use Rattle.imgref.specs.Image.{width_of, grid_by, layout_by, OnlyCellsChange};
+ghost use Rattle.image_model.specs.Turns.{columns_swapped, mirrored, transposed};
+ghost use Rattle.image_ops.specs.Turned.{turned, turned_width, turned_height};
+ghost use Rattle.imgref.specs.Image.{width_of, height_of, grid_by, layout_by, OnlyCellsChange};
 
 use crate::containers::{AsMutSlice, AsSlice};
 use crate::img::Img;
-use image_ops::{flip_columns, flip_rows, swap_columns};
+use image_ops::{Turn, flip_columns, flip_rows, swap_columns, transpose_pixels, turn_pixels};
 
 impl<C: AsMutSlice> Img<C> {
     /// The image is turned upside down: its first row changes places with its last, and so on. The
@@ -72,5 +73,61 @@ impl<C: AsMutSlice> Img<C> {
         let shape = self.shape();
         let len = self.buf.as_slice().len();
         swap_columns(self.buf.stretch_mut(0, len), shape, x, z);
+    }
+}
+
+impl<C: AsSlice> Img<C> {
+    /// Writes this image to `target` with columns and rows exchanged: column `x` becomes row `x`.
+    /// The padding of `target` stays, and no memory is allocated. (In the Rust crate this is the
+    /// caller's loop.)
+    ///
+    /// # Requires
+    ///
+    /// Both images fit (`is_valid`); `target` is as wide as this image is high, and as high as it
+    /// is wide.
+    pub fn transpose_into<'a, D: AsMutSlice<Item = C::Item>>(&self, target: &'a mut Img<D>)
+    where
+        C::Item: Copy + 'a,
+        requires fits { Fits (layout_by C.cells self.now) }
+        requires target_fits { Fits (layout_by D.cells target.old) }
+        requires columns { width_of target.old ≡ height_of self.now }
+        requires lines { height_of target.old ≡ width_of self.now }
+        ensures grid { grid_by D.cells target.new ≡ transposed (grid_by C.cells self.now) }
+        ensures outside { SameOutside (layout_by D.cells target.old)
+            (layout_by D.cells target.new) }
+        ensures fits { Fits (layout_by D.cells target.new) }
+        ensures container { OnlyCellsChange D.cells D.with_cells target.old target.new }
+    {
+        let shape = target.shape();
+        let len = target.buf.as_slice().len();
+        let cells = target.buf.stretch_mut(0, len);
+        transpose_pixels(cells, shape, self.buf.as_slice(), self.shape());
+    }
+
+    /// Writes this image to `target` turned clockwise. The padding of `target` stays, and no memory
+    /// is allocated. (In the Rust crate this is the caller's loop.)
+    ///
+    /// # Requires
+    ///
+    /// Both images fit (`is_valid`), and `target` has the size of the turned image.
+    pub fn turn_into<'a, D: AsMutSlice<Item = C::Item>>(&self, target: &'a mut Img<D>, turn: Turn)
+    where
+        C::Item: Copy + 'a,
+        requires fits { Fits (layout_by C.cells self.now) }
+        requires target_fits { Fits (layout_by D.cells target.old) }
+        requires columns { width_of target.old
+            ≡ turned_width turn (width_of self.now) (height_of self.now) }
+        requires lines { height_of target.old
+            ≡ turned_height turn (width_of self.now) (height_of self.now) }
+        ensures grid { grid_by D.cells target.new ≡ turned turn (grid_by C.cells self.now) }
+        ensures outside { SameOutside (layout_by D.cells target.old)
+            (layout_by D.cells target.new) }
+        ensures fits { Fits (layout_by D.cells target.new) }
+        ensures container { OnlyCellsChange D.cells D.with_cells target.old target.new }
+    {
+        let shape = target.shape();
+        let len = target.buf.as_slice().len();
+        let cells = target.buf.stretch_mut(0, len);
+        turn_pixels(cells, shape, self.buf.as_slice(), self.shape(), turn);
     }
 }

@@ -83,8 +83,8 @@ impl<'s, T> Img<&'s mut [T]> {
         Img::from_parts(&mut cells[stretch.start..end], shape)
     }
 
-    /// The image cut down to the window of `width` by `height` pixels with its corner at column
-    /// `left` of row `top`, for as long as its pixels are borrowed.
+    /// The image cut down to a window, for as long as its pixels are borrowed. The window has
+    /// `width` by `height` pixels, and its corner is at column `left` of row `top`.
     ///
     /// Its buffer has whole strides where the image has them (`padded_window`). Once the borrow
     /// ends, the borrowed cells are as they were, except that this stretch is as the window left
@@ -190,7 +190,7 @@ impl<C: AsMutSlice> Img<C> {
     /// The image that is seen through a window, for writing, at the same stride.
     ///
     /// Its buffer begins at its first pixel. For an `ImgVec` it always ends at the last pixel
-    /// (`exact_window`); for an `ImgRefMut` it has `height` whole strides where the image's cells
+    /// (`exact_window`). For an `ImgRefMut` it has `height` whole strides where the image's cells
     /// reach so far (`padded_window`). The buffer of an empty window is empty. Once the borrow
     /// ends, the image's cells are as they were, except that this stretch is as the window left it.
     /// So a write at place (x, y) of the window is a write at place (left + x, top + y) of the

@@ -56,8 +56,9 @@ impl ClaimedShape {
     }
 }
 
-/// Whether so many cells are an image of this size and stride: the stride is positive and at least
-/// the width, width and height are below 2^32, and the cells reach the last pixel, if there is one.
+/// Whether so many cells are an image of this size and stride. The stride has to be positive and at
+/// least the width, and width and height below 2^32. The cells have to reach the last pixel, if
+/// there is one.
 #[unsafe(no_mangle)]
 pub extern "C" fn imgref_is_image(len: usize, width: usize, height: usize, stride: usize) -> bool
     ensures { IsTrue result ↔ IsImage len width height stride }

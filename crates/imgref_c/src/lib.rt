@@ -1,7 +1,7 @@
 //! Images for C: what `include/imgref.h` declares, over slices and numbers.
 //!
 //! A caller in C can't be proved. So each call tests its conditions, and returns the number of a
-//! `Status`, which says which test failed; unless that is 0 (`IMGREF_OK`), nothing has changed. It
+//! `Status`, which says which test failed. Unless that is 0 (`IMGREF_OK`), nothing has changed. It
 //! stays trusted that a pointer and a length are those of memory that the caller lends for the
 //! call.
 //!

@@ -1,5 +1,5 @@
 //! Calls that just meet their condition. With one row, column or cell more, or without the test,
-//! the check of this crate refuses each of them, as the edits of `must-fail/` show. None of these
+//! the check of this crate refuses each of them. The edits of `must-fail/` show that. None of these
 //! functions has a clause about its result, so only the condition of the call can refuse it.
 
 ghost use Rattle.std.specs.Prelude.{◌≡◌, ◌≤◌, length};

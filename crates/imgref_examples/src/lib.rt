@@ -2,9 +2,9 @@
 //! brightness, crops, blurs, rectangles, luma planes, and drawings by places. docs/CALLERS.md
 //! explains them.
 //!
-//! Other callers show what a contract says to another crate: writes through nested windows, copies
-//! and moves of windows, rows that are filled by their number or through an iterator that ends
-//! early, pixels that are written through a cursor, and calls that just meet a condition.
+//! Other callers show what a contract says to another crate. They write through nested windows, and
+//! copy and move windows. They fill rows by number, or through an iterator that ends early. They
+//! write pixels through a cursor. Some just meet the condition of a call.
 #![tactic(auto)]
 
 mod beside;

@@ -24,8 +24,8 @@ fn darken(image: &mut ImgVec<u8>, window: Window)
     }
 }
 
-/// Fills each tile of 8 by 8 with the pixel at its corner where that is below 128, tile after tile by
-/// the numbers of its window.
+/// Fills each tile of 8 by 8 with the pixel at its corner where that is below 128. It takes the
+/// tiles one after the other, by the numbers of their windows.
 #[tactic(auto, using(image_model::proofs::Tiles::all_inside))]
 pub fn darken_tiles(image: &mut ImgVec<u8>)
     requires { Fits (vec_layout image.old) }

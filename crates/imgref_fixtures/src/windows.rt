@@ -24,7 +24,7 @@ pub fn place_in(window: Window, stride: usize, at: usize) -> Option<(usize, usiz
     }
 }
 
-// Whether these cells are those of `PADDED`, but for 0 in a window.
+// Whether these cells are those of `PADDED`, except 0 in a window.
 pub fn are_filled(cells: &[u8], window: Window) -> bool {
     for (at, cell) in cells.iter().enumerate() {
         let due = match place_in(window, 4, at) {
@@ -38,7 +38,7 @@ pub fn are_filled(cells: &[u8], window: Window) -> bool {
     cells.len() == 9
 }
 
-// Whether these cells are those of `PADDED`, but for 0 in so many from the first of these on.
+// Whether these cells are those of `PADDED`, except 0 in so many from the first of these on.
 pub fn are_cleared(cells: &[u8], first: usize, count: usize) -> bool {
     for (at, cell) in cells.iter().enumerate() {
         let is_written = at >= first && at.saturating_sub(first) < count;

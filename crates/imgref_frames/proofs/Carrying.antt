@@ -1,4 +1,4 @@
--- A stream that was carried: its front, and the pieces behind it.
+-- A stream that was carried: its front, and the pieces after it.
 use Rattle.std.proofs.Common.{◌≡◌, ◌≢◌, ℕ, ◌+◌, ◌<◌, Bool, true, false, List, [], ◌∷◌, ◌++◌, Option, Some, None, Result, Ok, Err, refl, sym, ap, ◌∙◌, subst, arith, append_assoc, inr, length, length-append, IfSome, All}
 use Rattle.std.specs.Io.KnownBytes.{Consumes, Appends, IsAtEnd}
 use Rattle.std.proofs.KnownBytes.{Consumes-nil, Consumes-trans, Appends-nil, Appends-trans, Keeps-refl}
@@ -164,7 +164,7 @@ joined line rest = append_assoc line (10 ∷ []) rest
 no_video : (bytes : List ℕ) (old : Option (List ℕ)) (edit : Edits) → begins_picture bytes ≡ false → IsNoStream false bytes → Writes (Err Header) edit (Some bytes) old old
 no_video bytes old edit kind none = (Keeps-refl old, subst (λ (b : Bool). IsNoStream b bytes) (sym kind) none)
 
--- no line stands at the front
+-- no line is at the front
 pub no_line : (edit : Edits) (input old : Option (List ℕ)) → IfSome input (λ bytes. begins_picture bytes ≡ false) → IfSome input (IsNoLine 256) → Writes (Err Header) edit input old old
 no_line edit None old kind none = (Keeps-refl old, tt)
 no_line edit (Some bytes) old kind none = no_video bytes old edit kind (λ line more one short is. absurd (none line more short is))
@@ -180,7 +180,7 @@ no_format edit line (Some rest) old one kind none (Some bytes) read = no_video b
 begins_line : (line : List ℕ) (format : Format) (rest bytes : List ℕ) → All (λ b. b ≢ 10) line → length line < 256 → bytes ≡ (line ++ 10 ∷ []) ++ rest → format_of line ≡ Some format → BeginsVideo bytes
 begins_line line format rest bytes one short read named = record { line = line; more = rest; format = format; one_line = one; short = short; read = read ∙ joined line rest; named = named }
 
--- a line of a format that the edit is none for, or no memory was found
+-- a line of a format that the edit doesn't suit, or no memory was found
 pub not_planned : (e : PlanFault) (edit : Edits) (line : List ℕ) (format : Format) (left old : Option (List ℕ)) → All (λ b. b ≢ 10) line → length line < 256 → begins_picture (line ++ 10 ∷ []) ≡ false → format_of line ≡ Some format → Tells (video_recipe edit line ≡ None) e
     → Follows (Err (fault_of_plan 0 e)) edit (line ++ 10 ∷ []) left old old
 unfolding begins_line

@@ -46,7 +46,7 @@ cut_line (Some bytes) (Some rest) got some short read end = record {
 
 -- ---- a line that was read
 
--- with parameters behind the word and a space
+-- with parameters after the word and a space
 pub line_in : (word ys : List ℕ) (len : ℕ) → word ≡ codes "FRAME" ++ 32 ∷ [] → take (len + 1) ys ≡ take len ys ++ 10 ∷ [] → len < length ys
     → take (len + 7) (word ++ ys) ≡ frame_line (32 ∷ take len ys)
 line_in word ys len front feed within =
@@ -55,7 +55,7 @@ line_in word ys len front feed within =
 
 -- ---- a frame that was written
 
--- a beginning behind what was written
+-- a beginning after what was written
 pub begun : (a b c : Option (List ℕ)) (front back : List ℕ) → Appends a b front → AppendsBeginning b c back → AppendsBeginning a c (front ++ back)
 begun a b c front back wrote part = (
   length front + part.0,

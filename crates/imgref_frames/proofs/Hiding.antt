@@ -1,4 +1,4 @@
--- What was answered and written for an input is right for each that differs only in what is hidden.
+-- What was returned and written for an input is right for each that differs only in what is hidden.
 use Rattle.std.proofs.Common.{◌≡◌, ◌⊎◌, ℕ, ◌+◌, Bool, true, false, List, [], ◌∷◌, ◌++◌, Option, Some, None, Result, Ok, Err, length, refl, sym, ap, ◌∙◌, subst, arith, append_assoc, inl, inr}
 use Rattle.std.specs.List.{AllByRecursion}
 use Rattle.std.proofs.lemmas.List.Elements.{recursion_from_All}
@@ -45,7 +45,7 @@ module _ (heads : List ℕ → Recipe → Type 0) (law : Readable heads) (hides 
       let same = one_recipe n p q a in
       ap (λ l. p.recipe.head ++ l) (hides p.head p.recipe a.mine.0 n p.cells q.cells a.alike) ∙ ap (λ (r : Recipe). r.head ++ r.frame n q.cells) same
 
-  -- as many pieces of another input, which become the same, and what is behind them
+  -- as many pieces of another input, which become the same, and what is after them
   record Carried (ends : List ℕ → Type 0) (n : ℕ) (mine : List Piece) (behind input : List ℕ) : Type 0 where
     pieces : List Piece
     rest : List ℕ
@@ -134,7 +134,7 @@ module _ (laws : Laws) (edit : Edits) (mine theirs : List ℕ) (a : Alike edit m
     is_stream : a.stream ≡ carries.stream
     end : ends rest → ends rest'
 
-  -- what stands behind is the same, or a piece that is cut
+  -- what follows is the same, or a piece that is cut
   shifts : (ends : List ℕ → Type 0) → (CutAlike (heads_of edit a.stream) a.rest a.other → ends a.rest → ends a.other) → ends a.rest → ends a.other
   shifts ends cut end = elim a.ends [ inl same ↦ subst ends same end | inr c ↦ cut c end ]
 
@@ -178,7 +178,7 @@ module _ (laws : Laws) (edit : Edits) (mine theirs : List ℕ) (a : Alike edit m
   some_too : (old new : Option (List ℕ)) → CarriesSome edit Anything mine old new → CarriesSome edit Anything theirs old new
   some_too old new s = (s.0, up_to Anything s.0 (λ p q l m is it end. tt) (λ end. tt) old new s.1)
 
-  -- what stands behind so many pieces is none there too
+  -- what follows so many pieces isn't one there too
   no_more_moves : (s : Stream) (n : ℕ) (p q : Piece) (l m : List ℕ) → IsPiece (heads_of edit s) p → IsPiece (heads_of edit s) q → IsNoMore edit s n (piece_text p ++ l) → IsNoMore edit s n (piece_text q ++ m)
   no_more_moves (video line recipe) n p q l m is it never = elim never [
     | inl last ↦ inl last

@@ -1,4 +1,4 @@
--- An input has one answer and one output, but for where a device or memory breaks a run off.
+-- An input has one result and one output, but for where a device or memory breaks a run off.
 use Rattle.std.proofs.Common.{◌≡◌, ℕ, ◌+◌, ◌<◌, ◌⊎◌, Bool, true, false, List, [], ◌∷◌, ◌++◌, Option, Some, None, Result, Ok, Err, length, take, drop, refl, sym, ap, ◌∙◌, subst, arith, append_assoc, append-nil, length-append, inl, inr}
 use Rattle.std.specs.List.{AllByRecursion}
 use Rattle.std.proofs.lemmas.List.{take-append-drop}
@@ -24,7 +24,7 @@ use Rattle.imgref_frames.proofs.Pieces.{Readable, frames_readable, pictures_read
 -- ---- pieces of one list of bytes
 
 module _ (heads : List ℕ → Recipe → Type 0) (law : Readable heads) where
-  -- the second pieces are the first and more, which stand in what is behind the first
+  -- the second pieces are the first and more, which are in what follows the first
   record Longer (ps qs : List Piece) (a b : List ℕ) : Type 0 where
     more : List Piece
     are : AllByRecursion (IsPiece heads) more
@@ -67,7 +67,7 @@ module _ (laws : Laws) (edit : Edits) (input : List ℕ) where
       let made = made_more 0 c.pieces f.by.more in
       (made.0, d.made ∙ (λ i. made_front (sym f.one_stream i) ++ (ap (all_made 0) f.by.longer ∙ made.1) i) ∙ sym (append_assoc (made_front c.stream) (all_made 0 c.pieces) made.0) ∙ ap (λ l. l ++ made.0) (sym c.made))
 
-  -- ---- where no piece stands behind these, or a number counts no more
+  -- ---- where no piece follows these, or a number counts no more
 
   all_there : (n m : ℕ) (a b s t : List ℕ) (c : Carries edit n input a s) (d : Carries edit m input b t) (same : c.stream ≡ d.stream) (more : List Piece) → AllByRecursion (IsPiece (heads_of edit c.stream)) more → d.pieces ≡ c.pieces ++ more → a ≡ pieces_text more ++ b
       → (n ≡ 18446744073709551615) ⊎ ((p : Piece) (l : List ℕ) → IsPiece (heads_of edit c.stream) p → a ≡ piece_text p ++ l → ⊥) → (n ≡ m) × (a ≡ b) × (s ≡ t)
@@ -79,7 +79,7 @@ module _ (laws : Laws) (edit : Edits) (input : List ℕ) where
     | inr never ↦ absurd (never p (pieces_text more ++ b) are.0 (behind ∙ append_assoc (piece_text p) (pieces_text more) b))
   ]
 
-  -- the pieces behind which none stands are all
+  -- the pieces after which no other follows are all
   longest : (n m : ℕ) (a b s t : List ℕ) (c : Carries edit n input a s) (d : Carries edit m input b t) → (n ≡ 18446744073709551615) ⊎ ((p : Piece) (l : List ℕ) → IsPiece (heads_of edit c.stream) p → a ≡ piece_text p ++ l → ⊥) → BeginsWith s t
   longest n m a b s t c d none = elim (further n m a b s t c d) [
     | inl f ↦ ([], (all_there n m a b s t c d f.one_stream f.by.more f.by.are f.by.longer f.by.behind none).2 ∙ sym (append-nil t))
@@ -99,7 +99,7 @@ module _ (laws : Laws) (edit : Edits) (input : List ℕ) where
     | inr f ↦ (let same = all_there m n b a t s d c f.one_stream f.by.more f.by.are f.by.longer f.by.behind other in record { one_stream = sym f.one_stream; one_count = sym same.0; one_rest = sym same.1 })
   ]
 
-  -- ---- behind which no piece stands
+  -- ---- after which no piece follows
 
   at_end : (s : Stream) (n : ℕ) (rest : List ℕ) → IsNoMore edit s n rest → (n ≡ 18446744073709551615) ⊎ ((p : Piece) (l : List ℕ) → IsPiece (heads_of edit s) p → rest ≡ piece_text p ++ l → ⊥)
   at_end (video line recipe) n rest never = elim never [
@@ -282,7 +282,7 @@ module _ (laws : Laws) (edit : Edits) (input : List ℕ) where
         nil_back [] none = append-nil b
         nil_back (z ∷ x) none = absurd (omega (arith, none))
 
-    -- ---- one answer
+    -- ---- one result
 
     ok_frame : (n m : ℕ) (new other : List ℕ) → Writes (Ok n) edit (Some input) (Some old) (Some new) → Writes (Err (Frame m)) edit (Some input) (Some old) (Some other) → ⊥
     ok_frame n m new other w v =
@@ -296,7 +296,7 @@ module _ (laws : Laws) (edit : Edits) (input : List ℕ) where
         ]
         still pictures m counted rest none never = never.some none
 
-    -- an end at a picture that the edits are none for
+    -- an end at a picture that the edits don't suit
     record NotEdited : Type 0 where
       count : ℕ
       rest : List ℕ

@@ -63,7 +63,7 @@ module _ (heads : List ℕ → Recipe → Type 0) (law : Readable heads) where
   pub some_text : (p : Piece) (more : List ℕ) → IsPiece heads p → piece_text p ++ more ≢ []
   some_text p more is = λ none. omega (arith, ap length none, law.some p.head p.recipe is.0, length-append (piece_text p) more, length-append p.head p.cells)
 
-  -- the cells behind the head of a piece are not cut
+  -- the cells after the head of a piece are not cut
   pub not_cut : (p : Piece) (more bytes : List ℕ) → IsPiece heads p → bytes ≡ piece_text p ++ more → IsCut heads bytes → ⊥
   not_cut p more bytes of is cut =
       let one = law.apart p.head cut.head (p.cells ++ more) cut.cells p.recipe cut.recipe of.0 cut.is (sym (append_assoc p.head p.cells more) ∙ sym is ∙ cut.read) in
@@ -73,7 +73,7 @@ module _ (heads : List ℕ → Recipe → Type 0) (law : Readable heads) where
   pub cut_some : (bytes : List ℕ) → IsCut heads bytes → bytes ≢ []
   cut_some bytes cut = λ none. omega (arith, ap length none, ap length cut.read, law.some cut.head cut.recipe cut.is, length-append cut.head cut.cells)
 
-  -- fewer cells behind a head than it has
+  -- fewer cells after a head than it has
   pub cut_piece : (h got : List ℕ) (r : Recipe) (old mid new : Option (List ℕ)) → heads h r → Consumes old mid h → Consumes mid new got → length got < r.size → IsAtEnd new → IfSome old (IsCut heads)
   cut_piece h got r None mid new is read more short end = tt
   cut_piece h got r (Some bytes) None new is read more short end = absurd read
@@ -99,7 +99,7 @@ begins_cut edit bytes cut = record { head = cut.head; more = cut.cells; picture 
 pub no_begin : (bytes : List ℕ) → IsNoPicture bytes → BeginsPicture bytes → ⊥
 no_begin bytes none b = none b.picture b.head b.more b.is b.read
 
--- a picture that the edits are edits of is none that they are none for
+-- a picture that the edits suit isn't one that they don't suit
 edited_head : ApartHeads → (edit : Edits) (h a bytes : List ℕ) (r : Recipe) → PictureHead edit h r → bytes ≡ h ++ a → IsPictureNotEdited edit bytes → ⊥
 edited_head one edit h a bytes r is read not =
     let same = one_head one h not.begins.head a not.begins.more is.picture not.begins.picture is.is not.begins.is (sym read ∙ not.begins.read) in

@@ -33,7 +33,7 @@ pub record CutAlike (heads : List ℕ → Recipe → Type 0) (rest other : List 
   pub mine_is : rest ≡ head ++ cells
   pub theirs_is : other ≡ head ++ others
 
--- two inputs are streams of one kind, with the same heads, cells that differ only in what the edits hide, and the same rest behind them, or a frame that is cut
+-- two inputs are streams of one kind, with the same heads, cells that differ only in what the edits hide, and the same rest after them, or a frame that is cut
 pub record Alike (edit : Edits) (mine theirs : List ℕ) : Type 0 where
   pub stream : Stream
   pub is : IsStream edit stream
@@ -48,7 +48,7 @@ pub record Alike (edit : Edits) (mine theirs : List ℕ) : Type 0 where
   pub mine_is : mine ≡ front stream ++ (pieces_text pieces ++ rest)
   pub theirs_is : theirs ≡ front stream ++ (pieces_text others ++ other)
 
--- whatever was answered and written is right for each alike input too
+-- whatever was returned and written is right for each alike input too
 abbrev pub Hides : Result ℕ RunFault → Edits → Option (List ℕ) → Option (List ℕ) → Option (List ℕ) → Type 0
 Hides result edit input old new = IfSome input (λ mine. (theirs : List ℕ) → Alike edit mine theirs → Writes result edit (Some theirs) old new)
 

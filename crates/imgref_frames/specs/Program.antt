@@ -1,4 +1,4 @@
--- What a run has written, by its answer.
+-- What a run has written, by its result.
 use Rattle.std.specs.Prelude.{◌≡◌, ◌≢◌, ◌==◌, ℕ, Bool, true, false, List, [], ◌∷◌, ◌++◌, ◌⊎◌, ◌<◌, length, ◌^◌, slice_index, Option, Some, None, Result, Ok, Err, IfSome, All}
 use Rattle.std.specs.List.{AllByRecursion}
 use Rattle.std.specs.Io.KnownBytes.{Appends, Consumes, Keeps}
@@ -53,12 +53,12 @@ abbrev pub IsCounted : Stream → ℕ → Type 0
 IsCounted (video line recipe) count = count < 18446744073709551615
 IsCounted pictures count = Unit {0}
 
--- what stands behind so many frames or pictures is no whole one
+-- what follows so many frames or pictures is not a complete one
 abbrev pub IsNoMore : Edits → Stream → ℕ → List ℕ → Type 0
 IsNoMore edit (video line recipe) count bytes = IsNoFrame recipe count bytes
 IsNoMore edit pictures count bytes = IsNoNext edit count bytes
 
--- the input is a stream of so many frames or pictures, and the rest behind them; the text is what the edits make of it
+-- the input is a stream of so many frames or pictures, and the rest after them; the text is what the edits make of it
 pub record Carries (edit : Edits) (count : ℕ) (input rest text : List ℕ) : Type 0 where
   pub stream : Stream
   pub is : IsStream edit stream
@@ -101,12 +101,12 @@ pub record BeginsVideo (bytes : List ℕ) : Type 0 where
   pub read : bytes ≡ line ++ 10 ∷ more
   pub named : format_of line ≡ Some format
 
--- and the edits are none for it
+-- and the edits don't suit it
 pub record IsNotEdited (edit : Edits) (bytes : List ℕ) : Type 0 where
   pub begins : BeginsVideo bytes
   pub none : video_recipe edit begins.line ≡ None
 
--- before a video nothing is written; before a picture that the edits are none for, those before it are
+-- before a video nothing is written; before a picture that the edits don't suit, those before it are
 abbrev pub StopsOutside : Bool → Edits → List ℕ → Option (List ℕ) → Option (List ℕ) → Type 0
 StopsOutside false edit input old new = Keeps old new × IsNotEdited edit input
 StopsOutside true edit input old new = CarriesSome edit (IsNotEditedNext edit) input old new
@@ -116,7 +116,7 @@ abbrev pub StopsForMemory : Bool → ℕ → Edits → List ℕ → Option (List
 StopsForMemory false count edit input old new = (count ≡ 0) × BeginsVideo input × Keeps old new
 StopsForMemory true count edit input old new = CarriesUpTo edit AtHead count input old new
 
--- the fault of a plan behind so many frames or pictures as one of the run
+-- the fault of a plan after so many frames or pictures as one of the run
 abbrev pub fault_of_plan : ℕ → PlanFault → RunFault
 fault_of_plan count NoPlan = Outside
 fault_of_plan count NoMemory = Memory count
@@ -131,6 +131,6 @@ Writes (Err Header) edit input old new = Keeps old new × IfSome input (λ bytes
 Writes (Err Outside) edit input old new = IfSome input (λ bytes. StopsOutside (begins_picture bytes) edit bytes old new)
 Writes (Err (Memory n)) edit input old new = IfSome input (λ bytes. StopsForMemory (begins_picture bytes) n edit bytes old new)
 
--- a run that goes on behind the front of the input has done this, for each input with that front
+-- a run that goes on after the front of the input has done this, for each input with that front
 abbrev pub Follows : Result ℕ RunFault → Edits → List ℕ → Option (List ℕ) → Option (List ℕ) → Option (List ℕ) → Type 0
 Follows result edit front left old new = (input : Option (List ℕ)) → Consumes input left front → Writes result edit input old new

@@ -1,9 +1,9 @@
--- Pieces behind one another, as the frames of a video or pictures: each has a head, and cells behind it.
+-- Pieces one after the other, as the frames of a video or pictures: each has a head, and cells after it.
 use Rattle.std.specs.Prelude.{◌≡◌, ℕ, ◌+◌, List, [], ◌∷◌, ◌++◌, length}
 use Rattle.std.specs.List.{flat_map}
 use Rattle.frame_formats.specs.Recipe.{Recipe}
 
--- a head, the cells behind it, and what is done to both
+-- a head, the cells after it, and what is done to both
 pub record Piece : Type 0 where
   pub head : List ℕ
   pub cells : List ℕ
@@ -19,7 +19,7 @@ IsPiece heads p = heads p.head p.recipe × (length p.cells ≡ p.recipe.size)
 abbrev pub piece_text : Piece → List ℕ
 piece_text p = p.head ++ p.cells
 
--- pieces, one behind the other
+-- pieces, one after the other
 abbrev pub pieces_text : List Piece → List ℕ
 pieces_text pieces = flat_map piece_text pieces
 

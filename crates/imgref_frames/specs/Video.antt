@@ -2,7 +2,7 @@
 use Rattle.std.specs.Prelude.{◌≡◌, ◌≢◌, ℕ, ◌<◌, List, [], ◌∷◌, ◌++◌, All, length, codes}
 use Rattle.frame_formats.specs.Recipe.{Recipe}
 
--- what may stand behind FRAME: nothing, or a space and fewer than 250 bytes, none of them a line feed
+-- what may follow FRAME: nothing, or a space and fewer than 250 bytes, none of them a line feed
 abbrev pub AreParameters : List ℕ → Type 0
 AreParameters [] = Unit {0}
 AreParameters (b ∷ bs) = (b ≡ 32) × All (λ c. c ≢ 10) bs × (length bs < 250)

@@ -14,7 +14,7 @@ use devices::{Counted, WriteFailed, fill, write_all};
 use frame_formats::Plan;
 use std::io::{Read, Write};
 
-// Writes a head, and cells behind it.
+// Writes a head, and cells after it.
 fn write_piece<W: Write>(
     writer: &mut Counted<W>,
     head: &[u8],

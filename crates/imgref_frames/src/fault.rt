@@ -13,7 +13,7 @@ pub enum RunFault {
     /// The input begins neither with the line of a supported video nor with the head of a supported
     /// picture. Nothing was written.
     Header,
-    /// The edit isn't valid for this video or picture: it reaches outside a plane, doesn't fall on
+    /// The edit isn't valid for this video or picture. It reaches outside a plane, doesn't fall on
     /// whole chroma samples, or has a colour where there is none. The pictures before it were
     /// written.
     Outside,

@@ -36,7 +36,7 @@ pub(crate) enum Begin {
     Other,
 }
 
-// Reads the word that the line of a frame begins with, and the byte behind it.
+// Reads the word that the line of a frame begins with, and the byte after it.
 fn read_word<R: Read>(reader: &mut Counted<R>, word: &mut [u8]) -> Result<Begin, RunFault>
     requires room { length word.old ≡ 6 }
     requires counts { failures_of reader.old < u64.MAX }

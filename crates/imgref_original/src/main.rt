@@ -1,4 +1,4 @@
-//! Runs the port on the cases on which the Rust crate `imgref` 1.12.3 was run: `stdout` in this
+//! Runs the port on the cases on which the Rust crate `imgref` 1.12.3 was run. `stdout` in this
 //! folder has the results of the crate, and this program must print the same.
 //!
 //! `original/answers.rs` wrote them. It was built over the crate's own sources (feature
@@ -7,10 +7,10 @@
 //! and use `cargo run`.
 //!
 //! Each image holds the cells 1, 2, 3 and so on. Its line has the number of cells, the width, the
-//! height and the stride. A `/` ends a row. The line of a window has left, top, width and height;
-//! the first cell and the length of its buffer by `sub_image`, by `sub_image_mut` of an owner and
-//! of a lent image, and by `into_sub_image_mut`; and its pixels. An image or a window that isn't
-//! valid has no line.
+//! height and the stride. A `/` ends a row. The line of a window has left, top, width and height.
+//! Then come the first cell and the length of its buffer. Four calls give these: `sub_image`,
+//! `sub_image_mut` of an owner and of a borrowed image, and `into_sub_image_mut`. Last come its
+//! pixels. An image or a window that isn't valid has no line.
 #![tactic(auto)]
 
 ghost use Rattle.image_model.specs.Layout.{Fits};

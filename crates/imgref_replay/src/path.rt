@@ -30,7 +30,7 @@ pub(crate) fn path_window(width: usize, height: usize, path: &[Window]) -> Resul
 }
 
 /// The stretch and the shape that a path leads to, window by window, in so many cells of this
-/// shape; or the number of its first window outside.
+/// shape. Otherwise the number of its first window outside.
 fn region_at(cells: usize, shape: Shape, path: &[Window]) -> Result<(Stretch, Shape), usize>
     requires fits { Reaches cells (shape_width shape) (shape_height shape) (shape_stride shape) }
     ensures outside { result_err result

@@ -1,4 +1,4 @@
--- The input ends within the word, or something else stands there.
+-- The input ends within the word, or something else is there.
 use Rattle.std.proofs.Common.{take, arith, length-take-le}
 use Rattle.devices.specs.Device.{device_of}
 use Rattle.imgref_frames.proofs.FrameLines.{cut_line}
