@@ -2,7 +2,9 @@
 import re
 import subprocess
 
-STATUS = {"words": 1, "header": 2, "memory": 3, "input": 4, "output": 5, "outside": 6, "frame": 7}
+STATUS = {"words": 1, "header": 2, "memory": 3, "input": 4, "output": 5, "outside": 6, "frame": 7, "range": 8}
+# How many bytes the head of a picture may have.
+LONGEST_HEAD = 65536
 # How many pixels share a chroma sample, across and down.
 SAMPLINGS = {b"mono": None, b"420jpeg": (2, 2), b"420mpeg2": (2, 2), b"420paldv": (2, 2), b"420": (2, 2), b"422": (2, 1), b"444": (1, 1)}
 
@@ -121,6 +123,8 @@ def edits_of(words):
     words, edits = list(words), []
     while words:
         first, last = (int(it) for it in words.pop(0).split("..")) if ".." in words[0] else (0, 2**64)
+        if last <= first:
+            raise Fault("words")
         word, window = words.pop(0), [int(it) for it in words.pop(0).split(",")]
         edits.append((first, last, word, window, [] if word == "crop" else [int(it) for it in words.pop(0).split(",")]))
     return edits
@@ -173,7 +177,7 @@ def pictures(data, edits):
     while at < len(data):
         head = HEAD.match(data, at)
         colours, *size = (int(it) for it in head.groups()) if head else (0, 0, 0)
-        if not head or not all(0 < it < 2**32 for it in size):
+        if not head or head.end() - at > LONGEST_HEAD or not all(0 < it < 2**32 for it in size):
             raise Fault(f"frame {count}" if count else "header", out)
         width, height = size
         colours = 3 if colours == 6 else 1
@@ -221,6 +225,11 @@ def video(data, edits):
 # ---- the program beside the model
 
 
+def lines_said(program, words, data):
+    """All lines that the program writes to standard error."""
+    return subprocess.run([program, *words], input=data, capture_output=True, timeout=120).stderr.decode().split("\n")
+
+
 def ends(program, words, data):
     """What the program writes, what it says, and its status."""
     done = subprocess.run([program, *words], input=data, capture_output=True, timeout=120)
@@ -235,9 +244,14 @@ def wanted(data, words):
         return fault.written, f"fault {fault.name}", STATUS[fault.name.split()[0]]
 
 
+def without_note(out, said, status):
+    """The same without a note, which is no fault."""
+    return out, "" if status == 0 and said.startswith("note: ") else said, status
+
+
 def differing(program, tries):
     """Those tries of words and bytes at which the program differs from the model."""
-    return [f"{' '.join(words)} on {data[:60]!r}.." for words, data in tries if ends(program, words, data) != wanted(data, words)]
+    return [f"{' '.join(words)} on {data[:60]!r}.." for words, data in tries if without_note(*ends(program, words, data)) != wanted(data, words)]
 
 
 def exchanged(data, start, row, window):

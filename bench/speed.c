@@ -229,7 +229,7 @@ CALLS(u32, uint32_t)
     }                                                                                                                                \
     void loop_##NAME##_map_places(struct job *j) {                                                                                   \
         for (size_t y = 0; y < j->side; y++)                                                                                         \
-            for (size_t x = 0; x < j->side; x++) ROW(CELL, y)[x] ^= (CELL)(x ^ y);                                                   \
+            for (size_t x = 0; x < j->side; x++) ROW(CELL, y)[x] ^= (CELL)((x ^ y) % 256);                                                   \
     }                                                                                                                                \
     void loop_##NAME##_zip_pixels(struct job *j) {                                                                                   \
         for (size_t y = 0; y < j->side; y++)                                                                                         \
@@ -239,7 +239,7 @@ CALLS(u32, uint32_t)
     void loop_##NAME##_from_places(struct job *j) {                                                                                  \
         CELL *made = room(j->side * j->side * sizeof(CELL));                                                                         \
         for (size_t y = 0; y < j->side; y++)                                                                                         \
-            for (size_t x = 0; x < j->side; x++) made[y * j->side + x] = (CELL)(x ^ y);                                              \
+            for (size_t x = 0; x < j->side; x++) made[y * j->side + x] = (CELL)((x ^ y) % 256);                                              \
         j->answer = j->side * j->side;                                                                                               \
         __asm__ volatile("" ::"r"(made) : "memory");                                                                                 \
         free(made);                                                                                                                  \

@@ -200,7 +200,7 @@ mod loops {
         let cells = unsafe { job.cells::<T>() };
         for y in 0..job.side {
             for (x, pixel) in cells[y * job.stride..][..job.side].iter_mut().enumerate() {
-                *pixel = *pixel ^ T::of(x ^ y);
+                *pixel = *pixel ^ T::of((x ^ y) % 256);
             }
         }
     }
@@ -219,7 +219,7 @@ mod loops {
         let mut made = Vec::with_capacity(job.side * job.side);
         for y in 0..job.side {
             for x in 0..job.side {
-                made.push(T::of(x ^ y));
+                made.push(T::of((x ^ y) % 256));
             }
         }
         job.answer = std::hint::black_box(made).len() as u64;

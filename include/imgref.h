@@ -18,6 +18,7 @@
  *           overlap. imgref_*_move_window goes between two windows of one image, which may overlap.
  * Pointers  No pointer may be null, even where its length is 0. Any other pointer will do there, for example that of a
  *           variable of the cell's type; nothing is read or written there. Cells are aligned to a multiple of their size.
+ * Processor x86-64-v2 or later (SSE4.2).
  * Lengths   A length is the number of cells that may be read (and, where they aren't const, written) from the pointer on.
  *
  * The proofs assume what Overlap, Pointers and Lengths say: no call can test it.

@@ -14,7 +14,8 @@ import tempfile
 
 sys.path.insert(0, str(pathlib.Path(__file__).resolve().parents[2]))
 from checking import Cases, both_builds
-from frames import count_tries, edits_of, ends, exchanged, wanted
+from c_library import VERSION
+from frames import count_tries, edits_of, ends, exchanged, lines_said, wanted
 
 SAMPLINGS = ("mono", "420jpeg", "420", "422", "444")
 EDITS = ("fill 4,2,6,4 126", "mosaic 2,2,10,6 4,2", "mosaic 0,0,12,8 64,64", "move 0,0,6,4 4,2", "move 4,2,6,4 0,0", "crop 4,2,6,4", "fill 0,0,0,0 1", "pad 2,4,6,8 16", "pad 4,0,1,3 200", "pad 1,0,0,0 9", "pad 0,2,0,0 9")
@@ -27,7 +28,7 @@ LISTS = (
     "1..2 fill 0,0,4,4 9",
     "0..2 mosaic 2,2,8,6 4,2 1..3 fill 4,2,2,2 7 crop 2,2,8,6",
     "fill 2,2,4,4 9 move 2,2,4,4 6,2",
-    "2..1 fill 0,0,4,4 9 7..9 move 0,0,2,2 2,2",
+    "1..2 fill 0,0,4,4 9 7..9 move 0,0,2,2 2,2",
     "fill 0,0,4,4 9 1..2 mosaic 4,2,4,4 2,2 pad 2,2,2,2 16",
 )
 
@@ -72,14 +73,14 @@ def by_model(cases, program):
 
 
 def by_words(cases, program):
-    for words in ("", "fill", "fill 1,2,3,4", "blur 0,0,1,1 2", "fill 0,0,1,1 256", "fill 0,0,1,1 1,2", "fill 0,0,1,1 1,2,256", "fill 0,0,1,1 1,2,3,4", "pad 0,0,1,1 1,2,3", "fill 0,0,01,1 2", "fill 0,0,1 2", "mosaic 0,0,1,1 2", "crop 0,0,1,1 2", "crop 0,0,2,2 fill 0,0,2,2 9", "pad 0,0,2,2", "pad 0,0,2,2 256", "pad 0,0,2,2 9 crop 0,0,2,2", "1..2 pad 0,0,2,2 9", "1..2 crop 0,0,2,2", "1.2 fill 0,0,2,2 9", "--edits /nowhere"):
+    for words in ("", "fill", "fill 1,2,3,4", "blur 0,0,1,1 2", "fill 0,0,1,1 256", "fill 0,0,1,1 1,2", "fill 0,0,1,1 1,2,256", "fill 0,0,1,1 1,2,3,4", "pad 0,0,1,1 1,2,3", "fill 0,0,01,1 2", "fill 0,0,1 2", "mosaic 0,0,1,1 2", "crop 0,0,1,1 2", "crop 0,0,2,2 fill 0,0,2,2 9", "pad 0,0,2,2", "pad 0,0,2,2 256", "pad 0,0,2,2 9 crop 0,0,2,2", "1..2 pad 0,0,2,2 9", "1..2 crop 0,0,2,2", "1.2 fill 0,0,2,2 9", "2..1 fill 0,0,4,4 9", "0..0 fill 0,0,4,4 9", "fill 0,0,2,2 9 5..5 move 0,0,2,2 2,2", "--edits /nowhere", "--edits", "--strict", "--limit", "--limit x fill 0,0,2,2 9", "--loud fill 0,0,2,2 9", "--edits /dev/null fill 0,0,2,2 9"):
         said = ends(program, words.split(), video("mono"))
         cases.count(f"words '{words}' are refused", said == (b"", "fault words", 1), str(said))
     with tempfile.NamedTemporaryFile("w", suffix=".edits") as listed:
         listed.write(LISTS[2].replace(" 1..3", "\n1..3").replace(" crop", "\ncrop") + "\n")
         listed.flush()
         cases.count("a file of edits is the same as its words", ends(program, ["--edits", listed.name], video("420")) == ends(program, LISTS[2].split(), video("420")))
-        for text, status in (("", 0), ("\n\nfill 0,0,2,2 9\n\n", 0), ("fill 0,0,2,2 9 fill 0,0,2,2 9", 1), ("fill 0,0,2,2\n9", 1), ("fill  0,0,2,2 9", 1), ("crop 0,0,2,2\nfill 0,0,2,2 9", 1), ("crop 0,0,2,2\n", 0), (" \n", 1)):
+        for text, status in (("", 1), ("\n\n", 1), ("fill 0,0,2,2 9\n3..3 fill 0,0,2,2 9\n", 1), ("\n\nfill 0,0,2,2 9\n\n", 0), ("fill 0,0,2,2 9 fill 0,0,2,2 9", 1), ("fill 0,0,2,2\n9", 1), ("fill  0,0,2,2 9", 1), ("crop 0,0,2,2\nfill 0,0,2,2 9", 1), ("crop 0,0,2,2\n", 0), (" \n", 1)):
             listed.seek(0)
             listed.truncate()
             listed.write(text)
@@ -88,11 +89,57 @@ def by_words(cases, program):
             cases.count(f"a file {text!r} of edits ends with status {status}", said[2] == status and (status == 0 or said[:2] == (b"", "fault words")), str(said))
     said = ends(program, "move 0,0,2,2 2,2 fill 0,0,2,2 9".split(), video("mono"))
     cases.count("a move before a fill is noted", said[1].startswith("note: ") and said[2] == 0, str(said))
-    said = ends(program, ["--help"], b"")
-    cases.count("help is printed", said[0].startswith(b"usage: ") and said[2] == 0, str(said))
+    for word in ("--help", "-h"):
+        said = ends(program, [word], b"")
+        cases.count(f"{word} prints the help", said[0].startswith(b"usage: ") and said[2] == 0, str(said))
+    said = ends(program, ["--version"], b"")
+    cases.count("the version is printed", said == (f"imgref_frames {VERSION}\n".encode(), "", 0), str(said))
     for name, shell, status in (("a closed output", f'"{program}" {FILL} >&-', 5), ("a full output", f'"{program}" {FILL} > /dev/full', 5), ("an input that can't be read", f'"{program}" {FILL} < /', 4)):
         done = subprocess.run(["sh", "-c", shell], input=video("mono"), capture_output=True, timeout=120)
         cases.count(f"{name} ends with status {status}", done.returncode == status, str(done))
+
+
+# Words, an input, and a part of a line that is printed after the fault.
+REASONS = (
+    ("fill 0,0,2,2 9 fill 1,0,2,2 9", "420", "edit 2: column 1 is no multiple of 2"),
+    ("fill 0,1,2,2 9", "420", "edit 1: row 1 is no multiple of 2"),
+    ("fill 0,0,3,2 9", "422", "edit 1: width 3 is no multiple of 2"),
+    ("fill 0,0,2,10 9", "444", "edit 1: it reaches outside the frame"),
+    ("fill 0,0,2,10 9", "444", "the frame has 12 by 8 pixels"),
+    ("mosaic 0,0,4,4 3,2", "420", "edit 1: tile width 3 is no multiple of 2"),
+    ("mosaic 0,0,4,4 0,2", "mono", "edit 1: its size is 0"),
+    ("fill 0,0,4,4 1,2,3", "444", "edit 1: a colour is only for pictures in colour"),
+    ("move 0,0,4,4 10,0", "420", "edit 1: it reaches outside the frame"),
+    ("crop 0,0,3,4", "420", "the crop or pad: width 3 is no multiple of 2"),
+    ("pad 1,0,0,0 9", "420", "the crop or pad: left side 1 is no multiple of 2"),
+    ("fill 0,0,2,2 9 fil 0,0,2,2 9", "mono", "at word 4 there is no edit"),
+    ("5..5 fill 0,0,2,2 9", "mono", "edit 1: its range has no frame"),
+    ("--edits /nowhere", "mono", "the edits file can't be read"),
+    ("--limit 100 fill 0,0,2,2 9", "444", "more than 100 bytes"),
+)
+
+
+def by_options(cases, program):
+    """Ranges that the input doesn't reach, the limit of memory, and why a fault came."""
+    edits = "fill 0,0,2,2 9 3..5 fill 0,0,4,4 9"
+    out = ends(program, ["fill", "0,0,2,2", "9"], video("420"))[0]
+    lines = lines_said(program, edits.split(), video("420"))
+    cases.count("a range that isn't reached is noted", lines == ["note: edit 2: the input has 3 frames, and ends before its range 3..5", ""], str(lines))
+    cases.count("a range that isn't reached is a fault where asked", ends(program, ["--strict", *edits.split()], video("420")) == (out, "fault range", 8))
+    cases.count("a range that is reached is no fault", ends(program, ["--strict", *edits.replace("3..", "2..").split()], video("420"))[1:] == ("", 0))
+    size = 12 * 8 * 3 // 2
+    cases.count("the limit is enough", ends(program, ["--limit", str(size), "fill", "0,0,2,2", "9"], video("420")) == (out, "", 0))
+    cases.count("a byte less is out of memory", ends(program, ["--limit", str(size - 1), "fill", "0,0,2,2", "9"], video("420")) == (b"", "fault memory 0", 3))
+    large = b"YUV4MPEG2 W32768 H32768 C444\nFRAME\n"
+    cases.count("a large frame is out of memory without asking for it", ends(program, ["fill", "0,0,2,2", "9"], large) == (b"", "fault memory 0", 3))
+    for words, sampling, reason in REASONS:
+        lines = lines_said(program, words.split(), video(sampling))
+        cases.count(f"'{words}' says why", any(reason in it for it in lines[1:]), str(lines[:4]))
+    with tempfile.NamedTemporaryFile("w", suffix=".edits") as listed:
+        listed.write("fill 0,0,2,2 9\n\n2..2 fill 0,0,2,2 9\n")
+        listed.flush()
+        lines = lines_said(program, ["--edits", listed.name], video("mono"))
+        cases.count("a line of a file is named", any("line 3: its range has no frame" in it for it in lines), str(lines[:4]))
 
 
 def through(program, words, made, command):
@@ -143,6 +190,7 @@ def main():
     for program in programs:
         by_model(cases, str(program))
         by_words(cases, str(program))
+        by_options(cases, str(program))
         if shutil.which("ffmpeg"):
             by_ffmpeg(cases, str(program))
             by_h264(cases, str(program))

@@ -48,6 +48,10 @@ def by_model(cases, program):
     count_tries(cases, "a colour is written in pictures in colour, and is refused for grey ones and for video", program, [(it.split(), data) for it in painted for data in (*both, both[1] * 2, both[1] + both[0], b"YUV4MPEG2 W12 H8 C444\n")])
     numbers = [("fill 0,0,0,0 9".split(), head.encode() + b"abc") for head in ("P5 0 1 255\n", "P5 1 0 255\n", "P5 1 1 254\n", "P5 1 1 2550\n", "P5 1 4294967296 255\n", "P5 18446744073709551617 1 255\n", "P4 1 1\n", "P7\n", "P5", "P", "P51 1 255\n")]
     count_tries(cases, "heads with numbers out of range", program, numbers)
+    long = [(it, b"P5 #" + b"x" * count + b"\n2 1 255\nab") for it in (["fill", "0,0,1,1", "9"],) for count in (100, 65522, 65523, 65524, 100000)]
+    count_tries(cases, "a head has at most 64 KiB", program, long)
+    limited = ends(program, "--limit 100 fill 0,0,1,1 9".split(), both[0] + picture(5, 20, 9))
+    cases.count("out of memory at the second picture, the first is written", limited == (ends(program, "fill 0,0,1,1 9".split(), both[0])[0], "fault memory 1", 3), str(limited))
     outside = [(it.split(), both[0] + picture(6, 4, 4)) for it in ("fill 3,0,2,2 9", "mosaic 0,0,4,5 2,2", "mosaic 0,0,4,4 0,2", "move 0,0,2,2 3,3", "crop 0,0,5,4", "crop 0,0,0,4", "crop 0,0,4,0", "1..2 fill 4,0,1,1 9", "0..1 fill 4,0,1,1 9")]
     count_tries(cases, "an edit that doesn't suit the second picture ends after the first", program, outside)
     hidden = exchanged(both[1], len("P6\n12 8\n255\n"), 3 * 12, (3 * 4, 2, 3 * 6, 4))

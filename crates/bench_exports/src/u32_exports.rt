@@ -149,7 +149,7 @@ pub extern "C" fn bench_u32_map_places(
     requires image { IsImage cells.old width height stride }
 {
     let mut image: ImgRefMut<'_, u32> = Img::new_stride(cells, width, height, stride);
-    image.map_places(|x: usize, y: usize, pixel: u32| pixel ^ (x ^ y) as u32);
+    image.map_places(|x: usize, y: usize, pixel: u32| pixel ^ ((x ^ y) % 256) as u32);
 }
 
 /// Every pixel becomes the greater one of it and the source's pixel at its place.
@@ -178,7 +178,7 @@ pub extern "C" fn bench_u32_from_places(alloc: Global, width: usize, height: usi
     requires wide { width < 2 ^ 32 }
     requires high { height < 2 ^ 32 }
 {
-    match ImgVec::from_places(alloc, width, height, |x: usize, y: usize| (x ^ y) as u32) {
+    match ImgVec::from_places(alloc, width, height, |x: usize, y: usize| ((x ^ y) % 256) as u32) {
         Ok(image) => image.into_buf().len(),
         Err(_) => 0,
     }

@@ -135,7 +135,7 @@ pub extern "C" fn bench_u8_map_places(cells: &mut [u8], width: usize, height: us
     requires image { IsImage cells.old width height stride }
 {
     let mut image: ImgRefMut<'_, u8> = Img::new_stride(cells, width, height, stride);
-    image.map_places(|x: usize, y: usize, pixel: u8| pixel ^ (x ^ y) as u8);
+    image.map_places(|x: usize, y: usize, pixel: u8| pixel ^ ((x ^ y) % 256) as u8);
 }
 
 /// Every pixel becomes the greater one of it and the source's pixel at its place.
@@ -164,7 +164,7 @@ pub extern "C" fn bench_u8_from_places(alloc: Global, width: usize, height: usiz
     requires wide { width < 2 ^ 32 }
     requires high { height < 2 ^ 32 }
 {
-    match ImgVec::from_places(alloc, width, height, |x: usize, y: usize| (x ^ y) as u8) {
+    match ImgVec::from_places(alloc, width, height, |x: usize, y: usize| ((x ^ y) % 256) as u8) {
         Ok(image) => image.into_buf().len(),
         Err(_) => 0,
     }

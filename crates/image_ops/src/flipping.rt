@@ -24,7 +24,9 @@ pub fn flip_rows<T>(cells: &mut [T], shape: Shape)
     }
 }
 
-// Two lists of one length change places, the first cell of one with the last of the other.
+// Two lists of one length change places, the first cell of one with the last of the other. Out of
+// line they are two slices to the compiler, which then makes vector code of the loop.
+#[inline(never)]
 fn cross_over<T: Copy>(front: &mut [T], back: &mut [T])
     requires as_many { length back.old ≡ length front.old }
     ensures { CrossedOver front.old back.old front.new back.new }

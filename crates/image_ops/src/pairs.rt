@@ -8,7 +8,8 @@ ghost use Rattle.image_ops.specs.Pairs.{TakesPairs, AllPairsAnswer, SomePairDiff
 use image_rows::row;
 use image_shape::Shape;
 
-// Whether `f` is true of the elements of two lists, pair by pair, up to the first of which it isn't.
+// Whether `f` is true of the elements of two lists, pair by pair, up to the first of which it
+// isn't.
 fn agree<T, U, F: Fn(&T, &U) -> bool>(first: &[T], second: &[U], f: &F) -> bool
     requires as_many { length first.now ≡ length second.now }
     requires callable { TakesPairs (F.pre f.now) first.now second.now }

@@ -43,7 +43,8 @@ impl<'a, T> PixelsIterMut<'a, T> {
     ghost use Rattle.image_pixels.specs.Marks.{pick, marks, marks_of};
     ghost use Rattle.image_pixels.specs.Pixels.{muts_left, cells_left, marks_left, pixels_name, hands_on, ArePixels, Moves};
 
-    // The first `remaining` cells, and then `rows_left` rows of `width` cells with `pad` before each.
+    // The first `remaining` cells, and then `rows_left` rows of `width` cells with `pad` before
+    // each.
     fn from_counts(
         cells: &'a mut [T],
         remaining: usize,
@@ -71,7 +72,8 @@ impl<'a, T> PixelsIterMut<'a, T> {
     /// The pixels of `shape` in `cells` for writing: `width` times `height` of them, row by row and
     /// from left to right, without the padding. The cells must fit; `Shape::fits` tests it.
     ///
-    /// The cursor holds the borrow of the cells: the final cells are those that it and its items leave.
+    /// The cursor holds the borrow of the cells: the final cells are those that it and its items
+    /// leave.
     pub fn new(cells: &'a mut [T], shape: Shape) -> PixelsIterMut<'a, T>
         requires fits { Fits (shaped cells.old shape) }
         ensures name { pixels_name result ≡ cells.entry.ghost_name }

@@ -1,4 +1,3 @@
 pub mod RowsLeft
 pub mod Cuts
 pub mod IterValues
-pub mod Stepping

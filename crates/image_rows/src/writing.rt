@@ -51,8 +51,7 @@ impl<'a, T> RowsIterMut<'a, T> {
 
     /// The row at that end, if there is one, and the rows that are left.
     ///
-    /// This step has the clause of the final cells. A `for` and the adapters use `next` and
-    /// `next_back`, which return the same rows.
+    /// `step` does the same in place. Both have the clause of the final cells.
     pub fn split_end(self, end: End) -> (Option<&'a mut [T]>, RowsIterMut<'a, T>)
         ensures* hands_on { sem 𝓛 (hands_on T.row end self.entry result.0 result.1) }
         ensures steps { Yields end self.entry result.0 result.1 }
@@ -70,30 +69,9 @@ impl<'a, T> RowsIterMut<'a, T> {
         (Some(row), left)
     }
 
-    /// The next row, the same as from the trait's `next`, with the clause of the final cells.
-    ///
-    /// A `for` and the adapters use the trait's `next`.
-    pub fn next(&mut self) -> Option<&'a mut [T]>
-        ensures* hands_on { sem 𝓛 (hands_on T.row End.First self.old result self.new) }
-        ensures steps { YieldsFirstMut muts_left self.old result self.new }
-        ensures moves { Moves End.First self.old result self.new }
-    {
-        self.step(End::First)
-    }
-
-    /// The last row, the same as from the trait's `next_back`, with the clause of the final cells.
-    ///
-    /// The adapters use the trait's `next_back`.
-    pub fn next_back(&mut self) -> Option<&'a mut [T]>
-        ensures* hands_on { sem 𝓛 (hands_on T.row End.Last self.old result self.new) }
-        ensures steps { YieldsLastMut muts_left self.old result self.new }
-        ensures moves { Moves End.Last self.old result self.new }
-    {
-        self.step(End::Last)
-    }
-
-    // The row at that end, which leaves the others.
-    fn step(&mut self, end: End) -> Option<&'a mut [T]>
+    /// The row at that end, if there is one; the others are left. The trait's `next` and
+    /// `next_back` are this step, without the clause of the final cells.
+    pub fn step(&mut self, end: End) -> Option<&'a mut [T]>
         ensures* hands_on { sem 𝓛 (hands_on T.row end self.old result self.new) }
         ensures steps { Yields end self.old result self.new }
         ensures moves { Moves end self.old result self.new }
@@ -121,7 +99,7 @@ impl<'a, T> Iterator for RowsIterMut<'a, T> {
     ghost remaining = { item_count muts_left };
 
     fn next(&mut self) -> Option<&'a mut [T]> {
-        RowsIterMut::next(self)
+        self.step(End::First)
     }
 
     #[tactic(auto, using(crate::proofs::RowsLeft::counting), unfolding(crate::specs::Rows::muts_left))]
@@ -141,7 +119,7 @@ impl<'a, T> DoubleEndedIterator for RowsIterMut<'a, T> {
     ghost next_back_gives = { YieldsLastMut muts_left };
 
     fn next_back(&mut self) -> Option<&'a mut [T]> {
-        RowsIterMut::next_back(self)
+        self.step(End::Last)
     }
 }
 

@@ -25,14 +25,14 @@ impl<'s, T> Img<&'s [T]> {
     /// # Requires
     ///
     /// The image fits (`is_valid`), and the window is inside it (`has_window`).
-    pub fn window(&self, place: Window) -> ImgRef<'s, T>
+    pub fn window(&self, window: Window) -> ImgRef<'s, T>
         requires fits { Fits (ref_layout self.now) }
-        requires inside { IsInside (width_of self.now) (height_of self.now) (as_window place) }
-        ensures layout { ref_layout result ≡ padded_window (ref_layout self.now) (as_window place) }
+        requires inside { IsInside (width_of self.now) (height_of self.now) (as_window window) }
+        ensures layout { ref_layout result ≡ padded_window (ref_layout self.now) (as_window window) }
         ensures fits { Fits (ref_layout result) }
-        ensures view { ref_grid result ≡ window_view (ref_grid self.now) (as_window place) }
+        ensures view { ref_grid result ≡ window_view (ref_grid self.now) (as_window window) }
     {
-        let (buf, shape) = padded_part(self.buf, self.shape(), place);
+        let (buf, shape) = padded_part(self.buf, self.shape(), window);
         Img::from_parts(buf, shape)
     }
 
@@ -131,15 +131,15 @@ impl<C: AsMutSlice> Img<C> {
     /// # Requires
     ///
     /// The image fits (`is_valid`), and the window is inside it (`has_window`).
-    pub fn window(&self, place: Window) -> ImgRef<'_, C::Item>
+    pub fn window(&self, window: Window) -> ImgRef<'_, C::Item>
         requires fits { Fits (layout_by C.cells self.now) }
-        requires inside { IsInside (width_of self.now) (height_of self.now) (as_window place) }
+        requires inside { IsInside (width_of self.now) (height_of self.now) (as_window window) }
         ensures layout { ref_layout result
-            ≡ padded_window (layout_by C.cells self.now) (as_window place) }
+            ≡ padded_window (layout_by C.cells self.now) (as_window window) }
         ensures fits { Fits (ref_layout result) }
-        ensures view { ref_grid result ≡ window_view (grid_by C.cells self.now) (as_window place) }
+        ensures view { ref_grid result ≡ window_view (grid_by C.cells self.now) (as_window window) }
     {
-        let (buf, shape) = padded_part(self.buf.as_slice(), self.shape(), place);
+        let (buf, shape) = padded_part(self.buf.as_slice(), self.shape(), window);
         Img::from_parts(buf, shape)
     }
 
@@ -192,33 +192,32 @@ impl<C: AsMutSlice> Img<C> {
     /// Its buffer begins at its first pixel. For an `ImgVec` it always ends at the last pixel
     /// (`exact_window`). For an `ImgRefMut` it has `height` whole strides where the image's cells
     /// reach so far (`padded_window`). The buffer of an empty window is empty. Once the borrow
-    /// ends, the image's cells are as they were, except that this stretch is as the window left it.
-    /// So a write at place (x, y) of the window is a write at place (left + x, top + y) of the
-    /// image.
+    /// ends, only this stretch of the image's cells has changed, to what the window left there.
+    /// So column x of row y of the window is column left + x of row top + y of the image.
     ///
     /// # Requires
     ///
     /// The image fits (`is_valid`), and the window is inside it (`has_window`).
-    pub fn window_mut(&mut self, place: Window) -> Img<&mut [C::Item]>
+    pub fn window_mut(&mut self, window: Window) -> Img<&mut [C::Item]>
         requires fits { Fits (layout_by C.cells self.old) }
-        requires inside { IsInside (width_of self.old) (height_of self.old) (as_window place) }
+        requires inside { IsInside (width_of self.old) (height_of self.old) (as_window window) }
         ensures* hands_on { sem 𝓛 (follows (the_row C.row) (Array C.Item.row 0)
             self.entry.ghost_name (buf_of result).ghost_name
-            (with_window C.cells C.with_cells C.padded_windows self.old (as_window place))) }
+            (with_window C.cells C.with_cells C.padded_windows self.old (as_window window))) }
         ensures layout { mut_layout result
-            ≡ window_layout C.padded_windows (layout_by C.cells self.old) (as_window place) }
+            ≡ window_layout C.padded_windows (layout_by C.cells self.old) (as_window window) }
         ensures fits { Fits (mut_layout result) }
-        ensures view { mut_grid result ≡ window_view (grid_by C.cells self.old) (as_window place) }
+        ensures view { mut_grid result ≡ window_view (grid_by C.cells self.old) (as_window window) }
         ensures grid { WindowPatchesGrid C.cells C.with_cells C.padded_windows self.old
-            (as_window place) (mut_layout result) }
+            (as_window window) (mut_layout result) }
         ensures outside { WindowKeepsOutside C.cells C.with_cells C.padded_windows self.old
-            (as_window place) (mut_layout result) }
+            (as_window window) (mut_layout result) }
         ensures still_fits { WindowKeepsFit C.cells C.with_cells C.padded_windows self.old
-            (as_window place) (mut_layout result) }
+            (as_window window) (mut_layout result) }
         ensures container { WindowKeepsContainer C.cells C.with_cells C.padded_windows self.old
-            (as_window place) (mut_layout result) }
+            (as_window window) (mut_layout result) }
     {
-        let (buf, shape) = self.window_parts_mut(place);
+        let (buf, shape) = self.window_parts_mut(window);
         Img::from_parts(buf, shape)
     }
 
@@ -261,40 +260,40 @@ impl<C: AsMutSlice> Img<C> {
     /// The cells and the shape of the window that `window_mut` returns; `from_parts` makes the
     /// window from them.
     ///
-    /// This is for a caller that is itself proved and specifies what its writes leave. Pass the
-    /// cells to a function that makes the image from them: a generated proof follows that borrow.
-    /// It doesn't follow the borrow of a returned image. All other callers use `window_mut`.
+    /// This is for a caller that is itself proved and specifies what its writes leave: all others
+    /// use `window_mut`. Pass the cells to a function that makes the image from them. A generated
+    /// proof follows that borrow, and not the one of a returned image.
     ///
     /// # Requires
     ///
     /// The image fits (`is_valid`), and the window is inside it (`has_window`).
-    pub fn window_parts_mut(&mut self, place: Window) -> (&mut [C::Item], Shape)
+    pub fn window_parts_mut(&mut self, window: Window) -> (&mut [C::Item], Shape)
         requires fits { Fits (layout_by C.cells self.old) }
-        requires inside { IsInside (width_of self.old) (height_of self.old) (as_window place) }
+        requires inside { IsInside (width_of self.old) (height_of self.old) (as_window window) }
         ensures* hands_on { sem 𝓛 (follows (the_row C.row)
             (Array C.Item.row 0) self.entry.ghost_name result.0.ghost_name
-            (with_window C.cells C.with_cells C.padded_windows self.old (as_window place))) }
+            (with_window C.cells C.with_cells C.padded_windows self.old (as_window window))) }
         ensures layout { shaped result.0.now result.1
-            ≡ window_layout C.padded_windows (layout_by C.cells self.old) (as_window place) }
+            ≡ window_layout C.padded_windows (layout_by C.cells self.old) (as_window window) }
         ensures fits { Fits (shaped result.0.now result.1) }
         ensures view { shaped_grid result.0.now result.1
-            ≡ window_view (grid_by C.cells self.old) (as_window place) }
-        ensures width { shape_width result.1 ≡ place.width }
-        ensures height { shape_height result.1 ≡ place.height }
+            ≡ window_view (grid_by C.cells self.old) (as_window window) }
+        ensures width { shape_width result.1 ≡ window.width }
+        ensures height { shape_height result.1 ≡ window.height }
         ensures holds_width { width_of self.old ≤ stride_of self.old }
         ensures grid { WindowPatchesGrid C.cells C.with_cells C.padded_windows self.old
-            (as_window place) (shaped result.0.now result.1) }
+            (as_window window) (shaped result.0.now result.1) }
         ensures outside { WindowKeepsOutside C.cells C.with_cells C.padded_windows self.old
-            (as_window place) (shaped result.0.now result.1) }
+            (as_window window) (shaped result.0.now result.1) }
         ensures still_fits { WindowKeepsFit C.cells C.with_cells C.padded_windows self.old
-            (as_window place) (shaped result.0.now result.1) }
+            (as_window window) (shaped result.0.now result.1) }
         ensures container { WindowKeepsContainer C.cells C.with_cells C.padded_windows self.old
-            (as_window place) (shaped result.0.now result.1) }
+            (as_window window) (shaped result.0.now result.1) }
     {
         let len = self.buf.as_slice().len();
         let whole = self.shape();
-        let part = whole.stretch(C::has_padded_windows(), len, place);
-        let shape = whole.window(place);
+        let part = whole.stretch(C::has_padded_windows(), len, window);
+        let shape = whole.window(window);
         let cells = self.buf.stretch_mut(part.start, part.len);
         (cells, shape)
     }

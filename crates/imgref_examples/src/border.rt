@@ -5,8 +5,8 @@ ghost use Rattle.imgref.specs.Words.{Fits, SameOutside, IsInside, patch, uniform
 
 use imgref::{ImgVec, Window};
 
-/// Writes `value` along the inner edge of a window, one pixel wide: the upper and the lower line, then
-/// the left and the right one.
+/// Writes `value` along the inner edge of a window, one pixel wide: the upper and the lower line,
+/// then the left and the right one.
 pub fn draw_border(image: &mut ImgVec<u8>, w: Window, value: u8)
     requires fits { Fits (vec_layout image.old) }
     requires inside { IsInside (width_of image.old) (height_of image.old) (as_window w) }

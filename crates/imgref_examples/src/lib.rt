@@ -24,6 +24,7 @@ mod pixels;
 mod points;
 mod rect;
 mod rows;
+mod scenes;
 mod sums;
 #[cfg(test)]
 mod tests;
@@ -50,6 +51,7 @@ pub use pixels::{invert_lent, invert_owner, write_first};
 pub use points::{invert, threshold};
 pub use rect::draw_rect;
 pub use rows::{fill_last_row, fill_row_at};
+pub use scenes::{blend, count_above, exchange_and_mirror, fill_disc, ramp, turn_right};
 pub use sums::{checksum, checksum_by_rows, exact_checksum};
 pub use tiles::{darken_lent_tiles, darken_tiles};
 pub use upside_down::flip;

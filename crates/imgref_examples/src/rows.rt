@@ -6,7 +6,7 @@ ghost use Rattle.image_model.specs.Grid.{patch, uniform};
 ghost use Rattle.imgref.specs.Image.{width_of, height_of, grid_by, layout_by, OnlyCellsChange, with_all};
 ghost use Rattle.imgref_examples.specs.Rows.{with_last_row};
 
-use imgref::{AsMutSlice, Img};
+use imgref::{AsMutSlice, End, Img};
 
 // Every cell becomes `value`. The slice's own `fill` asks for a `clone` that cannot fail.
 #[tactic(auto, using(std::proofs::lemmas::List::take_more_set, std::proofs::lemmas::List::replicate_more, std::proofs::lemmas::List::take_all))]
@@ -43,7 +43,7 @@ where
         (with_last_row (layout_by C.cells image.old) value) }
 {
     let mut rows = image.rows_mut();
-    if let Some(row) = rows.next_back() {
+    if let Some(row) = rows.step(End::Last) {
         fill_row(row, value);
     }
 }

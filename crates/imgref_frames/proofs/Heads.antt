@@ -74,14 +74,14 @@ head_bad law count None new h = tt
 head_bad law count (Some bytes) None h = absurd h.read
 head_bad law count (Some bytes) (Some left) h = bad_head law count (Some bytes) (Some left) h (80 ∷ bytes) left h.read
 
--- of 2 ^ 64 bytes no head is among those that were begun
-long_head : (scan : Scan) (old new : Option (List ℕ)) (h : HeadBegun 18446744073709551615 scan old new) (bytes left : List ℕ) → bytes ≡ h.bytes ++ left → IsNoPicture bytes
+-- of more bytes than a head may have no head is among those that were begun
+long_head : (scan : Scan) (old new : Option (List ℕ)) (h : HeadBegun 65536 scan old new) (bytes left : List ℕ) → bytes ≡ h.bytes ++ left → IsNoPicture bytes
 long_head scan old new h bytes left read = λ picture head more is_head is. elim (either_begins h.bytes head left more (sym read ∙ is)) [
   | inl l ↦ omega (arith, ap length l.1, length-append h.bytes l.0, h.count_is, is_head.counted)
   | inr r ↦ omega (arith, ap length r.1, length-append head r.0, ap length (h.none picture head r.0 is_head.named r.1), h.count_is, is_head.counted)
 ]
 
-pub head_long : (scan : Scan) (old new : Option (List ℕ)) → HeadBegun 18446744073709551615 scan old new → IfSome (behind_letter old) IsNoPicture
+pub head_long : (scan : Scan) (old new : Option (List ℕ)) → HeadBegun 65536 scan old new → IfSome (behind_letter old) IsNoPicture
 head_long scan None new h = tt
 head_long scan (Some bytes) None h = absurd h.read
 head_long scan (Some bytes) (Some left) h = long_head scan (Some bytes) (Some left) h (80 ∷ bytes) left h.read

@@ -7,3 +7,4 @@ pub mod Carrying
 pub mod Outcomes
 pub mod Hiding
 pub mod OneOutput
+pub mod Uncovered

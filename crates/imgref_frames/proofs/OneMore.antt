@@ -26,11 +26,11 @@ made_snoc n m (y ∷ xs) x e = ap (λ l. made_text n y ++ l) (made_snoc (n + 1) 
 
 module _ (heads : List ℕ → Recipe → Type 0) where
   -- nothing yet
-  pub none_passed : (r w : Option (List ℕ)) → Passed heads 0 r r w w
+  unfoldable pub none_passed : (r w : Option (List ℕ)) → Passed heads 0 r r w w
   none_passed r w = record { within = omega arith; pieces = []; are = tt; count_is = refl; read = Consumes-nil r; written = Appends-nil w }
 
   -- and nothing more
-  pub passed_on : (n : ℕ) (r0 r1 r2 w0 w1 : Option (List ℕ)) → Passed heads n r0 r1 w0 w1 → Consumes r1 r2 [] → Passed heads n r0 r2 w0 w1
+  unfoldable pub passed_on : (n : ℕ) (r0 r1 r2 w0 w1 : Option (List ℕ)) → Passed heads n r0 r1 w0 w1 → Consumes r1 r2 [] → Passed heads n r0 r2 w0 w1
   passed_on n r0 r1 r2 w0 w1 p read = record {
     within = p.within;
     pieces = p.pieces;
@@ -43,7 +43,7 @@ module _ (heads : List ℕ → Recipe → Type 0) where
   -- a piece was read
   module _ (n : ℕ) (x : Piece) (is : IsPiece heads x) (r0 r1 r2 w0 w1 w2 : Option (List ℕ)) (p : Passed heads n r0 r1 w0 w1) (read : Consumes r1 r2 (piece_text x)) where
     -- and what it becomes is written
-    pub one_more : n < 18446744073709551615 → Appends w1 w2 (made_text n x) → Passed heads (n + 1) r0 r2 w0 w2
+    unfoldable pub one_more : n < 18446744073709551615 → Appends w1 w2 (made_text n x) → Passed heads (n + 1) r0 r2 w0 w2
     one_more within written = record {
       within = omega (arith, within);
       pieces = p.pieces ++ x ∷ [];

@@ -1,5 +1,5 @@
 -- One round of the loop over frames and of the loop over pictures.
-use Rattle.std.proofs.Common.{◌≡◌, ℕ, ◌+◌, ◌<◌, List, [], ◌∷◌, Option, Some, None, Result, Ok, Err, length, take, refl, sym, ◌∙◌, subst, arith, append-nil, inl, inr, IfSome}
+use Rattle.std.proofs.Common.{◌≡◌, ◌≢◌, ℕ, ◌+◌, ◌<◌, List, [], ◌∷◌, ◌++◌, Option, Some, None, Result, Ok, Err, length, take, refl, sym, ◌∙◌, subst, arith, append-nil, inl, inr, IfSome}
 use Rattle.std.specs.Io.KnownBytes.{Consumes, Appends, Keeps}
 use Rattle.std.proofs.KnownBytes.{Consumes-trans}
 use Rattle.devices.specs.Whole.{AppendsBeginning}
@@ -7,18 +7,17 @@ use Rattle.frame_formats.specs.Picture.{ApartHeads, BeginsWithLetter}
 use Rattle.frame_formats.specs.Edits.{Edits}
 use Rattle.frame_formats.specs.Recipe.{Recipe, picture_recipe}
 use Rattle.frame_formats.specs.declared.picture.Picture.{Picture}
-use Rattle.frame_formats.specs.Plan.{Tells}
-use Rattle.frame_formats.specs.declared.plans.PlanFault.{PlanFault}
-use Rattle.frame_formats.specs.declared.plans.PlanFault.TheVariants.{Outside as NoPlan, Memory as NoMemory}
-use Rattle.imgref_frames.specs.Program.{fault_of_plan}
 use Rattle.imgref_frames.specs.Stream.{Piece, piece, IsPiece, piece_text, pieces_text, made_text, all_made}
 use Rattle.imgref_frames.specs.Video.{FrameHead, with_head}
 use Rattle.imgref_frames.specs.Pictures.{IsHead, PictureHead, IsNoPicture, IsPictureNotEdited, behind_letter}
 use Rattle.imgref_frames.specs.Passing.{LineRead, IsNoFrameLine, IsNoFrame, IsNoNext, IsNotEditedNext, IsCut, AtHead, Passed, PassedUpTo, PassedSome, PassedPart, CellsPassed, PassesCells, PassesFrames, PassesPicture, PassesPictures, Anything}
+use Rattle.imgref_frames.specs.Kept.{HasNoPlan, NeedsMemory, PictureStops, PicturesStop, Stops, PassedLast, LastIs, last_piece}
+use Rattle.imgref_frames.specs.declared.pictures.Kept.{Kept}
+use Rattle.text_model.proofs.Options.{some_is}
 use Rattle.imgref_frames.specs.declared.fault.RunFault.{RunFault}
 use Rattle.imgref_frames.specs.declared.fault.RunFault.TheVariants.{Header, Outside, Frame, Memory, Input, Output}
 use Rattle.imgref_frames.proofs.Pieces.{frames_readable, pictures_readable, cut_piece, cut_some}
-use Rattle.imgref_frames.proofs.OneMore.{one_more, part_more, passed_on}
+use Rattle.imgref_frames.proofs.OneMore.{none_passed, one_more, part_more, passed_on}
 
 pub nothing_said : (n : ℕ) (left : Option (List ℕ)) → IfSome left (Anything n)
 nothing_said n None = tt
@@ -73,13 +72,19 @@ module _ (video : Recipe) (n : ℕ) (r0 r1 w0 w1 : Option (List ℕ)) (p : Passe
 
 -- ---- one picture
 
+-- an answer with the picture
+abbrev pub as_picture : Picture → Result (Unit {0}) RunFault → Result Picture RunFault
+as_picture picture (Ok x) = Ok picture
+as_picture picture (Err e) = Err e
+
 module _ (apart : ApartHeads) (letter : BeginsWithLetter) (edit : Edits) (n : ℕ) (picture : Picture) (recipe : Recipe) (head : List ℕ) (named : IsHead head picture) (edited : picture_recipe edit picture ≡ Some recipe)
     (r1 r2 r3 w1 w2 : Option (List ℕ)) (read : Consumes r1 r2 head) where
   picture_head : PictureHead edit head recipe
   picture_head = record { picture = picture; is = named; edited = edited }
 
-  pub picture_made : (r : Result (Unit {0}) RunFault) → PassesCells r recipe n r2 r3 w1 w2 → PassesPicture r edit n r1 r3 w1 w2
-  picture_made (Ok x) c = (piece head c.cells recipe, (picture_head, c.sized), Consumes-trans r1 r2 r3 head c.cells read c.read, c.written)
+  pub picture_made : (r : Result (Unit {0}) RunFault) → PassesCells r recipe n r2 r3 w1 w2 → PassesPicture (as_picture picture r) edit n r1 r3 w1 w2
+  unfolding picture_head
+  picture_made (Ok x) c = (piece head c.cells recipe, (picture_head, c.sized), refl, Consumes-trans r1 r2 r3 head c.cells read c.read, c.written)
   picture_made (Err (Frame k)) c = (
     c.0,
     if_some (IsCut (PictureHead edit)) (IsNoNext edit n) (λ bytes cut. record { some = cut_some (PictureHead edit) (pictures_readable apart letter edit) bytes cut; none = inr (inr cut) })
@@ -91,14 +96,25 @@ module _ (apart : ApartHeads) (letter : BeginsWithLetter) (edit : Edits) (n : �
   picture_made _ c = absurd c
 
 -- no plan for the picture whose head was read
-pub not_planned : (edit : Edits) (n : ℕ) (picture : Picture) (head : List ℕ) → IsHead head picture → (r1 r2 w : Option (List ℕ)) → Consumes r1 r2 head → (e : PlanFault) → Tells (picture_recipe edit picture ≡ None) e → PassesPicture (Err (fault_of_plan n e)) edit n r1 r2 w w
-not_planned edit n picture head is None r2 w read NoPlan tells = (tt, refl)
-not_planned edit n picture head is None r2 w read NoMemory tells = (refl, tt, refl)
+pub not_planned : (edit : Edits) (n : ℕ) (picture : Picture) (head : List ℕ) → IsHead head picture → (r1 r2 w : Option (List ℕ)) → Consumes r1 r2 head → (e : RunFault) → HasNoPlan (picture_recipe edit picture ≡ None) n e → PassesPicture (Err e) edit n r1 r2 w w
+not_planned edit n picture head is None r2 w read Outside tells = (tt, refl)
+not_planned edit n picture head is None r2 w read (Memory k) tells = (tells, tt, refl)
 not_planned edit n picture head is (Some bytes) None w read e tells = absurd read
-not_planned edit n picture head is (Some bytes) (Some rest) w read NoPlan tells = (record { begins = record { head = head; more = rest; picture = picture; is = is; read = read }; none = tells }, refl)
-not_planned edit n picture head is (Some bytes) (Some rest) w read NoMemory tells = (refl, record { head = head; more = rest; picture = picture; is = is; read = read }, refl)
+not_planned edit n picture head is (Some bytes) (Some rest) w read Outside tells = (record { begins = record { head = head; more = rest; picture = picture; is = is; read = read }; none = tells }, refl)
+not_planned edit n picture head is (Some bytes) (Some rest) w read (Memory k) tells = (tells, record { head = head; more = rest; picture = picture; is = is; read = read }, refl)
+not_planned edit n picture head is _ r2 w read _ tells = absurd tells
+
+-- out of memory where the head of another picture was read
+pub new_head : (picture : Picture) (head : List ℕ) → IsHead head picture → (before : Option Picture) (old new : Option (List ℕ)) → Consumes old new head → (e : RunFault) → NeedsMemory before picture e → PictureStops {T = Kept} (Err e) before old new
+new_head picture head is before old new read (Memory n) needs = record { head = head; picture = picture; is = is; read = read; other = needs }
+new_head picture head is before old new read _ needs = tt
 
 -- ---- pictures
+
+last_snoc : (ps : List Piece) (x : Piece) → last_piece (ps ++ x ∷ []) ≡ Some x
+last_snoc [] x = refl
+last_snoc (p ∷ []) x = refl
+last_snoc (p ∷ (q ∷ ps)) x = last_snoc (q ∷ ps) x
 
 keeps_none : (pieces : List Piece) (w0 w1 : Option (List ℕ)) → length pieces ≡ 0 → Appends w0 w1 (all_made 0 pieces) → Keeps w0 w1
 keeps_none [] None w1 none written = tt
@@ -113,8 +129,13 @@ reads_none P [] (Some bytes) (Some rest) none read holds = subst P (sym read) ho
 reads_none P (x ∷ xs) r0 r1 none read holds = absurd (omega (arith, none))
 
 module _ (edit : Edits) (n : ℕ) (r0 r1 r2 w0 w1 w2 : Option (List ℕ)) (within : n < 18446744073709551615) (p : Passed (PictureHead edit) n r0 r1 w0 w1) where
-  pub picture_passed : (Unit {0}) → ((x : Piece) × IsPiece (PictureHead edit) x × Consumes r1 r2 (piece_text x) × Appends w1 w2 (made_text n x)) → Passed (PictureHead edit) (n + 1) r0 r2 w0 w2
-  picture_passed u c = one_more (PictureHead edit) n c.0 c.1 r0 r1 r2 w0 w1 w2 p c.2 within c.3
+  unfoldable pub picture_passed : (picture : Picture) → PassesPicture (Ok picture) edit n r1 r2 w1 w2 → Passed (PictureHead edit) (n + 1) r0 r2 w0 w2
+  picture_passed picture c = one_more (PictureHead edit) n c.0 c.1 r0 r1 r2 w0 w1 w2 p c.3 within c.4
+
+  -- and it is the last
+  pub picture_last : (picture : Picture) → PassesPicture (Ok picture) edit n r1 r2 w1 w2 → PassedLast edit (Some picture) (n + 1) r0 r2 w0 w2
+  unfolding picture_passed one_more
+  picture_last picture c = record { passed = picture_passed picture c; last = (c.0, last_snoc p.pieces c.0, subst (IsHead c.0.head) c.2 c.1.0.is) }
 
   pub picture_stopped : (e : RunFault) → PassesPicture (Err e) edit n r1 r2 w1 w2 → PassesPictures (Err e) edit r0 r2 w0 w2
   picture_stopped (Frame k) c = ends_at (PictureHead edit) n r0 r1 w0 w1 p (IsNoNext edit) c.1 k c.0 w2 c.2
@@ -132,5 +153,55 @@ none_read None new read = tt
 none_read (Some bytes) None read = absurd read
 none_read (Some bytes) (Some rest) read = read
 
+-- no plan is kept before the first picture
+pub none_last : (edit : Edits) (r w : Option (List ℕ)) → PassedLast edit None 0 r r w w
+unfolding none_passed
+none_last edit r w = record { passed = none_passed (PictureHead edit) r w; last = refl }
+
+pub next_letter_last : (edit : Edits) (before : Option Picture) (n : ℕ) (r0 r1 r2 w0 w1 : Option (List ℕ)) → PassedLast edit before n r0 r1 w0 w1 → Consumes r1 r2 (80 ∷ []) → PassedLast edit before n r0 (behind_letter r2) w0 w1
+unfolding passed_on
+next_letter_last edit before n r0 r1 r2 w0 w1 p read = record { passed = passed_on (PictureHead edit) n r0 r1 (behind_letter r2) w0 w1 p.passed (none_read r1 r2 read); last = p.last }
+
+-- another picture than the last
+other_last : (before : Option Picture) (ps : List Piece) → LastIs before ps → (picture : Picture) → IfSome before (λ p. p ≢ picture) → IfSome (last_piece ps) (λ last. IsHead last.head picture → ⊥)
+other_last None ps none picture other = subst (λ l. IfSome (last_piece l) (λ last. IsHead last.head picture → ⊥)) (sym none) tt
+other_last (Some p) ps last picture other = subst (λ l. IfSome l (λ last. IsHead last.head picture → ⊥)) (sym last.1) (λ is. other (some_is p picture (sym last.2.named ∙ is.named)))
+
+-- out of memory at the head of the next picture
+pub next_head : (edit : Edits) (before : Option Picture) (n : ℕ) (r0 r1 r2 w0 w1 : Option (List ℕ)) → PassedLast edit before n r0 r1 w0 w1 → (e : RunFault) → ((k : ℕ) → e ≡ Memory k → k ≡ n) → PictureStops {T = Kept} (Err e) before r1 r2 → PicturesStop {T = ℕ} (Err e) edit r0 r2
+next_head edit before n r0 r1 r2 w0 w1 p (Memory k) count stop = record {
+  pieces = p.passed.pieces;
+  are = p.passed.are;
+  count_is = p.passed.count_is ∙ sym (count k refl);
+  head = stop.head;
+  picture = stop.picture;
+  is = stop.is;
+  read = Consumes-trans r0 r1 r2 _ _ p.passed.read stop.read;
+  other = other_last before p.passed.pieces p.last stop.picture stop.other;
+}
+next_head edit before n r0 r1 r2 w0 w1 p _ count stop = tt
+
+-- its number is that of the pictures before
+pub memory_count : (edit : Edits) (n : ℕ) (r1 r2 w1 w2 : Option (List ℕ)) (e : RunFault) → PassesPicture (Err e) edit n r1 r2 w1 w2 → (k : ℕ) → e ≡ Memory k → k ≡ n
+memory_count edit n r1 r2 w1 w2 e passes k is = (subst (λ (f : RunFault). PassesPicture (Err f) edit n r1 r2 w1 w2) is passes).0
+
 pub next_letter : (edit : Edits) (n : ℕ) (r0 r1 r2 w0 w1 : Option (List ℕ)) → Passed (PictureHead edit) n r0 r1 w0 w1 → Consumes r1 r2 (80 ∷ []) → Passed (PictureHead edit) n r0 (behind_letter r2) w0 w1
 next_letter edit n r0 r1 r2 w0 w1 p read = passed_on (PictureHead edit) n r0 r1 (behind_letter r2) w0 w1 p (none_read r1 r2 read)
+
+-- ---- the first byte of pictures
+
+-- what is said of memory behind the letter is so from the first byte on
+pub behind_letter_stops : (r : Result ℕ RunFault) (edit : Edits) (old left new : Option (List ℕ)) → Consumes old left (80 ∷ []) → PicturesStop r edit (behind_letter left) new → Stops r edit old new
+behind_letter_stops (Err (Memory n)) edit None left new read stop = inr (record { pieces = stop.pieces; are = stop.are; count_is = stop.count_is; head = stop.head; picture = stop.picture; is = stop.is; read = tt; other = stop.other })
+behind_letter_stops (Err (Memory n)) edit (Some bytes) None new read stop = absurd read
+behind_letter_stops (Err (Memory n)) edit (Some bytes) (Some rest) new read stop = inr (record {
+  pieces = stop.pieces;
+  are = stop.are;
+  count_is = stop.count_is;
+  head = stop.head;
+  picture = stop.picture;
+  is = stop.is;
+  read = subst (λ (l : List ℕ). Consumes (Some l) new (pieces_text stop.pieces ++ stop.head)) (sym read) stop.read;
+  other = stop.other;
+})
+behind_letter_stops _ edit old left new read stop = tt

@@ -1,8 +1,10 @@
 pub mod Fault
 pub mod Request
+pub mod Words
 pub mod Stream
 pub mod Video
 pub mod Pictures
 pub mod Passing
+pub mod Kept
 pub mod Program
 pub mod Alike

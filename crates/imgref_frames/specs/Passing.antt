@@ -8,6 +8,7 @@ use Rattle.frame_formats.specs.Recipe.{Recipe}
 use Rattle.imgref_frames.specs.Stream.{Piece, IsPiece, piece_text, pieces_text, made_text, all_made}
 use Rattle.imgref_frames.specs.Video.{AreParameters, FrameHead, frame_line}
 use Rattle.imgref_frames.specs.Pictures.{PictureHead, BeginsPicture, IsNoPicture, IsPictureNotEdited}
+use Rattle.frame_formats.specs.declared.picture.Picture.{Picture}
 use Rattle.imgref_frames.specs.declared.frames.Begin.{Begin}
 use Rattle.imgref_frames.specs.declared.frames.Begin.TheVariants.{Whole, Open, End as AtEnd, Other as NoWord}
 use Rattle.imgref_frames.specs.declared.frames.Found.{Found}
@@ -159,9 +160,9 @@ PassesPictures (Err Header) edit input left old new = Keeps old new × IfSome in
 PassesPictures (Err Outside) edit input left old new = PassedSome (PictureHead edit) (IsNotEditedNext edit) input old new
 PassesPictures (Err (Memory n)) edit input left old new = PassedUpTo (PictureHead edit) AtHead n input old new
 
--- what a run over the picture of this number has
-abbrev pub PassesPicture : Result (Unit {0}) RunFault → Edits → ℕ → Option (List ℕ) → Option (List ℕ) → Option (List ℕ) → Option (List ℕ) → Type 0
-PassesPicture (Ok x) edit number input left old new = (p : Piece) × IsPiece (PictureHead edit) p × Consumes input left (piece_text p) × Appends old new (made_text number p)
+-- what a run over the picture of this number has, which answers its size and kind
+abbrev pub PassesPicture : Result Picture RunFault → Edits → ℕ → Option (List ℕ) → Option (List ℕ) → Option (List ℕ) → Option (List ℕ) → Type 0
+PassesPicture (Ok picture) edit number input left old new = (p : Piece) × (is : IsPiece (PictureHead edit) p) × (is.0.picture ≡ picture) × Consumes input left (piece_text p) × Appends old new (made_text number p)
 PassesPicture (Err (BadFrame n)) edit number input left old new = (n ≡ number) × IfSome input (IsNoNext edit number) × (new ≡ old)
 PassesPicture (Err Output) edit number input left old new = (p : Piece) × IsPiece (PictureHead edit) p × Consumes input left (piece_text p) × AppendsBeginning old new (made_text number p)
 PassesPicture (Err Header) edit number input left old new = (number ≡ 0) × IfSome input IsNoPicture × (new ≡ old)

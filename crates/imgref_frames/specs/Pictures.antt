@@ -1,5 +1,5 @@
 -- The heads of pictures, and what edits are for each.
-use Rattle.std.specs.Prelude.{◌≡◌, ◌<◌, ◌+◌, ◌^◌, ℕ, List, [], ◌∷◌, ◌++◌, Option, Some, None, Result, Ok, Err, IfSome, length}
+use Rattle.std.specs.Prelude.{◌≡◌, ◌<◌, ◌≤◌, ◌+◌, ℕ, List, [], ◌∷◌, ◌++◌, Option, Some, None, Result, Ok, Err, IfSome, length}
 use Rattle.std.specs.Option.{option_map}
 use Rattle.std.specs.Io.KnownBytes.{Consumes}
 use Rattle.frame_formats.specs.Picture.{picture_of, scanned, start}
@@ -10,9 +10,9 @@ use Rattle.frame_formats.specs.declared.picture.Scan.{Scan}
 use Rattle.imgref_frames.specs.declared.fault.RunFault.{RunFault}
 use Rattle.imgref_frames.specs.declared.fault.RunFault.TheVariants.{Input}
 
--- the head of a picture, of fewer than 2 ^ 64 bytes
+-- the head of a picture, of at most 64 KiB
 pub record IsHead (head : List ℕ) (picture : Picture) : Type 0 where
-  pub counted : length head < 2 ^ 64
+  pub counted : length head ≤ 65536
   pub named : picture_of head ≡ Some picture
 
 -- a head names a picture that the edits are edits of

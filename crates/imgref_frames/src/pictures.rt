@@ -1,22 +1,35 @@
 //! Pictures, one after the other, read, edited and written one by one.
 
-ghost use Rattle.std.specs.Prelude.{◌≡◌, ◌+◌, ◌≤◌, ◌<◌, length, OnOk, OnErr, IfErr};
+ghost use Rattle.std.specs.Prelude.{◌≡◌, ◌≢◌, ◌+◌, ◌≤◌, ◌<◌, length, None, true, false, IfOk, IfErr, IfSome, OnOk, OnErr};
 ghost use Rattle.devices.specs.Device.{device_of, failures_of};
+ghost use Rattle.frame_formats.specs.Recipe.{picture_recipe};
 ghost use Rattle.imgref_frames.specs.Fault.{reader_failures, writer_failures};
+ghost use Rattle.imgref_frames.specs.Kept.{IsKept, kept_picture, picture_in, HasNoPlan, NeedsMemory, PictureStops, PicturesStop};
 ghost use Rattle.imgref_frames.specs.Passing.{PassesPicture, PassesPictures};
 ghost use Rattle.imgref_frames.specs.Pictures.{HeadIs, behind_letter};
 ghost use Rattle.imgref_frames.specs.Request.{edits_of};
 
 use crate::cells::pass_cells;
 use crate::fault::{RunFault, fault_of_plan};
-use crate::request::Request;
+use crate::request::{Request, Seen, is_over};
 use devices::{Counted, read_byte};
 use frame_formats::{Picture, Plan, Scan, heads_end_themselves};
 use std::alloc::{AllocError, Global};
 use std::io::{Read, Write};
 
-// Reads the rest of a head, whose first letter was read; answers `None` where it is none of fewer
-// than 2^64 bytes.
+// How many bytes a head may have behind its first letter, with one more that shows that it is too
+// long.
+const LONGEST: usize = 65536;
+
+/// The plan for a picture, which is also that for each of the same size and kind.
+#[derive(Drop)]
+pub(crate) struct Kept {
+    picture: Picture,
+    plan: Plan,
+}
+
+// Reads the rest of a head, whose first letter was read; answers `None` where it is none of at most
+// 64 KiB.
 fn read_head<R: Read>(reader: &mut Counted<R>) -> Result<Option<Picture>, RunFault>
     requires counts { failures_of reader.old < u64.MAX }
     ensures head { HeadIs result (R.remaining (device_of reader.old))
@@ -25,7 +38,7 @@ fn read_head<R: Read>(reader: &mut Counted<R>) -> Result<Option<Picture>, RunFau
 {
     heads_end_themselves();
     let mut scan = Scan::new().push(b'P');
-    for _count in 0..u64::MAX {
+    for _count in 0..LONGEST {
         match scan {
             Scan::Done(picture) => return Ok(Some(picture)),
             Scan::Bad => return Ok(None),
@@ -51,28 +64,107 @@ fn make_room(alloc: Global, cells: &mut Vec<u8>, room: usize) -> Result<(), Allo
     Ok(())
 }
 
-// Passes on the picture of this number, the first letter of whose head was read.
+// Whether two pictures have the same size and kind.
+fn is_same(a: Picture, b: Picture) -> bool
+    ensures same { result ≡ true → a ≡ b }
+    ensures other { result ≡ false → a ≢ b }
+{
+    a.width == b.width && a.height == b.height && a.colour == b.colour
+}
+
+// A new plan for the picture of this number, with room for it.
+fn make_plan(
+    request: Request<'_>,
+    number: u64,
+    picture: Picture,
+    cells: &mut Vec<u8>,
+    other: &mut Vec<u8>,
+) -> Result<Kept, RunFault>
+    ensures picture { IfOk result (λ k. k.picture ≡ picture) }
+    ensures kept { IfOk result
+        (IsKept (edits_of request.entry) (length cells.new.items) (length other.new.items)) }
+    ensures fault { IfErr result
+        (HasNoPlan (picture_recipe (edits_of request.entry) picture ≡ None) number) }
+{
+    let alloc = request.alloc;
+    let plan = match Plan::for_picture(alloc, picture, request.steps, request.framing) {
+        Ok(plan) => plan,
+        Err(fault) => return Err(fault_of_plan(number, fault)),
+    };
+    if is_over(request.limit, &plan) {
+        return Err(RunFault::Memory(number));
+    }
+    if make_room(alloc, cells, plan.room()).is_err() {
+        return Err(RunFault::Memory(number));
+    }
+    if make_room(alloc, other, plan.other_room()).is_err() {
+        return Err(RunFault::Memory(number));
+    }
+    Ok(Kept { picture, plan })
+}
+
+// The plan for the picture of this number: that of the picture before it where both have the same
+// size and kind, and else a new one.
+fn plan_for(
+    request: Request<'_>,
+    number: u64,
+    kept: Option<Kept>,
+    picture: Picture,
+    cells: &mut Vec<u8>,
+    other: &mut Vec<u8>,
+) -> Result<Kept, RunFault>
+    requires kept { IfSome kept
+        (IsKept (edits_of request) (length cells.old.items) (length other.old.items)) }
+    ensures picture { IfOk result (λ k. k.picture ≡ picture) }
+    ensures kept { IfOk result
+        (IsKept (edits_of request.entry) (length cells.new.items) (length other.new.items)) }
+    ensures fault { IfErr result
+        (HasNoPlan (picture_recipe (edits_of request.entry) picture ≡ None) number) }
+    ensures stops { IfErr result (NeedsMemory (kept_picture kept) picture) }
+{
+    match kept {
+        Some(before) => {
+            if is_same(before.picture, picture) {
+                Ok(before)
+            } else {
+                make_plan(request, number, picture, cells, other)
+            }
+        }
+        None => make_plan(request, number, picture, cells, other),
+    }
+}
+
+// Passes on the picture of this number, the first letter of whose head was read. The plan of the
+// picture before it is used for it too, where both have the same size and kind.
 fn pass_picture<R: Read, W: Write>(
     request: Request<'_>,
     number: u64,
+    kept: Option<Kept>,
     cells: &mut Vec<u8>,
     other: &mut Vec<u8>,
+    seen: &mut Seen,
     reader: &mut Counted<R>,
     writer: &mut Counted<W>,
-) -> Result<(), RunFault>
+) -> Result<Kept, RunFault>
+    requires kept { IfSome kept
+        (IsKept (edits_of request) (length cells.old.items) (length other.old.items)) }
     requires reader_counts { failures_of reader.old < u64.MAX }
     requires writer_counts { failures_of writer.old < u64.MAX }
     requires numbers { number < u64.MAX }
-    ensures passes { PassesPicture result (edits_of request.entry) number
+    ensures passes { PassesPicture (picture_in result) (edits_of request.entry) number
         (behind_letter (R.remaining (device_of reader.old))) (R.remaining (device_of reader.new))
         (W.contents (device_of writer.old)) (W.contents (device_of writer.new)) }
+    ensures kept { IfOk result
+        (IsKept (edits_of request.entry) (length cells.new.items) (length other.new.items)) }
+    ensures stops { PictureStops result (kept_picture kept)
+        (behind_letter (R.remaining (device_of reader.old)))
+        (R.remaining (device_of reader.new)) }
     ensures reader_count { failures_of reader.new
         ≡ failures_of reader.old + reader_failures result }
     ensures writer_count { failures_of writer.new
         ≡ failures_of writer.old + writer_failures result }
 {
     heads_end_themselves();
-    let alloc = request.alloc;
     let picture = match read_head(reader) {
         Ok(Some(picture)) => picture,
         Ok(None) => {
@@ -83,23 +175,30 @@ fn pass_picture<R: Read, W: Write>(
         }
         Err(fault) => return Err(fault),
     };
-    let plan = match Plan::for_picture(alloc, picture, request.steps, request.framing) {
-        Ok(plan) => plan,
-        Err(fault) => return Err(fault_of_plan(number, fault)),
+    *seen = Seen::Picture(picture);
+    let made = match plan_for(request, number, kept, picture, cells, other) {
+        Ok(made) => made,
+        Err(fault) => return Err(fault),
     };
-    if make_room(alloc, cells, plan.room()).is_err() {
-        return Err(RunFault::Memory(number));
+    match pass_cells(
+        reader,
+        writer,
+        &made.plan,
+        number,
+        made.plan.head(),
+        cells,
+        other,
+    ) {
+        Ok(()) => Ok(made),
+        Err(fault) => Err(fault),
     }
-    if make_room(alloc, other, plan.other_room()).is_err() {
-        return Err(RunFault::Memory(number));
-    }
-    pass_cells(reader, writer, &plan, number, plan.head(), cells, other)
 }
 
 /// Reads picture after picture, edits it and writes it; the letter at the front was already read.
 /// Returns the number of pictures.
 pub(crate) fn pass_pictures<R: Read, W: Write>(
     request: Request<'_>,
+    seen: &mut Seen,
     reader: &mut Counted<R>,
     writer: &mut Counted<W>,
 ) -> Result<u64, RunFault>
@@ -108,6 +207,9 @@ pub(crate) fn pass_pictures<R: Read, W: Write>(
     ensures passes { PassesPictures result (edits_of request.entry)
         (behind_letter (R.remaining (device_of reader.old))) (R.remaining (device_of reader.new))
         (W.contents (device_of writer.old)) (W.contents (device_of writer.new)) }
+    ensures stops { PicturesStop result (edits_of request.entry)
+        (behind_letter (R.remaining (device_of reader.old)))
+        (R.remaining (device_of reader.new)) }
     ensures reader_count { failures_of reader.new
         ≡ failures_of reader.old + reader_failures result }
     ensures writer_count { failures_of writer.new
@@ -116,9 +218,12 @@ pub(crate) fn pass_pictures<R: Read, W: Write>(
     heads_end_themselves();
     let mut cells = Vec::new(request.alloc);
     let mut other = Vec::new(request.alloc);
+    let mut kept = None;
     for number in 0..u64::MAX {
-        match pass_picture(request, number, &mut cells, &mut other, reader, writer) {
-            Ok(()) => {}
+        match pass_picture(
+            request, number, kept, &mut cells, &mut other, seen, reader, writer,
+        ) {
+            Ok(made) => kept = Some(made),
             Err(fault) => return Err(fault),
         }
         match read_byte(reader) {

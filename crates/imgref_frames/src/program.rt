@@ -5,13 +5,14 @@ ghost use Rattle.devices.specs.Device.{device_of, failures_of};
 ghost use Rattle.imgref_frames.specs.Fault.{reader_failures, writer_failures};
 ghost use Rattle.frame_formats.specs.Edits.{edits};
 ghost use Rattle.imgref_frames.specs.Alike.{Hides, OneOutput};
+ghost use Rattle.imgref_frames.specs.Kept.{Stops, VideoStopsAfter};
 ghost use Rattle.imgref_frames.specs.Request.{edits_of};
 ghost use Rattle.imgref_frames.specs.Program.{Follows, Writes, begins_picture};
 
 use crate::fault::{RunFault, fault_of_plan};
 use crate::frames::pass_frames;
 use crate::pictures::pass_pictures;
-use crate::request::Request;
+use crate::request::{Request, Seen, is_over};
 use devices::{Counted, LineFault, read_byte, read_line, write_all};
 use frame_formats::{Framing, Paint, Plan, Step, heads_end_themselves, read_format, recipes_hide};
 use std::alloc::Global;
@@ -24,6 +25,7 @@ const LONGEST: usize = 256;
 fn run_video<R: Read, W: Write>(
     request: Request<'_>,
     line: &[u8],
+    seen: &mut Seen,
     reader: &mut Counted<R>,
     writer: &mut Counted<W>,
 ) -> Result<u64, RunFault>
@@ -35,6 +37,8 @@ fn run_video<R: Read, W: Write>(
     ensures follows { Follows result (edits_of request.entry) (line.now ++ 10 ∷ [])
         (R.remaining (device_of reader.old)) (W.contents (device_of writer.old))
         (W.contents (device_of writer.new)) }
+    ensures stops { VideoStopsAfter result (line.now ++ 10 ∷ []) (R.remaining (device_of reader.old))
+        (R.remaining (device_of reader.new)) }
     ensures reader_count { failures_of reader.new
         ≡ failures_of reader.old + reader_failures result }
     ensures writer_count { failures_of writer.new
@@ -44,10 +48,14 @@ fn run_video<R: Read, W: Write>(
     let Some(format) = read_format(line) else {
         return Err(RunFault::Header);
     };
+    *seen = Seen::Video(format);
     let plan = match Plan::for_video(alloc, line, format, request.steps, request.framing) {
         Ok(plan) => plan,
         Err(fault) => return Err(fault_of_plan(0, fault)),
     };
+    if is_over(request.limit, &plan) {
+        return Err(RunFault::Memory(0));
+    }
     let Ok(mut cells) = vec![in alloc; 0u8; plan.room()] else {
         return Err(RunFault::Memory(0));
     };
@@ -72,6 +80,7 @@ fn run_video<R: Read, W: Write>(
 fn carry_video<R: Read, W: Write>(
     request: Request<'_>,
     first: u8,
+    seen: &mut Seen,
     reader: &mut Counted<R>,
     writer: &mut Counted<W>,
 ) -> Result<u64, RunFault>
@@ -81,6 +90,8 @@ fn carry_video<R: Read, W: Write>(
     ensures follows { Follows result (edits_of request.entry) (first ∷ [])
         (R.remaining (device_of reader.old)) (W.contents (device_of writer.old))
         (W.contents (device_of writer.new)) }
+    ensures stops { VideoStopsAfter result (first ∷ []) (R.remaining (device_of reader.old))
+        (R.remaining (device_of reader.new)) }
     ensures reader_count { failures_of reader.new
         ≡ failures_of reader.old + reader_failures result }
     ensures writer_count { failures_of writer.new
@@ -96,16 +107,19 @@ fn carry_video<R: Read, W: Write>(
         Err(LineFault::NoLine) => return Err(RunFault::Header),
         Err(LineFault::Reader) => return Err(RunFault::Input),
     };
-    run_video(request, &line[..len + 1], reader, writer)
+    run_video(request, &line[..len + 1], seen, reader, writer)
 }
 
 /// Reads a video or pictures, and writes what the steps and then a crop or a border make of each
 /// frame or picture. Returns the number of frames or pictures. All memory for a video is allocated
-/// before the first byte is written, and that for a picture before its first byte.
+/// before the first byte is written, and that for a picture before its first byte. All buffers have
+/// at most `limit` bytes. `seen` tells what was read last.
 pub fn run<R: Read, W: Write>(
     alloc: Global,
+    limit: usize,
     steps: &[Step<Paint>],
     framing: Option<Framing>,
+    seen: &mut Seen,
     reader: &mut Counted<R>,
     writer: &mut Counted<W>,
 ) -> Result<u64, RunFault>
@@ -116,6 +130,11 @@ pub fn run<R: Read, W: Write>(
     // beginning of that video, as the fault says.
     ensures written { Writes result (edits steps.now framing) (R.remaining (device_of reader.old))
         (W.contents (device_of writer.old)) (W.contents (device_of writer.new)) }
+
+    // Out of memory comes only where exactly the line of a video was read, or exactly the pictures
+    // before and one head more, of another size or kind than the last of them.
+    ensures stops { Stops result (edits steps.now framing) (R.remaining (device_of reader.old))
+        (R.remaining (device_of reader.new)) }
 
     // Each count grew exactly where the answer is that device's fault.
     ensures reader_count { failures_of reader.new
@@ -136,12 +155,13 @@ pub fn run<R: Read, W: Write>(
     heads_end_themselves();
     let request = Request {
         alloc,
+        limit,
         steps,
         framing,
     };
     match read_byte(reader) {
-        Ok(Some(b'P')) => pass_pictures(request, reader, writer),
-        Ok(Some(first)) => carry_video(request, first, reader, writer),
+        Ok(Some(b'P')) => pass_pictures(request, seen, reader, writer),
+        Ok(Some(first)) => carry_video(request, first, seen, reader, writer),
         Ok(None) => Err(RunFault::Header),
         Err(_) => Err(RunFault::Input),
     }

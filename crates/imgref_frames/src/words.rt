@@ -1,72 +1,198 @@
 //! The edits that the words after the program's name denote, or the lines of the file that they
 //! name.
 
-use frame_formats::{Change, Edits, Paint, Step, WordsFault};
-use std::{env, fs, io};
+ghost use Rattle.std.specs.Prelude.{◌≡◌, ◌<◌, All, IfOk, OnOk, Some, None, map, []};
+ghost use Rattle.frame_formats.specs.Edits.{edits};
+ghost use Rattle.frame_formats.specs.Lists.{with_lines, plain};
+ghost use Rattle.imgref_frames.specs.Words.{AreWords, AreUsable, moves, covers, covers_late};
+ghost use Rattle.text_model.specs.Parts.{parts_of};
 
-// Why words could not be had: there was no memory for them, or they are none.
-fn fault_of(error: io::Error) -> WordsFault {
+use frame_formats::{Change, Edits, Paint, Step, WordsFault};
+use std::alloc::Global;
+use std::{env, io};
+use texts::Parts;
+
+/// Why the words are refused.
+#[derive(Clone, Copy, PartialEq, Eq)]
+pub(crate) enum Refusal {
+    /// They are no edits.
+    NoEdits,
+    /// There is no edit.
+    Empty,
+    /// The range of the edit of this number, counted from 0, has no frame.
+    NoFrame(usize),
+    /// The file can't be read.
+    NoFile,
+    /// This word is no option.
+    NoOption(usize),
+    /// Out of memory.
+    Memory,
+}
+
+/// Why words could not be had: there was no memory for them, or this.
+pub(crate) fn fault_of(error: io::Error, other: Refusal) -> Refusal {
     if error.kind() == io::ErrorKind::OutOfMemory {
-        WordsFault::Memory
+        Refusal::Memory
     } else {
-        WordsFault::NoEdit
+        other
+    }
+}
+
+fn refusal_of(fault: WordsFault) -> Refusal {
+    match fault {
+        WordsFault::NoEdit => Refusal::NoEdits,
+        WordsFault::Memory => Refusal::Memory,
     }
 }
 
 /// The words of the command line, the program's name first.
-pub(crate) fn words_of(rt: &HostRuntime) -> Result<Vec<String>, WordsFault> {
+pub(crate) fn words_of(rt: &HostRuntime) -> Result<Vec<String>, Refusal> {
     let words = match env::args(rt) {
         Ok(words) => words,
-        Err(error) => return Err(fault_of(error)),
+        Err(error) => return Err(fault_of(error, Refusal::NoEdits)),
     };
     // One by one: `collect` asks for less where it is refused the room for all.
     let mut all = Vec::new(rt.alloc());
     for word in words {
         if all.push(word).is_err() {
-            return Err(WordsFault::Memory);
+            return Err(Refusal::Memory);
         }
     }
     Ok(all)
 }
 
-/// The edits that the words after the program's name denote: `--edits FILE`, or one edit or more.
-pub(crate) fn edits_of(rt: &HostRuntime, words: &[String]) -> Result<Edits, WordsFault> {
-    let alloc = rt.alloc();
-    if words.len() == 3 && words[1].as_str() == "--edits" {
-        let text = match fs::read(rt, words[2].as_str()) {
-            Ok(text) => text,
-            Err(error) => return Err(fault_of(error)),
-        };
-        let mut edits = Edits::new(alloc);
-        edits.take_lines(alloc, &text)?;
-        return Ok(edits);
-    }
-    let mut bytes = Vec::new(alloc);
-    for word in words {
-        if bytes.push(word.as_bytes()).is_err() {
-            return Err(WordsFault::Memory);
+// The first step whose range has no frame.
+fn find_no_frame(steps: &[Step<Paint>]) -> Option<usize>
+    ensures none { result ≡ None → All (λ s. s.first < s.end) steps.now }
+{
+    for at in 0..steps.len() {
+        if steps[at].end <= steps[at].first {
+            return Some(at);
         }
     }
-    if bytes.len() < 2 {
-        return Err(WordsFault::NoEdit);
-    }
-    let mut edits = Edits::new(alloc);
-    edits.take_all(&bytes[1..])?;
-    Ok(edits)
+    None
 }
 
-/// Whether a move comes before a fill or a mosaic, so that it may carry away what these would hide.
-pub(crate) fn uncovers(steps: &[Step<Paint>]) -> bool {
+// Refuses a list with no edit, and a range with no frame: both would show what was to be covered.
+fn refuse_unusable(edits: &Edits) -> Result<(), Refusal>
+    ensures { OnOk result (AreUsable (plain edits.now)) }
+{
+    if edits.steps.is_empty() && edits.framing.is_none() {
+        return Err(Refusal::Empty);
+    }
+    match find_no_frame(&edits.steps) {
+        None => Ok(()),
+        Some(at) => Err(Refusal::NoFrame(at)),
+    }
+}
+
+/// The edits that the words are, one after the other.
+///
+/// # Errors
+///
+/// Where the words are no edits, there is none, or a range has no frame.
+pub(crate) fn edits_of_words(alloc: Global, words: &[&[u8]]) -> Result<Edits, Refusal>
+    ensures are { IfOk result (λ made. AreWords (map (λ w. w.now) words.now) (plain made)) }
+    ensures usable { IfOk result (λ made. AreUsable (plain made)) }
+{
+    let mut edits = Edits::new(alloc);
+    match edits.take_all(words) {
+        Ok(()) => {}
+        Err(fault) => return Err(refusal_of(fault)),
+    }
+    match refuse_unusable(&edits) {
+        Ok(()) => Ok(edits),
+        Err(refusal) => Err(refusal),
+    }
+}
+
+/// The edits that the lines of a text are.
+///
+/// # Errors
+///
+/// Where a line is no edit, there is none, or a range has no frame.
+pub(crate) fn edits_of_lines(alloc: Global, text: &[u8]) -> Result<Edits, Refusal>
+    ensures are { IfOk result
+        (λ made. with_lines (edits [] None) (parts_of 10 text.now) ≡ Some (plain made)) }
+    ensures usable { IfOk result (λ made. AreUsable (plain made)) }
+{
+    let mut edits = Edits::new(alloc);
+    match edits.take_lines(alloc, text) {
+        Ok(()) => {}
+        Err(fault) => return Err(refusal_of(fault)),
+    }
+    match refuse_unusable(&edits) {
+        Ok(()) => Ok(edits),
+        Err(refusal) => Err(refusal),
+    }
+}
+
+fn is_move(change: Change<Paint>) -> bool
+    ensures { result ≡ moves change }
+{
+    match change {
+        Change::Move { .. } => true,
+        Change::Fill { .. } | Change::Mosaic { .. } => false,
+    }
+}
+
+fn is_cover(change: Change<Paint>) -> bool
+    ensures { result ≡ covers change }
+{
+    match change {
+        Change::Move { .. } => false,
+        Change::Fill { .. } | Change::Mosaic { .. } => true,
+    }
+}
+
+/// Whether a fill or a mosaic comes after a move, which may have carried away what they would hide.
+pub(crate) fn uncovers(steps: &[Step<Paint>]) -> bool
+    ensures { result ≡ covers_late steps.now }
+{
     let mut moved = false;
     for step in steps {
-        match step.change {
-            Change::Move { .. } => moved = true,
-            Change::Fill { .. } | Change::Mosaic { .. } => {
-                if moved {
-                    return true;
-                }
+        if moved {
+            if is_cover(step.change) {
+                return true;
             }
+        } else if is_move(step.change) {
+            moved = true;
         }
     }
     false
+}
+
+// ---- for messages alone
+
+/// The first word with which no edit begins, counted from 0.
+pub(crate) fn find_bad_word(alloc: Global, words: &[&[u8]]) -> Option<usize> {
+    let mut edits = Edits::new(alloc);
+    let mut at = 0;
+    while at < words.len() {
+        match edits.take(&words[at..]) {
+            Ok(count) => at += count,
+            Err(_) => return Some(at),
+        }
+    }
+    None
+}
+
+/// The first line of a text that is no edit, or the line of the edit that has this number among
+/// those with ranges. Lines count from 1.
+pub(crate) fn find_line(alloc: Global, text: &[u8], number: Option<usize>) -> Option<usize> {
+    let mut edits = Edits::new(alloc);
+    let mut lines = Parts::new(text, b'\n');
+    let mut line_number = 0usize;
+    while let Some(line) = lines.next_part() {
+        line_number = line_number.saturating_add(1);
+        if edits.take_lines(alloc, line).is_err() {
+            return Some(line_number);
+        }
+        if let Some(number) = number {
+            if edits.steps.len() > number {
+                return Some(line_number);
+            }
+        }
+    }
+    None
 }

@@ -2,7 +2,7 @@
 use Rattle.std.specs.Prelude.{◌≡◌, ◌∷◌, Bool, List}
 use Rattle.image_model.specs.Layout.{Layout, Fits}
 use Rattle.image_model.specs.Windows.{Stretch}
-use Rattle.imgref.specs.Written.{WindowPatchesGrid, WindowKeepsOutside}
+use Rattle.imgref.specs.Written.{WindowPatchesGrid, WindowKeepsOutside, WindowKeepsFit}
 use Rattle.image_tiles.specs.declared.tiles.TileCursor.{TileCursor}
 use Rattle.image_tiles.specs.Tiling.{windows_left, tile_now, stepped}
 use Rattle.image_tiles.specs.Lending.{image_of, tiling_of, tiles_left}
@@ -14,4 +14,5 @@ pub record IsTile {C T : Type 0} (cells : C → List T) (with_cells : C → Stre
   pub same_width : tile.width ≡ (tile_now (tiling_of s)).width
   pub same_height : tile.height ≡ (tile_now (tiling_of s)).height
   pub grid : WindowPatchesGrid cells with_cells padded (image_of s) (tile_now (tiling_of s)) tile
+  pub still_fits : WindowKeepsFit cells with_cells padded (image_of s) (tile_now (tiling_of s)) tile
   pub outside : WindowKeepsOutside cells with_cells padded (image_of s) (tile_now (tiling_of s)) tile

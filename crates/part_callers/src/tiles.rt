@@ -1,6 +1,6 @@
 //! A tile that is written through `next_tile`.
 
-ghost use Rattle.std.specs.Prelude.{◌≡◌, ◌<◌, length};
+ghost use Rattle.std.specs.Prelude.{◌≡◌, ◌<◌, ◌∷◌, length};
 ghost use Rattle.std.specs.Borrow.{sem, follows, Array};
 ghost use Rattle.image_model.specs.Layout.{Fits, SameOutside};
 ghost use Rattle.image_model.specs.Grid.{patch, uniform};
@@ -30,7 +30,7 @@ fn tile_parts<C: AsMutSlice>(tiles: &mut TileCursor<C>) -> (&mut [C::Item], Shap
 }
 
 /// Every pixel of the next tile becomes `value`, through `next_tile`; every other cell of the image
-/// stays.
+/// stays. The tiles after it are left.
 ///
 /// # Requires
 ///
@@ -46,6 +46,9 @@ where
         (tile_now (tiling_of tiles.old)).height value) }
     ensures outside { SameOutside (layout_by C.cells (image_of tiles.old))
         (layout_by C.cells (image_of tiles.new)) }
+    ensures fits { Fits (layout_by C.cells (image_of tiles.new)) }
+    ensures left { tiles_left C.cells tiles.old
+        ≡ tile_now (tiling_of tiles.old) ∷ tiles_left C.cells tiles.new }
 {
     let (cells, shape) = tile_parts(tiles);
     fill(cells, shape, value);

@@ -1,24 +1,27 @@
 -- Numbers of one to three digits before the first separator.
-use Rattle.std.proofs.Common.{◌≡◌, ℕ, ◌<◌, ◌≤◌, ◌+◌, ◌-◌, ◌*◌, Bool, true, false, cond, eqb, List, [], ◌∷◌, length, take, drop, get_or, Option, Some, refl, arith}
-use Rattle.std.specs.List.{position}
-use Rattle.std.specs.Str.{all_ascii_digits}
-use Rattle.std.specs.Str.Parse.{digits_value}
+use Rattle.std.proofs.Common.{◌≡◌, ℕ, ◌<◌, ◌≤◌, ◌+◌, ◌-◌, ◌*◌, Bool, true, false, eqb, List, [], ◌∷◌, length, take, take_all, drop, get_or, Option, Some, refl, arith}
+use Rattle.std.specs.List.{position_or_len}
 use Rattle.std.proofs.lemmas.Bool.Decides.{nat_tests}
 use Rattle.text_model.specs.Parts.{parts_of}
 use Rattle.text_model.specs.Reading.{digits_of, number_of, first_of_parts}
-use Rattle.text_model.proofs.PartsCut.{slice_split-at}
+use Rattle.text_model.proofs.PartsCut.{slice_split-at, slice_split-whole}
 
-pub at_one : (p : ℕ → Bool) (xs : List ℕ) → 1 < length xs → p (get_or xs 0 0) ≡ false → p (get_or xs 1 0) ≡ true → position p xs ≡ Some 1
-at_one p (a ∷ b ∷ xs) long other here = rw (other, here) (grind (arith, nat_tests))
-at_one p _ long other here = absurd (omega arith)
+-- where a separator first occurs, or how long the bytes are without one
+pub at_one : (p : ℕ → Bool) (xs : List ℕ) → p (get_or xs 0 0) ≡ false → (1 < length xs → p (get_or xs 1 0) ≡ true) → 1 ≤ length xs → position_or_len p xs ≡ 1
+at_one p (a ∷ []) other here long = rw other refl
+at_one p (a ∷ b ∷ xs) other here long = rw (other, here (omega arith)) refl
+at_one p [] other here long = absurd (omega arith)
 
-pub at_two : (p : ℕ → Bool) (xs : List ℕ) → 2 < length xs → p (get_or xs 0 0) ≡ false → p (get_or xs 1 0) ≡ false → p (get_or xs 2 0) ≡ true → position p xs ≡ Some 2
-at_two p (a ∷ b ∷ c ∷ xs) long other other2 here = rw (other, other2, here) (grind (arith, nat_tests))
-at_two p _ long other other2 here = absurd (omega arith)
+pub at_two : (p : ℕ → Bool) (xs : List ℕ) → p (get_or xs 0 0) ≡ false → p (get_or xs 1 0) ≡ false → (2 < length xs → p (get_or xs 2 0) ≡ true) → 2 ≤ length xs → position_or_len p xs ≡ 2
+at_two p (a ∷ b ∷ []) other other2 here long = rw (other, other2) refl
+at_two p (a ∷ b ∷ c ∷ xs) other other2 here long = rw (other, other2, here (omega arith)) refl
+at_two p _ other other2 here long = absurd (omega arith)
 
-pub at_three : (p : ℕ → Bool) (xs : List ℕ) → 3 < length xs → p (get_or xs 0 0) ≡ false → p (get_or xs 1 0) ≡ false → p (get_or xs 2 0) ≡ false → p (get_or xs 3 0) ≡ true → position p xs ≡ Some 3
-at_three p (a ∷ b ∷ c ∷ d ∷ xs) long other other2 other3 here = rw (other, other2, other3, here) (grind (arith, nat_tests))
-at_three p _ long other other2 other3 here = absurd (omega arith)
+pub at_three : (p : ℕ → Bool) (xs : List ℕ) → p (get_or xs 0 0) ≡ false → p (get_or xs 1 0) ≡ false → p (get_or xs 2 0) ≡ false → (3 < length xs → p (get_or xs 3 0) ≡ true) → 3 ≤ length xs
+    → position_or_len p xs ≡ 3
+at_three p (a ∷ b ∷ c ∷ []) other other2 other3 here long = rw (other, other2, other3) refl
+at_three p (a ∷ b ∷ c ∷ d ∷ xs) other other2 other3 here long = rw (other, other2, other3, here (omega arith)) refl
+at_three p _ other other2 other3 here long = absurd (omega arith)
 
 -- the number of one digit, of two, and of three
 pub number_one : (xs : List ℕ) → 0 < length xs → 48 ≤ get_or xs 0 0 → get_or xs 0 0 ≤ 57 → number_of (take 1 xs) ≡ Some (get_or xs 0 0 - 48)
@@ -38,11 +41,16 @@ unfolding number_of digits_of
 number_three (a ∷ b ∷ c ∷ xs) long low high low2 high2 low3 high3 = grind (arith, nat_tests)
 number_three _ long low high low2 high2 low3 high3 = absurd (omega arith)
 
--- the first of the parts is what comes before the first separator
-pub first_at : {A : Type 0} (read : List ℕ → Option A) (separator : ℕ) (xs : List ℕ) (at : ℕ) (x : A) → position (λ b. eqb b separator) xs ≡ Some at → read (take at xs) ≡ Some x
+-- the first of the parts is read, and these are left
+pub first_and_others : {A : Type 0} (read : List ℕ → Option A) (separator : ℕ) (xs : List ℕ) (at : ℕ) (x : A) → position_or_len (λ b. eqb b separator) xs ≡ at → read (take at xs) ≡ Some x → at < length xs
     → first_of_parts read (parts_of separator xs) ≡ Some (x, parts_of separator (take (length xs - (at + 1)) (drop (at + 1) xs)))
 unfolding first_of_parts
-first_at read separator xs at x here found = rw (slice_split-at (λ b. eqb b separator) xs at here, found) refl
+first_and_others read separator xs at x is found before = rw (slice_split-at (λ b. eqb b separator) xs at (grind (arith, nat_tests)), found) refl
+
+pub first_alone : {A : Type 0} (read : List ℕ → Option A) (separator : ℕ) (xs : List ℕ) (at : ℕ) (x : A) → position_or_len (λ b. eqb b separator) xs ≡ at → read (take at xs) ≡ Some x → length xs ≤ at
+    → first_of_parts read (parts_of separator xs) ≡ Some (x, [])
+unfolding first_of_parts
+first_alone read separator xs at x is found all = rw (slice_split-whole (λ b. eqb b separator) xs (grind (arith, nat_tests)), ← take_all at xs all, found) refl
 
 -- what reading a number of at most three digits needs
 pub ruleset short_numbers = (at_one, at_two, at_three, number_one, number_two, number_three)

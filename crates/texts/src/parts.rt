@@ -1,6 +1,7 @@
 //! Bytes that are split at a separator.
 
 ghost use Rattle.std.specs.Prelude.{◌≡◌, ◌≤◌, ◌-◌, ◌↔◌, ◌==◌, ◌∷◌, [], IsTrue, None, IfSome, MatchOption, take, position};
+ghost use Rattle.std.specs.List.{position_or_len};
 ghost use Rattle.text_model.specs.Parts.{parts_of};
 ghost use Rattle.text_model.specs.Reading.{number_of, first_of_parts};
 ghost use Rattle.texts.specs.Parts.{parts_left};
@@ -32,10 +33,9 @@ impl<'a> Parts<'a> {
         self.rest.is_none()
     }
 
-    /// The number that the next part is the text of, where it has at most three digits and three
-    /// bytes come after it. Else `None`, and no part is taken. Most numbers of a text are such: here
-    /// each byte of one is looked at once.
-    #[tactic(auto, using(text_model::proofs::ShortNumbers::first_at))]
+    /// The number that the next part is the text of, where it has at most three digits. Else `None`,
+    /// and no part is taken. Most numbers of a text are such: here each byte of one is looked at once.
+    #[tactic(auto, using(text_model::proofs::ShortNumbers::first_and_others, text_model::proofs::ShortNumbers::first_alone))]
     pub(crate) fn next_short(&mut self) -> Option<usize>
         ensures found { IfSome result (λ number.
             first_of_parts number_of (parts_left self.old) ≡ Some (number, parts_left self.new)) }
@@ -43,7 +43,11 @@ impl<'a> Parts<'a> {
     {
         let rest = self.rest?;
         let (number, digits) = short_number(rest, self.separator)?;
-        self.rest = Some(&rest[digits + 1..]);
+        if digits < rest.len() {
+            self.rest = Some(&rest[digits + 1..]);
+            return Some(number);
+        }
+        self.rest = None;
         Some(number)
     }
 
@@ -66,34 +70,37 @@ impl<'a> Parts<'a> {
     }
 }
 
-// The number of at most three digits before the first such byte, and how many digits it has.
+// The number of at most three digits that comes before the first such byte, or is all of the bytes,
+// and how many digits it has.
 #[tactic(auto, using(text_model::proofs::ShortNumbers::short_numbers))]
 fn short_number(bytes: &[u8], end: u8) -> Option<(usize, usize)>
     ensures digits { IfSome result
-        (λ found. position (λ b. b == end) bytes.now ≡ Some found.1) }
+        (λ found. position_or_len (λ b. b == end) bytes.now ≡ found.1) }
     ensures number { IfSome result
         (λ found. number_of (take found.1 bytes.now) ≡ Some found.0) }
 {
-    if bytes.len() < 4 || end >= b'0' {
+    if bytes.is_empty() || end >= b'0' || !bytes[0].is_ascii_digit() {
         return None;
     }
-    let (a, b, c) = (bytes[0], bytes[1], bytes[2]);
-    if !a.is_ascii_digit() {
+    let one = value(bytes[0]);
+    if bytes.len() == 1 || bytes[1] == end {
+        return Some((one, 1));
+    }
+    if one == 0 || !bytes[1].is_ascii_digit() {
         return None;
     }
-    if b == end {
-        return Some((value(a), 1));
+    let two = one * 10 + value(bytes[1]);
+    if bytes.len() == 2 || bytes[2] == end {
+        return Some((two, 2));
     }
-    if a == b'0' || !b.is_ascii_digit() {
+    if !bytes[2].is_ascii_digit() {
         return None;
     }
-    if c == end {
-        return Some((value(a) * 10 + value(b), 2));
+    let three = two * 10 + value(bytes[2]);
+    if bytes.len() == 3 || bytes[3] == end {
+        return Some((three, 3));
     }
-    if !c.is_ascii_digit() || bytes[3] != end {
-        return None;
-    }
-    Some(((value(a) * 10 + value(b)) * 10 + value(c), 3))
+    None
 }
 
 // Where the byte first occurs.

@@ -39,6 +39,18 @@ fn an_image_stays_where_a_copy_is_refused(rt: HostRuntime) {
     assert!(rt; stays(rt.alloc(), third, &SMALL, &[1, 2, 4, 5]));
 }
 
+// Each copy allocates once: `.ci/checks/built/refused_growths.py` counts that.
+#[test]
+fn a_copy_takes_its_room_at_once(rt: HostRuntime) -> Result<(), Fail> {
+    let image = Img::new_stride(PADDED.as_slice(), 3, 2, 4);
+    assert!(rt; image.is_valid());
+    let copy = image.to_owned(rt.alloc())?;
+    assert!(rt; copy.buf().as_slice() == PADDED.as_slice());
+    let (joined, _, _) = image.to_contiguous_buf(rt.alloc())?;
+    assert!(rt; joined.as_ref() == [1u8, 2, 3, 5, 6, 7].as_slice());
+    Ok(())
+}
+
 // Whether the rows of an image are joined to these.
 fn is_joined(alloc: Global, image: ImgRef<'_, u8>, due: &[u8]) -> bool {
     if !image.is_valid() {

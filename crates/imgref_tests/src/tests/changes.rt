@@ -3,6 +3,7 @@
 use imgref::{AsMutSlice, Img, ImgRefMut, ImgVec};
 use imgref_fixtures::{PADDED, SQUARE, padded, square};
 use std::alloc::{AllocError, Global};
+use std::cell::Cell;
 use std::test::Fail;
 
 // The greatest width and height.
@@ -114,6 +115,34 @@ fn a_window_is_mapped_and_its_rows_change_places(rt: HostRuntime) -> Result<(), 
         .map_pixels(|p| p.wrapping_mul(10));
     assert!(rt; owner.buf().as_slice() == [1u8, 20, 30, 4, 5, 60, 70, 8, 9].as_slice());
     Ok(())
+}
+
+// The clause says which results are written, and not how often the closure is called.
+#[test]
+fn a_closure_is_called_once_a_pixel(rt: HostRuntime) -> Result<(), Fail> {
+    let mut owner = padded(rt.alloc())?;
+    let calls = Cell::new(0usize);
+    owner.map_pixels(|p| {
+        calls.set(calls.get().wrapping_add(1));
+        p
+    });
+    assert!(rt; calls.get() == 6);
+    Ok(())
+}
+
+// The same of a comparison, up to the first pair that differs: here the fifth.
+#[test]
+fn a_closure_is_called_once_a_pair(rt: HostRuntime) {
+    let other = [1u8, 2, 3, 0, 5, 0, 7];
+    let first = Img::new_stride(PADDED.as_slice(), 3, 2, 4);
+    let second = Img::new_stride(other.as_slice(), 3, 2, 4);
+    assert!(rt; first.is_valid() && second.is_valid());
+    let calls = Cell::new(0usize);
+    let same = first.same_pixels_by(second, |p, q| {
+        calls.set(calls.get().wrapping_add(1));
+        *p == *q
+    });
+    assert!(rt; !same && calls.get() == 5);
 }
 
 #[test]

@@ -86,7 +86,8 @@ fn tells(
 
 #[test]
 fn fits_where_the_cells_reach_the_last_pixel(rt: HostRuntime) -> Result<(), Fail> {
-    // The number of cells, the width, the height, the stride, and whether they make a fitting image.
+    // The number of cells, the width, the height, the stride, and whether they make a fitting
+    // image.
     for (count, width, height, stride, fits) in [
         (1, 1, 1, usize::MAX, true),
         (1, 2, 2, usize::MAX, false),

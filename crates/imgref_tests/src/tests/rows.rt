@@ -58,7 +58,8 @@ fn last_of<I: DoubleEndedIterator>(rows: &mut I) -> Option<I::Item>
     rows.next_back()
 }
 
-// Whether `next`, `next_back`, `next` and `next` give the rows of the square, one fewer left each time.
+// Whether `next`, `next_back`, `next` and `next` give the rows of the square, one fewer left each
+// time.
 fn gives_the_square(rows: RowsIter<'_, u8>) -> bool {
     let mut rows = rows;
     let all = rows.len();

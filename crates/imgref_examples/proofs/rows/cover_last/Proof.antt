@@ -1,4 +1,4 @@
--- `cover_last` lends the image to an iterator and the iterator to `next_back`, fills the last row and lets the others go: the image ends as its cells do. Assumes `Logic`.
+-- `cover_last` lends the image to an iterator and the iterator to `step`, fills the last row and lets the others go: the image ends as its cells do. Assumes `Logic`.
 use base.Share
 use mir.Syntax.{Body}
 use types.SemTy.{Body as BorBody}
@@ -9,7 +9,7 @@ use Rattle.image_model.specs.Layout.{Layout, Fits}
 use Rattle.image_model.specs.Grid.{grid_of}
 use Rattle.image_model.specs.Rows.{rows, row_count, grid_rows}
 use Rattle.imgref.specs.Image.{with_all, layout_by}
-use Rattle.borrow_laws.proofs.Walking.{full_share, Lft, GName, Share, feq, ftrue, fdead, fres, fat, flft, flent, SProp, ent, emp, id⊢, apply∗, sem, Args, Fn, Ty, named, ty_unit, skip, inst_fn, Val, WT, has_ty, vptr, vunit, of_list, Wp, after_seq, at_return, ◌⊑◌, ⊑_trans, meet_⊑_right, fact, fact_i, tables, Item, Sq, any_q, ‵, ◌⊛◌, raw, later, some, at_ret, runs, ◌$◌, ◌∵◌, !, qed, by, move, keep, drop, split, split3, join, fsplit, fjoin, feq_l, feq_i, rewrite, use0, use1, use2, use3, await, pick, live, vrt, in_variant, all_of, sub, agg, stop, fld, hop, from, addr, of_opd, unit_lit, and_then, no_more, first, switches_on, skips, exec, returns, enter, alloc_all, pass_all, free_all, look_at, look_in_at, get, get_in, get_tag, through, sets, lands_as, lands_last, env, holding, forget_but, take_at, give_at, Array, unit, no, follows, followed, finally-res, shows, Is, lends_ref, ref_back, part_at, mem, part_in_at, part_out_at, param, copied, param_laws, copied_laws, copied_copy, RattleType, owns, MutRef, mut_vals, mut_Tells, plain, named_lft, types_at, MutSlice, nothing, heard, peeks, only, calls_at, calls_at_last, lasts, triple_of, framed, Stays, stay_ref, stay_dropped, walk_of, Goes-ref, Goes-dropped, proved, leaves}
+use Rattle.borrow_laws.proofs.Walking.{full_share, Lft, GName, Share, feq, ftrue, fdead, fres, fat, flft, flent, SProp, ent, emp, id⊢, apply∗, sem, Args, Fn, Ty, named, ty_unit, skip, inst_fn, Val, WT, has_ty, vptr, vunit, of_list, Wp, after_seq, at_return, ◌⊑◌, ⊑_trans, meet_⊑_right, fact, fact_i, tables, Item, Sq, any_q, ‵, ◌⊛◌, raw, later, some, at_ret, runs, ◌$◌, ◌∵◌, !, qed, by, move, keep, drop, split, split3, join, fsplit, fjoin, feq_l, feq_i, rewrite, use0, use1, use2, use3, await, pick, live, vrt, in_variant, all_of, sub, agg, stop, fld, hop, from, addr, of_opd, unit_lit, and_then, no_more, first, switches_on, skips, exec, returns, enter, alloc_all, pass_all, free_all, look_at, look_in_at, get, get_in, get_tag, through, sets, lands_as, lands_last, env, holding, forget_but, take_at, give_at, Array, unit, no, follows, followed, finally-res, shows, Is, lends_ref, ref_back, part_at, mem, part_in_at, part_out_at, param, copied, param_laws, copied_laws, copied_copy, RattleType, owns, MutRef, mut_vals, mut_Tells, plain, named_lft, types_at, MutSlice, nothing, heard, peeks, only, calls_at, calls_at_last, lasts, triple_of, framed, Stays, stay_ref, stay_dropped, walk_of, Goes-ref, Goes-dropped, proved, leaves, owned, row_Makes, lit}
 use Rattle.borrow_laws.proofs.Bodies.{of_copied, first_arm, type_of}
 use Rattle.borrow_laws.proofs.Declared.{typed}
 use Rattle.borrow_laws.specs.Endings.{ends_as}
@@ -18,12 +18,14 @@ use Rattle.borrow_laws.proofs.Lifetimes.{Ends, begins, Loan, Kept, lent, lends, 
 use Rattle.borrow_laws.proofs.Options.{none_or_some, none_told, some_told, some_slice, lent_val}
 use Rattle.borrow_laws.proofs.Parts.{given_up}
 use Rattle.image_shape.specs.declared.ends.End.TheVariants.{Last}
+use Rattle.image_shape.specs.contracts.ends.End as end_type
+use Rattle.image_shape.proofs.ends.End.TheLaws as end_laws
 use Rattle.image_rows.specs.declared.writing.RowsIterMut.{RowsIterMut}
 use Rattle.image_rows.specs.contracts.writing.RowsIterMut as P
 use Rattle.image_rows.proofs.writing.RowsIterMut.TheLaws as laws
 use Rattle.image_rows.proofs.IterValues.{cells_out}
-use Rattle.image_rows.specs.contracts.writing.RowsIterMut.next_back as N
-use Rattle.image_rows.proofs.writing.RowsIterMut.next_back.Met as stepping
+use Rattle.image_rows.specs.contracts.writing.RowsIterMut.step as N
+use Rattle.image_rows.proofs.writing.RowsIterMut.step.Met as stepping
 use Rattle.imgref.specs.Spacing.{whole_spacing}
 use Rattle.imgref.specs.Rows.{cells_left, spacing_left, muts_left, rows_name, put_back, hands_on, Yields, Moves}
 use Rattle.imgref.specs.declared.img.Img.{Img}
@@ -103,18 +105,20 @@ cover_last_spec 𝓤 𝓛 𝓜 𝓡 wired X Y LX LY CY gh d gs ds gc dc bm bs bc
     (lends_ref 𝓛 Rows (named 0) β r (l 3) 0) $ await ! tt $ pick ! (λ ε. split ! $
     -- [the borrow; what is kept of it; β; its end; α; κ₂; κ₁; what follows; what is kept; the value]
     sets ! (addr ! (from ! (stop !))) refl (tt, tt) $
+    sets ! (agg ! (and_then ! (lit ! tt) (no_more !))) refl (tt, (record { fits = lit< tt }, tt)) $
+    let e_last : Val = end_laws.lowered Last in
     let G₂ = triple_of 𝓛 (N.signature Y) (N.spec Y 𝓛 𝓜.mem 𝓡.returns) in
     let x₂ : MutBor Sort = record { ref_ptr = (l 3, 0); ghost_name = ε; now = r } in
-    let z₂ : G₂.Ghost = (((β, (α, (κ₂, tt))), (qβ, (Share.right qα, (q₂, tt))), (inside, (⊑_trans β α κ₂ inside in₂, (in₂, tt))), (x₂, tt), (mut_vals x₂, tt)), tt) in
-    nothing ! $ move ! (1 ∷ 0 ∷ []) $ fjoin ! $
+    let z₂ : G₂.Ghost = (((β, (α, (κ₂, tt))), (qβ, (Share.right qα, (q₂, tt))), (inside, (⊑_trans β α κ₂ inside in₂, (in₂, tt))), (x₂, (Last, tt)), (mut_vals x₂, (e_last ∷ [], tt))), tt) in
+    nothing ! $ owned ! end_type.the_row (Is end_type.the_row) (row_Makes end_type.the_row end_laws.the_row_plain 𝓛) Last (e_last ∷ []) ([], (refl, (tt, (refl, tt)))) $ join ! $ move ! (1 ∷ 0 ∷ []) $ join ! $
     nothing ! $ move ! (6 ∷ 0 ∷ []) $ join ! $ move ! (5 ∷ 0 ∷ []) $ join ! $ move ! (3 ∷ 0 ∷ []) $ join ! $ join ! $
     nothing ! $ use0 𝓛 (raw (fact 𝓤 (κ₂ ⊑ Y.lives))) (fact_i 𝓤 (κ₂ ⊑ Y.lives) (emp 𝓤) inY) $ join ! $ move ! (1 ∷ 0 ∷ []) $ use2 𝓛 (raw (G₂.pre z₂)) (id⊢ 𝓤 _) $
     -- [what the call asks; what is kept of the borrow; the end of β; κ₁; what follows; what is kept; the value]
-    calls_at ! fm G₂ (stepping.met 𝓤 𝓛 𝓜 𝓡 (compiled.calls-image_rows::writing::RowsIterMut::next_back 𝓡.env wired) Y LY) z₂ (and_then ! (get ! refl) (no_more !)) (λ v₂.
+    calls_at ! fm G₂ (stepping.met 𝓤 𝓛 𝓜 𝓡 (compiled.calls-image_rows::writing::RowsIterMut::step 𝓡.env wired) Y LY) z₂ (and_then ! (get ! refl) (and_then ! (get ! refl) (no_more !))) (λ v₂.
     let Slice : RattleType = MutSlice (named 0) α R in
     let Row : RattleType = OP.the_row Slice in
     let Given : Type 0 = Option (MutBor (List Y.Denot)) in
-    use1 𝓛 (later (some (λ (m : Given). ((‵ (flft β qβ) ⊛ ‵ (flft α (Share.right qα)) ⊛ ‵ (flft κ₂ q₂) ⊛ ‵ ftrue) ⊛ ‵ (Row.own_val m (v₂ ∷ []))) ⊛ some (λ (ws : Sort × Unit {0}). ‵ (lasts (N.ended Y) z₂.0.0 z₂.0.3 ws)
+    use1 𝓛 (later (some (λ (m : Given). ((‵ (flft β qβ) ⊛ ‵ (flft α (Share.right qα)) ⊛ ‵ (flft κ₂ q₂) ⊛ ‵ ftrue) ⊛ ‵ (Row.own_val m (v₂ ∷ []))) ⊛ some (λ (ws : Sort × (Unit {0} × Unit {0})). ‵ (lasts (N.ended Y) z₂.0.0 z₂.0.3 ws)
     ⊛ (‵ (hands_on R Last r m ws.0) ⊛ raw (fact 𝓤 (Yields Last r m ws.0)) ⊛ raw (fact 𝓤 (Moves Last r m ws.0))))))) (id⊢ 𝓤 _) $
     await ! tt $ pick ! (λ m. split ! $ split ! $ move ! (2 ∷ []) $ pick ! (λ ws₂. let t : Sort = ws₂.0 in split ! $ fsplit ! $ fsplit ! $ move ! (3 ∷ []) $ split3 ! $ move ! (1 ∷ []) $
     heard ! (Yields Last r m t) (λ steps. move ! (1 ∷ []) $ heard ! (Moves Last r m t) (λ moved.
@@ -137,7 +141,7 @@ cover_last_spec 𝓤 𝓛 𝓜 𝓡 wired X Y LX LY CY gh d gs ds gc dc bm bs bc
     use1 𝓛 (Res (rows_name t) (cells_left t)) given_back $ move ! (4 ∷ []) $
     -- [the row; how the iterator's cells end; α; κ₂; what follows the row; κ₁; what follows; what is kept; the value]
     let E = env fn.locals l in
-    let rest : Body = after 6 fn.body in
+    let rest : Body = after 7 fn.body in
     let next = any_q (after_seq 𝓤 H (Wp 𝓤 H 𝓣.C 𝓣.Λ E rest (at_return 𝓤 H E Post)) (at_return 𝓤 H E Post)) in
     let zs : List Y.Denot = with_last_row old value in
     let tail : Sq 𝓛 (Res (rows_name r) zs ∷ ‵ (flft α qα) ∷ ‵ (flft κ₂ q₂) ∷ ‵ (flft κ₁ q₁) ∷ ‵ (follows Whole (Array (param 1 Y) 0) δ (rows_name r) F) ∷ raw (Kept 𝓛 Whole κ₀ q₀ b o γ x.now d₀)
@@ -176,7 +180,7 @@ cover_last_spec 𝓤 𝓛 𝓜 𝓡 wired X Y LX LY CY gh d gs ds gc dc bm bs bc
     rewrite ! 0 (λ (us : List Val). ‵ (Row.own_val (Some y) us)) told_y refl $
     use1 𝓛 (‵ (feq (List Val) (some_row ∷ []) (some_row ∷ [])) ⊛ ‵ (Slice.own_val y (lent_val y ∷ []))) (some_slice 𝓛 (named 0) α R y some_row) $ split ! $ drop ! $
     -- [the row; how the iterator's cells end; α; κ₂; what follows the row; κ₁; what follows; what is kept; the value]
-    first ! $ switches_on ! (get_tag ! (vrt ! refl (fld ! refl (stop !))) (all_of !)) $ exec ! 𝓣.C 𝓣.Λ E (first_arm (after 5 fn.body)) next $
+    first ! $ switches_on ! (get_tag ! (vrt ! refl (fld ! refl (stop !))) (all_of !)) $ exec ! 𝓣.C 𝓣.Λ E (first_arm (after 6 fn.body)) next $
     sets ! (of_opd ! (get_in ! (vrt ! refl (fld ! refl (stop !))) (in_variant ! 1 0 refl refl (all_of !)))) refl (tt, row_ok) $
     sets ! (addr ! (from ! (fld ! refl (hop ! (look_in_at ! 4 (sub ! 0 refl (all_of !))) (stop !))))) refl (tt, tt) $
     sets ! (agg ! (and_then ! (get ! refl) (and_then ! (get_in ! (fld ! refl (stop !)) (sub ! 1 refl (all_of !))) (no_more !)))) refl (tt, row_ok) $

@@ -1,5 +1,5 @@
 -- Each picture that was read is written as it becomes.
-use Rattle.std.proofs.Common.{arith, ◌+◌, ◌∷◌, [], subst}
+use Rattle.std.proofs.Common.{arith, ◌+◌, ◌∷◌, [], refl, subst}
 use Rattle.std.specs.Io.KnownBytes.{Consumes}
 use Rattle.std.proofs.lemmas.Grind.{common_steps}
 use Rattle.devices.specs.Device.{device_of}
@@ -8,11 +8,11 @@ use Rattle.imgref_frames.specs.Pictures.{PictureHead, behind_letter}
 use Rattle.imgref_frames.specs.Passing.{Passed}
 use Rattle.imgref_frames.proofs.Heads.{other_letter, last_letter}
 use Rattle.imgref_frames.proofs.OneMore.{passed_on}
-use Rattle.imgref_frames.proofs.Rounds.{picture_passed, picture_stopped, next_letter, nothing_said}
+use Rattle.imgref_frames.proofs.Rounds.{picture_passed, picture_last, picture_stopped, next_letter_last, none_last, next_head, memory_count, nothing_said}
 use Rattle.imgref_frames.proofs.pictures.pass_pictures.Goals as goal
 
 pub returns-in-Err-clause-passes : goal.returns-in-Err-clause-passes
-returns-in-Err-clause-passes g c = picture_stopped (edits_of c.args.request) c.loop-number.number _ _ _ _ _ _ (omega arith) c.loop-number.invariant.passed c.in-Err.fault c.in-Err.ensures.passes
+returns-in-Err-clause-passes g c = picture_stopped (edits_of c.args.request) c.loop-number.number _ _ _ _ _ _ (omega arith) c.loop-number.invariant.passed.passed c.in-Err.fault c.in-Err.ensures.passes
 
 -- another letter
 pub returns-in-Ok-Some-clause-passes : goal.returns-in-Ok-Some-clause-passes
@@ -20,14 +20,14 @@ returns-in-Ok-Some-clause-passes g c =
     let left = g.R.Read.remaining (device_of c.pass_picture.new.reader) in
     record {
       left = left;
-      passed = picture_passed (edits_of c.args.request) c.loop-number.number _ _ _ _ _ _ (omega arith) c.loop-number.invariant.passed tt c.in-Ok.ensures.passes;
+      passed = picture_passed (edits_of c.args.request) c.loop-number.number _ _ _ _ _ _ (omega arith) c.loop-number.invariant.passed.passed c.in-Ok.made.picture c.in-Ok.ensures.passes;
       ends = other_letter c.heads_end_themselves.ensures.begins (edits_of c.args.request) (c.loop-number.number + 1) c.in-Ok-Some.field-0-0 (omega arith) c.in-Ok-Some.field-0-0-test.1 left (g.R.Read.remaining (device_of c.read_byte.new.reader)) (rw c.in-Ok-Some.field-0-is at c.in-Ok-Some.ensures.byte);
     }
 
 pub returns-in-Ok-None-clause-passes : goal.returns-in-Ok-None-clause-passes
 returns-in-Ok-None-clause-passes g c =
     let end = rw c.in-Ok-None.field-0-is at c.in-Ok-None.ensures.end in (
-      passed_on (PictureHead (edits_of c.args.request)) (c.loop-number.number + 1) _ _ _ _ _ (picture_passed (edits_of c.args.request) c.loop-number.number _ _ _ _ _ _ (omega arith) c.loop-number.invariant.passed tt c.in-Ok.ensures.passes) end.0,
+      passed_on (PictureHead (edits_of c.args.request)) (c.loop-number.number + 1) _ _ _ _ _ (picture_passed (edits_of c.args.request) c.loop-number.number _ _ _ _ _ _ (omega arith) c.loop-number.invariant.passed.passed c.in-Ok.made.picture c.in-Ok.ensures.passes) end.0,
       end.1,
     )
 
@@ -38,15 +38,29 @@ returns-in-Err-read_byte-clause-passes g c =
       count = c.loop-number.number + 1;
       up_to = record {
         left = left;
-        passed = picture_passed (edits_of c.args.request) c.loop-number.number _ _ _ _ _ _ (omega arith) c.loop-number.invariant.passed tt c.in-Ok.ensures.passes;
+        passed = picture_passed (edits_of c.args.request) c.loop-number.number _ _ _ _ _ _ (omega arith) c.loop-number.invariant.passed.passed c.in-Ok.made.picture c.in-Ok.ensures.passes;
         ends = nothing_said (c.loop-number.number + 1) left;
       };
     }
 
+pub loop-number-init : goal.loop-number-init
+loop-number-init g c = record {
+  passed = none_last (edits_of c.args.request) (behind_letter (g.R.Read.remaining (device_of c.args.reader.now))) (g.W.Write.contents (device_of c.args.writer.now));
+  kept = tt;
+  read = refl;
+  written = refl;
+}
+
+-- out of memory at the head of another picture
+pub returns-in-Err-clause-stops : goal.returns-in-Err-clause-stops
+returns-in-Err-clause-stops g c =
+    next_head (edits_of c.args.request) _ c.loop-number.number _ _ _ _ _ c.loop-number.invariant.passed c.in-Err.fault (memory_count (edits_of c.args.request) c.loop-number.number _ _ _ _ c.in-Err.fault c.in-Err.ensures.passes) c.in-Err.ensures.stops
+
 pub loop-number-preserved : goal.loop-number-preserved
 loop-number-preserved g c = record {
-  passed = next_letter (edits_of c.args.request) (c.loop-number.number + 1) _ _ _ _ _ (picture_passed (edits_of c.args.request) c.loop-number.number _ _ _ _ _ _ (omega arith) c.loop-number.invariant.passed tt c.in-Ok.ensures.passes)
+  passed = next_letter_last (edits_of c.args.request) _ (c.loop-number.number + 1) _ _ _ _ _ (picture_last (edits_of c.args.request) c.loop-number.number _ _ _ _ _ _ (omega arith) c.loop-number.invariant.passed.passed c.in-Ok.made.picture c.in-Ok.ensures.passes)
       (subst (λ b. Consumes (g.R.Read.remaining (device_of c.pass_picture.new.reader)) (g.R.Read.remaining (device_of c.read_byte.new.reader)) (b ∷ [])) c.in-Ok-Some-eq80.field-0-0-test (rw c.in-Ok-Some-eq80.field-0-is at c.in-Ok-Some-eq80.ensures.byte));
+  kept = c.in-Ok.ensures.kept;
   read = grind (arith, common_steps);
   written = grind (arith, common_steps);
 }
@@ -58,6 +72,6 @@ returns-clause-passes g c =
     let heads = PictureHead (edits_of c.args.request) in
     record {
       left = left;
-      passed = subst (λ n. Passed heads n (behind_letter (g.R.Read.remaining (device_of c.args.reader.now))) left (g.W.Write.contents (device_of c.args.writer.now)) (g.W.Write.contents (device_of c.loop-number.writer))) (omega arith) c.loop-number.invariant.passed;
+      passed = subst (λ n. Passed heads n (behind_letter (g.R.Read.remaining (device_of c.args.reader.now))) left (g.W.Write.contents (device_of c.args.writer.now)) (g.W.Write.contents (device_of c.loop-number.writer))) (omega arith) c.loop-number.invariant.passed.passed;
       ends = last_letter (edits_of c.args.request) (g.R.Read.remaining (device_of c.loop-number.reader));
     }

@@ -1,14 +1,15 @@
-use Rattle.std.proofs.Common.{◌≡◌}
+use Rattle.std.proofs.Common.{◌≡◌, IfSome, length}
 use Rattle.imgref_frames.specs.Request.{edits_of}
-use Rattle.imgref_frames.specs.Passing.{Passed}
-use Rattle.imgref_frames.specs.Pictures.{PictureHead, behind_letter}
+use Rattle.imgref_frames.specs.Kept.{IsKept, PassedLast, kept_picture}
+use Rattle.imgref_frames.specs.Pictures.{behind_letter}
 use Rattle.devices.specs.Device.{device_of, failures_of}
 use Rattle.imgref_frames.proofs.pictures.pass_pictures.Given as goal
 
--- so many pictures were read, and written as they become
+-- so many pictures were read, and written as they become; the plan is that for the last of them
 abbrev pub invariant-loop-number : goal.invariant-loop-number
 invariant-loop-number g l = record {
-  passed : Passed (PictureHead (edits_of l.fn.request)) l.number (behind_letter (g.R.Read.remaining (device_of l.initial.reader))) (behind_letter (g.R.Read.remaining (device_of l.reader))) (g.W.Write.contents (device_of l.initial.writer)) (g.W.Write.contents (device_of l.writer));
+  passed : PassedLast (edits_of l.fn.request) (kept_picture l.kept) l.number (behind_letter (g.R.Read.remaining (device_of l.initial.reader))) (behind_letter (g.R.Read.remaining (device_of l.reader))) (g.W.Write.contents (device_of l.initial.writer)) (g.W.Write.contents (device_of l.writer));
+  kept : IfSome l.kept (IsKept (edits_of l.fn.request) (length l.cells.items) (length l.other.items));
   read : failures_of l.reader ≡ failures_of l.initial.reader;
   written : failures_of l.writer ≡ failures_of l.initial.writer;
 }

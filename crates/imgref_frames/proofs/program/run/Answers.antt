@@ -9,6 +9,7 @@ use Rattle.imgref_frames.specs.declared.fault.RunFault.TheVariants.{Header}
 use Rattle.imgref_frames.proofs.Carrying.{behind_first}
 use Rattle.imgref_frames.proofs.Hiding.{Laws, hides}
 use Rattle.imgref_frames.proofs.OneOutput.{one_output}
+use Rattle.imgref_frames.proofs.Rounds.{behind_letter_stops}
 use Rattle.imgref_frames.proofs.program.run.Goals as goal
 use Rattle.imgref_frames.proofs.program.run.Goals.{After-heads_end_themselves, After-pass_pictures}
 
@@ -28,6 +29,10 @@ returns-in-Ok-Some-eq80-clause-hiding g c = hides (laws g (goal.at.returns-in-Ok
 
 pub returns-in-Ok-Some-eq80-clause-one_output : goal.returns-in-Ok-Some-eq80-clause-one_output
 returns-in-Ok-Some-eq80-clause-one_output g c = one_output (laws g (goal.at.returns-in-Ok-Some-eq80-clause-one_output g c).After-heads_end_themselves)
+
+pub returns-in-Ok-Some-eq80-clause-stops : goal.returns-in-Ok-Some-eq80-clause-stops
+returns-in-Ok-Some-eq80-clause-stops g c = behind_letter_stops c.pass_pictures.result (edits c.args.steps.now c.args.framing) (g.R.Read.remaining (device_of c.args.reader.now)) (g.R.Read.remaining (device_of c.read_byte.new.reader)) (g.R.Read.remaining (device_of c.pass_pictures.new.reader))
+    (subst (λ b. Consumes (g.R.Read.remaining (device_of c.args.reader.now)) (g.R.Read.remaining (device_of c.read_byte.new.reader)) (b ∷ [])) c.in-Ok-Some-eq80.field-0-0-test (rw c.in-Ok-Some-eq80.field-0-is at c.in-Ok-Some-eq80.ensures.byte)) c.pass_pictures.ensures.stops
 
 pub returns-in-Ok-Some-clause-hiding : goal.returns-in-Ok-Some-clause-hiding
 returns-in-Ok-Some-clause-hiding g c =

@@ -111,7 +111,7 @@ tile_parts_spec 𝓤 𝓛 𝓜 𝓡 wired X Y LX LY gh d gs ds bm bs =
     sets ! (of_opd ! (get ! refl)) refl good $ returns ! (look_at ! 0 refl) $ free_all ! refl $
     -- [the parts; the token of κ; that of κX; that of κY; what the cursor follows]
     let Taken : Type 0 = IsTile gs.cells gh.with_cells gh.padded_windows h (mut_layout y) in
-    let taken : Taken = record { first = next.first; fits = next.fits; same_width = ap (λ (k : Layout Y.Denot). k.width) next.cells_are ∙ window_width gh.padded_windows whole_image here; same_height = ap (λ (k : Layout Y.Denot). k.height) next.cells_are ∙ window_height gh.padded_windows whole_image here; grid = next.grid; outside = next.outside } in
+    let taken : Taken = record { first = next.first; fits = next.fits; same_width = ap (λ (k : Layout Y.Denot). k.width) next.cells_are ∙ window_width gh.padded_windows whole_image here; same_height = ap (λ (k : Layout Y.Denot). k.height) next.cells_are ∙ window_height gh.padded_windows whole_image here; grid = next.grid; still_fits = next.still_fits; outside = next.outside } in
     move ! (4 ∷ []) $ use0 𝓛 (raw (fact 𝓤 Taken)) (fact_i 𝓤 Taken (emp 𝓤) taken) $ move ! (1 ∷ 0 ∷ []) $ join ! $
     -- [the ensures; the parts; the token of κ; that of κX; that of κY]
     move ! (2 ∷ []) $ split ! $ move ! (1 ∷ []) $ drop ! $ move ! (3 ∷ 4 ∷ []) $ join ! $ move ! (1 ∷ 0 ∷ []) $ join ! $

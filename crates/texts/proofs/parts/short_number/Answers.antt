@@ -2,5 +2,5 @@ use Rattle.std.proofs.Common.{arith}
 use Rattle.text_model.proofs.ShortNumbers.{number_three}
 use Rattle.texts.proofs.parts.short_number.Goals as goal
 
-pub returns-clause-number : goal.returns-clause-number
-returns-clause-number c = grind (arith, number_three)
+pub returns-then-bytes-eq3-clause-number : goal.returns-then-bytes-eq3-clause-number
+returns-then-bytes-eq3-clause-number c = grind (arith, number_three)

@@ -1,0 +1,18 @@
+-- What a user's own calls by places make: blends, discs and halves.
+use Rattle.std.specs.Prelude.{ℕ, ◌+◌, ◌-◌, ◌*◌, ◌/◌, Bool, nat_le}
+
+-- alpha parts of 255 of one pixel, and the rest of the other, rounded down
+abbrev pub mix_of : ℕ → ℕ → ℕ → ℕ
+mix_of alpha p q = (q * alpha + p * (255 - alpha)) / 255
+
+-- the difference of two numbers
+abbrev pub apart : ℕ → ℕ → ℕ
+apart m n = (m - n) + (n - m)
+
+-- whether a place is in the disc of a radius about a place
+unfoldable pub in_disc : ℕ → ℕ → ℕ → ℕ → ℕ → Bool
+in_disc left top radius x y = nat_le (apart x left * apart x left + apart y top * apart y top) (radius * radius)
+
+-- a ramp from 0 in the first column towards 255
+abbrev pub ramp_at : ℕ → ℕ → ℕ
+ramp_at width x = 255 * x / width

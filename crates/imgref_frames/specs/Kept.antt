@@ -1,0 +1,114 @@
+-- The plan that is kept from one picture to the next, and what was read where there is no memory for another.
+use Rattle.std.specs.Prelude.{◌≡◌, ◌≢◌, ◌≤◌, ◌⊎◌, ℕ, List, [], ◌∷◌, ◌++◌, length, Option, Some, None, IfSome, Result, Ok, Err}
+use Rattle.std.specs.List.{AllByRecursion}
+use Rattle.std.specs.Option.{option_map}
+use Rattle.std.specs.Io.KnownBytes.{Consumes}
+use Rattle.frame_formats.specs.Edits.{Edits}
+use Rattle.frame_formats.specs.Format.{format_of}
+use Rattle.frame_formats.specs.Planned.{recipe_of, plan_room, plan_other_room}
+use Rattle.frame_formats.specs.Recipe.{picture_recipe}
+use Rattle.frame_formats.specs.declared.header.Format.{Format}
+use Rattle.frame_formats.specs.declared.picture.Picture.{Picture}
+use Rattle.imgref_frames.specs.Stream.{Piece, IsPiece, pieces_text}
+use Rattle.imgref_frames.specs.Pictures.{IsHead, PictureHead}
+use Rattle.imgref_frames.specs.Passing.{Passed}
+use Rattle.imgref_frames.specs.declared.pictures.Kept.{Kept}
+use Rattle.imgref_frames.specs.declared.fault.RunFault.{RunFault}
+use Rattle.imgref_frames.specs.declared.fault.RunFault.TheVariants.{Header, Outside, Frame, Memory, Input, Output}
+
+-- the plan is that of the edits for its picture, and buffers of these lengths are enough for it
+pub record IsKept (edit : Edits) (len other_len : ℕ) (k : Kept) : Type 0 where
+  pub plan : picture_recipe edit k.picture ≡ Some (recipe_of k.plan)
+  pub room : plan_room k.plan ≤ len
+  pub other_room : plan_other_room k.plan ≤ other_len
+
+abbrev pub kept_picture : Option Kept → Option Picture
+kept_picture kept = option_map (λ k. k.picture) kept
+
+abbrev pub picture_in : Result Kept RunFault → Result Picture RunFault
+picture_in (Ok k) = Ok k.picture
+picture_in (Err e) = Err e
+
+-- there is no plan for the picture of this number: the edits are none for it, or out of memory
+abbrev pub HasNoPlan : Type 0 → ℕ → RunFault → Type 0
+HasNoPlan none number Outside = none
+HasNoPlan none number (Memory n) = n ≡ number
+HasNoPlan none number Header = ⊥
+HasNoPlan none number (Frame n) = ⊥
+HasNoPlan none number Input = ⊥
+HasNoPlan none number Output = ⊥
+
+-- out of memory only where no plan is kept for this picture
+abbrev pub NeedsMemory : Option Picture → Picture → RunFault → Type 0
+NeedsMemory before picture Outside = Unit {0}
+NeedsMemory before picture (Memory n) = IfSome before (λ p. p ≢ picture)
+NeedsMemory before picture Header = Unit {0}
+NeedsMemory before picture (Frame n) = Unit {0}
+NeedsMemory before picture Input = Unit {0}
+NeedsMemory before picture Output = Unit {0}
+
+-- ---- what was read when there was no memory
+
+-- exactly one head was read, and no plan is kept for its picture
+pub record NewHeadRead (before : Option Picture) (old new : Option (List ℕ)) : Type 0 where
+  pub head : List ℕ
+  pub picture : Picture
+  pub is : IsHead head picture
+  pub read : Consumes old new head
+  pub other : IfSome before (λ p. p ≢ picture)
+
+abbrev pub PictureStops : {T : Type 0} → Result T RunFault → Option Picture → Option (List ℕ) → Option (List ℕ) → Type 0
+PictureStops (Err (Memory n)) before old new = NewHeadRead before old new
+PictureStops _ before old new = Unit {0}
+
+abbrev pub last_piece : List Piece → Option Piece
+last_piece [] = None
+last_piece (p ∷ []) = Some p
+last_piece (p ∷ (q ∷ ps)) = last_piece (q ∷ ps)
+
+-- exactly so many pictures and one head more were read; it is none of the size and kind of the last of them
+pub record NextHeadRead (edit : Edits) (count : ℕ) (old new : Option (List ℕ)) : Type 0 where
+  pub pieces : List Piece
+  pub are : AllByRecursion (IsPiece (PictureHead edit)) pieces
+  pub count_is : length pieces ≡ count
+  pub head : List ℕ
+  pub picture : Picture
+  pub is : IsHead head picture
+  pub read : Consumes old new (pieces_text pieces ++ head)
+  pub other : IfSome (last_piece pieces) (λ last. IsHead last.head picture → ⊥)
+
+-- exactly the line of a video was read, and no frame
+pub record VideoLineRead (count : ℕ) (old new : Option (List ℕ)) : Type 0 where
+  pub none : count ≡ 0
+  pub line : List ℕ
+  pub format : Format
+  pub named : format_of line ≡ Some format
+  pub read : Consumes old new (line ++ 10 ∷ [])
+
+-- out of memory after so many pictures: nothing was read of the cells of the next, or of any frame
+abbrev pub PicturesStop : {T : Type 0} → Result T RunFault → Edits → Option (List ℕ) → Option (List ℕ) → Type 0
+PicturesStop (Err (Memory n)) edit old new = NextHeadRead edit n old new
+PicturesStop _ edit old new = Unit {0}
+
+abbrev pub VideoStops : {T : Type 0} → Result T RunFault → Option (List ℕ) → Option (List ℕ) → Type 0
+VideoStops (Err (Memory n)) old new = VideoLineRead n old new
+VideoStops _ old new = Unit {0}
+
+-- the same for each input with this front
+abbrev pub VideoStopsAfter : {T : Type 0} → Result T RunFault → List ℕ → Option (List ℕ) → Option (List ℕ) → Type 0
+VideoStopsAfter result front left new = (input : Option (List ℕ)) → Consumes input left front → VideoStops result input new
+
+abbrev pub Stops : {T : Type 0} → Result T RunFault → Edits → Option (List ℕ) → Option (List ℕ) → Type 0
+Stops (Err (Memory n)) edit old new = VideoLineRead n old new ⊎ NextHeadRead edit n old new
+Stops _ edit old new = Unit {0}
+
+-- ---- the loop over pictures
+
+-- the picture of the last piece
+abbrev pub LastIs : Option Picture → List Piece → Type 0
+LastIs None pieces = pieces ≡ []
+LastIs (Some p) pieces = (last : Piece) × (last_piece pieces ≡ Some last) × IsHead last.head p
+
+pub record PassedLast (edit : Edits) (before : Option Picture) (count : ℕ) (input left old new : Option (List ℕ)) : Type 0 where
+  pub passed : Passed (PictureHead edit) count input left old new
+  pub last : LastIs before passed.pieces

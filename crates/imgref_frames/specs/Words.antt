@@ -1,0 +1,40 @@
+-- The edits that words or the lines of a file are, and which of them are refused.
+use Rattle.std.specs.Prelude.{◌≡◌, ◌<◌, ◌&&◌, ℕ, Bool, true, false, List, [], ◌∷◌, All, Option, None, if◌then◌else◌}
+use Rattle.std.specs.List.{flat_map, list_any}
+use Rattle.std.specs.Option.{is_none}
+use Rattle.text_model.specs.Reading.{is_nil}
+use Rattle.frame_formats.specs.Edits.{Edits}
+use Rattle.frame_formats.specs.Lists.{AreEdits, framing_after}
+use Rattle.frame_formats.specs.Words.{Named}
+use Rattle.image_planes.specs.declared.change.Change.{Change}
+use Rattle.image_planes.specs.declared.change.Change.TheVariants.{Fill, Mosaic, Move}
+use Rattle.image_planes.specs.declared.change.Step.{Step}
+use Rattle.frame_formats.specs.declared.steps.Paint.{Paint}
+
+-- the words are these edits, one after the other
+pub record AreWords (words : List (List ℕ)) (e : Edits) : Type 0 where
+  pub edits : List Named
+  pub are : AreEdits edits None words
+  pub steps : e.steps ≡ flat_map (λ n. n.steps) edits
+  pub framing : e.framing ≡ framing_after edits None
+
+-- there is an edit, and each is for some frame
+pub record AreUsable (e : Edits) : Type 0 where
+  pub some : is_nil e.steps && is_none e.framing ≡ false
+  pub ranges : All (λ s. s.first < s.end) e.steps
+
+-- a change that carries pixels away, and one that covers some
+abbrev pub moves : Change Paint → Bool
+moves (Fill w paint) = false
+moves (Mosaic w wide high) = false
+moves (Move w left top) = true
+
+abbrev pub covers : Change Paint → Bool
+covers (Fill w paint) = true
+covers (Mosaic w wide high) = true
+covers (Move w left top) = false
+
+-- a fill or a mosaic comes after a move
+unfoldable pub covers_late : List (Step Paint) → Bool
+covers_late [] = false
+covers_late (s ∷ ss) = if moves s.change then list_any (λ t. covers t.change) ss else covers_late ss

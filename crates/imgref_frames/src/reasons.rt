@@ -1,0 +1,295 @@
+//! Why a run ended, in words for standard error. Nothing here changes what is written or the status.
+
+use crate::fault::RunFault;
+use crate::request::Seen;
+use crate::words::{Refusal, find_bad_word, find_line};
+use frame_formats::{Change, Chroma, Edits, Format, Framing, Paint, Step, Window};
+
+// A frame: its size, and how many columns and rows of pixels share a chroma sample.
+#[derive(Clone, Copy)]
+struct Frame {
+    width: usize,
+    height: usize,
+    across: usize,
+    down: usize,
+    has_colours: bool,
+}
+
+impl Frame {
+    fn of_video(format: Format) -> Frame {
+        let (across, down) = match format.chroma {
+            Chroma::Mono | Chroma::Whole => (1, 1),
+            Chroma::Small => (2, 2),
+            Chroma::Wide => (2, 1),
+        };
+        Frame {
+            width: format.width,
+            height: format.height,
+            across,
+            down,
+            has_colours: false,
+        }
+    }
+
+    fn of(seen: Seen) -> Option<Frame> {
+        match seen {
+            Seen::Video(format) => Some(Frame::of_video(format)),
+            Seen::Picture(picture) => Some(Frame {
+                width: picture.width,
+                height: picture.height,
+                across: 1,
+                down: 1,
+                has_colours: picture.colour,
+            }),
+            Seen::Nothing => None,
+        }
+    }
+}
+
+// What is wrong with numbers in one direction.
+#[derive(Clone, Copy)]
+enum Wrong {
+    Outside,
+    NoSize,
+    Colour,
+    TooLarge,
+    // This number of these is no multiple of that.
+    Uneven(&'static str, usize, usize),
+}
+
+fn check_corner(name: &'static str, at: usize, step: usize) -> Option<Wrong> {
+    if step > 1 && at % step != 0 {
+        return Some(Wrong::Uneven(name, at, step));
+    }
+    None
+}
+
+// So many pixels from a place on: they go by whole samples, or end where the frame ends.
+fn check_count(
+    name: &'static str,
+    at: usize,
+    count: usize,
+    whole: usize,
+    step: usize,
+) -> Option<Wrong> {
+    if at > whole || whole - at < count {
+        return Some(Wrong::Outside);
+    }
+    if step > 1 && count % step != 0 && whole - at != count {
+        return Some(Wrong::Uneven(name, count, step));
+    }
+    None
+}
+
+fn check_window(frame: Frame, window: Window) -> Option<Wrong> {
+    let left = check_corner("column", window.left, frame.across);
+    let top = check_corner("row", window.top, frame.down);
+    let width = check_count(
+        "width",
+        window.left,
+        window.width,
+        frame.width,
+        frame.across,
+    );
+    let height = check_count(
+        "height",
+        window.top,
+        window.height,
+        frame.height,
+        frame.down,
+    );
+    left.or(top).or(width).or(height)
+}
+
+fn check_change(frame: Frame, change: Change<Paint>) -> Option<Wrong> {
+    match change {
+        Change::Fill { window, value } => match value {
+            Paint::Colour { .. } if !frame.has_colours => Some(Wrong::Colour),
+            _ => check_window(frame, window),
+        },
+        Change::Mosaic {
+            window,
+            tile_width,
+            tile_height,
+        } => {
+            if tile_width == 0 || tile_height == 0 {
+                return Some(Wrong::NoSize);
+            }
+            let wide = check_corner("tile width", tile_width, frame.across);
+            let high = check_corner("tile height", tile_height, frame.down);
+            check_window(frame, window).or(wide).or(high)
+        }
+        Change::Move { window, left, top } => {
+            let goal = Window::new(left, top, window.width, window.height);
+            check_window(frame, window).or(check_window(frame, goal))
+        }
+    }
+}
+
+fn check_framing(frame: Frame, framing: Framing) -> Option<Wrong> {
+    match framing {
+        Framing::Crop(window) => {
+            if window.width == 0 || window.height == 0 {
+                return Some(Wrong::NoSize);
+            }
+            check_window(frame, window)
+        }
+        Framing::Pad { left, top, .. } => {
+            let column = check_corner("left side", left, frame.across);
+            let row = check_corner("upper side", top, frame.down);
+            Some(column.or(row).unwrap_or(Wrong::TooLarge))
+        }
+    }
+}
+
+fn say_wrong(rt: &HostRuntime, wrong: Wrong) {
+    let _ = match wrong {
+        Wrong::Outside => eprintln!(rt; "it reaches outside the frame"),
+        Wrong::NoSize => eprintln!(rt; "its size is 0"),
+        Wrong::Colour => eprintln!(rt; "a colour is only for pictures in colour"),
+        Wrong::TooLarge => eprintln!(rt;
+            "the frame inside its border is too large, or ends within a chroma sample"
+        ),
+        Wrong::Uneven(name, number, step) => eprintln!(rt;
+            "{name} {number} is no multiple of {step}, and chroma samples have {step} pixels there"
+        ),
+    };
+}
+
+// The edit by its number or by its line.
+fn say_edit(rt: &HostRuntime, number: usize, text: Option<&[u8]>) {
+    let line = match text {
+        Some(text) => find_line(rt.alloc(), text, Some(number)),
+        None => None,
+    };
+    let _ = match line {
+        Some(line) => eprint!(rt; "line {line}: "),
+        None => eprint!(rt; "edit {}: ", number.saturating_add(1)),
+    };
+}
+
+fn say_outside(rt: &HostRuntime, frame: Frame, edits: &Edits, text: Option<&[u8]>) {
+    let _ = eprintln!(rt; "the frame has {} by {} pixels", frame.width, frame.height);
+    for number in 0..edits.steps.len() {
+        if let Some(wrong) = check_change(frame, edits.steps[number].change) {
+            say_edit(rt, number, text);
+            say_wrong(rt, wrong);
+            return;
+        }
+    }
+    if let Some(framing) = edits.framing {
+        if let Some(wrong) = check_framing(frame, framing) {
+            let _ = eprint!(rt; "the crop or pad: ");
+            say_wrong(rt, wrong);
+            return;
+        }
+    }
+    let _ = eprintln!(rt; "a frame of this size can't be edited");
+}
+
+/// Prints why the run ended: which edit, the size of the frame, and what is wrong.
+pub(crate) fn say_reason(
+    rt: &HostRuntime,
+    fault: RunFault,
+    seen: Seen,
+    limit: usize,
+    edits: &Edits,
+    text: Option<&[u8]>,
+) {
+    let _ = match fault {
+        RunFault::Outside => {
+            if let Some(frame) = Frame::of(seen) {
+                say_outside(rt, frame, edits, text);
+            }
+            Ok(())
+        }
+        RunFault::Memory(_) => {
+            if let Some(frame) = Frame::of(seen) {
+                let _ = eprintln!(rt; "the frame has {} by {} pixels", frame.width, frame.height);
+            }
+            eprintln!(rt;
+                "the buffers would have more than {limit} bytes (--limit), or there is no memory for them"
+            )
+        }
+        RunFault::Header => eprintln!(rt;
+            "the input begins with no YUV4MPEG2 line of C420, C422, C444 or Cmono at 8 bits, and with no head of P5 or P6 with 255. For P4 use pbmtopgm, for P7 pamtopnm, for other videos ffmpeg with -pix_fmt yuv420p"
+        ),
+        RunFault::Frame(number) => eprintln!(rt;
+            "after {number} frames or pictures the input goes on, and not with a whole one"
+        ),
+        RunFault::Input => eprintln!(rt; "standard input can't be read"),
+        RunFault::Output => eprintln!(rt; "standard output can't be written"),
+    };
+}
+
+/// Prints why the words are no edits.
+pub(crate) fn say_no_words(
+    rt: &HostRuntime,
+    refusal: Refusal,
+    words: &[&[u8]],
+    text: Option<&[u8]>,
+) {
+    match refusal {
+        Refusal::Memory => {}
+        Refusal::Empty => {
+            let _ = eprintln!(rt; "there is no edit, so nothing would be covered");
+        }
+        Refusal::NoFile => {
+            let _ = eprintln!(rt; "the edits file can't be read");
+        }
+        Refusal::NoOption(at) => {
+            let _ = eprintln!(rt; "word {at} is no option, or lacks what follows it");
+        }
+        Refusal::NoFrame(number) => {
+            say_edit(rt, number, text);
+            let _ = eprintln!(rt; "its range has no frame: the second number must be greater");
+        }
+        Refusal::NoEdits => {
+            let (name, found) = match text {
+                Some(text) => ("line", find_line(rt.alloc(), text, None)),
+                None => match find_bad_word(rt.alloc(), words) {
+                    Some(at) => ("word", Some(at.saturating_add(1))),
+                    None => ("word", None),
+                },
+            };
+            let _ = match found {
+                Some(at) => eprintln!(rt;
+                    "at {name} {at} there is no edit: fill, mosaic, move, crop or pad, and none after a crop or a pad"
+                ),
+                None => eprintln!(rt; "these are no edits"),
+            };
+        }
+    }
+}
+
+/// Prints each range of frames that the input, which had so many, didn't reach. Returns whether
+/// there is one.
+pub(crate) fn say_unreached(
+    rt: &HostRuntime,
+    count: u64,
+    steps: &[Step<Paint>],
+    text: Option<&[u8]>,
+    strict: bool,
+) -> bool {
+    let mut found = false;
+    for number in 0..steps.len() {
+        let step = steps[number];
+        if step.first >= count && (step.first > 0 || step.end < u64::MAX) {
+            if strict && !found {
+                let _ = eprintln!(rt; "fault range");
+            }
+            let _ = if strict {
+                Ok(())
+            } else {
+                eprint!(rt; "note: ")
+            };
+            found = true;
+            say_edit(rt, number, text);
+            let _ = eprintln!(rt;
+                "the input has {count} frames, and ends before its range {}..{}",
+                step.first, step.end
+            );
+        }
+    }
+    found
+}
