@@ -1,4 +1,5 @@
-"""What the checks of the library and of its bindings share: running a command, and taking the cases that it counted."""
+"""What the checks of the library and of its bindings share: running a command, and taking the cases
+that it counted."""
 import pathlib
 import re
 import subprocess

@@ -5,13 +5,15 @@
 //     image.fill({8, 8, 64, 64}, 0.5f);                    // a window: left, top, width, height
 //     image.window({0, 0, 32, 32}).mosaic(4, 4);           // a view over the same memory
 //
-// A view is a pointer, a length, a width, a height and a stride, all counted in pixels. It owns nothing and is copied like a
-// pointer, as std::span. view<const T> is for reading, and each view<T> converts to it. A pixel is any trivially copyable type
-// of 1, 2, 4 or 8 bytes that lies at a multiple of its size. Pixels are compared by their bits.
+// A view is a pointer, a length, a width, a height and a stride, all counted in pixels. It owns
+// nothing and is copied like a pointer, as std::span. view<const T> is for reading, and each
+// view<T> converts to it. A pixel is any trivially copyable type of 1, 2, 4 or 8 bytes that lies at
+// a multiple of its size. Pixels are compared by their bits.
 //
-// Where the library refuses, a call throws imgref::refused with the status of imgref.h, and nothing has changed. What the
-// library can't see is tested here, and throws std::invalid_argument: misaligned pixels, and a source that shares memory with
-// what is written. That the memory is there stays the caller's.
+// Where the library refuses, a call throws imgref::refused with the status of imgref.h, and nothing
+// has changed. What the library can't see is tested here, and throws std::invalid_argument:
+// misaligned pixels, and a source that shares memory with what is written. That the memory is there
+// stays the caller's.
 #ifndef IMGREF_HPP
 #define IMGREF_HPP
 
@@ -96,7 +98,8 @@ inline std::uint64_t nowhere = 0;
 
 } // namespace detail
 
-// The windows of the tiles of a size, line by line: what `for (imgref::rect tile : image.tiles(16, 16))` goes over.
+// The windows of the tiles of a size, line by line, as `for (imgref::rect it : image.tiles(16, 16))`
+// goes over them.
 class tile_range {
 public:
     class iterator {
@@ -160,7 +163,8 @@ public:
     using value_type = std::remove_cv_t<T>;
     using size_type = std::size_t;
 
-    // The image of `len` pixels from a pointer on. Throws refused where they are no image of that size and stride.
+    // The image of `len` pixels from a pointer on. Throws refused where they are no image of that
+    // size and stride.
     view(T *pixels, std::size_t len, std::size_t width, std::size_t height, std::size_t stride)
         : pixels_(pixels), len_(len), width_(width), height_(height), stride_(stride) {
         if (reinterpret_cast<std::uintptr_t>(pixels) % sizeof(T)) throw std::invalid_argument("the pixels are misaligned");
@@ -168,7 +172,8 @@ public:
         if (!imgref_is_image(len, width, height, stride)) throw refused(IMGREF_NOT_AN_IMAGE);
     }
 
-    // The same of a container with data() and size(), or of an array. Without a stride its rows are joined.
+    // The same of a container with data() and size(), or of an array. Without a stride its rows are
+    // joined.
     template <class Pixels, class = std::enable_if_t<std::is_convertible_v<decltype(std::data(std::declval<Pixels &>())), T *>>>
     view(Pixels &pixels, std::size_t width, std::size_t height, std::size_t stride)
         : view(std::data(pixels), std::size(pixels), width, height, stride) {}
@@ -213,7 +218,8 @@ public:
     }
     void fill(const value_type &pixel) const { fill(whole(), pixel); }
 
-    // The window, or all, gets the pixels of `source`, which has its size and shares no memory with this image.
+    // The window, or all, gets the pixels of `source`, which has its size and shares no memory with
+    // this image.
     void copy(const rect &window, view<const value_type> source) const {
         cell *cells = written();
         if (shares(source)) throw std::invalid_argument("the images share memory: move goes within one");
@@ -233,8 +239,8 @@ public:
     }
     void mosaic(std::size_t tile_width, std::size_t tile_height) const { mosaic(whole(), tile_width, tile_height); }
 
-    // The rows are joined at the front of the memory: the stride of this view is the width from now on, or 1 for width 0. Other
-    // views over the memory show moved pixels.
+    // The rows are joined at the front of the memory: the stride of this view is the width from now
+    // on, or 1 for width 0. Other views over the memory show moved pixels.
     void pack() {
         detail::done(calls::pack(written(), len_, width_, height_, stride_));
         stride_ = width_ ? width_ : 1;
@@ -255,7 +261,8 @@ public:
     tile_range tiles(std::size_t tile_width, std::size_t tile_height) const { return {width_, height_, tile_width, tile_height}; }
 
 #ifdef IMGREF_HAS_MDSPAN
-    // The image of an mdspan of rows and columns whose columns have no gaps. Throws std::invalid_argument where they have.
+    // The image of an mdspan of rows and columns whose columns have no gaps. Throws
+    // std::invalid_argument where they have.
     template <class Extents, class Layout>
     explicit view(const std::mdspan<T, Extents, Layout> &other)
         : view(other.data_handle(), other.mapping().required_span_size(), other.extent(1), other.extent(0), row_step(other)) {}

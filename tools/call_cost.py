@@ -1,10 +1,12 @@
 #!/usr/bin/env python3
-"""Counts the instructions of calls of the library for C, beside loops over rows: the table of docs/C.md.
+"""Counts the instructions of calls of the library for C, beside loops over rows: the table of
+docs/C.md.
 
     call_cost.py [SIDE ..]    sides of the square images (8, 64 and 512)
 
-valgrind counts them, so the figures don't depend on what else the machine does. They do depend on the C library, whose memset,
-memcpy, memmove and memcmp the loops call. Prints the table in Markdown.
+valgrind counts them, so the figures don't depend on what else the machine does. They do depend on
+the C library, whose memset, memcpy, memmove and memcmp the loops call. Prints the table in
+Markdown.
 """
 import re
 import sys

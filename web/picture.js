@@ -93,7 +93,8 @@ export class PictureTab {
     if (!isTogether) {
       this.past.push(this.edits);
     }
-    [this.edits, this.future] = [edits, []];
+    // (from here on the number of an edit is its line)
+    [this.edits, this.future] = [edits.map((it) => ({ ...it, line: undefined })), []];
     this.selected = Math.min(this.selected, edits.length - 1);
     this.render();
     return true;

@@ -205,13 +205,13 @@ def check_large(page):
     pixels, busy = large_row() * height, {"opening": [], "saving": []}
     page.browser.script("pauses")
     while len(busy["saving"]) < TRIES and any(not is_quick(it, MOST_BUSY) for it in busy.values()):
-        page.open(pixels, width, height, "large.png")
-        page.count("12 megapixels are opened", f"{width} by {height}" in page.status())
+        said = page.open(pixels, width, height, "large.png")
         busy["opening"].append(max(page.browser.script("pauses"), default=0))
         page.apply("mosaic 0,0,4000,3000 64,64\nfill 100,200,1000,1000 1,2,3")
         page.browser.script("pauses")
         saved = page.save("large")
         busy["saving"].append(max(page.browser.script("pauses"), default=0))
+    page.count("12 megapixels are opened", f"{width} by {height}" in said, said)
     for label, found in busy.items():
         well = is_quick(found, MOST_BUSY)
         page.count(f"12 megapixels: {label} is busy for under {MOST_BUSY} ms", well, found)

@@ -222,5 +222,6 @@ def check_pointer(page):
         "a field that leads outside is refused",
         "outside" in page.status() and "fill 22,12,9,6 0\n" in page.list()
     )
+    page.count("its line is told as it is now", page.status().startswith("Line 2: "))
     page.browser.click("#remove")
     page.count("it is removed", page.list() == "mosaic 0,0,5,5 2,16\ncrop 20,10,30,20\n")

@@ -21,7 +21,7 @@ MOST_WORDS, README_LINES = 25, 120
 # The pages that `make docs` writes, whose sentences are those of the code.
 WRITTEN = {"API.md", "INNER.md"}
 # Crates whose comments are still to be read.
-UNREAD = {"frame_formats", "imgref_frames"}
+UNREAD = {"frame_formats"}
 # What is searched for odd words besides the documents: their comments and their texts within quotes.
 SOURCES = ["Makefile", "crates/*/src/**/*.rt", "crates/*/specs/**/*.antt", "crates/*/proofs/**/*.antt", "tools/*.py", ".ci/**/*.py"]
 SOURCES += [".ci/c/*.[ch]", "include/*.h", "bench/*.[cr]*", "examples/**/*.[chpr]*", "include/*.hpp", "bindings/**/*.[hpr]*", "man/*", "web/*.*"]

@@ -5,7 +5,8 @@ A snippet is a run of lines that are indented by four spaces. Those of docs/CALL
 in a file of the crates, which the gate proves: the lines are there in that order, however far they are indented. A
 script in README.md or docs/SCRIPT.md gives what the page says, as the model tells (.ci/model.py). Each file that a document
 links to or names by its folders is there, and each definition that docs/GLOSSARY.md names is in its file. README.md counts
-the tests and the planted bugs that there are, and docs/CALLERS.md lists each call of an image that doesn't require a fit.
+the tests and the planted bugs that there are, and docs/CALLERS.md lists the calls of an image that don't
+require a fit, and docs/DIFFERENCES.md names those that only the port has.
 docs/DECISIONS.md lists each function that is proved by hand. Each name in docs/PROMISES.md and docs/ARCHITECTURE.md is in a
 source.
 """
@@ -25,6 +26,10 @@ LINK = re.compile(r"\]\(([^)#:]+)(?:#[^)]*)?\)")
 DEFINED = re.compile(r"`([\w/]+\.antt)`: (`\w+`(?:, `\w+`)*)")
 # The types and traits whose calls are those of an image.
 OF_IMAGES = ("Img", "ImgVec", "ImgRef", "ImgRefMut", "ImgExt", "ImgExtMut")
+# Their calls that the Rust crate has by the same name.
+ORIGINAL = set("""as_contiguous_buf as_mut as_ref buf buf_mut clone height height_padded into_buf into_contiguous_buf into_owned
+    into_sub_image_mut iter map_buf new new_buf new_stride pixels pixels_mut pixels_ref rows rows_mut rows_padded rows_padded_mut
+    stride sub_image sub_image_mut to_contiguous_buf to_owned width width_padded""".split())
 # What docs/CALLERS.md names beside the calls of an image where it lists exceptions.
 BESIDE = {"HasCell", "hash", "next_tile", "remaining"}
 # Where the names of the documents are.
@@ -92,13 +97,26 @@ def undefined(text):
         yield from (f"{word} of {name}" for word in SPAN.findall(words) if word not in stands)
 
 
-def without_fit():
-    """The public calls on an image that don't require that it fits, by their contracts."""
+def calls_of_images():
+    """The public calls of images."""
     for it in api_page.crate_of("imgref").entries:
         of = it.block and (it.block.name if it.block.kind == "trait" else api_page.subject(it.block)[0])
-        is_call = it.item.kind == "fn" and (it.item.is_public or it.block and it.block.kind == "trait") and "self" in " ".join(it.item.head)
-        if is_call and of in OF_IMAGES and not any("Fits" in clause.text for clause in it.item.clauses if clause.kind == "requires"):
-            yield it.item.name
+        if of in OF_IMAGES and it.item.kind == "fn" and (it.item.is_public or it.block.kind == "trait"):
+            yield it.item
+
+
+def without_fit():
+    """Those on an image that don't require that it fits, by their contracts."""
+    for it in calls_of_images():
+        if "self" in " ".join(it.head) and not any("Fits" in clause.text for clause in it.clauses if clause.kind == "requires"):
+            yield it.name
+
+
+def all_named(cases):
+    """docs/DIFFERENCES.md names each call of an image that the Rust crate doesn't have by this name."""
+    needed = {it.name for it in calls_of_images()} - ORIGINAL
+    missing = sorted(needed - {*re.findall(r"\w+", (ROOT / "docs/DIFFERENCES.md").read_text())})
+    cases.count(f"docs/DIFFERENCES.md: {len(needed)} calls of images are named", not missing, f"not named: {missing}")
 
 
 def exceptions(cases):
@@ -125,6 +143,7 @@ def unknown_names(text, known):
 def main():
     cases = Cases()
     exceptions(cases)
+    all_named(cases)
     by_hand(cases)
     paths = [it for pattern in SOURCES for it in ROOT.glob(pattern)]
     known = {word for it in paths for word in re.findall(r"\w+", f"{it.relative_to(ROOT)} {it.read_text()}")}

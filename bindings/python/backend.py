@@ -1,7 +1,8 @@
 """Builds the package for pip and for `make python` (PEP 517), with cffi and a C compiler alone.
 
-The header and the archive of the library are found so: in the folders that IMGREF_INCLUDE and IMGREF_LIB name, else in the
-repository that this folder is in, after `make c`, else where pkg-config says. CC names the compiler (cc).
+The header and the archive of the library are found so: in the folders that IMGREF_INCLUDE and
+IMGREF_LIB name, else in the repository that this folder is in, after `make c`, else where
+pkg-config says. CC names the compiler (cc).
 """
 from __future__ import annotations
 
@@ -112,7 +113,8 @@ def digest(data):
 
 
 def build_sdist(sdist_directory, config_settings=None):
-    """Writes the sources into a folder, and returns the archive's name. The library isn't among them."""
+    """Writes the sources into a folder, and returns the archive's name. The library isn't among
+    them."""
     name = f"{NAME}-{VERSION}.tar.gz"
     with tempfile.TemporaryDirectory(prefix="imgref-sdist-") as room:
         described = pathlib.Path(room, "PKG-INFO")

@@ -1,4 +1,5 @@
-"""The part of the package in C, by cffi in API mode: the code of native.h, with the proved library linked into it.
+"""The part of the package in C, by cffi in API mode: the code of native.h, with the proved library
+linked into it.
 
 `emit(path)` writes the C code of the module `imgref._native`.
 """
@@ -31,7 +32,8 @@ imgref_status imgref_tile_count(size_t width, size_t height, size_t tile_width, 
 imgref_status imgref_tile(size_t width, size_t height, size_t tile_width, size_t tile_height, size_t number, imgref_rect *window);
 uintptr_t memory_of(uintptr_t view);
 """
-# A memoryview says all of its memory but where it begins. `id` of an object is its address in CPython.
+# A memoryview says all of its memory but where it begins. `id` of an object is its address in
+# CPython.
 MEMORY = """
 #include "native.h"
 static uintptr_t memory_of(uintptr_t view) { return (uintptr_t)PyMemoryView_GET_BUFFER((PyObject *)view)->buf; }

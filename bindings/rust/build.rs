@@ -1,5 +1,5 @@
-//! Finds the library: in the folder that IMGREF_LIB names, else in the repository that this crate is in, after `make c`, else
-//! where the linker looks by itself.
+//! Finds the library: in the folder that IMGREF_LIB names, else in the repository that this crate
+//! is in, after `make c`, else where the linker looks by itself.
 
 use std::path::Path;
 

@@ -1,9 +1,10 @@
-// Hides a window of a grey picture: each tile of it gets one colour, and nothing else of the window is left.
+// Hides a window of a grey picture: each tile of it gets one colour, and nothing else of the window
+// is left.
 //
 //     hide LEFT TOP WIDTH HEIGHT TILE < picture.pgm > hidden.pgm
 //
-// The picture is a PGM file of one byte a pixel (P5), as netpbm writes it. A window that isn't inside is refused by the library:
-// the program says so, and writes nothing.
+// The picture is a PGM file of one byte a pixel (P5), as netpbm writes it. A window that isn't
+// inside is refused by the library: the program says so, and writes nothing.
 //
 //     c++ -std=c++17 -O2 hide.cpp $(pkg-config --cflags --libs imgref) -o hide
 #include <imgref.hpp>

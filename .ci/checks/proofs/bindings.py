@@ -1,8 +1,9 @@
 #!/usr/bin/env python3
-"""The bindings as their users have them: the package for Python, built and installed by pip, and the crate for Rust.
+"""The bindings as their users have them: the package for Python, built and installed by pip, and
+the crate for Rust.
 
-It builds over what the proofs left, and works in a folder of its own. What isn't on the machine is named as skipped, and
-counts as neither.
+It builds over what the proofs left, and works in a folder of its own. What isn't on the machine is
+named as skipped, and counts as neither.
 """
 import os
 import pathlib
@@ -35,7 +36,8 @@ fn main() -> Result<(), imgref_proved::Refused> {
 
 
 def check_python(cases, room):
-    """The wheel that `make python` builds, as pip installs it with no index, its tests, and the examples of its page."""
+    """The wheel that `make python` builds, as pip installs it with no index, its tests, and the
+    examples of its page."""
     if run([sys.executable, "-c", "import cffi"])[0]:
         skipped("Python's package (cffi)")
         return
@@ -70,7 +72,8 @@ def check_sources(cases, room, python, quiet):
 
 
 def check_hints(cases, room, python):
-    """The type hints, by mypy: those of the installed package, and what a user's code may say of it."""
+    """The type hints, by mypy: those of the installed package, and what a user's code may say of
+    it."""
     if not shutil.which("mypy"):
         skipped("Python's type hints (mypy)")
         return
@@ -93,13 +96,15 @@ def check_hints(cases, room, python):
 
 
 def check_versions(cases):
-    """Every file that has the version has the one of tools/c_library.py, which CHANGELOG.md has last."""
+    """Every file that has the version has the one of tools/c_library.py, which CHANGELOG.md has
+    last."""
     forms = {
         "include/imgref.h": r'#define IMGREF_VERSION "([^"]+)"',
         "bindings/python/pyproject.toml": r'(?m)^version = "([^"]+)"',
         "bindings/python/backend.py": r'VERSION = "imgref", "([^"]+)"',
         "bindings/python/imgref/__init__.py": r'__version__ = "([^"]+)"',
         "bindings/rust/Cargo.toml": r'(?m)^version = "([^"]+)"',
+        "crates/imgref_frames/src/main.rt": r'VERSION: &str = "imgref_frames ([^"]+)"',
         "CHANGELOG.md": r"(?m)^## \[(\d[^\]]*)\]",
         **{f"man/{it.name}": r'"imgref ([^"]+)"' for it in (ROOT / "man").iterdir()},
     }

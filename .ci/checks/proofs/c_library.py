@@ -167,7 +167,9 @@ def check_man(cases, prefix):
     cases.count("imgref_run.1 names each command", len(words) > 7 and not lacking, str(lacking))
     words = set(re.findall(r"(?m)^\| `(\w+) L,T,", (ROOT / "docs/FRAMES.md").read_text()))
     lacking = [it for it in words if f'.BI "{it} "' not in pages.get("imgref_frames.1", "")]
-    cases.count("imgref_frames.1 names each edit", len(words) > 4 and not lacking, str(lacking))
+    options = set(re.findall(r"(?m)`(--\w+)[ `]", (ROOT / "docs/FRAMES.md").read_text()))
+    lacking += [it for it in options if it.replace("-", "\\-") not in pages.get("imgref_frames.1", "")]
+    cases.count("imgref_frames.1 names each edit and option", len(words) > 4 and len(options) > 3 and not lacking, str(lacking))
 
 
 def check_programs(cases, prefix):

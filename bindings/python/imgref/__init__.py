@@ -6,12 +6,14 @@
     frame.fill(imgref.Window(10, 10, 64, 64), 0)
     frame.window(imgref.Window(0, 0, 320, 240)).copy_from(other)  # a window is an image over the same memory
 
-An image takes what has the buffer protocol (bytearray, memoryview, array.array, a NumPy array or a view of one) and copies
-nothing: it writes where the pixels are. A number is one integer, float or bool of 1, 2, 4 or 8 bytes, in either byte order. A
-pixel is one number, or up to four of a colour image. No other format is taken, so no pixel has a pointer.
+An image takes what has the buffer protocol (bytearray, memoryview, array.array, a NumPy array or a
+view of one) and copies nothing: it writes where the pixels are. A number is one integer, float or
+bool of 1, 2, 4 or 8 bytes, in either byte order. A pixel is one number, or up to four of a colour
+image. No other format is taken, so no pixel has a pointer.
 
-A call that fails raises `ValueError` or `TypeError`, and nothing has changed. Where the library refuses, for example a window
-that isn't inside, that is `Refused`, a `ValueError`. Memory that overlaps is refused here too, since the library can't see that.
+A call that fails raises `ValueError` or `TypeError`, and nothing has changed. Where the library
+refuses, for example a window that isn't inside, that is `Refused`, a `ValueError`. Memory that
+overlaps is refused here too, since the library can't see that.
 """
 from ._image import Image
 from ._types import Buffer, Corners, Number, Pixel, Refused, Window

@@ -16,8 +16,9 @@ def size_of(letter: str) -> int:
     return struct.calcsize(f"={letter}")
 
 
-# For each letter that a buffer may give: the sizes in bytes that its items may have, and the letter that `struct` has for such
-# an item in standard mode. The buffer's letter doesn't tell the size: 'l' has 4 bytes or 8.
+# For each letter that a buffer may give: the sizes in bytes that its items may have, and the letter
+# that `struct` has for such an item in standard mode. The buffer's letter doesn't tell the size:
+# 'l' has 4 bytes or 8.
 LETTERS: dict[str, dict[int, str]] = {
     **{it: {size_of(it): it} for it in "?bBhHiIqQefd"},
     **{it: {4: "i", 8: "q"} for it in "ln"},
@@ -32,7 +33,8 @@ KINDS = {"b": "?", "i": "bhiq", "u": "BHIQ", "f": "efd"}
 class Cell:
     """A number in memory: its format as `struct` has it, its size in bytes, and its two functions.
 
-    `encode` gives the bits of a value. It cuts no value to fit, and takes no float for an integer. `decode` is its inverse.
+    `encode` gives the bits of a value. It cuts no value to fit, and takes no float for an integer.
+    `decode` is its inverse.
     """
 
     __slots__ = ("format", "size", "encode", "decode")

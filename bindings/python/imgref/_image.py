@@ -22,9 +22,10 @@ def _read_only() -> TypeError:
 class Image(Layout):
     """An image over memory that belongs to another object.
 
-    `Image(buffer, width, height, stride)` takes a buffer of one dimension (stride: that of joined rows). `Image(buffer)` takes
-    one of two dimensions whose rows go downwards and whose columns have no gaps, such as `array[10:20, 5:50]`. One of three
-    dimensions is a colour image: height, width, and one to four numbers in a pixel. With sizes, `channels` tells how many.
+    `Image(buffer, width, height, stride)` takes a buffer of one dimension (stride: that of joined
+    rows). `Image(buffer)` takes one of two dimensions whose rows go downwards and whose columns
+    have no gaps, such as `array[10:20, 5:50]`. One of three dimensions is a colour image: height,
+    width, and one to four numbers in a pixel. With sizes, `channels` tells how many.
 
     >>> frame = bytearray(range(8))
     >>> image = Image(frame, 3, 2, 4)
@@ -32,7 +33,8 @@ class Image(Layout):
     >>> image, list(frame)
     (<imgref.Image of 3 by 2 pixels, stride 4, format 'B'>, [0, 90, 90, 3, 4, 90, 90, 7])
 
-    `==` tells whether two images have one size, one format and pixels of equal bits. Compared with anything else it is False.
+    `==` tells whether two images have one size, one format and pixels of equal bits. Compared with
+    anything else it is False.
     """
 
     __slots__ = ()
@@ -125,7 +127,8 @@ class Image(Layout):
             raise _too_large(why) from why
 
     def _fill_apart(self, image: Any, left: int, top: int, width: int, height: int, cells: list[int]) -> None:
-        """Fills by a pixel of several cells: the first pixel is put, and then what is done is copied to as much again."""
+        """Fills by a pixel of several cells: the first pixel is put, and then what is done is
+        copied to as much again."""
         step = self._step
         if not lib.image_has_window(image, left * step, top, width * step, height):
             raise Refused(_WINDOW_OUTSIDE)
@@ -145,7 +148,8 @@ class Image(Layout):
             done += more
 
     def copy_window(self, window: Corners, source: Image) -> None:
-        """The window gets the pixels of `source`, an image of its size and format over other memory."""
+        """The window gets the pixels of `source`, an image of its size and format over other
+        memory."""
         if not self._writable:
             raise _read_only()
         image, other, step = self._alike(source)
@@ -187,7 +191,8 @@ class Image(Layout):
             raise _too_large(why) from why
 
     def mosaic(self, window: Corners, tile_width: int, tile_height: int) -> None:
-        """Each tile of the window, from its corner on, gets the pixel that was at the tile's corner."""
+        """Each tile of the window, from its corner on, gets the pixel that was at the tile's
+        corner."""
         if not self._writable:
             raise _read_only()
         image, step = self._image, self._step
@@ -204,7 +209,8 @@ class Image(Layout):
             raise _too_large(why) from why
 
     def pack(self) -> None:
-        """The rows are joined at the front of the memory: the stride is that of joined rows from now on."""
+        """The rows are joined at the front of the memory: the stride is that of joined rows from
+        now on."""
         if not self._writable:
             raise _read_only()
         _done(lib.image_pack(self._image))

@@ -24,9 +24,11 @@ def too_large(why: OverflowError) -> ValueError:
 
 
 class Layout:
-    """The memory, the sizes and the format of an image, with no call that reads or writes pixels."""
+    """The memory, the sizes and the format of an image, with no call that reads or writes
+    pixels."""
 
-    # A pixel is `_step` cells of the library. `_image` is the image of those cells; `_width` and `_height` are in pixels.
+    # A pixel is `_step` cells of the library. `_image` is the image of those cells; `_width` and
+    # `_height` are in pixels.
     __slots__ = ("_memory", "_image", "_width", "_height", "_pixels", "_step", "_writable", "__weakref__")
     _memory: Memory
     _image: Any
@@ -53,12 +55,14 @@ class Layout:
 
     @property
     def stride(self) -> int:
-        """The numbers from the start of a row to that of the next: `channels` of them are a pixel."""
+        """The numbers from the start of a row to that of the next: `channels` of them are a
+        pixel."""
         return int(self._image.stride) * (self._pixels.channels // self._step)
 
     @property
     def format(self) -> str:
-        """The byte order and the letter of a number, as `struct` has them. An exporter's 'l' of 8 bytes is 'q' here."""
+        """The byte order and the letter of a number, as `struct` has them. An exporter's 'l' of 8
+        bytes is 'q' here."""
         return self._pixels.cell.format
 
     @property
@@ -73,7 +77,8 @@ class Layout:
 
     @property
     def __array_interface__(self) -> dict[str, Any]:
-        """The pixels for NumPy (`numpy.asarray`) and PIL (`PIL.Image.fromarray`), which copies them."""
+        """The pixels for NumPy (`numpy.asarray`) and PIL (`PIL.Image.fromarray`), which copies
+        them."""
         size, image = self._pixels.cell.size, self._image
         channels = self._pixels.channels
         shape: tuple[int, ...] = (self._height, self._width)
@@ -105,7 +110,8 @@ class Layout:
         return self._pixels.cell is other._pixels.cell and self._pixels.channels == other._pixels.channels
 
     def _alike(self, source: Layout) -> tuple[Any, Any, int]:
-        """This image and one of the same format in cells of one size, and how many of these are a pixel."""
+        """This image and one of the same format in cells of one size, and how many of these are a
+        pixel."""
         if not isinstance(source, Layout):
             raise TypeError(f"no image: {source!r}")
         if self._pixels is source._pixels:

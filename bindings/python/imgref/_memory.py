@@ -13,8 +13,8 @@ MOST_CHANNELS = 4
 
 
 class Memory(NamedTuple):
-    """The memory of an object, which stays where it is while `view` is there. Shape and strides are those of the buffer, and
-    strides are counted in bytes."""
+    """The memory of an object, which stays where it is while `view` is there. Shape and strides are
+    those of the buffer, and strides are counted in bytes."""
 
     view: memoryview
     start: int
@@ -26,7 +26,8 @@ class Memory(NamedTuple):
 
 
 def memory_of(owner: Buffer) -> Memory:
-    """The memory of an object that has the buffer protocol, or else the array interface with its data as a buffer."""
+    """The memory of an object that has the buffer protocol, or else the array interface with its
+    data as a buffer."""
     try:
         view = memoryview(owner)
     except BufferError as why:
@@ -45,7 +46,8 @@ def memory_of(owner: Buffer) -> Memory:
 
 
 def _by_interface(told: dict[str, Any]) -> Memory:
-    """The memory of an object that has only the array interface, such as an image of PIL: its data is a copy for reading."""
+    """The memory of an object that has only the array interface, such as an image of PIL: its data
+    is a copy for reading."""
     form, shape, data = told.get("typestr"), told.get("shape"), told.get("data")
     if not isinstance(form, str) or not isinstance(shape, tuple) or told.get("strides") is not None or told.get("mask") is not None:
         raise TypeError("no array interface of packed numbers")
@@ -78,7 +80,8 @@ def packed_strides(shape: tuple[int, ...], size: int) -> tuple[int, ...]:
 
 
 class Sizes(NamedTuple):
-    """An image's width and height in pixels, its stride and its length in numbers, and how many of these are a pixel."""
+    """An image's width and height in pixels, its stride and its length in numbers, and how many of
+    these are a pixel."""
 
     width: int
     height: int
@@ -88,7 +91,8 @@ class Sizes(NamedTuple):
 
 
 def shaped(memory: Memory) -> Sizes:
-    """The sizes of a buffer of two dimensions, or of three for a colour image, with the numbers up to its last pixel."""
+    """The sizes of a buffer of two dimensions, or of three for a colour image, with the numbers up
+    to its last pixel."""
     if len(memory.shape) not in (2, 3):
         raise TypeError("a buffer that hasn't two or three dimensions needs a width and a height")
     height, width, channels = (*memory.shape, 1)[:3]

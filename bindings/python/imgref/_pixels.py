@@ -12,9 +12,11 @@ _GROUPS = (1, 2, 4, 8)
 
 
 class Pixels:
-    """Pixels of `channels` numbers, each of which is `step` cells: one for all of its numbers, or one for each.
+    """Pixels of `channels` numbers, each of which is `step` cells: one for all of its numbers, or
+    one for each.
 
-    `is_plain` says that a pixel is one number: `to_cell` gives its cell then, and `of_cell` is the inverse.
+    `is_plain` says that a pixel is one number: `to_cell` gives its cell then, and `of_cell` is the
+    inverse.
     """
 
     __slots__ = ("cell", "channels", "step", "is_plain", "to_cell", "of_cell")
@@ -55,6 +57,7 @@ def pixels_of(cell: Cell, channels: int, step: int) -> Pixels:
 
 
 def step_of(cell: Cell, channels: int, start: int, stride: int) -> int:
-    """How many cells a pixel is: one where its bytes are 1, 2, 4 or 8 and lie at a multiple of that, else one for each number."""
+    """How many cells a pixel is: one where its bytes are 1, 2, 4 or 8 and lie at a multiple of
+    that, else one for each number."""
     whole = cell.size * channels
     return 1 if whole in _GROUPS and not start % whole and not stride % channels else channels

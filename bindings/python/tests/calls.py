@@ -3,6 +3,7 @@ import array
 import copy
 import doctest
 import pickle
+import threading
 import typing
 
 import imgref
@@ -79,6 +80,23 @@ def of_copies():
     check("memory that an image holds isn't resized", raises(BufferError, frame.append, 1))
 
 
+def of_threads():
+    """Calls on separate memory from several threads: each image has its own colours after all."""
+    images = [Image(bytearray(64 * 64), 64, 64) for _ in range(4)]
+
+    def work(at):
+        for turn in range(200):
+            images[at].fill(images[at].whole, at + turn % 2)
+            images[at].mosaic(images[at].whole, 8, 8)
+
+    threads = [threading.Thread(target=work, args=(at,)) for at in range(4)]
+    for it in threads:
+        it.start()
+    for it in threads:
+        it.join()
+    check("calls from threads", all(it.tobytes() == bytes([at + 1]) * 4096 for at, it in enumerate(images)))
+
+
 def of_hints():
     """Each annotation names a type that is there."""
     publics = [it for it in vars(Image).values() if callable(it) and hasattr(it, "__annotations__")]
@@ -91,6 +109,7 @@ of_a_bytearray()
 of_other_buffers()
 of_equal_images()
 of_copies()
+of_threads()
 of_hints()
 examples = doctest.testmod(imgref)
 check("the examples of the module", examples.attempted and not examples.failed)

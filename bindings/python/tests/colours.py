@@ -1,4 +1,5 @@
-"""Pixels of several numbers, and images by the array interface, beside a plain model. Prints 'N passed, M failed' last."""
+"""Pixels of several numbers, and images by the array interface, beside a plain model. Prints 'N
+passed, M failed' last."""
 import array
 import ctypes
 import random

@@ -6,7 +6,8 @@ import sys
 
 from imgref import Image, Window
 
-# The kind of number of each letter of a format. Long doubles, complex numbers and characters have none.
+# The kind of number of each letter of a format. Long doubles, complex numbers and characters have
+# none.
 KINDS = {"?": "bool", **dict.fromkeys("bhilqn", "signed"), **dict.fromkeys("BHILQN", "unsigned"), **dict.fromkeys("efd", "real")}
 ORDERS = {"": sys.byteorder, "@": sys.byteorder, "=": sys.byteorder, "^": sys.byteorder, "<": "little", ">": "big", "!": "big"}
 # What buffers of `exported` point to.
@@ -53,7 +54,8 @@ class Buffer(ctypes.Structure):
 
 
 def exported(form, size, memory, shape=None, strides=None, start=0, **more):
-    """The memory as another module may export it: by any format, shape and strides, from a byte on."""
+    """The memory as another module may export it: by any format, shape and strides, from a byte
+    on."""
     cells = (ctypes.c_char * len(memory)).from_buffer(memory)
     shape = (len(memory) // size,) if shape is None else shape
     numbers = {name: (ctypes.c_ssize_t * len(it))(*it) for name, it in {"shape": shape, "strides": strides or (size,), **more}.items()}
@@ -84,7 +86,8 @@ def bytes_of(value, kind, size, order):
 
 
 def holds(buffer, kind, order=sys.byteorder):
-    """Whether an image over six cells writes and reads the numbers of a kind in a byte order, and refuses all else."""
+    """Whether an image over six cells writes and reads the numbers of a kind in a byte order, and
+    refuses all else."""
     shown = memoryview(buffer)
     size, cells = shown.itemsize, [shown.tobytes()[at : at + shown.itemsize] for at in range(0, shown.nbytes, shown.itemsize)]
     image, ((least, most), refused) = Image(buffer, 2, 2, 3), values_of(kind, size)

@@ -1,4 +1,5 @@
-"""Each format of a number, and each format that is refused. Prints a line for each case, and 'N passed, M failed'."""
+"""Each format of a number, and each format that is refused. Prints a line for each case, and 'N
+passed, M failed'."""
 import array
 import ctypes
 import struct
@@ -9,7 +10,8 @@ from imgref import Image
 
 
 def of_each_letter():
-    """The letters of `struct` in every byte order, at the sizes that `struct` and other exporters give them."""
+    """The letters of `struct` in every byte order, at the sizes that `struct` and other exporters
+    give them."""
     for letter, kind in KINDS.items():
         for sign, order in ORDERS.items():
             mode = "@" if letter in "nN" else sign.replace("^", "@")

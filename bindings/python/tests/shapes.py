@@ -1,4 +1,5 @@
-"""Buffers of two and three dimensions with every stride, and bad arguments. Prints 'N passed, M failed' last."""
+"""Buffers of two and three dimensions with every stride, and bad arguments. Prints 'N passed, M
+failed' last."""
 import ctypes
 
 from counting import check, end, exported, numpy_or_none, raises
@@ -46,7 +47,8 @@ def of_other_shapes():
 
 
 def of_bad_values():
-    """Each argument of each call takes each bad value: only ValueError and TypeError come, and nothing is written."""
+    """Each argument of each call takes each bad value: only ValueError and TypeError come, and
+    nothing is written."""
     frame, inner = bytearray(range(12)), Window(0, 0, 2, 2)
     image, other, third = Image(frame, 3, 2, 4), Image(bytearray(4), 2, 2), Image(bytearray(6), 3, 2)
     calls = {

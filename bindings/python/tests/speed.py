@@ -1,4 +1,5 @@
-"""The fixed cost of a call: the least time on images of one pixel. Prints 'N passed, M failed' last.
+"""The fixed cost of a call: the least time on images of one pixel. Prints 'N passed, M failed'
+last.
 
     speed.py [MICROSECONDS]    the most that a call may take (2)
 """
@@ -8,7 +9,8 @@ import timeit
 from counting import check, end
 from imgref import Image, Window
 
-# The least time of many rounds counts, since the machine may be busy. Where it is too long, more rounds are tried.
+# The least time of many rounds counts, since the machine may be busy. Where it is too long, more
+# rounds are tried.
 ROUNDS, CALLS, TRIES = 50, 400, 40
 
 

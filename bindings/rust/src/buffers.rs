@@ -4,7 +4,8 @@ use crate::Cell;
 
 /// What an image may be over: a slice, a mutable slice, a `Vec`, or an array.
 ///
-/// A buffer whose cells change from call to call loses nothing but its image: each call tests the sizes again.
+/// A buffer whose cells change from call to call loses nothing but its image: each call tests the
+/// sizes again.
 pub trait Buffer {
     /// The type of a pixel.
     type Pixel: Cell;

@@ -76,8 +76,9 @@ pub(crate) const fn calls_on<Container: Buffer>() -> Calls<<Container::Pixel as 
     <Container::Pixel as Cell>::Bits::CALLS
 }
 
-// SAFETY of the calls below: a slice is memory of its length that stays for the call, its pointer is never null, also where it
-// is empty, its cells lie at multiples of their size, and a `&mut` shares nothing with any other parameter.
+// SAFETY of the calls below: a slice is memory of its length that stays for the call, its pointer
+// is never null, also where it is empty, its cells lie at multiples of their size, and a `&mut`
+// shares nothing with any other parameter.
 impl<Container: Buffer> Img<Container> {
     /// The image of this buffer whose rows are joined.
     ///
@@ -211,8 +212,8 @@ impl<Container: BufferMut> Img<Container> {
         done(unsafe { (calls_on::<Container>().mosaic)(cells.as_mut_ptr().cast(), cells.len(), self.width, self.height, self.stride, window, tile_width, tile_height) })
     }
 
-    /// Joins the rows at the front of the buffer: the stride is the width from now on, or 1 for width 0. Returns the pixels,
-    /// the width and the height. The cells after them stay.
+    /// Joins the rows at the front of the buffer: the stride is the width from now on, or 1 for
+    /// width 0. Returns the pixels, the width and the height. The cells after them stay.
     ///
     /// # Errors
     ///

@@ -1,8 +1,8 @@
 //! Strided 2-D images over proved calls, by the names of the crate `imgref`.
 //!
-//! An image is a buffer with a width, a height and a stride: a slice ([`ImgRef`]), a mutable slice ([`ImgRefMut`]) or a `Vec`
-//! ([`ImgVec`]). The pixel in column `x` of row `y` is `y * stride + x` of the buffer, and all else is padding. A pixel is an
-//! integer of 1, 2, 4 or 8 bytes ([`Cell`]).
+//! An image is a buffer with a width, a height and a stride: a slice ([`ImgRef`]), a mutable slice
+//! ([`ImgRefMut`]) or a `Vec` ([`ImgVec`]). The pixel in column `x` of row `y` is `y * stride + x`
+//! of the buffer, and all else is padding. A pixel is an integer of 1, 2, 4 or 8 bytes ([`Cell`]).
 //!
 //! ```
 //! use imgref_proved::{ImgRefMut, Window};
@@ -16,9 +16,9 @@
 //! # Ok::<(), imgref_proved::Refused>(())
 //! ```
 //!
-//! Where the original panics, a call here returns [`Refused`], and nothing has changed. Only the index `image[(x, y)]` panics.
-//! The borrow checker says that what is written is not also read, so every function is safe. The calls that aren't in the
-//! original have the names of the C interface.
+//! Where the original panics, a call here returns [`Refused`], and nothing has changed. Only the
+//! index `image[(x, y)]` panics. The borrow checker says that what is written is not also read, so
+//! every function is safe. The calls that aren't in the original have the names of the C interface.
 
 use std::fmt;
 

@@ -15,7 +15,7 @@ use Rattle.frame_formats.specs.declared.header.Format.{Format}
 use Rattle.frame_formats.specs.declared.framing.Framing.{Framing}
 use Rattle.frame_formats.specs.declared.framing.Framing.TheVariants.{Crop as CropPixels, Pad as PadPixels}
 
--- what stands behind the letter in the first field that begins with it
+-- what follows the letter in the first field that begins with it
 abbrev pub tagged : ℕ → List (List ℕ) → Option (List ℕ)
 tagged letter [] = None
 tagged letter (field ∷ fields) = if slice_index field 0 == letter then Some (drop 1 field) else tagged letter fields
@@ -48,7 +48,7 @@ abbrev pub chroma_named : Option (List ℕ) → Option Chroma
 chroma_named None = Some Small
 chroma_named (Some word) = chroma_of word
 
--- the fields behind the first
+-- the fields after the first
 unfoldable pub format_in : List (List ℕ) → Option Format
 format_in fields = do
   wide ← tagged_once 87 fields
@@ -107,7 +107,7 @@ change_under x y width height (Move w left top) = do
 
 -- ---- frames of another size
 
--- how many pixels there are with so many before and behind, below 2 ^ 32
+-- how many pixels there are with so many before and after, below 2 ^ 32
 abbrev pub padded_size : ℕ → ℕ → ℕ → Option ℕ
 padded_size before pixels behind = if nat_lt (before + pixels + behind) (2 ^ 32) then Some (before + pixels + behind) else None
 

@@ -19,7 +19,7 @@ use Rattle.frame_formats.specs.declared.framing.Framing.{Framing}
 use Rattle.frame_formats.specs.declared.header.Format.{Format}
 use Rattle.frame_formats.specs.declared.picture.Picture.{Picture}
 
--- what is written before the first frame, how many bytes a frame has, which planes these are, one behind the other, what is done to each plane, and what the bytes of a frame become, by its number from 0
+-- what is written before the first frame, how many bytes a frame has, which planes these are, one after the other, what is done to each plane, and what the bytes of a frame become, by its number from 0
 pub record Recipe : Type 0 where
   pub head : List ℕ
   pub size : ℕ

@@ -39,7 +39,7 @@ paint_by None part = colour_in (parts_of 44 part)
 abbrev pub paint_of : List ℕ → Option Paint
 paint_of part = paint_by (pixel_of part) part
 
--- a change by its word, its window and what stands behind it
+-- a change by its word, its window and what follows it
 unfoldable pub change_of : List ℕ → Window → List ℕ → Option (Change Paint)
 change_of word window last =
     if bytes_eq word (codes "fill") then option_map (λ paint. Fill window paint) (paint_of last)
@@ -47,7 +47,7 @@ change_of word window last =
     else if bytes_eq word (codes "move") then option_map (λ p. Move window p.0 p.1) (pair_of last)
     else None
 
--- a border by its sides and what stands behind them
+-- a border by its sides and what follows them
 unfoldable pub pad_of : Window → List ℕ → Option Framing
 pad_of sides last = option_map (λ value. Pad sides.left sides.top sides.width sides.height value) (pixel_of last)
 
@@ -60,18 +60,18 @@ abbrev pub behind_gap : List (List ℕ) → Option (ℕ × List (List ℕ))
 behind_gap [] = None
 behind_gap (part ∷ parts) = if is_nil part then first_of_parts end_of parts else None
 
--- the range of frames that a word names, with two dots between: the first, and the first behind them
+-- the range of frames that a word names, with two dots between: the first, and the first after them
 abbrev pub span_of : List ℕ → Option (ℕ × ℕ)
 span_of word = pair_by behind_gap (parts_of 46 word)
 
 -- ---- the edit at the front of words
 
--- a border by its sides and the words behind them
+-- a border by its sides and the words after them
 abbrev pub pad_at : Window → List (List ℕ) → Option Framing
 pad_at sides [] = None
 pad_at sides (last ∷ words) = pad_of sides last
 
--- what becomes of the size, by its word, its four numbers and the words behind them, and how many words there are
+-- what becomes of the size, by its word, its four numbers and the words after them, and how many words there are
 abbrev pub framing_by : List ℕ → Window → List (List ℕ) → Option (Framing × ℕ)
 framing_by word numbers words =
     if bytes_eq word (codes "crop") then Some (Crop numbers, 2)
@@ -129,6 +129,6 @@ named None s = option_map (λ r. record { steps = r.0 ∷ []; framing = None; co
 abbrev pub edit_at : List (List ℕ) → Option Named
 edit_at words = named (framing_at words) (ranged_at words)
 
--- steps with those of an edit behind them, what becomes of the size, and how many words the edit has
+-- steps with those of an edit after them, what becomes of the size, and how many words the edit has
 abbrev pub with_edit : List (Step Paint) → Named → List (Step Paint) × (Option Framing × ℕ)
 with_edit steps e = (steps ++ e.steps, (e.framing, e.count))

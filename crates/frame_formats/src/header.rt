@@ -30,7 +30,7 @@ pub struct Format {
     pub interlaced: bool,
 }
 
-// What stands behind the letter in the first field that begins with it.
+// What follows the letter in the first field that begins with it.
 fn field<'a>(fields: Parts<'a>, letter: u8) -> Option<&'a [u8]>
     requires { 0 < letter }
     ensures { option_map (λ text. text.now) result ≡ tagged letter (parts_left fields.entry) }

@@ -1,5 +1,5 @@
-//! Formats of raw video and of pictures: the line that names a format, the head of a picture, the
-//! planes of a frame, and what an edit of the pixels does to each plane. Nothing here reads or
+//! Formats of raw video and of pictures: the line that names a format, the head of a picture, and
+//! the planes of a frame. And what an edit of the pixels does to each plane. Nothing here reads or
 //! writes.
 #![tactic(auto)]
 

@@ -49,7 +49,7 @@ fn read_paint(piece: &[u8]) -> Option<Paint>
     }
 }
 
-// A change by its word, its window and what stands behind it.
+// A change by its word, its window and what follows it.
 #[tactic(auto, unfolding(crate::specs::Words::change_of))]
 fn read_change(word: &[u8], window: Window, last: &[u8]) -> Option<Change<Paint>>
     ensures { result ≡ change_of word.now window last.now }
@@ -72,7 +72,7 @@ fn read_change(word: &[u8], window: Window, last: &[u8]) -> Option<Change<Paint>
     }
 }
 
-// A border by the four numbers of its sides and what stands behind them.
+// A border by the four numbers of its sides and what follows them.
 #[tactic(auto, unfolding(crate::specs::Words::pad_of))]
 fn read_pad(sides: Window, last: &[u8]) -> Option<Framing>
     ensures { result ≡ pad_of sides last.now }
@@ -106,7 +106,7 @@ fn next_end(parts: &mut Parts<'_>) -> Option<usize>
     read_end(parts.next_part()?)
 }
 
-// The numbers of the first frame and of the first behind the last one, as in `12..80`.
+// The numbers of the first frame and of the first after the last one, as in `12..80`.
 #[tactic(auto, unfolding(crate::specs::Words::pair_by))]
 fn read_span(word: &[u8]) -> Option<(usize, usize)>
     ensures { result ≡ span_of word.now }

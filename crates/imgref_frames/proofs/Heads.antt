@@ -88,7 +88,7 @@ head_long scan (Some bytes) (Some left) h = long_head scan (Some bytes) (Some le
 
 -- ---- no pictures
 
--- what stands behind pictures and begins with no head is none
+-- what follows pictures and begins with no head isn't a picture
 pub no_next : (edit : Edits) (count : ℕ) → 0 < count → (old : Option (List ℕ)) → IfSome (behind_letter old) IsNoPicture → IfSome (behind_letter old) (IsNoNext edit count)
 no_next edit count some None none = tt
 no_next edit count some (Some bytes) none = record { some = λ e. cc; none = inr (inl (some, none)) }

@@ -38,7 +38,7 @@ module _ (heads : List ℕ → Recipe → Type 0) (n : ℕ) (r0 r1 w0 w1 : Optio
   ends_some : (stop : ℕ → List ℕ → Type 0) → IfSome r1 (stop n) → (w2 : Option (List ℕ)) → w2 ≡ w1 → PassedSome heads stop r0 w0 w2
   ends_some stop end w2 same = record { count = n; up_to = ends_at stop end n refl w2 same }
 
-  -- behind a head that was read
+  -- after a head that was read
   module _ (within : n < 18446744073709551615) (head : List ℕ) (r : Recipe) (is : heads head r) (r2 r3 : Option (List ℕ)) (read : Consumes r1 r2 head) where
     cells_passed : (w2 : Option (List ℕ)) → CellsPassed (Appends w1 w2) r n r2 r3 → Passed heads (n + 1) r0 r3 w0 w2
     cells_passed w2 c = one_more heads n (piece head c.cells r) (is, c.sized) r0 r1 r3 w0 w1 w2 p (Consumes-trans r1 r2 r3 head c.cells read c.read) within c.written
@@ -190,7 +190,7 @@ next_letter edit n r0 r1 r2 w0 w1 p read = passed_on (PictureHead edit) n r0 r1 
 
 -- ---- the first byte of pictures
 
--- what is said of memory behind the letter is so from the first byte on
+-- what is said of memory after the letter is so from the first byte on
 pub behind_letter_stops : (r : Result ℕ RunFault) (edit : Edits) (old left new : Option (List ℕ)) → Consumes old left (80 ∷ []) → PicturesStop r edit (behind_letter left) new → Stops r edit old new
 behind_letter_stops (Err (Memory n)) edit None left new read stop = inr (record { pieces = stop.pieces; are = stop.are; count_is = stop.count_is; head = stop.head; picture = stop.picture; is = stop.is; read = tt; other = stop.other })
 behind_letter_stops (Err (Memory n)) edit (Some bytes) None new read stop = absurd read

@@ -74,7 +74,7 @@ pub record Agree (r s : Result ℕ RunFault) (new other : List ℕ) : Type 0 whe
   pub theirs_whole : is_broken_off s ≡ false → BeginsWith other new
   pub one_begins : BeginsWith new other ⊎ BeginsWith other new
 
--- runs over one input, or over two that are alike, agree: nothing of answer or output tells what was hidden, but for where a device or memory broke a run off
+-- runs over one input, or over two that are alike, agree: result and output reveal nothing of what was hidden, except where a device or memory ended a run early
 abbrev pub OneOutput : Type 0
 OneOutput =
     (edit : Edits) (mine theirs old new other : List ℕ) (r s : Result ℕ RunFault) → (mine ≡ theirs) ⊎ Alike edit mine theirs

@@ -29,7 +29,7 @@ abbrev pub picture_in : Result Kept RunFault → Result Picture RunFault
 picture_in (Ok k) = Ok k.picture
 picture_in (Err e) = Err e
 
--- there is no plan for the picture of this number: the edits are none for it, or out of memory
+-- there is no plan for the picture of this number: the edits don't suit it, or out of memory
 abbrev pub HasNoPlan : Type 0 → ℕ → RunFault → Type 0
 HasNoPlan none number Outside = none
 HasNoPlan none number (Memory n) = n ≡ number

@@ -50,7 +50,7 @@ abbrev pub LineIs : Result Found RunFault → List ℕ → Option (List ℕ) →
 LineIs (Ok found) line old new = IsLineFound found line old new
 LineIs (Err e) line old new = e ≡ Input
 
--- there are fewer cells behind a head than it has
+-- there are fewer cells after a head than it has
 pub record IsCut (heads : List ℕ → Recipe → Type 0) (bytes : List ℕ) : Type 0 where
   pub head : List ℕ
   pub cells : List ℕ
@@ -59,16 +59,16 @@ pub record IsCut (heads : List ℕ → Recipe → Type 0) (bytes : List ℕ) : T
   pub short : length cells < recipe.size
   pub read : bytes ≡ head ++ cells
 
--- no frame stands behind so many: there is no line of one, or its cells are cut; or a number counts no more frames
+-- no frame follows so many: there is no line of one, or its cells are cut; or a number counts no more frames
 abbrev pub IsNoFrame : Recipe → ℕ → List ℕ → Type 0
 IsNoFrame video count bytes = (count ≡ 18446744073709551615) ⊎ (IsNoFrameLine bytes ⊎ IsCut (FrameHead video) bytes)
 
--- something stands behind so many pictures, and it is none: there is no head, though one stands at the front, or its cells are cut; or a number counts no more pictures
+-- something follows so many pictures, and it isn't one: there is no head, though one is at the front, or its cells are cut; or a number counts no more pictures
 pub record IsNoNext (edit : Edits) (count : ℕ) (bytes : List ℕ) : Type 0 where
   pub some : bytes ≢ []
   pub none : (count ≡ 18446744073709551615) ⊎ (((0 < count) × IsNoPicture bytes) ⊎ IsCut (PictureHead edit) bytes)
 
--- so many pictures that a number counts one more, and then one that the edits are none for
+-- so many pictures that a number counts one more, and then one that the edits don't suit
 abbrev pub IsNotEditedNext : Edits → ℕ → List ℕ → Type 0
 IsNotEditedNext edit count bytes = (count < 18446744073709551615) × IsPictureNotEdited edit bytes
 
@@ -105,7 +105,7 @@ pub record PassedPart (heads : List ℕ → Recipe → Type 0) (input old new : 
   pub read : Consumes left after (piece_text piece)
   pub written : AppendsBeginning held new (made_text count piece)
 
--- ---- the cells behind a head
+-- ---- the cells after a head
 
 -- fewer cells than a head has
 pub record CellsCut (size : ℕ) (old new : Option (List ℕ)) : Type 0 where
@@ -160,7 +160,7 @@ PassesPictures (Err Header) edit input left old new = Keeps old new × IfSome in
 PassesPictures (Err Outside) edit input left old new = PassedSome (PictureHead edit) (IsNotEditedNext edit) input old new
 PassesPictures (Err (Memory n)) edit input left old new = PassedUpTo (PictureHead edit) AtHead n input old new
 
--- what a run over the picture of this number has, which answers its size and kind
+-- what a run over the picture of this number has, which returns its size and kind
 abbrev pub PassesPicture : Result Picture RunFault → Edits → ℕ → Option (List ℕ) → Option (List ℕ) → Option (List ℕ) → Option (List ℕ) → Type 0
 PassesPicture (Ok picture) edit number input left old new = (p : Piece) × (is : IsPiece (PictureHead edit) p) × (is.0.picture ≡ picture) × Consumes input left (piece_text p) × Appends old new (made_text number p)
 PassesPicture (Err (BadFrame n)) edit number input left old new = (n ≡ number) × IfSome input (IsNoNext edit number) × (new ≡ old)

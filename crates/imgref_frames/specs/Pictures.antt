@@ -33,7 +33,7 @@ pub record BeginsPicture (bytes : List ℕ) : Type 0 where
 abbrev pub IsNoPicture : List ℕ → Type 0
 IsNoPicture bytes = (picture : Picture) (head more : List ℕ) → IsHead head picture → bytes ≡ head ++ more → ⊥
 
--- they begin with the head of a picture that the edits are none for
+-- they begin with the head of a picture that the edits don't suit
 pub record IsPictureNotEdited (edit : Edits) (bytes : List ℕ) : Type 0 where
   pub begins : BeginsPicture bytes
   pub none : picture_recipe edit begins.picture ≡ None
@@ -51,7 +51,7 @@ abbrev pub HeadIs : Result (Option Picture) RunFault → Option (List ℕ) → O
 HeadIs (Ok found) old new = IsHeadFound found old new
 HeadIs (Err e) old new = e ≡ Input
 
--- so many bytes that were read behind a letter took the scan this far, and no beginning of them, but for all, is a head
+-- so many bytes that were read after a letter took the scan this far, and no beginning of them, except all, is a head
 pub record HeadBegun (count : ℕ) (scan : Scan) (old new : Option (List ℕ)) : Type 0 where
   pub bytes : List ℕ
   pub count_is : length bytes ≡ count + 1

@@ -34,7 +34,7 @@ abbrev pub IsStream : Edits → Stream → Type 0
 IsStream edit (video line recipe) = All (λ b. b ≢ 10) line × (length line < 256) × (video_recipe edit line ≡ Some recipe)
 IsStream edit pictures = Unit {0}
 
--- what stands before the first frame, and what is written there
+-- what comes before the first frame, and what is written there
 abbrev pub front : Stream → List ℕ
 front (video line recipe) = line ++ 10 ∷ []
 front pictures = []

@@ -1,4 +1,4 @@
--- The lines that stand before the frames of a video.
+-- The lines before the frames of a video.
 use Rattle.std.specs.Prelude.{◌≡◌, ◌≢◌, ℕ, ◌<◌, List, [], ◌∷◌, ◌++◌, All, length, codes}
 use Rattle.frame_formats.specs.Recipe.{Recipe}
 

@@ -17,7 +17,7 @@ use frame_formats::{Picture, Plan, Scan, heads_end_themselves};
 use std::alloc::{AllocError, Global};
 use std::io::{Read, Write};
 
-// How many bytes a head may have behind its first letter, with one more that shows that it is too
+// How many bytes a head may have after its first letter, with one more that shows that it is too
 // long.
 const LONGEST: usize = 65536;
 
@@ -28,8 +28,8 @@ pub(crate) struct Kept {
     plan: Plan,
 }
 
-// Reads the rest of a head, whose first letter was read; answers `None` where it is none of at most
-// 64 KiB.
+// Reads the rest of a head, whose first letter was read. Returns `None` where it isn't a head of at
+// most 64 KiB.
 fn read_head<R: Read>(reader: &mut Counted<R>) -> Result<Option<Picture>, RunFault>
     requires counts { failures_of reader.old < u64.MAX }
     ensures head { HeadIs result (R.remaining (device_of reader.old))

@@ -21,7 +21,7 @@ use std::io::{Read, Write};
 // How many bytes the line of a video or of a frame may have, its line feed among them.
 const LONGEST: usize = 256;
 
-// Writes the video's line, and then the frames behind it.
+// Writes the video's line, and then the frames after it.
 fn run_video<R: Read, W: Write>(
     request: Request<'_>,
     line: &[u8],
@@ -136,19 +136,19 @@ pub fn run<R: Read, W: Write>(
     ensures stops { Stops result (edits steps.now framing) (R.remaining (device_of reader.old))
         (R.remaining (device_of reader.new)) }
 
-    // Each count grew exactly where the answer is that device's fault.
+    // Each count grew exactly where the result is that device's fault.
     ensures reader_count { failures_of reader.new
         ≡ failures_of reader.old + reader_failures result }
     ensures writer_count { failures_of writer.new
         ≡ failures_of writer.old + writer_failures result }
 
-    // What was answered and written is right for each input that differs only in what a fill or a
+    // What was returned and written is right for each input that differs only in what a fill or a
     // mosaic hides.
     ensures hiding { Hides result (edits steps.now framing) (R.remaining (device_of reader.old))
         (W.contents (device_of writer.old)) (W.contents (device_of writer.new)) }
 
-    // Two such inputs get one answer and one output. Where memory, the reader or the writer fails, one
-    // output begins the other.
+    // Two such inputs get one result and one output. Where memory, the reader or the writer fails,
+    // one output is the beginning of the other.
     ensures one_output { OneOutput }
 {
     recipes_hide();

@@ -1,4 +1,4 @@
--- The head was read, and then the cells behind it.
+-- The head was read, and then the cells after it.
 use Rattle.std.proofs.Common.{Ok, Err, arith, sym, subst, refl}
 use Rattle.devices.specs.Device.{device_of}
 use Rattle.frame_formats.specs.Planned.{recipe_of}
@@ -14,7 +14,7 @@ use Rattle.imgref_frames.proofs.pictures.pass_picture.Goals as goal
 pub returns-in-Ok-None-clause-passes : goal.returns-in-Ok-None-clause-passes
 returns-in-Ok-None-clause-passes g c = (refl, no_next (edits_of c.args.request) c.args.number (omega arith) (g.R.Read.remaining (device_of c.args.reader.now)) (rw c.in-Ok-None.field-0-is at c.in-Ok-None.ensures.head), refl)
 
--- the edits are none for the picture, or there is no memory for its plan
+-- the edits don't suit the picture, or there is no memory for its plan
 pub returns-in-Err-plan_for-clause-passes : goal.returns-in-Err-plan_for-clause-passes
 returns-in-Err-plan_for-clause-passes g c =
     let found = rw c.in-Ok-Some.field-0-is at c.in-Ok-Some.ensures.head in
