@@ -1,6 +1,6 @@
 # make try [SCRIPT=path]   runs the program on a script with nothing proved: half a minute
 # make run [SCRIPT=path]   proves and builds the program, and runs it on a script
-# make check               proves and tests what has changed: what to run while writing
+# make check [CRATE=name]  proves and tests what has changed, of one crate with all below it or of all: what to run while writing
 # make test                runs every test, proves and builds the product, and tries all that was built
 # make gate [BUGS=changed] everything from nothing: also the proofs of the tests, both builds, and the planted bugs
 # make times [TIMES=..]    seconds of proof a function; TIMES: options of tools/times.py, as the names of crates
@@ -19,7 +19,7 @@
 
 SCRIPT ?= examples/first.script
 PREFIX ?= /usr/local
-export SCRIPT BUGS
+export SCRIPT BUGS CRATE
 
 .PHONY: try run check test gate times frames c python install web web-serve docs exports bench
 

@@ -5,7 +5,8 @@
                                     can be tried on one build of it
     gate.py gate [BUGS=changed]     everything from nothing: also the proofs of all tests, both builds, and the planted bugs
                                     (with BUGS=changed only those of functions that differ from the last landed commit)
-    gate.py check                   proofs and tests of what has changed, over cached proofs: no planted bug is tried
+    gate.py check [CRATE=name]      proofs and tests of what has changed, over cached proofs: no planted bug is tried. With CRATE
+                                    only of that crate and of what it depends on; it may also be the folder of a crate elsewhere
 
 Each part ends with 'N passed, M failed'. All that it said is in the folder out/, and is shown where it fails. At the end comes
 a table of the parts, and then a line that adds them up. TERM, HUP and Ctrl-C end all parts.
@@ -176,7 +177,17 @@ def copied():
 
 
 def check(parts, _):
-    """Proves and tests what has changed."""
+    """Proves and tests what has changed, of all crates or of one with what it depends on."""
+    if crate := os.environ.get("CRATE"):
+        at = ROOT / "crates" / crate if crate in crates() else pathlib.Path(crate).resolve()
+        if not (at / "src").is_dir():
+            sys.exit(f"CRATE={crate} is no crate of crates.txt, and no folder of a crate")
+        # (`rt check` proves those below it first, and `rt test` says nothing of a crate without tests)
+        for way in ("check", "test"):
+            parts.append(Part(f"rt {way} {at.name}", ["rt", way], at, counts=False, nice=0))
+            if parts[-1].run().failed:
+                break
+        return
     parts.append(Part("rt all test", ["rt", "all", "test"], proofs=len(crates()), counts=False, nice=0))
     parts[0].run()
 
