@@ -84,7 +84,7 @@ fn read_pad(sides: Window, last: &[u8]) -> Option<Framing>
     })
 }
 
-// The numbers of the first frame and of the first after the last one, as in `12..80`.
+// The numbers of the first frame and of the first behind the last one, as in `12..80`.
 #[tactic(auto, unfolding(crate::specs::Words::pair_by))]
 fn read_span(word: &[u8]) -> Option<(usize, usize)>
     ensures { result ≡ span_of word.now }
