@@ -113,10 +113,11 @@ def without_fit():
 
 
 def all_named(cases):
-    """docs/DIFFERENCES.md names each call of an image that the Rust crate doesn't have by this name."""
-    needed = {it.name for it in calls_of_images()} - ORIGINAL
-    missing = sorted(needed - {*re.findall(r"\w+", (ROOT / "docs/DIFFERENCES.md").read_text())})
-    cases.count(f"docs/DIFFERENCES.md: {len(needed)} calls of images are named", not missing, f"not named: {missing}")
+    """docs/CALLERS.md names each call of an image, and docs/DIFFERENCES.md each that the Rust crate doesn't have by this name."""
+    names = {it.name for it in calls_of_images()}
+    for document, needed in (("docs/CALLERS.md", names), ("docs/DIFFERENCES.md", names - ORIGINAL)):
+        missing = sorted(needed - {*re.findall(r"\w+", (ROOT / document).read_text())})
+        cases.count(f"{document}: {len(needed)} calls of images are named", not missing, f"not named: {missing}")
 
 
 def exceptions(cases):
