@@ -33,10 +33,30 @@ def format_of(line):
     word, *fields = line.split(b" ")
     tagged = {}
     for it in fields:
+        if it[:1] in (b"W", b"H") and it[:1] in tagged:
+            raise Fault("header")
         tagged.setdefault(it[:1], it[1:])
     if word != b"YUV4MPEG2" or b"W" not in tagged or b"H" not in tagged or tagged.get(b"C", b"420") not in SAMPLINGS:
         raise Fault("header")
     return number(tagged[b"W"]), number(tagged[b"H"]), SAMPLINGS[tagged.get(b"C", b"420")]
+
+
+def is_interlaced(line):
+    return next((it for it in line.split(b" ")[1:] if it[:1] == b"I"), b"") in (b"It", b"Ib", b"Im")
+
+
+def covered(edit, size, steps):
+    """A cover as the fill of whole samples that it is in a frame of this size; every other edit as it is."""
+    first, last, word, window, more = edit
+    if word != "cover":
+        return edit
+    sides = []
+    for start, count, whole, step in zip(window[:2], window[2:], size, steps):
+        margin = max(2, step)
+        low = max(0, start - margin) // step * step
+        high = min(whole, -(-(start + count + margin) // step) * step)
+        sides.append((low, high - low) if low < whole else (0, 0))
+    return first, last, "fill", [it[0] for it in sides] + [it[1] for it in sides], more
 
 
 def planes_of(width, height, sampling):
@@ -122,11 +142,17 @@ def edits_of(words):
     """The edits that words are."""
     words, edits = list(words), []
     while words:
-        first, last = (int(it) for it in words.pop(0).split("..")) if ".." in words[0] else (0, 2**64)
+        first, last = (int(it or 2**64 - 1) for it in words.pop(0).split("..")) if ".." in words[0] else (0, 2**64)
         if last <= first:
             raise Fault("words")
         word, window = words.pop(0), [int(it) for it in words.pop(0).split(",")]
-        edits.append((first, last, word, window, [] if word == "crop" else [int(it) for it in words.pop(0).split(",")]))
+        if word == "crop":
+            more = []
+        elif word == "cover":
+            more = [int(words.pop(0))] if words and words[0].isdigit() else [16]
+        else:
+            more = [int(it) for it in words.pop(0).split(",")]
+        edits.append((first, last, word, window, more))
     return edits
 
 
@@ -185,7 +211,7 @@ def pictures(data, edits):
         try:
             if any(edit[2] == "crop" and edit[3][3] == 0 for edit in edits):
                 raise Fault("outside")
-            steps = [step_of(planes, size, edit, COLOUR if colours == 3 else GREY) for edit in edits]
+            steps = [step_of(planes, size, covered(edit, size, (1, 1)), COLOUR if colours == 3 else GREY) for edit in edits]
         except Fault as fault:
             raise Fault(fault.name, out) from None
         at, end = head.end(), head.end() + width * height * colours
@@ -204,8 +230,12 @@ def video(data, edits):
     line, at = data[:end], end + 1
     width, height, sampling = format_of(line)
     planes = planes_of(width, height, sampling)
-    steps = [step_of(planes, (width, height), edit, VIDEO) for edit in edits]
+    x, y = sampling or (1, 1)
+    unit = x, 2 * y if is_interlaced(line) else y
+    steps = [step_of(planes, (width, height), covered(edit, (width, height), unit), VIDEO) for edit in edits]
     resize = size_after((width, height), edits)
+    if resize and resize[1] == 0:
+        raise Fault("outside")
     out = (resized(line, *resize) if resize else line) + b"\n"
     size, frames = sum(wide * high for wide, high, _, _ in planes), 0
     while at < len(data):

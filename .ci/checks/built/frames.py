@@ -22,6 +22,8 @@ EDITS = ("fill 4,2,6,4 126", "mosaic 2,2,10,6 4,2", "mosaic 0,0,12,8 64,64", "mo
 # These end at the right or the lower edge of 13 by 9.
 ODD = ("fill 10,6,3,3 7", "mosaic 2,2,11,7 4,2", "move 8,0,5,3 8,6", "move 8,6,5,3 0,0", "crop 4,2,9,7", "crop 4,2,7,7", "fill 12,8,1,1 3", "fill 13,0,0,1 3")
 FILL = "fill 4,2,6,4 126"
+# Covers inside, at each edge, beyond it, and with no value.
+COVERS = ("cover 5,3,1,1 9", "cover 5,3,1,1", "cover 0,0,2,2 9", "cover 11,7,1,1 9", "cover 11,7,9,9 9", "cover 13,9,1,1 9", "cover 40,40,2,2 9", "cover 7,0,0,0 9", "1.. cover 3,1,4,3 9 fill 0,0,2,2 7", "cover 18446744073709551615,18446744073709551615,18446744073709551615,18446744073709551615 9", "cover 0,0,18446744073709551615,18446744073709551615 9")
 PARAMETERS = (b"", b" Ip", b" ", b" XLABEL=a b  Ib")
 LISTS = (
     "fill 0,0,4,4 9 mosaic 2,2,8,6 4,2",
@@ -33,11 +35,11 @@ LISTS = (
 )
 
 
-def video(sampling, width=12, height=8, frames=3, parameters=(b"",)):
+def video(sampling, width=12, height=8, frames=3, parameters=(b"",), fields=b"Ip"):
     """A small video with pixels by chance, the same in each run. The frames have these parameters in turn."""
     chance = random.Random(f"{sampling} {width} {height}")
     chroma = {"mono": 0, "422": 2 * (-(-width // 2)) * height, "444": 2 * width * height}.get(sampling, 2 * (-(-width // 2)) * (-(-height // 2)))
-    line = f"YUV4MPEG2 W{width} H{height} F25:1 Ip A1:1 C{sampling} XLABEL=a\n".encode()
+    line = f"YUV4MPEG2 W{width} H{height} F25:1 ".encode() + fields + f" A1:1 C{sampling} XLABEL=a\n".encode()
     return line + b"".join(b"FRAME" + parameters[it % len(parameters)] + b"\n" + chance.randbytes(width * height + chroma) for it in range(frames))
 
 
@@ -46,6 +48,8 @@ def by_model(cases, program):
     count_tries(cases, "each edit of each sampling is the model's", program, whole)
     odd = [(edit.split(), video(it, 13, 9)) for it in SAMPLINGS for edit in EDITS + ODD]
     count_tries(cases, "edits at odd edges are the model's", program, odd)
+    covers = [(it.split(), video(sampling, *size, fields=fields)) for sampling in SAMPLINGS for size in ((12, 8), (13, 9)) for fields in (b"Ip", b"It", b"Ib", b"Im", b"I?") for it in COVERS]
+    count_tries(cases, "covers round outwards to whole samples, with a margin", program, covers)
     lists = [(edits.split(), video(it)) for it in SAMPLINGS for edits in LISTS]
     count_tries(cases, "lists of edits, each to its frames, are the model's", program, lists)
     small = video("420", 4, 2, 2)
@@ -64,8 +68,10 @@ def by_model(cases, program):
     count_tries(cases, "each byte of a frame's line changed", program, changed)
     longest = [("fill 0,0,2,2 9".split(), video("420", 4, 2, 2, parameters=(b"", b" " + b"x" * count))) for count in (0, 1, 248, 249, 250, 300)]
     count_tries(cases, "a frame's line has at most 256 bytes", program, longest)
-    outside = [(it.split(), video("420")) for it in ("fill 1,0,2,2 9", "fill 0,0,2,10 9", "mosaic 0,0,4,4 1,2", "mosaic 0,0,4,4 0,2", "move 0,0,4,4 10,0", "crop 0,0,0,4", "crop 0,0,3,4", "pad 1,0,0,0 9", "pad 0,0,4294967284,0 9", "pad 0,0,0,18446744073709551615 9")]
+    outside = [(it.split(), video("420")) for it in ("fill 1,0,2,2 9", "fill 0,0,2,10 9", "mosaic 0,0,4,4 1,2", "mosaic 0,0,4,4 0,2", "move 0,0,4,4 10,0", "crop 0,0,0,4", "crop 0,0,4,0", "crop 0,0,3,4", "pad 1,0,0,0 9", "pad 0,0,4294967284,0 9", "pad 0,0,0,18446744073709551615 9")]
     count_tries(cases, "an edit that doesn't suit the video is refused", program, outside)
+    second = [("fill 0,0,2,2 9".split(), video("420").replace(b" H8 ", b" H8 " + it + b" ", 1)) for it in (b"H8", b"W12", b"H", b"F30:1", b"C444")]
+    count_tries(cases, "a second width or height is refused", program, second)
     shown = hidden = video("mono")
     for frame in range(3):
         hidden = exchanged(hidden, shown.index(b"\n") + 1 + frame * (6 + 12 * 8) + 6, 12, (4, 2, 6, 4))

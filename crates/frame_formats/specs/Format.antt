@@ -1,5 +1,6 @@
 -- The format that a video's line names, and what pixels are in chroma samples.
-use Rattle.std.specs.Prelude.{ℕ, ◌+◌, ◌/◌, ◌%◌, ◌&&◌, ◌==◌, ◌||◌, ◌^◌, Bool, nat_lt, if◌then◌else◌, List, [], ◌∷◌, Option, Some, None, drop, slice_index, codes}
+use Rattle.std.specs.Prelude.{ℕ, ◌+◌, ◌/◌, ◌%◌, ◌&&◌, ◌==◌, ◌||◌, ◌^◌, Bool, false, nat_lt, if◌then◌else◌, List, [], ◌∷◌, Option, Some, None, drop, slice_index, codes}
+use Rattle.std.specs.Option.{is_none}
 use Rattle.std.specs.Str.{bytes_eq}
 use Rattle.image_shape.specs.declared.window.Window.{Window}
 use Rattle.image_planes.specs.declared.change.Change.{Change}
@@ -31,6 +32,17 @@ chroma_of word =
     else if bytes_eq word (codes "444") then Some Whole
     else None
 
+-- the same where no other field begins with it: of two sizes others may take the last
+abbrev pub tagged_once : ℕ → List (List ℕ) → Option (List ℕ)
+tagged_once letter [] = None
+tagged_once letter (field ∷ fields) =
+    if slice_index field 0 == letter then (if is_none (tagged letter fields) then Some (drop 1 field) else None) else tagged_once letter fields
+
+-- whether the rows of two fields follow one another in turn: the top or the bottom one comes first, or it varies
+abbrev pub is_interlaced : Option (List ℕ) → Bool
+is_interlaced None = false
+is_interlaced (Some word) = bytes_eq word (codes "t") || (bytes_eq word (codes "b") || bytes_eq word (codes "m"))
+
 -- with no such field it is two by two pixels
 abbrev pub chroma_named : Option (List ℕ) → Option Chroma
 chroma_named None = Some Small
@@ -39,12 +51,12 @@ chroma_named (Some word) = chroma_of word
 -- the fields after the first
 unfoldable pub format_in : List (List ℕ) → Option Format
 format_in fields = do
-  wide ← tagged 87 fields
+  wide ← tagged_once 87 fields
   width ← number_of wide
-  high ← tagged 72 fields
+  high ← tagged_once 72 fields
   height ← number_of high
   chroma ← chroma_named (tagged 67 fields)
-  Some (record { width = width; height = height; chroma = chroma })
+  Some (record { width = width; height = height; chroma = chroma; interlaced = is_interlaced (tagged 73 fields) })
 
 abbrev pub format_of_fields : List (List ℕ) → Option Format
 format_of_fields [] = None

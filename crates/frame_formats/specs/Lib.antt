@@ -1,5 +1,6 @@
 pub mod Steps
 pub mod Format
+pub mod Covers
 pub mod Layers
 pub mod Line
 pub mod Picture

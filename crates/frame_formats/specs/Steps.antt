@@ -8,7 +8,7 @@ use Rattle.text_model.specs.Reading.{◌>>=◌}
 use Rattle.frame_formats.specs.declared.steps.Channel.{Channel}
 use Rattle.frame_formats.specs.declared.steps.Channel.TheVariants.{Only, Red, Green, Blue}
 use Rattle.frame_formats.specs.declared.steps.Paint.{Paint}
-use Rattle.frame_formats.specs.declared.steps.Paint.TheVariants.{Grey, Colour}
+use Rattle.frame_formats.specs.declared.steps.Paint.TheVariants.{Grey, Colour, Around}
 
 -- what each item becomes, where each becomes something
 unfoldable pub all_some : {A B : Type 0} → (A → Option B) → List A → Option (List B)
@@ -28,6 +28,10 @@ value_in Only (Grey value) = Some value
 value_in Red (Grey value) = Some value
 value_in Green (Grey value) = Some value
 value_in Blue (Grey value) = Some value
+value_in Only (Around value) = Some value
+value_in Red (Around value) = Some value
+value_in Green (Around value) = Some value
+value_in Blue (Around value) = Some value
 value_in Only (Colour red green blue) = None
 value_in Red (Colour red green blue) = Some red
 value_in Green (Colour red green blue) = Some green

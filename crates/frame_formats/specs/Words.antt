@@ -1,17 +1,17 @@
 -- The edit that words name.
-use Rattle.std.specs.Prelude.{ℕ, List, [], ◌∷◌, ◌++◌, Option, Some, None, if◌then◌else◌, codes}
+use Rattle.std.specs.Prelude.{ℕ, ◌+◌, List, [], ◌∷◌, ◌++◌, Option, Some, None, if◌then◌else◌, codes}
 use Rattle.std.specs.Option.{option_map}
 use Rattle.std.specs.Str.{bytes_eq}
 use Rattle.image_shape.specs.declared.window.Window.{Window}
 use Rattle.image_planes.specs.declared.change.Step.{Step}
 use Rattle.frame_formats.specs.declared.steps.Paint.{Paint}
-use Rattle.frame_formats.specs.declared.steps.Paint.TheVariants.{Grey, Colour}
+use Rattle.frame_formats.specs.declared.steps.Paint.TheVariants.{Grey, Colour, Around}
 use Rattle.image_planes.specs.declared.change.Change.{Change}
 use Rattle.image_planes.specs.declared.change.Change.TheVariants.{Fill, Mosaic, Move}
 use Rattle.frame_formats.specs.declared.framing.Framing.{Framing}
 use Rattle.frame_formats.specs.declared.framing.Framing.TheVariants.{Crop, Pad}
 use Rattle.text_model.specs.Parts.{parts_of}
-use Rattle.text_model.specs.Reading.{◌>>=◌, number_at, pixel_at, pixel_of, window_of, is_nil}
+use Rattle.text_model.specs.Reading.{◌>>=◌, number_of, first_of_parts, number_at, pixel_at, pixel_of, window_of, is_nil}
 
 -- two numbers, the second as this reads it, and no part more
 unfoldable pub pair_by : (List (List ℕ) → Option (ℕ × List (List ℕ))) → List (List ℕ) → Option (ℕ × ℕ)
@@ -51,10 +51,14 @@ change_of word window last =
 unfoldable pub pad_of : Window → List ℕ → Option Framing
 pad_of sides last = option_map (λ value. Pad sides.left sides.top sides.width sides.height value) (pixel_of last)
 
--- the number behind an empty part
+-- the end of a range, which may be left out: then it is greater than the number of each frame
+abbrev pub end_of : List ℕ → Option ℕ
+end_of part = if is_nil part then Some 18446744073709551615 else number_of part
+
+-- the end after an empty part
 abbrev pub behind_gap : List (List ℕ) → Option (ℕ × List (List ℕ))
 behind_gap [] = None
-behind_gap (part ∷ parts) = if is_nil part then number_at parts else None
+behind_gap (part ∷ parts) = if is_nil part then first_of_parts end_of parts else None
 
 -- the range of frames that a word names, with two dots between: the first, and the first after them
 abbrev pub span_of : List ℕ → Option (ℕ × ℕ)
@@ -79,17 +83,33 @@ framing_at [] = None
 framing_at (word ∷ []) = None
 framing_at (word ∷ (numbers ∷ words)) = window_of numbers >>= λ window. framing_by word window words
 
--- a change of the frames of a range, by its word, its window and what stands behind it
-unfoldable pub step_at : ℕ → ℕ → List (List ℕ) → Option (Step Paint)
+-- a cover of a window, whose value may be left out: then it is 16; and how many words there are
+abbrev pub cover_by : Window → Option ℕ → Change Paint × ℕ
+cover_by window (Some value) = (Fill window (Around value), 3)
+cover_by window None = (Fill window (Around 16), 2)
+
+abbrev pub cover_at : Window → List (List ℕ) → Change Paint × ℕ
+cover_at window [] = cover_by window None
+cover_at window (last ∷ words) = cover_by window (pixel_of last)
+
+-- another change, by its word, its window and what stands behind it
+abbrev pub other_at : List ℕ → Window → List (List ℕ) → Option (Change Paint × ℕ)
+other_at word window [] = None
+other_at word window (last ∷ words) = option_map (λ change. (change, 3)) (change_of word window last)
+
+abbrev pub change_at : List ℕ → Window → List (List ℕ) → Option (Change Paint × ℕ)
+change_at word window words = if bytes_eq word (codes "cover") then Some (cover_at window words) else other_at word window words
+
+-- a change of the frames of a range at the front of words, and how many words there are
+unfoldable pub step_at : ℕ → ℕ → List (List ℕ) → Option (Step Paint × ℕ)
 step_at first end [] = None
 step_at first end (word ∷ []) = None
-step_at first end (word ∷ (numbers ∷ [])) = None
-step_at first end (word ∷ (numbers ∷ (last ∷ words))) = window_of numbers >>= λ window. option_map (λ change. record { first = first; end = end; change = change }) (change_of word window last)
+step_at first end (word ∷ (numbers ∷ words)) = window_of numbers >>= λ window. option_map (λ c. (record { first = first; end = end; change = c.0 }, c.1)) (change_at word window words)
 
--- the same with the range before it, and how many words there are: with no range it is a change of all frames
+-- the same with the range before it: with no range it is a change of all frames
 abbrev pub ranged_by : Option (ℕ × ℕ) → List ℕ → List (List ℕ) → Option (Step Paint × ℕ)
-ranged_by (Some span) front words = option_map (λ step. (step, 4)) (step_at span.0 span.1 words)
-ranged_by None front words = option_map (λ step. (step, 3)) (step_at 0 18446744073709551615 (front ∷ words))
+ranged_by (Some span) front words = option_map (λ s. (s.0, s.1 + 1)) (step_at span.0 span.1 words)
+ranged_by None front words = step_at 0 18446744073709551615 (front ∷ words)
 
 unfoldable pub ranged_at : List (List ℕ) → Option (Step Paint × ℕ)
 ranged_at [] = None

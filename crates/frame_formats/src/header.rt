@@ -2,7 +2,7 @@
 
 ghost use Rattle.std.specs.Prelude.{◌≡◌, ◌<◌, IfSome};
 ghost use Rattle.std.specs.Option.{option_map};
-ghost use Rattle.frame_formats.specs.Format.{tagged, chroma_of, format_of};
+ghost use Rattle.frame_formats.specs.Format.{tagged, tagged_once, is_interlaced, chroma_of, format_of};
 ghost use Rattle.texts.specs.Parts.{parts_left};
 
 use texts::{Field, Parts};
@@ -26,6 +26,8 @@ pub struct Format {
     pub width: usize,
     pub height: usize,
     pub chroma: Chroma,
+    /// Whether the rows of two fields follow one another in turn.
+    pub interlaced: bool,
 }
 
 // What follows the letter in the first field that begins with it.
@@ -42,6 +44,36 @@ fn field<'a>(fields: Parts<'a>, letter: u8) -> Option<&'a [u8]>
         }
     }
     None
+}
+
+// The same where no other field begins with the letter.
+fn single_field<'a>(fields: Parts<'a>, letter: u8) -> Option<&'a [u8]>
+    requires { 0 < letter }
+    ensures { option_map (λ text. text.now) result ≡ tagged_once letter (parts_left fields.entry) }
+{
+    let mut rest = fields;
+    while let Some(part) = rest.next_part() {
+        if let Some((first, text)) = part.split_first() {
+            if *first == letter {
+                return match field(rest, letter) {
+                    Some(_) => None,
+                    None => Some(text),
+                };
+            }
+        }
+    }
+    None
+}
+
+fn read_interlaced(word: Option<&[u8]>) -> bool
+    ensures { result ≡ is_interlaced (option_map (λ text. text.now) word.entry) }
+{
+    match word {
+        None => false,
+        Some(word) => {
+            word == b"t".as_slice() || word == b"b".as_slice() || word == b"m".as_slice()
+        }
+    }
 }
 
 fn read_chroma(word: &[u8]) -> Option<Chroma>
@@ -73,8 +105,8 @@ pub fn read_format(line: &[u8]) -> Option<Format>
     if fields.next_part()? != b"YUV4MPEG2".as_slice() {
         return None;
     }
-    let width = usize::read(field(fields, b'W')?)?;
-    let height = usize::read(field(fields, b'H')?)?;
+    let width = usize::read(single_field(fields, b'W')?)?;
+    let height = usize::read(single_field(fields, b'H')?)?;
     let chroma = match field(fields, b'C') {
         Some(word) => read_chroma(word)?,
         None => Chroma::Small,
@@ -83,5 +115,6 @@ pub fn read_format(line: &[u8]) -> Option<Format>
         width,
         height,
         chroma,
+        interlaced: read_interlaced(field(fields, b'I')),
     })
 }

@@ -3,6 +3,7 @@
 //! writes.
 #![tactic(auto)]
 
+mod covers;
 mod framing;
 mod header;
 mod hiding;
@@ -14,6 +15,7 @@ mod samples;
 mod steps;
 mod words;
 
+pub use covers::Unit;
 pub use framing::Framing;
 pub use header::{Chroma, Format, read_format};
 pub use hiding::recipes_hide;

@@ -8,6 +8,7 @@ ghost use Rattle.frame_formats.specs.Plan.{Tells};
 ghost use Rattle.frame_formats.specs.Edits.{edits};
 ghost use Rattle.frame_formats.specs.Recipe.{recipe, video_recipe, picture_recipe, new_len, resized_len, GoByThree, resizings_of};
 
+use crate::covers::{Unit, settle_all, unit_of_video};
 use crate::framing::{Framing, resize_of};
 use crate::header::Format;
 use crate::layers::{picture_layers, planes_of, targets_of, video_layers};
@@ -93,7 +94,7 @@ impl Plan {
     ///
     /// # Errors
     ///
-    /// `Outside` where the edits aren't valid for such a video.
+    /// `Outside` where the edits aren't valid for such a video, or no row would be left.
     #[tactic(auto, using(crate::proofs::Sizes::same_sizes))]
     pub fn for_video(
         alloc: Global,
@@ -109,7 +110,11 @@ impl Plan {
             (Tells (video_recipe (edits steps.now framing) line.now ≡ None)) }
     {
         let layers = video_layers(format.chroma);
-        let planes = planes_of(alloc, layers, format.width, format.height, steps)?;
+        let unit = unit_of_video(format);
+        let Ok(settled) = settle_all(alloc, unit, format.width, format.height, steps) else {
+            return Err(PlanFault::Memory);
+        };
+        let planes = planes_of(alloc, layers, format.width, format.height, &settled)?;
         let Some(framing) = framing else {
             let Ok(head) = ended_line(alloc, line) else {
                 return Err(PlanFault::Memory);
@@ -119,6 +124,9 @@ impl Plan {
         let Some(resize) = resize_of(format.width, format.height, framing) else {
             return Err(PlanFault::Outside);
         };
+        if resize.height() < 1 {
+            return Err(PlanFault::Outside);
+        }
         let targets = targets_of(alloc, layers, format.width, format.height, resize)?;
         let Ok(head) = resized_line(alloc, line, resize.width(), resize.height()) else {
             return Err(PlanFault::Memory);
@@ -144,7 +152,11 @@ impl Plan {
             (Tells (picture_recipe (edits steps.now framing) picture ≡ None)) }
     {
         let layers = picture_layers(picture.colour);
-        let planes = planes_of(alloc, layers, picture.width, picture.height, steps)?;
+        let unit = Unit { across: 1, down: 1 };
+        let Ok(settled) = settle_all(alloc, unit, picture.width, picture.height, steps) else {
+            return Err(PlanFault::Memory);
+        };
+        let planes = planes_of(alloc, layers, picture.width, picture.height, &settled)?;
         let Some(framing) = framing else {
             let Ok(head) = picture_head(alloc, picture) else {
                 return Err(PlanFault::Memory);

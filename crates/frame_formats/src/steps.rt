@@ -12,6 +12,8 @@ pub enum Paint {
     Grey(u8),
     /// A colour, for pixels of three bytes.
     Colour { red: u8, green: u8, blue: u8 },
+    /// This brightness and no colour, also of the samples around the window, with a margin.
+    Around(u8),
 }
 
 /// The part of the pixels that a plane has.
@@ -29,7 +31,7 @@ fn value_in(channel: Channel, paint: Paint) -> Option<u8>
     ensures { result ≡ value_in channel paint }
 {
     match (paint, channel) {
-        (Paint::Grey(value), _) => Some(value),
+        (Paint::Grey(value), _) | (Paint::Around(value), _) => Some(value),
         (Paint::Colour { .. }, Channel::Only) => None,
         (Paint::Colour { red, .. }, Channel::Red) => Some(red),
         (Paint::Colour { green, .. }, Channel::Green) => Some(green),

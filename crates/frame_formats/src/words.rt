@@ -1,10 +1,12 @@
 //! The edits that words name.
 
-ghost use Rattle.std.specs.Prelude.{◌≡◌, ◌<◌, ◌≤◌, ◌++◌, map, take as list_take, [], Some, None, IfOk, IfErr, OnOk, IfSome, length};
+ghost use Rattle.std.specs.Prelude.{◌≡◌, ◌+◌, ◌<◌, ◌≤◌, ◌++◌, map, take as list_take, [], Some, None, IfOk, IfErr, OnOk, IfSome, length};
 ghost use Rattle.std.specs.Option.{option_map};
 ghost use Rattle.text_model.specs.Parts.{parts_of};
+ghost use Rattle.text_model.specs.Reading.{Finds, first_of_parts};
+ghost use Rattle.texts.specs.Parts.{parts_left};
 ghost use Rattle.frame_formats.specs.Lists.{Adds, AddsNone, with_one, with_line, with_lines, plain};
-ghost use Rattle.frame_formats.specs.Words.{pair_of, colour_in, paint_of, change_of, pad_of, span_of, framing_at, step_at, ranged_at, edit_at, with_edit};
+ghost use Rattle.frame_formats.specs.Words.{pair_of, colour_in, paint_of, change_of, pad_of, end_of, span_of, framing_at, cover_at, change_at, step_at, ranged_at, edit_at, with_edit};
 
 use crate::framing::Framing;
 use crate::steps::Paint;
@@ -84,6 +86,26 @@ fn read_pad(sides: Window, last: &[u8]) -> Option<Framing>
     })
 }
 
+// The end of a range. Without one it is greater than the number of each frame.
+fn read_end(text: &[u8]) -> Option<usize>
+    ensures { result ≡ end_of text.now }
+{
+    if text.is_empty() {
+        Some(usize::MAX)
+    } else {
+        usize::read(text)
+    }
+}
+
+// The end that the next part is.
+#[tactic(auto, unfolding(text_model::specs::Reading::first_of_parts))]
+fn next_end(parts: &mut Parts<'_>) -> Option<usize>
+    ensures { Finds (λ x. (x, parts_left parts.new)) result
+        (first_of_parts end_of (parts_left parts.old)) }
+{
+    read_end(parts.next_part()?)
+}
+
 // The numbers of the first frame and of the first behind the last one, as in `12..80`.
 #[tactic(auto, unfolding(crate::specs::Words::pair_by))]
 fn read_span(word: &[u8]) -> Option<(usize, usize)>
@@ -95,7 +117,7 @@ fn read_span(word: &[u8]) -> Option<(usize, usize)>
     if !gap.is_empty() {
         return None;
     }
-    let end = next(&mut parts)?;
+    let end = next_end(&mut parts)?;
     parts.is_done().then_some((first, end))
 }
 
@@ -119,18 +141,53 @@ fn read_framing(words: &[&[u8]]) -> Option<(Framing, usize)>
     }
 }
 
-// A change of the frames of a range, by the words at the front.
+// A cover of a window by the words behind it, and how many words it has with its own two.
+fn read_cover(window: Window, words: &[&[u8]]) -> (Change<Paint>, usize)
+    ensures cover { result ≡ cover_at window (map (λ w. w.now) words.now) }
+    ensures some { 0 < result.1 }
+    ensures there { result.1 ≤ length words.now + 2 }
+{
+    let value = match words {
+        [] => None,
+        [last, ..] => u8::read(last),
+    };
+    match value {
+        Some(value) => {
+            let value = Paint::Around(value);
+            (Change::Fill { window, value }, 3)
+        }
+        None => {
+            let value = Paint::Around(16);
+            (Change::Fill { window, value }, 2)
+        }
+    }
+}
+
+// A change by its word, its window and the words behind them, and how many words it has.
+fn read_changed(word: &[u8], window: Window, words: &[&[u8]]) -> Option<(Change<Paint>, usize)>
+    ensures change { result ≡ change_at word.now window (map (λ w. w.now) words.now) }
+    ensures some { IfSome result (λ c. 0 < c.1) }
+    ensures there { IfSome result (λ c. c.1 ≤ length words.now + 2) }
+{
+    if word == b"cover".as_slice() {
+        return Some(read_cover(window, words));
+    }
+    let (last, _) = words.split_first()?;
+    Some((read_change(word, window, last)?, 3))
+}
+
+// A change of the frames of a range, by the words at the front, and how many words it has.
 #[tactic(auto, unfolding(crate::specs::Words::step_at))]
-fn read_step(first: u64, end: u64, words: &[&[u8]]) -> Option<Step<Paint>>
+fn read_step(first: u64, end: u64, words: &[&[u8]]) -> Option<(Step<Paint>, usize)>
     ensures step { result ≡ step_at first end (map (λ w. w.now) words.now) }
-    ensures there { IfSome result (λ _. 3 ≤ length words.now) }
+    ensures some { IfSome result (λ s. 0 < s.1) }
+    ensures there { IfSome result (λ s. s.1 ≤ length words.now) }
 {
     let (word, others) = words.split_first()?;
     let (numbers, others) = others.split_first()?;
-    let (last, _) = others.split_first()?;
     let window = Window::read(numbers)?;
-    let change = read_change(word, window, last)?;
-    Some(Step { first, end, change })
+    let (change, count) = read_changed(word, window, others)?;
+    Some((Step { first, end, change }, count))
 }
 
 // The same with a range at the front or none, and how many words there are.
@@ -142,8 +199,11 @@ fn read_ranged(words: &[&[u8]]) -> Option<(Step<Paint>, usize)>
 {
     let (front, others) = words.split_first()?;
     match read_span(front) {
-        Some((first, end)) => Some((read_step(first as u64, end as u64, others)?, 4)),
-        None => Some((read_step(0, u64::MAX, words)?, 3)),
+        Some((first, end)) => {
+            let (step, count) = read_step(first as u64, end as u64, others)?;
+            Some((step, count + 1))
+        }
+        None => read_step(0, u64::MAX, words),
     }
 }
 
@@ -188,9 +248,9 @@ impl Edits {
     }
 
     /// Adds the edit at the front of the words, and returns the number of its words: `crop
-    /// L,T,W,H`, `pad L,T,R,B V`, `fill L,T,W,H V`, `fill L,T,W,H R,G,B`, `mosaic L,T,W,H TW,TH` or
-    /// `move L,T,W,H X,Y`, and before a `fill`, a `mosaic` or a `move` possibly a range of frames
-    /// such as `12..80`.
+    /// L,T,W,H`, `pad L,T,R,B V`, `cover L,T,W,H`, `cover L,T,W,H V`, `fill L,T,W,H V`, `fill
+    /// L,T,W,H R,G,B`, `mosaic L,T,W,H TW,TH` or `move L,T,W,H X,Y`. Before one that is neither a
+    /// crop nor a pad there may be a range of frames such as `12..80`, or `12..` up to the end.
     ///
     /// # Errors
     ///

@@ -28,13 +28,14 @@ const USAGE: &str = "usage: imgref_frames [OPTION..] EDIT.. < video > video
        imgref_frames [OPTION..] --edits FILE < video > video
 Standard input is a video (YUV4MPEG2), or pictures (PGM, PPM), one after the other.
 EDIT is one of these. The edits are applied to each frame or picture, in their order:
-       [A..B] fill L,T,W,H V          brightness V, no colour
+       [A..B] cover L,T,W,H [V]       brightness V or 16, no colour, with a margin
+       [A..B] fill L,T,W,H V          exactly this rectangle: brightness V, no colour
        [A..B] fill L,T,W,H R,G,B      a colour, only for PPM
        [A..B] mosaic L,T,W,H TW,TH    tiles of TW by TH pixels
        [A..B] move L,T,W,H X,Y        to column X, row Y
        crop L,T,W,H                   only as the last edit
        pad L,T,R,B V                  likewise: a border of brightness V, no colour
-A..B: only the frames A to B-1, counted from 0. FILE has one edit on each line.
+A..B: only the frames A to B-1, counted from 0; A..: from A on. FILE has one edit on each line.
 OPTION:
        --strict          a range that the input doesn't reach is a fault
        --limit BYTES     how many bytes all buffers may have: 1073741824 without it

@@ -104,6 +104,7 @@ fn check_window(frame: Frame, window: Window) -> Option<Wrong> {
 fn check_change(frame: Frame, change: Change<Paint>) -> Option<Wrong> {
     match change {
         Change::Fill { window, value } => match value {
+            Paint::Around(_) => None,
             Paint::Colour { .. } if !frame.has_colours => Some(Wrong::Colour),
             _ => check_window(frame, window),
         },
@@ -254,7 +255,7 @@ pub(crate) fn say_no_words(
             };
             let _ = match found {
                 Some(at) => eprintln!(rt;
-                    "at {name} {at} there is no edit: fill, mosaic, move, crop or pad, and none after a crop or a pad"
+                    "at {name} {at} there is no edit: cover, fill, mosaic, move, crop or pad, and none after a crop or a pad"
                 ),
                 None => eprintln!(rt; "these are no edits"),
             };

@@ -1,0 +1,72 @@
+-- What a cover is in a frame: a fill of whole samples, with a margin.
+use Rattle.std.specs.Prelude.{ℕ, ◌+◌, ◌-◌, ◌*◌, ◌/◌, ◌%◌, ◌==◌, Bool, true, false, nat_le, if◌then◌else◌, min, max}
+use Rattle.image_shape.specs.declared.window.Window.{Window}
+use Rattle.image_planes.specs.declared.change.Change.{Change}
+use Rattle.image_planes.specs.declared.change.Change.TheVariants.{Fill, Mosaic, Move}
+use Rattle.image_planes.specs.declared.change.Step.{Step}
+use Rattle.frame_formats.specs.declared.covers.Unit.{Unit as Samples}
+use Rattle.frame_formats.specs.declared.header.Chroma.{Chroma}
+use Rattle.frame_formats.specs.declared.header.Chroma.TheVariants.{Mono, Small, Wide, Whole}
+use Rattle.frame_formats.specs.declared.header.Format.{Format}
+use Rattle.frame_formats.specs.declared.steps.Paint.{Paint}
+use Rattle.frame_formats.specs.declared.steps.Paint.TheVariants.{Grey, Colour, Around}
+
+abbrev pub unit : ℕ → ℕ → Samples
+unit across down = record { across = across; down = down }
+
+-- how many columns and rows of pixels share a chroma sample
+abbrev pub chroma_unit : Chroma → Samples
+chroma_unit Mono = unit 1 1
+chroma_unit Small = unit 2 2
+chroma_unit Wide = unit 2 1
+chroma_unit Whole = unit 1 1
+
+-- the same with the samples of both fields
+abbrev pub video_unit : Format → Samples
+video_unit f = unit (chroma_unit f.chroma).across (if f.interlaced then 2 * (chroma_unit f.chroma).down else (chroma_unit f.chroma).down)
+
+-- a pixel of a picture has its colours itself
+abbrev pub one_pixel : Samples
+one_pixel = unit 1 1
+
+-- how many pixels more are covered on each side: two, and at least a sample
+abbrev pub margin : ℕ → ℕ
+margin step = max 2 step
+
+-- the greatest multiple of the step that isn't above a number, and the least that isn't below it
+abbrev pub down_to : ℕ → ℕ → ℕ
+down_to step at = at - at % step
+
+abbrev pub up_to : ℕ → ℕ → ℕ
+up_to step at = if at % step == 0 then at else at + (step - at % step)
+
+-- where a cover begins and how many pixels it has, of so many in this direction: outwards to whole samples, within the frame
+abbrev pub cover_start : ℕ → ℕ → ℕ → ℕ
+cover_start step pixels start = if nat_le pixels (start - margin step) then 0 else down_to step (start - margin step)
+
+abbrev pub cover_count : ℕ → ℕ → ℕ → ℕ → ℕ
+cover_count step pixels start count = if nat_le pixels (start - margin step) then 0 else min pixels (up_to step (start + count + margin step)) - cover_start step pixels start
+
+-- the window that a cover fills
+abbrev pub cover_window : Samples → ℕ → ℕ → Window → Window
+cover_window s width height w = record {
+  left = cover_start s.across width w.left;
+  top = cover_start s.down height w.top;
+  width = cover_count s.across width w.left w.width;
+  height = cover_count s.down height w.top w.height;
+}
+
+-- a fill that covers, as the fill that it becomes
+abbrev pub fill_in : Samples → ℕ → ℕ → Window → Paint → Change Paint
+fill_in s width height w (Grey value) = Fill w (Grey value)
+fill_in s width height w (Colour red green blue) = Fill w (Colour red green blue)
+fill_in s width height w (Around value) = Fill (cover_window s width height w) (Grey value)
+
+abbrev pub settled : Samples → ℕ → ℕ → Change Paint → Change Paint
+settled s width height (Fill w paint) = fill_in s width height w paint
+settled s width height (Mosaic w tile_width tile_height) = Mosaic w tile_width tile_height
+settled s width height (Move w left top) = Move w left top
+
+-- a step of a frame of this size
+abbrev pub step_in : Samples → ℕ → ℕ → Step Paint → Step Paint
+step_in s width height t = record { first = t.first; end = t.end; change = settled s width height t.change }

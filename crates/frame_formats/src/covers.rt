@@ -1,0 +1,126 @@
+//! What a cover is in a frame: a fill of whole samples, with a margin.
+
+ghost use Rattle.std.specs.Prelude.{◌≡◌, ◌<◌, IfOk, map};
+ghost use Rattle.frame_formats.specs.Covers.{chroma_unit, video_unit, margin, cover_start, cover_count, cover_window, fill_in, settled, step_in};
+
+use crate::header::{Chroma, Format};
+use crate::steps::Paint;
+use image_planes::{Change, Step, Window};
+use std::alloc::{AllocError, Global};
+
+/// How many columns and rows of pixels share a sample, of both fields where there are two.
+#[derive(Clone, Copy, PartialEq, Eq)]
+pub struct Unit {
+    pub across: usize,
+    pub down: usize,
+}
+
+fn unit_of_chroma(chroma: Chroma) -> Unit
+    ensures unit { result ≡ chroma_unit chroma }
+    ensures across { 0 < result.across }
+    ensures down { 0 < result.down }
+    ensures small { result.down < 3 }
+{
+    let (across, down) = match chroma {
+        Chroma::Mono | Chroma::Whole => (1, 1),
+        Chroma::Small => (2, 2),
+        Chroma::Wide => (2, 1),
+    };
+    Unit { across, down }
+}
+
+/// The unit of a video, in whose whole numbers a cover goes.
+pub(crate) fn unit_of_video(format: Format) -> Unit
+    ensures unit { result ≡ video_unit format }
+    ensures across { 0 < result.across }
+    ensures down { 0 < result.down }
+{
+    let unit = unit_of_chroma(format.chroma);
+    if format.interlaced {
+        Unit {
+            across: unit.across,
+            down: 2 * unit.down,
+        }
+    } else {
+        unit
+    }
+}
+
+// Where a cover begins in one direction, and how many pixels it has, of so many.
+fn cover_of(step: usize, pixels: usize, start: usize, count: usize) -> (usize, usize)
+    requires { 0 < step }
+    ensures start { result.0 ≡ cover_start step pixels start }
+    ensures count { result.1 ≡ cover_count step pixels start count }
+{
+    let more = step.max(2);
+    let from = start.saturating_sub(more);
+    if pixels <= from {
+        return (0, 0);
+    }
+    let first = from - from % step;
+    let end = start.saturating_add(count).saturating_add(more);
+    if pixels <= end {
+        return (first, pixels - first);
+    }
+    let over = end % step;
+    if over == 0 {
+        return (first, end - first);
+    }
+    let gap = step - over;
+    if pixels - end <= gap {
+        (first, pixels - first)
+    } else {
+        (first, end + gap - first)
+    }
+}
+
+fn cover_window(unit: Unit, width: usize, height: usize, window: Window) -> Window
+    requires across { 0 < unit.across }
+    requires down { 0 < unit.down }
+    ensures { result ≡ cover_window unit width height window }
+{
+    let (left, wide) = cover_of(unit.across, width, window.left, window.width);
+    let (top, high) = cover_of(unit.down, height, window.top, window.height);
+    Window::new(left, top, wide, high)
+}
+
+fn settle(unit: Unit, width: usize, height: usize, change: Change<Paint>) -> Change<Paint>
+    requires across { 0 < unit.across }
+    requires down { 0 < unit.down }
+    ensures { result ≡ settled unit width height change }
+{
+    match change {
+        Change::Fill {
+            window,
+            value: Paint::Around(value),
+        } => Change::Fill {
+            window: cover_window(unit, width, height, window),
+            value: Paint::Grey(value),
+        },
+        _ => change,
+    }
+}
+
+/// The steps of a frame of this size, each cover as the fill that it is there.
+pub(crate) fn settle_all(
+    alloc: Global,
+    unit: Unit,
+    width: usize,
+    height: usize,
+    steps: &[Step<Paint>],
+) -> Result<Vec<Step<Paint>>, AllocError>
+    requires across { 0 < unit.across }
+    requires down { 0 < unit.down }
+    ensures { IfOk result (λ all. all.items ≡ map (step_in unit width height) steps.now) }
+{
+    let mut all = Vec::new(alloc);
+    for step in steps {
+        let step = Step {
+            first: step.first,
+            end: step.end,
+            change: settle(unit, width, height, step.change),
+        };
+        all.push(step)?;
+    }
+    Ok(all)
+}
