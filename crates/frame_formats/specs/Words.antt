@@ -92,7 +92,7 @@ abbrev pub cover_at : Window → List (List ℕ) → Change Paint × ℕ
 cover_at window [] = cover_by window None
 cover_at window (last ∷ words) = cover_by window (pixel_of last)
 
--- another change, by its word, its window and what stands behind it
+-- another change, by its word, its window and what follows it
 abbrev pub other_at : List ℕ → Window → List (List ℕ) → Option (Change Paint × ℕ)
 other_at word window [] = None
 other_at word window (last ∷ words) = option_map (λ change. (change, 3)) (change_of word window last)

@@ -141,7 +141,7 @@ fn read_framing(words: &[&[u8]]) -> Option<(Framing, usize)>
     }
 }
 
-// A cover of a window by the words behind it, and how many words it has with its own two.
+// A cover of a window by the words after it, and how many words it has with its own two.
 fn read_cover(window: Window, words: &[&[u8]]) -> (Change<Paint>, usize)
     ensures cover { result ≡ cover_at window (map (λ w. w.now) words.now) }
     ensures some { 0 < result.1 }
@@ -163,7 +163,7 @@ fn read_cover(window: Window, words: &[&[u8]]) -> (Change<Paint>, usize)
     }
 }
 
-// A change by its word, its window and the words behind them, and how many words it has.
+// A change by its word, its window and the words after them, and how many words it has.
 fn read_changed(word: &[u8], window: Window, words: &[&[u8]]) -> Option<(Change<Paint>, usize)>
     ensures change { result ≡ change_at word.now window (map (λ w. w.now) words.now) }
     ensures some { IfSome result (λ c. 0 < c.1) }
@@ -249,8 +249,8 @@ impl Edits {
 
     /// Adds the edit at the front of the words, and returns the number of its words: `crop
     /// L,T,W,H`, `pad L,T,R,B V`, `cover L,T,W,H`, `cover L,T,W,H V`, `fill L,T,W,H V`, `fill
-    /// L,T,W,H R,G,B`, `mosaic L,T,W,H TW,TH` or `move L,T,W,H X,Y`. Before one that is neither a
-    /// crop nor a pad there may be a range of frames such as `12..80`, or `12..` up to the end.
+    /// L,T,W,H R,G,B`, `mosaic L,T,W,H TW,TH` or `move L,T,W,H X,Y`. Before every edit except
+    /// a crop or a pad there may be a range of frames: `12..80`, or `12..` up to the end.
     ///
     /// # Errors
     ///
