@@ -1,11 +1,12 @@
 -- What a user's own calls by places make: blends, discs and halves.
-use Rattle.std.specs.Prelude.{ℕ, ◌+◌, ◌-◌, ◌*◌, ◌/◌, Bool, nat_le}
+use Rattle.std.specs.Prelude.{ℕ, ◌+◌, ◌-◌, ◌*◌, ◌/◌, Bool, nat_le, Option}
+use Rattle.image_model.specs.Grid.{Grid}
 
 -- alpha parts of 255 of one pixel, and the rest of the other, rounded down
 abbrev pub mix_of : ℕ → ℕ → ℕ → ℕ
 mix_of alpha p q = (q * alpha + p * (255 - alpha)) / 255
 
--- the difference of two numbers
+-- the distance of two numbers
 abbrev pub apart : ℕ → ℕ → ℕ
 apart m n = (m - n) + (n - m)
 
@@ -16,3 +17,7 @@ in_disc left top radius x y = nat_le (apart x left * apart x left + apart y top 
 -- a ramp from 0 in the first column towards 255
 abbrev pub ramp_at : ℕ → ℕ → ℕ
 ramp_at width x = 255 * x / width
+
+-- what is at column x of row y of an image turned clockwise: column y of the row that is x rows above the last of so many
+abbrev pub turned_pixel : {T : Type 0} → ℕ → Grid T → ℕ → ℕ → Option T
+turned_pixel height g x y = g.pixel y (height - 1 - x)

@@ -30,6 +30,40 @@ pub fn exchange_last_rows(cells: &mut [u8])
     image.swap_rows(1, 2);
 }
 
+/// The right two columns of three are exchanged.
+pub fn exchange_last_columns(cells: &mut [u8])
+    requires { 6 ≤ length cells.old }
+{
+    let mut image = Img::new(cells, 3, 2);
+    image.swap_columns(1, 2);
+}
+
+/// Each pixel becomes the exclusive or of the pixels of two images of one size.
+pub fn add_same_size(cells: &mut [u8], others: &[u8])
+    requires cells { 6 ≤ length cells.old }
+    requires others { 6 ≤ length others.now }
+{
+    let mut image = Img::new(cells, 3, 2);
+    image.zip_pixels(Img::new(others, 3, 2), |p: u8, q: u8| p ^ q);
+}
+
+/// Three columns of two become three rows of two.
+pub fn transpose_three_columns(cells: &[u8], target: &mut [u8])
+    requires cells { 6 ≤ length cells.now }
+    requires target { 6 ≤ length target.old }
+{
+    let mut target = Img::new(target, 2, 3);
+    Img::new(cells, 3, 2).transpose_into(&mut target);
+}
+
+/// Each pixel becomes 255 in the first of two columns, and 0 in the last.
+pub fn column_bound(cells: &mut [u8])
+    requires { 4 ≤ length cells.old }
+{
+    let mut image = Img::new(cells, 2, 2);
+    image.map_places(|x: usize, _y: usize, _p: u8| (255 - x * 255) as u8);
+}
+
 /// The last cell of the buffer, by its place: one past the only pixel.
 pub fn last_cell(cells: &[u8]) -> u8
     requires { length cells.now ≡ 2 }

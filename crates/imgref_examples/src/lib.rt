@@ -15,6 +15,7 @@ mod brightness;
 mod conditions;
 mod crop;
 mod drawing;
+mod lent_turns;
 mod luma;
 mod nested;
 #[cfg(test)]
@@ -38,12 +39,14 @@ pub use blur::box_blur_3x3;
 pub use border::draw_border;
 pub use brightness::{brighten, brighten_places, brighten_rows};
 pub use conditions::{
-    cells_of_last_columns, clear_start_of_last_row, exchange_last_rows, halve_if_it_fits, highest,
-    last_cell, narrowest, padding_of_first_row, pixels_if_it_fits, second_row_far_behind,
-    start_of_last_row, widest,
+    add_same_size, cells_of_last_columns, clear_start_of_last_row, column_bound,
+    exchange_last_columns, exchange_last_rows, halve_if_it_fits, highest, last_cell, narrowest,
+    padding_of_first_row, pixels_if_it_fits, second_row_far_behind, start_of_last_row,
+    transpose_three_columns, widest,
 };
 pub use crop::{crop_copy, crop_packed};
 pub use drawing::{dot, put_then_get, stripes, three_by_index, three_places};
+pub use lent_turns::{turn_into_window, turn_lent};
 pub use luma::{FrameError, luma_plane};
 pub use nested::greatest_in;
 pub use paste::{paste_at, paste_sprite};
