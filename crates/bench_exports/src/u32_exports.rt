@@ -178,7 +178,12 @@ pub extern "C" fn bench_u32_from_places(alloc: Global, width: usize, height: usi
     requires wide { width < 2 ^ 32 }
     requires high { height < 2 ^ 32 }
 {
-    match ImgVec::from_places(alloc, width, height, |x: usize, y: usize| ((x ^ y) % 256) as u32) {
+    match ImgVec::from_places(
+        alloc,
+        width,
+        height,
+        |x: usize, y: usize| ((x ^ y) % 256) as u32,
+    ) {
         Ok(image) => image.into_buf().len(),
         Err(_) => 0,
     }

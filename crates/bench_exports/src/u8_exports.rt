@@ -164,7 +164,12 @@ pub extern "C" fn bench_u8_from_places(alloc: Global, width: usize, height: usiz
     requires wide { width < 2 ^ 32 }
     requires high { height < 2 ^ 32 }
 {
-    match ImgVec::from_places(alloc, width, height, |x: usize, y: usize| ((x ^ y) % 256) as u8) {
+    match ImgVec::from_places(
+        alloc,
+        width,
+        height,
+        |x: usize, y: usize| ((x ^ y) % 256) as u8,
+    ) {
         Ok(image) => image.into_buf().len(),
         Err(_) => 0,
     }
