@@ -70,7 +70,7 @@ def by_model(cases, program):
     count_tries(cases, "a frame's line has at most 256 bytes", program, longest)
     outside = [(it.split(), video("420")) for it in ("fill 1,0,2,2 9", "fill 0,0,2,10 9", "mosaic 0,0,4,4 1,2", "mosaic 0,0,4,4 0,2", "move 0,0,4,4 10,0", "crop 0,0,0,4", "crop 0,0,4,0", "crop 0,0,3,4", "pad 1,0,0,0 9", "pad 0,0,4294967284,0 9", "pad 0,0,0,18446744073709551615 9")]
     count_tries(cases, "an edit that doesn't suit the video is refused", program, outside)
-    second = [("fill 0,0,2,2 9".split(), video("420").replace(b" H8 ", b" H8 " + it + b" ", 1)) for it in (b"H8", b"W12", b"H", b"F30:1", b"C444")]
+    second = [("fill 0,0,2,2 9".split(), video("420").replace(b" H8 ", b" H8 " + it + b" ", 1)) for it in (b"H8", b"W30", b"H", b"F30:1", b"C444")]
     count_tries(cases, "a second width or height is refused", program, second)
     shown = hidden = video("mono")
     for frame in range(3):
