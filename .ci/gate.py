@@ -37,7 +37,7 @@ GATE_ALONE = ("always_memory.py", "refused_growths.py", "layers.py", "row_mover_
 # The crates that `test` proves, with those below them: the programs and the library for C.
 PRODUCT = ("imgref_run", "imgref_frames", "imgref_c")
 # What each takes from nothing on four processors, in minutes.
-MINUTES = {"test": 15, "gate": 70, "check": 15}
+MINUTES = {"test": 15, "gate": 90, "check": 15}
 COUNT = re.compile(r"(\d+) passed, (\d+) failed")
 # What is shown of a long part while it goes on: each proof that has ended, and what failed.
 ENDED = re.compile(r"== (\w+(?:: its tests)?)$")
