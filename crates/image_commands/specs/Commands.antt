@@ -182,9 +182,9 @@ pub record Meaning (T : Type 0) : Type 0 where
 abbrev pub asks : {T : Type 0} → (Sizes → List (Bool × Refusal)) → (Scene T → Answer T) → Meaning T
 asks faults answer = record { faults = faults; answer = answer; change = λ _. None; compacted = None }
 
--- a command that writes an area: the reply is `Done`
-abbrev pub writes : {T : Type 0} → (Sizes → List (Bool × Refusal)) → (Sizes → Area) → (ℕ → ℕ → Source T) → Meaning T
-writes faults area pixel = record { faults = faults; answer = λ _. told Done; change = λ sizes. Some (record { area = area sizes; pixel = pixel }); compacted = None }
+-- a command that writes an area: the reply is `Done`. Where a new pixel comes from may depend on the sizes too
+abbrev pub writes : {T : Type 0} → (Sizes → List (Bool × Refusal)) → (Sizes → Area) → (Sizes → ℕ → ℕ → Source T) → Meaning T
+writes faults area pixel = record { faults = faults; answer = λ _. told Done; change = λ sizes. Some (record { area = area sizes; pixel = pixel sizes }); compacted = None }
 
 -- a command that compacts an image: the reply is `Done`, and no grid changes
 abbrev pub packs : {T : Type 0} → ℕ → Meaning T
@@ -193,10 +193,10 @@ packs image = record { faults = image_faults image; answer = λ _. told Done; ch
 -- each command
 abbrev pub meaning : {T : Type 0} → Command T → Meaning T
 meaning (Get spot x y) = asks (place_faults spot x y) (λ _. shown (old spot x y))
-meaning (Put spot x y value) = writes (place_faults spot x y) (place_area spot x y) (λ _ _. given value)
-meaning (Fill spot value) = writes (window_faults spot) (window_area spot) (λ _ _. given value)
+meaning (Put spot x y value) = writes (place_faults spot x y) (place_area spot x y) (λ _ _ _. given value)
+meaning (Fill spot value) = writes (window_faults spot) (window_area spot) (λ _ _ _. given value)
 meaning (Count spot value) = asks (window_faults spot) (λ scene. told (Counted (count_equal spot value scene)))
 meaning (Same first second) = asks (pair_faults first second) (λ scene. told (Truth (are_same first second scene)))
-meaning (Blit source target) = writes (copy_faults source target) (window_area target) (λ x y. old source x y)
-meaning (Mosaic spot tile_width tile_height) = writes (tile_faults spot tile_width tile_height) (window_area spot) (λ x y. old spot (tile_start tile_width x) (tile_start tile_height y))
+meaning (Blit source target) = writes (copy_faults source target) (window_area target) (λ _ x y. old source x y)
+meaning (Mosaic spot tile_width tile_height) = writes (tile_faults spot tile_width tile_height) (window_area spot) (λ _ x y. old spot (tile_start tile_width x) (tile_start tile_height y))
 meaning (Compact image) = packs image
