@@ -4,8 +4,9 @@
 Every contract of a call that takes memory allows the result out of memory, so no planted bug of `must-fail/` can show
 such a call. The tests that use it are first run as they are, in a copy of the repository, and must pass. Then each case puts
 that result at the head of one call, and runs these tests again: some must fail now, since a test returns out of memory as its
-result. Files of tests that use none of the calls are left out of the copy. The program for video and pictures is run in the
-same way on a small input: it must end well as it is, and with `fault memory` after each change.
+result. Files of tests that use none of the calls are left out of the copy. The program for video and pictures is run with
+each change on a small input, and must end with `fault memory`. (`built/frames.py` and `built/pictures.py` show that it ends well
+as it is.)
 """
 import pathlib
 import re
@@ -103,9 +104,6 @@ def main():
             was = unchanged[tests]
             is_well = was and isinstance(found, tuple) and found[1] > was[1] and sum(found) == sum(was)
             cases.count(f"{crate}::{name} that is always out of memory is refused by the tests of {tests}", is_well, f"passed and failed: {found}, and unchanged: {was}")
-        for given, words in dict.fromkeys(it[-2:] for it in RUNS):
-            was = end_of(copy, given, words)
-            cases.count(f"imgref_frames {' '.join(words)} on {given[:2].decode()} ends well as it is", was == (0, True), f"status, and whether it wrote: {was}")
         for crate, file, name, head, given, words in RUNS:
             found = found_in(copy / f"crates/{crate}/src/{file}.rt", name, head, lambda: end_of(copy, given, words))
             cases.count(f"{crate}::{name} that is always out of memory is told by imgref_frames", found == (OUT_OF_MEMORY, False), f"status, and whether it wrote: {found}")
