@@ -1,6 +1,6 @@
 -- Counts of the values that a loop has read: one more of this value, and one pixel less to come.
 use Rattle.std.proofs.Common.{◌≡◌, ◌≢◌, ℕ, ◌+◌, ◌<◌, ◌≤◌, ◌==◌, cond, List, [], ◌∷◌, map, replicate, length, set, get_or, true, refl, sym, ap, ◌∙◌, arith, ⊎_elim}
-use Rattle.std.specs.List.{count_by, range_with_len}
+use Rattle.std.specs.List.{range_with_len}
 use Rattle.image_model.specs.Counts.{times, histogram_of, counted}
 use Rattle.std.proofs.lemmas.List.{get_or-set_same, get_or-set_other, get_or-replicate}
 use Rattle.std.proofs.lemmas.List.Sums.{sum_by-cons, count_by-le-length}
