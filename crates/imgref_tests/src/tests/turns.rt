@@ -42,12 +42,24 @@ fn changes<C: AsMutSlice<Item = u8>>(image: &mut Img<C>, change: Change) -> bool
 fn squares_are_turned_in_place(rt: HostRuntime) -> Result<(), Fail> {
     for (change, after) in [
         (Change::Transpose, [1, 4, 7, 100, 2, 5, 8, 101, 3, 6, 9]),
-        (Change::Turn(Turn::Right), [7, 4, 1, 100, 8, 5, 2, 101, 9, 6, 3]),
-        (Change::Turn(Turn::Half), [9, 8, 7, 100, 6, 5, 4, 101, 3, 2, 1]),
-        (Change::Turn(Turn::Left), [3, 6, 9, 100, 2, 5, 8, 101, 1, 4, 7]),
+        (
+            Change::Turn(Turn::Right),
+            [7, 4, 1, 100, 8, 5, 2, 101, 9, 6, 3],
+        ),
+        (
+            Change::Turn(Turn::Half),
+            [9, 8, 7, 100, 6, 5, 4, 101, 3, 2, 1],
+        ),
+        (
+            Change::Turn(Turn::Left),
+            [3, 6, 9, 100, 2, 5, 8, 101, 1, 4, 7],
+        ),
         (Change::Rows, [7, 8, 9, 100, 4, 5, 6, 101, 1, 2, 3]),
         (Change::Columns, [3, 2, 1, 100, 6, 5, 4, 101, 9, 8, 7]),
-        (Change::TwoColumns(0, 1), [2, 1, 3, 100, 5, 4, 6, 101, 8, 7, 9]),
+        (
+            Change::TwoColumns(0, 1),
+            [2, 1, 3, 100, 5, 4, 6, 101, 8, 7, 9],
+        ),
     ] {
         let mut owned: ImgVec<u8> = Img::new_stride(SQUARE.to_vec(rt.alloc())?, 3, 3, 4);
         let mut cells = SQUARE;
