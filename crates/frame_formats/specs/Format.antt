@@ -9,6 +9,7 @@ use Rattle.image_planes.specs.declared.target.Resize.{Resize}
 use Rattle.image_planes.specs.declared.target.Resize.TheVariants.{Crop, Pad}
 use Rattle.text_model.specs.Parts.{parts_of}
 use Rattle.text_model.specs.Reading.{◌>>=◌, number_of}
+use Rattle.frame_formats.specs.Steps.{each_byte}
 use Rattle.frame_formats.specs.declared.header.Chroma.{Chroma}
 use Rattle.frame_formats.specs.declared.header.Chroma.TheVariants.{Mono, Small, Wide, Whole}
 use Rattle.frame_formats.specs.declared.header.Format.{Format}
@@ -91,10 +92,10 @@ abbrev pub at_corner : Window → ℕ → ℕ → Window
 at_corner w left top = record { left = left; top = top; width = w.width; height = w.height }
 
 -- the change of chroma samples under a change of pixels of a frame of this size: a fill leaves no colour
-unfoldable pub change_under : ℕ → ℕ → ℕ → ℕ → Change ℕ → Option (Change ℕ)
+unfoldable pub change_under : ℕ → ℕ → ℕ → ℕ → Change (List ℕ) → Option (Change (List ℕ))
 change_under x y width height (Fill w value) = do
   under ← window_under x y width height w
-  Some (Fill under 128)
+  Some (Fill under (each_byte 128))
 change_under x y width height (Mosaic w tile_width tile_height) = do
   under ← window_under x y width height w
   wide ← exact_samples x tile_width
@@ -117,7 +118,7 @@ resize_for width height (CropPixels w) = Some (Crop w)
 resize_for width height (PadPixels left top right bottom value) = do
   wide ← padded_size left width right
   high ← padded_size top height bottom
-  Some (Pad left top wide high value)
+  Some (Pad left top wide high (each_byte value))
 
 -- the same of a plane of chroma samples: a border has no colour
 unfoldable pub resize_under : ℕ → ℕ → ℕ → ℕ → Resize → Option Resize
@@ -126,4 +127,4 @@ resize_under x y width height (Crop w) = do
   Some (Crop under)
 resize_under x y width height (Pad left top wide high value) = do
   under ← window_under x y wide high (record { left = left; top = top; width = width; height = height })
-  Some (Pad under.left under.top (samples wide x) (samples high y) 128)
+  Some (Pad under.left under.top (samples wide x) (samples high y) (each_byte 128))

@@ -13,3 +13,6 @@ pub mod WindowWrites
 pub mod Crossing
 pub mod FromPlaces
 pub mod PixelsMade
+pub mod Parts
+pub mod PixelSpreading
+pub mod Patterns
