@@ -11,7 +11,7 @@ use Rattle.text_model.specs.Parts.{parts_of}
 use Rattle.text_model.specs.Reading.{◌>>=◌, number_of}
 use Rattle.frame_formats.specs.Steps.{each_byte}
 use Rattle.frame_formats.specs.declared.header.Chroma.{Chroma}
-use Rattle.frame_formats.specs.declared.header.Chroma.TheVariants.{Mono, Small, Wide, Whole}
+use Rattle.frame_formats.specs.declared.header.Chroma.TheVariants.{Mono, Small, Wide, Quarter, Whole}
 use Rattle.frame_formats.specs.declared.header.Format.{Format}
 use Rattle.frame_formats.specs.declared.framing.Framing.{Framing}
 use Rattle.frame_formats.specs.declared.framing.Framing.TheVariants.{Crop as CropPixels, Pad as PadPixels}
@@ -21,7 +21,7 @@ abbrev pub tagged : ℕ → List (List ℕ) → Option (List ℕ)
 tagged letter [] = None
 tagged letter (field ∷ fields) = if slice_index field 0 == letter then Some (drop 1 field) else tagged letter fields
 
--- how a word names the chroma samples: in one byte each, for two by two pixels, for two by one, for each
+-- how a word names the chroma samples: in one byte each, for two by two pixels, for two by one, for four by one, for each
 abbrev pub chroma_of : List ℕ → Option Chroma
 chroma_of word =
     if bytes_eq word (codes "mono") then Some Mono
@@ -30,6 +30,7 @@ chroma_of word =
     else if bytes_eq word (codes "420paldv") then Some Small
     else if bytes_eq word (codes "420") then Some Small
     else if bytes_eq word (codes "422") then Some Wide
+    else if bytes_eq word (codes "411") then Some Quarter
     else if bytes_eq word (codes "444") then Some Whole
     else None
 

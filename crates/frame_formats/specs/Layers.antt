@@ -9,7 +9,7 @@ use Rattle.text_model.specs.Reading.{◌>>=◌}
 use Rattle.frame_formats.specs.Format.{samples, change_under, resize_under}
 use Rattle.frame_formats.specs.Steps.{all_some, step_by, change_in, pixel_size}
 use Rattle.frame_formats.specs.declared.header.Chroma.{Chroma}
-use Rattle.frame_formats.specs.declared.header.Chroma.TheVariants.{Mono, Small, Wide, Whole}
+use Rattle.frame_formats.specs.declared.header.Chroma.TheVariants.{Mono, Small, Wide, Quarter, Whole}
 use Rattle.frame_formats.specs.declared.layers.Layer.{Layer}
 use Rattle.frame_formats.specs.declared.layers.Layer.TheVariants.{Pixels, Samples}
 use Rattle.frame_formats.specs.declared.steps.Pixel.TheVariants.{Single, Colours}
@@ -28,6 +28,7 @@ abbrev pub video_layers : Chroma → List Layer
 video_layers Mono = Pixels Single ∷ []
 video_layers Small = sampled 2 2
 video_layers Wide = sampled 2 1
+video_layers Quarter = sampled 4 1
 video_layers Whole = sampled 1 1
 
 -- a sample stands for some pixels

@@ -47,6 +47,7 @@ pub(crate) fn video_layers(chroma: Chroma) -> &'static [Layer]
         Chroma::Mono => &[BRIGHTNESS],
         Chroma::Small => &[BRIGHTNESS, Layer::Samples(2, 2), Layer::Samples(2, 2)],
         Chroma::Wide => &[BRIGHTNESS, Layer::Samples(2, 1), Layer::Samples(2, 1)],
+        Chroma::Quarter => &[BRIGHTNESS, Layer::Samples(4, 1), Layer::Samples(4, 1)],
         Chroma::Whole => &[BRIGHTNESS, Layer::Samples(1, 1), Layer::Samples(1, 1)],
     }
 }
@@ -121,7 +122,13 @@ fn plane_on(
         }
     }
     let (wide, high) = size_on(layer, width, height);
-    match Plane::new(pixel_size_on(layer), wide, high, made) {
+    let size = pixel_size_on(layer);
+    // A row of so many bytes is too long for any buffer, whatever the edits are.
+    let greatest = u32::MAX as usize;
+    if wide <= greatest && wide > greatest / size {
+        return Err(PlanFault::Memory);
+    }
+    match Plane::new(size, wide, high, made) {
         Some(plane) => Ok(plane),
         None => Err(PlanFault::Outside),
     }
