@@ -1,5 +1,5 @@
-//! The planes of a frame: dense images of pixels of 1 to 8 bytes, one after the other in one buffer,
-//! and the changes of each.
+//! The planes of a frame, one after the other in one buffer, and the changes of each. A plane is a
+//! dense image of pixels of 1 to 8 bytes.
 #![tactic(auto)]
 
 mod change;
