@@ -13,6 +13,7 @@ pub mod WindowWrites
 pub mod Crossing
 pub mod FromPlaces
 pub mod PixelsMade
+pub mod Diagonals
 pub mod Parts
 pub mod PixelSpreading
 pub mod Patterns

@@ -20,6 +20,7 @@ mod packing;
 mod pairs;
 mod places;
 mod repeating;
+mod squares;
 mod swapping;
 mod turning;
 mod windows;
@@ -38,6 +39,7 @@ pub use packing::{join_rows, pack};
 pub use pairs::agree_at_places;
 pub use places::{map_places, zip_pixels};
 pub use repeating::repeat_pixels;
+pub use squares::{transpose_square, turn_in_place};
 pub use swapping::swap_rows;
 pub use turning::{
     Turn, transpose_pixels, turn_half_pixels, turn_left_pixels, turn_pixels, turn_right_pixels,
