@@ -8,6 +8,9 @@ LONGEST_HEAD = 65536
 # How many pixels share a chroma sample, across and down.
 SAMPLINGS = {b"mono": None, b"420jpeg": (2, 2), b"420mpeg2": (2, 2), b"420paldv": (2, 2), b"420": (2, 2), b"422": (2, 1), b"411": (4, 1), b"444": (1, 1)}
 
+# The same with samples of two bytes: a word that a number of bits follows.
+DEEP = {b"mono": None, b"420p": (2, 2), b"422p": (2, 1), b"444p": (1, 1)}
+
 # The head of a picture: its kind and three numbers with white space or comments between them, and one of these at its end.
 GAP = rb"(?:[ \t-\r]|#[^\n\r]*[\n\r])"
 HEAD = re.compile(rb"P([56])" + GAP + rb"+(\d+)" + GAP + rb"+(\d+)" + GAP + rb"+0*255" + GAP)
@@ -36,9 +39,15 @@ def format_of(line):
         if it[:1] in (b"W", b"H") and it[:1] in tagged:
             raise Fault("header")
         tagged.setdefault(it[:1], it[1:])
-    if word != b"YUV4MPEG2" or b"W" not in tagged or b"H" not in tagged or tagged.get(b"C", b"420") not in SAMPLINGS:
+    if word != b"YUV4MPEG2" or b"W" not in tagged or b"H" not in tagged or not sampling_of(tagged.get(b"C", b"420")):
         raise Fault("header")
-    return number(tagged[b"W"]), number(tagged[b"H"]), SAMPLINGS[tagged.get(b"C", b"420")]
+    return number(tagged[b"W"]), number(tagged[b"H"]), *sampling_of(tagged.get(b"C", b"420"))
+
+
+def sampling_of(word):
+    """The sampling that a word names, and how many bits a sample has; or none."""
+    deep = re.fullmatch(rb"(mono|420p|422p|444p)(9|10|12|14|16)", word)
+    return (SAMPLINGS[word], 8) if word in SAMPLINGS else (DEEP[deep[1]], int(deep[2])) if deep else None
 
 
 def is_interlaced(line):
@@ -114,13 +123,13 @@ def edited(plane, cells, word, window, last):
     """The cells of a plane after the edit."""
     wide, high = plane[:2]
     left, top, width, height = window
-    old = [cells[row * wide:(row + 1) * wide] for row in range(high)]
+    old = [list(cells[row * wide:(row + 1) * wide]) for row in range(high)]
     if word == "crop":
-        return b"".join(row[left:left + width] for row in old[top:top + height])
+        return [it for row in old[top:top + height] for it in row[left:left + width]]
     if word == "pad":
-        around = [bytes(last) * width for _ in range(height)]
-        return b"".join(row[:left] + old[y - top] + row[left + wide:] if top <= y < top + high else row for y, row in enumerate(around))
-    new = [bytearray(row) for row in old]
+        around = [last * width for _ in range(height)]
+        return [it for y, row in enumerate(around) for it in (row[:left] + old[y - top] + row[left + wide:] if top <= y < top + high else row)]
+    new = [list(row) for row in old]
     for y in range(height):
         for x in range(width):
             if word == "fill":
@@ -129,7 +138,7 @@ def edited(plane, cells, word, window, last):
                 new[top + y][left + x] = old[top + y - y % last[1]][left + x - x % last[0]]
             else:
                 new[last[1] + y][last[0] + x] = old[top + y][left + x]
-    return b"".join(new)
+    return [it for row in new for it in row]
 
 
 def resized(line, width, height):
@@ -162,19 +171,24 @@ def line_end(data, at):
     return end if data[at:end] == b"FRAME\n" or data[at:end].startswith(b"FRAME ") else 0
 
 
-def step_of(planes, size, edit, values):
-    """An edit as one of each plane, with what is written there: these values of a list of one or three, or it isn't an edit here."""
+def step_of(planes, size, edit, values, greatest=255):
+    """An edit as one of each plane, with what is written there: these values of a list of one or three, none of them above the
+    greatest; or it isn't an edit here."""
     first, last, word, window, more = edit
     found = [windows_of(plane, size, word, window, more) for plane in planes]
     if word in ("fill", "pad"):
-        if len(more) not in values:
+        if len(more) not in values or max(more) > greatest:
             raise Fault("outside")
         found = [(inside, [value]) for (inside, _), value in zip(found, values[len(more)](more))]
     return first, last, word, found
 
 
-# What a fill writes in each plane. One value leaves no colour in chroma samples.
-VIDEO = {1: lambda more: [more[0], 128, 128]}
+def video_values(bits):
+    """What a fill writes in each plane of a video: no colour in chroma samples."""
+    return {1: lambda more: [more[0], 2 ** (bits - 1), 2 ** (bits - 1)]}
+
+
+# The same of a picture.
 GREY = {1: lambda more: more}
 COLOUR = {1: lambda more: more * 3, 3: lambda more: more}
 
@@ -228,16 +242,17 @@ def video(data, edits):
     if end < 0:
         raise Fault("header")
     line, at = data[:end], end + 1
-    width, height, sampling = format_of(line)
+    width, height, sampling, bits = format_of(line)
     planes = planes_of(width, height, sampling)
     x, y = sampling or (1, 1)
     unit = x, 2 * y if is_interlaced(line) else y
-    steps = [step_of(planes, (width, height), covered(edit, (width, height), unit), VIDEO) for edit in edits]
+    steps = [step_of(planes, (width, height), covered(edit, (width, height), unit), video_values(bits), 2**bits - 1) for edit in edits]
     resize = size_after((width, height), edits)
     if resize and resize[1] == 0:
         raise Fault("outside")
     out = (resized(line, *resize) if resize else line) + b"\n"
-    size, frames = sum(wide * high for wide, high, _, _ in planes), 0
+    sample = 1 if bits == 8 else 2
+    size, frames = sample * sum(wide * high for wide, high, _, _ in planes), 0
     while at < len(data):
         end = line_end(data, at)
         if not end or len(data) < end + size:
@@ -245,9 +260,10 @@ def video(data, edits):
         out, at = out + data[at:end], end
         cells = []
         for wide, high, _, _ in planes:
-            cells.append(data[at:at + wide * high])
-            at += wide * high
-        out += b"".join(after(planes, cells, steps, frames))
+            length = sample * wide * high
+            cells.append([int.from_bytes(data[it:it + sample], "little") for it in range(at, at + length, sample)])
+            at += length
+        out += b"".join(it.to_bytes(sample, "little") for plane in after(planes, cells, steps, frames) for it in plane)
         frames += 1
     return out
 

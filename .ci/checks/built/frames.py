@@ -7,6 +7,7 @@ the machine has no ffmpeg or no GNU parallel, the cases with it are left out, an
 """
 import pathlib
 import random
+import re
 import shutil
 import subprocess
 import sys
@@ -17,7 +18,7 @@ from checking import Cases, both_builds
 from c_library import VERSION
 from frames import count_tries, edits_of, ends, exchanged, lines_said, wanted
 
-SAMPLINGS = ("mono", "420jpeg", "420", "422", "411", "444")
+SAMPLINGS = ("mono", "420jpeg", "420", "422", "411", "444", "420p10", "422p12", "444p16", "mono9", "mono14")
 EDITS = ("fill 4,2,6,4 126", "mosaic 2,2,10,6 4,2", "mosaic 0,0,12,8 64,64", "move 0,0,6,4 4,2", "move 4,2,6,4 0,0", "crop 4,2,6,4", "fill 0,0,0,0 1", "pad 2,4,6,8 16", "pad 4,0,1,3 200", "pad 1,0,0,0 9", "pad 0,2,0,0 9", "fill 4,2,8,4 126", "mosaic 4,0,8,6 4,2", "move 0,0,8,4 4,2", "crop 4,2,8,4", "pad 4,0,8,2 16")
 # These end at the right or the lower edge of 13 by 9.
 ODD = ("fill 10,6,3,3 7", "mosaic 2,2,11,7 4,2", "move 8,0,5,3 8,6", "move 8,6,5,3 0,0", "crop 4,2,9,7", "crop 4,2,7,7", "fill 12,8,1,1 3", "fill 13,0,0,1 3")
@@ -38,9 +39,11 @@ LISTS = (
 def video(sampling, width=12, height=8, frames=3, parameters=(b"",), fields=b"Ip"):
     """A small video with pixels by chance, the same in each run. The frames have these parameters in turn."""
     chance = random.Random(f"{sampling} {width} {height}")
-    chroma = {"mono": 0, "411": 2 * (-(-width // 4)) * height, "422": 2 * (-(-width // 2)) * height, "444": 2 * width * height}.get(sampling, 2 * (-(-width // 2)) * (-(-height // 2)))
+    deep = re.fullmatch("(mono|420|422|444)p?(9|1[0246])", sampling)
+    name, sample = (deep[1], 2) if deep else (sampling, 1)
+    chroma = {"mono": 0, "411": 2 * (-(-width // 4)) * height, "422": 2 * (-(-width // 2)) * height, "444": 2 * width * height}.get(name, 2 * (-(-width // 2)) * (-(-height // 2)))
     line = f"YUV4MPEG2 W{width} H{height} F25:1 ".encode() + fields + f" A1:1 C{sampling} XLABEL=a\n".encode()
-    return line + b"".join(b"FRAME" + parameters[it % len(parameters)] + b"\n" + chance.randbytes(width * height + chroma) for it in range(frames))
+    return line + b"".join(b"FRAME" + parameters[it % len(parameters)] + b"\n" + chance.randbytes(sample * (width * height + chroma)) for it in range(frames))
 
 
 def by_model(cases, program):
@@ -68,8 +71,11 @@ def by_model(cases, program):
     count_tries(cases, "each byte of a frame's line changed", program, changed)
     longest = [("fill 0,0,2,2 9".split(), video("420", 4, 2, 2, parameters=(b"", b" " + b"x" * count))) for count in (0, 1, 248, 249, 250, 300)]
     count_tries(cases, "a frame's line has at most 256 bytes", program, longest)
-    outside = [(it.split(), video("420")) for it in ("fill 1,0,2,2 9", "fill 0,0,2,10 9", "mosaic 0,0,4,4 1,2", "mosaic 0,0,4,4 0,2", "move 0,0,4,4 10,0", "crop 0,0,0,4", "crop 0,0,4,0", "crop 0,0,3,4", "pad 1,0,0,0 9", "pad 0,0,4294967284,0 9", "pad 0,0,0,18446744073709551615 9")]
+    outside = [(it.split(), video("420")) for it in ("fill 1,0,2,2 9", "fill 0,0,2,10 9", "mosaic 0,0,4,4 1,2", "mosaic 0,0,4,4 0,2", "move 0,0,4,4 10,0", "crop 0,0,0,4", "crop 0,0,4,0", "crop 0,0,3,4", "pad 1,0,0,0 9", "pad 0,0,4294967284,0 9", "fill 0,0,2,2 256", "cover 0,0,2,2 256", "pad 0,0,2,2 18446744073709551615", "pad 0,0,0,18446744073709551615 9")]
     count_tries(cases, "an edit that doesn't suit the video is refused", program, outside)
+    deep = [(f"{edit} {value}".split(), video(it)) for it in ("420p10", "422p9", "444p12", "mono14", "mono16") for value in (0, 255, 256, 511, 512, 1023, 1024, 4095, 4096, 16383, 16384, 65535, 65536) for edit in ("fill 4,2,4,4", "cover 4,2,4,4", "pad 2,2,2,2")]
+    count_tries(cases, "values up to the greatest of a sample, and above it", program, deep)
+    count_tries(cases, "samplings that aren't supported", program, [("fill 0,0,2,2 9".split(), video("420").replace(b" C420 ", b" C%s " % it)) for it in (b"420p8", b"420p11", b"420p", b"422p010", b"mono8", b"mono10 ", b"411p10", b"420p10x", b"42", b"")])
     second = [("fill 0,0,2,2 9".split(), video("420").replace(b" H8 ", b" H8 " + it + b" ", 1)) for it in (b"H8", b"W30", b"H", b"F30:1", b"C444")]
     count_tries(cases, "a second width or height is refused", program, second)
     shown = hidden = video("mono")
@@ -79,7 +85,7 @@ def by_model(cases, program):
 
 
 def by_words(cases, program):
-    for words in ("", "fill", "fill 1,2,3,4", "blur 0,0,1,1 2", "fill 0,0,1,1 256", "fill 0,0,1,1 1,2", "fill 0,0,1,1 1,2,256", "fill 0,0,1,1 1,2,3,4", "pad 0,0,1,1 1,2,3", "fill 0,0,01,1 2", "fill 0,0,1 2", "mosaic 0,0,1,1 2", "crop 0,0,1,1 2", "crop 0,0,2,2 fill 0,0,2,2 9", "pad 0,0,2,2", "pad 0,0,2,2 256", "pad 0,0,2,2 9 crop 0,0,2,2", "1..2 pad 0,0,2,2 9", "1..2 crop 0,0,2,2", "1.2 fill 0,0,2,2 9", "2..1 fill 0,0,4,4 9", "0..0 fill 0,0,4,4 9", "fill 0,0,2,2 9 5..5 move 0,0,2,2 2,2", "--edits /nowhere", "--edits", "--strict", "--limit", "--limit x fill 0,0,2,2 9", "--loud fill 0,0,2,2 9", "--edits /dev/null fill 0,0,2,2 9"):
+    for words in ("", "fill", "fill 1,2,3,4", "blur 0,0,1,1 2", "fill 0,0,1,1 1,2", "fill 0,0,1,1 1,2,256", "fill 0,0,1,1 1,2,3,4", "pad 0,0,1,1 1,2,3", "fill 0,0,01,1 2", "fill 0,0,1 2", "mosaic 0,0,1,1 2", "crop 0,0,1,1 2", "crop 0,0,2,2 fill 0,0,2,2 9", "pad 0,0,2,2", "pad 0,0,2,2 9 crop 0,0,2,2", "1..2 pad 0,0,2,2 9", "1..2 crop 0,0,2,2", "1.2 fill 0,0,2,2 9", "2..1 fill 0,0,4,4 9", "0..0 fill 0,0,4,4 9", "fill 0,0,2,2 9 5..5 move 0,0,2,2 2,2", "--edits /nowhere", "--edits", "--strict", "--limit", "--limit x fill 0,0,2,2 9", "--loud fill 0,0,2,2 9", "--edits /dev/null fill 0,0,2,2 9"):
         said = ends(program, words.split(), video("mono"))
         cases.count(f"words '{words}' are refused", said == (b"", "fault words", 1), str(said))
     with tempfile.NamedTemporaryFile("w", suffix=".edits") as listed:
@@ -114,6 +120,9 @@ REASONS = (
     ("fill 0,0,2,10 9", "444", "the frame has 12 by 8 pixels"),
     ("mosaic 0,0,4,4 3,2", "420", "edit 1: tile width 3 is no multiple of 2"),
     ("mosaic 0,0,4,4 0,2", "mono", "edit 1: its size is 0"),
+    ("fill 0,0,4,4 256", "444", "edit 1: value 256 is above 255"),
+    ("fill 0,0,4,4 1024", "420p10", "edit 1: value 1024 is above 1023"),
+    ("pad 0,0,4,4 512", "mono9", "the crop or pad: value 512 is above 511"),
     ("fill 0,0,4,4 1,2,3", "444", "edit 1: a colour is only for pictures in colour"),
     ("move 0,0,4,4 10,0", "420", "edit 1: it reaches outside the frame"),
     ("crop 0,0,3,4", "420", "the crop or pad: width 3 is no multiple of 2"),
@@ -155,11 +164,12 @@ def through(program, words, made, command):
 
 
 def by_ffmpeg(cases, program):
-    for pixels in ("yuv420p", "yuv422p", "yuv411p", "yuv444p", "gray"):
+    for pixels in ("yuv420p", "yuv422p", "yuv411p", "yuv444p", "gray", "yuv420p10le", "yuv422p12le", "yuv444p16le", "gray10le", "gray16le"):
         source = ["-f", "lavfi", "-i", "testsrc2=size=128x96:rate=5:duration=1", "-pix_fmt", pixels]
         made = subprocess.run(["ffmpeg", "-v", "error", *source, "-f", "yuv4mpegpipe", "-strict", "-1", "-"], capture_output=True, timeout=120).stdout
         cases.count(f"crop is ffmpeg's on {pixels}", made and through(program, "crop 16,8,64,48", made, "crop=64:48:16:8:exact=1"))
-        if pixels != "gray":
+        # Of more than 8 bits ffmpeg's grey and black have a colour: its chroma is 514 of 1023, and the middle is 512.
+        if "gray" not in pixels and "le" not in pixels:
             cases.count(f"fill is ffmpeg's drawbox on {pixels}", through(program, "fill 16,8,64,48 126", made, "drawbox=x=16:y=8:w=64:h=48:color=gray@1:t=fill"))
             cases.count(f"pad is ffmpeg's on {pixels}", through(program, "pad 16,8,32,24 16", made, "pad=176:128:16:8:color=black"))
         for words in ("mosaic 16,8,64,48 8,8", "move 16,8,32,32 24,16"):

@@ -9,7 +9,8 @@ use Rattle.image_planes.specs.Resized.{Resizing, is_resizing, new_width, new_hei
 use Rattle.image_planes.specs.declared.target.Resize.{Resize}
 use Rattle.image_planes.specs.declared.target.Resize.TheVariants.{Crop, Pad}
 use Rattle.frame_formats.specs.Format.{resize_for}
-use Rattle.frame_formats.specs.Layers.{picture_layers, resizings_on}
+use Rattle.frame_formats.specs.Layers.{picture_pixel, picture_layers, resizings_on}
+use Rattle.frame_formats.specs.Steps.{pixel_size}
 use Rattle.frame_formats.specs.Picture.{picture_of, head_text}
 use Rattle.frame_formats.specs.Edits.{Edits}
 use Rattle.frame_formats.specs.Recipe.{Recipe, recipe, finished_picture, picture_recipe, resized_picture}
@@ -44,13 +45,12 @@ finished_head p jobs None r columns width_bound rows height_bound made =
     let same : recipe (head_text p) jobs None ≡ r = cc in
     (p, ap (λ (x : Recipe). picture_of x.head) (sym same) ∙ reads_back p columns width_bound rows height_bound)
 finished_head p jobs (Some framing) r columns width_bound rows height_bound made =
-    let step = bind_some (resize_for p.width p.height framing) (λ resize. cond (eqb (new_height resize) 0) None (option_map (resized_recipe p jobs resize) (resizings_on (picture_layers p.colour) p.width p.height resize))) r made in
+    let step = bind_some (resize_for (picture_pixel p.colour) p.width p.height framing) (λ resize. cond (eqb (new_height resize) 0) None (option_map (resized_recipe p jobs resize) (resizings_on (picture_pixel p.colour) picture_layers p.width p.height resize))) r made in
     let resize : Resize = step.0 in
-    let left = with_rows (eqb (new_height resize) 0) (option_map (resized_recipe p jobs resize) (resizings_on (picture_layers p.colour) p.width p.height resize)) r step.2 in
+    let left = with_rows (eqb (new_height resize) 0) (option_map (resized_recipe p jobs resize) (resizings_on (picture_pixel p.colour) picture_layers p.width p.height resize)) r step.2 in
     let some : 0 < new_height resize = elim (eqb_tells (new_height resize) 0) [ inl t ↦ absurd (let bad : true ≡ false = sym t.0 ∙ left.0 in cc) | inr t ↦ omega (arith, t.1) ] in
-    let found = map_some (resizings_on (picture_layers p.colour) p.width p.height resize) (resized_recipe p jobs resize) r left.1 in
-    let plane = picture_resized p.colour p.width p.height resize found.0 found.1 in
-    let size = new_size plane.0 p.width p.height resize plane.1 in
+    let found = map_some (resizings_on (picture_pixel p.colour) picture_layers p.width p.height resize) (resized_recipe p jobs resize) r left.1 in
+    let size = new_size (pixel_size (picture_pixel p.colour)) p.width p.height resize (picture_resized (picture_pixel p.colour) p.width p.height resize found.0 found.1) in
     let q : Picture = resized_picture p (new_width resize) (new_height resize) in
     (q, ap (λ (x : Recipe). picture_of x.head) (sym found.2) ∙ reads_back q size.0 size.1 some size.2)
 

@@ -1,5 +1,5 @@
 -- The format that a video's line names, and what pixels are in chroma samples.
-use Rattle.std.specs.Prelude.{ℕ, ◌+◌, ◌/◌, ◌%◌, ◌&&◌, ◌==◌, ◌||◌, ◌^◌, Bool, false, nat_lt, if◌then◌else◌, List, [], ◌∷◌, Option, Some, None, drop, slice_index, codes}
+use Rattle.std.specs.Prelude.{ℕ, ◌+◌, ◌/◌, ◌%◌, ◌&&◌, ◌==◌, ◌||◌, ◌^◌, Bool, false, nat_lt, if◌then◌else◌, List, [], ◌∷◌, Option, Some, None, take, drop, slice_index, codes}
 use Rattle.std.specs.Option.{is_none}
 use Rattle.std.specs.Str.{bytes_eq}
 use Rattle.image_shape.specs.declared.window.Window.{Window}
@@ -9,7 +9,9 @@ use Rattle.image_planes.specs.declared.target.Resize.{Resize}
 use Rattle.image_planes.specs.declared.target.Resize.TheVariants.{Crop, Pad}
 use Rattle.text_model.specs.Parts.{parts_of}
 use Rattle.text_model.specs.Reading.{◌>>=◌, number_of}
-use Rattle.frame_formats.specs.Steps.{each_byte}
+use Rattle.frame_formats.specs.Steps.{grey_of, no_colour}
+use Rattle.frame_formats.specs.declared.steps.Pixel.{Pixel}
+use Rattle.frame_formats.specs.declared.steps.Pixel.TheVariants.{Single, Deep}
 use Rattle.frame_formats.specs.declared.header.Chroma.{Chroma}
 use Rattle.frame_formats.specs.declared.header.Chroma.TheVariants.{Mono, Small, Wide, Quarter, Whole}
 use Rattle.frame_formats.specs.declared.header.Format.{Format}
@@ -45,10 +47,43 @@ abbrev pub is_interlaced : Option (List ℕ) → Bool
 is_interlaced None = false
 is_interlaced (Some word) = bytes_eq word (codes "t") || (bytes_eq word (codes "b") || bytes_eq word (codes "m"))
 
--- with no such field it is two by two pixels
-abbrev pub chroma_named : Option (List ℕ) → Option Chroma
-chroma_named None = Some Small
-chroma_named (Some word) = chroma_of word
+-- how a word begins that names samples of two bytes
+abbrev pub deep_chroma : List ℕ → Option Chroma
+deep_chroma word =
+    if bytes_eq word (codes "mono") then Some Mono
+    else if bytes_eq word (codes "420p") then Some Small
+    else if bytes_eq word (codes "422p") then Some Wide
+    else if bytes_eq word (codes "444p") then Some Whole
+    else None
+
+-- and how it ends: the number of bits, as the greatest value of so many
+abbrev pub depth_of : List ℕ → Option ℕ
+depth_of word =
+    if bytes_eq word (codes "9") then Some 511
+    else if bytes_eq word (codes "10") then Some 1023
+    else if bytes_eq word (codes "12") then Some 4095
+    else if bytes_eq word (codes "14") then Some 16383
+    else if bytes_eq word (codes "16") then Some 65535
+    else None
+
+unfoldable pub deep_of : List ℕ → Option (Chroma × Pixel)
+deep_of word = do
+  chroma ← deep_chroma (take 4 word)
+  greatest ← depth_of (drop 4 word)
+  Some (chroma, Deep greatest)
+
+-- the chroma samples and what a sample is: a byte, or two
+abbrev pub sampling_by : Option Chroma → List ℕ → Option (Chroma × Pixel)
+sampling_by (Some chroma) word = Some (chroma, Single)
+sampling_by None word = deep_of word
+
+abbrev pub sampling_of : List ℕ → Option (Chroma × Pixel)
+sampling_of word = sampling_by (chroma_of word) word
+
+-- with no such field it is two by two pixels, in bytes
+abbrev pub sampling_named : Option (List ℕ) → Option (Chroma × Pixel)
+sampling_named None = Some (Small, Single)
+sampling_named (Some word) = sampling_of word
 
 -- the fields after the first
 unfoldable pub format_in : List (List ℕ) → Option Format
@@ -57,8 +92,8 @@ format_in fields = do
   width ← number_of wide
   high ← tagged_once 72 fields
   height ← number_of high
-  chroma ← chroma_named (tagged 67 fields)
-  Some (record { width = width; height = height; chroma = chroma; interlaced = is_interlaced (tagged 73 fields) })
+  sampling ← sampling_named (tagged 67 fields)
+  Some (record { width = width; height = height; chroma = sampling.0; pixel = sampling.1; interlaced = is_interlaced (tagged 73 fields) })
 
 abbrev pub format_of_fields : List (List ℕ) → Option Format
 format_of_fields [] = None
@@ -93,16 +128,16 @@ abbrev pub at_corner : Window → ℕ → ℕ → Window
 at_corner w left top = record { left = left; top = top; width = w.width; height = w.height }
 
 -- the change of chroma samples under a change of pixels of a frame of this size: a fill leaves no colour
-unfoldable pub change_under : ℕ → ℕ → ℕ → ℕ → Change (List ℕ) → Option (Change (List ℕ))
-change_under x y width height (Fill w value) = do
+unfoldable pub change_under : Pixel → ℕ → ℕ → ℕ → ℕ → Change (List ℕ) → Option (Change (List ℕ))
+change_under pixel x y width height (Fill w value) = do
   under ← window_under x y width height w
-  Some (Fill under (each_byte 128))
-change_under x y width height (Mosaic w tile_width tile_height) = do
+  Some (Fill under (no_colour pixel))
+change_under pixel x y width height (Mosaic w tile_width tile_height) = do
   under ← window_under x y width height w
   wide ← exact_samples x tile_width
   high ← exact_samples y tile_height
   Some (Mosaic under wide high)
-change_under x y width height (Move w left top) = do
+change_under pixel x y width height (Move w left top) = do
   under ← window_under x y width height w
   goal ← window_under x y width height (at_corner w left top)
   Some (Move under goal.left goal.top)
@@ -114,18 +149,19 @@ abbrev pub padded_size : ℕ → ℕ → ℕ → Option ℕ
 padded_size before pixels behind = if nat_lt (before + pixels + behind) (2 ^ 32) then Some (before + pixels + behind) else None
 
 -- what becomes of the size of the plane of brightness
-unfoldable pub resize_for : ℕ → ℕ → Framing → Option Resize
-resize_for width height (CropPixels w) = Some (Crop w)
-resize_for width height (PadPixels left top right bottom value) = do
+unfoldable pub resize_for : Pixel → ℕ → ℕ → Framing → Option Resize
+resize_for pixel width height (CropPixels w) = Some (Crop w)
+resize_for pixel width height (PadPixels left top right bottom value) = do
   wide ← padded_size left width right
   high ← padded_size top height bottom
-  Some (Pad left top wide high (each_byte value))
+  bytes ← grey_of pixel value
+  Some (Pad left top wide high bytes)
 
 -- the same of a plane of chroma samples: a border has no colour
-unfoldable pub resize_under : ℕ → ℕ → ℕ → ℕ → Resize → Option Resize
-resize_under x y width height (Crop w) = do
+unfoldable pub resize_under : Pixel → ℕ → ℕ → ℕ → ℕ → Resize → Option Resize
+resize_under pixel x y width height (Crop w) = do
   under ← window_under x y width height w
   Some (Crop under)
-resize_under x y width height (Pad left top wide high value) = do
+resize_under pixel x y width height (Pad left top wide high value) = do
   under ← window_under x y wide high (record { left = left; top = top; width = width; height = height })
-  Some (Pad under.left under.top (samples wide x) (samples high y) (each_byte 128))
+  Some (Pad under.left under.top (samples wide x) (samples high y) (no_colour pixel))

@@ -8,7 +8,7 @@ use Rattle.image_planes.specs.Targets.{resizing_of}
 use Rattle.image_planes.specs.Unseen.{PlanesAlike}
 use Rattle.image_planes.specs.declared.target.Target.{Target}
 use Rattle.frame_formats.specs.Format.{format_of, resize_for}
-use Rattle.frame_formats.specs.Layers.{picture_layers, video_layers, jobs_on, resizings_on}
+use Rattle.frame_formats.specs.Layers.{picture_pixel, picture_layers, video_layers, jobs_on, resizings_on}
 use Rattle.frame_formats.specs.Covers.{video_unit, one_pixel, step_in}
 use Rattle.frame_formats.specs.Line.{resized}
 use Rattle.frame_formats.specs.Picture.{picture, picture_of, head_text}
@@ -45,13 +45,13 @@ recipe head jobs resizings = record {
 abbrev pub finished_video : List ℕ → Format → List Job → Option Framing → Option Recipe
 finished_video line format jobs None = Some (recipe (line ++ 10 ∷ []) jobs None)
 finished_video line format jobs (Some framing) =
-    resize_for format.width format.height framing >>= λ resize.
+    resize_for format.pixel format.width format.height framing >>= λ resize.
     if new_height resize == 0 then None
-    else option_map (λ resizings. recipe (resized (new_width resize) (new_height resize) line ++ 10 ∷ []) jobs (Some resizings)) (resizings_on (video_layers format.chroma) format.width format.height resize)
+    else option_map (λ resizings. recipe (resized (new_width resize) (new_height resize) line ++ 10 ∷ []) jobs (Some resizings)) (resizings_on format.pixel (video_layers format.chroma) format.width format.height resize)
 
 -- the recipe of edits of a video with this line, where they are edits of it
 abbrev pub video_recipe : Edits → List ℕ → Option Recipe
-video_recipe e line = format_of line >>= λ format. jobs_on (video_layers format.chroma) format.width format.height (map (step_in (video_unit format) format.width format.height) e.steps) >>= λ jobs. finished_video line format jobs e.framing
+video_recipe e line = format_of line >>= λ format. jobs_on format.pixel (video_layers format.chroma) format.width format.height (map (step_in (video_unit format) format.width format.height) e.steps) >>= λ jobs. finished_video line format jobs e.framing
 
 -- ---- a picture
 
@@ -63,13 +63,13 @@ resized_picture p width height = picture width height p.colour
 abbrev pub finished_picture : Picture → List Job → Option Framing → Option Recipe
 finished_picture p jobs None = Some (recipe (head_text p) jobs None)
 finished_picture p jobs (Some framing) =
-    resize_for p.width p.height framing >>= λ resize.
+    resize_for (picture_pixel p.colour) p.width p.height framing >>= λ resize.
     if new_height resize == 0 then None
-    else option_map (λ resizings. recipe (head_text (resized_picture p (new_width resize) (new_height resize))) jobs (Some resizings)) (resizings_on (picture_layers p.colour) p.width p.height resize)
+    else option_map (λ resizings. recipe (head_text (resized_picture p (new_width resize) (new_height resize))) jobs (Some resizings)) (resizings_on (picture_pixel p.colour) picture_layers p.width p.height resize)
 
 -- the recipe of edits of a picture, where they are edits of it
 abbrev pub picture_recipe : Edits → Picture → Option Recipe
-picture_recipe e p = jobs_on (picture_layers p.colour) p.width p.height (map (step_in one_pixel p.width p.height) e.steps) >>= λ jobs. finished_picture p jobs e.framing
+picture_recipe e p = jobs_on (picture_pixel p.colour) picture_layers p.width p.height (map (step_in one_pixel p.width p.height) e.steps) >>= λ jobs. finished_picture p jobs e.framing
 
 -- ---- sizes
 

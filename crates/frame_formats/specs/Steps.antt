@@ -1,12 +1,12 @@
 -- What is done to the pixels of frames, as what is done to each plane.
-use Rattle.std.specs.Prelude.{ℕ, List, [], ◌∷◌, Option, Some, None, replicate}
+use Rattle.std.specs.Prelude.{ℕ, ◌+◌, ◌/◌, ◌%◌, nat_lt, nat_le, if◌then◌else◌, List, [], ◌∷◌, Option, Some, None, replicate}
 use Rattle.std.specs.Option.{option_map}
 use Rattle.image_planes.specs.declared.change.Change.{Change}
 use Rattle.image_planes.specs.declared.change.Change.TheVariants.{Fill, Mosaic, Move}
 use Rattle.image_planes.specs.declared.change.Step.{Step}
 use Rattle.text_model.specs.Reading.{◌>>=◌}
 use Rattle.frame_formats.specs.declared.steps.Pixel.{Pixel}
-use Rattle.frame_formats.specs.declared.steps.Pixel.TheVariants.{Single, Colours}
+use Rattle.frame_formats.specs.declared.steps.Pixel.TheVariants.{Single, Deep, Colours}
 use Rattle.frame_formats.specs.declared.steps.Paint.{Paint}
 use Rattle.frame_formats.specs.declared.steps.Paint.TheVariants.{Grey, Colour, Around}
 
@@ -25,17 +25,35 @@ step_by become s = option_map (λ change. record { first = s.first; end = s.end;
 -- how many bytes a pixel has
 abbrev pub pixel_size : Pixel → ℕ
 pixel_size Single = 1
+pixel_size (Deep greatest) = 2
 pixel_size Colours = 3
 
 -- the bytes of a pixel that are all this one
 abbrev pub each_byte : ℕ → List ℕ
 each_byte value = replicate 8 value
 
--- the bytes that a pixel gets: one of a single byte gets no colour
+-- the bytes of a pixel of two: the low one first
+abbrev pub two_bytes : ℕ → List ℕ
+two_bytes value = value % 256 ∷ value / 256 ∷ 0 ∷ 0 ∷ 0 ∷ 0 ∷ 0 ∷ 0 ∷ []
+
+-- a pixel of this brightness, where there is one
+abbrev pub grey_of : Pixel → ℕ → Option (List ℕ)
+grey_of Single value = if nat_lt value 256 then Some (each_byte value) else None
+grey_of (Deep greatest) value = if nat_le value greatest then Some (two_bytes value) else None
+grey_of Colours value = if nat_lt value 256 then Some (each_byte value) else None
+
+-- a chroma sample of no colour: the middle of the values
+abbrev pub no_colour : Pixel → List ℕ
+no_colour Single = each_byte 128
+no_colour (Deep greatest) = two_bytes (greatest / 2 + 1)
+no_colour Colours = each_byte 128
+
+-- the bytes that a pixel gets: only one of three bytes gets a colour
 abbrev pub value_in : Pixel → Paint → Option (List ℕ)
-value_in pixel (Grey value) = Some (each_byte value)
-value_in pixel (Around value) = Some (each_byte value)
+value_in pixel (Grey value) = grey_of pixel value
+value_in pixel (Around value) = grey_of pixel value
 value_in Single (Colour red green blue) = None
+value_in (Deep greatest) (Colour red green blue) = None
 value_in Colours (Colour red green blue) = Some (red ∷ green ∷ blue ∷ 0 ∷ 0 ∷ 0 ∷ 0 ∷ 0 ∷ [])
 
 -- what a change is to a plane of such pixels

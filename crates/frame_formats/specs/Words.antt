@@ -11,7 +11,7 @@ use Rattle.image_planes.specs.declared.change.Change.TheVariants.{Fill, Mosaic, 
 use Rattle.frame_formats.specs.declared.framing.Framing.{Framing}
 use Rattle.frame_formats.specs.declared.framing.Framing.TheVariants.{Crop, Pad}
 use Rattle.text_model.specs.Parts.{parts_of}
-use Rattle.text_model.specs.Reading.{◌>>=◌, number_of, first_of_parts, number_at, pixel_at, pixel_of, window_of, is_nil}
+use Rattle.text_model.specs.Reading.{◌>>=◌, number_of, first_of_parts, number_at, pixel_at, window_of, is_nil}
 
 -- two numbers, the second as this reads it, and no part more
 unfoldable pub pair_by : (List (List ℕ) → Option (ℕ × List (List ℕ))) → List (List ℕ) → Option (ℕ × ℕ)
@@ -31,13 +31,13 @@ colour_in parts = do
   blue ← pixel_at green.1
   if is_nil blue.1 then Some (Colour red.0 green.0 blue.0) else None
 
--- a value of one byte, or else one of three with commas between them
+-- a number, or else three values of a byte with commas between them
 abbrev pub paint_by : Option ℕ → List ℕ → Option Paint
 paint_by (Some value) part = Some (Grey value)
 paint_by None part = colour_in (parts_of 44 part)
 
 abbrev pub paint_of : List ℕ → Option Paint
-paint_of part = paint_by (pixel_of part) part
+paint_of part = paint_by (number_of part) part
 
 -- a change by its word, its window and what follows it
 unfoldable pub change_of : List ℕ → Window → List ℕ → Option (Change Paint)
@@ -49,7 +49,7 @@ change_of word window last =
 
 -- a border by its sides and what follows them
 unfoldable pub pad_of : Window → List ℕ → Option Framing
-pad_of sides last = option_map (λ value. Pad sides.left sides.top sides.width sides.height value) (pixel_of last)
+pad_of sides last = option_map (λ value. Pad sides.left sides.top sides.width sides.height value) (number_of last)
 
 -- the end of a range, which may be left out: then it is greater than the number of each frame
 abbrev pub end_of : List ℕ → Option ℕ
@@ -90,7 +90,7 @@ cover_by window None = (Fill window (Around 16), 2)
 
 abbrev pub cover_at : Window → List (List ℕ) → Change Paint × ℕ
 cover_at window [] = cover_by window None
-cover_at window (last ∷ words) = cover_by window (pixel_of last)
+cover_at window (last ∷ words) = cover_by window (number_of last)
 
 -- another change, by its word, its window and what follows it
 abbrev pub other_at : List ℕ → Window → List (List ℕ) → Option (Change Paint × ℕ)

@@ -3,7 +3,7 @@
 ghost use Rattle.std.specs.Prelude.{◌≡◌};
 ghost use Rattle.frame_formats.specs.Format.{padded_size, resize_for};
 
-use crate::steps::each_byte;
+use crate::steps::{Pixel, grey_of};
 use image_planes::{Resize, Window};
 
 /// The change of the size of frames, in pixels.
@@ -17,7 +17,7 @@ pub enum Framing {
         top: usize,
         right: usize,
         bottom: usize,
-        value: u8,
+        value: usize,
     },
 }
 
@@ -29,11 +29,16 @@ fn padded_size(before: usize, pixels: usize, behind: usize) -> Option<usize>
     (size <= u32::MAX as usize).then_some(size)
 }
 
-/// The change of the size of a plane of pixels, for a frame of this size, or `None` where its new
-/// size is too large.
+/// The change of the size of a plane of pixels, for a frame of this size. `None` where its new size
+/// is too large, or its pixels lack the value.
 #[tactic(auto, unfolding(crate::specs::Format::resize_for))]
-pub(crate) fn resize_of(width: usize, height: usize, framing: Framing) -> Option<Resize>
-    ensures { result ≡ resize_for width height framing }
+pub(crate) fn resize_of(
+    pixel: Pixel,
+    width: usize,
+    height: usize,
+    framing: Framing,
+) -> Option<Resize>
+    ensures { result ≡ resize_for pixel width height framing }
 {
     match framing {
         Framing::Crop(window) => Some(Resize::Crop(window)),
@@ -48,7 +53,7 @@ pub(crate) fn resize_of(width: usize, height: usize, framing: Framing) -> Option
             top,
             width: padded_size(left, width, right)?,
             height: padded_size(top, height, bottom)?,
-            value: each_byte(value),
+            value: grey_of(pixel, value)?,
         }),
     }
 }

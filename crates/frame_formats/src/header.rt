@@ -2,9 +2,10 @@
 
 ghost use Rattle.std.specs.Prelude.{◌≡◌, ◌<◌, IfSome};
 ghost use Rattle.std.specs.Option.{option_map};
-ghost use Rattle.frame_formats.specs.Format.{tagged, tagged_once, is_interlaced, chroma_of, format_of};
+ghost use Rattle.frame_formats.specs.Format.{tagged, tagged_once, is_interlaced, chroma_of, deep_chroma, depth_of, deep_of, sampling_of, format_of};
 ghost use Rattle.texts.specs.Parts.{parts_left};
 
+use crate::steps::Pixel;
 use texts::{Field, Parts};
 
 /// The chroma samples that a frame has after its plane of brightness.
@@ -28,6 +29,8 @@ pub struct Format {
     pub width: usize,
     pub height: usize,
     pub chroma: Chroma,
+    /// What the bytes of a sample are.
+    pub pixel: Pixel,
     /// Whether the rows of two fields follow one another in turn.
     pub interlaced: bool,
 }
@@ -100,6 +103,62 @@ fn read_chroma(word: &[u8]) -> Option<Chroma>
     }
 }
 
+// How a word begins that names samples of two bytes.
+fn read_deep_chroma(word: &[u8]) -> Option<Chroma>
+    ensures { result ≡ deep_chroma word.now }
+{
+    if word == b"mono".as_slice() {
+        Some(Chroma::Mono)
+    } else if word == b"420p".as_slice() {
+        Some(Chroma::Small)
+    } else if word == b"422p".as_slice() {
+        Some(Chroma::Wide)
+    } else if word == b"444p".as_slice() {
+        Some(Chroma::Whole)
+    } else {
+        None
+    }
+}
+
+// The greatest value of so many bits.
+fn read_depth(word: &[u8]) -> Option<u16>
+    ensures { result ≡ depth_of word.now }
+{
+    if word == b"9".as_slice() {
+        Some(511)
+    } else if word == b"10".as_slice() {
+        Some(1023)
+    } else if word == b"12".as_slice() {
+        Some(4095)
+    } else if word == b"14".as_slice() {
+        Some(16383)
+    } else if word == b"16".as_slice() {
+        Some(65535)
+    } else {
+        None
+    }
+}
+
+// Samples of two bytes.
+#[tactic(auto, unfolding(crate::specs::Format::deep_of))]
+fn read_deep(word: &[u8]) -> Option<(Chroma, Pixel)>
+    ensures { result ≡ deep_of word.now }
+{
+    let (name, depth) = word.split_at(word.len().min(4));
+    let chroma = read_deep_chroma(name)?;
+    Some((chroma, Pixel::Deep(read_depth(depth)?)))
+}
+
+// The chroma samples that a word names, and what a sample is.
+fn read_sampling(word: &[u8]) -> Option<(Chroma, Pixel)>
+    ensures { result ≡ sampling_of word.now }
+{
+    match read_chroma(word) {
+        Some(chroma) => Some((chroma, Pixel::Single)),
+        None => read_deep(word),
+    }
+}
+
 /// The format that the line names, or `None` where it isn't a supported one.
 #[tactic(auto, unfolding(crate::specs::Format::format_in))]
 pub fn read_format(line: &[u8]) -> Option<Format>
@@ -111,14 +170,15 @@ pub fn read_format(line: &[u8]) -> Option<Format>
     }
     let width = usize::read(single_field(fields, b'W')?)?;
     let height = usize::read(single_field(fields, b'H')?)?;
-    let chroma = match field(fields, b'C') {
-        Some(word) => read_chroma(word)?,
-        None => Chroma::Small,
+    let (chroma, pixel) = match field(fields, b'C') {
+        Some(word) => read_sampling(word)?,
+        None => (Chroma::Small, Pixel::Single),
     };
     Some(Format {
         width,
         height,
         chroma,
+        pixel,
         interlaced: read_interlaced(field(fields, b'I')),
     })
 }

@@ -1,11 +1,11 @@
 //! The planes of a frame or a picture: what the pixels of each are, its changes, and the change of
 //! its size.
 
-ghost use Rattle.std.specs.Prelude.{◌≡◌, ◌<◌, All, map, Some, None, IfOk, IfErr};
+ghost use Rattle.std.specs.Prelude.{◌≡◌, All, map, Some, None, IfOk, IfErr};
 ghost use Rattle.std.specs.Option.{option_map};
 ghost use Rattle.image_planes.specs.Planes.{job_of};
 ghost use Rattle.image_planes.specs.Targets.{resizing_of};
-ghost use Rattle.frame_formats.specs.Layers.{StandsForPixels, picture_layers, video_layers, layer_size, layer_width, layer_height, change_on, job_on, jobs_on, resizing_on, resizings_on};
+ghost use Rattle.frame_formats.specs.Layers.{StandsForPixels, picture_pixel, picture_layers, video_layers, layer_width, layer_height, change_on, job_on, jobs_on, resizing_on, resizings_on};
 ghost use Rattle.frame_formats.specs.Plan.{Tells};
 
 use crate::header::Chroma;
@@ -19,23 +19,30 @@ use std::alloc::Global;
 #[derive(Clone, Copy)]
 pub(crate) enum Layer {
     /// A pixel for each pixel of the frame.
-    Pixels(Pixel),
+    Pixels,
     /// One chroma sample for so many columns and rows of pixels.
     Samples(usize, usize),
 }
 
-const BRIGHTNESS: Layer = Layer::Pixels(Pixel::Single);
+const BRIGHTNESS: Layer = Layer::Pixels;
 
-/// The plane of a picture.
-pub(crate) fn picture_layers(colour: bool) -> &'static [Layer]
-    ensures layers { result.now ≡ picture_layers colour }
-    ensures sound { All StandsForPixels result.now }
+/// A pixel of a picture.
+pub(crate) fn picture_pixel(colour: bool) -> Pixel
+    ensures { result ≡ picture_pixel colour }
 {
     if colour {
-        &[Layer::Pixels(Pixel::Colours)]
+        Pixel::Colours
     } else {
-        &[BRIGHTNESS]
+        Pixel::Single
     }
+}
+
+/// The plane of a picture.
+pub(crate) fn picture_layers() -> &'static [Layer]
+    ensures layers { result.now ≡ picture_layers }
+    ensures sound { All StandsForPixels result.now }
+{
+    &[BRIGHTNESS]
 }
 
 /// The planes of a video's frame: one of brightness, and two of chroma samples where there are any.
@@ -54,31 +61,19 @@ pub(crate) fn video_layers(chroma: Chroma) -> &'static [Layer]
 
 // What a change of the pixels of a frame of this size is to the plane.
 fn change_on(
+    pixel: Pixel,
     layer: Layer,
     width: usize,
     height: usize,
     change: Change<Paint>,
 ) -> Option<Change<Value>>
     requires { StandsForPixels layer }
-    ensures { result ≡ change_on layer width height change }
+    ensures { result ≡ change_on pixel layer width height change }
 {
+    let plain = change_in(pixel, change)?;
     match layer {
-        Layer::Pixels(pixel) => change_in(pixel, change),
-        Layer::Samples(x, y) => {
-            let plain = change_in(Pixel::Single, change)?;
-            change_of_samples(x, y, width, height, plain)
-        }
-    }
-}
-
-// The number of bytes of a pixel of the plane.
-fn pixel_size_on(layer: Layer) -> usize
-    ensures size { result ≡ layer_size layer }
-    ensures some { 0 < result }
-{
-    match layer {
-        Layer::Pixels(pixel) => pixel.size(),
-        Layer::Samples(..) => 1,
+        Layer::Pixels => Some(plain),
+        Layer::Samples(x, y) => change_of_samples(pixel, x, y, width, height, plain),
     }
 }
 
@@ -88,7 +83,7 @@ fn size_on(layer: Layer, width: usize, height: usize) -> (usize, usize)
     ensures { result ≡ (layer_width layer width, layer_height layer height) }
 {
     match layer {
-        Layer::Pixels(_) => (width, height),
+        Layer::Pixels => (width, height),
         Layer::Samples(x, y) => (count_samples(width, x), count_samples(height, y)),
     }
 }
@@ -96,6 +91,7 @@ fn size_on(layer: Layer, width: usize, height: usize) -> (usize, usize)
 // The plane in a frame of this size, with what is done to it.
 fn plane_on(
     alloc: Global,
+    pixel: Pixel,
     layer: Layer,
     width: usize,
     height: usize,
@@ -103,12 +99,12 @@ fn plane_on(
 ) -> Result<Plane, PlanFault>
     requires { StandsForPixels layer }
     ensures plane { IfOk result
-        (λ plane. job_on layer width height steps.now ≡ Some (job_of plane)) }
-    ensures fault { IfErr result (Tells (job_on layer width height steps.now ≡ None)) }
+        (λ plane. job_on pixel layer width height steps.now ≡ Some (job_of plane)) }
+    ensures fault { IfErr result (Tells (job_on pixel layer width height steps.now ≡ None)) }
 {
     let mut made = Vec::new(alloc);
     for step in steps {
-        let Some(change) = change_on(layer, width, height, step.change) else {
+        let Some(change) = change_on(pixel, layer, width, height, step.change) else {
             return Err(PlanFault::Outside);
         };
         let step = Step {
@@ -122,7 +118,7 @@ fn plane_on(
         }
     }
     let (wide, high) = size_on(layer, width, height);
-    let size = pixel_size_on(layer);
+    let size = pixel.size();
     // A row of so many bytes is too long for any buffer, whatever the edits are.
     let greatest = u32::MAX as usize;
     if wide <= greatest && wide > greatest / size {
@@ -135,21 +131,28 @@ fn plane_on(
 }
 
 // The plane, with what becomes of its size where this becomes of the frame's.
-fn target_on(layer: Layer, width: usize, height: usize, resize: Resize) -> Option<Target>
+fn target_on(
+    pixel: Pixel,
+    layer: Layer,
+    width: usize,
+    height: usize,
+    resize: Resize,
+) -> Option<Target>
     requires { StandsForPixels layer }
-    ensures { option_map resizing_of result ≡ resizing_on layer width height resize }
+    ensures { option_map resizing_of result ≡ resizing_on pixel layer width height resize }
 {
     let under = match layer {
-        Layer::Pixels(_) => resize,
-        Layer::Samples(x, y) => resize_of_samples(x, y, width, height, resize)?,
+        Layer::Pixels => resize,
+        Layer::Samples(x, y) => resize_of_samples(pixel, x, y, width, height, resize)?,
     };
     let (wide, high) = size_on(layer, width, height);
-    Target::new(pixel_size_on(layer), wide, high, under)
+    Target::new(pixel.size(), wide, high, under)
 }
 
 /// The planes of a frame of this size, each with its changes, from steps in pixels.
 pub(crate) fn planes_of(
     alloc: Global,
+    pixel: Pixel,
     layers: &[Layer],
     width: usize,
     height: usize,
@@ -157,12 +160,12 @@ pub(crate) fn planes_of(
 ) -> Result<Vec<Plane>, PlanFault>
     requires { All StandsForPixels layers.now }
     ensures planes { IfOk result
-        (λ planes. jobs_on layers.now width height steps.now ≡ Some (map job_of planes.items)) }
-    ensures fault { IfErr result (Tells (jobs_on layers.now width height steps.now ≡ None)) }
+        (λ planes. jobs_on pixel layers.now width height steps.now ≡ Some (map job_of planes.items)) }
+    ensures fault { IfErr result (Tells (jobs_on pixel layers.now width height steps.now ≡ None)) }
 {
     let mut planes = Vec::new(alloc);
     for layer in layers {
-        let plane = match plane_on(alloc, *layer, width, height, steps) {
+        let plane = match plane_on(alloc, pixel, *layer, width, height, steps) {
             Ok(plane) => plane,
             Err(fault) => return Err(fault),
         };
@@ -177,6 +180,7 @@ pub(crate) fn planes_of(
 /// The planes of a frame of this size, each with the change of its size.
 pub(crate) fn targets_of(
     alloc: Global,
+    pixel: Pixel,
     layers: &[Layer],
     width: usize,
     height: usize,
@@ -184,12 +188,12 @@ pub(crate) fn targets_of(
 ) -> Result<Vec<Target>, PlanFault>
     requires { All StandsForPixels layers.now }
     ensures targets { IfOk result (λ targets.
-        resizings_on layers.now width height resize ≡ Some (map resizing_of targets.items)) }
-    ensures fault { IfErr result (Tells (resizings_on layers.now width height resize ≡ None)) }
+        resizings_on pixel layers.now width height resize ≡ Some (map resizing_of targets.items)) }
+    ensures fault { IfErr result (Tells (resizings_on pixel layers.now width height resize ≡ None)) }
 {
     let mut targets = Vec::new(alloc);
     for layer in layers {
-        let Some(target) = target_on(*layer, width, height, resize) else {
+        let Some(target) = target_on(pixel, *layer, width, height, resize) else {
             return Err(PlanFault::Outside);
         };
         match targets.push(target) {

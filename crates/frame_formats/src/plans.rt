@@ -11,7 +11,7 @@ ghost use Rattle.frame_formats.specs.Recipe.{recipe, video_recipe, picture_recip
 use crate::covers::{Unit, settle_all, unit_of_video};
 use crate::framing::{Framing, resize_of};
 use crate::header::Format;
-use crate::layers::{picture_layers, planes_of, targets_of, video_layers};
+use crate::layers::{picture_layers, picture_pixel, planes_of, targets_of, video_layers};
 use crate::line::{ended_line, resized_line};
 use crate::picture::{Picture, picture_head};
 use crate::steps::Paint;
@@ -21,8 +21,8 @@ use std::alloc::Global;
 /// Why there is no plan.
 #[derive(Clone, Copy, Debug, PartialEq, Eq)]
 pub enum PlanFault {
-    /// The edit reaches outside a plane, doesn't fall on whole chroma samples, or has a colour for
-    /// which there are no planes.
+    /// The edit reaches outside a plane, or doesn't fall on whole chroma samples. Or it has a
+    /// colour where there is one brightness, or a value that the samples lack.
     Outside,
     /// No memory was found for the plan, or a frame has 2^64 bytes or more.
     Memory,
@@ -102,20 +102,34 @@ impl Plan {
         let Ok(settled) = settle_all(alloc, unit, format.width, format.height, steps) else {
             return Err(PlanFault::Memory);
         };
-        let planes = planes_of(alloc, layers, format.width, format.height, &settled)?;
+        let planes = planes_of(
+            alloc,
+            format.pixel,
+            layers,
+            format.width,
+            format.height,
+            &settled,
+        )?;
         let Some(framing) = framing else {
             let Ok(head) = ended_line(alloc, line) else {
                 return Err(PlanFault::Memory);
             };
             return Plan::new(head, planes, None);
         };
-        let Some(resize) = resize_of(format.width, format.height, framing) else {
+        let Some(resize) = resize_of(format.pixel, format.width, format.height, framing) else {
             return Err(PlanFault::Outside);
         };
         if resize.height() < 1 {
             return Err(PlanFault::Outside);
         }
-        let targets = targets_of(alloc, layers, format.width, format.height, resize)?;
+        let targets = targets_of(
+            alloc,
+            format.pixel,
+            layers,
+            format.width,
+            format.height,
+            resize,
+        )?;
         let Ok(head) = resized_line(alloc, line, resize.width(), resize.height()) else {
             return Err(PlanFault::Memory);
         };
@@ -139,25 +153,33 @@ impl Plan {
         ensures fault { IfErr result
             (Tells (picture_recipe (edits steps.now framing) picture ≡ None)) }
     {
-        let layers = picture_layers(picture.colour);
+        let pixel = picture_pixel(picture.colour);
+        let layers = picture_layers();
         let unit = Unit { across: 1, down: 1 };
         let Ok(settled) = settle_all(alloc, unit, picture.width, picture.height, steps) else {
             return Err(PlanFault::Memory);
         };
-        let planes = planes_of(alloc, layers, picture.width, picture.height, &settled)?;
+        let planes = planes_of(
+            alloc,
+            pixel,
+            layers,
+            picture.width,
+            picture.height,
+            &settled,
+        )?;
         let Some(framing) = framing else {
             let Ok(head) = picture_head(alloc, picture) else {
                 return Err(PlanFault::Memory);
             };
             return Plan::new(head, planes, None);
         };
-        let Some(resize) = resize_of(picture.width, picture.height, framing) else {
+        let Some(resize) = resize_of(pixel, picture.width, picture.height, framing) else {
             return Err(PlanFault::Outside);
         };
         if resize.height() == 0 {
             return Err(PlanFault::Outside);
         }
-        let targets = targets_of(alloc, layers, picture.width, picture.height, resize)?;
+        let targets = targets_of(alloc, pixel, layers, picture.width, picture.height, resize)?;
         let resized = Picture {
             width: resize.width(),
             height: resize.height(),

@@ -3,7 +3,7 @@
 ghost use Rattle.std.specs.Prelude.{◌≡◌, ◌<◌};
 ghost use Rattle.frame_formats.specs.Format.{samples, ends_on_sample, window_under, exact_samples, at_corner, change_under, resize_under};
 
-use crate::steps::each_byte;
+use crate::steps::{Pixel, no_colour};
 use image_planes::{Change, Resize, Value, Window};
 
 // The number of samples for so many pixels, where it is a whole one.
@@ -66,6 +66,7 @@ fn window_of_samples(
 // The change of chroma samples under a change of pixels.
 #[tactic(auto, unfolding(crate::specs::Format::change_under))]
 pub(crate) fn change_of_samples(
+    pixel: Pixel,
     x: usize,
     y: usize,
     width: usize,
@@ -74,12 +75,12 @@ pub(crate) fn change_of_samples(
 ) -> Option<Change<Value>>
     requires across { 0 < x }
     requires down { 0 < y }
-    ensures { result ≡ change_under x y width height change }
+    ensures { result ≡ change_under pixel x y width height change }
 {
     match change {
         Change::Fill { window, value: _ } => Some(Change::Fill {
             window: window_of_samples(x, y, width, height, window)?,
-            value: each_byte(128),
+            value: no_colour(pixel),
         }),
         Change::Mosaic {
             window,
@@ -106,6 +107,7 @@ pub(crate) fn change_of_samples(
 // What becomes of a plane of chroma samples.
 #[tactic(auto, unfolding(crate::specs::Format::resize_under))]
 pub(crate) fn resize_of_samples(
+    pixel: Pixel,
     x: usize,
     y: usize,
     width: usize,
@@ -114,7 +116,7 @@ pub(crate) fn resize_of_samples(
 ) -> Option<Resize>
     requires across { 0 < x }
     requires down { 0 < y }
-    ensures { result ≡ resize_under x y width height resize }
+    ensures { result ≡ resize_under pixel x y width height resize }
 {
     match resize {
         Resize::Crop(window) => {
@@ -130,7 +132,7 @@ pub(crate) fn resize_of_samples(
                 top: under.top,
                 width: count_samples(wide, x),
                 height: count_samples(high, y),
-                value: each_byte(128),
+                value: no_colour(pixel),
             })
         }
     }

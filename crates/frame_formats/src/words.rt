@@ -39,11 +39,11 @@ fn read_colour(piece: &[u8]) -> Option<Paint>
         .then_some(Paint::Colour { red, green, blue })
 }
 
-// A value of one byte, or a colour.
+// A brightness, or a colour.
 fn read_paint(piece: &[u8]) -> Option<Paint>
     ensures { result ≡ paint_of piece.now }
 {
-    match u8::read(piece) {
+    match usize::read(piece) {
         Some(value) => Some(Paint::Grey(value)),
         None => read_colour(piece),
     }
@@ -82,7 +82,7 @@ fn read_pad(sides: Window, last: &[u8]) -> Option<Framing>
         top: sides.top,
         right: sides.width,
         bottom: sides.height,
-        value: u8::read(last)?,
+        value: usize::read(last)?,
     })
 }
 
@@ -149,7 +149,7 @@ fn read_cover(window: Window, words: &[&[u8]]) -> (Change<Paint>, usize)
 {
     let value = match words {
         [] => None,
-        [last, ..] => u8::read(last),
+        [last, ..] => usize::read(last),
     };
     match value {
         Some(value) => {

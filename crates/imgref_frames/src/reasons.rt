@@ -3,9 +3,10 @@
 use crate::fault::RunFault;
 use crate::request::Seen;
 use crate::words::{Refusal, find_bad_word, find_line};
-use frame_formats::{Change, Chroma, Edits, Format, Framing, Paint, Step, Window};
+use frame_formats::{Change, Chroma, Edits, Format, Framing, Paint, Pixel, Step, Window};
 
-// A frame: its size, and how many columns and rows of pixels share a chroma sample.
+// A frame: its size, how many columns and rows of pixels share a chroma sample, and the greatest
+// value of a sample.
 #[derive(Clone, Copy)]
 struct Frame {
     width: usize,
@@ -13,6 +14,7 @@ struct Frame {
     across: usize,
     down: usize,
     has_colours: bool,
+    greatest: usize,
 }
 
 impl Frame {
@@ -29,6 +31,10 @@ impl Frame {
             across,
             down,
             has_colours: false,
+            greatest: match format.pixel {
+                Pixel::Deep(greatest) => greatest as usize,
+                Pixel::Single | Pixel::Colours => 255,
+            },
         }
     }
 
@@ -41,6 +47,7 @@ impl Frame {
                 across: 1,
                 down: 1,
                 has_colours: picture.colour,
+                greatest: 255,
             }),
             Seen::Nothing => None,
         }
@@ -56,6 +63,8 @@ enum Wrong {
     TooLarge,
     // This number of these is no multiple of that.
     Uneven(&'static str, usize, usize),
+    // This value is above the greatest.
+    Value(usize, usize),
 }
 
 fn check_corner(name: &'static str, at: usize, step: usize) -> Option<Wrong> {
@@ -102,10 +111,15 @@ fn check_window(frame: Frame, window: Window) -> Option<Wrong> {
     left.or(top).or(width).or(height)
 }
 
+fn check_value(frame: Frame, value: usize) -> Option<Wrong> {
+    (value > frame.greatest).then_some(Wrong::Value(value, frame.greatest))
+}
+
 fn check_change(frame: Frame, change: Change<Paint>) -> Option<Wrong> {
     match change {
         Change::Fill { window, value } => match value {
-            Paint::Around(_) => None,
+            Paint::Around(value) => check_value(frame, value),
+            Paint::Grey(value) => check_value(frame, value).or(check_window(frame, window)),
             Paint::Colour { .. } if !frame.has_colours => Some(Wrong::Colour),
             _ => check_window(frame, window),
         },
@@ -136,10 +150,16 @@ fn check_framing(frame: Frame, framing: Framing) -> Option<Wrong> {
             }
             check_window(frame, window)
         }
-        Framing::Pad { left, top, .. } => {
+        Framing::Pad {
+            left,
+            top,
+            value,
+            ..
+        } => {
+            let above = check_value(frame, value);
             let column = check_corner("left side", left, frame.across);
             let row = check_corner("upper side", top, frame.down);
-            Some(column.or(row).unwrap_or(Wrong::TooLarge))
+            Some(above.or(column).or(row).unwrap_or(Wrong::TooLarge))
         }
     }
 }
@@ -149,6 +169,9 @@ fn say_wrong(rt: &HostRuntime, wrong: Wrong) {
         Wrong::Outside => eprintln!(rt; "it reaches outside the frame"),
         Wrong::NoSize => eprintln!(rt; "its size is 0"),
         Wrong::Colour => eprintln!(rt; "a colour is only for pictures in colour"),
+        Wrong::Value(value, greatest) => eprintln!(rt;
+            "value {value} is above {greatest}, the greatest of a sample"
+        ),
         Wrong::TooLarge => eprintln!(rt;
             "the frame inside its border is too large, or ends within a chroma sample"
         ),
@@ -214,7 +237,7 @@ pub(crate) fn say_reason(
             )
         }
         RunFault::Header => eprintln!(rt;
-            "the input begins with no YUV4MPEG2 line of C420, C422, C411, C444 or Cmono at 8 bits, and with no head of P5 or P6 with 255. For P4 use pbmtopgm, for P7 pamtopnm, for other videos ffmpeg with -pix_fmt yuv420p"
+            "the input begins with no YUV4MPEG2 line of C420, C422, C444 or Cmono at 8 to 16 bits or of C411 at 8, and with no head of P5 or P6 with 255. For P4 use pbmtopgm, for P7 pamtopnm, for other videos ffmpeg with -pix_fmt yuv420p"
         ),
         RunFault::Frame(number) => eprintln!(rt;
             "after {number} frames or pictures the input goes on, and not with a whole one"

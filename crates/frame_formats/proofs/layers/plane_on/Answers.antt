@@ -14,4 +14,4 @@ loop-step-preserved c = grind (arith, one_more, step_made)
 
 pub returns-in-Some-new-clause-plane : goal.returns-in-Some-new-clause-plane
 returns-in-Some-new-clause-plane c =
-    rw (all_done (step_by (change_on c.args.layer c.args.width c.args.height)) c.loop-step.made.items c.args.steps.now c.loop-step.step-index _ (omega arith) c.loop-step.invariant) (grind (arith, common_steps))
+    rw (all_done (step_by (change_on c.args.pixel c.args.layer c.args.width c.args.height)) c.loop-step.made.items c.args.steps.now c.loop-step.step-index _ (omega arith) c.loop-step.invariant) (grind (arith, common_steps))

@@ -5,4 +5,4 @@ use Rattle.frame_formats.proofs.StepsEach.{with_front}
 use Rattle.frame_formats.proofs.layers.plane_on.Given as goal
 
 abbrev pub invariant-loop-step : goal.invariant-loop-step
-invariant-loop-step l = with_front l.made.items (all_some (step_by (change_on l.layer l.width l.height)) (drop l.step-index l.steps)) ≡ all_some (step_by (change_on l.layer l.width l.height)) l.steps
+invariant-loop-step l = with_front l.made.items (all_some (step_by (change_on l.pixel l.layer l.width l.height)) (drop l.step-index l.steps)) ≡ all_some (step_by (change_on l.pixel l.layer l.width l.height)) l.steps

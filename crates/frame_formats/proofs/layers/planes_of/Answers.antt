@@ -13,10 +13,10 @@ returns-in-Err-clause-fault c = grind (arith, one_stops, tells_more)
 pub loop-layer-preserved : goal.loop-layer-preserved
 loop-layer-preserved c =
     let a = c.args in
-    let made = λ (layer : Layer). job_on layer a.width a.height a.steps.now in
+    let made = λ (layer : Layer). job_on a.pixel layer a.width a.height a.steps.now in
     rw (c.in-Ok-push.ensures.items, map-append) (one_more made (map job_of c.loop-layer.planes.items) a.layers.now c.loop-layer.layer-index _ _ _ (omega arith) c.in-Ok.ensures.plane c.loop-layer.invariant)
 
 pub returns-clause-planes : goal.returns-clause-planes
 returns-clause-planes c =
     let a = c.args in
-    all_done (λ layer. job_on layer a.width a.height a.steps.now) (map job_of c.loop-layer.planes.items) a.layers.now c.loop-layer.layer-index _ (omega arith) c.loop-layer.invariant
+    all_done (λ layer. job_on a.pixel layer a.width a.height a.steps.now) (map job_of c.loop-layer.planes.items) a.layers.now c.loop-layer.layer-index _ (omega arith) c.loop-layer.invariant

@@ -5,4 +5,4 @@ use Rattle.frame_formats.proofs.StepsEach.{with_front}
 use Rattle.frame_formats.proofs.layers.planes_of.Given as goal
 
 abbrev pub invariant-loop-layer : goal.invariant-loop-layer
-invariant-loop-layer l = with_front (map job_of l.planes.items) (jobs_on (drop l.layer-index l.layers) l.width l.height l.steps) ≡ jobs_on l.layers l.width l.height l.steps
+invariant-loop-layer l = with_front (map job_of l.planes.items) (jobs_on l.pixel (drop l.layer-index l.layers) l.width l.height l.steps) ≡ jobs_on l.pixel l.layers l.width l.height l.steps

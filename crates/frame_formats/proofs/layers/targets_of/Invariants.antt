@@ -5,4 +5,4 @@ use Rattle.frame_formats.proofs.StepsEach.{with_front}
 use Rattle.frame_formats.proofs.layers.targets_of.Given as goal
 
 abbrev pub invariant-loop-layer : goal.invariant-loop-layer
-invariant-loop-layer l = with_front (map resizing_of l.targets.items) (resizings_on (drop l.layer-index l.layers) l.width l.height l.resize) ≡ resizings_on l.layers l.width l.height l.resize
+invariant-loop-layer l = with_front (map resizing_of l.targets.items) (resizings_on l.pixel (drop l.layer-index l.layers) l.width l.height l.resize) ≡ resizings_on l.pixel l.layers l.width l.height l.resize
