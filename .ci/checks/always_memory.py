@@ -4,7 +4,9 @@
 Every contract of a call that takes memory allows the result out of memory, so no planted bug of `must-fail/` can show
 such a call. The tests that use it are first run as they are, in a copy of the repository, and must pass. Then each case puts
 that result at the head of one call, and runs these tests again: some must fail now, since a test returns out of memory as its
-result. Files of tests that use none of the calls are left out of the copy.
+result. Files of tests that use none of the calls are left out of the copy. The program for video and pictures is run with
+each change on a small input, and must end with `fault memory`. (`built/frames.py` and `built/pictures.py` show that it ends well
+as it is.)
 """
 import pathlib
 import re
@@ -31,6 +33,22 @@ CASES = [
     ("script_text", "output", "format_output", NO_ROOM, "imgref_run"),
     ("imgref_run", "program", "run", "if true { return Err(RunFault::Memory); }", "imgref_run"),
 ]
+# The same of calls that only the program for video and pictures makes: the crate, the file, the function, what is put at its
+# head, the input of the program, and its words. EDITS is a file with a line.
+PLANNED = "if true { return Err(PlanFault::Memory); }"
+READ = "if true { return Err(WordsFault::Memory); }"
+VIDEO, PICTURE = b"YUV4MPEG2 W4 H2 C420\nFRAME\n0123456789AB", b"P5 4 2 255\n01234567"
+# The status of both programs that are out of memory.
+OUT_OF_MEMORY = 3
+EDITS, FILL = "edits", ("fill", "0,0,2,2", "16")
+RUNS = [
+    ("frame_formats", "plans", "for_video", PLANNED, VIDEO, FILL),
+    ("frame_formats", "plans", "for_picture", PLANNED, PICTURE, FILL),
+    ("frame_formats", "words", "take", READ, VIDEO, FILL),
+    ("frame_formats", "words", "take_all", READ, VIDEO, FILL),
+    ("frame_formats", "words", "take_lines", READ, VIDEO, ("--edits", EDITS)),
+    ("imgref_frames", "program", "run", "if true { return Err(RunFault::Memory(0)); }", VIDEO, FILL),
+]
 # The files that are kept of a crate with many tests.
 FILES = {"imgref_hostile_tests": ("contiguous", "copies"), "imgref_replay_tests": ("commands", "fixtures")}
 
@@ -51,6 +69,28 @@ def tests_of(crate):
     return tuple(map(int, found.groups())) if found else None
 
 
+def end_of(copy, given, words):
+    """How the program for video and pictures ends, and whether it wrote anything, or nothing where it is not run."""
+    file = copy / EDITS
+    file.write_text(" ".join(FILL) + "\n")
+    words = [str(file) if it == EDITS else it for it in words]
+    ran = subprocess.run(["rt", "try", "--", *words], cwd=copy / "crates/imgref_frames", input=given, capture_output=True)
+    found = re.search(rb"^checked: ended status=(\d+)", ran.stderr, re.M)
+    return (int(found[1]), bool(ran.stdout)) if found else None
+
+
+def found_in(path, name, head, look):
+    """What is found where that statement is at the head of that function, or why it can't be."""
+    whole = path.read_text()
+    try:
+        path.write_text(with_function(whole, name, lambda it: with_head(it, head)))
+        return look()
+    except ValueError as why:
+        return str(why)
+    finally:
+        path.write_text(whole)
+
+
 def main():
     cases = Cases()
     with changeable_copy() as copy:
@@ -60,17 +100,13 @@ def main():
         for tests, found in unchanged.items():
             cases.count(f"the tests of {tests} pass as they are", found and found[0] > 0 and found[1] == 0, f"passed and failed: {found}")
         for crate, file, name, head, tests in CASES:
-            path = copy / "crates" / crate / f"src/{file}.rt"
-            whole = path.read_text()
-            try:
-                path.write_text(with_function(whole, name, lambda it: with_head(it, head)))
-                found = tests_of(copy / "crates" / tests)
-            except ValueError as why:
-                found = str(why)
-            path.write_text(whole)
+            found = found_in(copy / f"crates/{crate}/src/{file}.rt", name, head, lambda: tests_of(copy / "crates" / tests))
             was = unchanged[tests]
             is_well = was and isinstance(found, tuple) and found[1] > was[1] and sum(found) == sum(was)
             cases.count(f"{crate}::{name} that is always out of memory is refused by the tests of {tests}", is_well, f"passed and failed: {found}, and unchanged: {was}")
+        for crate, file, name, head, given, words in RUNS:
+            found = found_in(copy / f"crates/{crate}/src/{file}.rt", name, head, lambda: end_of(copy, given, words))
+            cases.count(f"{crate}::{name} that is always out of memory is told by imgref_frames", found == (OUT_OF_MEMORY, False), f"status, and whether it wrote: {found}")
     return cases.end()
 
 

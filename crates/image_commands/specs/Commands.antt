@@ -158,16 +158,16 @@ abbrev pub place_area : Place → ℕ → ℕ → Sizes → Area
 place_area spot x y sizes = let w = window_named spot sizes in record { image = spot.image; window = window (w.left + x) (w.top + y) 1 1 }
 
 -- an area that is written, and where the new pixel in column x of its row y comes from
-pub record Change (T : Type 0) : Type 0 where
+pub record Write (T : Type 0) : Type 0 where
   pub area : Area
   pub pixel : ℕ → ℕ → Source T
 
--- the grids with the one of the area patched there: each new pixel is as it was before the change
-abbrev pub changed : {T : Type 0} → Change T → List (Grid T) → List (Grid T)
-changed change grids =
-    let image = change.area.image in
-    let w = change.area.window in
-    slice_set grids image (patch (grid_at grids image) w.left w.top (grid w.width w.height (λ x y. pixel_from (change.pixel x y) grids)))
+-- the grids with the one of the area patched there: each new pixel is as it was before
+abbrev pub written : {T : Type 0} → Write T → List (Grid T) → List (Grid T)
+written write grids =
+    let image = write.area.image in
+    let w = write.area.window in
+    slice_set grids image (patch (grid_at grids image) w.left w.top (grid w.width w.height (λ x y. pixel_from (write.pixel x y) grids)))
 
 -- ---- meanings
 
@@ -175,28 +175,28 @@ changed change grids =
 pub record Meaning (T : Type 0) : Type 0 where
   pub faults : Sizes → List (Bool × Refusal)
   pub answer : Scene T → Answer T
-  pub change : Sizes → Option (Change T)
+  pub write : Sizes → Option (Write T)
   pub compacted : Option ℕ
 
 -- a command that asks a question: the grids stay
 abbrev pub asks : {T : Type 0} → (Sizes → List (Bool × Refusal)) → (Scene T → Answer T) → Meaning T
-asks faults answer = record { faults = faults; answer = answer; change = λ _. None; compacted = None }
+asks faults answer = record { faults = faults; answer = answer; write = λ _. None; compacted = None }
 
--- a command that writes an area: the reply is `Done`
-abbrev pub writes : {T : Type 0} → (Sizes → List (Bool × Refusal)) → (Sizes → Area) → (ℕ → ℕ → Source T) → Meaning T
-writes faults area pixel = record { faults = faults; answer = λ _. told Done; change = λ sizes. Some (record { area = area sizes; pixel = pixel }); compacted = None }
+-- a command that writes an area: the reply is `Done`. Where a new pixel comes from may depend on the sizes too
+abbrev pub writes : {T : Type 0} → (Sizes → List (Bool × Refusal)) → (Sizes → Area) → (Sizes → ℕ → ℕ → Source T) → Meaning T
+writes faults area pixel = record { faults = faults; answer = λ _. told Done; write = λ sizes. Some (record { area = area sizes; pixel = pixel sizes }); compacted = None }
 
 -- a command that compacts an image: the reply is `Done`, and no grid changes
 abbrev pub packs : {T : Type 0} → ℕ → Meaning T
-packs image = record { faults = image_faults image; answer = λ _. told Done; change = λ _. None; compacted = Some image }
+packs image = record { faults = image_faults image; answer = λ _. told Done; write = λ _. None; compacted = Some image }
 
 -- each command
 abbrev pub meaning : {T : Type 0} → Command T → Meaning T
 meaning (Get spot x y) = asks (place_faults spot x y) (λ _. shown (old spot x y))
-meaning (Put spot x y value) = writes (place_faults spot x y) (place_area spot x y) (λ _ _. given value)
-meaning (Fill spot value) = writes (window_faults spot) (window_area spot) (λ _ _. given value)
+meaning (Put spot x y value) = writes (place_faults spot x y) (place_area spot x y) (λ _ _ _. given value)
+meaning (Fill spot value) = writes (window_faults spot) (window_area spot) (λ _ _ _. given value)
 meaning (Count spot value) = asks (window_faults spot) (λ scene. told (Counted (count_equal spot value scene)))
 meaning (Same first second) = asks (pair_faults first second) (λ scene. told (Truth (are_same first second scene)))
-meaning (Blit source target) = writes (copy_faults source target) (window_area target) (λ x y. old source x y)
-meaning (Mosaic spot tile_width tile_height) = writes (tile_faults spot tile_width tile_height) (window_area spot) (λ x y. old spot (tile_start tile_width x) (tile_start tile_height y))
+meaning (Blit source target) = writes (copy_faults source target) (window_area target) (λ _ x y. old source x y)
+meaning (Mosaic spot tile_width tile_height) = writes (tile_faults spot tile_width tile_height) (window_area spot) (λ _ x y. old spot (tile_start tile_width x) (tile_start tile_height y))
 meaning (Compact image) = packs image

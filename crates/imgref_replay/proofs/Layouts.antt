@@ -6,7 +6,7 @@ use Rattle.image_model.specs.Grid.{Grid, Agree, AlikePixels}
 use Rattle.image_model.specs.Windows.{window_view}
 use Rattle.image_model.proofs.Agreement.{agree_grid, agree_view, agree_patch}
 use Rattle.image_commands.specs.PlaceTests.{are_alike_pixels}
-use Rattle.image_commands.specs.Commands.{grid_at, sizes_of, window_named, view_named, Source, given, old, pixel_from, scene_of, Answer, shown, told, reply_of, Change, changed, meaning}
+use Rattle.image_commands.specs.Commands.{grid_at, sizes_of, window_named, view_named, Source, given, old, pixel_from, scene_of, Answer, shown, told, reply_of, Write, written, meaning}
 use Rattle.imgref_replay.specs.Step.{first_fault, fault_of, answer_to, effect_of, reply_to, after}
 use Rattle.imgref_replay.specs.Run.{replies_to, after_all}
 use Rattle.imgref_replay.specs.Layouts.{GridsAgree, AlikeReply, RepliesAgree}
@@ -83,20 +83,20 @@ module _ {T : Type 0} (eq : T → T → Bool) where
       alike_answer : (command : Command T) → AlikeReply eq (answer_to eq command gs) (answer_to eq command hs)
       alike_answer command = subst (λ scene. AlikeReply eq (answer_to eq command gs) (reply_of ((meaning command).answer scene) hs)) same_scene (alike_of ((meaning command).answer (scene_of eq gs)))
 
-      agree_changed : (change : Change T) → GridsAgree eq (changed change gs) (changed change hs)
-      agree_changed change =
-          let i = change.area.image in
-          let w = change.area.window in
+      agree_written : (write : Write T) → GridsAgree eq (written write gs) (written write hs)
+      agree_written write =
+          let i = write.area.image in
+          let w = write.area.window in
           let one = agree_at gs hs i a in
-          let pixels = agree_grid eq w.width w.width w.height w.height _ _ refl refl (λ x y _ _. alike_pixel (change.pixel x y)) in
+          let pixels = agree_grid eq w.width w.width w.height w.height _ _ refl refl (λ x y _ _. alike_pixel (write.pixel x y)) in
           agree_set gs hs i _ _ a (agree_patch eq (grid_at gs i) (grid_at hs i) _ _ w.left w.top one pixels)
 
-      agree_some : (change : Option (Change T)) → GridsAgree eq (option_map_or (λ c. changed c gs) change gs) (option_map_or (λ c. changed c hs) change hs)
+      agree_some : (write : Option (Write T)) → GridsAgree eq (option_map_or (λ w. written w gs) write gs) (option_map_or (λ w. written w hs) write hs)
       agree_some None = a
-      agree_some (Some change) = agree_changed change
+      agree_some (Some write) = agree_written write
 
       agree_effect : (command : Command T) → GridsAgree eq (effect_of command gs) (effect_of command hs)
-      agree_effect command = subst (λ sizes. GridsAgree eq (effect_of command gs) (option_map_or (λ c. changed c hs) ((meaning command).change sizes) hs)) same_sizes (agree_some ((meaning command).change (sizes_of gs)))
+      agree_effect command = subst (λ sizes. GridsAgree eq (effect_of command gs) (option_map_or (λ w. written w hs) ((meaning command).write sizes) hs)) same_sizes (agree_some ((meaning command).write (sizes_of gs)))
 
       agree_or : (o : Option Refusal) (ks ls : List (Grid T)) → GridsAgree eq ks ls → GridsAgree eq (option_map_or (λ _. gs) o ks) (option_map_or (λ _. hs) o ls)
       agree_or None ks ls b = b

@@ -8,7 +8,7 @@ use Rattle.image_model.specs.Compaction.{IsKept}
 use Rattle.image_model.specs.Windows.{Window, IsInside}
 use Rattle.imgref.specs.declared.img.Img.{Img}
 use Rattle.imgref.specs.Lists.{grids_of}
-use Rattle.image_commands.specs.Commands.{grid_at, sizes_of, scene_of, reply_of, changed, meaning}
+use Rattle.image_commands.specs.Commands.{grid_at, sizes_of, scene_of, reply_of, written, meaning}
 use Rattle.image_commands.specs.declared.commands.Command.{Command}
 use Rattle.image_commands.specs.declared.commands.Refusal.{Refusal}
 use Rattle.image_commands.specs.declared.commands.Reply.{Reply}
@@ -29,7 +29,7 @@ answer_to eq command grids = reply_of ((meaning command).answer (scene_of eq gri
 
 -- the grids after a command that has no fault
 abbrev pub effect_of : {T : Type 0} → Command T → List (Grid T) → List (Grid T)
-effect_of command grids = option_map_or (λ change. changed change grids) ((meaning command).change (sizes_of grids)) grids
+effect_of command grids = option_map_or (λ write. written write grids) ((meaning command).write (sizes_of grids)) grids
 
 -- the reply to a command: its first fault, or what it replies without one
 abbrev pub reply_to : {T : Type 0} → (T → T → Bool) → Command T → List (Grid T) → Reply T

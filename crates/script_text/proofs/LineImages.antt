@@ -6,14 +6,14 @@ use Rattle.std.proofs.lemmas.Bool.{leb-true, le-leb}
 use Rattle.image_model.specs.Layout.{Layout, layout, is_fitting}
 use Rattle.image_model.proofs.Places.{is_fitting_decides}
 use Rattle.text_model.specs.Fields.{IsWord, IsPixel}
-use Rattle.script_text.specs.Line.{IsImage, image_line, entry_fields}
+use Rattle.script_text.specs.Line.{IsScriptImage, image_line, entry_fields}
 use Rattle.text_model.specs.Reading.{◌>>=◌, number_of, number_at, each_of, pixel_of}
 use Rattle.script_text.specs.Reading.{image_in, is_sized, sized}
 use Rattle.text_model.proofs.PartsJoined.{AllLack, and_parts, lacks-decimal}
 use Rattle.text_model.proofs.Options.{bind_some, guard_some}
 use Rattle.text_model.proofs.FieldTexts.{first_is, first_back, each_is, each_back, then, number_law, pixel_law}
 
-sized_is : (i : Layout ℕ) → is_sized i ≡ true → IsWord i.stride → AllByRecursion IsPixel i.cells → IsImage i
+sized_is : (i : Layout ℕ) → is_sized i ≡ true → IsWord i.stride → AllByRecursion IsPixel i.cells → IsScriptImage i
 sized_is i e stride cells =
     let a = and_parts (leb i.width 4294967295) (leb i.height 4294967295 && (leb 1 i.stride && (leb i.width i.stride && is_fitting i))) e in
     let b = and_parts (leb i.height 4294967295) (leb 1 i.stride && (leb i.width i.stride && is_fitting i)) a.1 in
@@ -29,12 +29,12 @@ sized_is i e stride cells =
       fits = (is_fitting_decides i).0 d.1;
     }
 
-is_sized-image : (i : Layout ℕ) → IsImage i → is_sized i ≡ true
+is_sized-image : (i : Layout ℕ) → IsScriptImage i → is_sized i ≡ true
 is_sized-image i is =
     rw (le-leb i.width 4294967295 is.width, le-leb i.height 4294967295 is.height, le-leb 1 i.stride is.stride_positive, le-leb i.width i.stride is.holds_width)
     ((is_fitting_decides i).1 is.fits)
 
-pub image_is : (fields : List (List ℕ)) (i : Layout ℕ) → image_in fields ≡ Some i → (codes "image" ∷ fields ≡ entry_fields (image_line i)) × IsImage i
+pub image_is : (fields : List (List ℕ)) (i : Layout ℕ) → image_in fields ≡ Some i → (codes "image" ∷ fields ≡ entry_fields (image_line i)) × IsScriptImage i
 unfolding image_in
 image_is fields i e =
     let number = first_is number_of decimal IsWord number_law in
@@ -49,10 +49,10 @@ image_is fields i e =
     let ct = number b.0.1 c.0 c.1 in
     let dt = each_is pixel_of decimal IsPixel pixel_law c.0.1 d.0 d.1 in
     let whole = then fields _ _ _ at.0 (then a.0.1 _ _ _ bt.0 (then b.0.1 _ _ _ ct.0 dt.0)) in
-    subst (λ (v : Layout ℕ). (codes "image" ∷ fields ≡ entry_fields (image_line v)) × IsImage v) {x = made} {y = i} end.1
+    subst (λ (v : Layout ℕ). (codes "image" ∷ fields ≡ entry_fields (image_line v)) × IsScriptImage v) {x = made} {y = i} end.1
     (ap (λ (l : List (List ℕ)). codes "image" ∷ l) whole, sized_is made end.0 ct.1 dt.1)
 
-pub image_back : (i : Layout ℕ) → IsImage i → image_in (decimal i.width ∷ decimal i.height ∷ decimal i.stride ∷ map decimal i.cells) ≡ Some i
+pub image_back : (i : Layout ℕ) → IsScriptImage i → image_in (decimal i.width ∷ decimal i.height ∷ decimal i.stride ∷ map decimal i.cells) ≡ Some i
 unfolding image_in
 image_back i is =
     let number = first_back number_of decimal IsWord number_law in
@@ -69,7 +69,7 @@ lacks-cells [] all = tt
 lacks-cells (cell ∷ cells) all = (lacks-decimal 32 cell (omega arith) (omega (arith, all.0)), lacks-cells cells all.1)
 
 -- no field of an image has a space
-pub lacks-image : (i : Layout ℕ) → IsImage i → AllLack 32 (entry_fields (image_line i))
+pub lacks-image : (i : Layout ℕ) → IsScriptImage i → AllLack 32 (entry_fields (image_line i))
 lacks-image i is = (
   refl,
   (

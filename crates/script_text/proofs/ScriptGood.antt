@@ -6,17 +6,17 @@ use Rattle.std.proofs.Math.Seq.{drop-cons, take-suc}
 use Rattle.std.specs.List.{AllByRecursion}
 use Rattle.std.proofs.lemmas.List.Elements.{recursion_from_All, All-from_recursion}
 use Rattle.image_model.specs.Layout.{Layout, Fits}
-use Rattle.script_text.specs.Line.{Order, Entry, image_line, order_line, image_text, order_text, IsImage, IsOrder, IsLineOf}
+use Rattle.script_text.specs.Line.{Order, Entry, image_line, order_line, image_text, order_text, IsScriptImage, IsOrder, IsLineOf}
 use Rattle.script_text.specs.Script.{IsScript, NoCommand, MayFollow, IsGood, IsGoodAt, AreGood, IsFirstBad}
 use Rattle.script_text.proofs.LineTexts.{one_value}
 
 -- ---- one more line
 
 -- no image's line is a command's
-not_order : (i : Layout ℕ) (o : Order) → IsImage i → IsOrder o → image_text i ≡ order_text o → ⊥
+not_order : (i : Layout ℕ) (o : Order) → IsScriptImage i → IsOrder o → image_text i ≡ order_text o → ⊥
 not_order i o isi iso same = let e = one_value (image_line i) (order_line o) isi iso same in cc
 
-no_command : (images : List (Layout ℕ)) → AllByRecursion IsImage images → NoCommand (map image_text images)
+no_command : (images : List (Layout ℕ)) → AllByRecursion IsScriptImage images → NoCommand (map image_text images)
 no_command [] all = tt
 no_command (i ∷ images) all = (λ o iso same. not_order i o all.0 iso same, no_command images all.1)
 
@@ -115,13 +115,13 @@ all_good all n none good k lt = good k (omega (arith, past_end all n none))
 -- ---- the lines of images
 
 -- images that scripts may hold are a script by themselves
-pub own_script : (images : List (Layout ℕ)) → All IsImage images → IsScript (map image_text images) images []
-own_script images good = record { texts = sym (append-nil (map image_text images)); images_in_range = recursion_from_All IsImage images good; orders_in_range = tt }
+pub own_script : (images : List (Layout ℕ)) → All IsScriptImage images → IsScript (map image_text images) images []
+own_script images good = record { texts = sym (append-nil (map image_text images)); images_in_range = recursion_from_All IsScriptImage images good; orders_in_range = tt }
 
-layouts_fit : (images : List (Layout ℕ)) → AllByRecursion IsImage images → AllByRecursion Fits images
+layouts_fit : (images : List (Layout ℕ)) → AllByRecursion IsScriptImage images → AllByRecursion Fits images
 layouts_fit [] all = tt
 layouts_fit (i ∷ images) all = (all.0.fits, layouts_fit images all.1)
 
 -- images that scripts may hold fit
-pub All-fit : (images : List (Layout ℕ)) → AllByRecursion IsImage images → All Fits images
+pub All-fit : (images : List (Layout ℕ)) → AllByRecursion IsScriptImage images → All Fits images
 All-fit images all = All-from_recursion Fits images (layouts_fit images all)

@@ -114,7 +114,7 @@ pub record IsOrder (o : Order) : Type 0 where
 -- ---- images
 
 -- an image that a script may hold: it fits, with a stride of at least 1 and of at least its width
-pub record IsImage (i : Layout ℕ) : Type 0 where
+pub record IsScriptImage (i : Layout ℕ) : Type 0 where
   pub width : i.width ≤ 4294967295
   pub height : i.height ≤ 4294967295
   pub stride : IsWord i.stride
@@ -162,7 +162,7 @@ order_text o = entry_text (order_line o)
 
 -- what a good line stands for
 abbrev pub IsEntry : Entry → Type 0
-IsEntry (image_line i) = IsImage i
+IsEntry (image_line i) = IsScriptImage i
 IsEntry (order_line o) = IsOrder o
 
 -- the line is the text of this value, and of no other

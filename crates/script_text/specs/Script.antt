@@ -4,7 +4,7 @@ use Rattle.std.specs.List.{AllByRecursion, slice_index_or}
 use Rattle.image_model.specs.Layout.{Layout}
 use Rattle.imgref.specs.Image.{vec_layout}
 use Rattle.text_model.specs.Parts.{parts_of}
-use Rattle.script_text.specs.Line.{Order, order_of, Entry, image_line, order_line, entry_text, image_text, order_text, IsImage, IsOrder, IsEntry}
+use Rattle.script_text.specs.Line.{Order, order_of, Entry, image_line, order_line, entry_text, image_text, order_text, IsScriptImage, IsOrder, IsEntry}
 use Rattle.script_text.specs.declared.script.Script.{Script}
 use Rattle.script_text.specs.declared.fault.ScriptFault.{ScriptFault}
 use Rattle.script_text.specs.declared.fault.ScriptFault.TheVariants.{Line, Memory}
@@ -34,7 +34,7 @@ orders_of s = map order_of s.commands.items
 -- the lines are the texts of these images, and then of these commands
 pub record IsScript (lines : List (List ℕ)) (images : List (Layout ℕ)) (orders : List Order) : Type 0 where
   pub texts : lines ≡ map image_text images ++ map order_text orders
-  pub images_in_range : AllByRecursion IsImage images
+  pub images_in_range : AllByRecursion IsScriptImage images
   pub orders_in_range : AllByRecursion IsOrder orders
 
 -- ---- good lines

@@ -6,7 +6,7 @@ ghost use Rattle.std.specs.Fmt.{decimal};
 ghost use Rattle.image_model.specs.Layout.{Fits};
 ghost use Rattle.imgref.specs.Image.{vec_layout};
 ghost use Rattle.text_model.specs.Fields.{IsPixel};
-ghost use Rattle.script_text.specs.Line.{line_of, image_text, IsImage};
+ghost use Rattle.script_text.specs.Line.{line_of, image_text, IsScriptImage};
 ghost use Rattle.script_text.specs.Script.{IsScript};
 ghost use Rattle.script_text.specs.Output.{reply_text, ended_line, output_text};
 ghost use Rattle.imgref.specs.Lists.{AllFit, layouts_of};
@@ -119,7 +119,7 @@ fn push_image(text: &mut Vec<u8>, image: &ImgVec<u8>) -> Result<(), AllocError>
     requires { Fits (vec_layout image.now) }
     ensures text { OnOk result
         (text.new.items ≡ text.old.items ++ ended_line (image_text (vec_layout image.now))) }
-    ensures good { OnOk result (IsImage (vec_layout image.now)) }
+    ensures good { OnOk result (IsScriptImage (vec_layout image.now)) }
 {
     push_sizes(text, image.width(), image.height(), image.stride())?;
     push_cells(text, image.buf())?;

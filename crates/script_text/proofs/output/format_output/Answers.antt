@@ -3,7 +3,7 @@ use Rattle.std.proofs.lemmas.Grind.{common_steps}
 use Rattle.std.proofs.lemmas.List.{take_all}
 use Rattle.image_model.specs.Layout.{Fits}
 use Rattle.imgref.specs.Image.{vec_layout}
-use Rattle.script_text.specs.Line.{IsImage}
+use Rattle.script_text.specs.Line.{IsScriptImage}
 use Rattle.script_text.proofs.ScriptGood.{own_script}
 use Rattle.script_text.proofs.OutputImages.{at_image, more_images}
 use Rattle.script_text.proofs.output.format_output.Goals as goal
@@ -14,7 +14,7 @@ push_image-requires c = at_image Fits vec_layout c.args.images.now c.loop-image.
 pub loop-image-preserved : goal.loop-image-preserved
 loop-image-preserved c = record {
   text = grind (arith, common_steps);
-  good = more_images IsImage vec_layout c.args.images.now c.loop-image.image-index c.image-item.result c.loop-image-test.true c.image-item.is c.loop-image.invariant.good c.in_ok-push_image.ensures.good;
+  good = more_images IsScriptImage vec_layout c.args.images.now c.loop-image.image-index c.image-item.result c.loop-image-test.true c.image-item.is c.loop-image.invariant.good c.in_ok-push_image.ensures.good;
 }
 
 pub returns-clause-again : goal.returns-clause-again
