@@ -1,8 +1,7 @@
 -- Edits that are taken from words one after the other.
-use Rattle.std.proofs.Common.{◌≡◌, ℕ, ◌+◌, ◌<◌, List, [], ◌∷◌, ◌++◌, Option, Some, None, true, false, eqb, filter, not, map, get_or, Bor, length, take, drop, refl, sym, ap, ◌∙◌, subst, arith, append_assoc, append-nil, inl, inr}
+use Rattle.std.proofs.Common.{◌≡◌, ℕ, ◌<◌, List, [], ◌∷◌, ◌++◌, Option, Some, None, true, false, eqb, length, take, drop, refl, sym, ap, ◌∙◌, subst, arith, append_assoc, append-nil, inl, inr}
 use Rattle.std.specs.List.{flat_map}
 use Rattle.std.proofs.Math.Seq.{take-append_seam}
-use Rattle.std.proofs.lemmas.List.{drop_more, map-append}
 use Rattle.std.specs.Option.{option_map}
 use Rattle.std.proofs.lemmas.Bool.Decides.{eqb_tells}
 use Rattle.text_model.proofs.Options.{some_is, map_some}
@@ -12,7 +11,7 @@ use Rattle.frame_formats.specs.declared.framing.Framing.{Framing}
 use Rattle.frame_formats.specs.declared.words.Edits.{Edits}
 use Rattle.frame_formats.specs.Lists.{AreEdits, Adds, framing_after, edit_of, line_words, with_one, with_words, with_line, with_lines, plain}
 use Rattle.frame_formats.specs.Edits.{edits, Edits as Plain}
-use Rattle.text_model.specs.Reading.{◌>>=◌, is_nil}
+use Rattle.text_model.specs.Reading.{◌>>=◌}
 use Rattle.frame_formats.specs.Words.{Named, edit_at, with_edit}
 
 -- what is known of edits before and after one was taken from words
@@ -69,41 +68,6 @@ pub none_taken : (words : List (List ℕ)) (old : Edits) → (old.framing ≡ No
 none_taken words old none = grind arith
 
 -- ---- lines
-
--- the words among some pieces
-abbrev words_in : List (List ℕ) → List (List ℕ)
-words_in pieces = filter (λ word. not (is_nil word)) pieces
-
-abbrev texts : List (Bor (List ℕ)) → List (List ℕ)
-texts pieces = map (λ w. w.now) pieces
-
-kept_word : (w : List ℕ) (front back : List (List ℕ)) → (length w ≡ 0 → ⊥) → (front ++ w ∷ []) ++ words_in back ≡ front ++ words_in (w ∷ back)
-kept_word [] front back some = absurd (some refl)
-kept_word (b ∷ w) front back some = append_assoc front ((b ∷ w) ∷ []) (words_in back)
-
-no_word : (w : List ℕ) (front back : List (List ℕ)) → length w ≡ 0 → front ++ words_in back ≡ front ++ words_in (w ∷ back)
-no_word [] front back none = refl
-no_word (b ∷ w) front back none = absurd (omega (arith, none))
-
-module _ (pieces : List (Bor (List ℕ))) (i : ℕ) (d : Bor (List ℕ)) (within : i < length pieces) (old new : List (Bor (List ℕ))) (all : List (List ℕ)) (so_far : texts old ++ words_in (texts (drop i pieces)) ≡ all) where
-  cut : texts (drop i pieces) ≡ (get_or pieces i d).now ∷ texts (drop (i + 1) pieces)
-  cut = ap texts (drop_more pieces i d within)
-
-  -- the piece of this number is a word
-  pub one_word_more : (length (get_or pieces i d).now ≡ 0 → ⊥) → new ≡ old ++ get_or pieces i d ∷ [] → texts new ++ words_in (texts (drop (i + 1) pieces)) ≡ all
-  one_word_more some is =
-      ap (λ (l : List (List ℕ)). l ++ words_in (texts (drop (i + 1) pieces))) (ap texts is ∙ map-append (λ (w : Bor (List ℕ)). w.now) old (get_or pieces i d ∷ []))
-      ∙ kept_word (get_or pieces i d).now (texts old) (texts (drop (i + 1) pieces)) some
-      ∙ ap (λ (l : List (List ℕ)). texts old ++ words_in l) (sym cut)
-      ∙ so_far
-
-  -- it has no byte
-  pub empty_passed : length (get_or pieces i d).now ≡ 0 → new ≡ old → texts new ++ words_in (texts (drop (i + 1) pieces)) ≡ all
-  empty_passed none is =
-      ap (λ (l : List (Bor (List ℕ))). texts l ++ words_in (texts (drop (i + 1) pieces))) is
-      ∙ no_word (get_or pieces i d).now (texts old) (texts (drop (i + 1) pieces)) none
-      ∙ ap (λ (l : List (List ℕ)). texts old ++ words_in l) (sym cut)
-      ∙ so_far
 
 pub one_line_more : (old mid : Plain) (line : List ℕ) (left lines : List (List ℕ)) → left ≡ line ∷ lines → with_line old line ≡ Some mid → with_lines mid lines ≡ with_lines old left
 one_line_more old mid line left lines is taken = sym (ap (with_lines old) is ∙ ap (λ (o : Option Plain). o >>= λ new. with_lines new lines) taken)

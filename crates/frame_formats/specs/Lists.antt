@@ -1,6 +1,7 @@
 -- Which edits a list of words is, and which the lines of a file are.
 use Rattle.std.specs.Prelude.{◌≡◌, ◌==◌, ◌||◌, ℕ, Bool, not, filter, List, [], ◌∷◌, ◌++◌, Option, Some, None, drop, length, if◌then◌else◌}
 use Rattle.std.specs.List.{flat_map, slice_split}
+use Rattle.std.specs.Borrow.{Bor}
 use Rattle.std.specs.Option.{is_none, option_map}
 use Rattle.text_model.specs.Parts.{parts_of}
 use Rattle.text_model.specs.Reading.{◌>>=◌, is_nil}
@@ -55,6 +56,11 @@ uncommented line = front_of (parts_of 35 line)
 -- the words of a line, with white space between them and around them
 abbrev pub line_words : List ℕ → List (List ℕ)
 line_words line = filter (λ word. not (is_nil word)) (slice_split is_white (uncommented line))
+
+-- the pieces of what is left of a line
+abbrev pub pieces_left : Option (Bor (List ℕ)) → List (List ℕ)
+pieces_left None = []
+pieces_left (Some rest) = slice_split is_white rest.now
 
 -- edits with the one that the words of a line are; without a word the line is ignored
 abbrev pub with_words : Plain → List (List ℕ) → Option Plain

@@ -1,12 +1,12 @@
 //! The edits that words name.
 
-ghost use Rattle.std.specs.Prelude.{◌≡◌, ◌+◌, ◌<◌, ◌≤◌, ◌++◌, map, take as list_take, [], Some, None, IfOk, IfErr, OnOk, IfSome, length};
+ghost use Rattle.std.specs.Prelude.{◌≡◌, ◌+◌, ◌<◌, ◌≤◌, ◌++◌, map, take as list_take, [], ◌∷◌, position, Some, None, IfOk, IfErr, OnOk, IfSome, length};
 ghost use Rattle.std.specs.List.{slice_split};
 ghost use Rattle.std.specs.Option.{option_map};
 ghost use Rattle.text_model.specs.Parts.{parts_of};
 ghost use Rattle.text_model.specs.Reading.{Finds, first_of_parts};
 ghost use Rattle.texts.specs.Parts.{parts_left};
-ghost use Rattle.frame_formats.specs.Lists.{Adds, AddsNone, is_white, uncommented, line_words, with_one, with_line, with_lines, plain};
+ghost use Rattle.frame_formats.specs.Lists.{Adds, AddsNone, is_white, pieces_left, uncommented, line_words, with_one, with_line, with_lines, plain};
 ghost use Rattle.frame_formats.specs.Words.{pair_of, colour_in, paint_of, change_of, pad_of, end_of, span_of, framing_at, cover_at, change_at, step_at, ranged_at, edit_at, with_edit};
 
 use crate::framing::Framing;
@@ -224,12 +224,21 @@ fn is_white(byte: u8) -> bool
     byte == b' ' || byte == b'\t' || byte == b'\r'
 }
 
-// The pieces of a line between white space, some of them with no byte.
-fn pieces_of<'a>(alloc: Global, line: &'a [u8]) -> Result<Vec<&'a [u8]>, AllocError>
-    ensures { IfOk result (λ pieces. map (λ w. w.now) pieces.items
-        ≡ slice_split is_white line.now) }
+// Where the first white space is.
+fn find_white(line: &[u8]) -> Option<usize>
+    ensures { result ≡ position is_white line.now }
 {
-    line.split(|b| is_white(*b)).collect(alloc)
+    line.iter().position(|b| is_white(*b))
+}
+
+// The bytes before the first white space, and those after it.
+fn next_piece(line: &[u8]) -> (&[u8], Option<&[u8]>)
+    ensures { slice_split is_white line.now ≡ result.0.now ∷ pieces_left result.1 }
+{
+    match find_white(line) {
+        Some(at) => (&line[..at], Some(&line[at + 1..])),
+        None => (line, None),
+    }
 }
 
 // The words of a line.
@@ -237,11 +246,13 @@ fn words_of<'a>(alloc: Global, line: &'a [u8]) -> Result<Vec<&'a [u8]>, AllocErr
     ensures { IfOk result (λ words. map (λ w. w.now) words.items ≡ line_words line.now) }
 {
     let mut words = Vec::new(alloc);
-    let pieces = pieces_of(alloc, before_comment(line))?;
-    for word in &pieces {
+    let mut rest = Some(before_comment(line));
+    while let Some(bytes) = rest {
+        let (word, others) = next_piece(bytes);
         if !word.is_empty() {
-            words.push(*word)?;
+            words.push(word)?;
         }
+        rest = others;
     }
     Ok(words)
 }
