@@ -45,6 +45,8 @@
     X(transpose_into, "transpose_into")                                                                                              \
     X(turn_into, "turn_into, a quarter")                                                                                             \
     X(half_turn, "turn_into, a half")                                                                                                \
+    X(transpose, "transpose, in place")                                                                                              \
+    X(turn, "turn, a quarter, in place")                                                                                             \
     X(mosaic, "mosaic 16 by 16")                                                                                                     \
     X(small, "mosaic 2 by 2")                                                                                                        \
     X(low, "mosaic 16 by 1")                                                                                                         \
@@ -98,7 +100,9 @@ static void *room(size_t bytes) {
     void bench_##NAME##_turn_into(CELL *cells, size_t len, size_t side, size_t stride, const CELL *source, size_t source_len,        \
         size_t source_stride);                                                                                                       \
     void bench_##NAME##_half_turn(CELL *cells, size_t len, size_t side, size_t stride, const CELL *source, size_t source_len,        \
-        size_t source_stride);
+        size_t source_stride);                                                                                                               \
+    void bench_##NAME##_transpose(CELL *cells, size_t len, size_t side, size_t stride);                                              \
+    void bench_##NAME##_turn(CELL *cells, size_t len, size_t side, size_t stride);
 EXPORTS(u8, uint8_t)
 EXPORTS(u32, uint32_t)
 
@@ -150,7 +154,9 @@ EXPORTS(u32, uint32_t)
     void call_##NAME##_swap_columns(struct job *j) { bench_##NAME##_swap_columns(IMAGE); }                                           \
     void call_##NAME##_transpose_into(struct job *j) { bench_##NAME##_transpose_into(j->cells, j->len, j->side, j->stride, j->source, j->source_len, j->source_stride); }\
     void call_##NAME##_turn_into(struct job *j) { bench_##NAME##_turn_into(j->cells, j->len, j->side, j->stride, j->source, j->source_len, j->source_stride); }\
-    void call_##NAME##_half_turn(struct job *j) { bench_##NAME##_half_turn(j->cells, j->len, j->side, j->stride, j->source, j->source_len, j->source_stride); }
+    void call_##NAME##_half_turn(struct job *j) { bench_##NAME##_half_turn(j->cells, j->len, j->side, j->stride, j->source, j->source_len, j->source_stride); }\
+    void call_##NAME##_transpose(struct job *j) { bench_##NAME##_transpose(j->cells, j->len, j->side, j->stride); }                  \
+    void call_##NAME##_turn(struct job *j) { bench_##NAME##_turn(j->cells, j->len, j->side, j->stride); }
 CALLS(u8, uint8_t)
 CALLS(u32, uint32_t)
 
@@ -271,6 +277,18 @@ CALLS(u32, uint32_t)
     void loop_##NAME##_half_turn(struct job *j) {                                                                                    \
         for (size_t y = 0; y < j->side; y++)                                                                                         \
             for (size_t x = 0; x < j->side; x++) ROW(CELL, y)[x] = SOURCE(CELL, j->side - 1 - y)[j->side - 1 - x];                   \
+    }                                                                                                                                \
+    void loop_##NAME##_transpose(struct job *j) {                                                                                    \
+        for (size_t y = 0; y < j->side; y++)                                                                                         \
+            for (size_t x = y + 1; x < j->side; x++) {                                                                               \
+                CELL kept = ROW(CELL, y)[x];                                                                                         \
+                ROW(CELL, y)[x] = ROW(CELL, x)[y];                                                                                   \
+                ROW(CELL, x)[y] = kept;                                                                                              \
+            }                                                                                                                        \
+    }                                                                                                                                \
+    void loop_##NAME##_turn(struct job *j) {                                                                                         \
+        loop_##NAME##_transpose(j);                                                                                                  \
+        loop_##NAME##_flip_columns(j);                                                                                               \
     }                                                                                                                                \
     /* Each cell of a tile becomes the one at its corner. */                                                                         \
     static void NAME##_tiles(struct job *j, size_t wide, size_t high) {                                                              \

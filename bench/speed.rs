@@ -267,6 +267,22 @@ mod loops {
         }
     }
 
+    unsafe fn transpose<T: Pixel>(job: &mut Job) {
+        let cells = unsafe { job.cells::<T>() };
+        for y in 0..job.side {
+            for x in y + 1..job.side {
+                cells.swap(y * job.stride + x, x * job.stride + y);
+            }
+        }
+    }
+
+    unsafe fn turn<T: Pixel>(job: &mut Job) {
+        unsafe {
+            transpose::<T>(job);
+            flip_columns::<T>(job);
+        }
+    }
+
     unsafe fn by_tiles<T: Pixel>(job: &mut Job, wide: usize, high: usize) {
         let cells = unsafe { job.cells::<T>() };
         for top in (0..job.side).step_by(high) {
@@ -326,6 +342,8 @@ mod loops {
     timed!(rust_u8_transpose_into, rust_u32_transpose_into, transpose_into);
     timed!(rust_u8_turn_into, rust_u32_turn_into, turn_into);
     timed!(rust_u8_half_turn, rust_u32_half_turn, half_turn);
+    timed!(rust_u8_transpose, rust_u32_transpose, transpose);
+    timed!(rust_u8_turn, rust_u32_turn, turn);
     timed!(rust_u8_mosaic, rust_u32_mosaic, mosaic);
     timed!(rust_u8_small, rust_u32_small, small);
     timed!(rust_u8_low, rust_u32_low, low);

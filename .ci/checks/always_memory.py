@@ -28,6 +28,7 @@ CASES = [
     ("imgref", "copies", "clone", NO_ROOM, "imgref_hostile_tests"),
     ("imgref", "cow", "into_owned", HANDED_BACK, "imgref_hostile_tests"),
     ("imgref", "cow", "into_vec", HANDED_BACK, "imgref_hostile_tests"),
+    ("imgref", "by_place", "from_places", NO_ROOM, "imgref_examples"),
     ("imgref_replay", "run", "replay", NO_ROOM, "imgref_replay_tests"),
     ("script_text", "script", "read_script", "if true { return Err(ScriptFault::Memory); }", "imgref_run"),
     ("script_text", "output", "format_output", NO_ROOM, "imgref_run"),

@@ -260,3 +260,21 @@ pub extern "C" fn bench_u8_half_turn(
     let mut image: ImgRefMut<'_, u8> = Img::new_stride(cells, side, side, stride);
     Img::new_stride(source, side, side, source_stride).turn_into(&mut image, Turn::Half);
 }
+
+/// The image transposed in place, a square.
+#[unsafe(no_mangle)]
+pub extern "C" fn bench_u8_transpose(cells: &mut [u8], side: usize, stride: usize)
+    requires image { IsImage cells.old side side stride }
+{
+    let mut image: ImgRefMut<'_, u8> = Img::new_stride(cells, side, side, stride);
+    image.transpose();
+}
+
+/// The image turned by a quarter in place, a square.
+#[unsafe(no_mangle)]
+pub extern "C" fn bench_u8_turn(cells: &mut [u8], side: usize, stride: usize)
+    requires image { IsImage cells.old side side stride }
+{
+    let mut image: ImgRefMut<'_, u8> = Img::new_stride(cells, side, side, stride);
+    image.turn(Turn::Right);
+}

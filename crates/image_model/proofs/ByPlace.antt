@@ -4,7 +4,7 @@ use Rattle.std.specs.Option.{option_map, option_zip}
 use Rattle.image_model.specs.Layout.{Layout, Fits, SameOutside, pixel}
 use Rattle.image_model.specs.Grid.{grid, grid_of}
 use Rattle.image_model.specs.Tables.{table}
-use Rattle.image_model.specs.ByPlace.{mapped_places, zipped, HasPlaceAnswers, HasZipAnswers, IsMappedByPlace, IsZipped, IsTable}
+use Rattle.image_model.specs.ByPlace.{mapped_places, zipped, HasPlaceAnswers, HasZipAnswers, IsMappedByPlace, IsZipped, from_places, IsFromPlaces}
 use Rattle.image_model.proofs.Places.{outside_fits}
 use Rattle.image_model.proofs.Grids.{pixel_at, same_grids}
 use Rattle.image_model.proofs.Mapped.{has_pixel}
@@ -39,8 +39,8 @@ is_zipped {T} {U} answers old other new fits other_fits wide high same has f giv
     ∙ ap (λ o. option_map (λ p. f p.0 p.1) (option_zip (Some first.0) o)) (pixel_at other x y in_u in_v ∙ second.1)))
 
 -- and where each pixel is a result for its place
-pub is_table : {T : Type 0} (answers : ℕ → ℕ → T → Type 0) (new : Layout T) → Fits new → ((x y : ℕ) (q : T) → x < new.width → y < new.height → pixel new x y ≡ Some q → answers x y q) → IsTable answers new
-unfolding grid_of table
-is_table answers new fits has f gives = same_grids new.width new.height (pixel new) _ (λ x y column line.
+pub is_from_places : {T : Type 0} (answers : ℕ → ℕ → T → Type 0) (new : Layout T) → Fits new → ((x y : ℕ) (q : T) → x < new.width → y < new.height → pixel new x y ≡ Some q → answers x y q) → IsFromPlaces answers new.width new.height new
+unfolding grid_of table from_places
+is_from_places answers new fits has f gives = same_grids new.width new.height (pixel new) _ (λ x y column line.
     let here = has_pixel new fits x y column line in
     here.1 ∙ ap Some (gives x y here.0 column line (has x y here.0 column line here.1)))

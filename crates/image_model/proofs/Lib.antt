@@ -26,3 +26,5 @@ pub mod Counts
 pub mod ByPlace
 pub mod Turns
 pub mod TurnExamples
+pub mod Boxes
+pub mod Folds

@@ -1,5 +1,5 @@
 -- Loops that write the places one after the other: how far they have come.
-use Rattle.std.proofs.Common.{◌≡◌, ℕ, ◌+◌, ◌-◌, ◌<◌, ◌≤◌, ◌⊎◌, inl, true, false, Option, Some, sym, ap, ◌∙◌, arith, if◌then◌else◌}
+use Rattle.std.proofs.Common.{◌≡◌, ℕ, ◌+◌, ◌-◌, ◌<◌, ◌≤◌, ◌⊎◌, inl, true, false, Option, Some, refl, sym, ap, ◌∙◌, arith, if◌then◌else◌}
 use Rattle.std.proofs.lemmas.Bool.{cond-true, cond-false, true≢false}
 use Rattle.std.proofs.lemmas.Bool.Decides.{nat_tests}
 use Rattle.image_model.specs.Layout.{Layout, pixel}
@@ -7,6 +7,8 @@ use Rattle.image_model.specs.Grid.{grid, grid_of, covers, patch, uniform}
 use Rattle.image_model.proofs.Grids.{covers_decides, at_place, pixel_at, same_grids, is_patch}
 use Rattle.image_model.proofs.Places.{outside_refl, outside_trans}
 use Rattle.image_model.specs.Tables.{is_before, table, table_upto}
+use Rattle.image_model.specs.Mapped.{mapped}
+use Rattle.std.specs.Option.{option_map}
 
 module _ {T : Type 0} (f : ℕ → ℕ → Option T) where
   -- no place is written yet
@@ -20,7 +22,7 @@ module _ {T : Type 0} (f : ℕ → ℕ → Option T) where
   table_all x y w h l high same_w same_h = grind (arith, same_grids, cond-true, at_place, nat_tests)
 
   -- two ends of the sweep give one grid if each place comes before both or neither, or has the old pixel
-  same_upto : (x y m n : ℕ) (l : Layout T)
+  pub same_upto : (x y m n : ℕ) (l : Layout T)
       → ((u v : ℕ) → u < l.width → v < l.height → (is_before x y u v ≡ is_before m n u v) ⊎ (f u v ≡ (grid_of l).pixel u v))
       → table_upto f x y (grid_of l) ≡ table_upto f m n (grid_of l)
   unfolding grid_of table_upto
@@ -86,5 +88,33 @@ module _ {T : Type 0} (f : ℕ → ℕ → Option T) where
             let alike : is_before (x + 1) y u v ≡ is_before x y u v = grind (arith, nat_tests, other) in
             ap (λ b. if b then f u v else (grid_of l).pixel u v) alike ∙ sym (upto_at x y l k e u v (omega (arith, wide, in_u)) (omega (arith, high, in_v)))
 
+-- ---- a loop that changes each pixel by a function
+
+-- the pixels of a grid make the grid again
+pub table_again : {T : Type 0} (w h : ℕ) (f : ℕ → ℕ → Option T) → table w h (grid w h f).pixel ≡ grid w h f
+unfolding table
+table_again w h f = same_grids w h _ f (λ u v column line. at_place w h f u v column line)
+
+module _ {T : Type 0} (f : T → T) where
+  -- a pixel that was there is changed afterwards
+  pub mapped_at : (l : Layout T) (x y : ℕ) (p : T) → x < l.width → y < l.height → (grid_of l).pixel x y ≡ Some p → (mapped f (grid_of l)).pixel x y ≡ Some (f p)
+  unfolding grid_of mapped
+  mapped_at l x y p column line there = at_place l.width l.height (λ u v. option_map f ((grid_of l).pixel u v)) x y column line ∙ ap (option_map f) there
+
+  -- one pixel more is changed
+  pub map_one : (x y : ℕ) (l k : Layout T) → grid_of k ≡ table_upto (mapped f (grid_of l)).pixel x y (grid_of l) → k.width ≡ l.width → k.height ≡ l.height → x < l.width → y < l.height
+      → (p q : T) → pixel k x y ≡ Some p → q ≡ f p → patch (grid_of k) x y (uniform 1 1 q) ≡ table_upto (mapped f (grid_of l)).pixel (x + 1) y (grid_of l)
+  map_one x y l k e wide high column line p q there is =
+      let old = sym (table_next (mapped f (grid_of l)).pixel x y l k e wide high column line) ∙ there in
+      table_one (mapped f (grid_of l)).pixel x y l k e wide high column line q (mapped_at l x y p column line old ∙ ap Some (sym is))
+
+  -- all are
+  pub map_all : (x y : ℕ) (l : Layout T) → l.height ≤ y → table_upto (mapped f (grid_of l)).pixel x y (grid_of l) ≡ mapped f (grid_of l)
+  unfolding grid_of mapped
+  map_all x y l high = table_all (mapped f (grid_of l)).pixel x y l.width l.height l high refl refl ∙ table_again l.width l.height (λ u v. option_map f ((grid_of l).pixel u v))
+
 -- what a proof of such a loop goes by
+pub ruleset map_sweeps = (outside_refl, outside_trans, table_none, table_row_ends, map_one, map_all)
+
+-- and that of a loop that writes the pixels of a function of the place
 pub ruleset sweeps = (outside_refl, outside_trans, pixel_at, table_none, table_one, table_next, table_skip, table_row_ends, table_all)

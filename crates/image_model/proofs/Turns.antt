@@ -7,7 +7,7 @@ use Rattle.image_model.specs.Mapped.{mapped}
 use Rattle.image_model.specs.Swaps.{swapped_row, rows_swapped}
 use Rattle.image_model.specs.Flips.{flipped}
 use Rattle.image_model.specs.Tables.{table}
-use Rattle.image_model.specs.ByPlace.{mapped_places, zipped}
+use Rattle.image_model.specs.ByPlace.{mapped_places, zipped, from_places}
 use Rattle.image_model.specs.Turns.{swapped_column, columns_swapped, mirrored, transposed, turned_right, turned_half, turned_left}
 use Rattle.image_model.proofs.Grids.{at_place, pixel_at, same_grids}
 
@@ -54,6 +54,10 @@ module _ {T : Type 0} where
   unfolding turned_left table
   turned_left_is_table g = refl
 
+  pub from_places_is_table : (width height : ℕ) (f : ℕ → ℕ → T) → from_places width height f ≡ table width height (λ x y. Some (f x y))
+  unfolding from_places
+  from_places_is_table width height f = refl
+
 module _ {T U : Type 0} where
   pub mapped_is_table : (f : T → U) (g : Grid T) → mapped f g ≡ table g.width g.height (λ x y. option_map f (g.pixel x y))
   unfolding mapped table
@@ -68,7 +72,7 @@ module _ {T U : Type 0} where
   zipped_is_table f g h = refl
 
 -- these laws, for a caller's `using`
-pub ruleset as_tables = (grid_is_table, uniform_is_table, rows_swapped_is_table, flipped_is_table, columns_swapped_is_table, mirrored_is_table, transposed_is_table, turned_right_is_table, turned_half_is_table, turned_left_is_table, mapped_is_table, mapped_places_is_table, zipped_is_table)
+pub ruleset as_tables = (grid_is_table, uniform_is_table, rows_swapped_is_table, flipped_is_table, columns_swapped_is_table, mirrored_is_table, transposed_is_table, turned_right_is_table, turned_half_is_table, turned_left_is_table, mapped_is_table, mapped_places_is_table, zipped_is_table, from_places_is_table)
 
 -- ---- two steps that make a turn
 

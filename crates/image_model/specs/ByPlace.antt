@@ -47,6 +47,10 @@ IsZipped {T} {U} answers old other new = (f : T → U → T) → ((x y : ℕ) (p
 abbrev pub TakesPlacesOf : (ℕ → ℕ → Type 0) → ℕ → ℕ → Type 0
 TakesPlacesOf pre width height = (x y : ℕ) → x < width → y < height → pre x y
 
--- for every function that gives the results for the places, the grid is its table
-abbrev pub IsTable : {T : Type 0} → (ℕ → ℕ → T → Type 0) → Layout T → Type 0
-IsTable {T} answers new = (f : ℕ → ℕ → T) → ((x y : ℕ) (q : T) → x < new.width → y < new.height → answers x y q → q ≡ f x y) → grid_of new ≡ table new.width new.height (λ x y. Some (f x y))
+-- the grid of this size that shows f of its column and its row at each place
+unfoldable pub from_places : {T : Type 0} → ℕ → ℕ → (ℕ → ℕ → T) → Grid T
+from_places width height f = table width height (λ x y. Some (f x y))
+
+-- for every function that gives the results for the places of a size, the grid shows it
+abbrev pub IsFromPlaces : {T : Type 0} → (ℕ → ℕ → T → Type 0) → ℕ → ℕ → Layout T → Type 0
+IsFromPlaces {T} answers width height new = (f : ℕ → ℕ → T) → ((x y : ℕ) (q : T) → x < width → y < height → answers x y q → q ≡ f x y) → grid_of new ≡ from_places width height f

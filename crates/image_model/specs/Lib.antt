@@ -13,3 +13,6 @@ pub mod Flips
 pub mod Tables
 pub mod ByPlace
 pub mod Turns
+pub mod Boxes
+pub mod Counts
+pub mod Folds

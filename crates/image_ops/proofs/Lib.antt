@@ -13,3 +13,4 @@ pub mod WindowWrites
 pub mod Crossing
 pub mod FromPlaces
 pub mod PixelsMade
+pub mod Diagonals

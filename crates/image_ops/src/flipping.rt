@@ -63,7 +63,7 @@ pub fn flip_columns<T: Copy>(cells: &mut [T], shape: Shape)
 }
 
 // Two cells change places.
-fn swap_cells<T: Copy>(row: &mut [T], x: usize, z: usize)
+pub(crate) fn swap_cells<T: Copy>(row: &mut [T], x: usize, z: usize)
     requires first { x < length row.old }
     requires second { z < length row.old }
     ensures as_many { length row.new ≡ length row.old }

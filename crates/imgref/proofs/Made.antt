@@ -2,9 +2,9 @@
 use Rattle.std.proofs.Common.{◌≡◌, ℕ, ◌+◌, ◌*◌, ◌-◌, max, List, sym, ap, ◌∙◌, arith}
 use Rattle.std.specs.List.{slice_get}
 use Rattle.image_model.specs.Layout.{Fits, layout}
-use Rattle.image_model.specs.ByPlace.{IsTable}
+use Rattle.image_model.specs.ByPlace.{IsFromPlaces}
 use Rattle.image_model.specs.Compaction.{least_stride}
-use Rattle.image_model.proofs.ByPlace.{is_table}
+use Rattle.image_model.proofs.ByPlace.{is_from_places}
 use Rattle.image_ops.specs.Made.{AreMade}
 
 pub least_is : (width : ℕ) → max width 1 ≡ least_stride width
@@ -20,8 +20,8 @@ module _ {T : Type 0} (answers : ℕ → ℕ → T → Type 0) (width height : �
       let all : stride * k + width ≡ height * width = ap (λ n. n * k + width) s ∙ next ∙ ap (λ n. n * width) up in
       omega (arith, all, so.as_many)
 
-  pub made_grid : IsTable answers (layout pixels width height stride)
-  made_grid = is_table answers (layout pixels width height stride) made_fits (λ x y q column line there.
+  pub made_grid : IsFromPlaces answers width height (layout pixels width height stride)
+  made_grid = is_from_places answers (layout pixels width height stride) made_fits (λ x y q column line there.
       let s : stride ≡ width = omega (arith, is, column) in
       so.each x y q column line (ap (λ n. slice_get pixels (y * n + x)) (sym s) ∙ there))
 

@@ -8,7 +8,10 @@ pub use Rattle.image_model.specs.Mapped.{mapped}
 pub use Rattle.image_model.specs.Swaps.{rows_swapped}
 pub use Rattle.image_model.specs.Flips.{flipped, flipped_upto}
 pub use Rattle.image_model.specs.Tables.{table, table_upto, is_before}
-pub use Rattle.image_model.specs.ByPlace.{mapped_places, zipped}
+pub use Rattle.image_model.specs.ByPlace.{mapped_places, zipped, from_places}
+pub use Rattle.image_model.specs.Boxes.{IsNowhere, IsBoundingBox, sides, sides_upto}
+pub use Rattle.image_model.specs.Folds.{fold_upto}
+pub use Rattle.image_model.specs.Counts.{histogram_of, counted}
 pub use Rattle.image_model.specs.Turns.{columns_swapped, mirrored, transposed, turned_right, turned_half, turned_left}
 pub use Rattle.image_ops.specs.Turned.{turned, turned_width, turned_height}
 pub use Rattle.image_shape.specs.Window.{as_window}

@@ -1,5 +1,5 @@
-//! Calls that move pixels to other columns and rows: images upside down, mirrored, transposed and
-//! turned, and two columns exchanged.
+//! Calls that move pixels to other columns and rows. Images are turned upside down, mirrored,
+//! transposed and turned, in place or into another image. Two columns are exchanged.
 
 ghost use Rattle.std.specs.Prelude.{◌≡◌, ◌<◌};
 ghost use Rattle.image_model.specs.Layout.{Fits, SameOutside};
@@ -10,7 +10,10 @@ ghost use Rattle.imgref.specs.Image.{width_of, height_of, grid_by, layout_by, On
 
 use crate::containers::{AsMutSlice, AsSlice};
 use crate::img::Img;
-use image_ops::{Turn, flip_columns, flip_rows, swap_columns, transpose_pixels, turn_pixels};
+use image_ops::{
+    Turn, flip_columns, flip_rows, swap_columns, transpose_pixels, transpose_square, turn_in_place,
+    turn_pixels,
+};
 
 impl<C: AsMutSlice> Img<C> {
     /// The image is turned upside down: its first row changes places with its last, and so on. The
@@ -73,6 +76,53 @@ impl<C: AsMutSlice> Img<C> {
         let shape = self.shape();
         let len = self.buf.as_slice().len();
         swap_columns(self.buf.stretch_mut(0, len), shape, x, z);
+    }
+
+    /// The image is transposed in place: each pixel changes places with the one across the
+    /// diagonal, so columns become rows. The padding stays, and no memory is allocated. For an image
+    /// that is no square, `transpose_into` writes another one. (In the Rust crate this is the
+    /// caller's loop.)
+    ///
+    /// # Requires
+    ///
+    /// The image fits (`is_valid`), and its width and its height are equal.
+    pub fn transpose<'a>(&'a mut self)
+    where
+        C::Item: Copy + 'a,
+        requires fits { Fits (layout_by C.cells self.old) }
+        requires square { width_of self.old ≡ height_of self.old }
+        ensures grid { grid_by C.cells self.new ≡ transposed (grid_by C.cells self.old) }
+        ensures outside { SameOutside (layout_by C.cells self.old) (layout_by C.cells self.new) }
+        ensures fits { Fits (layout_by C.cells self.new) }
+        ensures container { OnlyCellsChange C.cells C.with_cells self.old self.new }
+    {
+        let shape = self.shape();
+        let len = self.buf.as_slice().len();
+        transpose_square(self.buf.stretch_mut(0, len), shape);
+    }
+
+    /// The image is turned clockwise in place. The padding stays, and no memory is allocated. For a
+    /// quarter turn of an image that is no square, `turn_into` writes another one. (In the Rust
+    /// crate this is the caller's loop.)
+    ///
+    /// # Requires
+    ///
+    /// The image fits (`is_valid`). For `Turn::Right` and `Turn::Left` its width and its height are
+    /// equal.
+    pub fn turn<'a>(&'a mut self, turn: Turn)
+    where
+        C::Item: Copy + 'a,
+        requires fits { Fits (layout_by C.cells self.old) }
+        requires same_width { turned_width turn (width_of self.old) (height_of self.old)
+            ≡ width_of self.old }
+        ensures grid { grid_by C.cells self.new ≡ turned turn (grid_by C.cells self.old) }
+        ensures outside { SameOutside (layout_by C.cells self.old) (layout_by C.cells self.new) }
+        ensures fits { Fits (layout_by C.cells self.new) }
+        ensures container { OnlyCellsChange C.cells C.with_cells self.old self.new }
+    {
+        let shape = self.shape();
+        let len = self.buf.as_slice().len();
+        turn_in_place(self.buf.stretch_mut(0, len), shape, turn);
     }
 }
 

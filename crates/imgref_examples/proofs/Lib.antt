@@ -1,6 +1,5 @@
 pub mod StripedRows
 mod Blurred
-mod Swept
 mod LastRow
 pub mod Replaced
 mod FirstPixels

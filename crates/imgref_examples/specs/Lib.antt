@@ -3,7 +3,6 @@ pub mod Drawing
 pub mod Frames
 pub mod Signed
 pub mod Stripes
-pub mod Swept
 pub mod Blur
 pub mod Brightness
 pub mod Rows

@@ -16,6 +16,7 @@ pub fn brighten(image: &mut ImgVec<u8>, by: u8)
 }
 
 /// The same, place by place: every pixel is brighter, and the padding stays.
+#[tactic(auto, using(image_model::proofs::Sweeps::map_sweeps))]
 pub fn brighten_places(image: &mut ImgVec<u8>, by: u8)
     requires { Fits (vec_layout image.old) }
     ensures grid { vec_grid image.new ≡ brightened by (vec_grid image.old) }

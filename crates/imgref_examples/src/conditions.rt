@@ -4,7 +4,7 @@
 
 ghost use Rattle.std.specs.Prelude.{◌≡◌, ◌≤◌, length};
 
-use imgref::{Img, ImgRef, ImgRefMut};
+use imgref::{Img, ImgRef, ImgRefMut, Turn};
 
 /// The first pixel of the lower row of two.
 pub fn start_of_last_row(cells: &[u8]) -> u8
@@ -54,6 +54,20 @@ pub fn transpose_three_columns(cells: &[u8], target: &mut [u8])
 {
     let mut target = Img::new(target, 2, 3);
     Img::new(cells, 3, 2).transpose_into(&mut target);
+}
+
+/// A square of two by two is transposed in place.
+pub fn transpose_a_square(cells: &mut [u8])
+    requires { 4 ≤ length cells.old }
+{
+    Img::new(cells, 2, 2).transpose();
+}
+
+/// An image that is no square is turned by a half in place.
+pub fn turn_by_a_half(cells: &mut [u8])
+    requires { 6 ≤ length cells.old }
+{
+    Img::new(cells, 3, 2).turn(Turn::Half);
 }
 
 /// Each pixel becomes 255 in the first of two columns, and 0 in the last.

@@ -11,10 +11,15 @@ mod beside;
 mod blits;
 mod blur;
 mod border;
+mod boxes;
 mod brightness;
 mod conditions;
+mod counts;
 mod crop;
 mod drawing;
+#[cfg(test)]
+mod figures;
+mod halves;
 mod lent_turns;
 mod luma;
 mod nested;
@@ -37,15 +42,18 @@ pub use beside::put_above_fill;
 pub use blits::{copy_across, copy_but_one, copy_over_cells, scroll_up};
 pub use blur::box_blur_3x3;
 pub use border::draw_border;
+pub use boxes::bounding_box;
 pub use brightness::{brighten, brighten_places, brighten_rows};
 pub use conditions::{
     add_same_size, cells_of_last_columns, clear_start_of_last_row, column_bound,
     exchange_last_columns, exchange_last_rows, halve_if_it_fits, highest, last_cell, narrowest,
     padding_of_first_row, pixels_if_it_fits, second_row_far_behind, start_of_last_row,
-    transpose_three_columns, widest,
+    transpose_a_square, transpose_three_columns, turn_by_a_half, widest,
 };
+pub use counts::{count_above, histogram};
 pub use crop::{crop_copy, crop_packed};
 pub use drawing::{dot, put_then_get, stripes, three_by_index, three_places};
+pub use halves::halve;
 pub use lent_turns::{turn_into_window, turn_lent};
 pub use luma::{FrameError, luma_plane};
 pub use nested::greatest_in;
@@ -54,8 +62,8 @@ pub use pixels::{invert_lent, invert_owner, write_first};
 pub use points::{invert, threshold};
 pub use rect::draw_rect;
 pub use rows::{fill_last_row, fill_row_at};
-pub use scenes::{blend, count_above, exchange_and_mirror, fill_disc, ramp, turn_right};
-pub use sums::{checksum, checksum_by_rows, exact_checksum};
+pub use scenes::{blend, exchange_and_mirror, fill_disc, ramp, turn_right};
+pub use sums::{checksum, checksum_by_rows, exact_checksum, greatest, window_sum};
 pub use tiles::{darken_lent_tiles, darken_tiles};
 pub use upside_down::flip;
 pub use windows::{NestedPlace, put_in_cells, put_nested, put_pixel};

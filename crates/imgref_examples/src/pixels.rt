@@ -49,6 +49,7 @@ pub fn invert_owner(image: &mut ImgVec<u8>)
 }
 
 /// The same for a borrowed image, place by place.
+#[tactic(auto, using(image_model::proofs::Sweeps::map_sweeps))]
 pub fn invert_lent(image: &mut ImgRefMut<'_, u8>)
     requires fits { Fits (mut_layout image.old) }
     ensures grid { mut_grid image.new ≡ mapped (λ p. 255 - p) (mut_grid image.old) }

@@ -1,8 +1,7 @@
 //! Calls by places, on two images at once, and turns.
 
-ghost use Rattle.std.specs.Prelude.{◌≡◌, ◌<◌, ◌^◌, IfOk, Some, if◌then◌else◌, nat_lt};
-ghost use Rattle.std.specs.List.{count_by};
-ghost use Rattle.imgref.specs.Words.{Fits, SameOutside, width_of, height_of, grid_pixels, mapped_places, zipped, table, columns_swapped, mirrored, turned_right, ref_grid, ref_layout, vec_grid, vec_layout};
+ghost use Rattle.std.specs.Prelude.{◌≡◌, ◌<◌, ◌^◌, IfOk, if◌then◌else◌};
+ghost use Rattle.imgref.specs.Words.{Fits, SameOutside, width_of, height_of, mapped_places, zipped, from_places, columns_swapped, mirrored, turned_right, ref_grid, ref_layout, vec_grid, vec_layout};
 ghost use Rattle.imgref_examples.specs.Scenes.{mix_of, in_disc, ramp_at};
 
 use imgref::{ImgRef, ImgVec, Turn};
@@ -63,7 +62,7 @@ pub fn ramp(alloc: Global, width: usize, height: usize) -> Result<ImgVec<u8>, Al
     requires wide { width < 2 ^ 32 }
     requires high { height < 2 ^ 32 }
     ensures grid { IfOk result
-        (λ image. vec_grid image ≡ table width height (λ x y. Some (ramp_at width x))) }
+        (λ image. vec_grid image ≡ from_places width height (λ x y. ramp_at width x)) }
 {
     let image = ImgVec::from_places(alloc, width, height, |x, _y| (255 * x / width) as u8)?;
     Ok(image)
@@ -91,12 +90,4 @@ pub fn exchange_and_mirror<T: Copy>(image: &mut ImgVec<T>, x: usize, z: usize)
 {
     image.swap_columns(x, z);
     image.flip_columns();
-}
-
-/// How many pixels are above a limit.
-pub fn count_above(image: ImgRef<'_, u8>, limit: u8) -> usize
-    requires { Fits (ref_layout image) }
-    ensures { result ≡ count_by (λ p. nat_lt limit p) (grid_pixels (ref_grid image.entry)) }
-{
-    image.pixels().filter(|p| *p > limit).count()
 }

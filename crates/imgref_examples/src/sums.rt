@@ -1,9 +1,9 @@
 //! Sums of the pixels.
 
-ghost use Rattle.std.specs.Prelude.{◌≡◌, ◌%◌, ◌*◌, ◌^◌, ◌<◌, ◌+◌, sum};
-ghost use Rattle.imgref.specs.Words.{Fits, grid_pixels, width_of, height_of, ref_grid, ref_layout};
+ghost use Rattle.std.specs.Prelude.{◌≡◌, ◌%◌, ◌*◌, ◌^◌, ◌<◌, ◌≤◌, ◌+◌, fold, max, sum};
+ghost use Rattle.imgref.specs.Words.{Fits, IsInside, as_window, grid_pixels, window_view, width_of, height_of, ref_grid, ref_layout};
 
-use imgref::ImgRef;
+use imgref::{ImgRef, Window};
 
 /// The sum of the pixels, modulo 2^64; the padding isn't counted.
 pub fn checksum(image: ImgRef<'_, u8>) -> u64
@@ -51,4 +51,27 @@ pub fn exact_checksum(image: ImgRef<'_, u8>) -> u64
         sum += u64::from(pixel);
     }
     sum
+}
+
+/// The greatest pixel, or 0 where there is none.
+pub fn greatest(image: ImgRef<'_, u8>) -> u8
+    requires { Fits (ref_layout image) }
+    ensures { result ≡ fold max 0 (grid_pixels (ref_grid image.entry)) }
+{
+    image.pixels().fold(0, |most, pixel| most.max(pixel))
+}
+
+/// The sum of the pixels of a window.
+pub fn window_sum(image: ImgRef<'_, u8>, place: Window) -> u64
+    requires fits { Fits (ref_layout image) }
+    requires inside { IsInside (width_of image) (height_of image) (as_window place) }
+    requires small { place.width * place.height < 2 ^ 56 }
+    ensures value { result ≡ sum (grid_pixels (window_view (ref_grid image.entry) (as_window place))) }
+    ensures bound { result ≤ 255 * (place.width * place.height) }
+{
+    let mut total = 0;
+    for pixel in image.window(place).pixels() {
+        total += u64::from(pixel);
+    }
+    total
 }

@@ -12,6 +12,7 @@ mod places;
 mod row_writes;
 mod rows;
 mod rows_by_number;
+mod turns;
 mod values;
 mod window_writes;
 mod windows;

@@ -47,8 +47,10 @@ fn path(alloc: Global, field: &[u8]) -> Result<Vec<Window>, LineFault>
         return Ok(Vec::new(alloc));
     }
     // A path is kept as long as its command: it takes the room of its windows and no more.
-    let slashes = field.iter().filter(|byte| **byte == b'/').count();
-    read_each(alloc, &mut Parts::new(field, b'/'), slashes + 1)
+    let windows = field.iter().fold(1usize, |count, byte| {
+        count.wrapping_add(usize::from(*byte == b'/'))
+    });
+    read_each(alloc, &mut Parts::new(field, b'/'), windows)
 }
 
 /// The path that the next field denotes.

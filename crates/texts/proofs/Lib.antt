@@ -1,1 +1,2 @@
 pub mod PartsLeft
+pub mod Positions

@@ -25,6 +25,8 @@ pub trait Field: Copy {
     }
 }
 
+// `next` is inlined here and below: a call for each number takes a quarter of the time of a window.
+
 /// A number: each has one text, without a sign and without leading zeros.
 impl Field for usize {
     ghost reading = { number_of };
@@ -37,6 +39,7 @@ impl Field for usize {
         }
     }
 
+    #[inline(always)]
     #[tactic(auto, unfolding(text_model::specs::Reading::first_of_parts))]
     fn next(parts: &mut Parts<'_>) -> Option<usize> {
         match parts.next_short() {
@@ -83,6 +86,7 @@ impl Field for u8 {
         u8::try_from(usize::read(piece)?).ok()
     }
 
+    #[inline(always)]
     #[tactic(auto, unfolding(text_model::specs::Reading::first_of_parts, text_model::specs::Reading::pixel_of))]
     fn next(parts: &mut Parts<'_>) -> Option<u8> {
         u8::try_from(usize::next(parts)?).ok()
@@ -106,6 +110,7 @@ impl Field for Window {
 }
 
 /// The value that the next part denotes.
+#[inline(always)]
 pub fn next<T: Field>(parts: &mut Parts<'_>) -> Option<T>
     ensures { Finds (λ x. (x, parts_left parts.new)) result
         (first_of_parts T.reading (parts_left parts.old)) }

@@ -1,5 +1,5 @@
 -- One row more.
-use Rattle.std.proofs.Common.{◌+◌, ◌*◌, arith, ap, ◌∙◌}
+use Rattle.std.proofs.Common.{arith}
 use Rattle.image_ops.proofs.PixelsMade.{row_added}
 use Rattle.image_ops.proofs.making.make_pixels.Goals as goal
 

@@ -1,0 +1,150 @@
+-- Squares of which each place changes places with the one across the diagonal, pair by pair.
+use Rattle.std.proofs.Common.{◌≡◌, ◌≢◌, ℕ, ◌+◌, ◌*◌, ◌<◌, ◌≤◌, ◌⊎◌, Bool, List, length, refl, sym, ap, ◌∙◌, arith, inl, inr, nat_lt, if◌then◌else◌}
+use Rattle.std.specs.List.{slice_get}
+use Rattle.std.proofs.lemmas.Bool.{cases_lt}
+use Rattle.std.proofs.lemmas.Bool.Decides.{nat_tests, eqb_tells}
+use Rattle.std.proofs.lemmas.Nat.{same_from_place}
+use Rattle.std.proofs.lemmas.Option.{slice_get_past}
+use Rattle.image_model.specs.Layout.{Fits, IsPadding, SameOutside, pixel}
+use Rattle.image_model.specs.Grid.{grid, grid_of}
+use Rattle.image_model.specs.Tables.{is_before}
+use Rattle.image_model.specs.Turns.{swapped_column, transposed}
+use Rattle.image_model.proofs.Grids.{pixel_at, same_grids}
+use Rattle.image_model.proofs.Places.{reached}
+use Rattle.image_model.proofs.Turns.{right_from_transposed, left_from_transposed, half_from_mirrored}
+use Rattle.image_shape.specs.Shape.{shaped, shaped_grid}
+use Rattle.image_shape.specs.declared.shape.Shape.{Shape}
+use Rattle.image_ops.specs.Gathered.{AreGathered}
+
+-- whether column u of row v has changed places, once the places to the right of the diagonal have that come before column x of row y
+abbrev pub is_crossed : ℕ → ℕ → ℕ → ℕ → Bool
+is_crossed x y u v = if nat_lt v u then is_before x y u v else is_before x y v u
+
+-- the cell from which column u of row v has its pixel then
+abbrev pub crossed_cell : ℕ → ℕ → ℕ → ℕ → ℕ → ℕ
+crossed_cell stride x y u v = if is_crossed x y u v then u * stride + v else v * stride + u
+
+-- these pairs have changed places, and the padding stays
+pub record CrossedUpto {T : Type 0} (x y : ℕ) (old new : List T) (s : Shape) : Type 0 where
+  pub as_many : length new ≡ length old
+  pub each : (u v : ℕ) → u < s.width → v < s.height → slice_get new (v * s.stride + u) ≡ slice_get old (crossed_cell s.stride x y u v)
+  pub others : (k : ℕ) → IsPadding s.width s.height s.stride k → slice_get new k ≡ slice_get old k
+
+-- a place on the diagonal keeps its cell
+on_diagonal : (stride x y u v : ℕ) → u ≡ v → crossed_cell stride x y u v ≡ v * stride + u
+on_diagonal stride x y u v same = grind (arith, same)
+
+-- two ends of the loop have the same cells if each place off the diagonal has changed places at both or at neither
+same_cell : (stride x y m n u v : ℕ) → (u ≢ v → is_crossed x y u v ≡ is_crossed m n u v) → crossed_cell stride x y u v ≡ crossed_cell stride m n u v
+same_cell stride x y m n u v alike =
+    elim (eqb_tells u v) [
+      | inl (_, same) ↦ on_diagonal stride x y u v same ∙ sym (on_diagonal stride m n u v same)
+      | inr (_, other) ↦ ap (λ b. if b then u * stride + v else v * stride + u) (alike other)
+    ]
+
+-- two places are the same or not
+same_place : (u v x y : ℕ) → ((u ≡ x) × (v ≡ y)) ⊎ ((u ≡ x) × (v ≡ y) → ⊥)
+same_place u v x y =
+    elim (eqb_tells u x) [
+      | inl (_, column) ↦ elim (eqb_tells v y) [ inl (_, line) ↦ inl (column, line) | inr (_, other) ↦ inr (λ e. other e.1) ]
+      | inr (_, other) ↦ inr (λ e. other e.0)
+    ]
+
+module _ {T : Type 0} (s : Shape) where
+  -- no pair yet
+  pub none_crossed : (cells : List T) → CrossedUpto 0 0 cells cells s
+  none_crossed cells = record {
+    as_many = refl;
+    each = λ u v column line. ap (slice_get cells) (grind (arith, nat_tests));
+    others = λ k padding. refl;
+  }
+
+  module _ (old now : List T) (x y : ℕ) (so : CrossedUpto x y old now s) where
+    -- the same pairs, said by another place
+    same_pairs : (m n : ℕ) → ((u v : ℕ) → u < s.width → v < s.height → u ≢ v → is_crossed x y u v ≡ is_crossed m n u v) → CrossedUpto m n old now s
+    same_pairs m n alike = record {
+      as_many = so.as_many;
+      each = λ u v column line. so.each u v column line ∙ ap (slice_get old) (same_cell s.stride x y m n u v (alike u v column line));
+      others = so.others;
+    }
+
+    -- a row begins to the right of the diagonal
+    pub row_begins : x ≡ 0 → CrossedUpto (y + 1) y old now s
+    row_begins none = same_pairs (y + 1) y (λ u v column line other. grind (arith, nat_tests, none, other))
+
+    -- and is at its end where the next one begins
+    pub row_crossed : s.width ≡ s.height → s.width ≤ x → CrossedUpto 0 (y + 1) old now s
+    row_crossed square wide = same_pairs 0 (y + 1) (λ u v column line other. grind (arith, nat_tests, column, line, square, wide))
+
+    -- one pair more
+    module _ (fits : Fits (shaped old s)) (square : s.width ≡ s.height) (right : y < x) (column : x < s.width) (i j : ℕ) (is_i : i ≡ y * s.stride + x) (is_j : j ≡ x * s.stride + y) where
+      -- the two cells
+      pub first_within : i < length now
+      first_within = omega (arith, is_i, reached (length old) s.width s.height s.stride x y fits column (omega arith), so.as_many)
+
+      pub second_within : j < length now
+      second_within = omega (arith, is_j, reached (length old) s.width s.height s.stride y x fits (omega arith) (omega arith), so.as_many)
+
+      module _ (new : List T) (as_many : length new ≡ length now) (made : AreGathered (swapped_column i j) now new) where
+        other_stays : (k : ℕ) → k ≢ i → k ≢ j → slice_get new k ≡ slice_get now k
+        other_stays k not_i not_j =
+            elim (cases_lt k (length new)) [
+              | inl here ↦ made.each k here ∙ ap (slice_get now) (grind (arith, not_i, not_j))
+              | inr past ↦ slice_get_past new k past ∙ sym (slice_get_past now k (omega (arith, past, as_many)))
+            ]
+
+        first_is : slice_get new i ≡ slice_get now j
+        first_is = made.each i (omega (arith, first_within, as_many)) ∙ ap (slice_get now) (grind arith)
+
+        second_is : slice_get new j ≡ slice_get now i
+        second_is = made.each j (omega (arith, second_within, as_many)) ∙ ap (slice_get now) (grind arith)
+
+        crossed_at : (u v : ℕ) → u < s.width → v < s.height → slice_get new (v * s.stride + u) ≡ slice_get old (crossed_cell s.stride (x + 1) y u v)
+        crossed_at u v in_u in_v =
+            elim (same_place u v x y) [
+              | inl here ↦
+                  let at : v * s.stride + u ≡ i = ap (λ n. n * s.stride + u) here.1 ∙ ap (λ n. y * s.stride + n) here.0 ∙ sym is_i in
+                  let was : crossed_cell s.stride x y y x ≡ x * s.stride + y = grind (arith, nat_tests, right) in
+                  let is : crossed_cell s.stride (x + 1) y u v ≡ x * s.stride + y = ap (λ n. crossed_cell s.stride (x + 1) y n v) here.0 ∙ ap (λ n. crossed_cell s.stride (x + 1) y x n) here.1 ∙ grind (arith, nat_tests, right) in
+                  ap (slice_get new) at ∙ first_is ∙ ap (slice_get now) is_j ∙ so.each y x (omega arith) (omega arith) ∙ ap (slice_get old) (was ∙ sym is)
+              | inr not_first ↦
+                  elim (same_place u v y x) [
+                    | inl there ↦
+                        let at : v * s.stride + u ≡ j = ap (λ n. n * s.stride + u) there.1 ∙ ap (λ n. x * s.stride + n) there.0 ∙ sym is_j in
+                        let was : crossed_cell s.stride x y x y ≡ y * s.stride + x = grind (arith, nat_tests, right) in
+                        let is : crossed_cell s.stride (x + 1) y u v ≡ y * s.stride + x = ap (λ n. crossed_cell s.stride (x + 1) y n v) there.0 ∙ ap (λ n. crossed_cell s.stride (x + 1) y y n) there.1 ∙ grind (arith, nat_tests, right) in
+                        ap (slice_get new) at ∙ second_is ∙ ap (slice_get now) is_i ∙ so.each x y (omega arith) (omega arith) ∙ ap (slice_get old) (was ∙ sym is)
+                    | inr not_second ↦
+                        let not_i : v * s.stride + u ≢ i = λ e. let p = same_from_place v u y x s.stride (omega (arith, s.holds_width)) (omega (arith, s.holds_width)) (e ∙ is_i) in not_first (p.1, p.0) in
+                        let not_j : v * s.stride + u ≢ j = λ e. let p = same_from_place v u x y s.stride (omega (arith, s.holds_width)) (omega (arith, s.holds_width)) (e ∙ is_j) in not_second (p.1, p.0) in
+                        other_stays (v * s.stride + u) not_i not_j ∙ so.each u v in_u in_v
+                        ∙ ap (slice_get old) (same_cell s.stride x y (x + 1) y u v (λ other. grind (arith, nat_tests, not_first, not_second, right)))
+                  ]
+            ]
+
+        pub one_crossed : CrossedUpto (x + 1) y old new s
+        one_crossed = record {
+          as_many = as_many ∙ so.as_many;
+          each = crossed_at;
+          others = λ k padding. other_stays k (λ e. padding.no_place x y column (omega arith) (sym is_i ∙ sym e)) (λ e. padding.no_place y x (omega arith) (omega arith) (sym is_j ∙ sym e)) ∙ so.others k padding;
+        }
+
+    -- all pairs
+    module _ (square : s.width ≡ s.height) (high : s.height ≤ y) where
+      pub all_crossed : shaped_grid now s ≡ transposed (shaped_grid old s)
+      unfolding grid_of transposed
+      all_crossed =
+          same_grids s.width s.height (pixel (shaped now s)) (λ u v. (grid_of (shaped old s)).pixel v u) (λ u v column line. so.each u v column line ∙ ap (slice_get old) (passed u v column line) ∙ sym (pixel_at (shaped old s) v u (omega arith) (omega arith)))
+          ∙ (λ i. grid (square i) (sym square i) (λ u v. (grid_of (shaped old s)).pixel v u))
+        where
+          passed : (u v : ℕ) → u < s.width → v < s.height → crossed_cell s.stride x y u v ≡ u * s.stride + v
+          passed u v column line = grind (arith, nat_tests, column, line, square, high)
+
+      pub crossed_outside : SameOutside (shaped old s) (shaped now s)
+      crossed_outside = record { width_stays = refl; height_stays = refl; stride_stays = refl; length_stays = so.as_many; padding_stays = so.others }
+
+-- the cells of a pair are there
+pub ruleset within = (first_within, second_within)
+
+-- the laws of two steps that make a turn
+pub ruleset turns = (right_from_transposed, left_from_transposed, half_from_mirrored)

@@ -1,0 +1,18 @@
+-- The start of a row, one pair more, the end of a row, and all pairs.
+use Rattle.std.proofs.Common.{refl, arith}
+use Rattle.image_ops.proofs.Diagonals.{row_begins, one_crossed, row_crossed, all_crossed}
+use Rattle.image_ops.proofs.squares.transpose_square.Goals as goal
+
+pub loop-x-init : goal.loop-x-init
+loop-x-init g c = row_begins c.args.shape c.args.cells.now c.loop-y.cells 0 c.loop-y.y c.loop-y.invariant refl
+
+pub loop-x-preserved : goal.loop-x-preserved
+loop-x-preserved g c =
+    one_crossed c.args.shape c.args.cells.now c.loop-x.cells c.loop-x.x c.loop-y.y c.loop-x.invariant c.requires.fits c.requires.square (omega arith) (omega arith)
+    c.cell.result c.cell-in-loop-x.result c.cell.ensures.value c.cell-in-loop-x.ensures.value c.swap_cells.new.row c.swap_cells.ensures.as_many c.swap_cells.ensures.swapped
+
+pub loop-y-preserved : goal.loop-y-preserved
+loop-y-preserved g c = row_crossed c.args.shape c.args.cells.now c.loop-x.cells c.loop-x.x c.loop-y.y c.loop-x.invariant c.requires.square (omega arith)
+
+pub returns-clause-grid : goal.returns-clause-grid
+returns-clause-grid g c = all_crossed c.args.shape c.args.cells.now c.loop-y.cells 0 c.loop-y.y c.loop-y.invariant c.requires.square (omega arith)
