@@ -6,7 +6,7 @@ STATUS = {"words": 1, "header": 2, "memory": 3, "input": 4, "output": 5, "outsid
 # How many bytes the head of a picture may have.
 LONGEST_HEAD = 65536
 # How many pixels share a chroma sample, across and down.
-SAMPLINGS = {b"mono": None, b"420jpeg": (2, 2), b"420mpeg2": (2, 2), b"420paldv": (2, 2), b"420": (2, 2), b"422": (2, 1), b"444": (1, 1)}
+SAMPLINGS = {b"mono": None, b"420jpeg": (2, 2), b"420mpeg2": (2, 2), b"420paldv": (2, 2), b"420": (2, 2), b"422": (2, 1), b"411": (4, 1), b"444": (1, 1)}
 
 # The head of a picture: its kind and three numbers with white space or comments between them, and one of these at its end.
 GAP = rb"(?:[ \t-\r]|#[^\n\r]*[\n\r])"

@@ -18,8 +18,8 @@ from checking import Cases, both_builds
 from c_library import VERSION
 from frames import count_tries, edits_of, ends, exchanged, lines_said, wanted
 
-SAMPLINGS = ("mono", "420jpeg", "420", "422", "444")
-EDITS = ("fill 4,2,6,4 126", "mosaic 2,2,10,6 4,2", "mosaic 0,0,12,8 64,64", "move 0,0,6,4 4,2", "move 4,2,6,4 0,0", "crop 4,2,6,4", "fill 0,0,0,0 1", "pad 2,4,6,8 16", "pad 4,0,1,3 200", "pad 1,0,0,0 9", "pad 0,2,0,0 9")
+SAMPLINGS = ("mono", "420jpeg", "420", "422", "411", "444")
+EDITS = ("fill 4,2,6,4 126", "mosaic 2,2,10,6 4,2", "mosaic 0,0,12,8 64,64", "move 0,0,6,4 4,2", "move 4,2,6,4 0,0", "crop 4,2,6,4", "fill 0,0,0,0 1", "pad 2,4,6,8 16", "pad 4,0,1,3 200", "pad 1,0,0,0 9", "pad 0,2,0,0 9", "fill 4,2,8,4 126", "mosaic 4,0,8,6 4,2", "move 0,0,8,4 4,2", "crop 4,2,8,4", "pad 4,0,8,2 16")
 # These end at the right or the lower edge of 13 by 9.
 ODD = ("fill 10,6,3,3 7", "mosaic 2,2,11,7 4,2", "move 8,0,5,3 8,6", "move 8,6,5,3 0,0", "crop 4,2,9,7", "crop 4,2,7,7", "fill 12,8,1,1 3", "fill 13,0,0,1 3")
 FILL = "fill 4,2,6,4 126"
@@ -39,7 +39,7 @@ LISTS = (
 def video(sampling, width=12, height=8, frames=3, parameters=(b"",), fields=b"Ip"):
     """A small video with pixels by chance, the same in each run. The frames have these parameters in turn."""
     chance = random.Random(f"{sampling} {width} {height}")
-    chroma = {"mono": 0, "422": 2 * (-(-width // 2)) * height, "444": 2 * width * height}.get(sampling, 2 * (-(-width // 2)) * (-(-height // 2)))
+    chroma = {"mono": 0, "411": 2 * (-(-width // 4)) * height, "422": 2 * (-(-width // 2)) * height, "444": 2 * width * height}.get(sampling, 2 * (-(-width // 2)) * (-(-height // 2)))
     line = f"YUV4MPEG2 W{width} H{height} F25:1 ".encode() + fields + f" A1:1 C{sampling} XLABEL=a\n".encode()
     return line + b"".join(b"FRAME" + parameters[it % len(parameters)] + b"\n" + chance.randbytes(width * height + chroma) for it in range(frames))
 
@@ -242,7 +242,7 @@ def through(program, words, made, command):
 
 
 def by_ffmpeg(cases, program):
-    for pixels in ("yuv420p", "yuv422p", "yuv444p", "gray"):
+    for pixels in ("yuv420p", "yuv422p", "yuv411p", "yuv444p", "gray"):
         source = ["-f", "lavfi", "-i", "testsrc2=size=128x96:rate=5:duration=1", "-pix_fmt", pixels]
         made = subprocess.run(["ffmpeg", "-v", "error", *source, "-f", "yuv4mpegpipe", "-strict", "-1", "-"], capture_output=True, timeout=120).stdout
         cases.count(f"crop is ffmpeg's on {pixels}", made and through(program, "crop 16,8,64,48", made, "crop=64:48:16:8:exact=1"))

@@ -3,10 +3,10 @@ use Rattle.std.proofs.Common.{◌≡◌, ℕ, ◌+◌, ◌*◌, true, List, [], 
 use Rattle.text_model.specs.Reading.{◌>>=◌}
 use Rattle.text_model.proofs.Options.{some_is, bind_some, guard_some}
 use Rattle.image_planes.specs.Changes.{Job, job_len, is_job, jobs_len}
-use Rattle.image_planes.specs.Resized.{Resizing, resizing, is_resizing, source_len, sources_len}
+use Rattle.image_planes.specs.Resized.{Resizing, resizing, is_resizing, resizing_for, source_len, sources_len}
 use Rattle.image_planes.specs.declared.change.Step.{Step}
 use Rattle.image_planes.specs.declared.target.Resize.{Resize}
-use Rattle.frame_formats.specs.Layers.{layer_width, layer_height, job_on, jobs_on, resize_on, resizing_on, resizings_on}
+use Rattle.frame_formats.specs.Layers.{layer_size, layer_width, layer_height, job_on, jobs_on, resize_on, resizing_on, resizings_on}
 use Rattle.frame_formats.specs.Steps.{all_some}
 use Rattle.frame_formats.specs.declared.layers.Layer.{Layer}
 use Rattle.frame_formats.specs.declared.steps.Paint.{Paint}
@@ -14,10 +14,10 @@ use Rattle.frame_formats.specs.declared.steps.Paint.{Paint}
 -- how many bytes planes of these sizes have
 abbrev pub layers_len : List Layer → ℕ → ℕ → ℕ
 layers_len [] width height = 0
-layers_len (l ∷ ls) width height = layer_width l width * layer_height l height + layers_len ls width height
+layers_len (l ∷ ls) width height = layer_size l * layer_width l width * layer_height l height + layers_len ls width height
 
 -- a plane has a size in range
-pub job_size : (l : Layer) (width height : ℕ) (steps : List (Step Paint)) (j : Job) → job_on l width height steps ≡ Some j → (layer_width l width * layer_height l height ≡ job_len j) × (is_job (layer_width l width) (layer_height l height) j.steps ≡ true)
+pub job_size : (l : Layer) (width height : ℕ) (steps : List (Step Paint)) (j : Job) → job_on l width height steps ≡ Some j → (layer_size l * layer_width l width * layer_height l height ≡ job_len j) × (is_job (layer_size l) (layer_width l width) (layer_height l height) j.steps ≡ true)
 job_size l width height steps j made = grind (arith, bind_some, guard_some)
 
 pub jobs_size : (ls : List Layer) (width height : ℕ) (steps : List (Step Paint)) (jobs : List Job) → jobs_on ls width height steps ≡ Some jobs → layers_len ls width height ≡ jobs_len jobs
@@ -30,8 +30,14 @@ jobs_size (l ∷ ls) width height steps jobs made =
     let rest = jobs_size ls width height steps others.0 others.1 in
     (λ i. one i + rest i) ∙ ap jobs_len (some_is (first.0 ∷ others.0) jobs others.2)
 
-pub target_size : (l : Layer) (width height : ℕ) (resize : Resize) (r : Resizing) → resizing_on l width height resize ≡ Some r → (z : Resize) × (resize_on l width height resize ≡ Some z) × (is_resizing (layer_width l width) (layer_height l height) z ≡ true) × (resizing (layer_width l width) (layer_height l height) z ≡ r)
-target_size l width height resize r made = grind (arith, bind_some, guard_some)
+pub target_size : (l : Layer) (width height : ℕ) (resize : Resize) (r : Resizing) → resizing_on l width height resize ≡ Some r → (z : Resize) × (resize_on l width height resize ≡ Some z) × (is_resizing (layer_size l) (layer_width l width) (layer_height l height) z ≡ true) × (resizing (layer_size l) (layer_width l width) (layer_height l height) z ≡ r)
+target_size l width height resize r made =
+    let size = layer_size l in
+    let wide = layer_width l width in
+    let high = layer_height l height in
+    let under = bind_some (resize_on l width height resize) (resizing_for size wide high) r made in
+    let valid = guard_some (is_resizing size wide high under.0) (resizing size wide high under.0) r under.2 in
+    (under.0, under.1, valid.0, valid.1)
 
 sources_size : (ls : List Layer) (width height : ℕ) (resize : Resize) (rs : List Resizing) → resizings_on ls width height resize ≡ Some rs → layers_len ls width height ≡ sources_len rs
 unfolding all_some

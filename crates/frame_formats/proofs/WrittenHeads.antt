@@ -1,7 +1,8 @@
 -- What is written before a picture is the head of one.
-use Rattle.std.proofs.Common.{◌≡◌, ℕ, ◌<◌, ◌^◌, Bool, true, false, cond, eqb, List, Option, Some, None, refl, sym, ap, ◌∙◌, arith, inl, inr}
+use Rattle.std.proofs.Common.{◌≡◌, ℕ, ◌*◌, ◌<◌, ◌^◌, Bool, true, false, cond, eqb, List, Option, Some, None, refl, sym, ap, ◌∙◌, arith, inl, inr}
 use Rattle.std.specs.Option.{option_map}
 use Rattle.std.proofs.lemmas.Bool.Decides.{eqb_tells}
+use Rattle.std.proofs.Math.Nat.{le-mul_of_pos_right, mul_comm}
 use Rattle.text_model.proofs.Options.{bind_some, map_some}
 use Rattle.image_planes.specs.Changes.{Job}
 use Rattle.image_planes.specs.Resized.{Resizing, is_resizing, new_width, new_height}
@@ -18,16 +19,21 @@ use Rattle.frame_formats.specs.declared.framing.Framing.{Framing}
 use Rattle.frame_formats.specs.declared.picture.Picture.{Picture}
 
 -- the numbers of a plane in its new size
-new_size : (width height : ℕ) (resize : Resize) → is_resizing width height resize ≡ true → (0 < new_width resize) × (new_width resize < 2 ^ 32) × (new_height resize < 2 ^ 32)
-new_size width height (Crop w) is = (grind arith, grind arith, grind arith)
-new_size width height (Pad left top wide high value) is = (grind arith, grind arith, grind arith)
+below : (size width : ℕ) → 0 < size → size * width < 2 ^ 32 → width < 2 ^ 32
+below size width some small = omega (arith, le-mul_of_pos_right width some, mul_comm width size)
+
+new_size : (size width height : ℕ) (resize : Resize) → is_resizing size width height resize ≡ true → (0 < new_width resize) × (new_width resize < 2 ^ 32) × (new_height resize < 2 ^ 32)
+new_size size width height (Crop w) is =
+    let old : width < 2 ^ 32 = below size width (grind arith) (grind arith) in
+    (grind arith, grind (arith, old), grind arith)
+new_size size width height (Pad left top wide high value) is = (grind arith, below size wide (grind arith) (grind arith), grind arith)
 
 abbrev HasHead : Recipe → Type 0
 HasHead r = (q : Picture) × (picture_of r.head ≡ Some q)
 
 -- the recipe that is left where the new size has a row
 abbrev resized_recipe : Picture → List Job → Resize → List Resizing → Recipe
-resized_recipe p jobs resize resizings = recipe (head_text (resized_picture p (new_width resize) (new_height resize))) p.colour jobs (Some resizings)
+resized_recipe p jobs resize resizings = recipe (head_text (resized_picture p (new_width resize) (new_height resize))) jobs (Some resizings)
 
 with_rows : (b : Bool) (o : Option Recipe) (r : Recipe) → cond b None o ≡ Some r → (b ≡ false) × (o ≡ Some r)
 with_rows true o r e = absurd cc
@@ -35,7 +41,7 @@ with_rows false o r e = (refl, e)
 
 finished_head : (p : Picture) (jobs : List Job) (f : Option Framing) (r : Recipe) → 0 < p.width → p.width < 2 ^ 32 → 0 < p.height → p.height < 2 ^ 32 → finished_picture p jobs f ≡ Some r → HasHead r
 finished_head p jobs None r columns width_bound rows height_bound made =
-    let same : recipe (head_text p) p.colour jobs None ≡ r = cc in
+    let same : recipe (head_text p) jobs None ≡ r = cc in
     (p, ap (λ (x : Recipe). picture_of x.head) (sym same) ∙ reads_back p columns width_bound rows height_bound)
 finished_head p jobs (Some framing) r columns width_bound rows height_bound made =
     let step = bind_some (resize_for p.width p.height framing) (λ resize. cond (eqb (new_height resize) 0) None (option_map (resized_recipe p jobs resize) (resizings_on (picture_layers p.colour) p.width p.height resize))) r made in
@@ -43,7 +49,8 @@ finished_head p jobs (Some framing) r columns width_bound rows height_bound made
     let left = with_rows (eqb (new_height resize) 0) (option_map (resized_recipe p jobs resize) (resizings_on (picture_layers p.colour) p.width p.height resize)) r step.2 in
     let some : 0 < new_height resize = elim (eqb_tells (new_height resize) 0) [ inl t ↦ absurd (let bad : true ≡ false = sym t.0 ∙ left.0 in cc) | inr t ↦ omega (arith, t.1) ] in
     let found = map_some (resizings_on (picture_layers p.colour) p.width p.height resize) (resized_recipe p jobs resize) r left.1 in
-    let size = new_size p.width p.height resize (picture_resized p.colour p.width p.height resize found.0 found.1) in
+    let plane = picture_resized p.colour p.width p.height resize found.0 found.1 in
+    let size = new_size plane.0 p.width p.height resize plane.1 in
     let q : Picture = resized_picture p (new_width resize) (new_height resize) in
     (q, ap (λ (x : Recipe). picture_of x.head) (sym found.2) ∙ reads_back q size.0 size.1 some size.2)
 

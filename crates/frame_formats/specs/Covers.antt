@@ -1,12 +1,12 @@
 -- What a cover is in a frame: a fill of whole samples, with a margin.
-use Rattle.std.specs.Prelude.{ℕ, ◌+◌, ◌-◌, ◌*◌, ◌/◌, ◌%◌, ◌==◌, Bool, true, false, nat_le, if◌then◌else◌, min, max}
+use Rattle.std.specs.Prelude.{ℕ, ◌+◌, ◌-◌, ◌*◌, ◌%◌, ◌==◌, nat_le, if◌then◌else◌, min, max}
 use Rattle.image_shape.specs.declared.window.Window.{Window}
 use Rattle.image_planes.specs.declared.change.Change.{Change}
 use Rattle.image_planes.specs.declared.change.Change.TheVariants.{Fill, Mosaic, Move}
 use Rattle.image_planes.specs.declared.change.Step.{Step}
 use Rattle.frame_formats.specs.declared.covers.Unit.{Unit as Samples}
 use Rattle.frame_formats.specs.declared.header.Chroma.{Chroma}
-use Rattle.frame_formats.specs.declared.header.Chroma.TheVariants.{Mono, Small, Wide, Whole}
+use Rattle.frame_formats.specs.declared.header.Chroma.TheVariants.{Mono, Small, Wide, Quarter, Whole}
 use Rattle.frame_formats.specs.declared.header.Format.{Format}
 use Rattle.frame_formats.specs.declared.steps.Paint.{Paint}
 use Rattle.frame_formats.specs.declared.steps.Paint.TheVariants.{Grey, Colour, Around}
@@ -19,6 +19,7 @@ abbrev pub chroma_unit : Chroma → Samples
 chroma_unit Mono = unit 1 1
 chroma_unit Small = unit 2 2
 chroma_unit Wide = unit 2 1
+chroma_unit Quarter = unit 4 1
 chroma_unit Whole = unit 1 1
 
 -- the same with the samples of both fields

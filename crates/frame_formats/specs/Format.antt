@@ -9,8 +9,9 @@ use Rattle.image_planes.specs.declared.target.Resize.{Resize}
 use Rattle.image_planes.specs.declared.target.Resize.TheVariants.{Crop, Pad}
 use Rattle.text_model.specs.Parts.{parts_of}
 use Rattle.text_model.specs.Reading.{◌>>=◌, number_of}
+use Rattle.frame_formats.specs.Steps.{each_byte}
 use Rattle.frame_formats.specs.declared.header.Chroma.{Chroma}
-use Rattle.frame_formats.specs.declared.header.Chroma.TheVariants.{Mono, Small, Wide, Whole}
+use Rattle.frame_formats.specs.declared.header.Chroma.TheVariants.{Mono, Small, Wide, Quarter, Whole}
 use Rattle.frame_formats.specs.declared.header.Format.{Format}
 use Rattle.frame_formats.specs.declared.framing.Framing.{Framing}
 use Rattle.frame_formats.specs.declared.framing.Framing.TheVariants.{Crop as CropPixels, Pad as PadPixels}
@@ -20,7 +21,7 @@ abbrev pub tagged : ℕ → List (List ℕ) → Option (List ℕ)
 tagged letter [] = None
 tagged letter (field ∷ fields) = if slice_index field 0 == letter then Some (drop 1 field) else tagged letter fields
 
--- how a word names the chroma samples: in one byte each, for two by two pixels, for two by one, for each
+-- how a word names the chroma samples: in one byte each, for two by two pixels, for two by one, for four by one, for each
 abbrev pub chroma_of : List ℕ → Option Chroma
 chroma_of word =
     if bytes_eq word (codes "mono") then Some Mono
@@ -29,6 +30,7 @@ chroma_of word =
     else if bytes_eq word (codes "420paldv") then Some Small
     else if bytes_eq word (codes "420") then Some Small
     else if bytes_eq word (codes "422") then Some Wide
+    else if bytes_eq word (codes "411") then Some Quarter
     else if bytes_eq word (codes "444") then Some Whole
     else None
 
@@ -91,10 +93,10 @@ abbrev pub at_corner : Window → ℕ → ℕ → Window
 at_corner w left top = record { left = left; top = top; width = w.width; height = w.height }
 
 -- the change of chroma samples under a change of pixels of a frame of this size: a fill leaves no colour
-unfoldable pub change_under : ℕ → ℕ → ℕ → ℕ → Change ℕ → Option (Change ℕ)
+unfoldable pub change_under : ℕ → ℕ → ℕ → ℕ → Change (List ℕ) → Option (Change (List ℕ))
 change_under x y width height (Fill w value) = do
   under ← window_under x y width height w
-  Some (Fill under 128)
+  Some (Fill under (each_byte 128))
 change_under x y width height (Mosaic w tile_width tile_height) = do
   under ← window_under x y width height w
   wide ← exact_samples x tile_width
@@ -117,7 +119,7 @@ resize_for width height (CropPixels w) = Some (Crop w)
 resize_for width height (PadPixels left top right bottom value) = do
   wide ← padded_size left width right
   high ← padded_size top height bottom
-  Some (Pad left top wide high value)
+  Some (Pad left top wide high (each_byte value))
 
 -- the same of a plane of chroma samples: a border has no colour
 unfoldable pub resize_under : ℕ → ℕ → ℕ → ℕ → Resize → Option Resize
@@ -126,4 +128,4 @@ resize_under x y width height (Crop w) = do
   Some (Crop under)
 resize_under x y width height (Pad left top wide high value) = do
   under ← window_under x y wide high (record { left = left; top = top; width = width; height = height })
-  Some (Pad under.left under.top (samples wide x) (samples high y) 128)
+  Some (Pad under.left under.top (samples wide x) (samples high y) (each_byte 128))

@@ -1,9 +1,8 @@
 -- What is done to a video, and to a picture.
-use Rattle.std.specs.Prelude.{◌≡◌, ◌==◌, ℕ, ◌<◌, ◌%◌, Bool, true, false, List, [], ◌∷◌, ◌++◌, map, Option, Some, None, if◌then◌else◌}
+use Rattle.std.specs.Prelude.{◌≡◌, ◌==◌, ℕ, ◌<◌, List, [], ◌∷◌, ◌++◌, map, Option, Some, None, if◌then◌else◌}
 use Rattle.std.specs.Option.{option_map}
 use Rattle.std.specs.declared.vec.Vec.{Vec}
 use Rattle.image_planes.specs.Changes.{Job, jobs_len, changed_planes}
-use Rattle.image_planes.specs.Interleaved.{parted, joined}
 use Rattle.image_planes.specs.Resized.{Resizing, resized_planes, sources_len, targets_len, new_width, new_height}
 use Rattle.image_planes.specs.Targets.{resizing_of}
 use Rattle.image_planes.specs.Unseen.{PlanesAlike}
@@ -19,23 +18,12 @@ use Rattle.frame_formats.specs.declared.framing.Framing.{Framing}
 use Rattle.frame_formats.specs.declared.header.Format.{Format}
 use Rattle.frame_formats.specs.declared.picture.Picture.{Picture}
 
--- what is written before the first frame, how many bytes a frame has, which planes these are, one after the other, what is done to each plane, and what the bytes of a frame become, by its number from 0
+-- what is written before the first frame, how many bytes a frame has, what is done to each of its planes, and what the bytes of a frame become, by its number from 0
 pub record Recipe : Type 0 where
   pub head : List ℕ
   pub size : ℕ
-  pub parts : List ℕ → List ℕ
   pub jobs : List Job
   pub frame : ℕ → List ℕ → List ℕ
-
--- the planes of a frame: its bytes as they are, or those of pixels of three bytes
-abbrev pub planes_in : Bool → List ℕ → List ℕ
-planes_in false cells = cells
-planes_in true cells = parted cells
-
--- the bytes of a frame with these planes
-abbrev pub cells_of : Bool → List ℕ → List ℕ
-cells_of false planes = planes
-cells_of true planes = joined planes
 
 -- the planes in their other size, where they get one
 abbrev pub resized_by : Option (List Resizing) → List ℕ → List ℕ
@@ -43,24 +31,23 @@ resized_by None planes = planes
 resized_by (Some resizings) planes = resized_planes resizings planes
 
 -- each plane is changed, and then made one of its other size
-abbrev pub recipe : List ℕ → Bool → List Job → Option (List Resizing) → Recipe
-recipe head in_pixels jobs resizings = record {
+abbrev pub recipe : List ℕ → List Job → Option (List Resizing) → Recipe
+recipe head jobs resizings = record {
   head = head;
   size = jobs_len jobs;
-  parts = planes_in in_pixels;
   jobs = jobs;
-  frame = λ number cells. cells_of in_pixels (resized_by resizings (changed_planes number jobs (planes_in in_pixels cells)));
+  frame = λ number cells. resized_by resizings (changed_planes number jobs cells);
 }
 
 -- ---- a video
 
 -- by what becomes of the size, which leaves a row: the line names it
 abbrev pub finished_video : List ℕ → Format → List Job → Option Framing → Option Recipe
-finished_video line format jobs None = Some (recipe (line ++ 10 ∷ []) false jobs None)
+finished_video line format jobs None = Some (recipe (line ++ 10 ∷ []) jobs None)
 finished_video line format jobs (Some framing) =
     resize_for format.width format.height framing >>= λ resize.
     if new_height resize == 0 then None
-    else option_map (λ resizings. recipe (resized (new_width resize) (new_height resize) line ++ 10 ∷ []) false jobs (Some resizings)) (resizings_on (video_layers format.chroma) format.width format.height resize)
+    else option_map (λ resizings. recipe (resized (new_width resize) (new_height resize) line ++ 10 ∷ []) jobs (Some resizings)) (resizings_on (video_layers format.chroma) format.width format.height resize)
 
 -- the recipe of edits of a video with this line, where they are edits of it
 abbrev pub video_recipe : Edits → List ℕ → Option Recipe
@@ -74,11 +61,11 @@ resized_picture p width height = picture width height p.colour
 
 -- by what becomes of the size, which leaves a row
 abbrev pub finished_picture : Picture → List Job → Option Framing → Option Recipe
-finished_picture p jobs None = Some (recipe (head_text p) p.colour jobs None)
+finished_picture p jobs None = Some (recipe (head_text p) jobs None)
 finished_picture p jobs (Some framing) =
     resize_for p.width p.height framing >>= λ resize.
     if new_height resize == 0 then None
-    else option_map (λ resizings. recipe (head_text (resized_picture p (new_width resize) (new_height resize))) p.colour jobs (Some resizings)) (resizings_on (picture_layers p.colour) p.width p.height resize)
+    else option_map (λ resizings. recipe (head_text (resized_picture p (new_width resize) (new_height resize))) jobs (Some resizings)) (resizings_on (picture_layers p.colour) p.width p.height resize)
 
 -- the recipe of edits of a picture, where they are edits of it
 abbrev pub picture_recipe : Edits → Picture → Option Recipe
@@ -96,10 +83,6 @@ abbrev pub resized_len : Option (List Resizing) → ℕ
 resized_len None = 0
 resized_len (Some resizings) = sources_len resizings
 
--- pixels have three bytes
-abbrev pub GoByThree : Bool → ℕ → Type 0
-GoByThree in_pixels size = in_pixels ≡ true → size % 3 ≡ 0
-
 abbrev pub resizings_of : {Z : Type 0} → Option (Vec Target Z) → Option (List Resizing)
 resizings_of targets = option_map (λ ts. map resizing_of ts.items) targets
 
@@ -107,7 +90,7 @@ resizings_of targets = option_map (λ ts. map resizing_of ts.items) targets
 
 -- frames that differ only in what the steps hide become one
 abbrev pub HidesAlike : Recipe → Type 0
-HidesAlike r = (number : ℕ) (p q : List ℕ) → PlanesAlike number r.jobs (r.parts p) (r.parts q) → r.frame number p ≡ r.frame number q
+HidesAlike r = (number : ℕ) (p q : List ℕ) → PlanesAlike number r.jobs p q → r.frame number p ≡ r.frame number q
 
 abbrev pub VideosHide : Type 0
 VideosHide = (e : Edits) (line : List ℕ) (r : Recipe) → video_recipe e line ≡ Some r → HidesAlike r

@@ -25,6 +25,7 @@ fn unit_of_chroma(chroma: Chroma) -> Unit
         Chroma::Mono | Chroma::Whole => (1, 1),
         Chroma::Small => (2, 2),
         Chroma::Wide => (2, 1),
+        Chroma::Quarter => (4, 1),
     };
     Unit { across, down }
 }

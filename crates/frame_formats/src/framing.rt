@@ -3,6 +3,7 @@
 ghost use Rattle.std.specs.Prelude.{◌≡◌};
 ghost use Rattle.frame_formats.specs.Format.{padded_size, resize_for};
 
+use crate::steps::each_byte;
 use image_planes::{Resize, Window};
 
 /// The change of the size of frames, in pixels.
@@ -47,7 +48,7 @@ pub(crate) fn resize_of(width: usize, height: usize, framing: Framing) -> Option
             top,
             width: padded_size(left, width, right)?,
             height: padded_size(top, height, bottom)?,
-            value,
+            value: each_byte(value),
         }),
     }
 }

@@ -16,6 +16,8 @@ pub enum Chroma {
     Small,
     /// Two planes, with one sample for two pixels of a row.
     Wide,
+    /// Two planes, with one sample for four pixels of a row.
+    Quarter,
     /// Two planes, with one sample for each pixel.
     Whole,
 }
@@ -89,6 +91,8 @@ fn read_chroma(word: &[u8]) -> Option<Chroma>
         Some(Chroma::Small)
     } else if word == b"422".as_slice() {
         Some(Chroma::Wide)
+    } else if word == b"411".as_slice() {
+        Some(Chroma::Quarter)
     } else if word == b"444".as_slice() {
         Some(Chroma::Whole)
     } else {

@@ -1,42 +1,38 @@
-//! The planes of a frame or a picture: the part of the pixels that each has, its changes, and the
-//! change of its size.
+//! The planes of a frame or a picture: what the pixels of each are, its changes, and the change of
+//! its size.
 
-ghost use Rattle.std.specs.Prelude.{◌≡◌, All, map, Some, None, IfOk, IfErr};
+ghost use Rattle.std.specs.Prelude.{◌≡◌, ◌<◌, All, map, Some, None, IfOk, IfErr};
 ghost use Rattle.std.specs.Option.{option_map};
 ghost use Rattle.image_planes.specs.Planes.{job_of};
 ghost use Rattle.image_planes.specs.Targets.{resizing_of};
-ghost use Rattle.frame_formats.specs.Layers.{StandsForPixels, picture_layers, video_layers, layer_width, layer_height, change_on, job_on, jobs_on, resizing_on, resizings_on};
+ghost use Rattle.frame_formats.specs.Layers.{StandsForPixels, picture_layers, video_layers, layer_size, layer_width, layer_height, change_on, job_on, jobs_on, resizing_on, resizings_on};
 ghost use Rattle.frame_formats.specs.Plan.{Tells};
 
 use crate::header::Chroma;
 use crate::plans::PlanFault;
 use crate::samples::{change_of_samples, count_samples, resize_of_samples};
-use crate::steps::{Channel, Paint, change_in};
-use image_planes::{Change, Plane, Resize, Step, Target};
+use crate::steps::{Paint, Pixel, change_in};
+use image_planes::{Change, Plane, Resize, Step, Target, Value};
 use std::alloc::Global;
 
 /// A plane of a frame or a picture.
 #[derive(Clone, Copy)]
 pub(crate) enum Layer {
-    /// One byte of each pixel.
-    Pixels(Channel),
+    /// A pixel for each pixel of the frame.
+    Pixels(Pixel),
     /// One chroma sample for so many columns and rows of pixels.
     Samples(usize, usize),
 }
 
-const BRIGHTNESS: Layer = Layer::Pixels(Channel::Only);
+const BRIGHTNESS: Layer = Layer::Pixels(Pixel::Single);
 
-/// The planes of a picture: one, or three.
+/// The plane of a picture.
 pub(crate) fn picture_layers(colour: bool) -> &'static [Layer]
     ensures layers { result.now ≡ picture_layers colour }
     ensures sound { All StandsForPixels result.now }
 {
     if colour {
-        &[
-            Layer::Pixels(Channel::Red),
-            Layer::Pixels(Channel::Green),
-            Layer::Pixels(Channel::Blue),
-        ]
+        &[Layer::Pixels(Pixel::Colours)]
     } else {
         &[BRIGHTNESS]
     }
@@ -51,21 +47,38 @@ pub(crate) fn video_layers(chroma: Chroma) -> &'static [Layer]
         Chroma::Mono => &[BRIGHTNESS],
         Chroma::Small => &[BRIGHTNESS, Layer::Samples(2, 2), Layer::Samples(2, 2)],
         Chroma::Wide => &[BRIGHTNESS, Layer::Samples(2, 1), Layer::Samples(2, 1)],
+        Chroma::Quarter => &[BRIGHTNESS, Layer::Samples(4, 1), Layer::Samples(4, 1)],
         Chroma::Whole => &[BRIGHTNESS, Layer::Samples(1, 1), Layer::Samples(1, 1)],
     }
 }
 
 // What a change of the pixels of a frame of this size is to the plane.
-fn change_on(layer: Layer, width: usize, height: usize, change: Change<Paint>) -> Option<Change<u8>>
+fn change_on(
+    layer: Layer,
+    width: usize,
+    height: usize,
+    change: Change<Paint>,
+) -> Option<Change<Value>>
     requires { StandsForPixels layer }
     ensures { result ≡ change_on layer width height change }
 {
     match layer {
-        Layer::Pixels(channel) => change_in(channel, change),
+        Layer::Pixels(pixel) => change_in(pixel, change),
         Layer::Samples(x, y) => {
-            let plain = change_in(Channel::Only, change)?;
+            let plain = change_in(Pixel::Single, change)?;
             change_of_samples(x, y, width, height, plain)
         }
+    }
+}
+
+// The number of bytes of a pixel of the plane.
+fn pixel_size_on(layer: Layer) -> usize
+    ensures size { result ≡ layer_size layer }
+    ensures some { 0 < result }
+{
+    match layer {
+        Layer::Pixels(pixel) => pixel.size(),
+        Layer::Samples(..) => 1,
     }
 }
 
@@ -109,7 +122,13 @@ fn plane_on(
         }
     }
     let (wide, high) = size_on(layer, width, height);
-    match Plane::new(wide, high, made) {
+    let size = pixel_size_on(layer);
+    // A row of so many bytes is too long for any buffer, whatever the edits are.
+    let greatest = u32::MAX as usize;
+    if wide <= greatest && wide > greatest / size {
+        return Err(PlanFault::Memory);
+    }
+    match Plane::new(size, wide, high, made) {
         Some(plane) => Ok(plane),
         None => Err(PlanFault::Outside),
     }
@@ -125,7 +144,7 @@ fn target_on(layer: Layer, width: usize, height: usize, resize: Resize) -> Optio
         Layer::Samples(x, y) => resize_of_samples(x, y, width, height, resize)?,
     };
     let (wide, high) = size_on(layer, width, height);
-    Target::new(wide, high, under)
+    Target::new(pixel_size_on(layer), wide, high, under)
 }
 
 /// The planes of a frame of this size, each with its changes, from steps in pixels.

@@ -22,5 +22,5 @@ pub use hiding::recipes_hide;
 pub use image_planes::{Change, Step, Window};
 pub use picture::{Head, Picture, Scan, heads_end_themselves};
 pub use plans::{Plan, PlanFault};
-pub use steps::{Channel, Paint};
+pub use steps::{Paint, Pixel};
 pub use words::{Edits, WordsFault};

@@ -6,7 +6,7 @@ ghost use Rattle.image_planes.specs.Planes.{job_of};
 ghost use Rattle.frame_formats.specs.Format.{format_of};
 ghost use Rattle.frame_formats.specs.Plan.{Tells};
 ghost use Rattle.frame_formats.specs.Edits.{edits};
-ghost use Rattle.frame_formats.specs.Recipe.{recipe, video_recipe, picture_recipe, new_len, resized_len, GoByThree, resizings_of};
+ghost use Rattle.frame_formats.specs.Recipe.{recipe, video_recipe, picture_recipe, new_len, resized_len, resizings_of};
 
 use crate::covers::{Unit, settle_all, unit_of_video};
 use crate::framing::{Framing, resize_of};
@@ -15,10 +15,7 @@ use crate::layers::{picture_layers, planes_of, targets_of, video_layers};
 use crate::line::{ended_line, resized_line};
 use crate::picture::{Picture, picture_head};
 use crate::steps::Paint;
-use image_planes::{
-    Plane, Step, Target, change_planes, join_pixels, part_pixels, planes_len, resize_planes,
-    targets_len,
-};
+use image_planes::{Plane, Step, Target, change_planes, planes_len, resize_planes, targets_len};
 use std::alloc::Global;
 
 /// Why there is no plan.
@@ -37,34 +34,26 @@ pub struct Plan {
     head: Vec<u8>,
     planes: Vec<Plane>,
     targets: Option<Vec<Target>>,
-    // Whether a frame is pixels of three bytes, and no planes.
-    in_pixels: bool,
     source_len: usize,
     len: usize,
     ghost source: { source_len ≡ jobs_len (map job_of planes.items) },
     ghost target: { len ≡ new_len (map job_of planes.items) (resizings_of targets) },
     ghost covers: { resized_len (resizings_of targets) ≤ source_len },
-    ghost whole: { GoByThree in_pixels source_len },
-    ghost new_whole: { GoByThree in_pixels len },
 }
 
 impl Plan {
     // These name the type itself.
-    ghost use Rattle.frame_formats.specs.Planned.{recipe_of, plan_len, plan_is_resized, plan_room, plan_other_room};
+    ghost use Rattle.frame_formats.specs.Planned.{recipe_of, plan_room, plan_other_room};
 
     // A plan with the sizes of its frames.
     fn new(
         head: Vec<u8>,
-        in_pixels: bool,
         planes: Vec<Plane>,
         targets: Option<Vec<Target>>,
     ) -> Result<Plan, PlanFault>
         requires covers { resized_len (resizings_of targets) ≤ jobs_len (map job_of planes.items) }
-        requires whole { GoByThree in_pixels (jobs_len (map job_of planes.items)) }
-        requires new_whole { GoByThree in_pixels
-            (new_len (map job_of planes.items) (resizings_of targets)) }
         ensures plan { IfOk result (λ plan. recipe_of plan
-            ≡ recipe head.items in_pixels (map job_of planes.items) (resizings_of targets)) }
+            ≡ recipe head.items (map job_of planes.items) (resizings_of targets)) }
         ensures fault { IfErr result (λ fault. fault ≡ PlanFault.Memory) }
         ensures cause { IfErr result (λ _.
             (2 ^ 64 ≤ jobs_len (map job_of planes.items))
@@ -84,7 +73,6 @@ impl Plan {
             head,
             planes,
             targets,
-            in_pixels,
             source_len,
             len,
         })
@@ -119,7 +107,7 @@ impl Plan {
             let Ok(head) = ended_line(alloc, line) else {
                 return Err(PlanFault::Memory);
             };
-            return Plan::new(head, false, planes, None);
+            return Plan::new(head, planes, None);
         };
         let Some(resize) = resize_of(format.width, format.height, framing) else {
             return Err(PlanFault::Outside);
@@ -131,7 +119,7 @@ impl Plan {
         let Ok(head) = resized_line(alloc, line, resize.width(), resize.height()) else {
             return Err(PlanFault::Memory);
         };
-        Plan::new(head, false, planes, Some(targets))
+        Plan::new(head, planes, Some(targets))
     }
 
     /// The plan for a picture.
@@ -139,7 +127,7 @@ impl Plan {
     /// # Errors
     ///
     /// `Outside` where the edits aren't valid for such a picture, or no row would be left.
-    #[tactic(auto, using(crate::proofs::PictureSizes::three_whole, crate::proofs::PictureSizes::three_whole_resized, crate::proofs::Sizes::same_sizes))]
+    #[tactic(auto, using(crate::proofs::Sizes::same_sizes))]
     pub fn for_picture(
         alloc: Global,
         picture: Picture,
@@ -161,7 +149,7 @@ impl Plan {
             let Ok(head) = picture_head(alloc, picture) else {
                 return Err(PlanFault::Memory);
             };
-            return Plan::new(head, picture.colour, planes, None);
+            return Plan::new(head, planes, None);
         };
         let Some(resize) = resize_of(picture.width, picture.height, framing) else {
             return Err(PlanFault::Outside);
@@ -178,7 +166,7 @@ impl Plan {
         let Ok(head) = picture_head(alloc, resized) else {
             return Err(PlanFault::Memory);
         };
-        Plan::new(head, picture.colour, planes, Some(targets))
+        Plan::new(head, planes, Some(targets))
     }
 
     /// What is written before the first frame: a line with its line feed, or the head of a picture.
@@ -188,86 +176,40 @@ impl Plan {
         &self.head
     }
 
-    /// Whether a frame gets another size.
-    pub fn is_resized(&self) -> bool
-        ensures { result ≡ plan_is_resized self.now }
-    {
-        self.targets.is_some()
-    }
-
-    /// The number of bytes of a frame.
-    pub fn source_len(&self) -> usize
+    /// The number of bytes of a frame, which its buffer needs.
+    pub fn room(&self) -> usize
+        ensures room { result ≡ plan_room self.now }
         ensures size { result ≡ (recipe_of self.now).size }
-        ensures within { result ≤ plan_room self.now }
     {
         self.source_len
     }
 
-    /// The number of its bytes afterwards.
-    pub fn len(&self) -> usize
-        ensures len { result ≡ plan_len self.now }
-        ensures within { result
-            ≤ (if plan_is_resized self.now then plan_other_room self.now else plan_room self.now) }
-    {
-        self.len
-    }
-
-    /// The number of bytes that the buffer of a frame needs.
-    pub fn room(&self) -> usize
-        ensures { result ≡ plan_room self.now }
-    {
-        let own = self.source_len;
-        if self.in_pixels {
-            own.max(self.len)
-        } else {
-            own
-        }
-    }
-
-    /// The number of bytes that the other buffer needs.
+    /// The number of bytes that the other buffer needs: those of a frame in its other size.
     pub fn other_room(&self) -> usize
         ensures { result ≡ plan_other_room self.now }
     {
-        if self.in_pixels {
-            self.room()
-        } else if self.is_resized() {
-            self.len
-        } else {
-            0
+        match self.targets {
+            Some(_) => self.len,
+            None => 0,
         }
     }
 
-    /// Edits the frame of this number, which is at the front of the first buffer. Afterwards it is
-    /// at the front of the other buffer where its size has changed, and otherwise of the first.
-    pub fn edit(&self, number: u64, cells: &mut [u8], other: &mut [u8])
+    /// Edits the frame of this number, which is at the front of the first buffer, and returns what
+    /// it becomes. That is in the other buffer where its size changes.
+    pub fn edit<'a>(&self, number: u64, cells: &'a mut [u8], other: &'a mut [u8]) -> &'a [u8]
         requires room { plan_room self.now ≤ length cells.old }
         requires other_room { plan_other_room self.now ≤ length other.old }
-        ensures { take (plan_len self.now)
-            (if plan_is_resized self.now then other.new else cells.new)
+        ensures { result.now
             ≡ (recipe_of self.now).frame number (take (recipe_of self.now).size cells.old) }
     {
-        if !self.in_pixels {
-            let (frame, _) = cells.split_at_mut(self.source_len);
-            change_planes(number, frame, &self.planes);
-            if let Some(targets) = &self.targets {
+        let (frame, _) = cells.split_at_mut(self.source_len);
+        change_planes(number, frame, &self.planes);
+        match &self.targets {
+            None => frame,
+            Some(targets) => {
                 let (target, _) = other.split_at_mut(self.len);
                 resize_planes(frame, target, targets);
-            }
-            return;
-        }
-        let (planes, _) = other.split_at_mut(self.source_len);
-        part_pixels(&cells[..self.source_len], planes);
-        change_planes(number, planes, &self.planes);
-        match &self.targets {
-            None => {
-                let (frame, _) = cells.split_at_mut(self.source_len);
-                join_pixels(planes, frame);
-            }
-            Some(targets) => {
-                let (resized, _) = cells.split_at_mut(self.len);
-                resize_planes(planes, resized, targets);
-                let (frame, _) = other.split_at_mut(self.len);
-                join_pixels(resized, frame);
+                target
             }
         }
     }

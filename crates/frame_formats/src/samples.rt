@@ -3,7 +3,8 @@
 ghost use Rattle.std.specs.Prelude.{◌≡◌, ◌<◌};
 ghost use Rattle.frame_formats.specs.Format.{samples, ends_on_sample, window_under, exact_samples, at_corner, change_under, resize_under};
 
-use image_planes::{Change, Resize, Window};
+use crate::steps::each_byte;
+use image_planes::{Change, Resize, Value, Window};
 
 // The number of samples for so many pixels, where it is a whole one.
 fn whole_samples(step: usize, pixels: usize) -> Option<usize>
@@ -69,8 +70,8 @@ pub(crate) fn change_of_samples(
     y: usize,
     width: usize,
     height: usize,
-    change: Change<u8>,
-) -> Option<Change<u8>>
+    change: Change<Value>,
+) -> Option<Change<Value>>
     requires across { 0 < x }
     requires down { 0 < y }
     ensures { result ≡ change_under x y width height change }
@@ -78,7 +79,7 @@ pub(crate) fn change_of_samples(
     match change {
         Change::Fill { window, value: _ } => Some(Change::Fill {
             window: window_of_samples(x, y, width, height, window)?,
-            value: 128,
+            value: each_byte(128),
         }),
         Change::Mosaic {
             window,
@@ -129,7 +130,7 @@ pub(crate) fn resize_of_samples(
                 top: under.top,
                 width: count_samples(wide, x),
                 height: count_samples(high, y),
-                value: 128,
+                value: each_byte(128),
             })
         }
     }

@@ -14,3 +14,6 @@ pub mod Crossing
 pub mod FromPlaces
 pub mod PixelsMade
 pub mod Diagonals
+pub mod Parts
+pub mod PixelSpreading
+pub mod Patterns

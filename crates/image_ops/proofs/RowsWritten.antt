@@ -1,17 +1,20 @@
 -- The rows of an image, written one after the other.
-use Rattle.std.proofs.Common.{◌≡◌, ℕ, zero, suc, ◌+◌, ◌-◌, ◌*◌, ◌<◌, ◌≤◌, List, [], ◌∷◌, ◌++◌, length, set, take, drop, replicate, Option, refl, sym, ap, subst, ◌∙◌, arith, inl, inr, drop-drop, length-take, length-drop}
+use Rattle.std.proofs.Common.{◌≡◌, ℕ, zero, suc, ◌+◌, ◌-◌, ◌*◌, ◌<◌, ◌≤◌, List, [], ◌∷◌, ◌++◌, length, set, take, drop, replicate, Option, refl, sym, ap, subst, ◌∙◌, arith, inl, inr, drop-drop, append_assoc, length-take, length-drop}
 use Rattle.std.specs.List.{slice_get}
 use Rattle.std.proofs.lemmas.Bool.{cases_lt}
-use Rattle.std.proofs.Math.Nat.{mul-le-mul_right}
+use Rattle.std.proofs.Math.Nat.{mul-le-mul_right, suc-mul}
 use Rattle.image_model.specs.Layout.{pixel, Fits, IsPadding, SameOutside}
 use Rattle.image_model.specs.Grid.{grid, grid_of}
 use Rattle.image_model.specs.Rows.{row_count}
+use Rattle.image_model.specs.Shifts.{shifted}
 use Rattle.image_model.specs.Windows.{Stretch, with_stretch}
+use Rattle.image_model.proofs.Cells.{slice_get-take, slice_get-drop}
 use Rattle.image_model.proofs.Grids.{same_grids}
 use Rattle.image_model.proofs.Rows.{row_reached, row_count-le, row_count-wide}
 use Rattle.image_model.proofs.Stretches.{length-with_stretch, with_stretch_at, with_stretch_beside}
 use Rattle.image_shape.specs.Shape.{shaped, shaped_grid}
 use Rattle.image_shape.specs.declared.shape.Shape.{Shape}
+use Rattle.image_shape.specs.declared.window.Stretch as part
 
 -- one cell more
 pub filled_more : {T : Type 0} (n : ℕ) (value : T) (xs : List T) → n < length xs → set (replicate n value ++ drop n xs) n value ≡ replicate (n + 1) value ++ drop (n + 1) xs
@@ -112,3 +115,24 @@ pub shows_table : {T : Type 0} (at : ℕ → ℕ → Option T) (old new : List T
 unfolding grid_of
 shows_table at old new s y so all =
     same_grids s.width s.height (pixel (shaped new s)) at (all_right (λ x j p. p ≡ at x j) old new s y so all)
+
+-- a row is copied from the one above it, where the table's rows are the same
+module _ {T : Type 0} (at : ℕ → ℕ → Option T) (old now : List T) (s : Shape) (y : ℕ) (so : RowsDone (λ x j p. p ≡ at x j) old now s y) (fits : Fits (shaped old s)) (below : y < row_count s.width s.height) where
+  pub row_copied : (above row : part.Stretch) → 0 < y → ((x : ℕ) → at x (y - 1) ≡ at x y) → above.start ≡ row.start - s.stride → above.len ≡ s.width → row.start ≡ y * s.stride
+      → RowsDone (λ x j p. p ≡ at x j) old (shifted now above.start above.len row.start) s (y + 1)
+  row_copied above row later alike begins count from =
+      let before : y ≡ y - 1 + 1 = omega (arith, later) in
+      let lines : y * s.stride ≡ (y - 1) * s.stride + s.stride = ap (λ n. n * s.stride) before ∙ (let e : (y - 1 + 1) * s.stride ≡ suc (y - 1) * s.stride = omega arith in e ∙ suc-mul (y - 1) s.stride) in
+      let same : above.start ≡ (y - 1) * s.stride = omega (arith, begins, from, lines) in
+      let reached : y * s.stride + s.width ≤ length now = omega (arith, row_reached (length old) s.width s.height s.stride y fits below, so.as_many) in
+      let copied : List T = take above.len (drop above.start now) in
+      let many : length copied ≡ s.width = omega (arith, count, same, lines, s.holds_width, reached, length-take above.len (drop above.start now), length-drop above.start now) in
+      subst (λ cells. RowsDone (λ x j p. p ≡ at x j) old cells s (y + 1))
+      ((λ i. take (sym from i) now ++ (copied ++ drop (sym from i + sym count i) now)) ∙ sym (append_assoc (take row.start now) copied (drop (row.start + above.len) now)))
+      (one_row_more (λ x j p. p ≡ at x j) old now s y so fits below copied many
+      (λ x column.
+      slice_get-take above.len (drop above.start now) x (omega (arith, column, count))
+      ∙ slice_get-drop above.start now x
+      ∙ ap (λ n. slice_get now (n + x)) same
+      ∙ so.each x (y - 1) column (omega (arith, before))
+      ∙ alike x))

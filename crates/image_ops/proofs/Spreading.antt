@@ -8,7 +8,7 @@ use Rattle.image_model.specs.Windows.{Stretch, with_stretch}
 use Rattle.image_model.proofs.Cells.{slice_get-set_same, slice_get-set_other, slice_get-replicate}
 use Rattle.image_model.proofs.Stretches.{length-with_stretch, with_stretch_at, with_stretch_beside}
 use Rattle.image_ops.specs.Mosaic.{IsSpread}
-use Rattle.image_ops.proofs.Corners.{own_start, first_start, start_of, next_start}
+use Rattle.image_ops.proofs.Corners.{first_start, start_of, next_start}
 
 -- the cells before number x are spread, and those from it on are as before; a tile begins at the corner, which shows the pixel
 pub record SpreadUpto {T : Type 0} (tile : ℕ) (old now : List T) (corner x : ℕ) : Type 0 where
@@ -18,10 +18,6 @@ pub record SpreadUpto {T : Type 0} (tile : ℕ) (old now : List T) (corner x : �
   pub starts : corner < length old → tile_start tile corner ≡ corner
   pub from : corner ≤ x
   pub within : x ≤ corner + tile
-
--- tiles of one cell are spread as they are
-pub single_cells : {T : Type 0} (tile : ℕ) (old : List T) → tile ≡ 1 → IsSpread tile old old
-single_cells tile old one = record { as_many = refl; each = λ x below. ap (slice_get old) (sym (ap (λ n. tile_start n x) one ∙ own_start x)) }
 
 module _ {T : Type 0} (tile : ℕ) (some : 0 < tile) (old : List T) where
   -- none yet

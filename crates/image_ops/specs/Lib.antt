@@ -7,3 +7,4 @@ pub mod Part
 pub mod Gathered
 pub mod Made
 pub mod Turned
+pub mod Repeated

@@ -19,6 +19,7 @@ mod moving;
 mod packing;
 mod pairs;
 mod places;
+mod repeating;
 mod squares;
 mod swapping;
 mod turning;
@@ -37,9 +38,13 @@ pub use moving::move_pixels;
 pub use packing::{join_rows, pack};
 pub use pairs::agree_at_places;
 pub use places::{map_places, zip_pixels};
+pub use repeating::repeat_pixels;
 pub use squares::{transpose_square, turn_in_place};
 pub use swapping::swap_rows;
 pub use turning::{
     Turn, transpose_pixels, turn_half_pixels, turn_left_pixels, turn_pixels, turn_right_pixels,
 };
-pub use windows::{copy_window, fill_window, mosaic_window, padded_part, padded_stretch_mut};
+pub use windows::{
+    copy_window, fill_window, mosaic_window, mosaic_window_by, padded_part, padded_stretch_mut,
+    repeat_window,
+};

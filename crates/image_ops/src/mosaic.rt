@@ -1,14 +1,14 @@
 //! Mosaics of cells in a shape: each tile gets the pixel at its corner.
 
-ghost use Rattle.std.specs.Prelude.{◌≡◌, ◌+◌, ◌≤◌, ◌<◌, length};
+ghost use Rattle.std.specs.Prelude.{◌≡◌, ◌<◌};
 ghost use Rattle.image_model.specs.Layout.{Fits, SameOutside};
 ghost use Rattle.image_model.specs.Grid.{grid_of};
-ghost use Rattle.image_model.specs.Shifts.{shifted};
 ghost use Rattle.image_shape.specs.Shape.{shaped};
-ghost use Rattle.image_ops.specs.Mosaic.{mosaic, IsSpread};
+ghost use Rattle.image_ops.specs.Mosaic.{mosaic_by, IsSpread, IsSpreadBy};
 
 use crate::fill::fill_cells;
-use image_shape::{Shape, Stretch};
+use crate::repeating::repeat_row;
+use image_shape::Shape;
 
 // From this width on a tile's part of a row is filled by one call.
 const FILLED_WIDTH: usize = 16;
@@ -46,46 +46,64 @@ fn spread_by_tiles<T: Copy>(row: &mut [T], tile_width: usize)
     }
 }
 
-// The same, by what is faster for such tiles. A tile of one cell shows that cell.
-fn spread<T: Copy>(row: &mut [T], tile_width: usize)
+// Each pixel of so many cells becomes the first one of its tile. A pixel that isn't the first gets
+// the cells of the one before it.
+fn spread_by_pixels<T: Copy>(row: &mut [T], size: usize, tile_width: usize)
+    requires size { 0 < size }
     requires tile_width { 0 < tile_width }
-    ensures { IsSpread tile_width row.old row.new }
+    ensures { IsSpreadBy size tile_width row.old row.new }
+{
+    let tile = tile_width.saturating_mul(size);
+    let mut corner = 0;
+    for x in 0..row.len() {
+        if x - corner == tile {
+            corner = x;
+        } else if x - corner >= size {
+            row[x] = row[x - size];
+        }
+    }
+}
+
+// The same, by what is faster for such tiles. A tile of one pixel shows that pixel.
+fn spread<T: Copy>(row: &mut [T], size: usize, tile_width: usize)
+    requires size { 0 < size }
+    requires tile_width { 0 < tile_width }
+    ensures { IsSpreadBy size tile_width row.old row.new }
 {
     if tile_width == 1 {
         return;
     }
-    if tile_width < FILLED_WIDTH {
+    if size > 1 {
+        spread_by_pixels(row, size, tile_width);
+    } else if tile_width < FILLED_WIDTH {
         spread_by_cells(row, tile_width);
     } else {
         spread_by_tiles(row, tile_width);
     }
 }
 
-// Copies a row to a cell after its end.
-fn repeat_row<T: Copy>(cells: &mut [T], row: Stretch, target: usize)
-    requires apart { row.start + row.len ≤ target }
-    requires target { target + row.len ≤ length cells.old }
-    ensures { cells.new ≡ shifted cells.old row.start row.len target }
-{
-    let (front, back) = cells.split_at_mut(target);
-    back[..row.len].copy_from_slice(&front[row.range()]);
-}
-
-/// Writes, at every place of `shape`, the old pixel at the corner of the place's tile. The padding
-/// stays.
+/// Writes, at every place of `shape`, the old pixel at the corner of the place's tile. A pixel is
+/// `size` cells next to one another in a row. The padding stays.
 ///
 /// It goes row by row. In the first row of a tile each pixel becomes the one at its tile's corner.
 /// Each other row is a copy of the row above it.
 ///
 /// # Requires
 ///
-/// The cells fit the shape, and a tile has columns and rows.
-pub fn mosaic_cells<T: Copy>(cells: &mut [T], shape: Shape, tile_width: usize, tile_height: usize)
+/// The cells fit the shape, a pixel has cells, and a tile has columns and rows.
+pub fn mosaic_cells<T: Copy>(
+    cells: &mut [T],
+    shape: Shape,
+    size: usize,
+    tile_width: usize,
+    tile_height: usize,
+)
     requires fits { Fits (shaped cells.old shape) }
+    requires size { 0 < size }
     requires tile_width { 0 < tile_width }
     requires tile_height { 0 < tile_height }
     ensures grid { grid_of (shaped cells.new shape)
-        ≡ mosaic tile_width tile_height (grid_of (shaped cells.old shape)) }
+        ≡ mosaic_by size tile_width tile_height (grid_of (shaped cells.old shape)) }
     ensures outside { SameOutside (shaped cells.old shape) (shaped cells.new shape) }
 {
     // A tile of one pixel shows that pixel.
@@ -95,7 +113,7 @@ pub fn mosaic_cells<T: Copy>(cells: &mut [T], shape: Shape, tile_width: usize, t
     for y in 0..shape.row_count() {
         let row = shape.row(cells.len(), y);
         if y % tile_height == 0 {
-            spread(&mut cells[row.range()], tile_width);
+            spread(&mut cells[row.range()], size, tile_width);
         } else {
             repeat_row(cells, shape.row_above(row), row.start);
         }

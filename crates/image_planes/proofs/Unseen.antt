@@ -1,17 +1,19 @@
--- After the steps nothing shows of the old value at a hidden place.
-use Rattle.std.proofs.Common.{◌≡◌, ℕ, ◌+◌, ◌-◌, ◌<◌, ◌≤◌, ◌*◌, ◌/◌, Bool, true, false, cond, eqb, List, [], ◌∷◌, ◌++◌, take, drop, refl, sym, ap, ◌∙◌, arith, inl, inr, rules}
+-- After the steps nothing shows of the old value of a hidden pixel.
+use Rattle.std.proofs.Common.{◌≡◌, ℕ, suc, ◌+◌, ◌-◌, ◌<◌, ◌≤◌, ◌*◌, ◌/◌, ◌%◌, Bool, true, false, cond, eqb, None, List, [], ◌∷◌, ◌++◌, take, drop, refl, sym, ap, ◌∙◌, arith, inl, inr}
 use Rattle.std.proofs.lemmas.Bool.Decides.{eqb_tells}
 use Rattle.std.proofs.lemmas.Bool.{cases_lt}
-use Rattle.std.proofs.lemmas.Nat.{div-mul-add}
-use Rattle.image_model.specs.Grid.{Grid, patch, uniform, view, covers}
+use Rattle.std.proofs.lemmas.Nat.{div-mul-add, div-add-mod', div_below, le-div, mod_below}
+use Rattle.std.proofs.Math.Nat.{mul_comm, mul-add, mul-suc, mul-add-div, mul-div-le, mul-le-mul_left, zero-mul}
+use Rattle.image_model.specs.Grid.{Grid, grid_of, patch, view, covers, is_place}
+use Rattle.image_model.specs.Layout.{layout, pixel}
 use Rattle.image_model.specs.Rows.{grid_pixels}
 use Rattle.image_model.specs.Tiles.{tile_start}
 use Rattle.image_model.specs.Windows.{window_view}
 use Rattle.image_model.proofs.Grids.{same_grids, covers_decides}
 use Rattle.image_model.proofs.Tiles.{tile_start-is}
-use Rattle.image_ops.specs.Mosaic.{mosaic}
-use Rattle.imgref.specs.Window.{as_window}
-use Rattle.image_planes.specs.Changes.{Job, job_len, changed, changed_plane, changed_planes, stepped, names}
+use Rattle.image_ops.specs.Mosaic.{mosaic_by, shown_column}
+use Rattle.image_ops.specs.Repeated.{repeated}
+use Rattle.image_planes.specs.Changes.{Job, job_len, in_bytes, changed, changed_plane, changed_planes, plane_grid, stepped, names}
 use Rattle.image_planes.specs.Unseen.{PlanesAlike, hidden_by, is_hidden, is_corner}
 use Rattle.image_planes.specs.declared.change.Change.{Change}
 use Rattle.image_planes.specs.declared.change.Change.TheVariants.{Fill, Mosaic, Move}
@@ -27,10 +29,10 @@ abbrev AlikeBut : (ℕ → ℕ → Bool) → Grid ℕ → Grid ℕ → Type 0
 AlikeBut hides g h = (g.width ≡ h.width) × (g.height ≡ h.height) × ((x y : ℕ) → hides x y ≡ false → g.pixel x y ≡ h.pixel x y)
 
 -- patches of one size, equal at each place, hide what they cover
-patched : (hides later : ℕ → ℕ → Bool) (w : Coded) (g h p q : Grid ℕ) → p.width ≡ w.width → p.height ≡ w.height → q ≡ p
-    → ((x y : ℕ) → covers w.left w.top w.width w.height x y ≡ false → hides x y ≡ later x y) → AlikeBut hides g h → AlikeBut later (patch g w.left w.top p) (patch h w.left w.top q)
+patched : (hides later : ℕ → ℕ → Bool) (left top width height : ℕ) (g h p q : Grid ℕ) → p.width ≡ width → p.height ≡ height → q ≡ p
+    → ((x y : ℕ) → covers left top width height x y ≡ false → hides x y ≡ later x y) → AlikeBut hides g h → AlikeBut later (patch g left top p) (patch h left top q)
 unfolding patch
-patched hides later w g h p q wide high same beside a = grind (arith, other_way)
+patched hides later left top width height g h p q wide high same beside a = grind (arith, other_way)
 
 -- ---- the corner of a tile's corner
 
@@ -64,46 +66,106 @@ start_below tile x = omega arith
 covered : (w : Coded) (x y : ℕ) → x < w.width → y < w.height → covers w.left w.top w.width w.height (w.left + x) (w.top + y) ≡ true
 covered w x y column line = (covers_decides w.left w.top w.width w.height (w.left + x) (w.top + y)).1 (omega arith, omega arith, omega arith, omega arith)
 
--- ---- one change
+-- ---- windows of pixels of some bytes
 
-fill_hides : (w : Coded) (value : ℕ) (later : ℕ → ℕ → Bool) (g h : Grid ℕ) → AlikeBut (λ x y. hidden_by (Fill w value) x y (later x y)) g h → AlikeBut later (changed (Fill w value) g) (changed (Fill w value) h)
-unfolding uniform
-fill_hides w value later g h a =
-    patched (λ x y. hidden_by (Fill w value) x y (later x y)) later w g h (uniform w.width w.height value) (uniform w.width w.height value) refl refl refl (λ x y miss. rw miss refl) a
+same_tests : (a b : Bool) → (a ≡ true → b ≡ true) → (b ≡ true → a ≡ true) → a ≡ b
+same_tests true b there back = sym (there refl)
+same_tests false true there back = back refl
+same_tests false false there back = refl
 
-mosaic_alike : (w : Coded) (tile_width tile_height : ℕ) (later : ℕ → ℕ → Bool) (g h : Grid ℕ) → AlikeBut (λ x y. hidden_by (Mosaic w tile_width tile_height) x y (later x y)) g h
-    → mosaic tile_width tile_height (window_view h (as_window w)) ≡ mosaic tile_width tile_height (window_view g (as_window w))
-unfolding view
-mosaic_alike w tile_width tile_height later g h a = search (rules, same_grids, other_way, corner, start_below, covered)
-
-mosaic_hides : (w : Coded) (tile_width tile_height : ℕ) (later : ℕ → ℕ → Bool) (g h : Grid ℕ) → AlikeBut (λ x y. hidden_by (Mosaic w tile_width tile_height) x y (later x y)) g h
-    → AlikeBut later (changed (Mosaic w tile_width tile_height) g) (changed (Mosaic w tile_width tile_height) h)
-unfolding view
-mosaic_hides w tile_width tile_height later g h a =
-    patched (λ x y. hidden_by (Mosaic w tile_width tile_height) x y (later x y)) later w g h (mosaic tile_width tile_height (window_view g (as_window w))) (mosaic tile_width tile_height (window_view h (as_window w))) refl refl
-    (mosaic_alike w tile_width tile_height later g h a) (λ x y miss. rw miss refl) a
+-- a byte is in a window where its pixel is
+covers_pixels : (size left top width height x y : ℕ) → 0 < size → covers (size * left) top (size * width) height x y ≡ covers left top width height (x / size) y
+covers_pixels size left top width height x y some =
+    let both = mul-add size left width in
+    let turned = mul_comm size (left + width) in
+    same_tests _ _
+    (λ hit.
+    let c = (covers_decides (size * left) top (size * width) height x y).0 hit in
+    (covers_decides left top width height (x / size) y).1
+    (le-div left x size some (omega (arith, c.0, mul_comm size left)), c.1, div_below x size (left + width) some (omega (arith, c.2, both, turned)), c.3))
+    (λ hit.
+    let c = (covers_decides left top width height (x / size) y).0 hit in
+    let low = mul-le-mul_left size c.0 in
+    let high : size * suc (x / size) ≤ size * (left + width) = mul-le-mul_left size (omega (arith, c.2)) in
+    (covers_decides (size * left) top (size * width) height x y).1
+    (omega (arith, low, mul-div-le x size), c.1, omega (arith, high, both, mul-suc size (x / size), mul_comm size (x / size), div-add-mod' x size, mod_below x size some), c.3))
 
 -- grids that are equal at each place are one
 all_same : (g h : Grid ℕ) → AlikeBut (λ x y. false) g h → g ≡ h
 all_same g h a = λ i. record { width = a.0 i; height = a.1 i; pixel = λ x y. a.2 x y refl i }
 
-one_step : (named : Bool) (c : Change ℕ) (later : ℕ → ℕ → Bool) (g h : Grid ℕ) → AlikeBut (λ x y. cond named (hidden_by c x y (later x y)) (later x y)) g h
-    → AlikeBut later (cond named (changed c g) g) (cond named (changed c h) h)
-one_step false c later g h a = a
-one_step true (Fill w value) later g h a = fill_hides w value later g h a
-one_step true (Mosaic w tile_width tile_height) later g h a = mosaic_hides w tile_width tile_height later g h a
-one_step true (Move w left top) later g h a = grind (arith, all_same)
+-- ---- one change of pixels of so many bytes
+
+module _ (size : ℕ) (some : 0 < size) (later : ℕ → ℕ → Bool) where
+  abbrev hides : Change (List ℕ) → ℕ → ℕ → Bool
+  hides c x y = hidden_by c (x / size) y (later x y)
+
+  beside : (w : Coded) (x y : ℕ) → covers (size * w.left) w.top (size * w.width) w.height x y ≡ false → covers w.left w.top w.width w.height (x / size) y ≡ false
+  beside w x y miss = sym (covers_pixels size w.left w.top w.width w.height x y some) ∙ miss
+
+  fill_hides : (w : Coded) (value : List ℕ) (g h : Grid ℕ) → AlikeBut (hides (Fill w value)) g h → AlikeBut later (changed size (Fill w value) g) (changed size (Fill w value) h)
+  unfolding repeated
+  fill_hides w value g h a =
+      let p : Grid ℕ = repeated (size * w.width) w.height (take size value) in
+      patched (hides (Fill w value)) later (size * w.left) w.top (size * w.width) w.height g h p p refl refl refl (λ x y miss. let out = beside w x y miss in rw out refl) a
+
+  -- each byte that a mosaic shows is of the corner of a tile
+  shows : (w : Coded) (tile_width tile_height x y : ℕ) → x < size * w.width → y < w.height → hides (Mosaic w tile_width tile_height) (size * w.left + shown_column size tile_width x) (w.top + tile_start tile_height y) ≡ false
+  shows w tile_width tile_height x y column line =
+      let q : ℕ = x / size in
+      let at : (size * w.left + shown_column size tile_width x) / size ≡ w.left + tile_start tile_width q =
+      mul-add-div some w.left (shown_column size tile_width x) ∙ ap (λ n. w.left + n) (div-mul-add (tile_start tile_width q) size (x % size) (mod_below x size some)) in
+      let within : q < w.width = div_below x size w.width some (omega (arith, column, mul_comm size w.width)) in
+      let hit = covered w (tile_start tile_width q) (tile_start tile_height y) (omega (arith, within)) (omega (arith, line)) in
+      let first = corner w tile_width tile_height q y in
+      rw (at, hit, first) refl
+
+  mosaic_alike : (w : Coded) (tile_width tile_height : ℕ) (g h : Grid ℕ) → AlikeBut (hides (Mosaic w tile_width tile_height)) g h
+      → mosaic_by size tile_width tile_height (window_view h (in_bytes size w)) ≡ mosaic_by size tile_width tile_height (window_view g (in_bytes size w))
+  unfolding view
+  mosaic_alike w tile_width tile_height g h a =
+      same_grids (size * w.width) w.height _ _ (λ x y column line.
+      let sx = shown_column size tile_width x in
+      let sy = tile_start tile_height y in
+      ap (λ o. cond (is_place (size * w.width) w.height sx sy) o None) (sym (a.2 (size * w.left + sx) (w.top + sy) (shows w tile_width tile_height x y column line))))
+
+  mosaic_hides : (w : Coded) (tile_width tile_height : ℕ) (g h : Grid ℕ) → AlikeBut (hides (Mosaic w tile_width tile_height)) g h
+      → AlikeBut later (changed size (Mosaic w tile_width tile_height) g) (changed size (Mosaic w tile_width tile_height) h)
+  unfolding view
+  mosaic_hides w tile_width tile_height g h a =
+      patched (hides (Mosaic w tile_width tile_height)) later (size * w.left) w.top (size * w.width) w.height g h
+      (mosaic_by size tile_width tile_height (window_view g (in_bytes size w))) (mosaic_by size tile_width tile_height (window_view h (in_bytes size w))) refl refl
+      (mosaic_alike w tile_width tile_height g h a) (λ x y miss. let out = beside w x y miss in rw out refl) a
+
+  one_step : (named : Bool) (c : Change (List ℕ)) (g h : Grid ℕ) → AlikeBut (λ x y. cond named (hides c x y) (later x y)) g h
+      → AlikeBut later (cond named (changed size c g) g) (cond named (changed size c h) h)
+  one_step false c g h a = a
+  one_step true (Fill w value) g h a = fill_hides w value g h a
+  one_step true (Mosaic w tile_width tile_height) g h a = mosaic_hides w tile_width tile_height g h a
+  one_step true (Move w left top) g h a = grind (arith, all_same)
 
 -- ---- all steps of a plane, and all planes
 
-steps_hide : (number : ℕ) (steps : List (Step ℕ)) (g h : Grid ℕ) → AlikeBut (is_hidden number steps) g h → stepped number steps g ≡ stepped number steps h
-steps_hide number [] g h a = all_same g h a
-steps_hide number (s ∷ ss) g h a = steps_hide number ss _ _ (one_step (names s number) s.change (is_hidden number ss) g h a)
+steps_hide : (size number : ℕ) (steps : List (Step (List ℕ))) (g h : Grid ℕ) → 0 < size → AlikeBut (λ x y. is_hidden number steps (x / size) y) g h → stepped size number steps g ≡ stepped size number steps h
+steps_hide size number [] g h some a = all_same g h a
+steps_hide size number (s ∷ ss) g h some a = steps_hide size number ss _ _ some (one_step size some (λ x y. is_hidden number ss (x / size) y) (names s number) s.change g h a)
+
+-- a plane of no bytes shows nothing
+no_bytes : (j : Job) (p q : List ℕ) → j.size ≡ 0 → plane_grid j p ≡ plane_grid j q
+unfolding grid_of
+no_bytes j p q none =
+    let width : j.size * j.width ≡ 0 = ap (λ n. n * j.width) none ∙ zero-mul j.width in
+    same_grids (j.size * j.width) j.height (pixel (layout p (j.size * j.width) j.height (j.size * j.width))) (pixel (layout q (j.size * j.width) j.height (j.size * j.width))) (λ x y column line. absurd (omega (arith, column, width)))
 
 pub planes_hide : (number : ℕ) (jobs : List Job) (p q : List ℕ) → PlanesAlike number jobs p q → changed_planes number jobs p ≡ changed_planes number jobs q
 planes_hide number [] p q alike = alike
 planes_hide number (j ∷ js) p q alike =
     let a = alike.0 in
-    let first : changed_plane number j (take (job_len j) p) ≡ changed_plane number j (take (job_len j) q) = ap grid_pixels (steps_hide number j.steps _ _ (a.same_width, a.same_height, a.shown)) in
+    let same : stepped j.size number j.steps (plane_grid j (take (job_len j) p)) ≡ stepped j.size number j.steps (plane_grid j (take (job_len j) q)) =
+    elim (cases_lt 0 j.size) [
+      | inl some ↦ steps_hide j.size number j.steps _ _ some (a.same_width, a.same_height, a.shown)
+      | inr none ↦ ap (stepped j.size number j.steps) (no_bytes j (take (job_len j) p) (take (job_len j) q) (omega (arith, none)))
+    ] in
+    let first : changed_plane number j (take (job_len j) p) ≡ changed_plane number j (take (job_len j) q) = ap grid_pixels same in
     let others : changed_planes number js (drop (job_len j) p) ≡ changed_planes number js (drop (job_len j) q) = planes_hide number js (drop (job_len j) p) (drop (job_len j) q) alike.1 in
     λ i. first i ++ others i

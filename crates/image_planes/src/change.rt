@@ -1,24 +1,29 @@
-//! Changes of an image in place, over its cells in a shape.
+//! Changes of an image in place, over its bytes in a shape. A pixel is some bytes next to one
+//! another in a row, so a window of pixels is a window of bytes.
 
-ghost use Rattle.std.specs.Prelude.{◌≡◌};
+ghost use Rattle.std.specs.Prelude.{◌≡◌, ◌<◌, ◌/◌};
 ghost use Rattle.image_model.specs.Layout.{Fits, SameOutside};
 ghost use Rattle.image_model.specs.Grid.{grid_of};
-ghost use Rattle.imgref.specs.Image.{buf_of, width_of, height_of, mut_grid, mut_layout};
+ghost use Rattle.image_model.specs.Windows.{IsInside};
 ghost use Rattle.imgref.specs.Shape.{shaped, shape_width, shape_height};
-ghost use Rattle.image_planes.specs.Changes.{IsChangeOf, changed};
+ghost use Rattle.imgref.specs.Window.{as_window};
+ghost use Rattle.image_planes.specs.Changes.{IsChangeOf, changed, in_bytes};
 
-use image_ops::mosaic_cells;
-use imgref::{ImgRefMut, Shape, Window};
+use image_ops::{mosaic_window_by, move_pixels, repeat_window};
+use imgref::{Shape, Window};
 
-/// A change of an image. `T` is the type of the values that places get.
+/// The bytes of a pixel. Where a pixel has fewer, the others are ignored.
+pub type Value = [u8; 8];
+
+/// A change of an image. `V` is the type of the values that pixels get.
 #[derive(Clone, Copy, PartialEq, Eq)]
 pub enum Change<V> {
-    /// Every place of the window gets this value.
+    /// Every pixel of the window gets this value.
     Fill {
         window: Window,
         value: V,
     },
-    /// Every place of the window gets the old value at the corner of its tile.
+    /// Every pixel of the window gets the old value at the corner of its tile.
     Mosaic {
         window: Window,
         tile_width: usize,
@@ -43,36 +48,50 @@ pub struct Step<V> {
     pub change: Change<V>,
 }
 
-// Every place of the window gets the value, as it was before, at the corner of its tile.
-fn mosaic_window(image: &mut ImgRefMut<u8>, window: Window, tile_width: usize, tile_height: usize)
-    requires fits { Fits (mut_layout image.old) }
-    requires inside { IsChangeOf (width_of image.old) (height_of image.old)
-        (Change.Mosaic window tile_width tile_height) }
-    ensures grid { mut_grid image.new
-        ≡ changed (Change.Mosaic window tile_width tile_height) (mut_grid image.old) }
-    ensures outside { SameOutside (mut_layout image.old) (mut_layout image.new) }
-    ensures same_reference { (buf_of image.new).ghost_name ≡ (buf_of image.old).ghost_name }
+// The window of bytes that a window of pixels is, where a pixel has so many bytes. It is inside the
+// shape of the bytes where the window is inside that of the pixels.
+pub(crate) fn in_bytes(shape: Shape, size: usize, window: Window) -> Window
+    requires some { 0 < size }
+    requires pixels { IsInside (shape_width shape / size) (shape_height shape) (as_window window) }
+    ensures window { as_window result ≡ in_bytes size window }
+    ensures inside { IsInside (shape_width shape) (shape_height shape) (as_window result) }
 {
-    let (cells, shape) = image.window_parts_mut(window);
-    mosaic_cells(cells, shape, tile_width, tile_height);
+    let _width = shape.width();
+    Window::new(
+        size * window.left,
+        window.top,
+        size * window.width,
+        window.height,
+    )
 }
 
-/// Applies the change to the image that the cells make in this shape; the padding stays.
-pub(crate) fn change_cells(cells: &mut [u8], shape: Shape, change: Change<u8>)
+/// Applies the change of pixels of `size` bytes to the image that the bytes make in this shape; the
+/// padding stays.
+pub(crate) fn change_cells(cells: &mut [u8], shape: Shape, size: usize, change: Change<Value>)
     requires fits { Fits (shaped cells.old shape) }
-    requires inside { IsChangeOf (shape_width shape) (shape_height shape) change }
+    requires some { 0 < size }
+    requires few { size < 9 }
+    requires inside { IsChangeOf (shape_width shape / size) (shape_height shape) change }
     ensures grid { grid_of (shaped cells.new shape)
-        ≡ changed change (grid_of (shaped cells.old shape)) }
+        ≡ changed size change (grid_of (shaped cells.old shape)) }
     ensures outside { SameOutside (shaped cells.old shape) (shaped cells.new shape) }
 {
-    let mut image = ImgRefMut::from_parts(cells, shape);
     match change {
-        Change::Fill { window, value } => image.fill_inside(window, value),
+        Change::Fill { window, value } => {
+            repeat_window(cells, shape, in_bytes(shape, size, window), &value[..size]);
+        }
         Change::Mosaic {
             window,
             tile_width,
             tile_height,
-        } => mosaic_window(&mut image, window, tile_width, tile_height),
-        Change::Move { window, left, top } => image.move_inside(window, left, top),
+        } => {
+            let part = in_bytes(shape, size, window);
+            mosaic_window_by(cells, shape, part, size, tile_width, tile_height);
+        }
+        Change::Move { window, left, top } => {
+            let target = Window::new(left, top, window.width, window.height);
+            let from = in_bytes(shape, size, window);
+            move_pixels(cells, shape, from, in_bytes(shape, size, target));
+        }
     }
 }

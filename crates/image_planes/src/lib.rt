@@ -1,19 +1,17 @@
-//! The planes of a frame: dense images of bytes, one after the other in one buffer, and the changes
-//! of each.
+//! The planes of a frame, one after the other in one buffer, and the changes of each. A plane is a
+//! dense image of pixels of 1 to 8 bytes.
 #![tactic(auto)]
 
 mod change;
 mod hiding;
-mod interleaved;
 mod plane;
 mod planes;
 mod steps;
 mod target;
 
-pub use change::{Change, Step};
+pub use change::{Change, Step, Value};
 pub use hiding::changes_hide;
 pub use imgref::Window;
-pub use interleaved::{join_pixels, part_pixels, parts_join};
 pub use plane::Plane;
 pub use planes::{change_planes, planes_len, resize_planes, targets_len};
 pub use target::{Resize, Target};

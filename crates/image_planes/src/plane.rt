@@ -1,23 +1,37 @@
 //! A plane of a frame, and its changes.
 
-ghost use Rattle.std.specs.Prelude.{◌≡◌, ◌≤◌, ◌<◌, ◌^◌, length, IsTrue};
+ghost use Rattle.std.specs.Prelude.{◌≡◌, ◌<◌, ◌*◌, ◌/◌, length, IsTrue};
 ghost use Rattle.std.specs.Option.{option_map};
 ghost use Rattle.imgref.specs.Shape.{shape_width, shape_height, shape_stride};
-ghost use Rattle.image_planes.specs.Changes.{is_change_of, are_inside, job_for, changed_plane};
+ghost use Rattle.image_planes.specs.Changes.{is_change_of, is_plane, are_inside, job_for, changed_plane};
 
-use crate::change::{Change, Step};
+use crate::change::{Change, Step, Value};
 use crate::steps::{all_inside, do_steps};
 use imgref::{Shape, Window};
 
-/// A plane of a frame, which is an image of bytes without padding, and its changes.
+/// Whether pixels of so many bytes make a plane of this size.
+pub(crate) fn is_plane(size: usize, width: usize, height: usize) -> bool
+    ensures { result ≡ is_plane size width height }
+{
+    let greatest = u32::MAX as usize;
+    if size == 0 || size > 8 || width == 0 || height > greatest {
+        return false;
+    }
+    match size.checked_mul(width) {
+        Some(bytes) => bytes <= greatest,
+        None => false,
+    }
+}
+
+/// A plane of a frame, which is an image of pixels of some bytes without padding, and its changes.
 #[derive(Drop)]
 pub struct Plane {
+    // The number of bytes of a pixel.
+    size: usize,
     width: usize,
     height: usize,
-    steps: Vec<Step<u8>>,
-    ghost wide: { 0 < width },
-    ghost width_bound: { width < 2 ^ 32 },
-    ghost height_bound: { height < 2 ^ 32 },
+    steps: Vec<Step<Value>>,
+    ghost plane: { IsTrue (is_plane size width height) },
     ghost inside: { IsTrue (are_inside width height steps.items) },
 }
 
@@ -25,32 +39,37 @@ impl Plane {
     // These name the type itself.
     ghost use Rattle.image_planes.specs.Planes.{job_of, plane_len};
 
-    /// A plane of this size with its changes, one step after the other. `None` where there is no
-    /// such plane, or a step reaches outside it.
-    pub fn new(width: usize, height: usize, steps: Vec<Step<u8>>) -> Option<Plane>
-        ensures { option_map job_of result ≡ job_for width height steps.items }
+    /// A plane of this size, in pixels of `size` bytes, with its changes, one step after the other.
+    /// `None` where there is no such plane, or a step reaches outside it.
+    pub fn new(size: usize, width: usize, height: usize, steps: Vec<Step<Value>>) -> Option<Plane>
+        ensures { option_map job_of result ≡ job_for size width height steps.items }
     {
-        let greatest = u32::MAX as usize;
-        if width == 0 || width > greatest || height > greatest {
+        if !is_plane(size, width, height) {
             return None;
         }
         if !all_inside(width, height, &steps) {
             return None;
         }
         Some(Plane {
+            size,
             width,
             height,
             steps,
         })
     }
 
-    // Its size, without padding.
+    // The size of its bytes, without padding.
+    #[tactic(auto, using(crate::proofs::Parts::plane_numbers, crate::proofs::Parts::whole_pixels))]
     fn shape(&self) -> Shape
-        ensures width { shape_width result ≡ (job_of self.now).width }
+        ensures width { shape_width result ≡ (job_of self.now).size * (job_of self.now).width }
         ensures height { shape_height result ≡ (job_of self.now).height }
-        ensures stride { shape_stride result ≡ (job_of self.now).width }
+        ensures stride { shape_stride result ≡ (job_of self.now).size * (job_of self.now).width }
+        ensures pixels { shape_width result / (job_of self.now).size ≡ (job_of self.now).width }
+        ensures some { 0 < (job_of self.now).size }
+        ensures few { (job_of self.now).size < 9 }
     {
-        Shape::new(self.width, self.height, self.width)
+        let width = self.size * self.width;
+        Shape::new(width, self.height, width)
     }
 
     /// The number of its bytes.
@@ -60,18 +79,18 @@ impl Plane {
         self.shape().pixel_count()
     }
 
-    /// Applies the steps for the frame of this number to the plane that these cells make.
+    /// Applies the steps for the frame of this number to the plane that these bytes make.
     #[tactic(auto, using(crate::proofs::Parts::plane_pixels))]
     pub(crate) fn apply(&self, number: u64, cells: &mut [u8])
         requires { length cells.old ≡ plane_len self.now }
         ensures { cells.new ≡ changed_plane number (job_of self.now) cells.old }
     {
-        do_steps(cells, self.shape(), &self.steps, number);
+        do_steps(cells, self.shape(), self.size, &self.steps, number);
     }
 }
 
-/// Whether a change is valid for this size.
-pub(crate) fn is_inside(width: usize, height: usize, change: Change<u8>) -> bool
+/// Whether a change is valid for so many pixels.
+pub(crate) fn is_inside(width: usize, height: usize, change: Change<Value>) -> bool
     ensures { result ≡ is_change_of width height change }
 {
     match change {

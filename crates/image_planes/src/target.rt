@@ -1,20 +1,25 @@
 //! Planes of another size, copied out of a frame.
 
-ghost use Rattle.std.specs.Prelude.{◌≡◌, ◌<◌, ◌^◌, ◌*◌, length, IsTrue};
+ghost use Rattle.std.specs.Prelude.{◌≡◌, ◌<◌, ◌^◌, ◌+◌, ◌*◌, ◌%◌, length, IsTrue};
 ghost use Rattle.std.specs.Option.{option_map};
 ghost use Rattle.image_model.specs.Layout.{Fits, SameOutside};
-ghost use Rattle.image_model.specs.Grid.{grid_of, patch, uniform};
+ghost use Rattle.image_model.specs.Grid.{grid_of, patch};
+ghost use Rattle.image_ops.specs.Repeated.{repeated};
 ghost use Rattle.image_model.specs.Rows.{grid_pixels};
 ghost use Rattle.image_model.specs.Windows.{IsInside, is_inside, window_view};
 ghost use Rattle.imgref.specs.Image.{ref_layout, width_of, height_of};
 ghost use Rattle.imgref.specs.Shape.{shaped, shape_width, shape_height, shape_stride};
 ghost use Rattle.imgref.specs.Window.{as_window};
 ghost use Rattle.image_planes.specs.Surrounds.{bordered};
-ghost use Rattle.image_planes.specs.Resized.{is_resize_of, resizing_for, resized_plane, source_len, target_len};
+ghost use Rattle.image_planes.specs.Changes.{is_plane};
+ghost use Rattle.image_planes.specs.Resized.{is_resize_of, new_width, new_height, resizing_for, resized_plane, source_len, target_len};
 
+use crate::change::{Value, in_bytes};
+use crate::plane::is_plane;
+use image_ops::repeat_window;
 use imgref::{ImgRef, ImgRefMut, Shape, Window};
 
-/// A change of the size of a plane.
+/// A change of the size of a plane, in pixels.
 #[derive(Clone, Copy, PartialEq, Eq)]
 pub enum Resize {
     /// Only the window is kept.
@@ -25,20 +30,21 @@ pub enum Resize {
         top: usize,
         width: usize,
         height: usize,
-        value: u8,
+        value: Value,
     },
 }
 
-/// A plane of a frame, which is an image of bytes without padding, and the change of its size.
+/// A plane of a frame, which is an image of pixels of some bytes without padding, and the change of
+/// its size.
 #[derive(Clone, Copy, PartialEq, Eq)]
 pub struct Target {
+    // The number of bytes of a pixel.
+    size: usize,
     width: usize,
     height: usize,
     resize: Resize,
-    ghost wide: { 0 < width },
-    ghost width_bound: { width < 2 ^ 32 },
-    ghost height_bound: { height < 2 ^ 32 },
-    ghost inside: { IsTrue (is_resize_of width height resize) },
+    ghost plane: { IsTrue (is_plane size width height) },
+    ghost inside: { IsTrue (is_resize_of size width height resize) },
 }
 
 // The pixels that these cells have in this shape become those of another image.
@@ -89,32 +95,38 @@ fn crop_image(source: ImgRef<'_, u8>, window: Window, target: &mut [u8])
     );
 }
 
-// Every place beside the window gets the value: above it, below it, on its left and on its right.
+// Every row of the windows above, below, left and right of this one becomes the pattern, again and
+// again.
 #[tactic(auto, unfolding(image_model::specs::Grid::grid_of))]
-fn fill_border(cells: &mut [u8], shape: Shape, place: Window, value: u8)
+fn fill_border(cells: &mut [u8], shape: Shape, place: Window, pattern: &[u8])
     requires fits { Fits (shaped cells.old shape) }
     requires inside { IsInside (shape_width shape) (shape_height shape) (as_window place) }
+    requires some { 0 < length pattern.now }
     ensures grid { grid_of (shaped cells.new shape) ≡ bordered (grid_of (shaped cells.old shape))
-        place.left place.top place.width place.height value }
+        place.left place.top place.width place.height pattern.now }
     ensures outside { SameOutside (shaped cells.old shape) (shaped cells.new shape) }
 {
     let (width, height) = (shape.width(), shape.height());
     let (right, bottom) = place.place(place.width, place.height);
-    let mut image = ImgRefMut::from_parts(cells, shape);
-    image.fill_window(0, 0, width, place.top, value);
-    image.fill_window(0, bottom, width, height - bottom, value);
-    image.fill_window(0, place.top, place.left, place.height, value);
-    image.fill_window(right, place.top, width - right, place.height, value);
+    let above = Window::new(0, 0, width, place.top);
+    let below = Window::new(0, bottom, width, height - bottom);
+    let before = Window::new(0, place.top, place.left, place.height);
+    let after = Window::new(right, place.top, width - right, place.height);
+    repeat_window(cells, shape, above, pattern);
+    repeat_window(cells, shape, below, pattern);
+    repeat_window(cells, shape, before, pattern);
+    repeat_window(cells, shape, after, pattern);
 }
 
-// The cells become the pixels of a grid of this size and value with the image at a corner.
+// The cells become those of a grid of this size whose rows repeat the pattern, with the image at a
+// corner. The pattern goes on after the image as if it were there.
 #[tactic(auto, using(crate::proofs::Parts::plane_pixels, crate::proofs::Borders::around_image))]
 fn pad_image(
     source: ImgRef<'_, u8>,
     place: Window,
     width: usize,
     height: usize,
-    value: u8,
+    pattern: &[u8],
     target: &mut [u8],
 )
     requires fits { Fits (ref_layout source) }
@@ -124,18 +136,18 @@ fn pad_image(
     requires width_bound { width < 2 ^ 32 }
     requires height_bound { height < 2 ^ 32 }
     requires inside { IsInside width height (as_window place) }
+    requires some { 0 < length pattern.now }
+    requires whole { (place.left + place.width) % length pattern.now ≡ 0 }
     requires room { length target.old ≡ width * height }
-    ensures { target.new ≡ grid_pixels (patch (uniform width height value) place.left place.top
-        (grid_of (ref_layout source.entry))) }
+    ensures { target.new ≡ grid_pixels (patch (repeated width height pattern.now)
+        place.left place.top (grid_of (ref_layout source.entry))) }
 {
     let shape = Shape::new(width, height, width);
-    fill_border(target, shape, place, value);
+    fill_border(target, shape, place, pattern);
     put_image(target, shape, place, source);
 }
 
 impl Resize {
-    ghost use Rattle.image_planes.specs.Resized.{new_width, new_height};
-
     /// The number of columns afterwards.
     pub fn width(&self) -> usize
         ensures { result ≡ new_width self.now }
@@ -156,30 +168,20 @@ impl Resize {
         }
     }
 
-    // The size then, without padding.
-    fn shape(&self, width: usize, height: usize) -> Shape
-        requires width_bound { width < 2 ^ 32 }
-        requires height_bound { height < 2 ^ 32 }
-        requires wide { 0 < width }
-        requires inside { IsTrue (is_resize_of width height self.now) }
-        ensures width { shape_width result ≡ new_width self.now }
-        ensures height { shape_height result ≡ new_height self.now }
-        ensures stride { shape_stride result ≡ new_width self.now }
-    {
-        Shape::new(self.width(), self.height(), self.width())
-    }
-
     // Whether it is one of a plane of this size.
-    fn is_of(&self, width: usize, height: usize) -> bool
-        ensures { result ≡ is_resize_of width height self.now }
+    fn is_of(&self, size: usize, width: usize, height: usize) -> bool
+        ensures { result ≡ is_resize_of size width height self.now }
     {
         match self {
             Resize::Crop(window) => window.width > 0 && window.is_inside(width, height),
             Resize::Pad { left, top, .. } => {
                 let greatest = u32::MAX as usize;
                 let (wide, high) = (self.width(), self.height());
+                let Some(bytes) = size.checked_mul(wide) else {
+                    return false;
+                };
                 let place = Window::new(*left, *top, width, height);
-                wide <= greatest && high <= greatest && place.is_inside(wide, high)
+                bytes <= greatest && high <= greatest && place.is_inside(wide, high)
             }
         }
     }
@@ -189,48 +191,79 @@ impl Target {
     // These name the type itself.
     ghost use Rattle.image_planes.specs.Targets.{resizing_of};
 
-    /// A plane of this size with the change of its size. `None` where there is no such plane, where
-    /// its window has no column or reaches outside, or where the plane reaches outside its border.
-    pub fn new(width: usize, height: usize, resize: Resize) -> Option<Target>
-        ensures { option_map resizing_of result ≡ resizing_for width height resize }
+    /// A plane of this size, in pixels of `size` bytes, with its change. `None` where there is no
+    /// such plane, the window of the change is empty or reaches outside, or the plane reaches
+    /// outside its border.
+    pub fn new(size: usize, width: usize, height: usize, resize: Resize) -> Option<Target>
+        ensures { option_map resizing_of result ≡ resizing_for size width height resize }
     {
-        let greatest = u32::MAX as usize;
-        if width == 0 || width > greatest || height > greatest {
+        if !is_plane(size, width, height) {
             return None;
         }
-        if !resize.is_of(width, height) {
+        if !resize.is_of(size, width, height) {
             return None;
         }
         Some(Target {
+            size,
             width,
             height,
             resize,
         })
     }
 
+    // The size of the plane's bytes, without padding.
+    #[tactic(auto, using(crate::proofs::Parts::plane_numbers))]
+    fn source_shape(&self) -> Shape
+        ensures width { shape_width result
+            ≡ (resizing_of self.now).size * (resizing_of self.now).width }
+        ensures height { shape_height result ≡ (resizing_of self.now).height }
+        ensures stride { shape_stride result
+            ≡ (resizing_of self.now).size * (resizing_of self.now).width }
+    {
+        let width = self.size * self.width;
+        Shape::new(width, self.height, width)
+    }
+
+    // The same in its other size.
+    #[tactic(auto, using(crate::proofs::Parts::target_numbers))]
+    fn shape(&self) -> Shape
+        ensures width { shape_width result
+            ≡ (resizing_of self.now).size * new_width (resizing_of self.now).resize }
+        ensures height { shape_height result ≡ new_height (resizing_of self.now).resize }
+        ensures stride { shape_stride result
+            ≡ (resizing_of self.now).size * new_width (resizing_of self.now).resize }
+    {
+        let width = self.size * self.resize.width();
+        Shape::new(width, self.resize.height(), width)
+    }
+
     /// The number of bytes of the plane.
     pub(crate) fn source_len(&self) -> usize
         ensures { result ≡ source_len (resizing_of self.now) }
     {
-        Shape::new(self.width, self.height, self.width).pixel_count()
+        self.source_shape().pixel_count()
     }
 
     /// The number of bytes of the plane in its other size.
     pub(crate) fn len(&self) -> usize
         ensures { result ≡ target_len (resizing_of self.now) }
     {
-        self.resize.shape(self.width, self.height).pixel_count()
+        self.shape().pixel_count()
     }
 
     /// Copies the plane that the source makes, in its other size, over the target.
+    #[tactic(auto, using(crate::proofs::Parts::plane_numbers, crate::proofs::Parts::target_numbers, crate::proofs::Parts::bytes_inside, crate::proofs::Parts::ends_whole))]
     pub(crate) fn apply(&self, source: &[u8], target: &mut [u8])
         requires whole { length source.now ≡ source_len (resizing_of self.now) }
         requires room { length target.old ≡ target_len (resizing_of self.now) }
         ensures { target.new ≡ resized_plane (resizing_of self.now) source.now }
     {
-        let whole = ImgRef::new(source, self.width, self.height);
+        let whole = ImgRef::new(source, self.size * self.width, self.height);
         match self.resize {
-            Resize::Crop(window) => crop_image(whole, window, target),
+            Resize::Crop(window) => {
+                let part = in_bytes(self.source_shape(), self.size, window);
+                crop_image(whole, part, target);
+            }
             Resize::Pad {
                 left,
                 top,
@@ -239,7 +272,9 @@ impl Target {
                 value,
             } => {
                 let place = Window::new(left, top, self.width, self.height);
-                pad_image(whole, place, width, height, value, target);
+                let place = in_bytes(self.shape(), self.size, place);
+                let width = self.size * width;
+                pad_image(whole, place, width, height, &value[..self.size], target);
             }
         }
     }

@@ -13,7 +13,7 @@ pub record PieceAlike (heads : List ℕ → Recipe → Type 0) (number : ℕ) (p
   pub mine : IsPiece heads p
   pub theirs : IsPiece heads q
   pub same_head : p.head ≡ q.head
-  pub alike : PlanesAlike number p.recipe.jobs (p.recipe.parts p.cells) (p.recipe.parts q.cells)
+  pub alike : PlanesAlike number p.recipe.jobs p.cells q.cells
 
 -- the same of each two, from this number on
 abbrev pub PiecesAlike : (List ℕ → Recipe → Type 0) → ℕ → List Piece → List Piece → Type 0

@@ -13,7 +13,7 @@ frame_line parameters = codes "FRAME" ++ (parameters ++ 10 ∷ [])
 
 -- a recipe with another head
 abbrev pub with_head : List ℕ → Recipe → Recipe
-with_head head r = record { head = head; size = r.size; frame = r.frame; parts = r.parts; jobs = r.jobs }
+with_head head r = record { head = head; size = r.size; frame = r.frame; jobs = r.jobs }
 
 -- a head is the line of a frame: it stays, and the cells become what they do in this video
 pub record FrameHead (video : Recipe) (head : List ℕ) (recipe : Recipe) : Type 0 where

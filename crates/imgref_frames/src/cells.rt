@@ -1,10 +1,10 @@
 //! The cells after a head: they are read, edited, and written after their new head.
 
-ghost use Rattle.std.specs.Prelude.{◌≡◌, ◌+◌, ◌≤◌, ◌<◌, ◌++◌, length, take, vec_capacity, IfOk, OnOk, OnErr, if◌then◌else◌};
+ghost use Rattle.std.specs.Prelude.{◌≡◌, ◌+◌, ◌≤◌, ◌<◌, ◌++◌, length, take, vec_capacity, IfOk, OnOk, OnErr};
 ghost use Rattle.std.specs.Io.KnownBytes.{Appends, Consumes, IsAtEnd};
 ghost use Rattle.devices.specs.Device.{device_of, failures_of, errors};
 ghost use Rattle.devices.specs.Whole.{AppendsBeginning};
-ghost use Rattle.frame_formats.specs.Planned.{recipe_of, plan_room, plan_other_room, plan_len, plan_is_resized};
+ghost use Rattle.frame_formats.specs.Planned.{recipe_of, plan_room, plan_other_room};
 ghost use Rattle.imgref_frames.specs.Fault.{reader_failures, writer_failures};
 ghost use Rattle.imgref_frames.specs.Passing.{PassesCells};
 ghost use Rattle.imgref_frames.specs.Video.{with_head};
@@ -33,33 +33,6 @@ fn write_piece<W: Write>(
     }
 }
 
-// Writes the head, and what the plan made of the cells.
-fn write_made<W: Write>(
-    writer: &mut Counted<W>,
-    plan: &Plan,
-    head: &[u8],
-    cells: &[u8],
-    other: &[u8],
-) -> Result<(), WriteFailed>
-    requires room { plan_room plan.now ≤ length cells.now }
-    requires other_room { plan_other_room plan.now ≤ length other.now }
-    requires counts { failures_of writer.old < u64.MAX }
-    ensures whole { OnOk result
-        (Appends (W.contents (device_of writer.old)) (W.contents (device_of writer.new)) (head.now
-        ++ take (plan_len plan.now) (if plan_is_resized plan.now then other.now else cells.now))) }
-    ensures beginning { OnErr result (AppendsBeginning
-        (W.contents (device_of writer.old)) (W.contents (device_of writer.new)) (head.now
-        ++ take (plan_len plan.now) (if plan_is_resized plan.now then other.now else cells.now))) }
-    ensures count { failures_of writer.new ≡ failures_of writer.old + errors result }
-{
-    let len = plan.len();
-    if plan.is_resized() {
-        write_piece(writer, head, &other[..len])
-    } else {
-        write_piece(writer, head, &cells[..len])
-    }
-}
-
 // Edits the cells of the frame or picture of this number, and writes them after the head.
 fn write_edited<W: Write>(
     writer: &mut Counted<W>,
@@ -80,8 +53,8 @@ fn write_edited<W: Write>(
         ++ (recipe_of plan.now).frame number (take (recipe_of plan.now).size cells.old))) }
     ensures count { failures_of writer.new ≡ failures_of writer.old + errors result }
 {
-    plan.edit(number, cells, other);
-    write_made(writer, plan, head, cells, other)
+    let made = plan.edit(number, cells, other);
+    write_piece(writer, head, made)
 }
 
 // Reads the cells of a frame or picture, and returns how many bytes there are. Where these are all,
@@ -107,13 +80,12 @@ fn take_cells<R: Read>(
     ensures same_other_room { vec_capacity other.old ≤ vec_capacity other.new }
     ensures count { failures_of reader.new ≡ failures_of reader.old + errors result }
 {
-    let size = plan.source_len();
+    let size = plan.room();
     let count = match fill_front(reader, cells, size) {
         Ok(count) => count,
         Err(failed) => return Err(failed),
     };
     if count == size {
-        lengthen(cells, plan.room());
         lengthen(other, plan.other_room());
     }
     Ok(count)
@@ -146,7 +118,7 @@ pub(crate) fn pass_cells<R: Read, W: Write>(
 {
     match take_cells(reader, plan, cells, other) {
         Ok(count) => {
-            if count < plan.source_len() {
+            if count < plan.room() {
                 return Err(RunFault::Frame(number));
             }
         }

@@ -21,6 +21,7 @@ impl Frame {
             Chroma::Mono | Chroma::Whole => (1, 1),
             Chroma::Small => (2, 2),
             Chroma::Wide => (2, 1),
+            Chroma::Quarter => (4, 1),
         };
         Frame {
             width: format.width,
@@ -214,7 +215,7 @@ pub(crate) fn say_reason(
             )
         }
         RunFault::Header => eprintln!(rt;
-            "the input begins with no YUV4MPEG2 line of C420, C422, C444 or Cmono at 8 bits, and with no head of P5 or P6 with 255. For P4 use pbmtopgm, for P7 pamtopnm, for other videos ffmpeg with -pix_fmt yuv420p"
+            "the input begins with no YUV4MPEG2 line of C420, C422, C411, C444 or Cmono at 8 bits, and with no head of P5 or P6 with 255. For P4 use pbmtopgm, for P7 pamtopnm, for other videos ffmpeg with -pix_fmt yuv420p"
         ),
         RunFault::Frame(number) => eprintln!(rt;
             "after {number} frames or pictures the input goes on, and not with a whole one"

@@ -81,7 +81,7 @@ fn into_mosaic<T: Copy>(
 }
 
 /// Writes, at every place of `shape`, the old pixel at the corner of the place's tile, as
-/// `mosaic_cells` does. The padding stays.
+/// `mosaic_window` does. The padding stays.
 ///
 /// # Requires
 ///

@@ -3,4 +3,4 @@ use Rattle.image_ops.proofs.Mosaics.{Shown}
 use Rattle.image_ops.proofs.mosaic.mosaic_cells.Given as goal
 
 abbrev pub invariant-loop-y : goal.invariant-loop-y
-invariant-loop-y g l = Shown l.initial.cells l.shape l.tile_width l.tile_height l.cells l.y
+invariant-loop-y g l = Shown l.initial.cells l.shape l.size l.tile_width l.tile_height l.cells l.y

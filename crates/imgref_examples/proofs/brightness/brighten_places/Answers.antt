@@ -1,6 +1,5 @@
 -- One pixel more.
 use Rattle.std.proofs.Common.{◌∙◌, arith}
-use Rattle.image_model.specs.Layout.{Layout}
 use Rattle.image_model.proofs.Places.{outside_trans}
 use Rattle.image_model.proofs.Sweeps.{map_one}
 use Rattle.imgref.specs.Words.{vec_layout}

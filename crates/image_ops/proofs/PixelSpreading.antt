@@ -1,0 +1,110 @@
+-- A row whose pixels of several cells become the first ones of their tiles, from left to right.
+use Rattle.std.proofs.Common.{◌≡◌, ℕ, ◌+◌, ◌-◌, ◌*◌, ◌<◌, ◌≤◌, inl, inr, List, length, set, Some, get_or, refl, sym, ap, ◌∙◌, arith}
+use Rattle.std.specs.List.{slice_get}
+use Rattle.std.proofs.lemmas.Bool.{cases_lt}
+use Rattle.std.proofs.lemmas.List.{length-set}
+use Rattle.std.proofs.lemmas.Option.{slice_get-get_or}
+use Rattle.std.proofs.Math.Nat.{add-mul}
+use Rattle.image_model.specs.Tiles.{tile_start}
+use Rattle.image_model.proofs.Cells.{slice_get-set_same, slice_get-set_other}
+use Rattle.image_ops.specs.Mosaic.{shown_column, IsSpread, IsSpreadBy}
+use Rattle.image_ops.proofs.Corners.{first_start, next_start}
+use Rattle.image_ops.proofs.Parts.{of_one_cell, of_one_pixel, shows_itself, shows_before}
+
+-- cells that are pixels themselves
+pub spread_cells : {T : Type 0} (size tile : ℕ) (old new : List T) → size ≡ 1 → IsSpread tile old new → IsSpreadBy size tile old new
+spread_cells size tile old new one so = record { as_many = so.as_many; each = λ x below. so.each x below ∙ ap (slice_get old) (sym (ap (λ n. shown_column n tile x) one ∙ of_one_cell tile x)) }
+
+-- tiles of one pixel are spread as they are
+pub single_pixels : {T : Type 0} (size tile : ℕ) (old : List T) → tile ≡ 1 → IsSpreadBy size tile old old
+single_pixels size tile old one = record { as_many = refl; each = λ x below. ap (slice_get old) (sym (ap (λ n. shown_column size n x) one ∙ of_one_pixel size x)) }
+
+-- the cells before number x are spread, and those from it on are as before; the tile begins with this pixel
+pub record SpreadByUpto {T : Type 0} (size tile : ℕ) (old now : List T) (corner x : ℕ) : Type 0 where
+  pub as_many : length now ≡ length old
+  pub each : (k : ℕ) → k < x → slice_get now k ≡ slice_get old (shown_column size tile k)
+  pub others : (k : ℕ) → x ≤ k → slice_get now k ≡ slice_get old k
+  pub pixel : ℕ
+  pub starts : tile_start tile pixel ≡ pixel
+  pub at : corner ≡ pixel * size
+  pub from : corner ≤ x
+  pub within : x ≤ corner + tile * size
+
+module _ {T : Type 0} (size tile : ℕ) (some : 0 < size) (wide : 0 < tile) (old : List T) where
+  -- none yet
+  pub no_pixel : SpreadByUpto size tile old old 0 0
+  no_pixel = record {
+    as_many = refl;
+    each = λ k below. absurd (omega (arith, below));
+    others = λ k above. refl;
+    pixel = 0;
+    starts = first_start tile;
+    at = omega arith;
+    from = omega arith;
+    within = omega arith;
+  }
+
+  -- all
+  pub all_pixels : (now : List T) (corner x : ℕ) → x ≡ length old → SpreadByUpto size tile old now corner x → IsSpreadBy size tile old now
+  all_pixels now corner x all so = record { as_many = so.as_many; each = λ k below. so.each k (omega (arith, below, all)) }
+
+  module _ (now : List T) (corner x : ℕ) (so : SpreadByUpto size tile old now corner x) where
+    -- a cell of the first pixel of a tile stays
+    stays : (k : ℕ) → k < x + 1 → shown_column size tile x ≡ x → slice_get now k ≡ slice_get old (shown_column size tile k)
+    stays k upto own =
+        elim (cases_lt k x) [
+          | inl before ↦ so.each k before
+          | inr last ↦ let this : k ≡ x = omega (arith, upto, last) in ap (slice_get now) this ∙ so.others x (omega arith) ∙ ap (slice_get old) (sym own ∙ ap (shown_column size tile) (sym this))
+        ]
+
+    pub first_pixel : x < corner + size → size ≤ tile * size → SpreadByUpto size tile old now corner (x + 1)
+    first_pixel below room = record {
+      as_many = so.as_many;
+      each = λ k upto. stays k upto (shows_itself size tile so.pixel x some so.starts (omega (arith, so.at, so.from)) (omega (arith, so.at, below)));
+      others = λ k above. so.others k (omega (arith, above));
+      pixel = so.pixel;
+      starts = so.starts;
+      at = so.at;
+      from = omega (arith, so.from);
+      within = omega (arith, below, room);
+    }
+
+    -- the next tile begins where the one before it ends
+    pub next_tile : x ≡ corner + tile * size → size ≤ tile * size → SpreadByUpto size tile old now x (x + 1)
+    next_tile ends room =
+        let at : x ≡ (so.pixel + tile) * size = omega (arith, so.at, ends, add-mul so.pixel tile size) in
+        let starts = next_start tile so.pixel wide so.starts in
+        record {
+          as_many = so.as_many;
+          each = λ k upto. stays k upto (shows_itself size tile (so.pixel + tile) x some starts (omega (arith, at)) (omega (arith, at, some)));
+          others = λ k above. so.others k (omega (arith, above));
+          pixel = so.pixel + tile;
+          starts = starts;
+          at = at;
+          from = omega arith;
+          within = omega (arith, some, room);
+        }
+
+    -- another pixel gets the cells of the one before it
+    pub other_pixel : (value : T) → corner + size ≤ x → x < corner + tile * size → x < length old → value ≡ get_or now (x - size) value → SpreadByUpto size tile old (set now x value) corner (x + 1)
+    other_pixel value after below here is = record {
+      as_many = length-set now x value ∙ so.as_many;
+      each = λ k upto.
+          elim (cases_lt k x) [
+            | inl before ↦ slice_get-set_other now x k value (λ e. omega (arith, e, before)) ∙ so.each k before
+            | inr last ↦
+                let this : k ≡ x = omega (arith, upto, last) in
+                ap (slice_get (set now x value)) this
+                ∙ slice_get-set_same now x value (omega (arith, here, so.as_many))
+                ∙ ap Some is
+                ∙ sym (slice_get-get_or now (x - size) value (omega (arith, here, so.as_many)))
+                ∙ so.each (x - size) (omega (arith, some, after))
+                ∙ ap (slice_get old) (shows_before size tile so.pixel x some so.starts (omega (arith, so.at, so.from)) (omega (arith, so.at, after)) (omega (arith, so.at, below)) ∙ ap (shown_column size tile) (sym this))
+          ];
+      others = λ k above. slice_get-set_other now x k value (λ e. omega (arith, e, above)) ∙ so.others k (omega (arith, above));
+      pixel = so.pixel;
+      starts = so.starts;
+      at = so.at;
+      from = omega (arith, so.from);
+      within = omega (arith, below);
+    }
