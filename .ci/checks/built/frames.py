@@ -5,6 +5,7 @@ The contract speaks of readers and writers; here are tried what `main` prints an
 beginning of one, each byte of its line changed, and hidden pixels exchanged. Both builds are run that `rt ci` leaves. Where
 the machine has no ffmpeg or no GNU parallel, the cases with it are left out, and a line says 'skipped'.
 """
+import os
 import pathlib
 import random
 import re
@@ -91,8 +92,12 @@ def by_words(cases, program):
     with tempfile.NamedTemporaryFile("w", suffix=".edits") as listed:
         listed.write(LISTS[2].replace(" 1..3", "\n1..3").replace(" crop", "\ncrop") + "\n")
         listed.flush()
-        cases.count("a file of edits is the same as its words", ends(program, ["--edits", listed.name], video("420")) == ends(program, LISTS[2].split(), video("420")))
-        for text, status in (("", 1), ("\n\n", 1), ("fill 0,0,2,2 9\n3..3 fill 0,0,2,2 9\n", 1), ("\n\nfill 0,0,2,2 9\n\n", 0), ("fill 0,0,2,2 9 fill 0,0,2,2 9", 1), ("fill 0,0,2,2\n9", 1), ("fill  0,0,2,2 9", 1), ("crop 0,0,2,2\nfill 0,0,2,2 9", 1), ("crop 0,0,2,2\n", 0), (" \n", 1)):
+        cases.count("a file of edits is the same as its words", ends(program, ["--edits", listed.name], video("420")) == wanted(video("420"), LISTS[2].split()))
+        listed.seek(0)
+        listed.write("# faces\r\n\t" + LISTS[2].replace(" 1..3", "  \r\n \t# fill 0,0,2,2 9\n1..3").replace(" fill ", " \tfill  ").replace(" crop", "# one\n\r\ncrop") + " \t#last")
+        listed.flush()
+        cases.count("comments and white space of a file of edits change nothing", ends(program, ["--edits", listed.name], video("420")) == wanted(video("420"), LISTS[2].split()))
+        for text, status in EDIT_FILES:
             listed.seek(0)
             listed.truncate()
             listed.write(text)
@@ -110,6 +115,13 @@ def by_words(cases, program):
         done = subprocess.run(["sh", "-c", shell], input=video("mono"), capture_output=True, timeout=120)
         cases.count(f"{name} ends with status {status}", done.returncode == status, str(done))
 
+
+# A file of edits, and the status that it gives.
+EDIT_FILES = (
+    ("", 1), ("\n\n", 1), (" \n", 1), ("# fill 0,0,2,2 9\n", 1), ("fill 0,0,2,2 # 9\n", 1), ("fill 0,0,2,2\v9", 1), ("fill 0,0,2,2\n9", 1), ("fill 0,0,2,2 9 fill 0,0,2,2 9", 1),
+    ("fill 0,0,2,2 9\n3..3 fill 0,0,2,2 9\n", 1), ("crop 0,0,2,2\nfill 0,0,2,2 9", 1),
+    ("\n\nfill 0,0,2,2 9\n\n", 0), ("crop 0,0,2,2\n", 0), ("fill  0,0,2,2 9", 0), (" \tfill\t0,0,2,2 9 \t\r\n", 0), ("fill 0,0,2,2 9#a face", 0), ("#\r\ncover 0,0,2,2 #16\r\n\t \r\n# end", 0),
+)  # fmt: skip
 
 # Words, an input, and a part of a line that is printed after the fault.
 REASONS = (
@@ -151,10 +163,85 @@ def by_options(cases, program):
         lines = lines_said(program, words.split(), video(sampling))
         cases.count(f"'{words}' says why", any(reason in it for it in lines[1:]), str(lines[:4]))
     with tempfile.NamedTemporaryFile("w", suffix=".edits") as listed:
-        listed.write("fill 0,0,2,2 9\n\n2..2 fill 0,0,2,2 9\n")
+        for text, reason in (("fill 0,0,2,2 9\n\n2..2 fill 0,0,2,2 9\n", "line 3: its range has no frame"), ("# a\r\n\r\nfill 0,0,2,2 9\r\n\t2..2  fill 0,0,2,2 9", "line 4: its range has no frame"), ("fill 0,0,2,2 9 # b\n# c\nfil 0,0,2,2 9\n", "at line 3 there is no edit"), ("#\nfill 0,0,2,2 9\n\nfill 0,0,20,2 9", "line 4: it reaches outside")):
+            listed.seek(0)
+            listed.truncate()
+            listed.write(text)
+            listed.flush()
+            lines = lines_said(program, ["--edits", listed.name], video("mono"))
+            cases.count(f"'{reason}' of a file of edits", any(reason in it for it in lines), str(lines[:4]))
+        listed.seek(0)
+        listed.truncate()
+        listed.write("# late\n9..12 fill 0,0,2,2 9\nfill 0,0,2,2 9\n\n3.. fill 0,0,2,2 9")
         listed.flush()
         lines = lines_said(program, ["--edits", listed.name], video("mono"))
-        cases.count("a line of a file is named", any("line 3: its range has no frame" in it for it in lines), str(lines[:4]))
+        cases.count("lines whose ranges aren't reached are noted", [it.split(":")[:2] for it in lines[:-1]] == [["note", " line 2"], ["note", " line 5"]], str(lines))
+
+
+def by_files(cases, program):
+    """The input and the output as files: an output has its name only where it is whole."""
+    made, (out, _, _), words = video("420"), wanted(video("420"), FILL.split()), FILL.split()
+    with tempfile.TemporaryDirectory() as folder:
+        given, taken, other = (pathlib.Path(folder, it) for it in ("in.y4m", "out.y4m", "edits"))
+        given.write_bytes(made)
+        cases.count("an input by its name", ends(program, ["-i", given, *words], b"") == (out, "", 0))
+        said = ends(program, ["-i", given, "-o", taken, *words], b"")
+        cases.count("an input and an output by their names", said == (b"", "", 0) and taken.read_bytes() == out, str(said))
+        taken.write_bytes(b"old")
+        taken.chmod(0o640)
+        said = ends(program, ["-o", taken, *words], made)
+        cases.count("an output replaces a file, and keeps its permissions", said == (b"", "", 0) and taken.read_bytes() == out and taken.stat().st_mode & 0o777 == 0o640, str(said))
+        taken.write_bytes(made)
+        said = ends(program, ["-i", taken, "-o", taken, *words], b"")
+        cases.count("an output may be the input", said == (b"", "", 0) and taken.read_bytes() == out, str(said))
+        other.write_text("# from a pipe\n" + FILL)
+        said = ends(program, ["--edits", "-", "-i", given], other.read_bytes())
+        cases.count("edits from standard input", said == (out, "", 0), str(said))
+        said = lines_said(program, ["--edits", "-"], other.read_bytes())
+        cases.count("edits and video from standard input are refused", said[0] == "fault words" and "-i has to name the input" in said[1], str(said[:2]))
+        pathlib.Path(f"{taken}.0.part").write_bytes(b"mine")
+        said = ends(program, ["-o", taken, *words], made)
+        cases.count("a file beside the output stays", said == (b"", "", 0) and taken.read_bytes() == out and pathlib.Path(f"{taken}.0.part").read_bytes() == b"mine", str(said))
+        pathlib.Path(f"{taken}.0.part").unlink()
+        there = sorted(pathlib.Path(folder).iterdir())
+        for name, options, data, fault in (
+            ("a cut frame", [], made[:-1], "frame 2"), ("no video", [], b"RIFF", "header"), ("an edit outside", [], video("420", 4, 4), "outside"), ("the limit", ["--limit", "9"], made, "memory 0"),
+            ("an input that isn't there", ["-i", f"{folder}/none"], b"", "input"), ("a range that isn't reached", ["--strict", "9..10"], made, "range"),
+        ):  # fmt: skip
+            taken.write_bytes(b"old")
+            strict = options[:1] == ["--strict"]
+            said = ends(program, [*(options[:1] if strict else options), "-o", taken, *(options[1:] if strict else []), *words], data)
+            cases.count(f"{name} leaves the output as it was", said[:2] == (b"", f"fault {fault}") and taken.read_bytes() == b"old" and sorted(pathlib.Path(folder).iterdir()) == there, str(said))
+            taken.unlink()
+            said = ends(program, [*(options[:1] if strict else options), "-o", taken, *(options[1:] if strict else []), *words], data)
+            cases.count(f"{name} leaves no output", said[:2] == (b"", f"fault {fault}") and not taken.exists(), str(said))
+        for name in (f"{folder}/none/out", folder, "/dev/null", "/dev/full"):
+            cases.count(f"{name if name[:5] == '/dev/' else 'a folder or none'} is no output", ends(program, ["-o", name, *words], made) == (b"", "fault output", 5))
+        taken.write_bytes(b"old")
+        with subprocess.Popen([program, "-o", taken, *words], stdin=subprocess.PIPE, stderr=subprocess.DEVNULL) as it:
+            it.stdin.write(made[:-1])
+            it.stdin.flush()
+            it.kill()
+            it.wait(timeout=60)
+        cases.count("a run that is killed leaves the output as it was", taken.read_bytes() == b"old")
+
+
+def most_memory(program, words, data):
+    """How many KiB the program had at most, and its status."""
+    with subprocess.Popen([program, *words], stdin=subprocess.PIPE, stdout=subprocess.DEVNULL, stderr=subprocess.DEVNULL) as it:
+        it.stdin.write(data)
+        it.stdin.close()
+        _, status, usage = os.wait4(it.pid, 0)
+        it.returncode = os.waitstatus_to_exitcode(status)
+    return usage.ru_maxrss, it.returncode
+
+
+def by_memory(cases, program):
+    """A head takes room, and memory is touched only as bytes arrive."""
+    for name, head in (("video", b"YUV4MPEG2 W32768 H32768 C444\nFRAME\n"), ("picture", b"P6 32768 32768 255\n")):
+        for words in ("fill 0,0,2,2 9", "crop 0,0,2,2"):
+            most, status = most_memory(program, ["--limit", "9000000000", *words.split()], head + bytes(5000000))
+            cases.count(f"the head of a {name} with {words} touches little memory", status in (2, 7) and most < 30000, f"{most} KiB, status {status}")
 
 
 def through(program, words, made, command):
@@ -207,6 +294,8 @@ def main():
         by_model(cases, str(program))
         by_words(cases, str(program))
         by_options(cases, str(program))
+        by_files(cases, str(program))
+        by_memory(cases, str(program))
         if shutil.which("ffmpeg"):
             by_ffmpeg(cases, str(program))
             by_h264(cases, str(program))

@@ -94,8 +94,10 @@ def main():
         library = made(room)
         tries = [("imgref_run", [], script.name, script.read_bytes(), ({b"fault memory\n": b"fault memory\n"}, 3), model.answer(script.read_bytes())) for script in SCRIPTS]
         listed = pathlib.Path(room, "edits")
-        listed.write_text(f"{EDITS[-1]}\n")
-        for label, words, edits in [*((it, it.split(), it) for it in EDITS), ("a file of edits", ["--edits", listed], EDITS[-1])]:
+        listed.write_text(f"# a border\n{EDITS[-1]}\n")
+        video = pathlib.Path(room, "video")
+        video.write_bytes(VIDEO)
+        for label, words, edits in [*((it, it.split(), it) for it in EDITS), ("a file of edits", ["--edits", listed], EDITS[-1]), ("an input by its name", ["-i", video, *EDITS[0].split()], EDITS[0])]:
             tries.append(("imgref_frames", words, label, VIDEO, ({b"": b"fault memory 0\n"}, 3), (frames.answer(VIDEO, frames.edits_of(edits.split())), 0)))
         for words in PICTURE_EDITS:
             first, both = (frames.answer(it, frames.edits_of(words.split())) for it in (PICTURES[0], b"".join(PICTURES)))

@@ -9,9 +9,8 @@ use Rattle.image_planes.specs.declared.change.Step.{Step}
 use Rattle.frame_formats.specs.declared.steps.Paint.{Paint}
 use Rattle.frame_formats.specs.declared.framing.Framing.{Framing}
 use Rattle.frame_formats.specs.declared.words.Edits.{Edits}
-use Rattle.frame_formats.specs.Lists.{AreEdits, Adds, framing_after, edit_of, with_one, with_line, with_lines, plain}
+use Rattle.frame_formats.specs.Lists.{AreEdits, Adds, framing_after, edit_of, line_words, with_one, with_words, with_line, with_lines, plain}
 use Rattle.frame_formats.specs.Edits.{edits, Edits as Plain}
-use Rattle.text_model.specs.Parts.{parts_of}
 use Rattle.text_model.specs.Reading.{◌>>=◌}
 use Rattle.frame_formats.specs.Words.{Named, edit_at, with_edit}
 
@@ -70,14 +69,6 @@ none_taken words old none = grind arith
 
 -- ---- lines
 
-pub some_line : (old : Plain) (line : List ℕ) → (length line ≡ 0 → ⊥) → with_line old line ≡ with_one old (parts_of 32 line)
-some_line old [] some = absurd (some refl)
-some_line old (b ∷ line) some = refl
-
-pub no_line : (old : Plain) (line : List ℕ) → length line ≡ 0 → with_line old line ≡ Some old
-no_line old [] none = refl
-no_line old (b ∷ line) none = absurd (omega (arith, none))
-
 pub one_line_more : (old mid : Plain) (line : List ℕ) (left lines : List (List ℕ)) → left ≡ line ∷ lines → with_line old line ≡ Some mid → with_lines mid lines ≡ with_lines old left
 one_line_more old mid line left lines is taken = sym (ap (with_lines old) is ∙ ap (λ (o : Option Plain). o >>= λ new. with_lines new lines) taken)
 
@@ -106,9 +97,12 @@ behind_one : (framing : Option Framing) (steps : List (Step Paint)) (new : Plain
 behind_one None steps new words is = let m = map_some (edit_of words) (λ e. edits (steps ++ e.steps) e.framing) new is in (m.0.steps, sym (ap (λ (p : Plain). p.steps) m.2))
 behind_one (Some f) steps new words is = absurd cc
 
+begins_words : (first old new : Plain) (words : List (List ℕ)) → Begins first old → with_words old words ≡ Some new → Begins first new
+begins_words first old new [] b is = record { more = b.more; steps = ap (λ (p : Plain). p.steps) (sym (some_is old new is)) ∙ b.steps }
+begins_words first old new (w ∷ ws) b is = let one = behind_one old.framing old.steps new (w ∷ ws) is in behind_more first old new one.0 b one.1
+
 pub begins_line : (first old new : Plain) (line : List ℕ) → Begins first old → with_line old line ≡ Some new → Begins first new
-begins_line first old new [] b is = record { more = b.more; steps = ap (λ (p : Plain). p.steps) (sym (some_is old new is)) ∙ b.steps }
-begins_line first old new (c ∷ line) b is = let one = behind_one old.framing old.steps new (parts_of 32 (c ∷ line)) is in behind_more first old new one.0 b one.1
+begins_line first old new line b is = begins_words first old new (line_words line) b is
 
 -- as many steps as the first have are theirs
 pub restored : (old mid new : Plain) (count : ℕ) → Begins old mid → count ≡ length old.steps → new.steps ≡ take count mid.steps → new.framing ≡ old.framing → new ≡ old

@@ -1,6 +1,7 @@
 -- Which edits a list of words is, and which the lines of a file are.
-use Rattle.std.specs.Prelude.{◌≡◌, ◌==◌, ℕ, List, [], ◌∷◌, ◌++◌, Option, Some, None, drop, length, if◌then◌else◌}
-use Rattle.std.specs.List.{flat_map}
+use Rattle.std.specs.Prelude.{◌≡◌, ◌==◌, ◌||◌, ℕ, Bool, not, filter, List, [], ◌∷◌, ◌++◌, Option, Some, None, drop, length, if◌then◌else◌}
+use Rattle.std.specs.List.{flat_map, slice_split}
+use Rattle.std.specs.Borrow.{Bor}
 use Rattle.std.specs.Option.{is_none, option_map}
 use Rattle.text_model.specs.Parts.{parts_of}
 use Rattle.text_model.specs.Reading.{◌>>=◌, is_nil}
@@ -40,9 +41,33 @@ edit_of words = edit_at words >>= λ e. if e.count == length words then Some e e
 abbrev pub with_one : Plain → List (List ℕ) → Option Plain
 with_one old words = if is_none old.framing then option_map (λ e. edits (old.steps ++ e.steps) e.framing) (edit_of words) else None
 
--- edits with the one that a line is, its words with one space between two; an empty line is ignored
+-- a space, a tab, or the carriage return that some systems write before a line feed
+abbrev pub is_white : ℕ → Bool
+is_white b = (b == 32 || b == 9) || b == 13
+
+-- what comes before the first #, which begins a comment
+abbrev pub front_of : List (List ℕ) → List ℕ
+front_of [] = []
+front_of (front ∷ others) = front
+
+abbrev pub uncommented : List ℕ → List ℕ
+uncommented line = front_of (parts_of 35 line)
+
+-- the words of a line, with white space between them and around them
+abbrev pub line_words : List ℕ → List (List ℕ)
+line_words line = filter (λ word. not (is_nil word)) (slice_split is_white (uncommented line))
+
+-- the pieces of what is left of a line
+abbrev pub pieces_left : Option (Bor (List ℕ)) → List (List ℕ)
+pieces_left None = []
+pieces_left (Some rest) = slice_split is_white rest.now
+
+-- edits with the one that the words of a line are; without a word the line is ignored
+abbrev pub with_words : Plain → List (List ℕ) → Option Plain
+with_words old words = if is_nil words then Some old else with_one old words
+
 abbrev pub with_line : Plain → List ℕ → Option Plain
-with_line old line = if is_nil line then Some old else with_one old (parts_of 32 line)
+with_line old line = with_words old (line_words line)
 
 -- edits with those that lines are, one after the other
 abbrev pub with_lines : Plain → List (List ℕ) → Option Plain

@@ -1,11 +1,12 @@
 //! The edits that words name.
 
-ghost use Rattle.std.specs.Prelude.{◌≡◌, ◌+◌, ◌<◌, ◌≤◌, ◌++◌, map, take as list_take, [], Some, None, IfOk, IfErr, OnOk, IfSome, length};
+ghost use Rattle.std.specs.Prelude.{◌≡◌, ◌+◌, ◌<◌, ◌≤◌, ◌++◌, map, take as list_take, [], ◌∷◌, position, Some, None, IfOk, IfErr, OnOk, IfSome, length};
+ghost use Rattle.std.specs.List.{slice_split};
 ghost use Rattle.std.specs.Option.{option_map};
 ghost use Rattle.text_model.specs.Parts.{parts_of};
 ghost use Rattle.text_model.specs.Reading.{Finds, first_of_parts};
 ghost use Rattle.texts.specs.Parts.{parts_left};
-ghost use Rattle.frame_formats.specs.Lists.{Adds, AddsNone, with_one, with_line, with_lines, plain};
+ghost use Rattle.frame_formats.specs.Lists.{Adds, AddsNone, is_white, pieces_left, uncommented, line_words, with_one, with_line, with_lines, plain};
 ghost use Rattle.frame_formats.specs.Words.{pair_of, colour_in, paint_of, change_of, pad_of, end_of, span_of, framing_at, cover_at, change_at, step_at, ranged_at, edit_at, with_edit};
 
 use crate::framing::Framing;
@@ -207,14 +208,51 @@ fn read_ranged(words: &[&[u8]]) -> Option<(Step<Paint>, usize)>
     }
 }
 
-// The words of a line, with one space between two.
+// A line without its comment.
+fn before_comment(line: &[u8]) -> &[u8]
+    ensures { result.now ≡ uncommented line.now }
+{
+    match Parts::new(line, b'#').next_part() {
+        Some(front) => front,
+        None => &[],
+    }
+}
+
+fn is_white(byte: u8) -> bool
+    ensures { result ≡ is_white byte }
+{
+    byte == b' ' || byte == b'\t' || byte == b'\r'
+}
+
+// Where the first white space is.
+fn find_white(line: &[u8]) -> Option<usize>
+    ensures { result ≡ position is_white line.now }
+{
+    line.iter().position(|b| is_white(*b))
+}
+
+// The bytes before the first white space, and those after it.
+fn next_piece(line: &[u8]) -> (&[u8], Option<&[u8]>)
+    ensures { slice_split is_white line.now ≡ result.0.now ∷ pieces_left result.1 }
+{
+    match find_white(line) {
+        Some(at) => (&line[..at], Some(&line[at + 1..])),
+        None => (line, None),
+    }
+}
+
+// The words of a line.
 fn words_of<'a>(alloc: Global, line: &'a [u8]) -> Result<Vec<&'a [u8]>, AllocError>
-    ensures { IfOk result (λ words. map (λ w. w.now) words.items ≡ parts_of 32 line.now) }
+    ensures { IfOk result (λ words. map (λ w. w.now) words.items ≡ line_words line.now) }
 {
     let mut words = Vec::new(alloc);
-    let mut parts = Parts::new(line, b' ');
-    while let Some(word) = parts.next_part() {
-        words.push(word)?;
+    let mut rest = Some(before_comment(line));
+    while let Some(bytes) = rest {
+        let (word, others) = next_piece(bytes);
+        if !word.is_empty() {
+            words.push(word)?;
+        }
+        rest = others;
     }
     Ok(words)
 }
@@ -340,24 +378,25 @@ impl Edits {
         }
     }
 
-    // Adds the edit that a line is.
+    // Adds the edit that a line is, where it has a word.
     fn take_line(&mut self, alloc: Global, line: &[u8]) -> Result<(), WordsFault>
         ensures taken { OnOk result (with_line (plain self.old) line.now ≡ Some (plain self.new)) }
         ensures none { IfErr result
             (λ e. e ≡ WordsFault.NoEdit → with_line (plain self.old) line.now ≡ None) }
         ensures same { IfErr result (λ _. plain self.new ≡ plain self.old) }
     {
-        if line.is_empty() {
+        let Ok(words) = words_of(alloc, line) else {
+            return Err(WordsFault::Memory);
+        };
+        if words.is_empty() {
             return Ok(());
         }
-        match words_of(alloc, line) {
-            Ok(words) => self.take_one(&words),
-            Err(_) => Err(WordsFault::Memory),
-        }
+        self.take_one(&words)
     }
 
-    /// Adds the edits that the lines of a text name, one on each line, with one space between two
-    /// words. An empty line is ignored.
+    /// Adds the edits that the lines of a text name, one on each line. Between words and around them
+    /// there may be spaces and tabs, and a carriage return. A `#` begins a comment, up to the end of
+    /// its line. A line with no word is ignored.
     ///
     /// # Errors
     ///

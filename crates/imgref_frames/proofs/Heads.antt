@@ -1,5 +1,5 @@
 -- The head of a picture, read a byte at a time.
-use Rattle.std.proofs.Common.{◌≡◌, ◌≢◌, ℕ, ◌<◌, ◌+◌, ◌^◌, List, [], ◌∷◌, ◌++◌, ◌⊎◌, Option, Some, None, refl, sym, ap, ◌∙◌, append_assoc, append-nil, inl, inr, length, length-append, arith, IfSome}
+use Rattle.std.proofs.Common.{◌≡◌, ℕ, ◌<◌, ◌≤◌, ◌+◌, List, [], ◌∷◌, ◌++◌, ◌⊎◌, Option, Some, None, refl, sym, ap, ◌∙◌, append-nil, inl, inr, length, length-append, arith, IfSome}
 use Rattle.std.specs.Io.KnownBytes.{Consumes}
 use Rattle.std.proofs.KnownBytes.{Consumes-trans}
 use Rattle.frame_formats.specs.Picture.{picture_of, scanned, pushed, start, done_as, OneByteMore, BadStays, BeginsWithLetter}
@@ -7,7 +7,7 @@ use Rattle.frame_formats.specs.Edits.{Edits}
 use Rattle.frame_formats.specs.declared.picture.Picture.{Picture}
 use Rattle.frame_formats.specs.declared.picture.Scan.{Scan}
 use Rattle.frame_formats.specs.declared.picture.Scan.TheVariants.{Bad}
-use Rattle.imgref_frames.specs.Pictures.{IsHead, PictureHead, IsNoPicture, HeadBegun, behind_letter}
+use Rattle.imgref_frames.specs.Pictures.{IsNoPicture, HeadBegun, behind_letter}
 use Rattle.imgref_frames.specs.Passing.{IsNoNext}
 
 -- ---- lists
@@ -75,16 +75,16 @@ head_bad law count (Some bytes) None h = absurd h.read
 head_bad law count (Some bytes) (Some left) h = bad_head law count (Some bytes) (Some left) h (80 ∷ bytes) left h.read
 
 -- of more bytes than a head may have no head is among those that were begun
-long_head : (scan : Scan) (old new : Option (List ℕ)) (h : HeadBegun 65536 scan old new) (bytes left : List ℕ) → bytes ≡ h.bytes ++ left → IsNoPicture bytes
-long_head scan old new h bytes left read = λ picture head more is_head is. elim (either_begins h.bytes head left more (sym read ∙ is)) [
-  | inl l ↦ omega (arith, ap length l.1, length-append h.bytes l.0, h.count_is, is_head.counted)
-  | inr r ↦ omega (arith, ap length r.1, length-append head r.0, ap length (h.none picture head r.0 is_head.named r.1), h.count_is, is_head.counted)
+long_head : (count : ℕ) → 65536 ≤ count → (scan : Scan) (old new : Option (List ℕ)) (h : HeadBegun count scan old new) (bytes left : List ℕ) → bytes ≡ h.bytes ++ left → IsNoPicture bytes
+long_head count many scan old new h bytes left read = λ picture head more is_head is. elim (either_begins h.bytes head left more (sym read ∙ is)) [
+  | inl l ↦ omega (arith, ap length l.1, length-append h.bytes l.0, h.count_is, is_head.counted, many)
+  | inr r ↦ omega (arith, ap length r.1, length-append head r.0, ap length (h.none picture head r.0 is_head.named r.1), h.count_is, is_head.counted, many)
 ]
 
-pub head_long : (scan : Scan) (old new : Option (List ℕ)) → HeadBegun 65536 scan old new → IfSome (behind_letter old) IsNoPicture
-head_long scan None new h = tt
-head_long scan (Some bytes) None h = absurd h.read
-head_long scan (Some bytes) (Some left) h = long_head scan (Some bytes) (Some left) h (80 ∷ bytes) left h.read
+pub head_long : (count : ℕ) (scan : Scan) (old new : Option (List ℕ)) → HeadBegun count scan old new → 65536 ≤ count → IfSome (behind_letter old) IsNoPicture
+head_long count scan None new h many = tt
+head_long count scan (Some bytes) None h many = absurd h.read
+head_long count scan (Some bytes) (Some left) h many = long_head count many scan (Some bytes) (Some left) h (80 ∷ bytes) left h.read
 
 -- ---- no pictures
 

@@ -2,14 +2,14 @@
 use Rattle.std.proofs.Common.{◌≡◌, ◌⊎◌, ℕ, ◌+◌, Bool, true, false, List, [], ◌∷◌, ◌++◌, Option, Some, None, Result, Ok, Err, length, refl, sym, ap, ◌∙◌, subst, arith, append_assoc, inl, inr}
 use Rattle.std.specs.List.{AllByRecursion}
 use Rattle.std.proofs.lemmas.List.Elements.{recursion_from_All}
-use Rattle.text_model.proofs.Options.{some_is, bind_some}
+use Rattle.text_model.proofs.Options.{some_is}
 use Rattle.frame_formats.specs.Picture.{ApartHeads, BeginsWithLetter}
 use Rattle.frame_formats.specs.Format.{format_of}
 use Rattle.frame_formats.specs.Edits.{Edits}
-use Rattle.frame_formats.specs.Recipe.{Recipe, HidesAlike, VideosHide, PicturesHide, video_recipe, picture_recipe}
+use Rattle.frame_formats.specs.Recipe.{Recipe, HidesAlike, VideosHide, PicturesHide, video_recipe}
 use Rattle.imgref_frames.specs.Alike.{Alike, CutAlike, PieceAlike, PiecesAlike, Hides}
-use Rattle.imgref_frames.specs.Passing.{IsCut, IsNoFrame, IsNoNext, IsNotEditedNext, AtHead, Anything}
-use Rattle.imgref_frames.specs.Pictures.{PictureHead, BeginsPicture, IsPictureNotEdited, IsNoPicture}
+use Rattle.imgref_frames.specs.Passing.{IsCut, IsNotEditedNext, AtHead, Anything}
+use Rattle.imgref_frames.specs.Pictures.{PictureHead, BeginsPicture, IsNoPicture}
 use Rattle.imgref_frames.specs.Program.{Stream, IsStream, begins_picture, are_pictures, front, made_front, heads_of, Carries, CarriesUpTo, CarriesSome, IsCounted, IsNoMore, IsNoStream, BeginsVideo, IsNotEdited, StopsOutside, StopsForMemory, Writes}
 use Rattle.imgref_frames.specs.Program.Stream.{video, pictures}
 use Rattle.imgref_frames.specs.Video.{FrameHead}

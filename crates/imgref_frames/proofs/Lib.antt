@@ -4,6 +4,7 @@ pub mod OneMore
 pub mod Heads
 pub mod Rounds
 pub mod Carrying
+pub mod CellsRead
 pub mod Outcomes
 pub mod Hiding
 pub mod OneOutput

@@ -1,17 +1,15 @@
 -- An input has one result and one output, except where a device or memory ends a run early.
-use Rattle.std.proofs.Common.{◌≡◌, ℕ, ◌+◌, ◌<◌, ◌⊎◌, Bool, true, false, List, [], ◌∷◌, ◌++◌, Option, Some, None, Result, Ok, Err, length, take, drop, refl, sym, ap, ◌∙◌, subst, arith, append_assoc, append-nil, length-append, inl, inr}
+use Rattle.std.proofs.Common.{◌≡◌, ℕ, ◌+◌, ◌⊎◌, Bool, true, false, List, [], ◌∷◌, ◌++◌, Some, None, Result, Ok, Err, length, take, drop, refl, sym, ap, ◌∙◌, subst, arith, append_assoc, append-nil, length-append, inl, inr}
 use Rattle.std.specs.List.{AllByRecursion}
 use Rattle.std.proofs.lemmas.List.{take-append-drop}
 use Rattle.std.proofs.lemmas.List.Elements.{recursion_from_All}
-use Rattle.text_model.proofs.Options.{some_is}
 use Rattle.frame_formats.specs.Edits.{Edits}
 use Rattle.frame_formats.specs.Format.{format_of}
 use Rattle.frame_formats.specs.Recipe.{Recipe, video_recipe}
-use Rattle.frame_formats.specs.declared.header.Format.{Format}
 use Rattle.imgref_frames.specs.Alike.{Agree, BeginsWith, OneOutput, is_broken_off}
 use Rattle.imgref_frames.specs.Passing.{IsNoNext, IsNotEditedNext}
 use Rattle.imgref_frames.specs.Pictures.{PictureHead, BeginsPicture, IsNoPicture, IsPictureNotEdited}
-use Rattle.imgref_frames.specs.Program.{Stream, IsStream, begins_picture, are_pictures, front, made_front, heads_of, Carries, IsCounted, IsNoMore, IsNoStream, BeginsVideo, IsNotEdited, StopsOutside, StopsForMemory, Writes}
+use Rattle.imgref_frames.specs.Program.{Stream, IsStream, begins_picture, are_pictures, front, made_front, heads_of, Carries, IsCounted, IsNoMore, IsNoStream, IsNotEdited, StopsOutside, StopsForMemory, Writes}
 use Rattle.imgref_frames.specs.Program.Stream.{video, pictures}
 use Rattle.imgref_frames.specs.Stream.{Piece, IsPiece, piece_text, pieces_text, made_text, all_made}
 use Rattle.imgref_frames.specs.declared.fault.RunFault.{RunFault}
@@ -19,7 +17,7 @@ use Rattle.imgref_frames.specs.declared.fault.RunFault.TheVariants.{Header, Outs
 use Rattle.imgref_frames.proofs.FrameLines.{one_front}
 use Rattle.imgref_frames.proofs.Heads.{either_begins}
 use Rattle.imgref_frames.proofs.Hiding.{Laws, readable, one_stream, behind_feed, hides}
-use Rattle.imgref_frames.proofs.Pieces.{Readable, frames_readable, pictures_readable, one_piece, some_text, not_cut, cut_some, begins_piece, begins_cut, no_begin, edited_piece, edited_cut}
+use Rattle.imgref_frames.proofs.Pieces.{Readable, pictures_readable, one_piece, some_text, not_cut, cut_some, begins_piece, begins_cut, no_begin, edited_piece, edited_cut}
 
 -- ---- pieces of one list of bytes
 

@@ -7,7 +7,7 @@ use Rattle.frame_formats.specs.Picture.{ApartHeads, BeginsWithLetter}
 use Rattle.frame_formats.specs.Edits.{Edits}
 use Rattle.frame_formats.specs.Recipe.{Recipe, picture_recipe}
 use Rattle.frame_formats.specs.declared.picture.Picture.{Picture}
-use Rattle.imgref_frames.specs.Stream.{Piece, piece, IsPiece, piece_text, pieces_text, made_text, all_made}
+use Rattle.imgref_frames.specs.Stream.{Piece, piece, pieces_text, all_made}
 use Rattle.imgref_frames.specs.Video.{FrameHead, with_head}
 use Rattle.imgref_frames.specs.Pictures.{IsHead, PictureHead, IsNoPicture, IsPictureNotEdited, behind_letter}
 use Rattle.imgref_frames.specs.Passing.{LineRead, IsNoFrameLine, IsNoFrame, IsNoNext, IsNotEditedNext, IsCut, AtHead, Passed, PassedUpTo, PassedSome, PassedPart, CellsPassed, PassesCells, PassesFrames, PassesPicture, PassesPictures, Anything}

@@ -16,11 +16,11 @@ use Rattle.imgref_frames.specs.declared.pictures.Kept.{Kept}
 use Rattle.imgref_frames.specs.declared.fault.RunFault.{RunFault}
 use Rattle.imgref_frames.specs.declared.fault.RunFault.TheVariants.{Header, Outside, Frame, Memory, Input, Output}
 
--- the plan is that of the edits for its picture, and buffers of these lengths are enough for it
-pub record IsKept (edit : Edits) (len other_len : ℕ) (k : Kept) : Type 0 where
+-- the plan is that of the edits for its picture, and buffers of these capacities are enough for it
+pub record IsKept (edit : Edits) (room_there other_there : ℕ) (k : Kept) : Type 0 where
   pub plan : picture_recipe edit k.picture ≡ Some (recipe_of k.plan)
-  pub room : plan_room k.plan ≤ len
-  pub other_room : plan_other_room k.plan ≤ other_len
+  pub room : plan_room k.plan ≤ room_there
+  pub other_room : plan_other_room k.plan ≤ other_there
 
 abbrev pub kept_picture : Option Kept → Option Picture
 kept_picture kept = option_map (λ k. k.picture) kept

@@ -1,6 +1,6 @@
 //! The frames of a video, read, edited and written one by one.
 
-ghost use Rattle.std.specs.Prelude.{◌≡◌, ◌+◌, ◌≤◌, ◌<◌, length};
+ghost use Rattle.std.specs.Prelude.{◌≡◌, ◌+◌, ◌≤◌, ◌<◌, length, vec_capacity};
 ghost use Rattle.devices.specs.Device.{device_of, failures_of};
 ghost use Rattle.frame_formats.specs.Planned.{recipe_of, plan_room, plan_other_room};
 ghost use Rattle.imgref_frames.specs.Fault.{reader_failures, writer_failures};
@@ -92,12 +92,12 @@ pub(crate) fn pass_frames<R: Read, W: Write>(
     writer: &mut Counted<W>,
     plan: &Plan,
     line: &mut [u8],
-    cells: &mut [u8],
-    other: &mut [u8],
+    cells: &mut Vec<u8>,
+    other: &mut Vec<u8>,
 ) -> Result<u64, RunFault>
     requires room { length line.old ≡ 256 }
-    requires cells_room { plan_room plan.now ≤ length cells.old }
-    requires other_room { plan_other_room plan.now ≤ length other.old }
+    requires cells_room { plan_room plan.now ≤ vec_capacity cells.old }
+    requires other_room { plan_other_room plan.now ≤ vec_capacity other.old }
     requires reader_counts { failures_of reader.old < u64.MAX }
     requires writer_counts { failures_of writer.old < u64.MAX }
     ensures passes { PassesFrames result (recipe_of plan.now)

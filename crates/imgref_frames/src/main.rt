@@ -3,30 +3,36 @@
 
 mod cells;
 mod fault;
+mod files;
 mod frames;
 mod options;
 mod pictures;
 mod program;
+mod ranges;
 mod reasons;
 mod request;
 mod words;
 
 pub use devices::Counted;
 pub use fault::RunFault;
+use files::{Sink, Source, create_beside, read_whole};
 use frame_formats::Edits;
 pub use frame_formats::{Change, Format, Framing, Paint, Picture, Step, Window};
 use options::{Options, read_options};
 pub use program::run;
-use reasons::{say_no_words, say_reason, say_unreached};
+use ranges::say_unreached;
+use reasons::{say_no_words, say_reason};
 pub use request::Seen;
-use std::fs;
+use std::io::{BufReader, ErrorKind};
 use std::process::ExitCode;
+use std::{fs, io};
 use words::{Refusal, edits_of_lines, edits_of_words, fault_of, words_of};
 
 // What the words are, as docs/FRAMES.md has it.
 const USAGE: &str = "usage: imgref_frames [OPTION..] EDIT.. < video > video
        imgref_frames [OPTION..] --edits FILE < video > video
-Standard input is a video (YUV4MPEG2), or pictures (PGM, PPM), one after the other.
+       imgref_frames -i FILE -o FILE [OPTION..] EDIT..
+The input is a video (YUV4MPEG2), or pictures (PGM, PPM), one after the other.
 EDIT is one of these. The edits are applied to each frame or picture, in their order:
        [A..B] cover L,T,W,H [V]       brightness V or 16, no colour, with a margin
        [A..B] fill L,T,W,H V          exactly this rectangle: brightness V, no colour
@@ -35,8 +41,12 @@ EDIT is one of these. The edits are applied to each frame or picture, in their o
        [A..B] move L,T,W,H X,Y        to column X, row Y
        crop L,T,W,H                   only as the last edit
        pad L,T,R,B V                  likewise: a border of brightness V, no colour
-A..B: only the frames A to B-1, counted from 0; A..: from A on. FILE has one edit on each line.
+A..B: only the frames A to B-1, counted from 0; A..: from A on.
 OPTION:
+       -i FILE           reads the input from a file
+       -o FILE           writes the output to a file, which gets its name once it is whole
+       --edits FILE      reads the edits from a file: one on each line, # begins a comment
+       --edits -         reads them from standard input; only with -i
        --strict          a range that the input doesn't reach is a fault
        --limit BYTES     how many bytes all buffers may have: 1073741824 without it
        --help, -h        prints this
@@ -49,9 +59,109 @@ const VERSION: &str = "imgref_frames 0.1.0";
 // The status where a range was not reached, and that is a fault.
 const RANGE: u8 = 8;
 
-/// Reads a video or pictures from standard input, edits each as the words say, and writes them to
-/// standard output. Where the run ends with a fault, the program prints the fault and its reason to
-/// standard error, and exits with its status.
+// How many bytes are read ahead: as many as a pipe holds.
+const AHEAD: usize = 65536;
+
+// What a run needs besides its input and its output. The text is that of the file of edits, for
+// messages.
+#[derive(Clone, Copy)]
+struct Call<'a> {
+    rt: &'a HostRuntime,
+    options: Options,
+    edits: &'a Edits,
+    text: Option<&'a [u8]>,
+}
+
+impl Call<'_> {
+    // Prints the fault and why it came. The status tells of the fault even where nothing can be
+    // printed.
+    fn fail(&self, fault: RunFault, seen: Seen) -> u8 {
+        let _ = eprintln!(self.rt; "{fault}");
+        say_reason(
+            self.rt,
+            fault,
+            seen,
+            self.options.limit,
+            self.edits,
+            self.text,
+        );
+        fault.status()
+    }
+
+    // The fault of a file that can't be opened, or of memory for it.
+    fn fail_at(&self, error: io::Error, fault: RunFault) -> u8 {
+        if error.kind() == ErrorKind::OutOfMemory {
+            self.fail(RunFault::Memory(0), Seen::Nothing)
+        } else {
+            self.fail(fault, Seen::Nothing)
+        }
+    }
+
+    // Runs the edits over the input, and returns the status.
+    fn pass(&self, input: BufReader<Source>, output: Sink) -> u8 {
+        let mut seen = Seen::Nothing;
+        let mut reader = Counted::new(input);
+        let mut writer = Counted::new(output);
+        let result = run(
+            self.rt.alloc(),
+            self.options.limit,
+            &self.edits.steps,
+            self.edits.framing,
+            &mut seen,
+            &mut reader,
+            &mut writer,
+        );
+        let count = match result {
+            Ok(count) => count,
+            Err(fault) => return self.fail(fault, seen),
+        };
+        if writer.device().sync().is_err() {
+            return self.fail(RunFault::Output, seen);
+        }
+        let strict = self.options.strict;
+        if say_unreached(self.rt, count, &self.edits.steps, self.text, strict) && strict {
+            return RANGE;
+        }
+        0
+    }
+
+    // The same with an output of this name. On a fault the name stays as it was.
+    fn pass_to(&self, input: BufReader<Source>, name: &str) -> u8 {
+        let (file, beside) = match create_beside(self.rt, name) {
+            Ok(made) => made,
+            Err(error) => return self.fail_at(error, RunFault::Output),
+        };
+        let status = self.pass(input, Sink::Named(file));
+        if status == 0 && fs::rename(self.rt, beside.as_str(), name).is_ok() {
+            return 0;
+        }
+        let _ = fs::remove_file(self.rt, beside.as_str());
+        if status == 0 {
+            return self.fail(RunFault::Output, Seen::Nothing);
+        }
+        status
+    }
+
+    // The same with the input and the output that the options name.
+    fn run(&self, words: &[String]) -> u8 {
+        let source = match Source::open(self.rt, name_at(words, self.options.input)) {
+            Ok(source) => source,
+            Err(error) => return self.fail_at(error, RunFault::Input),
+        };
+        let input = match BufReader::with_capacity(self.rt.alloc(), AHEAD, source) {
+            Ok(input) => input,
+            Err(_) => return self.fail(RunFault::Memory(0), Seen::Nothing),
+        };
+        match name_at(words, self.options.output) {
+            Some(name) => self.pass_to(input, name),
+            None => self.pass(input, Sink::Standard(self.rt.stdout())),
+        }
+    }
+}
+
+/// Reads a video or pictures, edits each as the words say, and writes them. Where the run ends with
+/// a fault, the program prints the fault and its reason to standard error, and exits with its
+/// status.
 fn main(rt: HostRuntime) -> ExitCode {
     let words = match words_of(&rt) {
         Ok(words) => words,
@@ -80,61 +190,57 @@ fn main(rt: HostRuntime) -> ExitCode {
     edit(&rt, options, &words, &bytes)
 }
 
+// The word at this place.
+fn name_at(words: &[String], at: Option<usize>) -> Option<&str> {
+    let word = words.get(at?)?;
+    Some(word.as_str())
+}
+
 // Finds the edits, and goes on with them.
 fn edit(rt: &HostRuntime, options: Options, words: &[String], bytes: &[&[u8]]) -> ExitCode {
-    let Some(file) = options.file else {
+    let Some(name) = name_at(words, options.edits) else {
         let first = options.first.min(bytes.len());
         return match edits_of_words(rt.alloc(), &bytes[first..]) {
-            Ok(edits) => carry(rt, options, &edits, None),
+            Ok(edits) => carry(rt, options, words, &edits, None),
             Err(refusal) => refuse(rt, refusal, &bytes[first..], None),
         };
     };
-    if options.first < bytes.len() || file >= words.len() {
+    if options.first < bytes.len() {
         return refuse(rt, Refusal::NoOption(options.first), bytes, None);
     }
-    let text = match fs::read(rt, words[file].as_str()) {
+    if name == "-" && options.input.is_none() {
+        return refuse(rt, Refusal::OneInput, bytes, None);
+    }
+    let text = match read_whole(rt, name) {
         Ok(text) => text,
         Err(error) => return refuse(rt, fault_of(error, Refusal::NoFile), bytes, None),
     };
     match edits_of_lines(rt.alloc(), &text) {
-        Ok(edits) => carry(rt, options, &edits, Some(&text)),
+        Ok(edits) => carry(rt, options, words, &edits, Some(&text)),
         Err(refusal) => refuse(rt, refusal, bytes, Some(&text)),
     }
 }
 
-// Runs the edits over standard input. The text is that of the file of edits, for messages.
-fn carry(rt: &HostRuntime, options: Options, edits: &Edits, text: Option<&[u8]>) -> ExitCode {
+// Runs the edits.
+fn carry(
+    rt: &HostRuntime,
+    options: Options,
+    words: &[String],
+    edits: &Edits,
+    text: Option<&[u8]>,
+) -> ExitCode {
     if words::uncovers(&edits.steps) {
         let _ = eprintln!(rt;
             "note: a move comes before a fill or a mosaic, and may carry pixels away"
         );
     }
-    let mut seen = Seen::Nothing;
-    let mut reader = Counted::new(rt.stdin());
-    let mut writer = Counted::new(rt.stdout());
-    let result = run(
-        rt.alloc(),
-        options.limit,
-        &edits.steps,
-        edits.framing,
-        &mut seen,
-        &mut reader,
-        &mut writer,
-    );
-    match result {
-        Ok(count) => {
-            if say_unreached(rt, count, &edits.steps, text, options.strict) && options.strict {
-                ExitCode::from(RANGE)
-            } else {
-                ExitCode::SUCCESS
-            }
-        }
-        Err(fault) => {
-            let status = end(rt, fault);
-            say_reason(rt, fault, seen, options.limit, edits, text);
-            status
-        }
-    }
+    let call = Call {
+        rt,
+        options,
+        edits,
+        text,
+    };
+    ExitCode::from(call.run(words))
 }
 
 // The status tells of the fault even where its text can't be printed.

@@ -1,21 +1,68 @@
 //! The options before the edits.
 
+ghost use Rattle.std.specs.Prelude.{◌≡◌};
+
 use texts::Field;
 
 /// How many bytes all buffers may have, where no option tells another number: 1 GiB.
 const LIMIT: usize = 1 << 30;
 
-/// What the words before the edits ask for.
+/// What the words before the edits ask for. A name is told by its place among the words.
 #[derive(Clone, Copy)]
 pub(crate) struct Options {
     /// Whether a range of frames that the input doesn't reach is a fault.
     pub(crate) strict: bool,
     /// How many bytes all buffers may have.
     pub(crate) limit: usize,
-    /// Where the name of a file of edits is among the words. Without one the edits are words.
-    pub(crate) file: Option<usize>,
+    /// The name of a file of edits. Without one the edits are words.
+    pub(crate) edits: Option<usize>,
+    /// The name of the input. Without one it is standard input.
+    pub(crate) input: Option<usize>,
+    /// The name of the output. Without one it is standard output.
+    pub(crate) output: Option<usize>,
     /// Where the edits begin.
     pub(crate) first: usize,
+}
+
+// An option that another word follows.
+#[derive(Clone, Copy)]
+enum Followed {
+    Limit,
+    Edits,
+    Input,
+    Output,
+}
+
+fn option_of(word: &[u8]) -> Option<Followed> {
+    if word == b"--limit".as_slice() {
+        Some(Followed::Limit)
+    } else if word == b"--edits".as_slice() {
+        Some(Followed::Edits)
+    } else if word == b"-i".as_slice() {
+        Some(Followed::Input)
+    } else if word == b"-o".as_slice() {
+        Some(Followed::Output)
+    } else {
+        None
+    }
+}
+
+impl Options {
+    // Takes an option with the word at this place. Returns whether it is one.
+    fn take(&mut self, option: Followed, at: usize, word: &[u8]) -> bool
+        ensures { self.new.first ≡ self.old.first }
+    {
+        match option {
+            Followed::Limit => match usize::read(word) {
+                Some(limit) => self.limit = limit,
+                None => return false,
+            },
+            Followed::Edits => self.edits = Some(at),
+            Followed::Input => self.input = Some(at),
+            Followed::Output => self.output = Some(at),
+        }
+        true
+    }
 }
 
 /// The options at the front of the words after the program's name, or the place of the word that
@@ -24,7 +71,9 @@ pub(crate) fn read_options(words: &[&[u8]]) -> Result<Options, usize> {
     let mut options = Options {
         strict: false,
         limit: LIMIT,
-        file: None,
+        edits: None,
+        input: None,
+        output: None,
         first: 1,
     };
     while options.first < words.len() {
@@ -32,24 +81,18 @@ pub(crate) fn read_options(words: &[&[u8]]) -> Result<Options, usize> {
         if words[at] == b"--strict".as_slice() {
             options.strict = true;
             options.first = at + 1;
-        } else if words[at] == b"--limit".as_slice() {
-            if words.len() - at < 2 {
-                return Err(at);
-            }
-            let Some(limit) = usize::read(words[at + 1]) else {
-                return Err(at + 1);
-            };
-            options.limit = limit;
-            options.first = at + 2;
-        } else if words[at] == b"--edits".as_slice() {
-            if words.len() - at < 2 {
-                return Err(at);
-            }
-            options.file = Some(at + 1);
-            options.first = at + 2;
-        } else {
-            break;
+            continue;
         }
+        let Some(option) = option_of(words[at]) else {
+            break;
+        };
+        if words.len() - at < 2 {
+            return Err(at);
+        }
+        if !options.take(option, at + 1, words[at + 1]) {
+            return Err(at + 1);
+        }
+        options.first = at + 2;
     }
     Ok(options)
 }

@@ -1,6 +1,6 @@
 //! Pictures, one after the other, read, edited and written one by one.
 
-ghost use Rattle.std.specs.Prelude.{◌≡◌, ◌≢◌, ◌+◌, ◌≤◌, ◌<◌, length, None, true, false, IfOk, IfErr, IfSome, OnOk, OnErr};
+ghost use Rattle.std.specs.Prelude.{◌≡◌, ◌≢◌, ◌+◌, ◌≤◌, ◌<◌, vec_capacity, None, true, false, IfOk, IfErr, IfSome, OnOk, OnErr};
 ghost use Rattle.devices.specs.Device.{device_of, failures_of};
 ghost use Rattle.frame_formats.specs.Recipe.{picture_recipe};
 ghost use Rattle.imgref_frames.specs.Fault.{reader_failures, writer_failures};
@@ -56,10 +56,10 @@ fn read_head<R: Read>(reader: &mut Counted<R>) -> Result<Option<Picture>, RunFau
 
 // Makes so much room, where there is less.
 fn make_room(alloc: Global, cells: &mut Vec<u8>, room: usize) -> Result<(), AllocError>
-    ensures room { OnOk result (room ≤ length cells.new.items) }
+    ensures room { OnOk result (room ≤ vec_capacity cells.new) }
 {
-    if cells.len() < room {
-        *cells = vec![in alloc; 0u8; room]?;
+    if cells.capacity() < room {
+        *cells = Vec::with_capacity(alloc, room)?;
     }
     Ok(())
 }
@@ -82,7 +82,7 @@ fn make_plan(
 ) -> Result<Kept, RunFault>
     ensures picture { IfOk result (λ k. k.picture ≡ picture) }
     ensures kept { IfOk result
-        (IsKept (edits_of request.entry) (length cells.new.items) (length other.new.items)) }
+        (IsKept (edits_of request.entry) (vec_capacity cells.new) (vec_capacity other.new)) }
     ensures fault { IfErr result
         (HasNoPlan (picture_recipe (edits_of request.entry) picture ≡ None) number) }
 {
@@ -114,10 +114,10 @@ fn plan_for(
     other: &mut Vec<u8>,
 ) -> Result<Kept, RunFault>
     requires kept { IfSome kept
-        (IsKept (edits_of request) (length cells.old.items) (length other.old.items)) }
+        (IsKept (edits_of request) (vec_capacity cells.old) (vec_capacity other.old)) }
     ensures picture { IfOk result (λ k. k.picture ≡ picture) }
     ensures kept { IfOk result
-        (IsKept (edits_of request.entry) (length cells.new.items) (length other.new.items)) }
+        (IsKept (edits_of request.entry) (vec_capacity cells.new) (vec_capacity other.new)) }
     ensures fault { IfErr result
         (HasNoPlan (picture_recipe (edits_of request.entry) picture ≡ None) number) }
     ensures stops { IfErr result (NeedsMemory (kept_picture kept) picture) }
@@ -147,7 +147,7 @@ fn pass_picture<R: Read, W: Write>(
     writer: &mut Counted<W>,
 ) -> Result<Kept, RunFault>
     requires kept { IfSome kept
-        (IsKept (edits_of request) (length cells.old.items) (length other.old.items)) }
+        (IsKept (edits_of request) (vec_capacity cells.old) (vec_capacity other.old)) }
     requires reader_counts { failures_of reader.old < u64.MAX }
     requires writer_counts { failures_of writer.old < u64.MAX }
     requires numbers { number < u64.MAX }
@@ -155,7 +155,7 @@ fn pass_picture<R: Read, W: Write>(
         (behind_letter (R.remaining (device_of reader.old))) (R.remaining (device_of reader.new))
         (W.contents (device_of writer.old)) (W.contents (device_of writer.new)) }
     ensures kept { IfOk result
-        (IsKept (edits_of request.entry) (length cells.new.items) (length other.new.items)) }
+        (IsKept (edits_of request.entry) (vec_capacity cells.new) (vec_capacity other.new)) }
     ensures stops { PictureStops result (kept_picture kept)
         (behind_letter (R.remaining (device_of reader.old)))
         (R.remaining (device_of reader.new)) }

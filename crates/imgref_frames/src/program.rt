@@ -56,10 +56,10 @@ fn run_video<R: Read, W: Write>(
     if is_over(request.limit, &plan) {
         return Err(RunFault::Memory(0));
     }
-    let Ok(mut cells) = vec![in alloc; 0u8; plan.room()] else {
+    let Ok(mut cells) = Vec::with_capacity(alloc, plan.room()) else {
         return Err(RunFault::Memory(0));
     };
-    let Ok(mut other) = vec![in alloc; 0u8; plan.other_room()] else {
+    let Ok(mut other) = Vec::with_capacity(alloc, plan.other_room()) else {
         return Err(RunFault::Memory(0));
     };
     if write_all(writer, plan.head()).is_err() {

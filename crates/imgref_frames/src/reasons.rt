@@ -2,8 +2,8 @@
 
 use crate::fault::RunFault;
 use crate::request::Seen;
-use crate::words::{Refusal, find_bad_word, find_line};
-use frame_formats::{Change, Chroma, Edits, Format, Framing, Paint, Pixel, Step, Window};
+use crate::words::{Lines, Refusal, find_bad_word};
+use frame_formats::{Change, Chroma, Edits, Format, Framing, Paint, Pixel, Window};
 
 // A frame: its size, how many columns and rows of pixels share a chroma sample, and the greatest
 // value of a sample.
@@ -181,12 +181,13 @@ fn say_wrong(rt: &HostRuntime, wrong: Wrong) {
     };
 }
 
-// The edit by its number or by its line.
-fn say_edit(rt: &HostRuntime, number: usize, text: Option<&[u8]>) {
-    let line = match text {
-        Some(text) => find_line(rt.alloc(), text, Some(number)),
-        None => None,
-    };
+// The line of the edit of this number, where edits have lines.
+fn line_of(rt: &HostRuntime, text: Option<&[u8]>, number: usize) -> Option<usize> {
+    Lines::new(rt.alloc(), text?).find(Some(number))
+}
+
+/// Prints the edit by its line, or else by its number.
+pub(crate) fn say_edit(rt: &HostRuntime, number: usize, line: Option<usize>) {
     let _ = match line {
         Some(line) => eprint!(rt; "line {line}: "),
         None => eprint!(rt; "edit {}: ", number.saturating_add(1)),
@@ -197,7 +198,7 @@ fn say_outside(rt: &HostRuntime, frame: Frame, edits: &Edits, text: Option<&[u8]
     let _ = eprintln!(rt; "the frame has {} by {} pixels", frame.width, frame.height);
     for number in 0..edits.steps.len() {
         if let Some(wrong) = check_change(frame, edits.steps[number].change) {
-            say_edit(rt, number, text);
+            say_edit(rt, number, line_of(rt, text, number));
             say_wrong(rt, wrong);
             return;
         }
@@ -242,8 +243,8 @@ pub(crate) fn say_reason(
         RunFault::Frame(number) => eprintln!(rt;
             "after {number} frames or pictures the input goes on, and not with a whole one"
         ),
-        RunFault::Input => eprintln!(rt; "standard input can't be read"),
-        RunFault::Output => eprintln!(rt; "standard output can't be written"),
+        RunFault::Input => eprintln!(rt; "the input can't be read"),
+        RunFault::Output => eprintln!(rt; "the output can't be written, or its name is no file's"),
     };
 }
 
@@ -265,13 +266,16 @@ pub(crate) fn say_no_words(
         Refusal::NoOption(at) => {
             let _ = eprintln!(rt; "word {at} is no option, or lacks what follows it");
         }
+        Refusal::OneInput => {
+            let _ = eprintln!(rt; "--edits - reads standard input, so -i has to name the input");
+        }
         Refusal::NoFrame(number) => {
-            say_edit(rt, number, text);
+            say_edit(rt, number, line_of(rt, text, number));
             let _ = eprintln!(rt; "its range has no frame: the second number must be greater");
         }
         Refusal::NoEdits => {
             let (name, found) = match text {
-                Some(text) => ("line", find_line(rt.alloc(), text, None)),
+                Some(text) => ("line", Lines::new(rt.alloc(), text).find(None)),
                 None => match find_bad_word(rt.alloc(), words) {
                     Some(at) => ("word", Some(at.saturating_add(1))),
                     None => ("word", None),
@@ -285,36 +289,4 @@ pub(crate) fn say_no_words(
             };
         }
     }
-}
-
-/// Prints each range of frames that the input, which had so many, didn't reach. Returns whether
-/// there is one.
-pub(crate) fn say_unreached(
-    rt: &HostRuntime,
-    count: u64,
-    steps: &[Step<Paint>],
-    text: Option<&[u8]>,
-    strict: bool,
-) -> bool {
-    let mut found = false;
-    for number in 0..steps.len() {
-        let step = steps[number];
-        if step.first >= count && (step.first > 0 || step.end < u64::MAX) {
-            if strict && !found {
-                let _ = eprintln!(rt; "fault range");
-            }
-            let _ = if strict {
-                Ok(())
-            } else {
-                eprint!(rt; "note: ")
-            };
-            found = true;
-            say_edit(rt, number, text);
-            let _ = eprintln!(rt;
-                "the input has {count} frames, and ends before its range {}..{}",
-                step.first, step.end
-            );
-        }
-    }
-    found
 }

@@ -25,6 +25,8 @@ pub(crate) enum Refusal {
     NoFile,
     /// This word is no option.
     NoOption(usize),
+    /// Standard input is to be the edits and the input too.
+    OneInput,
     /// Out of memory.
     Memory,
 }
@@ -177,22 +179,39 @@ pub(crate) fn find_bad_word(alloc: Global, words: &[&[u8]]) -> Option<usize> {
     None
 }
 
-/// The first line of a text that is no edit, or the line of the edit that has this number among
-/// those with ranges. Lines count from 1.
-pub(crate) fn find_line(alloc: Global, text: &[u8], number: Option<usize>) -> Option<usize> {
-    let mut edits = Edits::new(alloc);
-    let mut lines = Parts::new(text, b'\n');
-    let mut line_number = 0usize;
-    while let Some(line) = lines.next_part() {
-        line_number = line_number.saturating_add(1);
-        if edits.take_lines(alloc, line).is_err() {
-            return Some(line_number);
-        }
-        if let Some(number) = number {
-            if edits.steps.len() > number {
-                return Some(line_number);
-            }
+/// The lines of a text of edits, to tell on which line an edit is.
+#[derive(Drop)]
+pub(crate) struct Lines<'a> {
+    alloc: Global,
+    edits: Edits,
+    lines: Parts<'a>,
+    number: usize,
+}
+
+impl<'a> Lines<'a> {
+    pub(crate) fn new(alloc: Global, text: &'a [u8]) -> Self {
+        Lines {
+            alloc,
+            edits: Edits::new(alloc),
+            lines: Parts::new(text, b'\n'),
+            number: 0,
         }
     }
-    None
+
+    /// The line of the edit that has this number among those with ranges, or the first line that is
+    /// no edit. Lines count from 1. The next call goes on after that line.
+    pub(crate) fn find(&mut self, edit: Option<usize>) -> Option<usize> {
+        while let Some(line) = self.lines.next_part() {
+            self.number = self.number.saturating_add(1);
+            if self.edits.take_lines(self.alloc, line).is_err() {
+                return Some(self.number);
+            }
+            if let Some(edit) = edit {
+                if self.edits.steps.len() > edit {
+                    return Some(self.number);
+                }
+            }
+        }
+        None
+    }
 }

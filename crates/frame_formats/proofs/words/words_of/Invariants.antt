@@ -1,11 +1,11 @@
-use Rattle.std.proofs.Common.{◌≡◌, ◌++◌, length, map}
-use Rattle.text_model.specs.Parts.{parts_of}
-use Rattle.texts.specs.Parts.{parts_left}
+use Rattle.std.proofs.Common.{◌≡◌, ◌++◌, map, filter, not, length}
+use Rattle.text_model.specs.Reading.{is_nil}
+use Rattle.frame_formats.specs.Lists.{line_words, pieces_left}
 use Rattle.frame_formats.proofs.words.words_of.Given as goal
 
--- the words so far, and those that are left
-abbrev pub invariant-loop-word : goal.invariant-loop-word
-invariant-loop-word l = map (λ w. w.now) l.words.items ++ parts_left l.parts ≡ parts_of 32 l.line
+-- the words so far, and those among the pieces that are left
+abbrev pub invariant-loop-rest : goal.invariant-loop-rest
+invariant-loop-rest l = map (λ w. w.now) l.words.items ++ filter (λ word. not (is_nil word)) (pieces_left l.rest) ≡ line_words l.line
 
-abbrev pub decreases-loop-word : goal.decreases-loop-word
-decreases-loop-word l = length (parts_left l.parts)
+abbrev pub decreases-loop-rest : goal.decreases-loop-rest
+decreases-loop-rest l = length (pieces_left l.rest)

@@ -1,4 +1,5 @@
-use Rattle.std.proofs.Common.{◌≡◌, ◌≤◌, length}
+use Rattle.std.proofs.Common.{◌≡◌, ◌≤◌}
+use Rattle.std.specs.Prelude.{vec_capacity}
 use Rattle.frame_formats.specs.Planned.{recipe_of, plan_room, plan_other_room}
 use Rattle.imgref_frames.specs.Passing.{Passed}
 use Rattle.imgref_frames.specs.Video.{FrameHead}
@@ -9,8 +10,8 @@ use Rattle.imgref_frames.proofs.frames.pass_frames.Given as goal
 abbrev pub invariant-loop-number : goal.invariant-loop-number
 invariant-loop-number g l = record {
   passed : Passed (FrameHead (recipe_of l.plan)) l.number (g.R.Read.remaining (device_of l.initial.reader)) (g.R.Read.remaining (device_of l.reader)) (g.W.Write.contents (device_of l.initial.writer)) (g.W.Write.contents (device_of l.writer));
-  cells : plan_room l.plan ≤ length l.cells;
-  other : plan_other_room l.plan ≤ length l.other;
+  cells : plan_room l.plan ≤ vec_capacity l.cells;
+  other : plan_other_room l.plan ≤ vec_capacity l.other;
   read : failures_of l.reader ≡ failures_of l.initial.reader;
   written : failures_of l.writer ≡ failures_of l.initial.writer;
 }

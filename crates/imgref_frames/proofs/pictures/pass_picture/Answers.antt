@@ -3,8 +3,7 @@ use Rattle.std.proofs.Common.{Ok, Err, arith, sym, subst, refl}
 use Rattle.devices.specs.Device.{device_of}
 use Rattle.frame_formats.specs.Planned.{recipe_of}
 use Rattle.imgref_frames.specs.Request.{edits_of}
-use Rattle.imgref_frames.specs.Passing.{PassesCells, PassesPicture}
-use Rattle.imgref_frames.specs.declared.fault.RunFault.{RunFault}
+use Rattle.imgref_frames.specs.Passing.{PassesCells}
 use Rattle.imgref_frames.specs.Pictures.{IsHead, behind_letter}
 use Rattle.imgref_frames.specs.Video.{with_head}
 use Rattle.imgref_frames.proofs.Heads.{no_next}

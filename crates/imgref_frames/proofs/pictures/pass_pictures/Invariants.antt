@@ -1,4 +1,5 @@
-use Rattle.std.proofs.Common.{◌≡◌, IfSome, length}
+use Rattle.std.proofs.Common.{◌≡◌, IfSome}
+use Rattle.std.specs.Prelude.{vec_capacity}
 use Rattle.imgref_frames.specs.Request.{edits_of}
 use Rattle.imgref_frames.specs.Kept.{IsKept, PassedLast, kept_picture}
 use Rattle.imgref_frames.specs.Pictures.{behind_letter}
@@ -9,7 +10,7 @@ use Rattle.imgref_frames.proofs.pictures.pass_pictures.Given as goal
 abbrev pub invariant-loop-number : goal.invariant-loop-number
 invariant-loop-number g l = record {
   passed : PassedLast (edits_of l.fn.request) (kept_picture l.kept) l.number (behind_letter (g.R.Read.remaining (device_of l.initial.reader))) (behind_letter (g.R.Read.remaining (device_of l.reader))) (g.W.Write.contents (device_of l.initial.writer)) (g.W.Write.contents (device_of l.writer));
-  kept : IfSome l.kept (IsKept (edits_of l.fn.request) (length l.cells.items) (length l.other.items));
+  kept : IfSome l.kept (IsKept (edits_of l.fn.request) (vec_capacity l.cells) (vec_capacity l.other));
   read : failures_of l.reader ≡ failures_of l.initial.reader;
   written : failures_of l.writer ≡ failures_of l.initial.writer;
 }

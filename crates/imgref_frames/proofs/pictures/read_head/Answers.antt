@@ -31,7 +31,4 @@ loop-count-preserved g c =
 
 -- no head ends within so many bytes
 pub returns-clause-head : goal.returns-clause-head
-returns-clause-head g c =
-    let old = g.R.Read.remaining (device_of c.args.reader.now) in
-    let new = g.R.Read.remaining (device_of c.loop-count.reader) in
-    head_long c.loop-count.scan old new (subst (λ n. HeadBegun n c.loop-count.scan old new) (omega arith) c.loop-count.invariant.begun)
+returns-clause-head g c = head_long c.loop-count._count c.loop-count.scan (g.R.Read.remaining (device_of c.args.reader.now)) (g.R.Read.remaining (device_of c.loop-count.reader)) c.loop-count.invariant.begun (omega arith)

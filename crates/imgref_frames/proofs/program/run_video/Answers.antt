@@ -26,12 +26,12 @@ pub returns-then-is_over-clause-follows : goal.returns-then-is_over-clause-follo
 returns-then-is_over-clause-follows g c input read =
     not_planned NoMemory (edits_of c.args.request) c.args.line.now c.in-Some.format (g.R.Read.remaining (device_of c.args.reader.now)) (g.W.Write.contents (device_of c.args.writer.now)) c.requires.one_line c.requires.short c.requires.kind (sym c.in-Some.ensures) tt input read
 
-pub returns-in_default-vec-clause-follows : goal.returns-in_default-vec-clause-follows
-returns-in_default-vec-clause-follows g c input read =
+pub returns-in_default-with_capacity-clause-follows : goal.returns-in_default-with_capacity-clause-follows
+returns-in_default-with_capacity-clause-follows g c input read =
     not_planned NoMemory (edits_of c.args.request) c.args.line.now c.in-Some.format (g.R.Read.remaining (device_of c.args.reader.now)) (g.W.Write.contents (device_of c.args.writer.now)) c.requires.one_line c.requires.short c.requires.kind (sym c.in-Some.ensures) tt input read
 
-pub returns-in_default-vec-2-clause-follows : goal.returns-in_default-vec-2-clause-follows
-returns-in_default-vec-2-clause-follows g c input read =
+pub returns-in_default-with_capacity-2-clause-follows : goal.returns-in_default-with_capacity-2-clause-follows
+returns-in_default-with_capacity-2-clause-follows g c input read =
     not_planned NoMemory (edits_of c.args.request) c.args.line.now c.in-Some.format (g.R.Read.remaining (device_of c.args.reader.now)) (g.W.Write.contents (device_of c.args.writer.now)) c.requires.one_line c.requires.short c.requires.kind (sym c.in-Some.ensures) tt input read
 
 pub returns-then-is_err-clause-follows : goal.returns-then-is_err-clause-follows

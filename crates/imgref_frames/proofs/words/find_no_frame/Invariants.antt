@@ -1,4 +1,4 @@
-use Rattle.std.proofs.Common.{◌<◌, ◌≤◌, All, take}
+use Rattle.std.proofs.Common.{◌<◌, All, take}
 use Rattle.imgref_frames.proofs.words.find_no_frame.Given as goal
 
 -- each range so far has a frame

@@ -1,0 +1,141 @@
+//! The input and the output of the program: the standard streams, or files by their names.
+
+use std::fs::File;
+use std::io::{ErrorKind, Read, Stdin, Stdout, Write};
+use std::{fs, io};
+
+// So many names beside that of the output are tried.
+const TRIES: u32 = 1000;
+
+/// Where the bytes come from.
+#[derive(Drop)]
+pub(crate) enum Source {
+    Standard(Stdin),
+    Named(File),
+}
+
+impl Source {
+    /// The file of this name, or standard input where there is no name.
+    pub(crate) fn open(rt: &HostRuntime, name: Option<&str>) -> io::Result<Source> {
+        match name {
+            None => Ok(Source::Standard(rt.stdin())),
+            Some(name) => match File::open(rt, name) {
+                Ok(file) => Ok(Source::Named(file)),
+                Err(error) => Err(error),
+            },
+        }
+    }
+}
+
+impl Read for Source {
+    fn read(&mut self, buf: &mut [u8]) -> io::Result<usize> {
+        match self {
+            Source::Standard(input) => input.read(buf),
+            Source::Named(file) => file.read(buf),
+        }
+    }
+}
+
+/// Where the bytes go.
+#[derive(Drop)]
+pub(crate) enum Sink {
+    Standard(Stdout),
+    Named(File),
+}
+
+impl Sink {
+    /// Waits until a file is on its disk.
+    pub(crate) fn sync(&self) -> io::Result<()> {
+        match self {
+            Sink::Standard(_) => Ok(()),
+            Sink::Named(file) => file.sync_all(),
+        }
+    }
+}
+
+impl Write for Sink {
+    fn write(&mut self, buf: &[u8]) -> io::Result<usize> {
+        match self {
+            Sink::Standard(output) => output.write(buf),
+            Sink::Named(file) => file.write(buf),
+        }
+    }
+
+    fn flush(&mut self) -> io::Result<()> {
+        Ok(())
+    }
+}
+
+// A name is free, or a file's: a rename would replace a folder or a device too.
+fn check_name(rt: &HostRuntime, name: &str) -> io::Result<()> {
+    match fs::metadata(rt, name) {
+        Ok(found) => {
+            if found.is_file() {
+                Ok(())
+            } else {
+                Err(io::Error::from(ErrorKind::AlreadyExists))
+            }
+        }
+        Err(error) => {
+            if error.kind() == ErrorKind::NotFound {
+                Ok(())
+            } else {
+                Err(error)
+            }
+        }
+    }
+}
+
+// Gives a file the permissions of the one of this name, where there is one.
+fn copy_permissions(rt: &HostRuntime, file: &File, name: &str) -> io::Result<()> {
+    match fs::metadata(rt, name) {
+        Ok(found) => file.set_permissions(found.permissions()),
+        Err(_) => Ok(()),
+    }
+}
+
+// A new file of this name, or `None` where the name is taken.
+fn create_new(rt: &HostRuntime, name: &str) -> io::Result<Option<File>> {
+    match File::create_new(rt, name) {
+        Ok(file) => Ok(Some(file)),
+        Err(error) => {
+            if error.kind() == ErrorKind::AlreadyExists {
+                Ok(None)
+            } else {
+                Err(error)
+            }
+        }
+    }
+}
+
+/// A new file beside the one of this name, with the same permissions, and the name that it has
+/// until it is whole.
+pub(crate) fn create_beside(rt: &HostRuntime, name: &str) -> io::Result<(File, String)> {
+    check_name(rt, name)?;
+    for number in 0..TRIES {
+        let beside = format!(in rt.alloc(); "{name}.{number}.part")?;
+        if let Some(file) = create_new(rt, beside.as_str())? {
+            match copy_permissions(rt, &file, name) {
+                Ok(()) => return Ok((file, beside)),
+                Err(error) => {
+                    let _ = fs::remove_file(rt, beside.as_str());
+                    return Err(error);
+                }
+            }
+        }
+    }
+    Err(io::Error::from(ErrorKind::AlreadyExists))
+}
+
+/// All bytes of the file of this name, or of standard input where the name is `-`.
+pub(crate) fn read_whole(rt: &HostRuntime, name: &str) -> io::Result<Vec<u8>> {
+    if name != "-" {
+        return fs::read(rt, name);
+    }
+    let mut text = Vec::new(rt.alloc());
+    let mut input = rt.stdin();
+    match input.read_to_end(&mut text) {
+        Ok(_) => Ok(text),
+        Err(error) => Err(error),
+    }
+}
