@@ -14,7 +14,6 @@ a table of the parts, and then a line that adds them up. TERM, HUP and Ctrl-C en
 `rt ci` works on a copy of the repository without the planted bugs, so that it proves everything from nothing. The planted bugs
 are tried beside it, many in one check (planted_bugs.py).
 """
-import concurrent.futures
 import contextlib
 import dataclasses
 import os
@@ -28,7 +27,7 @@ import threading
 import time
 
 from checking import ONE_BUILD, ROOT, crates, says
-from processes import end_on_signals, started
+from processes import end_on_signals, started, workers
 
 # The checks. Those in `built` run programs, and those in `proofs` go over cached proofs.
 CHECKS = ROOT / ".ci/checks"
@@ -156,7 +155,7 @@ def side_by_side(lines):
         for it in line:
             side_by_side(it) if isinstance(it, list) else it.run()
 
-    with concurrent.futures.ThreadPoolExecutor() as pool:
+    with workers() as pool:
         for it in [pool.submit(run, line) for line in lines]:
             it.result()
 

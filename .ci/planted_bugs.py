@@ -26,7 +26,7 @@ import sys
 
 sys.path.insert(0, str(pathlib.Path(__file__).resolve().parent.parent / "tools"))
 from functions import Function, function_at, function_names, proof_folder
-from processes import end_on_signals, run_to_end
+from processes import end_on_signals, run_to_end, workers
 from proving import Failed, Progress, all_below, processors, prove_changed, run, weights_of
 from workspace import ROOT, crates, room, with_those_below
 
@@ -348,7 +348,7 @@ def main():
     except Failed as why:
         print(f"{why.said}\n0 passed, 1 failed")
         return 1
-    with concurrent.futures.ThreadPoolExecutor(processors()) as pool:
+    with workers(processors()) as pool:
         # (the longest first)
         checks.sort(key=lambda it: -len(it[1]) * (1 + len(with_those_below(it[0]))))
         for it in concurrent.futures.as_completed([pool.submit(lambda *it: [*try_all(*it)], *it) for it in checks]):

@@ -10,7 +10,7 @@ import re
 import sys
 
 from checking import ROOT, crates, says
-from processes import end_on_signals
+from processes import end_on_signals, workers
 from proving import processors, run
 
 RESULT = re.compile(r"test result: .* (\d+) passed; (\d+) failed")
@@ -30,7 +30,7 @@ def main(words):
     names = words or [it for it in crates() if says(it, "#[test]")]
     size = lambda name: sum(it.stat().st_size for it in (ROOT / "crates" / name / "src").rglob("*.rt"))
     passed = failed = 0
-    with concurrent.futures.ThreadPoolExecutor(processors()) as pool:
+    with workers(processors()) as pool:
         # (the longest first)
         of = {pool.submit(tests_of, it): it for it in sorted(names, key=lambda it: -size(it))}
         for it in concurrent.futures.as_completed(of):

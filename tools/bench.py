@@ -26,7 +26,7 @@ import traceback
 
 import c_library
 from c_library import Failure, command, compiler, toolchain
-from processes import end_on_signals, started
+from processes import end_on_signals, end_on_signals_too, started, unbroken
 from program import built, say
 from speed_tables import Call, call_tables, frames_table, plot, script_table
 from workspace import ROOT, is_proved, product
@@ -50,27 +50,36 @@ FILTERS = {EDITS[0]: "drawbox=x=64:y=48:w=320:h=160:color=black:t=fill", EDITS[3
 FFMPEG = "ffmpeg -v error -nostdin -threads 1 -filter_threads 1 -f yuv4mpegpipe -i - -vf {} -threads 1 -c:v rawvideo -f rawvideo -"
 
 
+def carry_out(task):
+    """Runs a task in a process that was just forked, and ends that process."""
+    status = 1
+    try:
+        os.setpgrp()
+        end_on_signals_too()
+        task()
+        status = 0
+    except Failure as why:
+        say(str(why))
+    except BaseException:
+        traceback.print_exc()
+    finally:
+        os._exit(status)
+
+
 def apart(failing, task):
     """Runs a task in a process of its own, so that this process stays small. The most memory of a program is at least that of
     the process that starts it."""
-    child = os.fork()
-    if not child:
-        status = 1
-        try:
-            os.setpgrp()
-            task()
-            status = 0
-        except Failure as why:
-            say(str(why))
-        except BaseException:
-            traceback.print_exc()
-        finally:
-            os._exit(status)
+    child = None
     try:
+        with unbroken():
+            child = os.fork()
+            if not child:
+                carry_out(task)
         status = os.waitpid(child, 0)[1]
     except KeyboardInterrupt:
-        os.kill(child, signal.SIGTERM)
-        os.waitpid(child, 0)
+        if child:
+            os.kill(child, signal.SIGTERM)
+            os.waitpid(child, 0)
         raise
     if status:
         raise Failure(failing)

@@ -3,6 +3,7 @@
 Each command gets a process group of its own, so that all that it starts can be ended with it. A command of the toolchain ends
 what it started itself once it is ended, also in other groups. So each command first gets TERM, and time to do so.
 """
+import concurrent.futures
 import contextlib
 import os
 import pathlib
@@ -65,6 +66,17 @@ def started(words, in_session=False, **how):
                 raise
     finally:
         RUNNING.discard(process)
+
+
+@contextlib.contextmanager
+def workers(most=None):
+    """A pool of threads. Where its block is broken off, what has not begun doesn't begin any more."""
+    with concurrent.futures.ThreadPoolExecutor(most) as pool:
+        try:
+            yield pool
+        except BaseException:
+            pool.shutdown(wait=False, cancel_futures=True)
+            raise
 
 
 def run_to_end(words, **how):
@@ -155,3 +167,12 @@ def end_on_signals():
     threading.Thread(target=nudge, args=(signals,), daemon=True).start()
     for it in SIGNALS:
         signal.signal(it, take)
+
+
+def end_on_signals_too():
+    """The same of a process that was just forked. It has none of the threads of the one before, and began in an unbroken block."""
+    global is_starting
+    is_starting = False
+    end_on_signals()
+    if has_signal:
+        end_now()
