@@ -227,7 +227,7 @@ def by_files(cases, program):
 
 
 def most_memory(program, words, data):
-    """How many KiB the program had at most, and its status."""
+    """How many KiB the program had at most, and its status. That is at least what this process has."""
     with subprocess.Popen([program, *words], stdin=subprocess.PIPE, stdout=subprocess.DEVNULL, stderr=subprocess.DEVNULL) as it:
         it.stdin.write(data)
         it.stdin.close()
@@ -237,11 +237,11 @@ def most_memory(program, words, data):
 
 
 def by_memory(cases, program):
-    """A head takes room, and memory is touched only as bytes arrive."""
+    """A head takes room of 3 GB, and memory is touched only as bytes arrive."""
     for name, head in (("video", b"YUV4MPEG2 W32768 H32768 C444\nFRAME\n"), ("picture", b"P6 32768 32768 255\n")):
         for words in ("fill 0,0,2,2 9", "crop 0,0,2,2"):
             most, status = most_memory(program, ["--limit", "9000000000", *words.split()], head + bytes(5000000))
-            cases.count(f"the head of a {name} with {words} touches little memory", status in (2, 7) and most < 30000, f"{most} KiB, status {status}")
+            cases.count(f"the head of a {name} with {words} touches little memory", status in (2, 7) and most < 200000, f"{most} KiB, status {status}")
 
 
 def through(program, words, made, command):
