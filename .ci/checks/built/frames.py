@@ -280,11 +280,13 @@ def by_h264(cases, program):
 
 
 def by_parallel(cases, program):
+    # (a cover needs no whole chroma samples, so it fits each of the videos)
+    words = "cover 4,2,6,4 126"
     with tempfile.TemporaryDirectory() as folder:
         for name in SAMPLINGS:
             pathlib.Path(folder, f"{name}.y4m").write_bytes(video(name))
-        subprocess.run(["sh", "-c", f"ls {folder}/*.y4m | parallel --will-cite '{program} {FILL} < {{}} > {{}}.out'"], check=True, timeout=120)
-        cases.count("a folder of videos goes through parallel", all(pathlib.Path(folder, f"{name}.y4m.out").read_bytes() == wanted(video(name), FILL.split())[0] for name in SAMPLINGS))
+        subprocess.run(["sh", "-c", f"ls {folder}/*.y4m | parallel --will-cite '{program} {words} < {{}} > {{}}.out'"], check=True, timeout=120)
+        cases.count("a folder of videos goes through parallel", all(pathlib.Path(folder, f"{name}.y4m.out").read_bytes() == wanted(video(name), words.split())[0] for name in SAMPLINGS))
 
 
 def main():
