@@ -1,19 +1,24 @@
 """What imgref_frames must print by docs/FRAMES.md: a model over the raw bytes, which shares nothing with the program."""
+import math
 import re
 import subprocess
+from fractions import Fraction as Time
 
 STATUS = {"words": 1, "header": 2, "memory": 3, "input": 4, "output": 5, "outside": 6, "frame": 7, "range": 8}
 # How many bytes the head of a picture may have.
 LONGEST_HEAD = 65536
 # How many pixels share a chroma sample, across and down.
-SAMPLINGS = {b"mono": None, b"420jpeg": (2, 2), b"420mpeg2": (2, 2), b"420paldv": (2, 2), b"420": (2, 2), b"422": (2, 1), b"411": (4, 1), b"444": (1, 1)}
+SAMPLINGS = {b"mono": None, b"420jpeg": (2, 2), b"420mpeg2": (2, 2), b"420paldv": (2, 2), b"420": (2, 2), b"422": (2, 1), b"411": (4, 1), b"444": (1, 1), b"444alpha": (1, 1, "alpha")}
 
 # The same with samples of two bytes: a word that a number of bits follows.
 DEEP = {b"mono": None, b"420p": (2, 2), b"422p": (2, 1), b"444p": (1, 1)}
 
 # The head of a picture: its kind and three numbers with white space or comments between them, and one of these at its end.
 GAP = rb"(?:[ \t-\r]|#[^\n\r]*[\n\r])"
-HEAD = re.compile(rb"P([56])" + GAP + rb"+(\d+)" + GAP + rb"+(\d+)" + GAP + rb"+0*255" + GAP)
+HEAD = re.compile(rb"P([56])" + (GAP + rb"+(\d+)") * 3 + GAP)
+# The head of a PAM picture: lines up to one with ENDHDR, each of them empty, a comment, or a word and a value.
+LINES = re.compile(rb"P7\n(?:(?!ENDHDR\n)[^\n]*\n)*ENDHDR\n")
+LINE = re.compile(rb"(WIDTH|HEIGHT|DEPTH|MAXVAL)[ \t]+(\d+)|(TUPLTYPE)[ \t]+(GRAYSCALE|RGB|GRAYSCALE_ALPHA|RGB_ALPHA)|#.*|", re.DOTALL)
 
 
 class Fault(Exception):
@@ -54,8 +59,9 @@ def is_interlaced(line):
     return next((it for it in line.split(b" ")[1:] if it[:1] == b"I"), b"") in (b"It", b"Ib", b"Im")
 
 
-def covered(edit, size, steps):
-    """A cover as the fill of whole samples that it is in a frame of this size; every other edit as it is."""
+def covered(edit, size, steps, greatest):
+    """A cover as the fill of whole samples that it is in a frame of this size, with black where it has no value; every other
+    edit as it is."""
     first, last, word, window, more = edit
     if word != "cover":
         return edit
@@ -65,15 +71,15 @@ def covered(edit, size, steps):
         low = max(0, start - margin) // step * step
         high = min(whole, -(-(start + count + margin) // step) * step)
         sides.append((low, high - low) if low < whole else (0, 0))
-    return first, last, "fill", [it[0] for it in sides] + [it[1] for it in sides], more
+    return first, last, "fill", [it[0] for it in sides] + [it[1] for it in sides], more or [(greatest + 1) // 16]
 
 
 def planes_of(width, height, sampling):
     """Each plane: its size, and how many pixels share a sample."""
     planes = [(width, height, 1, 1)]
     if sampling:
-        x, y = sampling
-        planes += [(-(-width // x), -(-height // y), x, y)] * 2
+        x, y, *alpha = sampling
+        planes += [(-(-width // x), -(-height // y), x, y)] * 2 + [(width, height, 1, 1)] * len(alpha)
     return planes
 
 
@@ -147,18 +153,29 @@ def resized(line, width, height):
     return b" ".join([b"YUV4MPEG2", *(sizes.get(it[:1], it) for it in line.split(b" ")[1:])])
 
 
+def moment(text, none):
+    """A number of a frame, or a time in seconds as a fraction; without a text it is this."""
+    clock = re.fullmatch(r"(\d\d):([0-5]\d):([0-5]\d)(?:\.(\d{1,9}))?", text)
+    if clock:
+        hours, minutes, seconds, digits = clock.groups()
+        return Time((int(hours) * 60 + int(minutes)) * 60 + int(seconds)) + Time(int(digits or 0), 10 ** len(digits or ""))
+    return int(text) if text else none
+
+
 def edits_of(words):
     """The edits that words are."""
     words, edits = list(words), []
     while words:
-        first, last = (int(it or 2**64 - 1) for it in words.pop(0).split("..")) if ".." in words[0] else (0, 2**64)
-        if last <= first:
+        first, last = words.pop(0).split("..") if ".." in words[0] else ("0", "")
+        first = moment(first, 0)
+        last = moment(last, None if isinstance(first, Time) else 2**64 - 1)
+        if last is not None and (isinstance(first, Time) != isinstance(last, Time) or last <= first):
             raise Fault("words")
         word, window = words.pop(0), [int(it) for it in words.pop(0).split(",")]
         if word == "crop":
             more = []
         elif word == "cover":
-            more = [int(words.pop(0))] if words and words[0].isdigit() else [16]
+            more = [int(words.pop(0))] if words and words[0].isdigit() else []
         else:
             more = [int(it) for it in words.pop(0).split(",")]
         edits.append((first, last, word, window, more))
@@ -169,6 +186,26 @@ def line_end(data, at):
     """Where the line of the frame that begins here ends, or 0: it has at most 256 bytes."""
     end = data.find(b"\n", at, at + 256) + 1
     return end if data[at:end] == b"FRAME\n" or data[at:end].startswith(b"FRAME ") else 0
+
+
+def rate_of(line):
+    """How many frames a second has, by the line of a video; or none."""
+    found = next((it for it in line.split(b" ")[1:] if it[:1] == b"F"), b"")
+    quotient = re.fullmatch(rb"F([1-9]\d*):([1-9]\d*)", found)
+    numbers = [int(it) for it in quotient.groups()] if quotient else [2**32]
+    return Time(*numbers) if max(numbers) < 2**32 else None
+
+
+def numbered(edit, rate):
+    """An edit with numbers of frames in the place of times. Frame n is at n / rate seconds."""
+    if not isinstance(edit[0], Time):
+        return edit
+    if rate is None:
+        raise Fault("outside")
+    first, last = (2**64 - 1 if it is None else math.ceil(it * rate) for it in edit[:2])
+    if last <= first:
+        raise Fault("outside")
+    return first, last, *edit[2:]
 
 
 def step_of(planes, size, edit, values, greatest=255):
@@ -184,13 +221,14 @@ def step_of(planes, size, edit, values, greatest=255):
 
 
 def video_values(bits):
-    """What a fill writes in each plane of a video: no colour in chroma samples."""
-    return {1: lambda more: [more[0], 2 ** (bits - 1), 2 ** (bits - 1)]}
+    """What a fill writes in each plane of a video: no colour in chroma samples, and opaque."""
+    return {1: lambda more: [more[0], 2 ** (bits - 1), 2 ** (bits - 1), 2**bits - 1]}
 
 
-# The same of a picture.
-GREY = {1: lambda more: more}
-COLOUR = {1: lambda more: more * 3, 3: lambda more: more}
+def picture_values(samples, greatest):
+    """The same of a picture: a colour only where there are three samples, and opaque where there is one more."""
+    colours = 3 if samples > 2 else 1
+    return {1: lambda more: more * colours + [greatest]} | ({3: lambda more: more + [greatest]} if colours == 3 else {})
 
 
 def after(planes, cells, steps, number):
@@ -212,27 +250,63 @@ def answer(data, edits):
     return pictures(data, edits) if data[:1] == b"P" else video(data, edits)
 
 
+def head_of(data, at):
+    """Where the head of the picture ends that begins here, its size, the samples of a pixel, their greatest value, and a new
+    head of it; or none."""
+    head = HEAD.match(data, at)
+    if head:
+        kind, *size, greatest = (int(it) for it in head.groups())
+        samples, new = 3 if kind == 6 else 1, b"P%d\n%%d %%d\n%d\n" % (kind, greatest)
+    else:
+        head = LINES.match(data, at)
+        found = fields_of(head[0]) if head else None
+        if not found:
+            return None
+        size, samples, greatest, name = found
+        new = b"P7\nWIDTH %%d\nHEIGHT %%d\nDEPTH %d\nMAXVAL %d\nTUPLTYPE %s\nENDHDR\n" % (samples, greatest, name)
+    fits = head.end() - at <= LONGEST_HEAD and all(0 < it < 2**32 for it in size) and 0 < greatest < 2**16
+    return (head.end(), size, samples, greatest, new) if fits else None
+
+
+def fields_of(head):
+    """The size, the samples of a pixel, their greatest value and the type that the lines of a PAM head name, each once; or none."""
+    found = {}
+    for line in head.split(b"\n")[1:-2]:
+        it = LINE.fullmatch(line)
+        key, value = (it[1] or it[3], it[2] or it[4]) if it else (None, None)
+        if not it or key in found or it[2] and int(value) >= 2**32:
+            return None
+        if key:
+            found[key] = value
+    if len(found) < 5:
+        return None
+    width, height, depth, greatest = (int(found[it]) for it in (b"WIDTH", b"HEIGHT", b"DEPTH", b"MAXVAL"))
+    depths = {b"GRAYSCALE": 1, b"RGB": 3, b"GRAYSCALE_ALPHA": 2, b"RGB_ALPHA": 4}
+    return ([width, height], depth, greatest, found[b"TUPLTYPE"]) if depth == depths[found[b"TUPLTYPE"]] else None
+
+
 def pictures(data, edits):
     out, at, count = b"", 0, 0
     while at < len(data):
-        head = HEAD.match(data, at)
-        colours, *size = (int(it) for it in head.groups()) if head else (0, 0, 0)
-        if not head or head.end() - at > LONGEST_HEAD or not all(0 < it < 2**32 for it in size):
+        head = head_of(data, at)
+        if not head:
             raise Fault(f"frame {count}" if count else "header", out)
-        width, height = size
-        colours = 3 if colours == 6 else 1
-        planes = [(width, height, 1, 1)] * colours
+        at, size, samples, greatest, new = head
+        planes = [(*size, 1, 1)] * samples
         try:
             if any(edit[2] == "crop" and edit[3][3] == 0 for edit in edits):
                 raise Fault("outside")
-            steps = [step_of(planes, size, covered(edit, size, (1, 1)), COLOUR if colours == 3 else GREY) for edit in edits]
+            steps = [step_of(planes, size, covered(numbered(edit, None), size, (1, 1), greatest), picture_values(samples, greatest), greatest) for edit in edits]
         except Fault as fault:
             raise Fault(fault.name, out) from None
-        at, end = head.end(), head.end() + width * height * colours
+        length = 1 if greatest < 256 else 2
+        end = at + size[0] * size[1] * samples * length
         if len(data) < end:
             raise Fault(f"frame {count}", out)
-        cells = after(planes, [data[at + it:end:colours] for it in range(colours)], steps, count)
-        out += b"P%d\n%d %d\n255\n" % (6 if colours == 3 else 5, *(size_after(size, edits) or size)) + bytes(it for pixel in zip(*cells) for it in pixel)
+        numbers = [int.from_bytes(data[it:it + length], "big") for it in range(at, end, length)]
+        cells = after(planes, [numbers[it::samples] for it in range(samples)], steps, count)
+        out += new % tuple(size_after(size, edits) or size)
+        out += b"".join(it.to_bytes(length, "big") for pixel in zip(*cells) for it in pixel)
         at, count = end, count + 1
     return out
 
@@ -244,9 +318,9 @@ def video(data, edits):
     line, at = data[:end], end + 1
     width, height, sampling, bits = format_of(line)
     planes = planes_of(width, height, sampling)
-    x, y = sampling or (1, 1)
+    x, y = (sampling or (1, 1))[:2]
     unit = x, 2 * y if is_interlaced(line) else y
-    steps = [step_of(planes, (width, height), covered(edit, (width, height), unit), video_values(bits), 2**bits - 1) for edit in edits]
+    steps = [step_of(planes, (width, height), covered(numbered(edit, rate_of(line)), (width, height), unit, 2**bits - 1), video_values(bits), 2**bits - 1) for edit in edits]
     resize = size_after((width, height), edits)
     if resize and resize[1] == 0:
         raise Fault("outside")

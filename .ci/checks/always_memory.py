@@ -45,9 +45,9 @@ EDITS, FILL = "edits", ("fill", "0,0,2,2", "16")
 RUNS = [
     ("frame_formats", "plans", "for_video", PLANNED, VIDEO, FILL),
     ("frame_formats", "plans", "for_picture", PLANNED, PICTURE, FILL),
-    ("frame_formats", "words", "take", READ, VIDEO, FILL),
-    ("frame_formats", "words", "take_all", READ, VIDEO, FILL),
-    ("frame_formats", "words", "take_lines", READ, VIDEO, ("--edits", EDITS)),
+    ("frame_formats", "lists", "take", READ, VIDEO, FILL),
+    ("frame_formats", "lists", "take_all", READ, VIDEO, FILL),
+    ("frame_formats", "lists", "take_lines", READ, VIDEO, ("--edits", EDITS)),
     ("imgref_frames", "program", "run", "if true { return Err(RunFault::Memory(0)); }", VIDEO, FILL),
 ]
 # The files that are kept of a crate with many tests.

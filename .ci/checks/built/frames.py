@@ -19,7 +19,7 @@ from checking import Cases, both_builds
 from c_library import VERSION
 from frames import count_tries, edits_of, ends, exchanged, lines_said, wanted
 
-SAMPLINGS = ("mono", "420jpeg", "420", "422", "411", "444", "420p10", "422p12", "444p16", "mono9", "mono14")
+SAMPLINGS = ("mono", "420jpeg", "420", "422", "411", "444", "444alpha", "420p10", "422p12", "444p16", "mono9", "mono14")
 EDITS = ("fill 4,2,6,4 126", "mosaic 2,2,10,6 4,2", "mosaic 0,0,12,8 64,64", "move 0,0,6,4 4,2", "move 4,2,6,4 0,0", "crop 4,2,6,4", "fill 0,0,0,0 1", "pad 2,4,6,8 16", "pad 4,0,1,3 200", "pad 1,0,0,0 9", "pad 0,2,0,0 9", "fill 4,2,8,4 126", "mosaic 4,0,8,6 4,2", "move 0,0,8,4 4,2", "crop 4,2,8,4", "pad 4,0,8,2 16")
 # These end at the right or the lower edge of 13 by 9.
 ODD = ("fill 10,6,3,3 7", "mosaic 2,2,11,7 4,2", "move 8,0,5,3 8,6", "move 8,6,5,3 0,0", "crop 4,2,9,7", "crop 4,2,7,7", "fill 12,8,1,1 3", "fill 13,0,0,1 3")
@@ -42,7 +42,7 @@ def video(sampling, width=12, height=8, frames=3, parameters=(b"",), fields=b"Ip
     chance = random.Random(f"{sampling} {width} {height}")
     deep = re.fullmatch("(mono|420|422|444)p?(9|1[0246])", sampling)
     name, sample = (deep[1], 2) if deep else (sampling, 1)
-    chroma = {"mono": 0, "411": 2 * (-(-width // 4)) * height, "422": 2 * (-(-width // 2)) * height, "444": 2 * width * height}.get(name, 2 * (-(-width // 2)) * (-(-height // 2)))
+    chroma = {"mono": 0, "411": 2 * (-(-width // 4)) * height, "422": 2 * (-(-width // 2)) * height, "444": 2 * width * height, "444alpha": 3 * width * height}.get(name, 2 * (-(-width // 2)) * (-(-height // 2)))
     line = f"YUV4MPEG2 W{width} H{height} F25:1 ".encode() + fields + f" A1:1 C{sampling} XLABEL=a\n".encode()
     return line + b"".join(b"FRAME" + parameters[it % len(parameters)] + b"\n" + chance.randbytes(sample * (width * height + chroma)) for it in range(frames))
 
@@ -72,7 +72,7 @@ def by_model(cases, program):
     count_tries(cases, "each byte of a frame's line changed", program, changed)
     longest = [("fill 0,0,2,2 9".split(), video("420", 4, 2, 2, parameters=(b"", b" " + b"x" * count))) for count in (0, 1, 248, 249, 250, 300)]
     count_tries(cases, "a frame's line has at most 256 bytes", program, longest)
-    outside = [(it.split(), video("420")) for it in ("fill 1,0,2,2 9", "fill 0,0,2,10 9", "mosaic 0,0,4,4 1,2", "mosaic 0,0,4,4 0,2", "move 0,0,4,4 10,0", "crop 0,0,0,4", "crop 0,0,4,0", "crop 0,0,3,4", "pad 1,0,0,0 9", "pad 0,0,4294967284,0 9", "fill 0,0,2,2 256", "cover 0,0,2,2 256", "pad 0,0,2,2 18446744073709551615", "pad 0,0,0,18446744073709551615 9")]
+    outside = [(it.split(), video("420")) for it in ("fill 1,0,2,2 9", "fill 0,0,2,10 9", "mosaic 0,0,4,4 1,2", "mosaic 0,0,4,4 0,2", "move 0,0,4,4 10,0", "crop 0,0,0,4", "crop 0,0,4,0", "crop 0,0,3,4", "pad 1,0,0,0 9", "pad 0,0,4294967284,0 9", "fill 0,0,2,2 256", "cover 0,0,2,2 256", "fill 0,0,2,2 1,2,256", "pad 0,0,2,2 18446744073709551615", "pad 0,0,0,18446744073709551615 9")]
     count_tries(cases, "an edit that doesn't suit the video is refused", program, outside)
     deep = [(f"{edit} {value}".split(), video(it)) for it in ("420p10", "422p9", "444p12", "mono14", "mono16") for value in (0, 255, 256, 511, 512, 1023, 1024, 4095, 4096, 16383, 16384, 65535, 65536) for edit in ("fill 4,2,4,4", "cover 4,2,4,4", "pad 2,2,2,2")]
     count_tries(cases, "values up to the greatest of a sample, and above it", program, deep)
@@ -82,11 +82,13 @@ def by_model(cases, program):
     shown = hidden = video("mono")
     for frame in range(3):
         hidden = exchanged(hidden, shown.index(b"\n") + 1 + frame * (6 + 12 * 8) + 6, 12, (4, 2, 6, 4))
-    cases.count("the output reveals nothing of hidden pixels", hidden != shown and ends(program, FILL.split(), hidden) == ends(program, FILL.split(), shown))
+    for after in ("", " move 4,2,6,4 0,0", " mosaic 0,0,12,8 3,3", " move 4,2,6,4 5,1 crop 0,0,8,8"):
+        words = (FILL + after).split()
+        cases.count(f"the output reveals nothing of hidden pixels{after}", hidden != shown and ends(program, words, hidden) == ends(program, words, shown))
 
 
 def by_words(cases, program):
-    for words in ("", "fill", "fill 1,2,3,4", "blur 0,0,1,1 2", "fill 0,0,1,1 1,2", "fill 0,0,1,1 1,2,256", "fill 0,0,1,1 1,2,3,4", "pad 0,0,1,1 1,2,3", "fill 0,0,01,1 2", "fill 0,0,1 2", "mosaic 0,0,1,1 2", "crop 0,0,1,1 2", "crop 0,0,2,2 fill 0,0,2,2 9", "pad 0,0,2,2", "pad 0,0,2,2 9 crop 0,0,2,2", "1..2 pad 0,0,2,2 9", "1..2 crop 0,0,2,2", "1.2 fill 0,0,2,2 9", "2..1 fill 0,0,4,4 9", "0..0 fill 0,0,4,4 9", "fill 0,0,2,2 9 5..5 move 0,0,2,2 2,2", "--edits /nowhere", "--edits", "--strict", "--limit", "--limit x fill 0,0,2,2 9", "--loud fill 0,0,2,2 9", "--edits /dev/null fill 0,0,2,2 9"):
+    for words in ("", "fill", "fill 1,2,3,4", "blur 0,0,1,1 2", "fill 0,0,1,1 1,2", "fill 0,0,1,1 1,2,3,4", "pad 0,0,1,1 1,2,3", "fill 0,0,01,1 2", "fill 0,0,1 2", "mosaic 0,0,1,1 2", "crop 0,0,1,1 2", "crop 0,0,2,2 fill 0,0,2,2 9", "pad 0,0,2,2", "pad 0,0,2,2 9 crop 0,0,2,2", "1..2 pad 0,0,2,2 9", "1..2 crop 0,0,2,2", "1.2 fill 0,0,2,2 9", "2..1 fill 0,0,4,4 9", "0..0 fill 0,0,4,4 9", "fill 0,0,2,2 9 5..5 move 0,0,2,2 2,2", "--edits /nowhere", "--edits", "--strict", "--limit", "--limit x fill 0,0,2,2 9", "--loud fill 0,0,2,2 9", "--edits /dev/null fill 0,0,2,2 9"):
         said = ends(program, words.split(), video("mono"))
         cases.count(f"words '{words}' are refused", said == (b"", "fault words", 1), str(said))
     with tempfile.NamedTemporaryFile("w", suffix=".edits") as listed:
@@ -251,7 +253,7 @@ def through(program, words, made, command):
 
 
 def by_ffmpeg(cases, program):
-    for pixels in ("yuv420p", "yuv422p", "yuv411p", "yuv444p", "gray", "yuv420p10le", "yuv422p12le", "yuv444p16le", "gray10le", "gray16le"):
+    for pixels in ("yuv420p", "yuv422p", "yuv411p", "yuv444p", "yuva444p", "gray", "yuv420p10le", "yuv422p12le", "yuv444p16le", "gray10le", "gray16le"):
         source = ["-f", "lavfi", "-i", "testsrc2=size=128x96:rate=5:duration=1", "-pix_fmt", pixels]
         made = subprocess.run(["ffmpeg", "-v", "error", *source, "-f", "yuv4mpegpipe", "-strict", "-1", "-"], capture_output=True, timeout=120).stdout
         cases.count(f"crop is ffmpeg's on {pixels}", made and through(program, "crop 16,8,64,48", made, "crop=64:48:16:8:exact=1"))
@@ -264,18 +266,25 @@ def by_ffmpeg(cases, program):
 
 
 def by_h264(cases, program):
-    """The pipe of docs/FRAMES.md, from H.264 to H.264 with no loss in either."""
+    """The pipes of docs/FRAMES.md, from H.264 to H.264 with no loss in either: without sound, and with it."""
     lossless = "-c:v libx264 -qp 0 -pix_fmt yuv420p"
 
     def decoded(file):
         made = subprocess.run(["ffmpeg", "-v", "error", "-i", file, "-f", "yuv4mpegpipe", "-"], capture_output=True, check=True, timeout=120).stdout
         return made, made.index(b"\n")
 
+    def sound(file):
+        return subprocess.run(["ffmpeg", "-v", "error", "-i", file, "-map", "0:a", "-c", "copy", "-f", "md5", "-"], capture_output=True, check=True, timeout=120).stdout
+
     with tempfile.TemporaryDirectory() as folder:
-        first, last = f"{folder}/in.mp4", f"{folder}/out.mp4"
-        subprocess.run(["sh", "-c", f"ffmpeg -v error -f lavfi -i testsrc2=size=128x96:rate=5:duration=1 {lossless} {first}"], check=True, timeout=120)
-        subprocess.run(["sh", "-c", f"ffmpeg -v error -i {first} -f yuv4mpegpipe - | {program} {FILL} | ffmpeg -v error -i - {lossless} {last}"], check=True, timeout=120)
-        (given, line), (found, found_line) = decoded(first), decoded(last)
+        first, last, loud = f"{folder}/in.mp4", f"{folder}/out.mp4", f"{folder}/loud.mp4"
+        lavfi = "-f lavfi -i testsrc2=size=128x96:rate=5:duration=1 -f lavfi -i sine=duration=1"
+        subprocess.run(["sh", "-c", f"ffmpeg -v error {lavfi} {lossless} {first}"], check=True, timeout=120)
+        edited = f"ffmpeg -v error -i {first} -f yuv4mpegpipe - | {program} {FILL} | ffmpeg -v error -i -"
+        subprocess.run(["sh", "-c", f"{edited} {lossless} {last}"], check=True, timeout=120)
+        subprocess.run(["sh", "-c", f"{edited} -i {first} -map 0:v -map 1:a? -c:a copy {lossless} {loud}"], check=True, timeout=120)
+        (given, line), (found, found_line), (heard, heard_line) = decoded(first), decoded(last), decoded(loud)
+        cases.count("the sound goes beside the pipe", heard[heard_line:] == found[found_line:] and sound(loud) == sound(first))
     cases.count("H.264 goes through the pipe", found[found_line:] == wanted(given, FILL.split())[0][line:])
 
 

@@ -5,10 +5,9 @@ use Rattle.std.proofs.Math.Seq.{take-append_seam}
 use Rattle.std.specs.Option.{option_map}
 use Rattle.std.proofs.lemmas.Bool.Decides.{eqb_tells}
 use Rattle.text_model.proofs.Options.{some_is, map_some}
-use Rattle.image_planes.specs.declared.change.Step.{Step}
-use Rattle.frame_formats.specs.declared.steps.Paint.{Paint}
+use Rattle.frame_formats.specs.declared.words.Edit.{Edit}
 use Rattle.frame_formats.specs.declared.framing.Framing.{Framing}
-use Rattle.frame_formats.specs.declared.words.Edits.{Edits}
+use Rattle.frame_formats.specs.declared.lists.Edits.{Edits}
 use Rattle.frame_formats.specs.Lists.{AreEdits, Adds, framing_after, edit_of, line_words, with_one, with_words, with_line, with_lines, plain}
 use Rattle.frame_formats.specs.Edits.{edits, Edits as Plain}
 use Rattle.text_model.specs.Reading.{◌>>=◌}
@@ -23,13 +22,13 @@ pub adds_more : (words : List (List ℕ)) (old mid new : Edits) (n : ℕ) → Ta
 adds_more words old mid new n taken first more =
     let m = map_some (edit_at words) (with_edit old.steps.items) (mid.steps.items, (mid.framing, n)) taken in
     let e : Named = m.0 in
-    let steps : old.steps.items ++ e.steps ≡ mid.steps.items = ap (λ (t : List (Step Paint) × (Option Framing × ℕ)). t.0) m.2 in
-    let framing : e.framing ≡ mid.framing = ap (λ (t : List (Step Paint) × (Option Framing × ℕ)). t.1.0) m.2 in
-    let count : e.count ≡ n = ap (λ (t : List (Step Paint) × (Option Framing × ℕ)). t.1.1) m.2 in
+    let steps : old.steps.items ++ e.steps ≡ mid.steps.items = ap (λ (t : List Edit × (Option Framing × ℕ)). t.0) m.2 in
+    let framing : e.framing ≡ mid.framing = ap (λ (t : List Edit × (Option Framing × ℕ)). t.1.0) m.2 in
+    let count : e.count ≡ n = ap (λ (t : List Edit × (Option Framing × ℕ)). t.1.1) m.2 in
     record {
       edits = e ∷ more.edits;
       are = (first, m.1, subst (λ (f : Option Framing). AreEdits more.edits f (drop e.count words)) (sym framing) (subst (λ (k : ℕ). AreEdits more.edits mid.framing (drop k words)) (sym count) more.are));
-      steps = more.steps ∙ ap (λ (l : List (Step Paint)). l ++ flat_map (λ (x : Named). x.steps) more.edits) (sym steps) ∙ append_assoc old.steps.items e.steps (flat_map (λ (x : Named). x.steps) more.edits);
+      steps = more.steps ∙ ap (λ (l : List Edit). l ++ flat_map (λ (x : Named). x.steps) more.edits) (sym steps) ∙ append_assoc old.steps.items e.steps (flat_map (λ (x : Named). x.steps) more.edits);
       framing = more.framing ∙ ap (framing_after more.edits) (sym framing);
     }
 
@@ -79,21 +78,21 @@ bad_line old line left lines is none = ap (with_lines old) is ∙ ap (λ (o : Op
 
 -- the first edits' steps are at the front of the others'
 pub record Begins (old new : Plain) : Type 0 where
-  pub more : List (Step Paint)
+  pub more : List Edit
   pub steps : new.steps ≡ old.steps ++ more
 
 pub begins_itself : (old : Plain) → Begins old old
 begins_itself old = record { more = []; steps = sym (append-nil old.steps) }
 
-behind_more : (old mid new : Plain) (more : List (Step Paint)) → Begins old mid → new.steps ≡ mid.steps ++ more → Begins old new
+behind_more : (old mid new : Plain) (more : List Edit) → Begins old mid → new.steps ≡ mid.steps ++ more → Begins old new
 behind_more old mid new more b steps = record { more = b.more ++ more; steps = steps ∙ ap (λ l. l ++ more) b.steps ∙ append_assoc old.steps b.more more }
 
 pub begins_taken : (words : List (List ℕ)) (first old mid : Edits) (n : ℕ) → Begins (plain first) (plain old) → Taken words old mid n → Begins (plain first) (plain mid)
 begins_taken words first old mid n b taken =
     let m = map_some (edit_at words) (with_edit old.steps.items) (mid.steps.items, (mid.framing, n)) taken in
-    behind_more (plain first) (plain old) (plain mid) m.0.steps b (sym (ap (λ (t : List (Step Paint) × (Option Framing × ℕ)). t.0) m.2))
+    behind_more (plain first) (plain old) (plain mid) m.0.steps b (sym (ap (λ (t : List Edit × (Option Framing × ℕ)). t.0) m.2))
 
-behind_one : (framing : Option Framing) (steps : List (Step Paint)) (new : Plain) (words : List (List ℕ)) → with_one (edits steps framing) words ≡ Some new → (more : List (Step Paint)) × (new.steps ≡ steps ++ more)
+behind_one : (framing : Option Framing) (steps : List Edit) (new : Plain) (words : List (List ℕ)) → with_one (edits steps framing) words ≡ Some new → (more : List Edit) × (new.steps ≡ steps ++ more)
 behind_one None steps new words is = let m = map_some (edit_of words) (λ e. edits (steps ++ e.steps) e.framing) new is in (m.0.steps, sym (ap (λ (p : Plain). p.steps) m.2))
 behind_one (Some f) steps new words is = absurd cc
 

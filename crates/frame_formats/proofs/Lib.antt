@@ -1,4 +1,5 @@
-pub mod Heads
+pub mod HeadTexts
+pub mod HeadLaws
 pub mod Sizes
 pub mod PictureSizes
 pub mod WrittenHeads

@@ -1,15 +1,19 @@
 -- What a cover is in a frame: a fill of whole samples, with a margin.
-use Rattle.std.specs.Prelude.{ℕ, ◌+◌, ◌-◌, ◌*◌, ◌%◌, ◌==◌, nat_le, if◌then◌else◌, min, max}
+use Rattle.std.specs.Prelude.{ℕ, ◌+◌, ◌-◌, ◌*◌, ◌%◌, ◌==◌, nat_le, if◌then◌else◌, Option, Some, None, min, max}
+use Rattle.std.specs.Option.{option_map}
 use Rattle.image_shape.specs.declared.window.Window.{Window}
 use Rattle.image_planes.specs.declared.change.Change.{Change}
 use Rattle.image_planes.specs.declared.change.Change.TheVariants.{Fill, Mosaic, Move}
 use Rattle.image_planes.specs.declared.change.Step.{Step}
+use Rattle.frame_formats.specs.Ranges.{frames_in}
+use Rattle.frame_formats.specs.declared.ranges.Rate.{Rate}
+use Rattle.frame_formats.specs.declared.words.Edit.{Edit}
 use Rattle.frame_formats.specs.declared.covers.Unit.{Unit as Samples}
 use Rattle.frame_formats.specs.declared.header.Chroma.{Chroma}
-use Rattle.frame_formats.specs.declared.header.Chroma.TheVariants.{Mono, Small, Wide, Quarter, Whole}
+use Rattle.frame_formats.specs.declared.header.Chroma.TheVariants.{Mono, Small, Wide, Quarter, Whole, WholeAlpha}
 use Rattle.frame_formats.specs.declared.header.Format.{Format}
 use Rattle.frame_formats.specs.declared.steps.Paint.{Paint}
-use Rattle.frame_formats.specs.declared.steps.Paint.TheVariants.{Grey, Colour, Around}
+use Rattle.frame_formats.specs.declared.steps.Paint.TheVariants.{Grey, Black, Colour, Around}
 
 abbrev pub unit : ℕ → ℕ → Samples
 unit across down = record { across = across; down = down }
@@ -21,6 +25,7 @@ chroma_unit Small = unit 2 2
 chroma_unit Wide = unit 2 1
 chroma_unit Quarter = unit 4 1
 chroma_unit Whole = unit 1 1
+chroma_unit WholeAlpha = unit 1 1
 
 -- the same with the samples of both fields
 abbrev pub video_unit : Format → Samples
@@ -60,14 +65,16 @@ cover_window s width height w = record {
 -- a fill that covers, as the fill that it becomes
 abbrev pub fill_in : Samples → ℕ → ℕ → Window → Paint → Change Paint
 fill_in s width height w (Grey value) = Fill w (Grey value)
+fill_in s width height w Black = Fill w Black
 fill_in s width height w (Colour red green blue) = Fill w (Colour red green blue)
-fill_in s width height w (Around value) = Fill (cover_window s width height w) (Grey value)
+fill_in s width height w (Around (Some value)) = Fill (cover_window s width height w) (Grey value)
+fill_in s width height w (Around None) = Fill (cover_window s width height w) Black
 
 abbrev pub settled : Samples → ℕ → ℕ → Change Paint → Change Paint
 settled s width height (Fill w paint) = fill_in s width height w paint
 settled s width height (Mosaic w tile_width tile_height) = Mosaic w tile_width tile_height
 settled s width height (Move w left top) = Move w left top
 
--- a step of a frame of this size
-abbrev pub step_in : Samples → ℕ → ℕ → Step Paint → Step Paint
-step_in s width height t = record { first = t.first; end = t.end; change = settled s width height t.change }
+-- an edit as a step of a frame of this size, where its range has frames at this rate
+abbrev pub step_in : Samples → Option Rate → ℕ → ℕ → Edit → Option (Step Paint)
+step_in s rate width height e = option_map (λ span. record { first = span.0; end = span.1; change = settled s width height e.change }) (frames_in rate e.range)

@@ -9,11 +9,10 @@ use Rattle.image_planes.specs.declared.target.Resize.{Resize}
 use Rattle.image_planes.specs.declared.target.Resize.TheVariants.{Crop, Pad}
 use Rattle.text_model.specs.Parts.{parts_of}
 use Rattle.text_model.specs.Reading.{◌>>=◌, number_of}
-use Rattle.frame_formats.specs.Steps.{grey_of, no_colour}
+use Rattle.frame_formats.specs.Steps.{video_pixel, grey_of, no_colour}
 use Rattle.frame_formats.specs.declared.steps.Pixel.{Pixel}
-use Rattle.frame_formats.specs.declared.steps.Pixel.TheVariants.{Single, Deep}
 use Rattle.frame_formats.specs.declared.header.Chroma.{Chroma}
-use Rattle.frame_formats.specs.declared.header.Chroma.TheVariants.{Mono, Small, Wide, Quarter, Whole}
+use Rattle.frame_formats.specs.declared.header.Chroma.TheVariants.{Mono, Small, Wide, Quarter, Whole, WholeAlpha}
 use Rattle.frame_formats.specs.declared.header.Format.{Format}
 use Rattle.frame_formats.specs.declared.framing.Framing.{Framing}
 use Rattle.frame_formats.specs.declared.framing.Framing.TheVariants.{Crop as CropPixels, Pad as PadPixels}
@@ -34,6 +33,7 @@ chroma_of word =
     else if bytes_eq word (codes "422") then Some Wide
     else if bytes_eq word (codes "411") then Some Quarter
     else if bytes_eq word (codes "444") then Some Whole
+    else if bytes_eq word (codes "444alpha") then Some WholeAlpha
     else None
 
 -- the same where no other field begins with it: of two sizes others may take the last
@@ -70,11 +70,11 @@ unfoldable pub deep_of : List ℕ → Option (Chroma × Pixel)
 deep_of word = do
   chroma ← deep_chroma (take 4 word)
   greatest ← depth_of (drop 4 word)
-  Some (chroma, Deep greatest)
+  Some (chroma, video_pixel greatest)
 
 -- the chroma samples and what a sample is: a byte, or two
 abbrev pub sampling_by : Option Chroma → List ℕ → Option (Chroma × Pixel)
-sampling_by (Some chroma) word = Some (chroma, Single)
+sampling_by (Some chroma) word = Some (chroma, video_pixel 255)
 sampling_by None word = deep_of word
 
 abbrev pub sampling_of : List ℕ → Option (Chroma × Pixel)
@@ -82,7 +82,7 @@ sampling_of word = sampling_by (chroma_of word) word
 
 -- with no such field it is two by two pixels, in bytes
 abbrev pub sampling_named : Option (List ℕ) → Option (Chroma × Pixel)
-sampling_named None = Some (Small, Single)
+sampling_named None = Some (Small, video_pixel 255)
 sampling_named (Some word) = sampling_of word
 
 -- the fields after the first

@@ -1,35 +1,46 @@
 -- The planes of a frame or a picture, and what is done to each.
-use Rattle.std.specs.Prelude.{ℕ, ◌<◌, Bool, true, false, List, [], ◌∷◌, Option, Some}
+use Rattle.std.specs.Prelude.{ℕ, ◌<◌, true, false, List, [], ◌∷◌, Option, Some}
 use Rattle.image_planes.specs.Changes.{Job, job_for}
 use Rattle.image_planes.specs.Resized.{Resizing, resizing_for}
+use Rattle.std.specs.Option.{option_map}
 use Rattle.image_planes.specs.declared.change.Change.{Change}
+use Rattle.image_planes.specs.declared.change.Change.TheVariants.{Fill, Mosaic, Move}
 use Rattle.image_planes.specs.declared.change.Step.{Step}
 use Rattle.image_planes.specs.declared.target.Resize.{Resize}
+use Rattle.image_planes.specs.declared.target.Resize.TheVariants.{Crop, Pad}
 use Rattle.text_model.specs.Reading.{◌>>=◌}
 use Rattle.frame_formats.specs.Format.{samples, change_under, resize_under}
-use Rattle.frame_formats.specs.Steps.{all_some, step_by, change_in, pixel_size}
+use Rattle.frame_formats.specs.Steps.{all_some, step_by, change_in, opaque, pixel_size}
 use Rattle.frame_formats.specs.declared.header.Chroma.{Chroma}
-use Rattle.frame_formats.specs.declared.header.Chroma.TheVariants.{Mono, Small, Wide, Quarter, Whole}
+use Rattle.frame_formats.specs.declared.header.Chroma.TheVariants.{Mono, Small, Wide, Quarter, Whole, WholeAlpha}
+use Rattle.frame_formats.specs.Pam.{tuple}
+use Rattle.frame_formats.specs.declared.pam.Tuples.{Tuples}
+use Rattle.frame_formats.specs.declared.picture.Kind.{Kind}
+use Rattle.frame_formats.specs.declared.picture.Kind.TheVariants.{Plain, Pam}
+use Rattle.frame_formats.specs.declared.picture.Picture.{Picture}
 use Rattle.frame_formats.specs.declared.layers.Layer.{Layer}
-use Rattle.frame_formats.specs.declared.layers.Layer.TheVariants.{Pixels, Samples}
+use Rattle.frame_formats.specs.declared.layers.Layer.TheVariants.{Pixels, Samples, Alpha}
 use Rattle.frame_formats.specs.declared.steps.Pixel.{Pixel}
-use Rattle.frame_formats.specs.declared.steps.Pixel.TheVariants.{Single, Colours}
 use Rattle.frame_formats.specs.declared.steps.Paint.{Paint}
 
--- a pixel of a picture: one byte, or three for its colours
-abbrev pub picture_pixel : Bool → Pixel
-picture_pixel false = Single
-picture_pixel true = Colours
+abbrev pub kind_tuple : Kind → Tuples
+kind_tuple (Plain colour) = tuple colour false
+kind_tuple (Pam t) = t
+
+-- a pixel of a picture: the high byte comes first where a sample has two
+abbrev pub picture_pixel : Picture → Pixel
+picture_pixel p = record { tuples = kind_tuple p.kind; greatest = p.greatest; high_first = true }
 
 -- a picture is one plane
 abbrev pub picture_layers : List Layer
 picture_layers = Pixels ∷ []
 
--- after the plane of brightness there may be two planes of chroma samples, one for so many columns and rows of pixels
+-- after the plane of brightness there may be two planes of chroma samples, one for so many columns and rows of pixels, and one of how opaque each pixel is
 abbrev pub sampled : ℕ → ℕ → List Layer
 sampled x y = Pixels ∷ Samples x y ∷ Samples x y ∷ []
 
 abbrev pub video_layers : Chroma → List Layer
+video_layers WholeAlpha = Pixels ∷ Samples 1 1 ∷ Samples 1 1 ∷ Alpha ∷ []
 video_layers Mono = Pixels ∷ []
 video_layers Small = sampled 2 2
 video_layers Wide = sampled 2 1
@@ -39,22 +50,36 @@ video_layers Whole = sampled 1 1
 -- a sample stands for some pixels
 abbrev pub StandsForPixels : Layer → Type 0
 StandsForPixels Pixels = Unit {0}
+StandsForPixels Alpha = Unit {0}
 StandsForPixels (Samples x y) = (0 < x) × (0 < y)
 
 -- the size of the plane in a frame of this size
 abbrev pub layer_width : Layer → ℕ → ℕ
 layer_width Pixels width = width
+layer_width Alpha width = width
 layer_width (Samples x y) width = samples width x
 
 abbrev pub layer_height : Layer → ℕ → ℕ
 layer_height Pixels height = height
+layer_height Alpha height = height
 layer_height (Samples x y) height = samples height y
 
 -- ---- what is done to the planes of a frame of this size
 
+-- a fill leaves opaque pixels, and so does a border
+abbrev pub opaque_change : Pixel → Change (List ℕ) → Change (List ℕ)
+opaque_change pixel (Fill w value) = Fill w (opaque pixel)
+opaque_change pixel (Mosaic w tile_width tile_height) = Mosaic w tile_width tile_height
+opaque_change pixel (Move w left top) = Move w left top
+
+abbrev pub opaque_resize : Pixel → Resize → Resize
+opaque_resize pixel (Crop w) = Crop w
+opaque_resize pixel (Pad left top width height value) = Pad left top width height (opaque pixel)
+
 -- what a change of pixels is to the plane
 abbrev pub change_on : Pixel → Layer → ℕ → ℕ → Change Paint → Option (Change (List ℕ))
 change_on pixel Pixels width height change = change_in pixel change
+change_on pixel Alpha width height change = option_map (opaque_change pixel) (change_in pixel change)
 change_on pixel (Samples x y) width height change = change_in pixel change >>= change_under pixel x y width height
 
 -- the plane under steps in pixels, or nothing where one has a colour, reaches outside the plane or doesn't fall on whole samples
@@ -67,6 +92,7 @@ jobs_on pixel layers width height steps = all_some (λ layer. job_on pixel layer
 -- what becomes of the plane's size, where this becomes of the frame's
 abbrev pub resize_on : Pixel → Layer → ℕ → ℕ → Resize → Option Resize
 resize_on pixel Pixels width height resize = Some resize
+resize_on pixel Alpha width height resize = Some (opaque_resize pixel resize)
 resize_on pixel (Samples x y) width height resize = resize_under pixel x y width height resize
 
 -- the plane and what becomes of its size

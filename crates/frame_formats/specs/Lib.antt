@@ -3,10 +3,15 @@ pub mod Format
 pub mod Covers
 pub mod Layers
 pub mod Line
+pub mod Digits
+pub mod PamWords
+pub mod Pam
 pub mod Picture
+pub mod Heads
 pub mod Plan
 pub mod Edits
 pub mod Recipe
 pub mod Planned
+pub mod Ranges
 pub mod Words
 pub mod Lists

@@ -8,7 +8,7 @@ use Rattle.text_model.specs.Reading.{◌>>=◌, is_nil}
 use Rattle.frame_formats.specs.Edits.{edits, Edits as Plain}
 use Rattle.frame_formats.specs.Words.{Named, edit_at}
 use Rattle.frame_formats.specs.declared.framing.Framing.{Framing}
-use Rattle.frame_formats.specs.declared.words.Edits.{Edits}
+use Rattle.frame_formats.specs.declared.lists.Edits.{Edits}
 
 -- words are these edits, one after the other, where this became of the size before: no edit comes after a crop or a pad
 abbrev pub AreEdits : List Named → Option Framing → List (List ℕ) → Type 0

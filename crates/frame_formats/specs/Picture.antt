@@ -1,14 +1,22 @@
 -- The head of a picture.
 use Rattle.std.specs.Prelude.{◌≡◌, ℕ, ◌+◌, ◌-◌, ◌*◌, ◌<◌, ◌^◌, ◌==◌, ◌||◌, ◌&&◌, Bool, true, false, nat_lt, nat_le, if◌then◌else◌, List, [], ◌∷◌, ◌++◌, Option, Some, None, codes}
-use Rattle.std.specs.Fmt.{decimal}
+use Rattle.text_model.specs.Reading.{◌>>=◌}
+use Rattle.frame_formats.specs.Digits.{is_digit, with_digit}
+use Rattle.frame_formats.specs.Pam.{lines, tuple_depth, lines_pushed, lines_start}
+use Rattle.frame_formats.specs.declared.pam.Fields.{Fields}
+use Rattle.frame_formats.specs.declared.pam.Lines.{Lines as PamLines}
+use Rattle.frame_formats.specs.declared.pam.Place.{Place}
+use Rattle.frame_formats.specs.declared.pam.Place.TheVariants.{Ended}
+use Rattle.frame_formats.specs.declared.picture.Kind.{Kind as PictureKind}
+use Rattle.frame_formats.specs.declared.picture.Kind.TheVariants.{Plain, Pam}
 use Rattle.frame_formats.specs.declared.picture.Picture.{Picture}
 use Rattle.frame_formats.specs.declared.picture.Head.{Head}
-use Rattle.frame_formats.specs.declared.picture.Head.TheVariants.{Start, Letter, Kind, Width, Height, Greatest}
+use Rattle.frame_formats.specs.declared.picture.Head.TheVariants.{Start, Letter, Kind, Width, Height, Greatest, Lines}
 use Rattle.frame_formats.specs.declared.picture.Scan.{Scan}
 use Rattle.frame_formats.specs.declared.picture.Scan.TheVariants.{More, Done, Bad}
 
-abbrev pub picture : ℕ → ℕ → Bool → Picture
-picture width height colour = record { width = width; height = height; colour = colour }
+abbrev pub picture : ℕ → ℕ → PictureKind → ℕ → Picture
+picture width height kind greatest = record { width = width; height = height; kind = kind; greatest = greatest }
 
 -- a blank, or one of TAB, LF, VT, FF and CR
 abbrev pub is_white : ℕ → Bool
@@ -18,19 +26,15 @@ is_white byte = (byte == 32) || (nat_le 9 byte && nat_le byte 13)
 abbrev pub is_line_end : ℕ → Bool
 is_line_end byte = (byte == 10) || (byte == 13)
 
-abbrev pub is_digit : ℕ → Bool
-is_digit byte = nat_le 48 byte && nat_le byte 57
-
--- a number with one more digit, below 2 ^ 32
-abbrev pub with_digit : Option ℕ → ℕ → Option ℕ
-with_digit None digit = Some digit
-with_digit (Some number) digit = if nat_lt (number * 10 + digit) (2 ^ 32) then Some (number * 10 + digit) else None
-
 -- a head that goes on, outside a comment
 abbrev pub more : Head → Scan
 more head = More head false
 
--- after white space, of which a comment is one: a number ends there, neither size is 0, and the greatest value is 255
+-- what the greatest value of a sample may be
+abbrev pub is_greatest : ℕ → Bool
+is_greatest value = nat_lt 0 value && nat_lt value (2 ^ 16)
+
+-- after white space, of which a comment is one: a number ends there, neither size is 0, and the greatest value fits two bytes
 abbrev pub after_white : Head → Scan
 after_white Start = Bad
 after_white Letter = Bad
@@ -39,8 +43,9 @@ after_white (Width colour None) = more (Width colour None)
 after_white (Width colour (Some width)) = if width == 0 then Bad else more (Height colour width None)
 after_white (Height colour width None) = more (Height colour width None)
 after_white (Height colour width (Some height)) = if height == 0 then Bad else more (Greatest colour width height None)
+after_white (Lines l) = Bad
 after_white (Greatest colour width height None) = more (Greatest colour width height None)
-after_white (Greatest colour width height (Some greatest)) = if greatest == 255 then Done (picture width height colour) else Bad
+after_white (Greatest colour width height (Some greatest)) = if is_greatest greatest then Done (picture width height (Plain colour) greatest) else Bad
 
 -- the head with a number, where it is in range
 abbrev pub with_number : (Option ℕ → Head) → Option ℕ → Scan
@@ -52,6 +57,7 @@ abbrev pub after_digit : Head → ℕ → Scan
 after_digit Start digit = Bad
 after_digit Letter digit = Bad
 after_digit (Kind colour) digit = Bad
+after_digit (Lines l) digit = Bad
 after_digit (Width colour width) digit = with_number (Width colour) (with_digit width digit)
 after_digit (Height colour width height) digit = with_number (Height colour width) (with_digit height digit)
 after_digit (Greatest colour width height greatest) digit = with_number (Greatest colour width height) (with_digit greatest digit)
@@ -64,10 +70,39 @@ in_head head byte =
     else if is_digit byte then after_digit head (byte - 48)
     else Bad
 
--- after a byte outside a comment: `P`, then `5` or `6`, and then numbers
+-- ---- lines
+
+-- the picture that fields name: each is there, no number is out of range, and the depth is that of the tuples
+unfoldable pub picture_in : Fields → Option Picture
+picture_in f = do
+  width ← f.width
+  height ← f.height
+  depth ← f.depth
+  greatest ← f.greatest
+  t ← f.tuples
+  if nat_lt 0 width && (nat_lt 0 height && (is_greatest greatest && depth == tuple_depth t)) then Some (picture width height (Pam t) greatest) else None
+
+-- what there is at an end
+abbrev pub ended : Option Picture → Scan
+ended None = Bad
+ended (Some p) = Done p
+
+-- after lines
+abbrev pub after_lines : Fields → Place → Scan
+after_lines f Ended = ended (picture_in f)
+after_lines f place = more (Lines (lines f place))
+
+abbrev pub scan_of : Option PamLines → Scan
+scan_of None = Bad
+scan_of (Some l) = after_lines l.fields l.place
+
+-- ---- one byte more
+
+-- after a byte outside a comment: `P`, then `5` or `6` and numbers, or `7` and lines, which have comments of their own
 abbrev pub at_byte : Head → ℕ → Scan
+at_byte (Lines l) byte = scan_of (lines_pushed l byte)
 at_byte Start byte = if byte == 80 then more Letter else Bad
-at_byte Letter byte = if byte == 53 then more (Kind false) else if byte == 54 then more (Kind true) else Bad
+at_byte Letter byte = if byte == 53 then more (Kind false) else if byte == 54 then more (Kind true) else if byte == 55 then more (Lines lines_start) else Bad
 at_byte (Kind colour) byte = in_head (Kind colour) byte
 at_byte (Width colour width) byte = in_head (Width colour width) byte
 at_byte (Height colour width height) byte = in_head (Height colour width height) byte
@@ -97,14 +132,6 @@ done_as Bad = None
 abbrev pub picture_of : List ℕ → Option Picture
 picture_of head = done_as (scanned start head)
 
-abbrev pub kind_text : Bool → List ℕ
-kind_text false = codes "P5"
-kind_text true = codes "P6"
-
--- the head that is written
-abbrev pub head_text : Picture → List ℕ
-head_text p = kind_text p.colour ++ 10 ∷ decimal p.width ++ 32 ∷ decimal p.height ++ 10 ∷ codes "255" ++ 10 ∷ []
-
 -- ---- what is known of heads
 
 -- no head begins another
@@ -122,7 +149,3 @@ BadStays = (h a : List ℕ) → scanned start h ≡ Bad → picture_of (h ++ a) 
 -- a head begins with its letter
 abbrev pub BeginsWithLetter : Type 0
 BeginsWithLetter = (h : List ℕ) (p : Picture) → picture_of h ≡ Some p → (t : List ℕ) × (h ≡ 80 ∷ t)
-
--- the head that is written is one of its picture
-abbrev pub ReadsBack : Type 0
-ReadsBack = (p : Picture) → 0 < p.width → p.width < 2 ^ 32 → 0 < p.height → p.height < 2 ^ 32 → picture_of (head_text p) ≡ Some p

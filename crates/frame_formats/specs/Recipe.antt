@@ -1,5 +1,5 @@
 -- What is done to a video, and to a picture.
-use Rattle.std.specs.Prelude.{◌≡◌, ◌==◌, ℕ, ◌<◌, List, [], ◌∷◌, ◌++◌, map, Option, Some, None, if◌then◌else◌}
+use Rattle.std.specs.Prelude.{◌≡◌, true, ◌==◌, ℕ, ◌<◌, List, [], ◌∷◌, ◌++◌, map, Option, Some, None, if◌then◌else◌}
 use Rattle.std.specs.Option.{option_map}
 use Rattle.std.specs.declared.vec.Vec.{Vec}
 use Rattle.image_planes.specs.Changes.{Job, jobs_len, changed_planes}
@@ -11,7 +11,10 @@ use Rattle.frame_formats.specs.Format.{format_of, resize_for}
 use Rattle.frame_formats.specs.Layers.{picture_pixel, picture_layers, video_layers, jobs_on, resizings_on}
 use Rattle.frame_formats.specs.Covers.{video_unit, one_pixel, step_in}
 use Rattle.frame_formats.specs.Line.{resized}
-use Rattle.frame_formats.specs.Picture.{picture, picture_of, head_text}
+use Rattle.frame_formats.specs.Ranges.{rate_of}
+use Rattle.frame_formats.specs.Steps.{all_some}
+use Rattle.frame_formats.specs.Heads.{head_text}
+use Rattle.frame_formats.specs.Picture.{picture, picture_of, is_greatest}
 use Rattle.frame_formats.specs.Edits.{Edits}
 use Rattle.text_model.specs.Reading.{◌>>=◌}
 use Rattle.frame_formats.specs.declared.framing.Framing.{Framing}
@@ -51,25 +54,25 @@ finished_video line format jobs (Some framing) =
 
 -- the recipe of edits of a video with this line, where they are edits of it
 abbrev pub video_recipe : Edits → List ℕ → Option Recipe
-video_recipe e line = format_of line >>= λ format. jobs_on format.pixel (video_layers format.chroma) format.width format.height (map (step_in (video_unit format) format.width format.height) e.steps) >>= λ jobs. finished_video line format jobs e.framing
+video_recipe e line = format_of line >>= λ format. all_some (step_in (video_unit format) (rate_of line) format.width format.height) e.steps >>= λ steps. jobs_on format.pixel (video_layers format.chroma) format.width format.height steps >>= λ jobs. finished_video line format jobs e.framing
 
 -- ---- a picture
 
 -- a picture of the same kind in its new size
 abbrev pub resized_picture : Picture → ℕ → ℕ → Picture
-resized_picture p width height = picture width height p.colour
+resized_picture p width height = picture width height p.kind p.greatest
 
 -- by what becomes of the size, which leaves a row
 abbrev pub finished_picture : Picture → List Job → Option Framing → Option Recipe
 finished_picture p jobs None = Some (recipe (head_text p) jobs None)
 finished_picture p jobs (Some framing) =
-    resize_for (picture_pixel p.colour) p.width p.height framing >>= λ resize.
+    resize_for (picture_pixel p) p.width p.height framing >>= λ resize.
     if new_height resize == 0 then None
-    else option_map (λ resizings. recipe (head_text (resized_picture p (new_width resize) (new_height resize))) jobs (Some resizings)) (resizings_on (picture_pixel p.colour) picture_layers p.width p.height resize)
+    else option_map (λ resizings. recipe (head_text (resized_picture p (new_width resize) (new_height resize))) jobs (Some resizings)) (resizings_on (picture_pixel p) picture_layers p.width p.height resize)
 
--- the recipe of edits of a picture, where they are edits of it
+-- the recipe of edits of a picture, which has no rate, where they are edits of it
 abbrev pub picture_recipe : Edits → Picture → Option Recipe
-picture_recipe e p = jobs_on (picture_pixel p.colour) picture_layers p.width p.height (map (step_in one_pixel p.width p.height) e.steps) >>= λ jobs. finished_picture p jobs e.framing
+picture_recipe e p = all_some (step_in one_pixel None p.width p.height) e.steps >>= λ steps. jobs_on (picture_pixel p) picture_layers p.width p.height steps >>= λ jobs. finished_picture p jobs e.framing
 
 -- ---- sizes
 
@@ -100,4 +103,4 @@ PicturesHide = (e : Edits) (p : Picture) (r : Recipe) → picture_recipe e p ≡
 
 -- what is written before a picture is the head of one
 abbrev pub HeadsAreRead : Type 0
-HeadsAreRead = (e : Edits) (p : Picture) (r : Recipe) → 0 < p.height → picture_recipe e p ≡ Some r → (q : Picture) × (picture_of r.head ≡ Some q)
+HeadsAreRead = (e : Edits) (p : Picture) (r : Recipe) → 0 < p.height → is_greatest p.greatest ≡ true → picture_recipe e p ≡ Some r → (q : Picture) × (picture_of r.head ≡ Some q)

@@ -1,14 +1,15 @@
 -- What is done to the pixels of frames, as what is done to each plane.
-use Rattle.std.specs.Prelude.{ℕ, ◌+◌, ◌/◌, ◌%◌, nat_lt, nat_le, if◌then◌else◌, List, [], ◌∷◌, Option, Some, None, replicate}
+use Rattle.std.specs.Prelude.{ℕ, ◌+◌, ◌*◌, ◌/◌, ◌%◌, ◌&&◌, false, nat_lt, nat_le, if◌then◌else◌, List, [], ◌∷◌, ◌++◌, Option, Some, None, take, replicate}
+use Rattle.std.specs.List.{flat_map}
 use Rattle.std.specs.Option.{option_map}
 use Rattle.image_planes.specs.declared.change.Change.{Change}
 use Rattle.image_planes.specs.declared.change.Change.TheVariants.{Fill, Mosaic, Move}
 use Rattle.image_planes.specs.declared.change.Step.{Step}
 use Rattle.text_model.specs.Reading.{◌>>=◌}
+use Rattle.frame_formats.specs.Pam.{tuple, tuple_depth}
 use Rattle.frame_formats.specs.declared.steps.Pixel.{Pixel}
-use Rattle.frame_formats.specs.declared.steps.Pixel.TheVariants.{Single, Deep, Colours}
 use Rattle.frame_formats.specs.declared.steps.Paint.{Paint}
-use Rattle.frame_formats.specs.declared.steps.Paint.TheVariants.{Grey, Colour, Around}
+use Rattle.frame_formats.specs.declared.steps.Paint.TheVariants.{Grey, Black, Colour, Around}
 
 -- what each item becomes, where each becomes something
 unfoldable pub all_some : {A B : Type 0} → (A → Option B) → List A → Option (List B)
@@ -22,39 +23,59 @@ all_some f (x ∷ xs) = do
 abbrev pub step_by : {V W : Type 0} → (Change V → Option (Change W)) → Step V → Option (Step W)
 step_by become s = option_map (λ change. record { first = s.first; end = s.end; change = change }) (become s.change)
 
--- how many bytes a pixel has
+-- a sample of a video: the low byte comes first where it has two
+abbrev pub video_pixel : ℕ → Pixel
+video_pixel greatest = record { tuples = tuple false false; greatest = greatest; high_first = false }
+
+-- how many bytes a pixel has: one for each sample, or two where a value may be above 255
 abbrev pub pixel_size : Pixel → ℕ
-pixel_size Single = 1
-pixel_size (Deep greatest) = 2
-pixel_size Colours = 3
+pixel_size p = if nat_lt p.greatest 256 then tuple_depth p.tuples else 2 * tuple_depth p.tuples
 
--- the bytes of a pixel that are all this one
-abbrev pub each_byte : ℕ → List ℕ
-each_byte value = replicate 8 value
+-- the bytes of a sample
+abbrev pub sample_bytes : Pixel → ℕ → List ℕ
+sample_bytes p value =
+    if nat_lt p.greatest 256 then value % 256 ∷ []
+    else if p.high_first then value / 256 ∷ value % 256 ∷ []
+    else value % 256 ∷ value / 256 ∷ []
 
--- the bytes of a pixel of two: the low one first
-abbrev pub two_bytes : ℕ → List ℕ
-two_bytes value = value % 256 ∷ value / 256 ∷ 0 ∷ 0 ∷ 0 ∷ 0 ∷ 0 ∷ 0 ∷ []
+-- eight bytes, the first of which are these samples; a pixel takes those that it has
+abbrev pub pixel_bytes : Pixel → List ℕ → List ℕ
+pixel_bytes p samples = take 8 (flat_map (sample_bytes p) samples ++ replicate 8 0)
 
--- a pixel of this brightness, where there is one
+-- the brightness of black: a sixteenth of the values, as in video
+abbrev pub black : Pixel → ℕ
+black p = (p.greatest + 1) / 16
+
+-- the samples of one brightness: where there is one more, it is opaque
+abbrev pub grey_samples : Pixel → ℕ → List ℕ
+grey_samples p value = if p.tuples.colour then value ∷ value ∷ value ∷ p.greatest ∷ [] else value ∷ p.greatest ∷ 0 ∷ 0 ∷ []
+
+-- a pixel of this brightness, where its samples have the value
 abbrev pub grey_of : Pixel → ℕ → Option (List ℕ)
-grey_of Single value = if nat_lt value 256 then Some (each_byte value) else None
-grey_of (Deep greatest) value = if nat_le value greatest then Some (two_bytes value) else None
-grey_of Colours value = if nat_lt value 256 then Some (each_byte value) else None
+grey_of p value = if nat_le value p.greatest then Some (pixel_bytes p (grey_samples p value)) else None
+
+-- a pixel of this colour, where it has three samples with these values
+abbrev pub colour_of : Pixel → ℕ → ℕ → ℕ → Option (List ℕ)
+colour_of p red green blue = if p.tuples.colour && (nat_le red p.greatest && (nat_le green p.greatest && nat_le blue p.greatest)) then Some (pixel_bytes p (red ∷ green ∷ blue ∷ p.greatest ∷ [])) else None
 
 -- a chroma sample of no colour: the middle of the values
-abbrev pub no_colour : Pixel → List ℕ
-no_colour Single = each_byte 128
-no_colour (Deep greatest) = two_bytes (greatest / 2 + 1)
-no_colour Colours = each_byte 128
+abbrev pub middle : Pixel → ℕ
+middle p = p.greatest / 2 + 1
 
--- the bytes that a pixel gets: only one of three bytes gets a colour
+abbrev pub no_colour : Pixel → List ℕ
+no_colour p = pixel_bytes p (replicate 4 (middle p))
+
+-- a sample of what covers its place wholly
+abbrev pub opaque : Pixel → List ℕ
+opaque p = pixel_bytes p (replicate 4 p.greatest)
+
+-- the bytes that a pixel gets
 abbrev pub value_in : Pixel → Paint → Option (List ℕ)
-value_in pixel (Grey value) = grey_of pixel value
-value_in pixel (Around value) = grey_of pixel value
-value_in Single (Colour red green blue) = None
-value_in (Deep greatest) (Colour red green blue) = None
-value_in Colours (Colour red green blue) = Some (red ∷ green ∷ blue ∷ 0 ∷ 0 ∷ 0 ∷ 0 ∷ 0 ∷ [])
+value_in p (Grey value) = grey_of p value
+value_in p Black = grey_of p (black p)
+value_in p (Colour red green blue) = colour_of p red green blue
+value_in p (Around (Some value)) = grey_of p value
+value_in p (Around None) = grey_of p (black p)
 
 -- what a change is to a plane of such pixels
 unfoldable pub change_in : Pixel → Change Paint → Option (Change (List ℕ))

@@ -3,7 +3,6 @@ use Rattle.std.specs.Prelude.{ℕ, ◌+◌, List, [], ◌∷◌, ◌++◌, Optio
 use Rattle.std.specs.Option.{option_map}
 use Rattle.std.specs.Str.{bytes_eq}
 use Rattle.image_shape.specs.declared.window.Window.{Window}
-use Rattle.image_planes.specs.declared.change.Step.{Step}
 use Rattle.frame_formats.specs.declared.steps.Paint.{Paint}
 use Rattle.frame_formats.specs.declared.steps.Paint.TheVariants.{Grey, Colour, Around}
 use Rattle.image_planes.specs.declared.change.Change.{Change}
@@ -11,27 +10,31 @@ use Rattle.image_planes.specs.declared.change.Change.TheVariants.{Fill, Mosaic, 
 use Rattle.frame_formats.specs.declared.framing.Framing.{Framing}
 use Rattle.frame_formats.specs.declared.framing.Framing.TheVariants.{Crop, Pad}
 use Rattle.text_model.specs.Parts.{parts_of}
-use Rattle.text_model.specs.Reading.{◌>>=◌, number_of, first_of_parts, number_at, pixel_at, window_of, is_nil}
+use Rattle.text_model.specs.Reading.{◌>>=◌, number_of, number_at, window_of, is_nil}
+use Rattle.frame_formats.specs.Ranges.{range_of}
+use Rattle.frame_formats.specs.declared.ranges.Range.{Range}
+use Rattle.frame_formats.specs.declared.ranges.Range.TheVariants.{Frames}
+use Rattle.frame_formats.specs.declared.words.Edit.{Edit}
 
--- two numbers, the second as this reads it, and no part more
-unfoldable pub pair_by : (List (List ℕ) → Option (ℕ × List (List ℕ))) → List (List ℕ) → Option (ℕ × ℕ)
-pair_by next parts = do
+-- two numbers, and no part more
+unfoldable pub pair_in : List (List ℕ) → Option (ℕ × ℕ)
+pair_in parts = do
   first ← number_at parts
-  second ← next first.1
+  second ← number_at first.1
   if is_nil second.1 then Some (first.0, second.0) else None
 
 abbrev pub pair_of : List ℕ → Option (ℕ × ℕ)
-pair_of part = pair_by number_at (parts_of 44 part)
+pair_of part = pair_in (parts_of 44 part)
 
--- three pixels, and no part more
+-- three numbers, and no part more
 unfoldable pub colour_in : List (List ℕ) → Option Paint
 colour_in parts = do
-  red ← pixel_at parts
-  green ← pixel_at red.1
-  blue ← pixel_at green.1
+  red ← number_at parts
+  green ← number_at red.1
+  blue ← number_at green.1
   if is_nil blue.1 then Some (Colour red.0 green.0 blue.0) else None
 
--- a number, or else three values of a byte with commas between them
+-- a number, or else three with commas between them
 abbrev pub paint_by : Option ℕ → List ℕ → Option Paint
 paint_by (Some value) part = Some (Grey value)
 paint_by None part = colour_in (parts_of 44 part)
@@ -50,19 +53,6 @@ change_of word window last =
 -- a border by its sides and what follows them
 unfoldable pub pad_of : Window → List ℕ → Option Framing
 pad_of sides last = option_map (λ value. Pad sides.left sides.top sides.width sides.height value) (number_of last)
-
--- the end of a range, which may be left out: then it is greater than the number of each frame
-abbrev pub end_of : List ℕ → Option ℕ
-end_of part = if is_nil part then Some 18446744073709551615 else number_of part
-
--- the end after an empty part
-abbrev pub behind_gap : List (List ℕ) → Option (ℕ × List (List ℕ))
-behind_gap [] = None
-behind_gap (part ∷ parts) = if is_nil part then first_of_parts end_of parts else None
-
--- the range of frames that a word names, with two dots between: the first, and the first after them
-abbrev pub span_of : List ℕ → Option (ℕ × ℕ)
-span_of word = pair_by behind_gap (parts_of 46 word)
 
 -- ---- the edit at the front of words
 
@@ -83,10 +73,10 @@ framing_at [] = None
 framing_at (word ∷ []) = None
 framing_at (word ∷ (numbers ∷ words)) = window_of numbers >>= λ window. framing_by word window words
 
--- a cover of a window, whose value may be left out: then it is 16; and how many words there are
+-- a cover of a window, whose value may be left out: then it is black; and how many words there are
 abbrev pub cover_by : Window → Option ℕ → Change Paint × ℕ
-cover_by window (Some value) = (Fill window (Around value), 3)
-cover_by window None = (Fill window (Around 16), 2)
+cover_by window (Some value) = (Fill window (Around (Some value)), 3)
+cover_by window None = (Fill window (Around None), 2)
 
 abbrev pub cover_at : Window → List (List ℕ) → Change Paint × ℕ
 cover_at window [] = cover_by window None
@@ -101,27 +91,27 @@ abbrev pub change_at : List ℕ → Window → List (List ℕ) → Option (Chang
 change_at word window words = if bytes_eq word (codes "cover") then Some (cover_at window words) else other_at word window words
 
 -- a change of the frames of a range at the front of words, and how many words there are
-unfoldable pub step_at : ℕ → ℕ → List (List ℕ) → Option (Step Paint × ℕ)
-step_at first end [] = None
-step_at first end (word ∷ []) = None
-step_at first end (word ∷ (numbers ∷ words)) = window_of numbers >>= λ window. option_map (λ c. (record { first = first; end = end; change = c.0 }, c.1)) (change_at word window words)
+unfoldable pub step_at : Range → List (List ℕ) → Option (Edit × ℕ)
+step_at range [] = None
+step_at range (word ∷ []) = None
+step_at range (word ∷ (numbers ∷ words)) = window_of numbers >>= λ window. option_map (λ c. (record { range = range; change = c.0 }, c.1)) (change_at word window words)
 
 -- the same with the range before it: with no range it is a change of all frames
-abbrev pub ranged_by : Option (ℕ × ℕ) → List ℕ → List (List ℕ) → Option (Step Paint × ℕ)
-ranged_by (Some span) front words = option_map (λ s. (s.0, s.1 + 1)) (step_at span.0 span.1 words)
-ranged_by None front words = step_at 0 18446744073709551615 (front ∷ words)
+abbrev pub ranged_by : Option Range → List ℕ → List (List ℕ) → Option (Edit × ℕ)
+ranged_by (Some range) front words = option_map (λ s. (s.0, s.1 + 1)) (step_at range words)
+ranged_by None front words = step_at (Frames 0 18446744073709551615) (front ∷ words)
 
-unfoldable pub ranged_at : List (List ℕ) → Option (Step Paint × ℕ)
+unfoldable pub ranged_at : List (List ℕ) → Option (Edit × ℕ)
 ranged_at [] = None
-ranged_at (front ∷ words) = ranged_by (span_of front) front words
+ranged_at (front ∷ words) = ranged_by (range_of front) front words
 
 -- an edit: a step or none, what becomes of the size, and how many words it has
 pub record Named : Type 0 where
-  pub steps : List (Step Paint)
+  pub steps : List Edit
   pub framing : Option Framing
   pub count : ℕ
 
-abbrev pub named : Option (Framing × ℕ) → Option (Step Paint × ℕ) → Option Named
+abbrev pub named : Option (Framing × ℕ) → Option (Edit × ℕ) → Option Named
 named (Some f) s = Some (record { steps = []; framing = Some f.0; count = f.1 })
 named None s = option_map (λ r. record { steps = r.0 ∷ []; framing = None; count = r.1 }) s
 
@@ -130,5 +120,5 @@ abbrev pub edit_at : List (List ℕ) → Option Named
 edit_at words = named (framing_at words) (ranged_at words)
 
 -- steps with those of an edit after them, what becomes of the size, and how many words the edit has
-abbrev pub with_edit : List (Step Paint) → Named → List (Step Paint) × (Option Framing × ℕ)
+abbrev pub with_edit : List Edit → Named → List Edit × (Option Framing × ℕ)
 with_edit steps e = (steps ++ e.steps, (e.framing, e.count))

@@ -1,12 +1,17 @@
 //! What a cover is in a frame: a fill of whole samples, with a margin.
 
-ghost use Rattle.std.specs.Prelude.{◌≡◌, ◌<◌, IfOk, map};
+ghost use Rattle.std.specs.Prelude.{◌≡◌, ◌<◌, IfOk, IfErr, Some, None};
+ghost use Rattle.frame_formats.specs.Plan.{Tells};
+ghost use Rattle.frame_formats.specs.Steps.{all_some};
 ghost use Rattle.frame_formats.specs.Covers.{chroma_unit, video_unit, margin, cover_start, cover_count, cover_window, fill_in, settled, step_in};
 
 use crate::header::{Chroma, Format};
+use crate::plans::PlanFault;
+use crate::ranges::Rate;
 use crate::steps::Paint;
+use crate::words::Edit;
 use image_planes::{Change, Step, Window};
-use std::alloc::{AllocError, Global};
+use std::alloc::Global;
 
 /// How many columns and rows of pixels share a sample, of both fields where there are two.
 #[derive(Clone, Copy, PartialEq, Eq)]
@@ -22,7 +27,7 @@ fn unit_of_chroma(chroma: Chroma) -> Unit
     ensures small { result.down < 3 }
 {
     let (across, down) = match chroma {
-        Chroma::Mono | Chroma::Whole => (1, 1),
+        Chroma::Mono | Chroma::Whole | Chroma::WholeAlpha => (1, 1),
         Chroma::Small => (2, 2),
         Chroma::Wide => (2, 1),
         Chroma::Quarter => (4, 1),
@@ -96,32 +101,40 @@ fn settle(unit: Unit, width: usize, height: usize, change: Change<Paint>) -> Cha
             value: Paint::Around(value),
         } => Change::Fill {
             window: cover_window(unit, width, height, window),
-            value: Paint::Grey(value),
+            value: match value {
+                Some(value) => Paint::Grey(value),
+                None => Paint::Black,
+            },
         },
         _ => change,
     }
 }
 
-/// The steps of a frame of this size, each cover as the fill that it is there.
+/// The edits as steps of a frame of this size. A cover is the fill that it is there, and a range of
+/// times has the frames that are in it at this rate.
 pub(crate) fn settle_all(
     alloc: Global,
     unit: Unit,
+    rate: Option<Rate>,
     width: usize,
     height: usize,
-    steps: &[Step<Paint>],
-) -> Result<Vec<Step<Paint>>, AllocError>
+    edits: &[Edit],
+) -> Result<Vec<Step<Paint>>, PlanFault>
     requires across { 0 < unit.across }
     requires down { 0 < unit.down }
-    ensures { IfOk result (λ all. all.items ≡ map (step_in unit width height) steps.now) }
+    ensures steps { IfOk result
+        (λ all. all_some (step_in unit rate width height) edits.now ≡ Some all.items) }
+    ensures fault { IfErr result
+        (Tells (all_some (step_in unit rate width height) edits.now ≡ None)) }
 {
     let mut all = Vec::new(alloc);
-    for step in steps {
-        let step = Step {
-            first: step.first,
-            end: step.end,
-            change: settle(unit, width, height, step.change),
-        };
-        all.push(step)?;
+    for edit in edits {
+        let (first, end) = edit.range.frames(rate).ok_or(PlanFault::Outside)?;
+        all.push(Step {
+            first,
+            end,
+            change: settle(unit, width, height, edit.change),
+        })?;
     }
     Ok(all)
 }

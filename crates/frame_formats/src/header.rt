@@ -21,6 +21,8 @@ pub enum Chroma {
     Quarter,
     /// Two planes, with one sample for each pixel.
     Whole,
+    /// The same, and one plane more: how opaque each pixel is.
+    WholeAlpha,
 }
 
 /// The size of the frames in pixels, and their planes.
@@ -35,8 +37,8 @@ pub struct Format {
     pub interlaced: bool,
 }
 
-// What follows the letter in the first field that begins with it.
-fn field<'a>(fields: Parts<'a>, letter: u8) -> Option<&'a [u8]>
+/// What follows the letter in the first field that begins with it.
+pub(crate) fn field<'a>(fields: Parts<'a>, letter: u8) -> Option<&'a [u8]>
     requires { 0 < letter }
     ensures { option_map (λ text. text.now) result ≡ tagged letter (parts_left fields.entry) }
 {
@@ -98,6 +100,8 @@ fn read_chroma(word: &[u8]) -> Option<Chroma>
         Some(Chroma::Quarter)
     } else if word == b"444".as_slice() {
         Some(Chroma::Whole)
+    } else if word == b"444alpha".as_slice() {
+        Some(Chroma::WholeAlpha)
     } else {
         None
     }
@@ -146,7 +150,7 @@ fn read_deep(word: &[u8]) -> Option<(Chroma, Pixel)>
 {
     let (name, depth) = word.split_at(word.len().min(4));
     let chroma = read_deep_chroma(name)?;
-    Some((chroma, Pixel::Deep(read_depth(depth)?)))
+    Some((chroma, Pixel::of_video(read_depth(depth)?)))
 }
 
 // The chroma samples that a word names, and what a sample is.
@@ -154,7 +158,7 @@ fn read_sampling(word: &[u8]) -> Option<(Chroma, Pixel)>
     ensures { result ≡ sampling_of word.now }
 {
     match read_chroma(word) {
-        Some(chroma) => Some((chroma, Pixel::Single)),
+        Some(chroma) => Some((chroma, Pixel::of_video(255))),
         None => read_deep(word),
     }
 }
@@ -172,7 +176,7 @@ pub fn read_format(line: &[u8]) -> Option<Format>
     let height = usize::read(single_field(fields, b'H')?)?;
     let (chroma, pixel) = match field(fields, b'C') {
         Some(word) => read_sampling(word)?,
-        None => (Chroma::Small, Pixel::Single),
+        None => (Chroma::Small, Pixel::of_video(255)),
     };
     Some(Format {
         width,

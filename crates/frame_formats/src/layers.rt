@@ -5,13 +5,15 @@ ghost use Rattle.std.specs.Prelude.{◌≡◌, All, map, Some, None, IfOk, IfErr
 ghost use Rattle.std.specs.Option.{option_map};
 ghost use Rattle.image_planes.specs.Planes.{job_of};
 ghost use Rattle.image_planes.specs.Targets.{resizing_of};
-ghost use Rattle.frame_formats.specs.Layers.{StandsForPixels, picture_pixel, picture_layers, video_layers, layer_width, layer_height, change_on, job_on, jobs_on, resizing_on, resizings_on};
+ghost use Rattle.frame_formats.specs.Layers.{StandsForPixels, picture_pixel, picture_layers, video_layers, layer_width, layer_height, opaque_change, opaque_resize, change_on, job_on, jobs_on, resizing_on, resizings_on};
 ghost use Rattle.frame_formats.specs.Plan.{Tells};
 
 use crate::header::Chroma;
+use crate::pam::Tuples;
+use crate::picture::{Kind, Picture};
 use crate::plans::PlanFault;
 use crate::samples::{change_of_samples, count_samples, resize_of_samples};
-use crate::steps::{Paint, Pixel, change_in};
+use crate::steps::{Paint, Pixel, change_in, opaque};
 use image_planes::{Change, Plane, Resize, Step, Target, Value};
 use std::alloc::Global;
 
@@ -22,18 +24,27 @@ pub(crate) enum Layer {
     Pixels,
     /// One chroma sample for so many columns and rows of pixels.
     Samples(usize, usize),
+    /// Alpha: how opaque each pixel of the frame is.
+    Alpha,
 }
 
 const BRIGHTNESS: Layer = Layer::Pixels;
 
 /// A pixel of a picture.
-pub(crate) fn picture_pixel(colour: bool) -> Pixel
-    ensures { result ≡ picture_pixel colour }
+pub(crate) fn picture_pixel(picture: Picture) -> Pixel
+    ensures { result ≡ picture_pixel picture }
 {
-    if colour {
-        Pixel::Colours
-    } else {
-        Pixel::Single
+    let tuples = match picture.kind {
+        Kind::Plain { colour } => Tuples {
+            colour,
+            alpha: false,
+        },
+        Kind::Pam(tuples) => tuples,
+    };
+    Pixel {
+        tuples,
+        greatest: picture.greatest,
+        high_first: true,
     }
 }
 
@@ -46,6 +57,7 @@ pub(crate) fn picture_layers() -> &'static [Layer]
 }
 
 /// The planes of a video's frame: one of brightness, and two of chroma samples where there are any.
+/// One of alpha may follow.
 pub(crate) fn video_layers(chroma: Chroma) -> &'static [Layer]
     ensures layers { result.now ≡ video_layers chroma }
     ensures sound { All StandsForPixels result.now }
@@ -56,6 +68,47 @@ pub(crate) fn video_layers(chroma: Chroma) -> &'static [Layer]
         Chroma::Wide => &[BRIGHTNESS, Layer::Samples(2, 1), Layer::Samples(2, 1)],
         Chroma::Quarter => &[BRIGHTNESS, Layer::Samples(4, 1), Layer::Samples(4, 1)],
         Chroma::Whole => &[BRIGHTNESS, Layer::Samples(1, 1), Layer::Samples(1, 1)],
+        Chroma::WholeAlpha => &[
+            BRIGHTNESS,
+            Layer::Samples(1, 1),
+            Layer::Samples(1, 1),
+            Layer::Alpha,
+        ],
+    }
+}
+
+// What a change is to a plane of how opaque pixels are.
+fn opaque_change(pixel: Pixel, change: Change<Value>) -> Change<Value>
+    ensures { result ≡ opaque_change pixel change }
+{
+    match change {
+        Change::Fill { window, value: _ } => Change::Fill {
+            window,
+            value: opaque(pixel),
+        },
+        _ => change,
+    }
+}
+
+// What becomes of the size of such a plane.
+fn opaque_resize(pixel: Pixel, resize: Resize) -> Resize
+    ensures { result ≡ opaque_resize pixel resize }
+{
+    match resize {
+        Resize::Crop(window) => Resize::Crop(window),
+        Resize::Pad {
+            left,
+            top,
+            width,
+            height,
+            value: _,
+        } => Resize::Pad {
+            left,
+            top,
+            width,
+            height,
+            value: opaque(pixel),
+        },
     }
 }
 
@@ -73,6 +126,7 @@ fn change_on(
     let plain = change_in(pixel, change)?;
     match layer {
         Layer::Pixels => Some(plain),
+        Layer::Alpha => Some(opaque_change(pixel, plain)),
         Layer::Samples(x, y) => change_of_samples(pixel, x, y, width, height, plain),
     }
 }
@@ -83,7 +137,7 @@ fn size_on(layer: Layer, width: usize, height: usize) -> (usize, usize)
     ensures { result ≡ (layer_width layer width, layer_height layer height) }
 {
     match layer {
-        Layer::Pixels => (width, height),
+        Layer::Pixels | Layer::Alpha => (width, height),
         Layer::Samples(x, y) => (count_samples(width, x), count_samples(height, y)),
     }
 }
@@ -104,18 +158,12 @@ fn plane_on(
 {
     let mut made = Vec::new(alloc);
     for step in steps {
-        let Some(change) = change_on(pixel, layer, width, height, step.change) else {
-            return Err(PlanFault::Outside);
-        };
-        let step = Step {
+        let change = change_on(pixel, layer, width, height, step.change);
+        made.push(Step {
             first: step.first,
             end: step.end,
-            change,
-        };
-        match made.push(step) {
-            Ok(()) => {}
-            Err(_) => return Err(PlanFault::Memory),
-        }
+            change: change.ok_or(PlanFault::Outside)?,
+        })?;
     }
     let (wide, high) = size_on(layer, width, height);
     let size = pixel.size();
@@ -124,10 +172,7 @@ fn plane_on(
     if wide <= greatest && wide > greatest / size {
         return Err(PlanFault::Memory);
     }
-    match Plane::new(size, wide, high, made) {
-        Some(plane) => Ok(plane),
-        None => Err(PlanFault::Outside),
-    }
+    Plane::new(alloc, size, wide, high, made)?.ok_or(PlanFault::Outside)
 }
 
 // The plane, with what becomes of its size where this becomes of the frame's.
@@ -143,6 +188,7 @@ fn target_on(
 {
     let under = match layer {
         Layer::Pixels => resize,
+        Layer::Alpha => opaque_resize(pixel, resize),
         Layer::Samples(x, y) => resize_of_samples(pixel, x, y, width, height, resize)?,
     };
     let (wide, high) = size_on(layer, width, height);
@@ -165,14 +211,7 @@ pub(crate) fn planes_of(
 {
     let mut planes = Vec::new(alloc);
     for layer in layers {
-        let plane = match plane_on(alloc, pixel, *layer, width, height, steps) {
-            Ok(plane) => plane,
-            Err(fault) => return Err(fault),
-        };
-        match planes.push(plane) {
-            Ok(()) => {}
-            Err(_) => return Err(PlanFault::Memory),
-        }
+        planes.push(plane_on(alloc, pixel, *layer, width, height, steps)?)?;
     }
     Ok(planes)
 }
@@ -196,10 +235,7 @@ pub(crate) fn targets_of(
         let Some(target) = target_on(pixel, *layer, width, height, resize) else {
             return Err(PlanFault::Outside);
         };
-        match targets.push(target) {
-            Ok(()) => {}
-            Err(_) => return Err(PlanFault::Memory),
-        }
+        targets.push(target)?;
     }
     Ok(targets)
 }

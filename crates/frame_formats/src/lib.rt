@@ -4,13 +4,19 @@
 #![tactic(auto)]
 
 mod covers;
+mod digits;
 mod framing;
 mod header;
+mod heads;
 mod hiding;
 mod layers;
 mod line;
+mod lists;
+mod pam;
+mod pam_words;
 mod picture;
 mod plans;
+mod ranges;
 mod samples;
 mod steps;
 mod words;
@@ -19,8 +25,12 @@ pub use covers::Unit;
 pub use framing::Framing;
 pub use header::{Chroma, Format, read_format};
 pub use hiding::recipes_hide;
-pub use image_planes::{Change, Step, Window};
-pub use picture::{Head, Picture, Scan, heads_end_themselves};
+pub use image_planes::{Change, Window};
+pub use lists::{Edits, WordsFault};
+pub use pam::{Fields, Lines, Place, Tuples};
+pub use pam_words::Key;
+pub use picture::{Head, Kind, Picture, Scan, heads_end_themselves};
 pub use plans::{Plan, PlanFault};
+pub use ranges::{Range, Rate, read_rate};
 pub use steps::{Paint, Pixel};
-pub use words::{Edits, WordsFault};
+pub use words::Edit;

@@ -1,17 +1,31 @@
 //! The head of a picture: its kind, its size and the greatest value of a pixel.
 
-ghost use Rattle.std.specs.Prelude.{◌≡◌, IfOk};
+ghost use Rattle.std.specs.Prelude.{◌≡◌};
 ghost use Rattle.std.specs.Option.{is_some};
-ghost use Rattle.frame_formats.specs.Picture.{is_white, with_digit, after_white, after_digit, at_byte, pushed, start, head_text, ApartHeads, OneByteMore, BadStays, BeginsWithLetter, ReadsBack};
+ghost use Rattle.frame_formats.specs.Digits.{with_digit};
+ghost use Rattle.frame_formats.specs.Heads.{ReadsBack};
+ghost use Rattle.frame_formats.specs.Picture.{is_white, after_white, after_digit, picture_in, scan_of, at_byte, pushed, start, ApartHeads, OneByteMore, BadStays, BeginsWithLetter};
 
-use std::alloc::{AllocError, Global};
+use crate::digits::with_digit;
+use crate::pam::{Fields, Lines, Place, Tuples};
 
-/// The size of a picture, and whether its pixels are of three bytes, red, green and blue, or of one.
+/// What the samples of a pixel are, and how the head tells it.
+#[derive(Clone, Copy, PartialEq, Eq)]
+pub enum Kind {
+    /// One brightness (`P5`), or red, green and blue (`P6`).
+    Plain { colour: bool },
+    /// The head has lines (`P7`).
+    Pam(Tuples),
+}
+
+/// The size of a picture, and its pixels.
 #[derive(Clone, Copy, PartialEq, Eq)]
 pub struct Picture {
     pub width: usize,
     pub height: usize,
-    pub colour: bool,
+    pub kind: Kind,
+    /// The greatest value of a sample. Above 255 a sample has two bytes, the high one first.
+    pub greatest: u16,
 }
 
 /// What has been read of a head that isn't complete. A number is `None` before its first digit.
@@ -43,6 +57,8 @@ pub enum Head {
         height: usize,
         greatest: Option<usize>,
     },
+    /// The lines after `P7`.
+    Lines(Lines),
 }
 
 /// The result of reading bytes, one after the other, as the head of a picture.
@@ -62,19 +78,6 @@ fn is_white(byte: u8) -> bool
     byte == b' ' || (byte >= 9 && byte <= 13)
 }
 
-// The number with one more digit, below 2^32.
-fn with_digit(number: Option<usize>, digit: usize) -> Option<usize>
-    ensures { result ≡ with_digit number digit }
-{
-    match number {
-        None => Some(digit),
-        Some(number) => {
-            let number = number.checked_mul(10)?.checked_add(digit)?;
-            (number <= u32::MAX as usize).then_some(number)
-        }
-    }
-}
-
 // Adds a digit, and returns whether the number is then in range.
 fn push_digit(number: &mut Option<usize>, digit: usize) -> bool
     ensures number { number.new ≡ with_digit number.old digit }
@@ -84,13 +87,50 @@ fn push_digit(number: &mut Option<usize>, digit: usize) -> bool
     number.is_some()
 }
 
+// The picture that fields name.
+#[tactic(auto, unfolding(crate::specs::Picture::picture_in))]
+fn picture_in(fields: Fields) -> Option<Picture>
+    ensures { result ≡ picture_in fields }
+{
+    let (width, height) = (fields.width?, fields.height?);
+    let (depth, greatest, tuples) = (fields.depth?, fields.greatest?, fields.tuples?);
+    if width == 0 || height == 0 || greatest == 0 || greatest > u16::MAX as usize {
+        return None;
+    }
+    (depth == tuples.depth()).then_some(Picture {
+        width,
+        height,
+        kind: Kind::Pam(tuples),
+        greatest: greatest as u16,
+    })
+}
+
+// What lines are: at their end, the head of a picture or bad.
+fn scan_of(lines: Option<Lines>) -> Scan
+    ensures { result ≡ scan_of lines }
+{
+    let Some(lines) = lines else {
+        return Scan::Bad;
+    };
+    if lines.place == Place::Ended {
+        return match picture_in(lines.fields) {
+            Some(picture) => Scan::Done(picture),
+            None => Scan::Bad,
+        };
+    }
+    Scan::More {
+        head: Head::Lines(lines),
+        comment: false,
+    }
+}
+
 impl Head {
     // What it is after white space, or after a comment.
     fn after_white(self) -> Scan
         ensures { result ≡ after_white self }
     {
         let head = match self {
-            Head::Start | Head::Letter => return Scan::Bad,
+            Head::Start | Head::Letter | Head::Lines(_) => return Scan::Bad,
             Head::Width { width: Some(0), .. } => return Scan::Bad,
             Head::Height {
                 height: Some(0),
@@ -124,13 +164,14 @@ impl Head {
                 height,
                 greatest: Some(greatest),
             } => {
-                if greatest != 255 {
+                if greatest == 0 || greatest > u16::MAX as usize {
                     return Scan::Bad;
                 }
                 return Scan::Done(Picture {
                     width,
                     height,
-                    colour,
+                    kind: Kind::Plain { colour },
+                    greatest: greatest as u16,
                 });
             }
             _ => self,
@@ -147,7 +188,7 @@ impl Head {
     {
         let mut head = self;
         let fits = match &mut head {
-            Head::Start | Head::Letter | Head::Kind { .. } => false,
+            Head::Start | Head::Letter | Head::Kind { .. } | Head::Lines(_) => false,
             Head::Width { width, .. } => push_digit(width, digit),
             Head::Height { height, .. } => push_digit(height, digit),
             Head::Greatest { greatest, .. } => push_digit(greatest, digit),
@@ -178,7 +219,12 @@ impl Head {
                 head: Head::Kind { colour: true },
                 comment: false,
             },
+            (Head::Letter, b'7') => Scan::More {
+                head: Head::Lines(Lines::new()),
+                comment: false,
+            },
             (Head::Start, _) | (Head::Letter, _) => Scan::Bad,
+            (Head::Lines(lines), _) => scan_of(lines.push(byte)),
             (_, b'#') => Scan::More {
                 head: self,
                 comment: true,
@@ -231,25 +277,10 @@ impl Scan {
     }
 }
 
-/// The head of a picture: its kind, its size and `255`, each on a line.
-pub(crate) fn picture_head(alloc: Global, picture: Picture) -> Result<Vec<u8>, AllocError>
-    ensures { IfOk result (λ text. text.items ≡ head_text picture) }
-{
-    let mut text = Vec::new(alloc);
-    text.extend_from_slice(if picture.colour { b"P6\n" } else { b"P5\n" })?;
-    let width = picture.width.to_string(alloc)?;
-    text.extend_from_slice(width.as_bytes())?;
-    text.push(b' ')?;
-    let height = picture.height.to_string(alloc)?;
-    text.extend_from_slice(height.as_bytes())?;
-    text.extend_from_slice(b"\n255\n")?;
-    Ok(text)
-}
-
 /// No head is the beginning of another, so a reader knows where a head ends. No head begins with
 /// bad bytes. What `picture_head` writes is read as its picture. A caller calls this for its
 /// clauses, which are these laws; it does nothing.
-#[tactic(auto, using(crate::proofs::Heads::laws_of_heads))]
+#[tactic(auto, using(crate::proofs::HeadLaws::laws_of_heads))]
 pub fn heads_end_themselves()
     ensures apart { ApartHeads }
     ensures one_byte_more { OneByteMore }

@@ -11,21 +11,44 @@ ghost use Rattle.frame_formats.specs.Recipe.{recipe, video_recipe, picture_recip
 use crate::covers::{Unit, settle_all, unit_of_video};
 use crate::framing::{Framing, resize_of};
 use crate::header::Format;
+use crate::heads::picture_head;
 use crate::layers::{picture_layers, picture_pixel, planes_of, targets_of, video_layers};
 use crate::line::{ended_line, resized_line};
-use crate::picture::{Picture, picture_head};
-use crate::steps::Paint;
-use image_planes::{Plane, Step, Target, change_planes, planes_len, resize_planes, targets_len};
-use std::alloc::Global;
+use crate::picture::Picture;
+use crate::ranges::read_rate;
+use crate::words::Edit;
+use image_planes::{Plane, Target, change_planes, planes_len, resize_planes, targets_len};
+use std::alloc::{AllocError, AllocFailed, Global};
 
 /// Why there is no plan.
 #[derive(Clone, Copy, Debug, PartialEq, Eq)]
 pub enum PlanFault {
     /// The edit reaches outside a plane, or doesn't fall on whole chroma samples. Or it has a
-    /// colour where there is one brightness, or a value that the samples lack.
+    /// colour where there is one brightness, or a value that the samples lack. Or it is for times,
+    /// and there is no rate, or no frame is in them.
     Outside,
     /// No memory was found for the plan, or a frame has 2^64 bytes or more.
     Memory,
+}
+
+impl From<AllocError> for PlanFault {
+    ghost use Rattle.frame_formats.specs.declared.plans.PlanFault.TheVariants.{Memory};
+
+    ghost from_gives = { λ _ e. e ≡ Memory };
+
+    fn from(_e: AllocError) -> PlanFault {
+        PlanFault::Memory
+    }
+}
+
+impl<T: Drop> From<AllocFailed<T>> for PlanFault {
+    ghost use Rattle.frame_formats.specs.declared.plans.PlanFault.TheVariants.{Memory};
+
+    ghost from_gives = { λ _ e. e ≡ Memory };
+
+    fn from(_e: AllocFailed<T>) -> PlanFault {
+        PlanFault::Memory
+    }
 }
 
 /// The changes of each frame of a video, or of a picture, and what is written before it.
@@ -59,15 +82,10 @@ impl Plan {
             (2 ^ 64 ≤ jobs_len (map job_of planes.items))
             ⊎ (2 ^ 64 ≤ new_len (map job_of planes.items) (resizings_of targets))) }
     {
-        let Some(source_len) = planes_len(&planes) else {
-            return Err(PlanFault::Memory);
-        };
-        let new_len = match &targets {
-            None => Some(source_len),
-            Some(targets) => targets_len(targets),
-        };
-        let Some(len) = new_len else {
-            return Err(PlanFault::Memory);
+        let source_len = planes_len(&planes).ok_or(PlanFault::Memory)?;
+        let len = match &targets {
+            None => source_len,
+            Some(targets) => targets_len(targets).ok_or(PlanFault::Memory)?,
         };
         Ok(Plan {
             head,
@@ -88,7 +106,7 @@ impl Plan {
         alloc: Global,
         line: &[u8],
         format: Format,
-        steps: &[Step<Paint>],
+        steps: &[Edit],
         framing: Option<Framing>,
     ) -> Result<Plan, PlanFault>
         requires { format_of line.now ≡ Some format }
@@ -99,9 +117,8 @@ impl Plan {
     {
         let layers = video_layers(format.chroma);
         let unit = unit_of_video(format);
-        let Ok(settled) = settle_all(alloc, unit, format.width, format.height, steps) else {
-            return Err(PlanFault::Memory);
-        };
+        let rate = read_rate(line);
+        let settled = settle_all(alloc, unit, rate, format.width, format.height, steps)?;
         let planes = planes_of(
             alloc,
             format.pixel,
@@ -111,14 +128,11 @@ impl Plan {
             &settled,
         )?;
         let Some(framing) = framing else {
-            let Ok(head) = ended_line(alloc, line) else {
-                return Err(PlanFault::Memory);
-            };
-            return Plan::new(head, planes, None);
+            return Plan::new(ended_line(alloc, line)?, planes, None);
         };
-        let Some(resize) = resize_of(format.pixel, format.width, format.height, framing) else {
-            return Err(PlanFault::Outside);
-        };
+        let resize = resize_of(format.pixel, format.width, format.height, framing).ok_or(
+            PlanFault::Outside,
+        )?;
         if resize.height() < 1 {
             return Err(PlanFault::Outside);
         }
@@ -130,9 +144,7 @@ impl Plan {
             format.height,
             resize,
         )?;
-        let Ok(head) = resized_line(alloc, line, resize.width(), resize.height()) else {
-            return Err(PlanFault::Memory);
-        };
+        let head = resized_line(alloc, line, resize.width(), resize.height())?;
         Plan::new(head, planes, Some(targets))
     }
 
@@ -145,7 +157,7 @@ impl Plan {
     pub fn for_picture(
         alloc: Global,
         picture: Picture,
-        steps: &[Step<Paint>],
+        steps: &[Edit],
         framing: Option<Framing>,
     ) -> Result<Plan, PlanFault>
         ensures plan { IfOk result
@@ -153,12 +165,10 @@ impl Plan {
         ensures fault { IfErr result
             (Tells (picture_recipe (edits steps.now framing) picture ≡ None)) }
     {
-        let pixel = picture_pixel(picture.colour);
+        let pixel = picture_pixel(picture);
         let layers = picture_layers();
         let unit = Unit { across: 1, down: 1 };
-        let Ok(settled) = settle_all(alloc, unit, picture.width, picture.height, steps) else {
-            return Err(PlanFault::Memory);
-        };
+        let settled = settle_all(alloc, unit, None, picture.width, picture.height, steps)?;
         let planes = planes_of(
             alloc,
             pixel,
@@ -168,14 +178,11 @@ impl Plan {
             &settled,
         )?;
         let Some(framing) = framing else {
-            let Ok(head) = picture_head(alloc, picture) else {
-                return Err(PlanFault::Memory);
-            };
-            return Plan::new(head, planes, None);
+            return Plan::new(picture_head(alloc, picture)?, planes, None);
         };
-        let Some(resize) = resize_of(pixel, picture.width, picture.height, framing) else {
-            return Err(PlanFault::Outside);
-        };
+        let resize = resize_of(pixel, picture.width, picture.height, framing).ok_or(
+            PlanFault::Outside,
+        )?;
         if resize.height() == 0 {
             return Err(PlanFault::Outside);
         }
@@ -183,12 +190,10 @@ impl Plan {
         let resized = Picture {
             width: resize.width(),
             height: resize.height(),
-            colour: picture.colour,
+            kind: picture.kind,
+            greatest: picture.greatest,
         };
-        let Ok(head) = picture_head(alloc, resized) else {
-            return Err(PlanFault::Memory);
-        };
-        Plan::new(head, planes, Some(targets))
+        Plan::new(picture_head(alloc, resized)?, planes, Some(targets))
     }
 
     /// What is written before the first frame: a line with its line feed, or the head of a picture.

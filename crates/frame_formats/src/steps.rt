@@ -1,101 +1,170 @@
 //! Changes of the pixels of frames, and what they are on each plane.
 
-ghost use Rattle.std.specs.Prelude.{◌≡◌, ◌<◌};
-ghost use Rattle.frame_formats.specs.Steps.{pixel_size, each_byte, two_bytes, grey_of, no_colour, value_in, change_in};
+ghost use Rattle.std.specs.Prelude.{◌≡◌, ◌∷◌, ◌<◌, ◌%◌, ◌/◌, []};
+ghost use Rattle.frame_formats.specs.Steps.{video_pixel, pixel_size, pixel_bytes, black, grey_of, colour_of, no_colour, opaque, value_in, change_in};
 
+use crate::pam::Tuples;
 use image_planes::{Change, Value};
 
-/// The value that pixels get.
+/// The value that pixels get. Its numbers are in units of the samples.
 #[derive(Clone, Copy, PartialEq, Eq)]
 pub enum Paint {
-    /// This brightness and no colour. It is in units of the samples.
+    /// This brightness and no colour. Where pixels may be transparent, each value is opaque.
     Grey(usize),
-    /// A colour, for pixels of three bytes.
-    Colour { red: u8, green: u8, blue: u8 },
-    /// This brightness and no colour, also of the samples around the window, with a margin.
-    Around(usize),
+    /// A sixteenth of the values of a sample: 16 of 256, which is black in a video. And no colour.
+    Black,
+    /// A colour, for pixels of three samples.
+    Colour {
+        red: usize,
+        green: usize,
+        blue: usize,
+    },
+    /// This brightness and no colour, also of the samples around the window, with a margin. Without
+    /// a number it is `Black`.
+    Around(Option<usize>),
 }
 
-/// What the bytes of a pixel are.
+/// What the bytes of a pixel are: samples of one byte each, or of two where a value may be above
+/// 255.
 #[derive(Clone, Copy, PartialEq, Eq)]
-pub enum Pixel {
-    /// One byte: a brightness, or a chroma sample.
-    Single,
-    /// Two bytes, the low one first, of a value that is at most this.
-    Deep(u16),
-    /// Three bytes: red, green and blue.
-    Colours,
+pub struct Pixel {
+    pub tuples: Tuples,
+    /// The greatest value of a sample.
+    pub greatest: u16,
+    /// Whether the high one of two bytes comes first.
+    pub high_first: bool,
 }
 
 impl Pixel {
+    /// A sample of a video.
+    pub(crate) fn of_video(greatest: u16) -> Pixel
+        ensures { result ≡ video_pixel greatest }
+    {
+        let tuples = Tuples {
+            colour: false,
+            alpha: false,
+        };
+        Pixel {
+            tuples,
+            greatest,
+            high_first: false,
+        }
+    }
+
     /// The number of its bytes.
     pub(crate) fn size(self) -> usize
         ensures size { result ≡ pixel_size self }
         ensures some { 0 < result }
     {
-        match self {
-            Pixel::Single => 1,
-            Pixel::Deep(_) => 2,
-            Pixel::Colours => 3,
+        let samples = self.tuples.depth();
+        if self.greatest < 256 {
+            samples
+        } else {
+            2 * samples
         }
     }
 }
 
-// A pixel whose bytes are all this one.
-fn each_byte(value: u8) -> Value
-    ensures { result ≡ each_byte value }
+// The low byte of a number, and the high one.
+fn halves(value: u16) -> (u8, u8)
+    ensures { result ≡ (value % 256, value / 256) }
 {
-    [value; 8]
+    ((value % 256) as u8, (value / 256) as u8)
 }
 
-// A pixel of two bytes, the low one first.
-fn two_bytes(value: u16) -> Value
-    ensures { result ≡ two_bytes value }
+// A pixel with these samples. Where it has fewer, the others are ignored.
+fn pixel_of(pixel: Pixel, first: u16, second: u16, third: u16, fourth: u16) -> Value
+    ensures { result ≡ pixel_bytes pixel (first ∷ second ∷ third ∷ fourth ∷ []) }
 {
-    let (low, high) = ((value % 256) as u8, (value / 256) as u8);
-    [low, high, 0, 0, 0, 0, 0, 0]
+    let (first, first_high) = halves(first);
+    let (second, second_high) = halves(second);
+    let (third, third_high) = halves(third);
+    let (fourth, fourth_high) = halves(fourth);
+    if pixel.greatest < 256 {
+        [first, second, third, fourth, 0, 0, 0, 0]
+    } else if pixel.high_first {
+        [
+            first_high,
+            first,
+            second_high,
+            second,
+            third_high,
+            third,
+            fourth_high,
+            fourth,
+        ]
+    } else {
+        [
+            first,
+            first_high,
+            second,
+            second_high,
+            third,
+            third_high,
+            fourth,
+            fourth_high,
+        ]
+    }
 }
 
-/// A pixel of this brightness, or `None` where its bits don't have the value.
+// The brightness of black.
+fn black(pixel: Pixel) -> usize
+    ensures { result ≡ black pixel }
+{
+    (pixel.greatest as usize + 1) / 16
+}
+
+/// An opaque pixel of this brightness, or `None` where its samples don't have the value.
 pub(crate) fn grey_of(pixel: Pixel, value: usize) -> Option<Value>
     ensures { result ≡ grey_of pixel value }
 {
-    match pixel {
-        Pixel::Deep(greatest) => {
-            if value > greatest as usize {
-                return None;
-            }
-            Some(two_bytes(value as u16))
-        }
-        Pixel::Single | Pixel::Colours => {
-            if value > 255 {
-                return None;
-            }
-            Some(each_byte(value as u8))
-        }
+    if value > pixel.greatest as usize {
+        return None;
     }
+    let value = value as u16;
+    Some(if pixel.tuples.colour {
+        pixel_of(pixel, value, value, value, pixel.greatest)
+    } else {
+        pixel_of(pixel, value, pixel.greatest, 0, 0)
+    })
+}
+
+// An opaque pixel of this colour. `None` where it has one brightness, or its samples lack a value.
+fn colour_of(pixel: Pixel, red: usize, green: usize, blue: usize) -> Option<Value>
+    ensures { result ≡ colour_of pixel red green blue }
+{
+    let greatest = pixel.greatest as usize;
+    if !pixel.tuples.colour || red > greatest || green > greatest || blue > greatest {
+        return None;
+    }
+    let (red, green, blue) = (red as u16, green as u16, blue as u16);
+    Some(pixel_of(pixel, red, green, blue, pixel.greatest))
 }
 
 /// A chroma sample of no colour.
 pub(crate) fn no_colour(pixel: Pixel) -> Value
     ensures { result ≡ no_colour pixel }
 {
-    match pixel {
-        Pixel::Deep(greatest) => two_bytes(greatest / 2 + 1),
-        Pixel::Single | Pixel::Colours => each_byte(128),
-    }
+    let middle = pixel.greatest / 2 + 1;
+    pixel_of(pixel, middle, middle, middle, middle)
+}
+
+/// A sample of how opaque a pixel is, of one that is wholly.
+pub(crate) fn opaque(pixel: Pixel) -> Value
+    ensures { result ≡ opaque pixel }
+{
+    let greatest = pixel.greatest;
+    pixel_of(pixel, greatest, greatest, greatest, greatest)
 }
 
 // The bytes that such a pixel gets.
 fn value_in(pixel: Pixel, paint: Paint) -> Option<Value>
     ensures { result ≡ value_in pixel paint }
 {
-    match (paint, pixel) {
-        (Paint::Grey(value), _) | (Paint::Around(value), _) => grey_of(pixel, value),
-        (Paint::Colour { .. }, Pixel::Single) | (Paint::Colour { .. }, Pixel::Deep(_)) => None,
-        (Paint::Colour { red, green, blue }, Pixel::Colours) => {
-            Some([red, green, blue, 0, 0, 0, 0, 0])
-        }
+    match paint {
+        Paint::Grey(value) | Paint::Around(Some(value)) => grey_of(pixel, value),
+        Paint::Black | Paint::Around(None) => grey_of(pixel, black(pixel)),
+        Paint::Colour { red, green, blue } => colour_of(pixel, red, green, blue),
     }
 }
 

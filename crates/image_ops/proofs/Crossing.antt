@@ -1,15 +1,17 @@
 -- Cells that are taken from other cells one after the other, and rows of which each cell is taken from the same row.
-use Rattle.std.proofs.Common.{◌≡◌, ℕ, ◌+◌, ◌-◌, ◌*◌, ◌/◌, ◌<◌, ◌≤◌, List, ◌++◌, length, set, take, drop, Option, sym, ap, ◌∙◌, arith, length-set, length-take, length-drop, length-append, inl, inr, Some}
+use Rattle.std.proofs.Common.{◌≡◌, ℕ, ◌+◌, ◌-◌, ◌*◌, ◌<◌, ◌≤◌, List, ◌++◌, length, set, take, drop, Option, sym, ap, ◌∙◌, arith, length-set, drop-drop, inl, inr, Some}
 use Rattle.std.specs.List.{slice_get}
 use Rattle.std.proofs.lemmas.Bool.{cases_lt}
-use Rattle.std.proofs.lemmas.Bool.Decides.{eqb_tells}
-use Rattle.image_model.proofs.Cells.{slice_get-take, slice_get-drop, slice_get-append_left, slice_get-append_right, slice_get-set_same, slice_get-set_other}
+use Rattle.std.proofs.lemmas.Bool.Decides.{eqb_tells, nat_tests}
+use Rattle.image_model.proofs.Cells.{slice_get-take, slice_get-drop, slice_get-set_same, slice_get-set_other}
 use Rattle.image_model.specs.Layout.{Layout, pixel}
 use Rattle.image_model.specs.Grid.{grid, grid_of}
 use Rattle.image_model.specs.Turns.{swapped_column}
+use Rattle.image_model.specs.Windows.{Stretch, with_stretch}
+use Rattle.image_model.proofs.Stretches.{length-with_stretch, with_stretch_at, with_stretch_beside}
 use Rattle.image_model.proofs.Grids.{pixel_at, same_grids}
 use Rattle.image_shape.specs.declared.shape.Shape.{Shape}
-use Rattle.image_ops.specs.Gathered.{AreGathered, CrossedOver}
+use Rattle.image_ops.specs.Gathered.{AreGathered, from_end, mirrored_place}
 use Rattle.image_ops.proofs.RowsWritten.{RowsDone, still}
 
 -- ---- cell by cell
@@ -33,109 +35,115 @@ gathered_more from source old new n value so within there = record {
       ];
 }
 
--- the first n cells of one list and the last n of the other have changed places
-pub record CrossedTo {T : Type 0} (front back new_front new_back : List T) (n : ℕ) : Type 0 where
-  pub as_many_front : length new_front ≡ length front
-  pub as_many_back : length new_back ≡ length back
-  pub first : (k : ℕ) → k < n → slice_get new_front k ≡ slice_get back (length front - 1 - k)
-  pub still_first : (k : ℕ) → n ≤ k → slice_get new_front k ≡ slice_get front k
-  pub second : (k : ℕ) → length front ≤ k + n → k < length front → slice_get new_back k ≡ slice_get front (length front - 1 - k)
-  pub still_second : (k : ℕ) → k + n < length front → slice_get new_back k ≡ slice_get back k
+-- ---- cells that change places with those at the same distance from the other end
 
--- one cell more of each
-pub crossed_more : {T : Type 0} (front back new_front new_back : List T) (n : ℕ) (p q : T) → CrossedTo front back new_front new_back n → length back ≡ length front → n < length front
-    → slice_get new_front n ≡ Some p → slice_get new_back (length front - 1 - n) ≡ Some q
-    → CrossedTo front back (set new_front n q) (set new_back (length front - 1 - n) p) (n + 1)
-crossed_more front back new_front new_back n p q so as_many within here there =
-    let m : ℕ = length front - 1 - n in
-    record {
-      as_many_front = length-set new_front n q ∙ so.as_many_front;
-      as_many_back = length-set new_back m p ∙ so.as_many_back;
-      first = λ k below.
-          elim (cases_lt k n) [
-            | inl earlier ↦ slice_get-set_other new_front n k q (λ e. absurd (omega (arith, e, earlier))) ∙ so.first k earlier
-            | inr last ↦
-                let this : n ≡ k = omega (arith, below, last) in
-                ap (slice_get (set new_front n q)) (sym this) ∙ slice_get-set_same new_front n q (omega (arith, within, so.as_many_front)) ∙ sym there
-                ∙ so.still_second m (omega arith) ∙ ap (λ j. slice_get back (length front - 1 - j)) this
-          ];
-      still_first = λ k above. slice_get-set_other new_front n k q (λ e. absurd (omega (arith, e, above))) ∙ so.still_first k (omega arith);
-      second = λ k upto below.
-          elim (cases_lt m k) [
-            | inl later ↦ slice_get-set_other new_back m k p (λ e. absurd (omega (arith, e, later))) ∙ so.second k (omega (arith, later)) below
-            | inr last ↦
-                let this : m ≡ k = omega (arith, upto, last, within) in
-                let back_n : n ≡ length front - 1 - k = omega (arith, this, within) in
-                ap (slice_get (set new_back m p)) (sym this) ∙ slice_get-set_same new_back m p (omega (arith, within, so.as_many_back, as_many)) ∙ sym here
-                ∙ so.still_first n (omega arith) ∙ ap (slice_get front) back_n
-          ];
-      still_second = λ k under. slice_get-set_other new_back m k p (λ e. absurd (omega (arith, e, under))) ∙ so.still_second k (omega (arith, under));
-    }
+-- cells that are taken from cells that were taken
+pub gathered_twice : {T : Type 0} (first second both : ℕ → ℕ) (old now new : List T) → length now ≡ length old → length new ≡ length old → AreGathered first old now → AreGathered second now new
+    → ((k : ℕ) → k < length old → second k < length old) → ((k : ℕ) → k < length old → first (second k) ≡ both k) → AreGathered both old new
+gathered_twice first second both old now new as_many still_many one other within same = record {
+  each = λ k below.
+      let here : k < length old = omega (arith, below, still_many) in
+      other.each k below ∙ one.each (second k) (omega (arith, within k here, as_many)) ∙ ap (slice_get old) (same k here);
+}
 
--- ---- a row in the opposite order
+pub mirrored_within : (n from upto k : ℕ) → k < n → mirrored_place n from upto k < n
+mirrored_within n from upto k below = grind (arith, nat_tests)
 
-module _ {T : Type 0} (old : List T) (half split : ℕ) (is_half : half ≡ length old / 2) (is_split : split ≡ length old - half) (new_front new_back : List T)
-    (so : CrossedOver (take half (take split old)) (drop split old) new_front new_back) where
-  abbrev middle : List T
-  middle = drop half (take split old)
+pub mirrored_twice : (n from middle upto k : ℕ) → from ≤ middle → middle ≤ upto → k < n → mirrored_place n from middle (mirrored_place n middle upto k) ≡ mirrored_place n from upto k
+mirrored_twice n from middle upto k first second below = grind (arith, nat_tests)
 
-  abbrev new : List T
-  new = (new_front ++ middle) ++ new_back
+mirrored_here : (n from upto k : ℕ) → from ≤ from_end n k → from_end n k < upto → mirrored_place n from upto k ≡ n - 1 - k
+mirrored_here n from upto k above below = grind (arith, nat_tests)
 
-  long_front : length (take half (take split old)) ≡ half
-  long_front = omega (arith, length-take half (take split old), length-take split old)
+mirrored_outer : (n from upto k : ℕ) → from_end n k < from → mirrored_place n from upto k ≡ k
+mirrored_outer n from upto k before = grind (arith, nat_tests)
 
-  long_middle : length middle ≡ split - half
-  long_middle = omega (arith, length-drop half (take split old), length-take split old)
+mirrored_inner : (n from upto k : ℕ) → upto ≤ from_end n k → mirrored_place n from upto k ≡ k
+mirrored_inner n from upto k after = grind (arith, nat_tests)
 
-  long_back : length (drop split old) ≡ half
-  long_back = omega (arith, length-drop split old)
+-- all cells have changed places
+pub mirrored_all : (n k : ℕ) → k < n → mirrored_place n 0 n k ≡ n - 1 - k
+mirrored_all n k below = grind (arith, nat_tests)
 
-  long_new_front : length new_front ≡ half
-  long_new_front = so.as_many_front ∙ long_front
+-- two blocks that reach each other are all that is left
+pub mirrored_rest : (n done more k : ℕ) → n ≤ 2 * (done + more) → k < n → mirrored_place n done (done + more) k ≡ mirrored_place n done n k
+mirrored_rest n done more k reached below = grind (arith, nat_tests)
 
-  long_new_back : length new_back ≡ half
-  long_new_back = so.as_many_back ∙ long_back
+-- the cell in the middle stays
+pub mirrored_none : (n done k : ℕ) → n < 2 * done + 2 → k < n → mirrored_place n done n k ≡ k
+mirrored_none n done k few below = grind (arith, nat_tests)
 
-  long_first : length (new_front ++ middle) ≡ split
-  long_first = omega (arith, length-append new_front middle, long_new_front, long_middle)
+-- cell j of a block that was read from a stretch, from its last cell on
+pub turned_from : {T : Type 0} (old block : List T) (start many upto n : ℕ) → many ≡ n → upto ≡ n → length block ≡ n → AreGathered (λ k. upto - 1 - k) (take many (drop start old)) block
+    → (j : ℕ) → j < n → slice_get block j ≡ slice_get old (start + (n - 1 - j))
+turned_from old block start many upto n is_many is_upto long so j below =
+    so.each j (omega (arith, long, below))
+    ∙ slice_get-take many (drop start old) (upto - 1 - j) (omega (arith, is_many, is_upto, below))
+    ∙ slice_get-drop start old (upto - 1 - j)
+    ∙ ap (λ m. slice_get old (start + (m - 1 - j))) is_upto
 
-  pub reversed_many : length new ≡ length old
-  reversed_many = omega (arith, length-append (new_front ++ middle) new_back, long_first, long_new_back)
+-- a block that was written over some cells
+pub written : {T : Type 0} (old block : List T) (start many n : ℕ) → many ≡ n → take start old ++ (block ++ drop many (drop start old)) ≡ with_stretch old (record { start = start; len = n }) block
+written old block start many n is_many =
+    ap (λ rest. take start old ++ (block ++ rest)) (ap (λ m. drop m (drop start old)) is_many ∙ drop-drop n start old)
 
-  pub reversed : AreGathered (λ x. length old - 1 - x) old new
-  reversed = record {
+-- two blocks are written, one after the other
+module _ {T : Type 0} (old : List T) (done n last : ℕ) (inside : 2 * done + n ≤ length old) (is_last : last ≡ length old - done - n) (front back : List T) (front_many : length front ≡ n) (back_many : length back ≡ n)
+    (front_from : (j : ℕ) → j < n → slice_get front j ≡ slice_get old (done + (n - 1 - j))) (back_from : (j : ℕ) → j < n → slice_get back j ≡ slice_get old (last + (n - 1 - j))) where
+  abbrev first : Stretch
+  first = record { start = done; len = n }
+
+  abbrev second : Stretch
+  second = record { start = last; len = n }
+
+  abbrev pub crossed : List T
+  crossed = with_stretch (with_stretch old first back) second front
+
+  half_many : length (with_stretch old first back) ≡ length old
+  half_many = length-with_stretch old first back (omega arith) back_many
+
+  pub crossed_many : length crossed ≡ length old
+  crossed_many = length-with_stretch (with_stretch old first back) second front (omega (arith, half_many)) front_many ∙ half_many
+
+  pub blocks_crossed : AreGathered (mirrored_place (length old) done (done + n)) old crossed
+  blocks_crossed = record {
     each = λ k below.
-        elim (cases_lt k half) [
-          | inl first ↦
-              let from : half - 1 - k + split ≡ length old - 1 - k = omega (arith, first) in
-              slice_get-append_left (new_front ++ middle) new_back k (omega (arith, long_first, first))
-              ∙ slice_get-append_left new_front middle k (omega (arith, long_new_front, first))
-              ∙ so.first k (omega (arith, first, long_front))
-              ∙ ap (λ n. slice_get (drop split old) (n - 1 - k)) long_front
-              ∙ slice_get-drop split old (half - 1 - k)
-              ∙ ap (slice_get old) (omega (arith, from))
-          | inr past ↦
-              elim (cases_lt k split) [
-                | inl centre ↦
-                    let is_k : k ≡ half = omega (arith, past, centre) in
-                    let at : half + (k - half) ≡ k = omega (arith, past) in
-                    slice_get-append_left (new_front ++ middle) new_back k (omega (arith, long_first, centre))
-                    ∙ ap (slice_get (new_front ++ middle)) (sym at)
-                    ∙ slice_get-append_right new_front middle half (k - half) long_new_front
-                    ∙ slice_get-drop half (take split old) (k - half)
-                    ∙ slice_get-take split old (half + (k - half)) (omega (arith, at, centre))
-                    ∙ ap (slice_get old) (omega (arith, is_k, centre, past))
-                | inr last ↦
-                    let at : split + (k - split) ≡ k = omega (arith, last) in
-                    let in_back : k - split < half = omega (arith, last, below, reversed_many) in
-                    ap (slice_get new) (sym at)
-                    ∙ slice_get-append_right (new_front ++ middle) new_back split (k - split) long_first
-                    ∙ so.second (k - split) (omega (arith, in_back, long_front))
-                    ∙ ap (λ n. slice_get (take half (take split old)) (n - 1 - (k - split))) long_front
-                    ∙ slice_get-take half (take split old) (half - 1 - (k - split)) (omega (arith, in_back))
-                    ∙ slice_get-take split old (half - 1 - (k - split)) (omega (arith, in_back))
-                    ∙ ap (slice_get old) (omega (arith, last, in_back))
+        let here : k < length old = omega (arith, below, crossed_many) in
+        let in_half : last + n ≤ length (with_stretch old first back) = omega (arith, half_many) in
+        elim (cases_lt k last) [
+          | inr upper ↦
+              elim (cases_lt k (last + n)) [
+                | inl within ↦
+                    let at : last + (k - last) ≡ k = omega (arith, upper) in
+                    let from : done + (n - 1 - (k - last)) ≡ length old - 1 - k = omega (arith, upper, within, is_last, inside) in
+                    ap (slice_get crossed) (sym at)
+                    ∙ with_stretch_at (with_stretch old first back) second front in_half (k - last) (omega (arith, upper, within, front_many))
+                    ∙ front_from (k - last) (omega (arith, upper, within))
+                    ∙ ap (slice_get old) (from ∙ sym (mirrored_here (length old) done (done + n) k (omega (arith, upper, within, is_last, inside)) (omega (arith, upper, within, is_last, inside))))
+                | inr after ↦
+                    with_stretch_beside (with_stretch old first back) second front in_half front_many k (inr after)
+                    ∙ with_stretch_beside old first back (omega (arith, inside)) back_many k (inr (omega (arith, after, is_last, inside)))
+                    ∙ ap (slice_get old) (sym (mirrored_outer (length old) done (done + n) k (omega (arith, after, is_last, inside, here))))
+              ]
+          | inl lower ↦
+              with_stretch_beside (with_stretch old first back) second front in_half front_many k (inl lower)
+              ∙ elim (cases_lt k done) [
+                | inl before ↦
+                    with_stretch_beside old first back (omega (arith, inside)) back_many k (inl before)
+                    ∙ ap (slice_get old) (sym (mirrored_outer (length old) done (done + n) k (omega (arith, before))))
+                | inr from_done ↦
+                    elim (cases_lt k (done + n)) [
+                      | inl within ↦
+                          let at : done + (k - done) ≡ k = omega (arith, from_done) in
+                          let from : last + (n - 1 - (k - done)) ≡ length old - 1 - k = omega (arith, from_done, within, is_last, inside) in
+                          ap (slice_get (with_stretch old first back)) (sym at)
+                          ∙ with_stretch_at old first back (omega (arith, inside)) (k - done) (omega (arith, from_done, within, back_many))
+                          ∙ back_from (k - done) (omega (arith, from_done, within))
+                          ∙ ap (slice_get old) (from ∙ sym (mirrored_here (length old) done (done + n) k (omega (arith, from_done, within, is_last, inside)) (omega (arith, within))))
+                      | inr between ↦
+                          with_stretch_beside old first back (omega (arith, inside)) back_many k (inr between)
+                          ∙ ap (slice_get old) (sym (mirrored_inner (length old) done (done + n) k (omega (arith, between, lower, is_last, inside))))
+                    ]
               ]
         ];
   }

@@ -1,13 +1,14 @@
 //! Rows and columns that change places: images upside down and mirrored, and two columns exchanged.
 
-ghost use Rattle.std.specs.Prelude.{◌≡◌, ◌-◌, ◌<◌, length};
+ghost use Rattle.std.specs.Prelude.{◌≡◌, ◌+◌, ◌-◌, ◌*◌, ◌<◌, ◌≤◌, length};
 ghost use Rattle.image_model.specs.Flips.{flipped};
 ghost use Rattle.image_model.specs.Layout.{Fits, SameOutside};
 ghost use Rattle.image_model.specs.Turns.{swapped_column, columns_swapped, mirrored};
 ghost use Rattle.image_shape.specs.Shape.{shape_width, shaped_grid, shaped};
-ghost use Rattle.image_ops.specs.Gathered.{AreGathered, CrossedOver};
+ghost use Rattle.image_ops.specs.Gathered.{AreGathered, mirrored_place};
 
 use crate::swapping::swap_rows;
+use crate::turning::copy_back;
 use image_shape::Shape;
 
 /// The first row changes places with the last, the second with the one before the last, and so on;
@@ -24,18 +25,42 @@ pub fn flip_rows<T>(cells: &mut [T], shape: Shape)
     }
 }
 
-// Two lists of one length change places, the first cell of one with the last of the other. Out of
-// line they are two slices to the compiler, which then makes vector code of the loop.
-#[inline(never)]
-fn cross_over<T: Copy>(front: &mut [T], back: &mut [T])
-    requires as_many { length back.old ≡ length front.old }
-    ensures { CrossedOver front.old back.old front.new back.new }
+// The `N` cells after the first `done` change places with those before the last `done`, the first
+// with the last. All are read before one is written: so the two blocks may overlap, and the
+// compiler makes vector code of them.
+fn cross_blocks<T: Copy, const N: usize>(row: &mut [T], done: usize)
+    requires some { 0 < N }
+    requires inside { 2 * done + N ≤ length row.old }
+    ensures as_many { length row.new ≡ length row.old }
+    ensures crossed { AreGathered (mirrored_place (length row.old) done (done + N)) row.old row.new }
 {
-    let count = front.len();
-    for k in 0..count {
-        let pixel = front[k];
-        front[k] = back[count - 1 - k];
-        back[count - 1 - k] = pixel;
+    let last = row.len() - done - N;
+    let mut front = [row[done]; N];
+    let mut back = [row[done]; N];
+    copy_back(front.as_mut_slice(), &row[done..done + N]);
+    copy_back(back.as_mut_slice(), &row[last..last + N]);
+    row[done..done + N].copy_from_slice(back.as_slice());
+    row[last..last + N].copy_from_slice(front.as_slice());
+}
+
+// Of fewer than 32 cells between the first `done` and the last `done` the first changes places with
+// the last, and so on.
+fn reverse_middle<T: Copy>(row: &mut [T], done: usize)
+    requires inside { 2 * done ≤ length row.old }
+    requires few { length row.old < 2 * done + 32 }
+    ensures as_many { length row.new ≡ length row.old }
+    ensures crossed { AreGathered (mirrored_place (length row.old) done (length row.old))
+        row.old row.new }
+{
+    let left = row.len() - 2 * done;
+    if left >= 16 {
+        cross_blocks::<T, 16>(row, done);
+    } else if left >= 8 {
+        cross_blocks::<T, 8>(row, done);
+    } else if left >= 4 {
+        cross_blocks::<T, 4>(row, done);
+    } else if left >= 2 {
+        cross_blocks::<T, 2>(row, done);
     }
 }
 
@@ -44,9 +69,13 @@ fn reverse_row<T: Copy>(row: &mut [T])
     ensures as_many { length row.new ≡ length row.old }
     ensures turned { AreGathered (λ x. length row.old - 1 - x) row.old row.new }
 {
-    let half = row.len() / 2;
-    let (front, back) = row.split_at_mut(row.len() - half);
-    cross_over(&mut front[..half], back);
+    let blocks = row.len() / 32;
+    for block in 0..blocks {
+        cross_blocks::<T, 16>(row, 16 * block);
+    }
+    if row.len() % 32 >= 2 {
+        reverse_middle(row, 16 * blocks);
+    }
 }
 
 /// In each row the first pixel changes places with the last, and so on; the padding stays. The

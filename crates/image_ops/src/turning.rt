@@ -36,7 +36,7 @@ fn gather_back<T: Copy>(cells: &mut [T], source: &[T], start: usize, step: usize
 }
 
 // Each cell becomes a cell of the source, which is as long, from its last one on.
-fn copy_back<T: Copy>(cells: &mut [T], source: &[T])
+pub(crate) fn copy_back<T: Copy>(cells: &mut [T], source: &[T])
     requires as_many { length source.now ≡ length cells.old }
     ensures as_many { length cells.new ≡ length cells.old }
     ensures taken { AreGathered (λ k. length cells.old - 1 - k) source.now cells.new }

@@ -6,6 +6,7 @@ mod change;
 mod hiding;
 mod plane;
 mod planes;
+mod spans;
 mod steps;
 mod target;
 

@@ -1,13 +1,16 @@
 //! A plane of a frame, and its changes.
 
-ghost use Rattle.std.specs.Prelude.{◌≡◌, ◌<◌, ◌*◌, ◌/◌, length, IsTrue};
+ghost use Rattle.std.specs.Prelude.{◌≡◌, ◌<◌, ◌*◌, ◌/◌, length, IfOk, IsTrue};
 ghost use Rattle.std.specs.Option.{option_map};
 ghost use Rattle.imgref.specs.Shape.{shape_width, shape_height, shape_stride};
 ghost use Rattle.image_planes.specs.Changes.{is_change_of, is_plane, are_inside, job_for, changed_plane};
+ghost use Rattle.image_planes.specs.Spans.{are_spans};
 
 use crate::change::{Change, Step, Value};
-use crate::steps::{all_inside, do_steps};
+use crate::spans::{Span, do_blocks, spans_of};
+use crate::steps::all_inside;
 use imgref::{Shape, Window};
+use std::alloc::{AllocError, Global};
 
 /// Whether pixels of so many bytes make a plane of this size.
 pub(crate) fn is_plane(size: usize, width: usize, height: usize) -> bool
@@ -31,8 +34,10 @@ pub struct Plane {
     width: usize,
     height: usize,
     steps: Vec<Step<Value>>,
+    spans: Vec<Span>,
     ghost plane: { IsTrue (is_plane size width height) },
     ghost inside: { IsTrue (are_inside width height steps.items) },
+    ghost blocks: { IsTrue (are_spans spans.items steps.items) },
 }
 
 impl Plane {
@@ -41,21 +46,30 @@ impl Plane {
 
     /// A plane of this size, in pixels of `size` bytes, with its changes, one step after the other.
     /// `None` where there is no such plane, or a step reaches outside it.
-    pub fn new(size: usize, width: usize, height: usize, steps: Vec<Step<Value>>) -> Option<Plane>
-        ensures { option_map job_of result ≡ job_for size width height steps.items }
+    pub fn new(
+        alloc: Global,
+        size: usize,
+        width: usize,
+        height: usize,
+        steps: Vec<Step<Value>>,
+    ) -> Result<Option<Plane>, AllocError>
+        ensures { IfOk result
+            (λ plane. option_map job_of plane ≡ job_for size width height steps.items) }
     {
         if !is_plane(size, width, height) {
-            return None;
+            return Ok(None);
         }
         if !all_inside(width, height, &steps) {
-            return None;
+            return Ok(None);
         }
-        Some(Plane {
+        let spans = spans_of(alloc, &steps)?;
+        Ok(Some(Plane {
             size,
             width,
             height,
             steps,
-        })
+            spans,
+        }))
     }
 
     // The size of its bytes, without padding.
@@ -85,7 +99,14 @@ impl Plane {
         requires { length cells.old ≡ plane_len self.now }
         ensures { cells.new ≡ changed_plane number (job_of self.now) cells.old }
     {
-        do_steps(cells, self.shape(), self.size, &self.steps, number);
+        do_blocks(
+            cells,
+            self.shape(),
+            self.size,
+            &self.steps,
+            &self.spans,
+            number,
+        );
     }
 }
 

@@ -124,8 +124,7 @@ impl<'a, T> BandsMut<'a, T> {
 
     /// The first band, if there is one, and the bands that are left.
     ///
-    /// This step has the clause of the final cells. A `for` and the adapters use `next`, which
-    /// returns the same bands.
+    /// `step` does the same in place. Both have the clause of the final cells.
     pub fn split_first(self) -> (Option<ImgRefMut<'a, T>>, BandsMut<'a, T>)
         ensures* hands_on { sem 𝓛 (hands_on T.row self.entry result.0 result.1) }
         ensures steps { YieldsFirstBy mut_layout bands_left self.entry result.0 result.1 }
@@ -144,10 +143,9 @@ impl<'a, T> BandsMut<'a, T> {
         (Some(band), left)
     }
 
-    /// The next band, the same as from the trait's `next`, with the clause of the final cells.
-    ///
-    /// A `for` and the adapters use the trait's `next`.
-    pub fn next(&mut self) -> Option<ImgRefMut<'a, T>>
+    /// The first band, if there is one; the others are left. The trait's `next` is this step,
+    /// without the clause of the final cells.
+    pub fn step(&mut self) -> Option<ImgRefMut<'a, T>>
         ensures* hands_on { sem 𝓛 (hands_on T.row self.old result self.new) }
         ensures steps { YieldsFirstBy mut_layout bands_left self.old result self.new }
         ensures moves { Moves self.old result self.new }
@@ -184,7 +182,7 @@ impl<'a, T> Iterator for BandsMut<'a, T> {
     ghost remaining = { item_count bands_left };
 
     fn next(&mut self) -> Option<ImgRefMut<'a, T>> {
-        BandsMut::next(self)
+        self.step()
     }
 
     fn size_hint(&self) -> (usize, Option<usize>)

@@ -1,3 +1,4 @@
+pub mod HandedOn
 pub mod FrameLines
 pub mod Pieces
 pub mod OneMore
@@ -7,5 +8,6 @@ pub mod Carrying
 pub mod CellsRead
 pub mod Outcomes
 pub mod Hiding
+pub mod CarriedPieces
 pub mod OneOutput
 pub mod Uncovered

@@ -1,169 +1,21 @@
 -- An input has one result and one output, except where a device or memory ends a run early.
 use Rattle.std.proofs.Common.{◌≡◌, ℕ, ◌+◌, ◌⊎◌, Bool, true, false, List, [], ◌∷◌, ◌++◌, Some, None, Result, Ok, Err, length, take, drop, refl, sym, ap, ◌∙◌, subst, arith, append_assoc, append-nil, length-append, inl, inr}
-use Rattle.std.specs.List.{AllByRecursion}
 use Rattle.std.proofs.lemmas.List.{take-append-drop}
-use Rattle.std.proofs.lemmas.List.Elements.{recursion_from_All}
 use Rattle.frame_formats.specs.Edits.{Edits}
-use Rattle.frame_formats.specs.Format.{format_of}
-use Rattle.frame_formats.specs.Recipe.{Recipe, video_recipe}
 use Rattle.imgref_frames.specs.Alike.{Agree, BeginsWith, OneOutput, is_broken_off}
 use Rattle.imgref_frames.specs.Passing.{IsNoNext, IsNotEditedNext}
-use Rattle.imgref_frames.specs.Pictures.{PictureHead, BeginsPicture, IsNoPicture, IsPictureNotEdited}
-use Rattle.imgref_frames.specs.Program.{Stream, IsStream, begins_picture, are_pictures, front, made_front, heads_of, Carries, IsCounted, IsNoMore, IsNoStream, IsNotEdited, StopsOutside, StopsForMemory, Writes}
+use Rattle.imgref_frames.specs.Pictures.{BeginsPicture, IsNoPicture, IsPictureNotEdited}
+use Rattle.imgref_frames.specs.Program.{Stream, begins_picture, are_pictures, heads_of, Carries, IsCounted, IsNoMore, IsNoStream, IsNotEdited, StopsOutside, StopsForMemory, Writes}
 use Rattle.imgref_frames.specs.Program.Stream.{video, pictures}
-use Rattle.imgref_frames.specs.Stream.{Piece, IsPiece, piece_text, pieces_text, made_text, all_made}
+use Rattle.imgref_frames.specs.Stream.{Piece, IsPiece, piece_text}
 use Rattle.imgref_frames.specs.declared.fault.RunFault.{RunFault}
 use Rattle.imgref_frames.specs.declared.fault.RunFault.TheVariants.{Header, Outside, Frame, Memory, Input, Output}
-use Rattle.imgref_frames.proofs.FrameLines.{one_front}
 use Rattle.imgref_frames.proofs.Heads.{either_begins}
-use Rattle.imgref_frames.proofs.Hiding.{Laws, readable, one_stream, behind_feed, hides}
-use Rattle.imgref_frames.proofs.Pieces.{Readable, pictures_readable, one_piece, some_text, not_cut, cut_some, begins_piece, begins_cut, no_begin, edited_piece, edited_cut}
-
--- ---- pieces of one list of bytes
-
-module _ (heads : List ℕ → Recipe → Type 0) (law : Readable heads) where
-  -- the second pieces are the first and more, which are in what follows the first
-  record Longer (ps qs : List Piece) (a b : List ℕ) : Type 0 where
-    more : List Piece
-    are : AllByRecursion (IsPiece heads) more
-    longer : qs ≡ ps ++ more
-    behind : a ≡ pieces_text more ++ b
-
-  either_longer : (ps qs : List Piece) (a b : List ℕ) → AllByRecursion (IsPiece heads) ps → AllByRecursion (IsPiece heads) qs → pieces_text ps ++ a ≡ pieces_text qs ++ b → Longer ps qs a b ⊎ Longer qs ps b a
-  either_longer [] qs a b p q e = inl (record { more = qs; are = q; longer = refl; behind = e })
-  either_longer (x ∷ ps) [] a b p q e = inr (record { more = x ∷ ps; are = p; longer = refl; behind = sym e })
-  either_longer (x ∷ ps) (y ∷ qs) a b p q e =
-      let one = one_piece heads law x y (pieces_text ps ++ a) (pieces_text qs ++ b) p.0 q.0 (sym (append_assoc (piece_text x) (pieces_text ps) a) ∙ e ∙ append_assoc (piece_text y) (pieces_text qs) b) in
-      elim (either_longer ps qs a b p.1 q.1 one.1) [
-        | inl l ↦ inl (record { more = l.more; are = l.are; longer = λ i. sym one.0 i ∷ l.longer i; behind = l.behind })
-        | inr l ↦ inr (record { more = l.more; are = l.are; longer = λ i. one.0 i ∷ l.longer i; behind = l.behind })
-      ]
-
-made_more : (n : ℕ) (ps more : List Piece) → (x : List ℕ) × (all_made n (ps ++ more) ≡ all_made n ps ++ x)
-made_more n [] more = (all_made n more, refl)
-made_more n (p ∷ ps) more = let rest = made_more (n + 1) ps more in (rest.0, ap (λ l. made_text n p ++ l) rest.1 ∙ sym (append_assoc (made_text n p) (all_made (n + 1) ps) rest.0))
-
--- ---- two that carry pieces of one input
+use Rattle.imgref_frames.proofs.Hiding.{Laws, readable, hides}
+use Rattle.imgref_frames.proofs.Pieces.{cut_some, begins_cut, no_begin, edited_cut}
+use Rattle.imgref_frames.proofs.CarriedPieces.{further, further_text, longest, one_end, at_end, nothing_left, not_edited, all_pictures, header_none, unplanned}
 
 module _ (laws : Laws) (edit : Edits) (input : List ℕ) where
-  -- the second carries at least the pieces of the first, and the stream is one
-  record Further (n m : ℕ) (a b s t : List ℕ) (c : Carries edit n input a s) (d : Carries edit m input b t) : Type 0 where
-    one_stream : c.stream ≡ d.stream
-    by : Longer (heads_of edit c.stream) (readable laws edit c.stream) c.pieces d.pieces a b
-
-  further : (n m : ℕ) (a b s t : List ℕ) (c : Carries edit n input a s) (d : Carries edit m input b t) → Further n m a b s t c d ⊎ Further m n b a t s d c
-  further n m a b s t c d =
-      let one = one_stream edit c.stream d.stream input (pieces_text c.pieces ++ a) (pieces_text d.pieces ++ b) c.is d.is c.kind d.kind c.read d.read in
-      let here : AllByRecursion (IsPiece (heads_of edit c.stream)) d.pieces = subst (λ (u : Stream). AllByRecursion (IsPiece (heads_of edit u)) d.pieces) (sym one.0) d.are in
-      elim (either_longer (heads_of edit c.stream) (readable laws edit c.stream) c.pieces d.pieces a b c.are here one.1) [
-        | inl l ↦ inl (record { one_stream = one.0; by = l })
-        | inr l ↦ inr (record { one_stream = sym one.0; by = subst (λ (u : Stream). Longer (heads_of edit u) (readable laws edit u) d.pieces c.pieces b a) one.0 l })
-      ]
-
-  further_text : (n m : ℕ) (a b s t : List ℕ) (c : Carries edit n input a s) (d : Carries edit m input b t) → Further n m a b s t c d → BeginsWith t s
-  further_text n m a b s t c d f =
-      let made = made_more 0 c.pieces f.by.more in
-      (made.0, d.made ∙ (λ i. made_front (sym f.one_stream i) ++ (ap (all_made 0) f.by.longer ∙ made.1) i) ∙ sym (append_assoc (made_front c.stream) (all_made 0 c.pieces) made.0) ∙ ap (λ l. l ++ made.0) (sym c.made))
-
-  -- ---- where no piece follows these, or a number counts no more
-
-  all_there : (n m : ℕ) (a b s t : List ℕ) (c : Carries edit n input a s) (d : Carries edit m input b t) (same : c.stream ≡ d.stream) (more : List Piece) → AllByRecursion (IsPiece (heads_of edit c.stream)) more → d.pieces ≡ c.pieces ++ more → a ≡ pieces_text more ++ b
-      → (n ≡ 18446744073709551615) ⊎ ((p : Piece) (l : List ℕ) → IsPiece (heads_of edit c.stream) p → a ≡ piece_text p ++ l → ⊥) → (n ≡ m) × (a ≡ b) × (s ≡ t)
-  all_there n m a b s t c d same [] are longer behind none =
-      let pieces : c.pieces ≡ d.pieces = sym (append-nil c.pieces) ∙ sym longer in
-      (sym c.count_is ∙ ap length pieces ∙ d.count_is, behind, c.made ∙ (λ i. made_front (same i) ++ all_made 0 (pieces i)) ∙ sym d.made)
-  all_there n m a b s t c d same (p ∷ more) are longer behind none = elim none [
-    | inl last ↦ absurd (omega (arith, last, ap length longer, length-append c.pieces (p ∷ more), c.count_is, d.count_is, d.within))
-    | inr never ↦ absurd (never p (pieces_text more ++ b) are.0 (behind ∙ append_assoc (piece_text p) (pieces_text more) b))
-  ]
-
-  -- the pieces after which no other follows are all
-  longest : (n m : ℕ) (a b s t : List ℕ) (c : Carries edit n input a s) (d : Carries edit m input b t) → (n ≡ 18446744073709551615) ⊎ ((p : Piece) (l : List ℕ) → IsPiece (heads_of edit c.stream) p → a ≡ piece_text p ++ l → ⊥) → BeginsWith s t
-  longest n m a b s t c d none = elim (further n m a b s t c d) [
-    | inl f ↦ ([], (all_there n m a b s t c d f.one_stream f.by.more f.by.are f.by.longer f.by.behind none).2 ∙ sym (append-nil t))
-    | inr f ↦ further_text m n b a t s d c f
-  ]
-
-  -- and two such are the same
-  record OneEnd (n m : ℕ) (a b s t : List ℕ) (c : Carries edit n input a s) (d : Carries edit m input b t) : Type 0 where
-    one_stream : c.stream ≡ d.stream
-    one_count : n ≡ m
-    one_rest : a ≡ b
-
-  one_end : (n m : ℕ) (a b s t : List ℕ) (c : Carries edit n input a s) (d : Carries edit m input b t) → (n ≡ 18446744073709551615) ⊎ ((p : Piece) (l : List ℕ) → IsPiece (heads_of edit c.stream) p → a ≡ piece_text p ++ l → ⊥)
-      → (m ≡ 18446744073709551615) ⊎ ((p : Piece) (l : List ℕ) → IsPiece (heads_of edit d.stream) p → b ≡ piece_text p ++ l → ⊥) → OneEnd n m a b s t c d
-  one_end n m a b s t c d none other = elim (further n m a b s t c d) [
-    | inl f ↦ (let same = all_there n m a b s t c d f.one_stream f.by.more f.by.are f.by.longer f.by.behind none in record { one_stream = f.one_stream; one_count = same.0; one_rest = same.1 })
-    | inr f ↦ (let same = all_there m n b a t s d c f.one_stream f.by.more f.by.are f.by.longer f.by.behind other in record { one_stream = sym f.one_stream; one_count = sym same.0; one_rest = sym same.1 })
-  ]
-
-  -- ---- after which no piece follows
-
-  at_end : (s : Stream) (n : ℕ) (rest : List ℕ) → IsNoMore edit s n rest → (n ≡ 18446744073709551615) ⊎ ((p : Piece) (l : List ℕ) → IsPiece (heads_of edit s) p → rest ≡ piece_text p ++ l → ⊥)
-  at_end (video line recipe) n rest never = elim never [
-    | inl last ↦ inl last
-    | inr none ↦ elim none [
-      | inl never ↦ inr (λ p l is e. never.other is.0.parameters (p.cells ++ l) is.0.are (e ∙ append_assoc p.head p.cells l ∙ ap (λ h. h ++ (p.cells ++ l)) is.0.head_is))
-      | inr cut ↦ inr (λ p l is e. not_cut (heads_of edit (video line recipe)) (readable laws edit (video line recipe)) p l rest is e cut)
-    ]
-  ]
-  at_end pictures n rest never = elim never.none [
-    | inl last ↦ inl last
-    | inr none ↦ elim none [
-      | inl never ↦ inr (λ p l is e. no_begin rest never.1 (begins_piece edit p l rest is e))
-      | inr cut ↦ inr (λ p l is e. not_cut (PictureHead edit) (pictures_readable laws.apart laws.letter edit) p l rest is e cut)
-    ]
-  ]
-
-  nothing_left : (s : Stream) (n : ℕ) → (n ≡ 18446744073709551615) ⊎ ((p : Piece) (l : List ℕ) → IsPiece (heads_of edit s) p → [] ≡ piece_text p ++ l → ⊥)
-  nothing_left s n = inr (λ p l is e. some_text (heads_of edit s) (readable laws edit s) p l is (sym e))
-
-  not_edited : (s : Stream) → s ≡ pictures → (n : ℕ) (rest : List ℕ) → IsNotEditedNext edit n rest → (n ≡ 18446744073709551615) ⊎ ((p : Piece) (l : List ℕ) → IsPiece (heads_of edit s) p → rest ≡ piece_text p ++ l → ⊥)
-  not_edited (video line recipe) e n rest never = absurd (let bad : false ≡ true = ap are_pictures e in cc)
-  not_edited pictures e n rest never = inr (λ p l is read. edited_piece laws.apart edit p l rest is read never.1)
-
-  -- ---- the beginning of an input
-
-  all_pictures : (s : Stream) → are_pictures s ≡ true → s ≡ pictures
-  all_pictures (video line recipe) e = absurd (let bad : false ≡ true = e in cc)
-  all_pictures pictures e = refl
-
-  no_format : (line : List ℕ) (recipe : Recipe) → video_recipe edit line ≡ Some recipe → format_of line ≡ None → ⊥
-  no_format line recipe is none = let bad : None ≡ Some recipe = sym (rw none refl) ∙ is in cc
-
-  -- what begins no stream carries no piece
-  header_carries : (s : Stream) → IsStream edit s → begins_picture input ≡ are_pictures s → (ps : List Piece) → AllByRecursion (IsPiece (heads_of edit s)) ps → (a : List ℕ) → input ≡ front s ++ (pieces_text ps ++ a) → IsNoStream (begins_picture input) input → (s ≡ pictures) × (ps ≡ [])
-  header_carries (video line recipe) is kind ps are a read none = absurd (no_format line recipe is.2 (subst (λ (b : Bool). IsNoStream b input) kind none line (pieces_text ps ++ a) is.0 is.1 (read ∙ behind_feed line (pieces_text ps ++ a))))
-  header_carries pictures is kind [] are a read none = (refl, refl)
-  header_carries pictures is kind (p ∷ ps) are a read none = absurd (no_begin input (subst (λ (b : Bool). IsNoStream b input) kind none) (begins_piece edit p (pieces_text ps ++ a) input are.0 (read ∙ append_assoc (piece_text p) (pieces_text ps) a)))
-
-  record Nothing (n : ℕ) (a t : List ℕ) (c : Carries edit n input a t) : Type 0 where
-    one_stream : c.stream ≡ pictures
-    count : n ≡ 0
-    rest : input ≡ a
-    text : t ≡ []
-
-  header_none : (n : ℕ) (a t : List ℕ) (c : Carries edit n input a t) → IsNoStream (begins_picture input) input → Nothing n a t c
-  header_none n a t c none =
-      let e = header_carries c.stream c.is c.kind c.pieces c.are a c.read none in
-      record {
-        one_stream = e.0;
-        count = sym c.count_is ∙ ap length e.1;
-        rest = c.read ∙ (λ i. front (e.0 i) ++ (pieces_text (e.1 i) ++ a));
-        text = c.made ∙ (λ i. made_front (e.0 i) ++ all_made 0 (e.1 i));
-      }
-
-  unplanned_carries : (s : Stream) → IsStream edit s → are_pictures s ≡ false → (l : List ℕ) → input ≡ front s ++ l → IsNotEdited edit input → ⊥
-  unplanned_carries (video line recipe) is kind l read not =
-      let b = not.begins in
-      let same : b.line ≡ line = (one_front b.line line b.more l (recursion_from_All _ b.line b.one_line) (recursion_from_All _ line is.0) (sym b.read ∙ read ∙ behind_feed line l)).0 in
-      let bad : Some recipe ≡ None = sym is.2 ∙ ap (video_recipe edit) (sym same) ∙ not.none in
-      cc
-  unplanned_carries pictures is kind l read not = let bad : true ≡ false = kind in cc
-
-  unplanned : (n : ℕ) (a t : List ℕ) → Carries edit n input a t → begins_picture input ≡ false → IsNotEdited edit input → ⊥
-  unplanned n a t c kind not = unplanned_carries c.stream c.is (sym c.kind ∙ kind) (pieces_text c.pieces ++ a) c.read not
-
   -- ---- what was written
 
   module _ (old : List ℕ) where
@@ -220,9 +72,9 @@ module _ (laws : Laws) (edit : Edits) (input : List ℕ) where
       | inl e ↦ inr (kept new other e b)
       | inr s ↦ elim b [
         | inl f ↦ inl (kept other new f (inr s))
-        | inr t ↦ elim (further s.count t.count s.rest t.rest s.text t.text s.carries t.carries) [
-          | inl f ↦ beginnings new other s t (further_text s.count t.count s.rest t.rest s.text t.text s.carries t.carries f)
-          | inr f ↦ swap other new (beginnings other new t s (further_text t.count s.count t.rest s.rest t.text s.text t.carries s.carries f))
+        | inr t ↦ elim (further laws edit input s.count t.count s.rest t.rest s.text t.text s.carries t.carries) [
+          | inl f ↦ beginnings new other s t (further_text laws edit input s.count t.count s.rest t.rest s.text t.text s.carries t.carries f)
+          | inr f ↦ swap other new (beginnings other new t s (further_text laws edit input t.count s.count t.rest s.rest t.text s.text t.carries s.carries f))
         ]
       ]
     ]
@@ -242,15 +94,15 @@ module _ (laws : Laws) (edit : Edits) (input : List ℕ) where
     NoText new = (new ≡ old) × ((n : ℕ) (a t : List ℕ) → Carries edit n input a t → t ≡ [])
 
     outside_whole : (b : Bool) → begins_picture input ≡ b → (new : List ℕ) → StopsOutside b edit input (Some old) (Some new) → Whole new ⊎ NoText new
-    outside_whole false kind new w = inr (w.0, λ n a t c. absurd (unplanned n a t c kind w.1))
+    outside_whole false kind new w = inr (w.0, λ n a t c. absurd (unplanned laws edit input n a t c kind w.1))
     outside_whole true kind new w =
         let c = w.1.carries in
-        inl (record { count = w.0; rest = w.1.rest; text = w.1.text; carries = c; none = not_edited c.stream (all_pictures c.stream (sym c.kind ∙ kind)) w.0 w.1.rest w.1.ends; new_is = w.1.written })
+        inl (record { count = w.0; rest = w.1.rest; text = w.1.text; carries = c; none = not_edited laws edit input c.stream (all_pictures laws edit input c.stream (sym c.kind ∙ kind)) w.0 w.1.rest w.1.ends; new_is = w.1.written })
 
     whole : (r : Result ℕ RunFault) (new : List ℕ) → is_broken_off r ≡ false → Writes r edit (Some input) (Some old) (Some new) → Whole new ⊎ NoText new
-    whole (Ok n) new is w = inl (record { count = n; rest = []; text = w.0; carries = w.1; none = nothing_left w.1.stream n; new_is = w.3 })
-    whole (Err (Frame n)) new is w = inl (record { count = n; rest = w.0; text = w.1; carries = w.2; none = at_end w.2.stream n w.0 w.3; new_is = w.4 })
-    whole (Err Header) new is w = inr (w.0, λ n a t c. (header_none n a t c w.1).text)
+    whole (Ok n) new is w = inl (record { count = n; rest = []; text = w.0; carries = w.1; none = nothing_left laws edit input w.1.stream n; new_is = w.3 })
+    whole (Err (Frame n)) new is w = inl (record { count = n; rest = w.0; text = w.1; carries = w.2; none = at_end laws edit input w.2.stream n w.0 w.3; new_is = w.4 })
+    whole (Err Header) new is w = inr (w.0, λ n a t c. (header_none laws edit input n a t c w.1).text)
     whole (Err Outside) new is w = outside_whole (begins_picture input) refl new w
     whole _ new is w = absurd (let bad : true ≡ false = is in cc)
 
@@ -262,7 +114,7 @@ module _ (laws : Laws) (edit : Edits) (input : List ℕ) where
     whole_begins new other w b = elim w [
       | inl w ↦ elim b [
         | inl f ↦ (w.text, w.new_is ∙ ap (λ l. l ++ w.text) (sym f))
-        | inr t ↦ (let l = longest w.count t.count w.rest t.rest w.text t.text w.carries t.carries w.none in
+        | inr t ↦ (let l = longest laws edit input w.count t.count w.rest t.rest w.text t.text w.carries t.carries w.none in
             longer_by other new t.sent w.text (t.more ++ l.0) t.new_is w.new_is (l.1 ∙ ap (λ k. k ++ l.0) t.text_is ∙ append_assoc t.sent t.more l.0))
       ]
       | inr none ↦ elim b [
@@ -284,7 +136,7 @@ module _ (laws : Laws) (edit : Edits) (input : List ℕ) where
 
     ok_frame : (n m : ℕ) (new other : List ℕ) → Writes (Ok n) edit (Some input) (Some old) (Some new) → Writes (Err (Frame m)) edit (Some input) (Some old) (Some other) → ⊥
     ok_frame n m new other w v =
-        let one = one_end n m [] v.0 w.0 v.1 w.1 v.2 (nothing_left w.1.stream n) (at_end v.2.stream m v.0 v.3) in
+        let one = one_end laws edit input n m [] v.0 w.0 v.1 w.1 v.2 (nothing_left laws edit input w.1.stream n) (at_end laws edit input v.2.stream m v.0 v.3) in
         still v.2.stream m (subst (λ (s : Stream). IsCounted s m) one.one_stream (subst (IsCounted w.1.stream) one.one_count w.2)) v.0 (sym one.one_rest) v.3
       where
         still : (s : Stream) (m : ℕ) → IsCounted s m → (rest : List ℕ) → rest ≡ [] → IsNoMore edit s m rest → ⊥
@@ -305,7 +157,7 @@ module _ (laws : Laws) (edit : Edits) (input : List ℕ) where
 
     outside_ends : (b : Bool) → begins_picture input ≡ b → (new : List ℕ) → StopsOutside b edit input (Some old) (Some new) → ((begins_picture input ≡ false) × IsNotEdited edit input) ⊎ NotEdited
     outside_ends false kind new w = inl (kind, w.1)
-    outside_ends true kind new w = let c = w.1.carries in inr (record { count = w.0; rest = w.1.rest; text = w.1.text; carries = c; one_stream = all_pictures c.stream (sym c.kind ∙ kind); not = w.1.ends })
+    outside_ends true kind new w = let c = w.1.carries in inr (record { count = w.0; rest = w.1.rest; text = w.1.text; carries = c; one_stream = all_pictures laws edit input c.stream (sym c.kind ∙ kind); not = w.1.ends })
 
     ends_outside : (new : List ℕ) → Writes (Err Outside) edit (Some input) (Some old) (Some new) → ((begins_picture input ≡ false) × IsNotEdited edit input) ⊎ NotEdited
     ends_outside new w = outside_ends (begins_picture input) refl new w
@@ -315,15 +167,15 @@ module _ (laws : Laws) (edit : Edits) (input : List ℕ) where
 
     ok_outside : (n : ℕ) (new other : List ℕ) → Writes (Ok n) edit (Some input) (Some old) (Some new) → Writes (Err Outside) edit (Some input) (Some old) (Some other) → ⊥
     ok_outside n new other w v = elim (ends_outside other v) [
-      | inl never ↦ unplanned n [] w.0 w.1 never.0 never.1
-      | inr e ↦ (let one = one_end n e.count [] e.rest w.0 e.text w.1 e.carries (nothing_left w.1.stream n) (not_edited e.carries.stream e.one_stream e.count e.rest e.not) in
+      | inl never ↦ unplanned laws edit input n [] w.0 w.1 never.0 never.1
+      | inr e ↦ (let one = one_end laws edit input n e.count [] e.rest w.0 e.text w.1 e.carries (nothing_left laws edit input w.1.stream n) (not_edited laws edit input e.carries.stream e.one_stream e.count e.rest e.not) in
           not_begun e.rest (sym one.one_rest) e.not.1.begins)
     ]
 
     frame_outside : (n : ℕ) (new other : List ℕ) → Writes (Err (Frame n)) edit (Some input) (Some old) (Some new) → Writes (Err Outside) edit (Some input) (Some old) (Some other) → ⊥
     frame_outside n new other w v = elim (ends_outside other v) [
-      | inl never ↦ unplanned n w.0 w.1 w.2 never.0 never.1
-      | inr e ↦ (let one = one_end n e.count w.0 e.rest w.1 e.text w.2 e.carries (at_end w.2.stream n w.0 w.3) (not_edited e.carries.stream e.one_stream e.count e.rest e.not) in
+      | inl never ↦ unplanned laws edit input n w.0 w.1 w.2 never.0 never.1
+      | inr e ↦ (let one = one_end laws edit input n e.count w.0 e.rest w.1 e.text w.2 e.carries (at_end laws edit input w.2.stream n w.0 w.3) (not_edited laws edit input e.carries.stream e.one_stream e.count e.rest e.not) in
           let none : IsNoNext edit n w.0 = subst (λ (s : Stream). IsNoMore edit s n w.0) (one.one_stream ∙ e.one_stream) w.3 in
           elim none.none [
             | inl last ↦ omega (arith, last, one.one_count, e.not.0)
@@ -336,13 +188,13 @@ module _ (laws : Laws) (edit : Edits) (input : List ℕ) where
 
     ok_header : (n : ℕ) (new other : List ℕ) → Writes (Ok n) edit (Some input) (Some old) (Some new) → Writes (Err Header) edit (Some input) (Some old) (Some other) → ⊥
     ok_header n new other w v =
-        let never = header_none n [] w.0 w.1 v.1 in
+        let never = header_none laws edit input n [] w.0 w.1 v.1 in
         let bad : false ≡ true = sym (ap begins_picture never.rest) ∙ w.1.kind ∙ ap are_pictures never.one_stream in
         cc
 
     frame_header : (n : ℕ) (new other : List ℕ) → Writes (Err (Frame n)) edit (Some input) (Some old) (Some new) → Writes (Err Header) edit (Some input) (Some old) (Some other) → ⊥
     frame_header n new other w v =
-        let never = header_none n w.0 w.1 w.2 v.1 in
+        let never = header_none laws edit input n w.0 w.1 w.2 v.1 in
         let none : IsNoNext edit n w.0 = subst (λ (s : Stream). IsNoMore edit s n w.0) never.one_stream w.3 in
         let picture : IsNoPicture input = subst (λ (b : Bool). IsNoStream b input) (w.2.kind ∙ ap are_pictures never.one_stream) v.1 in
         elim none.none [
@@ -358,17 +210,17 @@ module _ (laws : Laws) (edit : Edits) (input : List ℕ) where
       | inl never ↦ (let b = never.1.begins in
           let bad : Some b.format ≡ None = sym b.named ∙ subst (λ (k : Bool). IsNoStream k input) never.0 v.1 b.line b.more b.one_line b.short b.read in
           cc)
-      | inr e ↦ (let never = header_none e.count e.rest e.text e.carries v.1 in
+      | inr e ↦ (let never = header_none laws edit input e.count e.rest e.text e.carries v.1 in
           no_begin input (subst (λ (b : Bool). IsNoStream b input) (e.carries.kind ∙ ap are_pictures e.one_stream) v.1) (subst BeginsPicture (sym never.rest) e.not.1.begins))
     ]
 
     one_answer : (r s : Result ℕ RunFault) (new other : List ℕ) → is_broken_off r ≡ false → is_broken_off s ≡ false → Writes r edit (Some input) (Some old) (Some new) → Writes s edit (Some input) (Some old) (Some other) → r ≡ s
-    one_answer (Ok n) (Ok m) new other is it w v = ap (λ k. Ok k) (one_end n m [] [] w.0 v.0 w.1 v.1 (nothing_left w.1.stream n) (nothing_left v.1.stream m)).one_count
+    one_answer (Ok n) (Ok m) new other is it w v = ap (λ k. Ok k) (one_end laws edit input n m [] [] w.0 v.0 w.1 v.1 (nothing_left laws edit input w.1.stream n) (nothing_left laws edit input v.1.stream m)).one_count
     one_answer (Ok n) (Err (Frame m)) new other is it w v = absurd (ok_frame n m new other w v)
     one_answer (Ok n) (Err Outside) new other is it w v = absurd (ok_outside n new other w v)
     one_answer (Ok n) (Err Header) new other is it w v = absurd (ok_header n new other w v)
     one_answer (Err (Frame n)) (Ok m) new other is it w v = absurd (ok_frame m n other new v w)
-    one_answer (Err (Frame n)) (Err (Frame m)) new other is it w v = ap (λ k. Err (Frame k)) (one_end n m w.0 v.0 w.1 v.1 w.2 v.2 (at_end w.2.stream n w.0 w.3) (at_end v.2.stream m v.0 v.3)).one_count
+    one_answer (Err (Frame n)) (Err (Frame m)) new other is it w v = ap (λ k. Err (Frame k)) (one_end laws edit input n m w.0 v.0 w.1 v.1 w.2 v.2 (at_end laws edit input w.2.stream n w.0 w.3) (at_end laws edit input v.2.stream m v.0 v.3)).one_count
     one_answer (Err (Frame n)) (Err Outside) new other is it w v = absurd (frame_outside n new other w v)
     one_answer (Err (Frame n)) (Err Header) new other is it w v = absurd (frame_header n new other w v)
     one_answer (Err Outside) (Ok m) new other is it w v = absurd (ok_outside m other new v w)

@@ -1,5 +1,5 @@
 -- The edits that words or the lines of a file are, and which of them are refused.
-use Rattle.std.specs.Prelude.{◌≡◌, ◌<◌, ◌&&◌, ℕ, Bool, true, false, List, [], ◌∷◌, All, None, if◌then◌else◌}
+use Rattle.std.specs.Prelude.{◌≡◌, ◌&&◌, ℕ, Bool, true, false, nat_lt, IsTrue, List, [], ◌∷◌, All, Some, None, if◌then◌else◌}
 use Rattle.std.specs.List.{flat_map, list_any}
 use Rattle.std.specs.Option.{is_none}
 use Rattle.text_model.specs.Reading.{is_nil}
@@ -8,8 +8,10 @@ use Rattle.frame_formats.specs.Lists.{AreEdits, framing_after}
 use Rattle.frame_formats.specs.Words.{Named}
 use Rattle.image_planes.specs.declared.change.Change.{Change}
 use Rattle.image_planes.specs.declared.change.Change.TheVariants.{Fill, Mosaic, Move}
-use Rattle.image_planes.specs.declared.change.Step.{Step}
+use Rattle.frame_formats.specs.declared.ranges.Range.{Range}
+use Rattle.frame_formats.specs.declared.ranges.Range.TheVariants.{Frames, Times}
 use Rattle.frame_formats.specs.declared.steps.Paint.{Paint}
+use Rattle.frame_formats.specs.declared.words.Edit.{Edit}
 
 -- the words are these edits, one after the other
 pub record AreWords (words : List (List ℕ)) (e : Edits) : Type 0 where
@@ -18,10 +20,16 @@ pub record AreWords (words : List (List ℕ)) (e : Edits) : Type 0 where
   pub steps : e.steps ≡ flat_map (λ n. n.steps) edits
   pub framing : e.framing ≡ framing_after edits None
 
--- there is an edit, and each is for some frame
+-- a range begins before its end, where it has one
+abbrev pub has_span : Range → Bool
+has_span (Frames first end) = nat_lt first end
+has_span (Times from None) = true
+has_span (Times from (Some to)) = nat_lt from to
+
+-- there is an edit, and the range of each begins before its end
 pub record AreUsable (e : Edits) : Type 0 where
   pub some : is_nil e.steps && is_none e.framing ≡ false
-  pub ranges : All (λ s. s.first < s.end) e.steps
+  pub ranges : All (λ s. IsTrue (has_span s.range)) e.steps
 
 -- a change that carries pixels away, and one that covers some
 abbrev pub moves : Change Paint → Bool
@@ -35,6 +43,6 @@ covers (Mosaic w wide high) = true
 covers (Move w left top) = false
 
 -- a fill or a mosaic comes after a move
-unfoldable pub covers_late : List (Step Paint) → Bool
+unfoldable pub covers_late : List Edit → Bool
 covers_late [] = false
 covers_late (s ∷ ss) = if moves s.change then list_any (λ t. covers t.change) ss else covers_late ss

@@ -81,10 +81,7 @@ fn take_cells<R: Read>(
     ensures count { failures_of reader.new ≡ failures_of reader.old + errors result }
 {
     let size = plan.room();
-    let count = match fill_front(reader, cells, size) {
-        Ok(count) => count,
-        Err(failed) => return Err(failed),
-    };
+    let count = fill_front(reader, cells, size)?;
     if count == size {
         lengthen(other, plan.other_room());
     }
@@ -116,16 +113,9 @@ pub(crate) fn pass_cells<R: Read, W: Write>(
     ensures writer_count { failures_of writer.new
         ≡ failures_of writer.old + writer_failures result }
 {
-    match take_cells(reader, plan, cells, other) {
-        Ok(count) => {
-            if count < plan.room() {
-                return Err(RunFault::Frame(number));
-            }
-        }
-        Err(_) => return Err(RunFault::Input),
+    let count = take_cells(reader, plan, cells, other)?;
+    if count < plan.room() {
+        return Err(RunFault::Frame(number));
     }
-    match write_edited(writer, plan, number, head, cells, other) {
-        Ok(()) => Ok(()),
-        Err(_) => Err(RunFault::Output),
-    }
+    Ok(write_edited(writer, plan, number, head, cells, other)?)
 }

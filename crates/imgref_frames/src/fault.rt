@@ -3,7 +3,7 @@
 ghost use Rattle.std.specs.Prelude.{◌≡◌, Some};
 ghost use Rattle.imgref_frames.specs.Program.{fault_of_plan};
 
-use devices::{INPUT_TEXT, MEMORY_TEXT, OUTPUT_TEXT};
+use devices::{INPUT_TEXT, MEMORY_TEXT, OUTPUT_TEXT, ReadFailed, WriteFailed};
 use frame_formats::PlanFault;
 use std::fmt;
 
@@ -61,6 +61,26 @@ impl fmt::Display for RunFault {
             RunFault::Input => write!(f, "{INPUT_TEXT}"),
             RunFault::Output => write!(f, "{OUTPUT_TEXT}"),
         }
+    }
+}
+
+impl From<ReadFailed> for RunFault {
+    ghost use Rattle.imgref_frames.specs.declared.fault.RunFault.TheVariants.{Input};
+
+    ghost from_gives = { λ _ e. e ≡ Input };
+
+    fn from(_e: ReadFailed) -> RunFault {
+        RunFault::Input
+    }
+}
+
+impl From<WriteFailed> for RunFault {
+    ghost use Rattle.imgref_frames.specs.declared.fault.RunFault.TheVariants.{Output};
+
+    ghost from_gives = { λ _ e. e ≡ Output };
+
+    fn from(_e: WriteFailed) -> RunFault {
+        RunFault::Output
     }
 }
 

@@ -7,32 +7,69 @@ use std::{fs, io};
 // So many names beside that of the output are tried.
 const TRIES: u32 = 1000;
 
-/// Where the bytes come from.
+// So many bytes at the front of the input are kept, to tell why it begins with no frame.
+const FRONT: usize = 1024;
+
+// The streams that the bytes may come from.
 #[derive(Drop)]
-pub(crate) enum Source {
+enum Input {
     Standard(Stdin),
     Named(File),
+}
+
+impl Read for Input {
+    fn read(&mut self, buf: &mut [u8]) -> io::Result<usize> {
+        match self {
+            Input::Standard(input) => input.read(buf),
+            Input::Named(file) => file.read(buf),
+        }
+    }
+}
+
+/// Where the bytes come from, and the first of them.
+#[derive(Drop)]
+pub(crate) struct Source {
+    input: Input,
+    front: [u8; FRONT],
+    len: usize,
 }
 
 impl Source {
     /// The file of this name, or standard input where there is no name.
     pub(crate) fn open(rt: &HostRuntime, name: Option<&str>) -> io::Result<Source> {
-        match name {
-            None => Ok(Source::Standard(rt.stdin())),
-            Some(name) => match File::open(rt, name) {
-                Ok(file) => Ok(Source::Named(file)),
-                Err(error) => Err(error),
-            },
+        let input = match name {
+            None => Input::Standard(rt.stdin()),
+            Some(name) => Input::Named(File::open(rt, name)?),
+        };
+        Ok(Source {
+            input,
+            front: [0; FRONT],
+            len: 0,
+        })
+    }
+
+    // Keeps bytes that come next, while there is room.
+    fn keep(&mut self, bytes: &[u8]) {
+        for byte in bytes {
+            if self.len >= FRONT {
+                return;
+            }
+            self.front[self.len] = *byte;
+            self.len += 1;
         }
+    }
+
+    /// The first bytes that were read.
+    pub(crate) fn front(&self) -> &[u8] {
+        &self.front[..self.len.min(FRONT)]
     }
 }
 
 impl Read for Source {
     fn read(&mut self, buf: &mut [u8]) -> io::Result<usize> {
-        match self {
-            Source::Standard(input) => input.read(buf),
-            Source::Named(file) => file.read(buf),
-        }
+        let count = self.input.read(buf)?;
+        self.keep(&buf[..count]);
+        Ok(count)
     }
 }
 

@@ -44,14 +44,12 @@ fn read_word<R: Read>(reader: &mut Counted<R>, word: &mut [u8]) -> Result<Begin,
         (R.remaining (device_of reader.new)) }
     ensures count { failures_of reader.new ≡ failures_of reader.old + reader_failures result }
 {
-    match fill(reader, word) {
-        Ok(0) => return Ok(Begin::End),
-        Ok(count) => {
-            if count < word.len() {
-                return Ok(Begin::Other);
-            }
-        }
-        Err(_) => return Err(RunFault::Input),
+    let count = fill(reader, word)?;
+    if count == 0 {
+        return Ok(Begin::End);
+    }
+    if count < word.len() {
+        return Ok(Begin::Other);
     }
     if *word == *b"FRAME\n".as_slice() {
         Ok(Begin::Whole)
@@ -71,12 +69,11 @@ fn read_frame_line<R: Read>(reader: &mut Counted<R>, line: &mut [u8]) -> Result<
     ensures count { failures_of reader.new ≡ failures_of reader.old + reader_failures result }
 {
     let (word, rest) = line.split_at_mut(6);
-    match read_word(reader, word) {
-        Ok(Begin::Whole) => return Ok(Found::Frame(6)),
-        Ok(Begin::Open) => {}
-        Ok(Begin::End) => return Ok(Found::End),
-        Ok(Begin::Other) => return Ok(Found::Other),
-        Err(_) => return Err(RunFault::Input),
+    match read_word(reader, word)? {
+        Begin::Whole => return Ok(Found::Frame(6)),
+        Begin::Open => {}
+        Begin::End => return Ok(Found::End),
+        Begin::Other => return Ok(Found::Other),
     }
     match read_line(reader, rest) {
         Ok(len) => Ok(Found::Frame(len + 7)),
@@ -109,16 +106,12 @@ pub(crate) fn pass_frames<R: Read, W: Write>(
         ≡ failures_of writer.old + writer_failures result }
 {
     for number in 0..u64::MAX {
-        let len = match read_frame_line(reader, line) {
-            Ok(Found::Frame(len)) => len,
-            Ok(Found::End) => return Ok(number),
-            Ok(Found::Other) => return Err(RunFault::Frame(number)),
-            Err(_) => return Err(RunFault::Input),
+        let len = match read_frame_line(reader, line)? {
+            Found::Frame(len) => len,
+            Found::End => return Ok(number),
+            Found::Other => return Err(RunFault::Frame(number)),
         };
-        match pass_cells(reader, writer, plan, number, &line[..len], cells, other) {
-            Ok(()) => {}
-            Err(fault) => return Err(fault),
-        }
+        pass_cells(reader, writer, plan, number, &line[..len], cells, other)?;
     }
     Err(RunFault::Frame(u64::MAX))
 }

@@ -1,6 +1,7 @@
 //! Edits frames of raw video or pictures, one by one, from standard input to standard output.
 #![tactic(auto)]
 
+mod beginnings;
 mod cells;
 mod fault;
 mod files;
@@ -13,11 +14,12 @@ mod reasons;
 mod request;
 mod words;
 
+use beginnings::say_no_head;
 pub use devices::Counted;
 pub use fault::RunFault;
 use files::{Sink, Source, create_beside, read_whole};
 use frame_formats::Edits;
-pub use frame_formats::{Change, Format, Framing, Paint, Picture, Step, Window};
+pub use frame_formats::{Change, Edit, Format, Framing, Paint, Picture, Range, Rate, Window};
 use options::{Options, read_options};
 pub use program::run;
 use ranges::say_unreached;
@@ -32,16 +34,17 @@ use words::{Refusal, edits_of_lines, edits_of_words, fault_of, words_of};
 const USAGE: &str = "usage: imgref_frames [OPTION..] EDIT.. < video > video
        imgref_frames [OPTION..] --edits FILE < video > video
        imgref_frames -i FILE -o FILE [OPTION..] EDIT..
-The input is a video (YUV4MPEG2), or pictures (PGM, PPM), one after the other.
+The input is a video (YUV4MPEG2), or pictures (PGM, PPM, PAM), one after the other.
 EDIT is one of these. The edits are applied to each frame or picture, in their order:
-       [A..B] cover L,T,W,H [V]       brightness V or 16, no colour, with a margin
+       [A..B] cover L,T,W,H [V]       brightness V or black, no colour, with a margin
        [A..B] fill L,T,W,H V          exactly this rectangle: brightness V, no colour
-       [A..B] fill L,T,W,H R,G,B      a colour, only for PPM
+       [A..B] fill L,T,W,H R,G,B      a colour, only for pictures in colour
        [A..B] mosaic L,T,W,H TW,TH    tiles of TW by TH pixels
        [A..B] move L,T,W,H X,Y        to column X, row Y
        crop L,T,W,H                   only as the last edit
        pad L,T,R,B V                  likewise: a border of brightness V, no colour
 A..B: only the frames A to B-1, counted from 0; A..: from A on.
+      Times of a video, as 00:01:02.5..00:01:04: the frames from one up to the other.
 OPTION:
        -i FILE           reads the input from a file
        -o FILE           writes the output to a file, which gets its name once it is whole
@@ -113,13 +116,20 @@ impl Call<'_> {
         );
         let count = match result {
             Ok(count) => count,
-            Err(fault) => return self.fail(fault, seen),
+            Err(fault) => {
+                let status = self.fail(fault, seen);
+                if fault == RunFault::Header {
+                    say_no_head(self.rt, reader.device().get_ref().front());
+                }
+                return status;
+            }
         };
         if writer.device().sync().is_err() {
             return self.fail(RunFault::Output, seen);
         }
         let strict = self.options.strict;
-        if say_unreached(self.rt, count, &self.edits.steps, self.text, strict) && strict {
+        let rate = seen.rate();
+        if say_unreached(self.rt, count, rate, &self.edits.steps, self.text, strict) && strict {
             return RANGE;
         }
         0

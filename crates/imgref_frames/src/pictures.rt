@@ -44,10 +44,8 @@ fn read_head<R: Read>(reader: &mut Counted<R>) -> Result<Option<Picture>, RunFau
             Scan::Bad => return Ok(None),
             Scan::More { .. } => {}
         }
-        let byte = match read_byte(reader) {
-            Ok(Some(byte)) => byte,
-            Ok(None) => return Ok(None),
-            Err(_) => return Err(RunFault::Input),
+        let Some(byte) = read_byte(reader)? else {
+            return Ok(None);
         };
         scan = scan.push(byte);
     }
@@ -69,7 +67,7 @@ fn is_same(a: Picture, b: Picture) -> bool
     ensures same { result ≡ true → a ≡ b }
     ensures other { result ≡ false → a ≢ b }
 {
-    a.width == b.width && a.height == b.height && a.colour == b.colour
+    a.width == b.width && a.height == b.height && a.kind == b.kind && a.greatest == b.greatest
 }
 
 // A new plan for the picture of this number, with room for it.
@@ -165,33 +163,17 @@ fn pass_picture<R: Read, W: Write>(
         ≡ failures_of writer.old + writer_failures result }
 {
     heads_end_themselves();
-    let picture = match read_head(reader) {
-        Ok(Some(picture)) => picture,
-        Ok(None) => {
-            if number == 0 {
-                return Err(RunFault::Header);
-            }
-            return Err(RunFault::Frame(number));
+    let Some(picture) = read_head(reader)? else {
+        if number == 0 {
+            return Err(RunFault::Header);
         }
-        Err(fault) => return Err(fault),
+        return Err(RunFault::Frame(number));
     };
     *seen = Seen::Picture(picture);
-    let made = match plan_for(request, number, kept, picture, cells, other) {
-        Ok(made) => made,
-        Err(fault) => return Err(fault),
-    };
-    match pass_cells(
-        reader,
-        writer,
-        &made.plan,
-        number,
-        made.plan.head(),
-        cells,
-        other,
-    ) {
-        Ok(()) => Ok(made),
-        Err(fault) => Err(fault),
-    }
+    let made = plan_for(request, number, kept, picture, cells, other)?;
+    let head = made.plan.head();
+    pass_cells(reader, writer, &made.plan, number, head, cells, other)?;
+    Ok(made)
 }
 
 /// Reads picture after picture, edits it and writes it; the letter at the front was already read.
@@ -220,17 +202,13 @@ pub(crate) fn pass_pictures<R: Read, W: Write>(
     let mut other = Vec::new(request.alloc);
     let mut kept = None;
     for number in 0..u64::MAX {
-        match pass_picture(
+        kept = Some(pass_picture(
             request, number, kept, &mut cells, &mut other, seen, reader, writer,
-        ) {
-            Ok(made) => kept = Some(made),
-            Err(fault) => return Err(fault),
-        }
-        match read_byte(reader) {
-            Ok(Some(b'P')) => {}
-            Ok(Some(_)) => return Err(RunFault::Frame(number + 1)),
-            Ok(None) => return Ok(number + 1),
-            Err(_) => return Err(RunFault::Input),
+        )?);
+        match read_byte(reader)? {
+            Some(b'P') => {}
+            Some(_) => return Err(RunFault::Frame(number + 1)),
+            None => return Ok(number + 1),
         }
     }
     Err(RunFault::Frame(u64::MAX))

@@ -14,7 +14,9 @@ use crate::frames::pass_frames;
 use crate::pictures::pass_pictures;
 use crate::request::{Request, Seen, is_over};
 use devices::{Counted, LineFault, read_byte, read_line, write_all};
-use frame_formats::{Framing, Paint, Plan, Step, heads_end_themselves, read_format, recipes_hide};
+use frame_formats::{
+    Edit, Framing, Plan, heads_end_themselves, read_format, read_rate, recipes_hide,
+};
 use std::alloc::Global;
 use std::io::{Read, Write};
 
@@ -48,7 +50,7 @@ fn run_video<R: Read, W: Write>(
     let Some(format) = read_format(line) else {
         return Err(RunFault::Header);
     };
-    *seen = Seen::Video(format);
+    *seen = Seen::Video(format, read_rate(line));
     let plan = match Plan::for_video(alloc, line, format, request.steps, request.framing) {
         Ok(plan) => plan,
         Err(fault) => return Err(fault_of_plan(0, fault)),
@@ -117,7 +119,7 @@ fn carry_video<R: Read, W: Write>(
 pub fn run<R: Read, W: Write>(
     alloc: Global,
     limit: usize,
-    steps: &[Step<Paint>],
+    steps: &[Edit],
     framing: Option<Framing>,
     seen: &mut Seen,
     reader: &mut Counted<R>,

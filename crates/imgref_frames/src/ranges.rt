@@ -1,15 +1,16 @@
-//! Ranges of frames that the input didn't reach.
+//! Ranges of frames that the input didn't reach, and ranges of times that have no frame.
 
-use crate::reasons::say_edit;
+use crate::reasons::{line_of, say_edit};
 use crate::words::Lines;
-use frame_formats::{Paint, Step};
+use frame_formats::{Edit, Rate};
 
 /// Prints each range of frames that the input, which had so many, didn't reach. Returns whether
 /// there is one.
 pub(crate) fn say_unreached(
     rt: &HostRuntime,
     count: u64,
-    steps: &[Step<Paint>],
+    rate: Option<Rate>,
+    steps: &[Edit],
     text: Option<&[u8]>,
     strict: bool,
 ) -> bool {
@@ -20,8 +21,10 @@ pub(crate) fn say_unreached(
         None => None,
     };
     for number in 0..steps.len() {
-        let step = steps[number];
-        if step.first >= count && (step.first > 0 || step.end < u64::MAX) {
+        let Some((first, end)) = steps[number].range.frames(rate) else {
+            continue;
+        };
+        if first >= count && (first > 0 || end < u64::MAX) {
             if strict && !found {
                 let _ = eprintln!(rt; "fault range");
             }
@@ -37,10 +40,35 @@ pub(crate) fn say_unreached(
             };
             say_edit(rt, number, line);
             let _ = eprintln!(rt;
-                "the input has {count} frames, and ends before its range {}..{}",
-                step.first, step.end
+                "the input has {count} frames, and ends before its range {first}..{end}"
             );
         }
     }
     found
+}
+
+/// Prints the first range of times that has no frame, and why. Returns whether there is one.
+pub(crate) fn say_no_frames(
+    rt: &HostRuntime,
+    rate: Option<Rate>,
+    steps: &[Edit],
+    text: Option<&[u8]>,
+) -> bool {
+    for number in 0..steps.len() {
+        if steps[number].range.frames(rate).is_some() {
+            continue;
+        }
+        say_edit(rt, number, line_of(rt, text, number));
+        let _ = match rate {
+            Some(rate) if rate.frames > 0 && rate.seconds > 0 => eprintln!(rt;
+                "no frame is in its range of times, with F{}:{}",
+                rate.frames, rate.seconds
+            ),
+            _ => eprintln!(rt;
+                "its range is of times, and the input names no rate of frames, as F25:1 does"
+            ),
+        };
+        return true;
+    }
+    false
 }

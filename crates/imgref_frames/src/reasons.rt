@@ -1,9 +1,10 @@
 //! Why a run ended, in words for standard error. Nothing here changes what is written or the status.
 
 use crate::fault::RunFault;
+use crate::ranges::say_no_frames;
 use crate::request::Seen;
 use crate::words::{Lines, Refusal, find_bad_word};
-use frame_formats::{Change, Chroma, Edits, Format, Framing, Paint, Pixel, Window};
+use frame_formats::{Change, Chroma, Edits, Format, Framing, Kind, Paint, Window};
 
 // A frame: its size, how many columns and rows of pixels share a chroma sample, and the greatest
 // value of a sample.
@@ -20,7 +21,7 @@ struct Frame {
 impl Frame {
     fn of_video(format: Format) -> Frame {
         let (across, down) = match format.chroma {
-            Chroma::Mono | Chroma::Whole => (1, 1),
+            Chroma::Mono | Chroma::Whole | Chroma::WholeAlpha => (1, 1),
             Chroma::Small => (2, 2),
             Chroma::Wide => (2, 1),
             Chroma::Quarter => (4, 1),
@@ -31,23 +32,23 @@ impl Frame {
             across,
             down,
             has_colours: false,
-            greatest: match format.pixel {
-                Pixel::Deep(greatest) => greatest as usize,
-                Pixel::Single | Pixel::Colours => 255,
-            },
+            greatest: format.pixel.greatest as usize,
         }
     }
 
     fn of(seen: Seen) -> Option<Frame> {
         match seen {
-            Seen::Video(format) => Some(Frame::of_video(format)),
+            Seen::Video(format, _) => Some(Frame::of_video(format)),
             Seen::Picture(picture) => Some(Frame {
                 width: picture.width,
                 height: picture.height,
                 across: 1,
                 down: 1,
-                has_colours: picture.colour,
-                greatest: 255,
+                has_colours: match picture.kind {
+                    Kind::Plain { colour } => colour,
+                    Kind::Pam(tuples) => tuples.colour,
+                },
+                greatest: picture.greatest as usize,
             }),
             Seen::Nothing => None,
         }
@@ -118,10 +119,14 @@ fn check_value(frame: Frame, value: usize) -> Option<Wrong> {
 fn check_change(frame: Frame, change: Change<Paint>) -> Option<Wrong> {
     match change {
         Change::Fill { window, value } => match value {
-            Paint::Around(value) => check_value(frame, value),
+            Paint::Around(value) => check_value(frame, value?),
             Paint::Grey(value) => check_value(frame, value).or(check_window(frame, window)),
+            Paint::Black => check_window(frame, window),
             Paint::Colour { .. } if !frame.has_colours => Some(Wrong::Colour),
-            _ => check_window(frame, window),
+            Paint::Colour { red, green, blue } => {
+                let value = red.max(green).max(blue);
+                check_value(frame, value).or(check_window(frame, window))
+            }
         },
         Change::Mosaic {
             window,
@@ -181,8 +186,8 @@ fn say_wrong(rt: &HostRuntime, wrong: Wrong) {
     };
 }
 
-// The line of the edit of this number, where edits have lines.
-fn line_of(rt: &HostRuntime, text: Option<&[u8]>, number: usize) -> Option<usize> {
+/// The line of the edit of this number, where edits have lines.
+pub(crate) fn line_of(rt: &HostRuntime, text: Option<&[u8]>, number: usize) -> Option<usize> {
     Lines::new(rt.alloc(), text?).find(Some(number))
 }
 
@@ -224,8 +229,10 @@ pub(crate) fn say_reason(
 ) {
     let _ = match fault {
         RunFault::Outside => {
-            if let Some(frame) = Frame::of(seen) {
-                say_outside(rt, frame, edits, text);
+            if !say_no_frames(rt, seen.rate(), &edits.steps, text) {
+                if let Some(frame) = Frame::of(seen) {
+                    say_outside(rt, frame, edits, text);
+                }
             }
             Ok(())
         }
@@ -237,9 +244,8 @@ pub(crate) fn say_reason(
                 "the buffers would have more than {limit} bytes (--limit), or there is no memory for them"
             )
         }
-        RunFault::Header => eprintln!(rt;
-            "the input begins with no YUV4MPEG2 line of C420, C422, C444 or Cmono at 8 to 16 bits or of C411 at 8, and with no head of P5 or P6 with 255. For P4 use pbmtopgm, for P7 pamtopnm, for other videos ffmpeg with -pix_fmt yuv420p"
-        ),
+        // `say_no_head` of beginnings.rt tells it.
+        RunFault::Header => Ok(()),
         RunFault::Frame(number) => eprintln!(rt;
             "after {number} frames or pictures the input goes on, and not with a whole one"
         ),

@@ -1,6 +1,6 @@
 //! The request for a run, and what was found of its input.
 
-use frame_formats::{Format, Framing, Paint, Picture, Plan, Step};
+use frame_formats::{Edit, Format, Framing, Picture, Plan, Rate};
 use std::alloc::Global;
 
 /// The edits of each frame or picture, the allocator for its memory, and how many bytes all buffers
@@ -9,7 +9,7 @@ use std::alloc::Global;
 pub(crate) struct Request<'a> {
     pub(crate) alloc: Global,
     pub(crate) limit: usize,
-    pub(crate) steps: &'a [Step<Paint>],
+    pub(crate) steps: &'a [Edit],
     pub(crate) framing: Option<Framing>,
 }
 
@@ -18,10 +18,20 @@ pub(crate) struct Request<'a> {
 pub enum Seen {
     /// No line and no head.
     Nothing,
-    /// The line of a video.
-    Video(Format),
+    /// The line of a video, and the rate that it names.
+    Video(Format, Option<Rate>),
     /// The head of a picture.
     Picture(Picture),
+}
+
+impl Seen {
+    /// The rate of a video, where its line names one.
+    pub(crate) fn rate(self) -> Option<Rate> {
+        match self {
+            Seen::Video(_, rate) => rate,
+            Seen::Picture(_) | Seen::Nothing => None,
+        }
+    }
 }
 
 /// Whether the buffers for a plan have more bytes than allowed.

@@ -1,13 +1,13 @@
 //! The edits that the words after the program's name denote, or the lines of the file that they
 //! name.
 
-ghost use Rattle.std.specs.Prelude.{◌≡◌, ◌<◌, All, IfOk, OnOk, Some, None, map, []};
+ghost use Rattle.std.specs.Prelude.{◌≡◌, IsTrue, All, IfOk, OnOk, Some, None, map, []};
 ghost use Rattle.frame_formats.specs.Edits.{edits};
 ghost use Rattle.frame_formats.specs.Lists.{with_lines, plain};
-ghost use Rattle.imgref_frames.specs.Words.{AreWords, AreUsable, moves, covers, covers_late};
+ghost use Rattle.imgref_frames.specs.Words.{AreWords, AreUsable, has_span, moves, covers, covers_late};
 ghost use Rattle.text_model.specs.Parts.{parts_of};
 
-use frame_formats::{Change, Edits, Paint, Step, WordsFault};
+use frame_formats::{Change, Edit, Edits, Paint, Range, WordsFault};
 use std::alloc::Global;
 use std::{env, io};
 use texts::Parts;
@@ -63,12 +63,23 @@ pub(crate) fn words_of(rt: &HostRuntime) -> Result<Vec<String>, Refusal> {
     Ok(all)
 }
 
-// The first step whose range has no frame.
-fn find_no_frame(steps: &[Step<Paint>]) -> Option<usize>
-    ensures none { result ≡ None → All (λ s. s.first < s.end) steps.now }
+// Whether a range begins before its end.
+fn has_span(range: Range) -> bool
+    ensures { result ≡ has_span range }
 {
-    for at in 0..steps.len() {
-        if steps[at].end <= steps[at].first {
+    match range {
+        Range::Frames { first, end } => first < end,
+        Range::Times { from: _, to: None } => true,
+        Range::Times { from, to: Some(to) } => from < to,
+    }
+}
+
+// The first edit whose range has no frame.
+fn find_no_frame(edits: &[Edit]) -> Option<usize>
+    ensures none { result ≡ None → All (λ s. IsTrue (has_span s.range)) edits.now }
+{
+    for at in 0..edits.len() {
+        if !has_span(edits[at].range) {
             return Some(at);
         }
     }
@@ -148,7 +159,7 @@ fn is_cover(change: Change<Paint>) -> bool
 }
 
 /// Whether a fill or a mosaic comes after a move, which may have carried away what they would hide.
-pub(crate) fn uncovers(steps: &[Step<Paint>]) -> bool
+pub(crate) fn uncovers(steps: &[Edit]) -> bool
     ensures { result ≡ covers_late steps.now }
 {
     let mut moved = false;

@@ -1,4 +1,4 @@
-//! A band that is written through the `next` of `BandsMut`.
+//! A band that is written through `step` of `BandsMut`.
 
 ghost use Rattle.std.specs.Prelude.{◌≡◌, ◌<◌, min};
 ghost use Rattle.std.specs.Borrow.{sem, follows, Array};
@@ -37,7 +37,7 @@ where
         (layout_by C.cells image.new) }
 {
     let mut bands = bands_of(image, band_height);
-    if let Some(band) = bands.next() {
+    if let Some(band) = bands.step() {
         let (cells, shape) = band.into_parts();
         fill(cells, shape, value);
     }

@@ -6,12 +6,12 @@ use Rattle.frame_formats.specs.Steps.{step_by}
 use Rattle.frame_formats.proofs.StepsEach.{one_more, one_stops, all_done, step_made, no_step}
 use Rattle.frame_formats.proofs.layers.plane_on.Goals as goal
 
-pub returns-in_default-clause-fault : goal.returns-in_default-clause-fault
-returns-in_default-clause-fault c = grind (arith, one_stops, no_step)
+pub returns-in_err-ok_or-clause-fault : goal.returns-in_err-ok_or-clause-fault
+returns-in_err-ok_or-clause-fault c = grind (arith, one_stops, no_step)
 
 pub loop-step-preserved : goal.loop-step-preserved
 loop-step-preserved c = grind (arith, one_more, step_made)
 
-pub returns-in-Some-new-clause-plane : goal.returns-in-Some-new-clause-plane
-returns-in-Some-new-clause-plane c =
+pub returns-clause-plane : goal.returns-clause-plane
+returns-clause-plane c =
     rw (all_done (step_by (change_on c.args.pixel c.args.layer c.args.width c.args.height)) c.loop-step.made.items c.args.steps.now c.loop-step.step-index _ (omega arith) c.loop-step.invariant) (grind (arith, common_steps))

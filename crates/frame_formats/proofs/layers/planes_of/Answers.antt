@@ -7,14 +7,14 @@ use Rattle.frame_formats.specs.declared.layers.Layer.{Layer}
 use Rattle.frame_formats.proofs.StepsEach.{one_more, one_stops, all_done, tells_more}
 use Rattle.frame_formats.proofs.layers.planes_of.Goals as goal
 
-pub returns-in-Err-clause-fault : goal.returns-in-Err-clause-fault
-returns-in-Err-clause-fault c = grind (arith, one_stops, tells_more)
+pub returns-in_err-plane_on-clause-fault : goal.returns-in_err-plane_on-clause-fault
+returns-in_err-plane_on-clause-fault c = grind (arith, one_stops, tells_more)
 
 pub loop-layer-preserved : goal.loop-layer-preserved
 loop-layer-preserved c =
     let a = c.args in
     let made = λ (layer : Layer). job_on a.pixel layer a.width a.height a.steps.now in
-    rw (c.in-Ok-push.ensures.items, map-append) (one_more made (map job_of c.loop-layer.planes.items) a.layers.now c.loop-layer.layer-index _ _ _ (omega arith) c.in-Ok.ensures.plane c.loop-layer.invariant)
+    rw (c.in_ok-push.ensures.items, map-append) (one_more made (map job_of c.loop-layer.planes.items) a.layers.now c.loop-layer.layer-index _ _ _ (omega arith) c.in_ok-plane_on.ensures.plane c.loop-layer.invariant)
 
 pub returns-clause-planes : goal.returns-clause-planes
 returns-clause-planes c =

@@ -12,7 +12,7 @@ returns-in_default-clause-fault c = grind (arith, one_stops)
 pub loop-layer-preserved : goal.loop-layer-preserved
 loop-layer-preserved c =
     let a = c.args in
-    rw (c.in-Ok.ensures.items, map-append) (one_more (λ layer. resizing_on a.pixel layer a.width a.height a.resize) (map resizing_of c.loop-layer.targets.items) a.layers.now c.loop-layer.layer-index _ _ _ (omega arith) (sym c.in-Some.ensures) c.loop-layer.invariant)
+    rw (c.in_ok-push.ensures.items, map-append) (one_more (λ layer. resizing_on a.pixel layer a.width a.height a.resize) (map resizing_of c.loop-layer.targets.items) a.layers.now c.loop-layer.layer-index _ _ _ (omega arith) (sym c.in-Some.ensures) c.loop-layer.invariant)
 
 pub returns-clause-targets : goal.returns-clause-targets
 returns-clause-targets c =

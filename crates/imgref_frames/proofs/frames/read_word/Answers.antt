@@ -6,6 +6,6 @@ use Rattle.imgref_frames.proofs.frames.read_word.Goals as goal
 
 pub returns-then-count-word-clause-found : goal.returns-then-count-word-clause-found
 returns-then-count-word-clause-found g c =
-    let taken = length-take-le c.in-Ok.count c.fill.new.buffer c.in-Ok.ensures.within in
-    cut_line (g.R.Read.remaining (device_of c.args.reader.now)) (g.R.Read.remaining (device_of c.fill.new.reader)) (take c.in-Ok.count c.fill.new.buffer)
-    (omega (arith, taken, c.in-Ok.count-test)) (omega (arith, taken)) c.in-Ok.ensures.bytes (c.in-Ok.ensures.end (omega arith))
+    let taken = length-take-le c.in_ok-count.count c.fill.new.buffer c.in_ok-count.ensures.within in
+    cut_line (g.R.Read.remaining (device_of c.args.reader.now)) (g.R.Read.remaining (device_of c.fill.new.reader)) (take c.in_ok-count.count c.fill.new.buffer)
+    (omega (arith, taken, c.if-count-eq0.false)) (omega (arith, taken)) c.in_ok-count.ensures.bytes (c.in_ok-count.ensures.end (omega arith))

@@ -3,50 +3,58 @@ use Rattle.std.proofs.Common.{Ok, Err, arith, sym, subst, refl}
 use Rattle.devices.specs.Device.{device_of}
 use Rattle.frame_formats.specs.Planned.{recipe_of}
 use Rattle.imgref_frames.specs.Request.{edits_of}
-use Rattle.imgref_frames.specs.Passing.{PassesCells}
+use Rattle.imgref_frames.specs.Kept.{kept_picture, picture_in, PictureStops}
+use Rattle.imgref_frames.specs.Passing.{PassesCells, PassesPicture}
 use Rattle.imgref_frames.specs.Pictures.{IsHead, behind_letter}
 use Rattle.imgref_frames.specs.Video.{with_head}
+use Rattle.imgref_frames.proofs.HandedOn.{handed_on}
 use Rattle.imgref_frames.proofs.Heads.{no_next}
 use Rattle.imgref_frames.proofs.Rounds.{picture_made, not_planned, new_head}
 use Rattle.imgref_frames.proofs.pictures.pass_picture.Goals as goal
 
-pub returns-in-Ok-None-clause-passes : goal.returns-in-Ok-None-clause-passes
-returns-in-Ok-None-clause-passes g c = (refl, no_next (edits_of c.args.request) c.args.number (omega arith) (g.R.Read.remaining (device_of c.args.reader.now)) (rw c.in-Ok-None.field-0-is at c.in-Ok-None.ensures.head), refl)
+pub returns-in_default-clause-passes : goal.returns-in_default-clause-passes
+returns-in_default-clause-passes g c = (refl, no_next (edits_of c.args.request) c.args.number (omega arith) (g.R.Read.remaining (device_of c.args.reader.now)) (rw c.in_default.is at c.in_ok-picture.ensures.head), refl)
 
 -- the edits don't suit the picture, or there is no memory for its plan
-pub returns-in-Err-plan_for-clause-passes : goal.returns-in-Err-plan_for-clause-passes
-returns-in-Err-plan_for-clause-passes g c =
-    let found = rw c.in-Ok-Some.field-0-is at c.in-Ok-Some.ensures.head in
+pub returns-in_err-made-clause-passes : goal.returns-in_err-made-clause-passes
+returns-in_err-made-clause-passes g c =
+    let found = rw c.in-Some.is at c.in_ok-picture.ensures.head in
     let w = g.W.Write.contents (device_of c.args.writer.now) in
     let r1 = behind_letter (g.R.Read.remaining (device_of c.args.reader.now)) in
-    not_planned (edits_of c.args.request) c.args.number c.in-Ok-Some.picture found.0 found.1 r1 (g.R.Read.remaining (device_of c.read_head.new.reader)) w found.2 c.in-Err-plan_for.fault c.in-Err-plan_for.ensures.fault
+    handed_on (λ r. PassesPicture (picture_in r) (edits_of c.args.request) c.args.number r1 (g.R.Read.remaining (device_of c.read_head.new.reader)) w w)
+    c.from_residual-in_err-made.result c.in_err-made.field-0.0 c.from_residual-in_err-made.ensures
+    (not_planned (edits_of c.args.request) c.args.number c.in-Some.picture found.0 found.1 r1 (g.R.Read.remaining (device_of c.read_head.new.reader)) w found.2 c.in_err-made.field-0.0 c.in_err-made.ensures.fault)
 
-pub returns-in-Err-plan_for-clause-stops : goal.returns-in-Err-plan_for-clause-stops
-returns-in-Err-plan_for-clause-stops g c =
-    let found = rw c.in-Ok-Some.field-0-is at c.in-Ok-Some.ensures.head in
-    new_head c.in-Ok-Some.picture found.0 found.1 _ (behind_letter (g.R.Read.remaining (device_of c.args.reader.now))) (g.R.Read.remaining (device_of c.read_head.new.reader)) found.2 c.in-Err-plan_for.fault c.in-Err-plan_for.ensures.stops
+pub returns-in_err-made-clause-stops : goal.returns-in_err-made-clause-stops
+returns-in_err-made-clause-stops g c =
+    let found = rw c.in-Some.is at c.in_ok-picture.ensures.head in
+    handed_on (λ r. PictureStops r (kept_picture c.args.kept) (behind_letter (g.R.Read.remaining (device_of c.args.reader.now))) (g.R.Read.remaining (device_of c.read_head.new.reader)))
+    c.from_residual-in_err-made.result c.in_err-made.field-0.0 c.from_residual-in_err-made.ensures
+    (new_head c.in-Some.picture found.0 found.1 _ (behind_letter (g.R.Read.remaining (device_of c.args.reader.now))) (g.R.Read.remaining (device_of c.read_head.new.reader)) found.2 c.in_err-made.field-0.0 c.in_err-made.ensures.stops)
 
 -- the cells were passed on
-pub returns-in-Ok-pass_cells-clause-passes : goal.returns-in-Ok-pass_cells-clause-passes
-returns-in-Ok-pass_cells-clause-passes g c =
-    let found = rw c.in-Ok-Some.field-0-is at c.in-Ok-Some.ensures.head in
-    let made = c.in-Ok.made in
+pub returns-clause-passes : goal.returns-clause-passes
+returns-clause-passes g c =
+    let found = rw c.in-Some.is at c.in_ok-picture.ensures.head in
+    let made = c.in_ok-made.made in
     let r2 = g.R.Read.remaining (device_of c.read_head.new.reader) in
     let r3 = g.R.Read.remaining (device_of c.pass_cells.new.reader) in
     let w1 = g.W.Write.contents (device_of c.args.writer.now) in
     let w2 = g.W.Write.contents (device_of c.pass_cells.new.writer) in
-    picture_made c.heads_end_themselves.ensures.apart c.heads_end_themselves.ensures.begins (edits_of c.args.request) c.args.number made.picture (recipe_of made.plan) found.0 (subst (IsHead found.0) (sym c.in-Ok.ensures.picture) found.1) c.in-Ok.ensures.kept.plan
+    picture_made c.heads_end_themselves.ensures.apart c.heads_end_themselves.ensures.begins (edits_of c.args.request) c.args.number made.picture (recipe_of made.plan) found.0 (subst (IsHead found.0) (sym c.in_ok-made.ensures.picture) found.1) c.in_ok-made.ensures.kept.plan
     (behind_letter (g.R.Read.remaining (device_of c.args.reader.now))) r2 r3 w1 w2 found.2 (Ok tt)
-    (subst (λ h. PassesCells (Ok tt) (with_head h (recipe_of made.plan)) c.args.number r2 r3 w1 w2) c.head.ensures c.in-Ok-pass_cells.ensures.passes)
+    (subst (λ h. PassesCells (Ok tt) (with_head h (recipe_of made.plan)) c.args.number r2 r3 w1 w2) c.head-head.ensures c.in_ok-pass_cells.ensures.passes)
 
-pub returns-in-Err-pass_cells-clause-passes : goal.returns-in-Err-pass_cells-clause-passes
-returns-in-Err-pass_cells-clause-passes g c =
-    let found = rw c.in-Ok-Some.field-0-is at c.in-Ok-Some.ensures.head in
-    let made = c.in-Ok.made in
+pub returns-in_err-pass_cells-clause-passes : goal.returns-in_err-pass_cells-clause-passes
+returns-in_err-pass_cells-clause-passes g c =
+    let found = rw c.in-Some.is at c.in_ok-picture.ensures.head in
+    let made = c.in_ok-made.made in
     let r2 = g.R.Read.remaining (device_of c.read_head.new.reader) in
     let r3 = g.R.Read.remaining (device_of c.pass_cells.new.reader) in
     let w1 = g.W.Write.contents (device_of c.args.writer.now) in
     let w2 = g.W.Write.contents (device_of c.pass_cells.new.writer) in
-    picture_made c.heads_end_themselves.ensures.apart c.heads_end_themselves.ensures.begins (edits_of c.args.request) c.args.number made.picture (recipe_of made.plan) found.0 (subst (IsHead found.0) (sym c.in-Ok.ensures.picture) found.1) c.in-Ok.ensures.kept.plan
-    (behind_letter (g.R.Read.remaining (device_of c.args.reader.now))) r2 r3 w1 w2 found.2 (Err c.in-Err-pass_cells.fault)
-    (subst (λ h. PassesCells (Err c.in-Err-pass_cells.fault) (with_head h (recipe_of made.plan)) c.args.number r2 r3 w1 w2) c.head.ensures c.in-Err-pass_cells.ensures.passes)
+    handed_on (λ r. PassesPicture (picture_in r) (edits_of c.args.request) c.args.number (behind_letter (g.R.Read.remaining (device_of c.args.reader.now))) r3 w1 w2)
+    c.from_residual-in_err-pass_cells.result c.in_err-pass_cells.field-0.0 c.from_residual-in_err-pass_cells.ensures
+    (picture_made c.heads_end_themselves.ensures.apart c.heads_end_themselves.ensures.begins (edits_of c.args.request) c.args.number made.picture (recipe_of made.plan) found.0 (subst (IsHead found.0) (sym c.in_ok-made.ensures.picture) found.1) c.in_ok-made.ensures.kept.plan
+    (behind_letter (g.R.Read.remaining (device_of c.args.reader.now))) r2 r3 w1 w2 found.2 (Err c.in_err-pass_cells.field-0.0)
+    (subst (λ h. PassesCells (Err c.in_err-pass_cells.field-0.0) (with_head h (recipe_of made.plan)) c.args.number r2 r3 w1 w2) c.head-head.ensures c.in_err-pass_cells.ensures.passes))

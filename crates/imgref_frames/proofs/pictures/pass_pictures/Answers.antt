@@ -5,43 +5,51 @@ use Rattle.std.proofs.lemmas.Grind.{common_steps}
 use Rattle.devices.specs.Device.{device_of}
 use Rattle.imgref_frames.specs.Request.{edits_of}
 use Rattle.imgref_frames.specs.Pictures.{PictureHead, behind_letter}
-use Rattle.imgref_frames.specs.Passing.{Passed}
+use Rattle.imgref_frames.specs.Kept.{PicturesStop}
+use Rattle.imgref_frames.specs.Passing.{Passed, PassesPictures}
+use Rattle.imgref_frames.specs.declared.fault.RunFault.TheVariants.{Input}
+use Rattle.imgref_frames.proofs.HandedOn.{handed_on}
 use Rattle.imgref_frames.proofs.Heads.{other_letter, last_letter}
 use Rattle.imgref_frames.proofs.OneMore.{passed_on}
 use Rattle.imgref_frames.proofs.Rounds.{picture_passed, picture_last, picture_stopped, next_letter_last, none_last, next_head, memory_count, nothing_said}
 use Rattle.imgref_frames.proofs.pictures.pass_pictures.Goals as goal
 
-pub returns-in-Err-clause-passes : goal.returns-in-Err-clause-passes
-returns-in-Err-clause-passes g c = picture_stopped (edits_of c.args.request) c.loop-number.number _ _ _ _ _ _ (omega arith) c.loop-number.invariant.passed.passed c.in-Err.fault c.in-Err.ensures.passes
+pub returns-in_err-pass_picture-clause-passes : goal.returns-in_err-pass_picture-clause-passes
+returns-in_err-pass_picture-clause-passes g c =
+    handed_on (λ r. PassesPictures r (edits_of c.args.request) (behind_letter (g.R.Read.remaining (device_of c.args.reader.now))) (g.R.Read.remaining (device_of c.pass_picture.new.reader)) (g.W.Write.contents (device_of c.args.writer.now)) (g.W.Write.contents (device_of c.pass_picture.new.writer)))
+    c.from_residual.result c.in_err-pass_picture.field-0.0 c.from_residual.ensures
+    (picture_stopped (edits_of c.args.request) c.loop-number.number _ _ _ _ _ _ (omega arith) c.loop-number.invariant.passed.passed c.in_err-pass_picture.field-0.0 c.in_err-pass_picture.ensures.passes)
 
 -- another letter
-pub returns-in-Ok-Some-clause-passes : goal.returns-in-Ok-Some-clause-passes
-returns-in-Ok-Some-clause-passes g c =
+pub returns-in-Some-clause-passes : goal.returns-in-Some-clause-passes
+returns-in-Some-clause-passes g c =
     let left = g.R.Read.remaining (device_of c.pass_picture.new.reader) in
     record {
       left = left;
-      passed = picture_passed (edits_of c.args.request) c.loop-number.number _ _ _ _ _ _ (omega arith) c.loop-number.invariant.passed.passed c.in-Ok.made.picture c.in-Ok.ensures.passes;
-      ends = other_letter c.heads_end_themselves.ensures.begins (edits_of c.args.request) (c.loop-number.number + 1) c.in-Ok-Some.field-0-0 (omega arith) c.in-Ok-Some.field-0-0-test.1 left (g.R.Read.remaining (device_of c.read_byte.new.reader)) (rw c.in-Ok-Some.field-0-is at c.in-Ok-Some.ensures.byte);
+      passed = picture_passed (edits_of c.args.request) c.loop-number.number _ _ _ _ _ _ (omega arith) c.loop-number.invariant.passed.passed c.in_ok-pass_picture.field-0.picture c.in_ok-pass_picture.ensures.passes;
+      ends = other_letter c.heads_end_themselves.ensures.begins (edits_of c.args.request) (c.loop-number.number + 1) c.in-Some.field-0 (omega arith) c.in-Some.field-0-test.1 left (g.R.Read.remaining (device_of c.read_byte.new.reader)) (rw c.in-Some.is at c.in_ok-read_byte.ensures.byte);
     }
 
-pub returns-in-Ok-None-clause-passes : goal.returns-in-Ok-None-clause-passes
-returns-in-Ok-None-clause-passes g c =
-    let end = rw c.in-Ok-None.field-0-is at c.in-Ok-None.ensures.end in (
-      passed_on (PictureHead (edits_of c.args.request)) (c.loop-number.number + 1) _ _ _ _ _ (picture_passed (edits_of c.args.request) c.loop-number.number _ _ _ _ _ _ (omega arith) c.loop-number.invariant.passed.passed c.in-Ok.made.picture c.in-Ok.ensures.passes) end.0,
+pub returns-in-None-clause-passes : goal.returns-in-None-clause-passes
+returns-in-None-clause-passes g c =
+    let end = rw c.in-None.is at c.in_ok-read_byte.ensures.end in (
+      passed_on (PictureHead (edits_of c.args.request)) (c.loop-number.number + 1) _ _ _ _ _ (picture_passed (edits_of c.args.request) c.loop-number.number _ _ _ _ _ _ (omega arith) c.loop-number.invariant.passed.passed c.in_ok-pass_picture.field-0.picture c.in_ok-pass_picture.ensures.passes) end.0,
       end.1,
     )
 
-pub returns-in-Err-read_byte-clause-passes : goal.returns-in-Err-read_byte-clause-passes
-returns-in-Err-read_byte-clause-passes g c =
+pub returns-in_err-read_byte-clause-passes : goal.returns-in_err-read_byte-clause-passes
+returns-in_err-read_byte-clause-passes g c =
     let left = g.R.Read.remaining (device_of c.pass_picture.new.reader) in
-    record {
+    handed_on (λ r. PassesPictures r (edits_of c.args.request) (behind_letter (g.R.Read.remaining (device_of c.args.reader.now))) (g.R.Read.remaining (device_of c.read_byte.new.reader)) (g.W.Write.contents (device_of c.args.writer.now)) (g.W.Write.contents (device_of c.pass_picture.new.writer)))
+    c.from_residual-in_err-read_byte.result Input c.from_residual-in_err-read_byte.ensures
+    (record {
       count = c.loop-number.number + 1;
       up_to = record {
         left = left;
-        passed = picture_passed (edits_of c.args.request) c.loop-number.number _ _ _ _ _ _ (omega arith) c.loop-number.invariant.passed.passed c.in-Ok.made.picture c.in-Ok.ensures.passes;
+        passed = picture_passed (edits_of c.args.request) c.loop-number.number _ _ _ _ _ _ (omega arith) c.loop-number.invariant.passed.passed c.in_ok-pass_picture.field-0.picture c.in_ok-pass_picture.ensures.passes;
         ends = nothing_said (c.loop-number.number + 1) left;
       };
-    }
+    })
 
 pub loop-number-init : goal.loop-number-init
 loop-number-init g c = record {
@@ -52,15 +60,17 @@ loop-number-init g c = record {
 }
 
 -- out of memory at the head of another picture
-pub returns-in-Err-clause-stops : goal.returns-in-Err-clause-stops
-returns-in-Err-clause-stops g c =
-    next_head (edits_of c.args.request) _ c.loop-number.number _ _ _ _ _ c.loop-number.invariant.passed c.in-Err.fault (memory_count (edits_of c.args.request) c.loop-number.number _ _ _ _ c.in-Err.fault c.in-Err.ensures.passes) c.in-Err.ensures.stops
+pub returns-in_err-pass_picture-clause-stops : goal.returns-in_err-pass_picture-clause-stops
+returns-in_err-pass_picture-clause-stops g c =
+    handed_on (λ r. PicturesStop r (edits_of c.args.request) (behind_letter (g.R.Read.remaining (device_of c.args.reader.now))) (g.R.Read.remaining (device_of c.pass_picture.new.reader)))
+    c.from_residual.result c.in_err-pass_picture.field-0.0 c.from_residual.ensures
+    (next_head (edits_of c.args.request) _ c.loop-number.number _ _ _ _ _ c.loop-number.invariant.passed c.in_err-pass_picture.field-0.0 (memory_count (edits_of c.args.request) c.loop-number.number _ _ _ _ c.in_err-pass_picture.field-0.0 c.in_err-pass_picture.ensures.passes) c.in_err-pass_picture.ensures.stops)
 
 pub loop-number-preserved : goal.loop-number-preserved
 loop-number-preserved g c = record {
-  passed = next_letter_last (edits_of c.args.request) _ (c.loop-number.number + 1) _ _ _ _ _ (picture_last (edits_of c.args.request) c.loop-number.number _ _ _ _ _ _ (omega arith) c.loop-number.invariant.passed.passed c.in-Ok.made.picture c.in-Ok.ensures.passes)
-      (subst (λ b. Consumes (g.R.Read.remaining (device_of c.pass_picture.new.reader)) (g.R.Read.remaining (device_of c.read_byte.new.reader)) (b ∷ [])) c.in-Ok-Some-eq80.field-0-0-test (rw c.in-Ok-Some-eq80.field-0-is at c.in-Ok-Some-eq80.ensures.byte));
-  kept = c.in-Ok.ensures.kept;
+  passed = next_letter_last (edits_of c.args.request) _ (c.loop-number.number + 1) _ _ _ _ _ (picture_last (edits_of c.args.request) c.loop-number.number _ _ _ _ _ _ (omega arith) c.loop-number.invariant.passed.passed c.in_ok-pass_picture.field-0.picture c.in_ok-pass_picture.ensures.passes)
+      (subst (λ b. Consumes (g.R.Read.remaining (device_of c.pass_picture.new.reader)) (g.R.Read.remaining (device_of c.read_byte.new.reader)) (b ∷ [])) c.in-Some-eq80.field-0-test (rw c.in-Some-eq80.is at c.in_ok-read_byte.ensures.byte));
+  kept = c.in_ok-pass_picture.ensures.kept;
   read = grind (arith, common_steps);
   written = grind (arith, common_steps);
 }

@@ -25,7 +25,7 @@ loop-count-preserved g c =
     let mid = g.R.Read.remaining (device_of c.loop-count.reader) in
     let new = g.R.Read.remaining (device_of c.read_byte.new.reader) in
     record {
-      begun = subst (λ (s : Scan). HeadBegun (c.loop-count._count + 1) s old new) (sym c.push-scan-in-loop-count.ensures) (begun_more c.heads_end_themselves.ensures.one_byte_more c.loop-count._count c.loop-count.scan c.in-Ok-Some.byte old mid new c.loop-count.invariant.begun (ap done_as c.in-More.is) (rw c.in-Ok-Some.field-0-is at c.in-Ok-Some.ensures.byte));
+      begun = subst (λ (s : Scan). HeadBegun (c.loop-count._count + 1) s old new) (sym c.push-scan-in-loop-count.ensures) (begun_more c.heads_end_themselves.ensures.one_byte_more c.loop-count._count c.loop-count.scan c.in-Some.byte old mid new c.loop-count.invariant.begun (ap done_as c.in-More.is) (rw c.in-Some.is at c.in_ok-byte.ensures.byte));
       read = grind (arith, common_steps);
     }
 

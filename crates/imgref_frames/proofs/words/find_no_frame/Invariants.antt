@@ -1,6 +1,7 @@
-use Rattle.std.proofs.Common.{◌<◌, All, take}
+use Rattle.std.proofs.Common.{◌≡◌, All, take, true}
+use Rattle.imgref_frames.specs.Words.{has_span}
 use Rattle.imgref_frames.proofs.words.find_no_frame.Given as goal
 
--- each range so far has a frame
+-- each range so far begins before its end
 abbrev pub invariant-loop-at : goal.invariant-loop-at
-invariant-loop-at l = All (λ s. s.first < s.end) (take l.at l.steps)
+invariant-loop-at l = All (λ s. has_span s.range ≡ true) (take l.at l.edits)

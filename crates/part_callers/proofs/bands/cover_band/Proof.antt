@@ -24,8 +24,8 @@ use Rattle.image_tiles.specs.declared.bands.BandsMut.{BandsMut}
 use Rattle.image_tiles.specs.contracts.bands.BandsMut as P
 use Rattle.image_tiles.proofs.bands.BandsMut.TheLaws as laws
 use Rattle.image_tiles.proofs.BandValues.{cells_out, band_val, band_ok, band_told}
-use Rattle.image_tiles.specs.contracts.bands.BandsMut.next as N
-use Rattle.image_tiles.proofs.bands.BandsMut.next.Met as stepping
+use Rattle.image_tiles.specs.contracts.bands.BandsMut.step as N
+use Rattle.image_tiles.proofs.bands.BandsMut.step.Met as stepping
 use Rattle.image_tiles.specs.Bands.{bands, bands_left, cells_left, spacing_left, band_spacing, bands_name, put_back, hands_on, Moves}
 use Rattle.imgref.specs.declared.img.Img.{Img}
 use Rattle.imgref.specs.contracts.img.Img.{the_row}
@@ -114,7 +114,7 @@ cover_band_spec 𝓤 𝓛 𝓜 𝓡 wired X Y LX LY CY gh d gs ds gc dc bm bs bc
     nothing ! $ move ! (6 ∷ 0 ∷ []) $ join ! $ move ! (5 ∷ 0 ∷ []) $ join ! $ move ! (3 ∷ 0 ∷ []) $ join ! $ join ! $
     nothing ! $ use0 𝓛 (raw (fact 𝓤 (κ₂ ⊑ Y.lives))) (fact_i 𝓤 (κ₂ ⊑ Y.lives) (emp 𝓤) inY) $ join ! $ move ! (1 ∷ 0 ∷ []) $ use2 𝓛 (raw (G₂.pre z₂)) (id⊢ 𝓤 _) $
     -- [what the call asks; what is kept of the borrow; the end of β; κ₁; what follows; what is kept; the value]
-    calls_at ! fm G₂ (stepping.met 𝓤 𝓛 𝓜 𝓡 (compiled.calls-image_tiles::bands::BandsMut::next 𝓡.env wired) Y LY) z₂ (and_then ! (get ! refl) (no_more !)) (λ v₂.
+    calls_at ! fm G₂ (stepping.met 𝓤 𝓛 𝓜 𝓡 (compiled.calls-image_tiles::bands::BandsMut::step 𝓡.env wired) Y LY) z₂ (and_then ! (get ! refl) (no_more !)) (λ v₂.
     let Slice : RattleType = MutSlice (named 0) α R in
     let Image : RattleType = img_row (named 0) α R in
     let Row : RattleType = OP.the_row Image in

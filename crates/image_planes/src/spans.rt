@@ -1,0 +1,115 @@
+//! Blocks of steps, and the frames that each names, so that a frame passes over the blocks of others.
+
+ghost use Rattle.std.specs.Prelude.{◌≡◌, ◌<◌, ◌/◌, IfOk, IsTrue};
+ghost use Rattle.image_model.specs.Layout.{Fits, SameOutside};
+ghost use Rattle.image_model.specs.Grid.{grid_of};
+ghost use Rattle.imgref.specs.Shape.{shaped, shape_width, shape_height};
+ghost use Rattle.image_planes.specs.Changes.{are_inside, stepped};
+ghost use Rattle.image_planes.specs.Spans.{has, has_all, are_spans};
+
+use crate::change::{Step, Value};
+use crate::steps::do_steps;
+use imgref::Shape;
+use std::alloc::{AllocError, Global};
+
+// The number of steps of a block. Only the last block may have fewer.
+const BLOCK: usize = 512;
+
+/// The frames that all steps of a block name are among these, by their numbers from 0.
+#[derive(Clone, Copy)]
+pub(crate) struct Span {
+    /// The first frame.
+    pub(crate) first: u64,
+    /// The first frame after them.
+    pub(crate) end: u64,
+}
+
+impl Span {
+    // Whether it has the frame of this number.
+    fn has(self, number: u64) -> bool
+        ensures { result ≡ has self number }
+    {
+        self.first <= number && number < self.end
+    }
+}
+
+fn span_of(block: &[Step<Value>]) -> Span
+    ensures { IsTrue (has_all result block.now) }
+{
+    let mut span = Span {
+        first: u64::MAX,
+        end: 0,
+    };
+    for step in block {
+        span.first = span.first.min(step.first);
+        span.end = span.end.max(step.end);
+    }
+    span
+}
+
+/// The spans of the blocks of steps, one after the other.
+pub(crate) fn spans_of(alloc: Global, steps: &[Step<Value>]) -> Result<Vec<Span>, AllocError>
+    ensures { IfOk result (λ spans. IsTrue (are_spans spans.items steps.now)) }
+{
+    let mut spans = Vec::new(alloc);
+    let mut left = steps;
+    while !left.is_empty() {
+        let (block, others) = left.split_at(left.len().min(BLOCK));
+        spans.push(span_of(block))?;
+        left = others;
+    }
+    Ok(spans)
+}
+
+// Applies the steps of a block for the frame of this number, where its span has that frame.
+#[tactic(auto, using(crate::proofs::Blocks::block_skipped))]
+fn do_block(
+    cells: &mut [u8],
+    shape: Shape,
+    size: usize,
+    block: &[Step<Value>],
+    span: Span,
+    number: u64,
+)
+    requires fits { Fits (shaped cells.old shape) }
+    requires some { 0 < size }
+    requires few { size < 9 }
+    requires inside { IsTrue
+        (are_inside (shape_width shape / size) (shape_height shape) block.now) }
+    requires span { IsTrue (has_all span block.now) }
+    ensures grid { grid_of (shaped cells.new shape)
+        ≡ stepped size number block.now (grid_of (shaped cells.old shape)) }
+    ensures outside { SameOutside (shaped cells.old shape) (shaped cells.new shape) }
+{
+    if span.has(number) {
+        do_steps(cells, shape, size, block, number);
+    }
+}
+
+/// Applies the steps for the frame of this number to the image that the bytes make in this shape,
+/// block by block. A pixel has `size` bytes; the padding stays.
+pub(crate) fn do_blocks(
+    cells: &mut [u8],
+    shape: Shape,
+    size: usize,
+    steps: &[Step<Value>],
+    spans: &[Span],
+    number: u64,
+)
+    requires fits { Fits (shaped cells.old shape) }
+    requires some { 0 < size }
+    requires few { size < 9 }
+    requires inside { IsTrue
+        (are_inside (shape_width shape / size) (shape_height shape) steps.now) }
+    requires spans { IsTrue (are_spans spans.now steps.now) }
+    ensures grid { grid_of (shaped cells.new shape)
+        ≡ stepped size number steps.now (grid_of (shaped cells.old shape)) }
+    ensures outside { SameOutside (shaped cells.old shape) (shaped cells.new shape) }
+{
+    let mut left = steps;
+    for span in spans {
+        let (block, others) = left.split_at(left.len().min(BLOCK));
+        do_block(cells, shape, size, block, *span, number);
+        left = others;
+    }
+}
