@@ -71,9 +71,9 @@ def covered(edit, size, steps, greatest):
     sides = []
     for start, count, whole, step in zip(window[:2], window[2:4], size, steps):
         around = window[4] if len(window) > 4 else max(2, step)
-        low = max(0, start - around) // step * step
-        high = min(whole, -(-(start + count + around) // step) * step)
-        sides.append((low, high - low) if low < whole else (0, 0))
+        begin = max(0, start - around)
+        low, high = begin // step * step, min(whole, -(-(start + count + around) // step) * step)
+        sides.append((low, high - low) if begin < whole else (0, 0))
     return first, last, "fill", [it[0] for it in sides] + [it[1] for it in sides], more or [(greatest + 1) // 16]
 
 

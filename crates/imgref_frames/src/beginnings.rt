@@ -90,7 +90,9 @@ fn say_no_size(rt: &HostRuntime, fields: Parts<'_>, letter: u8, name: &str) -> b
 
 fn say_no_picture(rt: &HostRuntime, kind: u8, front: &[u8]) {
     let _ = match kind {
-        b'1' | b'4' => eprintln!(rt; "P1 and P4 have bits for pixels: pnmdepth 255 makes P5 of them"),
+        b'1' | b'4' => eprintln!(rt;
+            "P1 and P4 have bits for pixels: pnmdepth 255 makes P5 of them"
+        ),
         b'2' | b'3' => eprintln!(rt;
             "P2 and P3 have samples in digits: pnmtopnm makes P5 or P6 of them"
         ),
