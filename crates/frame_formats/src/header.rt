@@ -5,6 +5,7 @@ ghost use Rattle.std.specs.Option.{option_map};
 ghost use Rattle.frame_formats.specs.Format.{tagged, tagged_once, is_interlaced, chroma_of, deep_chroma, depth_of, deep_of, sampling_of, size_of, format_of};
 ghost use Rattle.texts.specs.Parts.{parts_left};
 
+use crate::names::value_named;
 use crate::steps::Pixel;
 use texts::{Field, Parts};
 
@@ -86,61 +87,51 @@ fn read_interlaced(word: Option<&[u8]>) -> bool
 fn read_chroma(word: &[u8]) -> Option<Chroma>
     ensures { result ≡ chroma_of word.now }
 {
-    if word == b"mono".as_slice() {
-        Some(Chroma::Mono)
-    } else if word == b"420jpeg".as_slice()
-        || word == b"420mpeg2".as_slice()
-        || word == b"420paldv".as_slice()
-        || word == b"420".as_slice()
-    {
-        Some(Chroma::Small)
-    } else if word == b"422".as_slice() {
-        Some(Chroma::Wide)
-    } else if word == b"411".as_slice() {
-        Some(Chroma::Quarter)
-    } else if word == b"444".as_slice() {
-        Some(Chroma::Whole)
-    } else if word == b"444alpha".as_slice() {
-        Some(Chroma::WholeAlpha)
-    } else {
-        None
-    }
+    value_named(
+        word,
+        &[
+            (b"mono", Chroma::Mono),
+            (b"420jpeg", Chroma::Small),
+            (b"420mpeg2", Chroma::Small),
+            (b"420paldv", Chroma::Small),
+            (b"420", Chroma::Small),
+            (b"422", Chroma::Wide),
+            (b"411", Chroma::Quarter),
+            (b"444", Chroma::Whole),
+            (b"444alpha", Chroma::WholeAlpha),
+        ],
+    )
 }
 
 // How a word begins that names samples of two bytes.
 fn read_deep_chroma(word: &[u8]) -> Option<Chroma>
     ensures { result ≡ deep_chroma word.now }
 {
-    if word == b"mono".as_slice() {
-        Some(Chroma::Mono)
-    } else if word == b"420p".as_slice() {
-        Some(Chroma::Small)
-    } else if word == b"422p".as_slice() {
-        Some(Chroma::Wide)
-    } else if word == b"444p".as_slice() {
-        Some(Chroma::Whole)
-    } else {
-        None
-    }
+    value_named(
+        word,
+        &[
+            (b"mono", Chroma::Mono),
+            (b"420p", Chroma::Small),
+            (b"422p", Chroma::Wide),
+            (b"444p", Chroma::Whole),
+        ],
+    )
 }
 
 // The greatest value of so many bits.
 fn read_depth(word: &[u8]) -> Option<u16>
     ensures { result ≡ depth_of word.now }
 {
-    if word == b"9".as_slice() {
-        Some(511)
-    } else if word == b"10".as_slice() {
-        Some(1023)
-    } else if word == b"12".as_slice() {
-        Some(4095)
-    } else if word == b"14".as_slice() {
-        Some(16383)
-    } else if word == b"16".as_slice() {
-        Some(65535)
-    } else {
-        None
-    }
+    value_named(
+        word,
+        &[
+            (b"9", 511),
+            (b"10", 1023),
+            (b"12", 4095),
+            (b"14", 16383),
+            (b"16", 65535),
+        ],
+    )
 }
 
 // Samples of two bytes.
