@@ -4,9 +4,8 @@ use Rattle.devices.specs.Device.{device_of}
 use Rattle.frame_formats.specs.Planned.{recipe_of}
 use Rattle.imgref_frames.specs.Request.{edits_of}
 use Rattle.imgref_frames.specs.Kept.{kept_picture, picture_in, PictureStops}
-use Rattle.imgref_frames.specs.Passing.{PassesCells, PassesPicture}
+use Rattle.imgref_frames.specs.Passing.{PassesPicture}
 use Rattle.imgref_frames.specs.Pictures.{IsHead, behind_letter}
-use Rattle.imgref_frames.specs.Video.{with_head}
 use Rattle.imgref_frames.proofs.HandedOn.{handed_on}
 use Rattle.imgref_frames.proofs.Heads.{no_next}
 use Rattle.imgref_frames.proofs.Rounds.{picture_made, not_planned, new_head}
