@@ -22,10 +22,10 @@ returns g c =
       (refl, λ w. rw (start, len) (same_image _ _ _ _ _ _ _ _)),
       record {
         writes_back = tt;
-        value = value ∙ row_is (layout_by cells i) c.args.y c.requires.fits c.requires.below;
+        value = value ∙ row_is (layout_by cells i) c.args.y c.requires.fits c.requires.row;
         len = ap length c.stretch_mut.ensures.value ∙ length-stretch_cells (cells i.buf) (record { start = row.start; len = row.len }) (omega (arith, c.any_row-row.ensures.inside, ap length c.as_slice.ensures)) ∙ len;
-        grid = row_patches cells with_cells stay i c.args.y c.requires.fits c.requires.below i.holds_width;
-        outside = row_keeps cells with_cells stay i c.args.y c.requires.fits c.requires.below;
-        fits = row_fits cells with_cells stay i c.args.y c.requires.fits c.requires.below;
+        grid = row_patches cells with_cells stay i c.args.y c.requires.fits c.requires.row i.holds_width;
+        outside = row_keeps cells with_cells stay i c.args.y c.requires.fits c.requires.row;
+        fits = row_fits cells with_cells stay i c.args.y c.requires.fits c.requires.row;
       },
     )
