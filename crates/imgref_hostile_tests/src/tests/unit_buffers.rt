@@ -73,7 +73,10 @@ fn whole(alloc: Global, shared: Img<CowSlice<'_, ()>>) -> Result<ImgVec<()>, All
 
 #[test]
 fn cells_become_owned_with_padding(rt: HostRuntime) -> Result<(), Fail> {
-    let lent = whole(rt.alloc(), ImgRef::new_stride(UNITS.as_slice(), 3, 2, 4).into())?;
+    let lent = whole(
+        rt.alloc(),
+        ImgRef::new_stride(UNITS.as_slice(), 3, 2, 4).into(),
+    )?;
     assert!(rt; has_cells(&lent, 9, 4));
     let owned = whole(rt.alloc(), lent.into())?;
     assert!(rt; has_cells(&owned, 9, 4));

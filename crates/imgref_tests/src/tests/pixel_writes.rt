@@ -112,7 +112,10 @@ fn writes_before_a_drop_stand(rt: HostRuntime) -> Result<(), Fail> {
         clear_first(&rt, &mut image, count);
         let mut cells = PADDED;
         clear_first(&rt, &mut padded_mut(&mut cells), count);
-        assert!(rt; image.buf().as_slice() == left.as_slice() && cells == left, "after {count}");
+        assert!(rt;
+            image.buf().as_slice() == left.as_slice() && cells == left,
+            "after {count}"
+        );
     }
     Ok(())
 }
@@ -124,7 +127,10 @@ fn the_first_pixels_are_written(rt: HostRuntime) -> Result<(), Fail> {
         write_first(&mut image, count, 0);
         let mut cells = PADDED;
         write_first(&mut padded_mut(&mut cells), count, 0);
-        assert!(rt; image.buf().as_slice() == left.as_slice() && cells == left, "{count}");
+        assert!(rt;
+            image.buf().as_slice() == left.as_slice() && cells == left,
+            "{count}"
+        );
     }
     Ok(())
 }
