@@ -2,10 +2,10 @@
 use Rattle.std.proofs.Common.{◌≡◌, ℕ, ◌+◌, ◌-◌, ◌*◌, ◌<◌, ◌≤◌, List, length, set, take, drop, Option, Some, sym, ap, subst, ◌∙◌, arith, length-set, inl, inr}
 use Rattle.std.specs.List.{slice_get}
 use Rattle.std.proofs.lemmas.Bool.{cases_lt}
-use Rattle.image_model.proofs.Cells.{slice_get-take, slice_get-drop, slice_get-set_same, slice_get-set_other}
+use Rattle.image_model.proofs.Cells.{slice_get-set_same, slice_get-set_other}
 use Rattle.image_shape.specs.declared.shape.Shape.{Shape}
 use Rattle.image_ops.specs.CellAnswers.{AreAnswersAt}
-use Rattle.image_ops.proofs.RowsWritten.{RowsDone, still}
+use Rattle.image_ops.proofs.RowsWritten.{RowsDone, RowRange, cell_of_row}
 
 -- the first n cells are answers, and the others are as before
 pub record AnsweredTo {T : Type 0} (answers : ℕ → T → T → Type 0) (old new : List T) (n : ℕ) : Type 0 where
@@ -17,21 +17,13 @@ pub record AnsweredTo {T : Type 0} (answers : ℕ → T → T → Type 0) (old n
 abbrev pub IsAnswerAt : {T : Type 0} → (ℕ → ℕ → T → T → Type 0) → List T → ℕ → ℕ → ℕ → Option T → Type 0
 IsAnswerAt {T} answers old s x y new = (p q : T) → slice_get old (y * s + x) ≡ Some p → new ≡ Some q → answers x y p q
 
--- what a cell of a row is, while the rows above are written
-pub cell_of_row : {T : Type 0} (answers : ℕ → ℕ → T → T → Type 0) (old now : List T) (s : Shape) (y : ℕ) (from upto x : ℕ)
-    → RowsDone (IsAnswerAt answers old s.stride) old now s y → from ≡ y * s.stride → upto ≡ from + s.width → x < s.width
-    → slice_get (take (upto - from) (drop from now)) x ≡ slice_get old (y * s.stride + x)
-cell_of_row answers old now s y from upto x so begins ends column =
-    let inside : x < upto - from = omega (arith, column, ends) in
-    slice_get-take (upto - from) (drop from now) x inside ∙ slice_get-drop from now x ∙ ap (λ n. slice_get now (n + x)) begins ∙ still (IsAnswerAt answers old s.stride) old now s y so x column
-
 -- the answers at the cells of a row are answers at its places
 pub row_answers_at : {T : Type 0} (answers : ℕ → ℕ → T → T → Type 0) (old now line : List T) (s : Shape) (y : ℕ) (from upto x : ℕ)
-    → RowsDone (IsAnswerAt answers old s.stride) old now s y → from ≡ y * s.stride → upto ≡ from + s.width → x < s.width
+    → RowsDone (IsAnswerAt answers old s.stride) old now s y → RowRange s y from upto → x < s.width
     → AreAnswersAt (λ k. answers k y) (take (upto - from) (drop from now)) line
     → IsAnswerAt answers old s.stride x y (slice_get line x)
-row_answers_at answers old now line s y from upto x so begins ends column made p q was is =
-    made.each x p q (cell_of_row answers old now s y from upto x so begins ends column ∙ was) is
+row_answers_at answers old now line s y from upto x so at column made p q was is =
+    made.each x p q (cell_of_row _ old now s y so from upto x at column ∙ was) is
 
 -- one cell more
 pub answered_more : {T : Type 0} (answers : ℕ → T → T → Type 0) (old now : List T) (n : ℕ) (value : T) → AnsweredTo answers old now n → n < length old
