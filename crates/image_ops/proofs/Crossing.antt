@@ -12,6 +12,7 @@ use Rattle.image_model.proofs.Stretches.{length-with_stretch, with_stretch_at, w
 use Rattle.image_model.proofs.Grids.{pixel_at, same_grids}
 use Rattle.image_shape.specs.declared.shape.Shape.{Shape}
 use Rattle.image_ops.specs.Gathered.{AreGathered, from_end, mirrored_place}
+use Rattle.image_ops.proofs.CellByCell.{one_set}
 use Rattle.image_ops.proofs.RowsWritten.{RowsDone, RowRange, cell_of_row}
 
 -- ---- cell by cell
@@ -26,13 +27,7 @@ pub gathered_more : {T : Type 0} (from : ℕ → ℕ) (source old new : List T) 
     → slice_get source (from n) ≡ Some value → GatheredTo from source old (set new n value) (n + 1)
 gathered_more from source old new n value so within there = record {
   as_many = length-set new n value ∙ so.as_many;
-  each = λ k below.
-      elim (cases_lt k n) [
-        | inl earlier ↦ slice_get-set_other new n k value (λ e. absurd (omega (arith, e, earlier))) ∙ so.each k earlier
-        | inr last ↦
-            let this : n ≡ k = omega (arith, below, last) in
-            ap (slice_get (set new n value)) (sym this) ∙ slice_get-set_same new n value (omega (arith, within, so.as_many)) ∙ sym there ∙ ap (λ m. slice_get source (from m)) this
-      ];
+  each = one_set (λ k p. p ≡ slice_get source (from k)) new n value (omega (arith, within, so.as_many)) so.each (sym there);
 }
 
 -- ---- cells that change places with those at the same distance from the other end

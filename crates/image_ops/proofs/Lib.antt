@@ -18,3 +18,4 @@ pub mod Parts
 pub mod PixelSpreading
 pub mod Patterns
 pub mod Turned
+pub mod CellByCell

@@ -1,10 +1,10 @@
 -- Cells and rows that a closure changes one after the other, by their numbers and places.
-use Rattle.std.proofs.Common.{◌≡◌, ℕ, ◌+◌, ◌-◌, ◌*◌, ◌<◌, ◌≤◌, List, length, set, take, drop, Option, Some, sym, ap, subst, ◌∙◌, arith, length-set, inl, inr}
+use Rattle.std.proofs.Common.{◌≡◌, ℕ, ◌+◌, ◌-◌, ◌*◌, ◌<◌, ◌≤◌, List, length, set, take, drop, Option, Some, subst, ◌∙◌, arith, length-set}
 use Rattle.std.specs.List.{slice_get}
-use Rattle.std.proofs.lemmas.Bool.{cases_lt}
-use Rattle.image_model.proofs.Cells.{slice_get-set_same, slice_get-set_other}
+use Rattle.image_model.proofs.Cells.{slice_get-set_other}
 use Rattle.image_shape.specs.declared.shape.Shape.{Shape}
 use Rattle.image_ops.specs.CellAnswers.{AreAnswersAt}
+use Rattle.image_ops.proofs.CellByCell.{one_set}
 use Rattle.image_ops.proofs.RowsWritten.{RowsDone, RowRange, cell_of_row}
 
 -- the first n cells are answers, and the others are as before
@@ -31,13 +31,7 @@ pub answered_more : {T : Type 0} (answers : ℕ → T → T → Type 0) (old now
 answered_more {T} answers old now n value so within made = record {
   as_many = length-set now n value ∙ so.as_many;
   each = λ k p q below was is.
-      elim (cases_lt k n) [
-        | inl earlier ↦ so.each k p q earlier was (sym (slice_get-set_other now n k value (λ e. absurd (omega (arith, e, earlier)))) ∙ is)
-        | inr last ↦
-            let this : n ≡ k = omega (arith, below, last) in
-            let same : Some value ≡ Some q = sym (slice_get-set_same now n value (omega (arith, within, so.as_many))) ∙ ap (slice_get (set now n value)) this ∙ is in
-            let is_value : value ≡ q = cc same in
-            subst (λ m. answers m p q) this (subst (answers n p) is_value (made p (ap (slice_get old) this ∙ was)))
-      ];
+      one_set (λ j new. (p' q' : T) → slice_get old j ≡ Some p' → new ≡ Some q' → answers j p' q') now n value (omega (arith, within, so.as_many))
+      (λ j earlier p' q'. so.each j p' q' earlier) (λ p' q' was' is'. let same : value ≡ q' = cc is' in subst (answers n p') same (made p' was')) k below p q was is;
   others = λ k above. slice_get-set_other now n k value (λ e. absurd (omega (arith, e, above))) ∙ so.others k (omega arith);
 }

@@ -6,11 +6,8 @@ use Rattle.image_model.specs.Grid.{grid, grid_of}
 use Rattle.image_model.specs.Rows.{row}
 use Rattle.image_model.proofs.Rows.{row_pixel, row_stretch}
 use Rattle.image_shape.specs.Shape.{shaped}
-use Rattle.image_ops.proofs.RowsWritten.{no_row, row_range, row_written, shows_table, outside_stays}
+use Rattle.image_ops.proofs.RowsWritten.{row_range, row_written, shows_table}
 use Rattle.image_ops.proofs.copy.copy_pixels.Goals as goal
-
-pub loop-y-init : goal.loop-y-init
-loop-y-init g c = no_row _ c.args.cells.now c.args.shape
 
 pub loop-y-preserved : goal.loop-y-preserved
 loop-y-preserved g c =
@@ -31,6 +28,3 @@ returns-clause-grid g c =
     let from = shaped c.args.source.now c.args.source_shape in
     shows_table (pixel from) _ _ c.args.shape c.loop-y.y c.loop-y.invariant (omega (arith, c.row_count-y-end.ensures.value))
     ∙ (λ i. grid (c.requires.same_width i) (c.requires.same_height i) (pixel from))
-
-pub returns-clause-outside : goal.returns-clause-outside
-returns-clause-outside g c = outside_stays _ _ _ c.args.shape c.loop-y.y c.loop-y.invariant (omega (arith, c.row_count-y-end.ensures.value))

@@ -3,11 +3,8 @@ use Rattle.std.proofs.Common.{Some, ap, ◌∙◌, arith, length}
 use Rattle.std.proofs.lemmas.List.{length-replicate}
 use Rattle.image_model.specs.Grid.{uniform}
 use Rattle.image_model.proofs.Cells.{slice_get-replicate}
-use Rattle.image_ops.proofs.RowsWritten.{no_row, row_range, row_written, shows_table, outside_stays}
+use Rattle.image_ops.proofs.RowsWritten.{row_range, row_written, shows_table}
 use Rattle.image_ops.proofs.fill.fill_pixels.Goals as goal
-
-pub loop-y-init : goal.loop-y-init
-loop-y-init g c = no_row _ c.args.cells.now c.args.shape
 
 pub loop-y-preserved : goal.loop-y-preserved
 loop-y-preserved g c =
@@ -19,6 +16,3 @@ loop-y-preserved g c =
 pub returns-clause-grid : goal.returns-clause-grid
 unfolding uniform
 returns-clause-grid g c = shows_table (λ _ _. Some c.args.value) _ _ c.args.shape c.loop-y.y c.loop-y.invariant (omega (arith, c.row_count-y-end.ensures.value))
-
-pub returns-clause-outside : goal.returns-clause-outside
-returns-clause-outside g c = outside_stays _ _ _ c.args.shape c.loop-y.y c.loop-y.invariant (omega (arith, c.row_count-y-end.ensures.value))

@@ -1,13 +1,10 @@
 -- The rows so far are answers, and nothing else has changed.
-use Rattle.std.proofs.Common.{arith}
+use Rattle.std.proofs.Common.{arith, rules}
 use Rattle.image_shape.specs.Shape.{shaped}
 use Rattle.image_model.proofs.Mapped.{is_mapped}
 use Rattle.image_ops.proofs.Mapping.{row_answers}
-use Rattle.image_ops.proofs.RowsWritten.{no_row, row_range, row_written, all_right, outside_stays}
+use Rattle.image_ops.proofs.RowsWritten.{row_range, row_written, all_right}
 use Rattle.image_ops.proofs.map.map_pixels.Goals as goal
-
-pub loop-y-init : goal.loop-y-init
-loop-y-init g c = no_row _ c.args.cells.now c.args.shape
 
 pub loop-y-preserved : goal.loop-y-preserved
 loop-y-preserved g c =
@@ -20,9 +17,6 @@ pub returns-clause-answers : goal.returns-clause-answers
 returns-clause-answers g c = λ x j p q column line was is.
     all_right _ _ _ c.args.shape c.loop-y.y c.loop-y.invariant (omega (arith, c.row_count-y-end.ensures.value)) x j column line p q was is
 
-pub returns-clause-outside : goal.returns-clause-outside
-returns-clause-outside g c = outside_stays _ _ _ c.args.shape c.loop-y.y c.loop-y.invariant (omega (arith, c.row_count-y-end.ensures.value))
-
 pub returns-clause-grid : goal.returns-clause-grid
 returns-clause-grid g c =
-    is_mapped _ (shaped c.args.cells.now c.args.shape) (shaped c.loop-y.cells c.args.shape) c.requires.fits (returns-clause-outside g c) (returns-clause-answers g c)
+    is_mapped _ (shaped c.args.cells.now c.args.shape) (shaped c.loop-y.cells c.args.shape) c.requires.fits (search rules) (returns-clause-answers g c)

@@ -3,11 +3,8 @@ use Rattle.std.proofs.Common.{ℕ, ◌%◌, ◌<◌, length, Option, refl, arith
 use Rattle.std.specs.List.{slice_get}
 use Rattle.image_ops.specs.Repeated.{repeated}
 use Rattle.image_model.specs.Rows.{row_count}
-use Rattle.image_ops.proofs.RowsWritten.{no_row, row_range, row_written, row_copied, shows_table, outside_stays}
+use Rattle.image_ops.proofs.RowsWritten.{row_range, row_written, row_copied, shows_table}
 use Rattle.image_ops.proofs.repeating.repeat_pixels.Goals as goal
-
-pub loop-y-init : goal.loop-y-init
-loop-y-init g c = no_row _ c.args.cells.now c.args.shape
 
 pub loop-y-preserved : goal.loop-y-preserved
 loop-y-preserved g c =
@@ -34,6 +31,3 @@ unfolding repeated
 returns-clause-grid g c =
     let pattern = c.args.pattern.now in
     shows_table (λ x _. slice_get pattern (x % length pattern)) _ _ c.args.shape c.loop-y.y c.loop-y.invariant (omega (arith, c.row_count-y-end.ensures.value))
-
-pub returns-clause-outside : goal.returns-clause-outside
-returns-clause-outside g c = outside_stays _ _ _ c.args.shape c.loop-y.y c.loop-y.invariant (omega (arith, c.row_count-y-end.ensures.value))
