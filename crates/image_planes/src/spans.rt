@@ -63,6 +63,7 @@ pub(crate) fn spans_of(alloc: Global, steps: &[Step<Value>]) -> Result<Vec<Span>
 
 /// Applies the steps for the frame of this number to the image that the bytes make in this shape,
 /// block by block. A pixel has `size` bytes; the padding stays.
+#[tactic(auto, using(crate::proofs::Blocks::inside_parts))]
 pub(crate) fn do_blocks(
     cells: &mut [u8],
     shape: Shape,

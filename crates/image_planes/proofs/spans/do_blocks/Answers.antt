@@ -1,5 +1,5 @@
 -- One block more.
-use Rattle.std.proofs.Common.{◌≡◌, ◌/◌, ◌∙◌, ℕ, List, take, drop, ap, ap₂, sym, arith, rules, ◌+◌}
+use Rattle.std.proofs.Common.{◌≡◌, ◌/◌, ◌∙◌, ℕ, List, take, drop, ap, ap₂, sym, rules, ◌+◌}
 use Rattle.image_model.specs.Grid.{Grid, grid_of}
 use Rattle.image_model.specs.Layout.{SameOutside}
 use Rattle.imgref.specs.Shape.{shaped, shape_width, shape_height}
@@ -9,9 +9,6 @@ use Rattle.image_planes.specs.declared.change.Step.{Step}
 use Rattle.image_planes.proofs.Blocks.{block_skipped, in_parts, inside_parts, span_at, take_upto, drop_upto}
 use Rattle.image_planes.proofs.spans.do_blocks.Goals as goal
 use Rattle.image_planes.proofs.spans.do_blocks.Goals.{then-has, else-has}
-
-pub do_steps-requires-clause-inside : goal.do_steps-requires-clause-inside
-do_steps-requires-clause-inside c = grind (arith, inside_parts)
 
 pub loop-span-preserved : goal.loop-span-preserved
 loop-span-preserved c =
