@@ -46,7 +46,10 @@ def format_of(line):
         tagged.setdefault(it[:1], it[1:])
     if word != b"YUV4MPEG2" or b"W" not in tagged or b"H" not in tagged or not sampling_of(tagged.get(b"C", b"420")):
         raise Fault("header")
-    return number(tagged[b"W"]), number(tagged[b"H"]), *sampling_of(tagged.get(b"C", b"420"))
+    size = number(tagged[b"W"]), number(tagged[b"H"])
+    if not all(0 < it < 2**32 for it in size):
+        raise Fault("header")
+    return *size, *sampling_of(tagged.get(b"C", b"420"))
 
 
 def sampling_of(word):
@@ -61,16 +64,16 @@ def is_interlaced(line):
 
 def covered(edit, size, steps, greatest):
     """A cover as the fill of whole samples that it is in a frame of this size, with black where it has no value; every other
-    edit as it is."""
+    edit as it is. Of a cover a fifth number is its margin."""
     first, last, word, window, more = edit
     if word != "cover":
         return edit
     sides = []
-    for start, count, whole, step in zip(window[:2], window[2:], size, steps):
-        margin = max(2, step)
-        low = max(0, start - margin) // step * step
-        high = min(whole, -(-(start + count + margin) // step) * step)
-        sides.append((low, high - low) if low < whole else (0, 0))
+    for start, count, whole, step in zip(window[:2], window[2:4], size, steps):
+        around = window[4] if len(window) > 4 else max(2, step)
+        begin = max(0, start - around)
+        low, high = begin // step * step, min(whole, -(-(start + count + around) // step) * step)
+        sides.append((low, high - low) if begin < whole else (0, 0))
     return first, last, "fill", [it[0] for it in sides] + [it[1] for it in sides], more or [(greatest + 1) // 16]
 
 
@@ -171,7 +174,7 @@ def edits_of(words):
         last = moment(last, None if isinstance(first, Time) else 2**64 - 1)
         if last is not None and (isinstance(first, Time) != isinstance(last, Time) or last <= first):
             raise Fault("words")
-        word, window = words.pop(0), [int(it) for it in words.pop(0).split(",")]
+        word, window = words.pop(0), [int(it) for it in re.split("[,+]", words.pop(0))]
         if word == "crop":
             more = []
         elif word == "cover":

@@ -25,7 +25,9 @@ EDITS = ("fill 4,2,6,4 126", "mosaic 2,2,10,6 4,2", "mosaic 0,0,12,8 64,64", "mo
 ODD = ("fill 10,6,3,3 7", "mosaic 2,2,11,7 4,2", "move 8,0,5,3 8,6", "move 8,6,5,3 0,0", "crop 4,2,9,7", "crop 4,2,7,7", "fill 12,8,1,1 3", "fill 13,0,0,1 3")
 FILL = "fill 4,2,6,4 126"
 # Covers inside, at each edge, beyond it, and with no value.
-COVERS = ("cover 5,3,1,1 9", "cover 5,3,1,1", "cover 0,0,2,2 9", "cover 11,7,1,1 9", "cover 11,7,9,9 9", "cover 13,9,1,1 9", "cover 40,40,2,2 9", "cover 7,0,0,0 9", "1.. cover 3,1,4,3 9 fill 0,0,2,2 7", "cover 18446744073709551615,18446744073709551615,18446744073709551615,18446744073709551615 9", "cover 0,0,18446744073709551615,18446744073709551615 9")
+COVERS = ("cover 5,3,1,1 9", "cover 5,3,1,1", "cover 0,0,2,2 9", "cover 11,7,1,1 9", "cover 11,7,9,9 9", "cover 13,9,1,1 9", "cover 15,11,1,1 9", "cover 14,0,1,1 9", "cover 40,40,2,2 9", "cover 7,0,0,0 9", "1.. cover 3,1,4,3 9 fill 0,0,2,2 7", "cover 18446744073709551615,18446744073709551615,18446744073709551615,18446744073709551615 9", "cover 0,0,18446744073709551615,18446744073709551615 9")
+# The same with a margin.
+MARGINS = ("5,3,1,1", "4,2,2,2", "5,2,3,4", "0,0,2,2", "11,7,1,1", "13,9,1,1", "16,12,2,2", "7,0,0,0", "6,4,0,0", "18446744073709551615,0,1,1", "0,0,18446744073709551615,1")
 PARAMETERS = (b"", b" Ip", b" ", b" XLABEL=a b  Ib")
 LISTS = (
     "fill 0,0,4,4 9 mosaic 2,2,8,6 4,2",
@@ -54,6 +56,9 @@ def by_model(cases, program):
     count_tries(cases, "edits at odd edges are the model's", program, odd)
     covers = [(it.split(), video(sampling, *size, fields=fields)) for sampling in SAMPLINGS for size in ((12, 8), (13, 9)) for fields in (b"Ip", b"It", b"Ib", b"Im", b"I?") for it in COVERS]
     count_tries(cases, "covers round outwards to whole samples, with a margin", program, covers)
+    tries = [(f"cover {it}+{margin} {value}".split(), video(sampling, 13, 9, fields=fields)) for sampling in SAMPLINGS for fields in (b"Ip", b"It") for it in MARGINS for margin in (0, 1, 2, 3, 5, 18446744073709551615) for value in ("", "9")]
+    count_tries(cases, "the margin of a cover is the one that is set", program, tries)
+    cases.count("a margin of 0 covers the samples of a rectangle", ends(program, ["cover", "4,2,2,2+0", "9"], video("420")) == ends(program, ["fill", "4,2,2,2", "9"], video("420")))
     lists = [(edits.split(), video(it)) for it in SAMPLINGS for edits in LISTS]
     count_tries(cases, "lists of edits, each to its frames, are the model's", program, lists)
     small = video("420", 4, 2, 2)
@@ -77,6 +82,8 @@ def by_model(cases, program):
     deep = [(f"{edit} {value}".split(), video(it)) for it in ("420p10", "422p9", "444p12", "mono14", "mono16") for value in (0, 255, 256, 511, 512, 1023, 1024, 4095, 4096, 16383, 16384, 65535, 65536) for edit in ("fill 4,2,4,4", "cover 4,2,4,4", "pad 2,2,2,2")]
     count_tries(cases, "values up to the greatest of a sample, and above it", program, deep)
     count_tries(cases, "samplings that aren't supported", program, [("fill 0,0,2,2 9".split(), video("420").replace(b" C420 ", b" C%s " % it)) for it in (b"420p8", b"420p11", b"420p", b"422p010", b"mono8", b"mono10 ", b"411p10", b"420p10x", b"42", b"")])
+    sizes = [(f"{it} 0,0,0,0 9".split(), video("420").replace(b"W12", b"W" + size).replace(b"H8", b"H" + other)) for it in ("fill", "cover") for size in (b"12", b"0", b"4294967296", b"99999999999") for other in (b"8", b"0", b"00", b"4294967296")]
+    count_tries(cases, "a video of no pixels or too many is refused", program, sizes)
     second = [("fill 0,0,2,2 9".split(), video("420").replace(b" H8 ", b" H8 " + it + b" ", 1)) for it in (b"H8", b"W30", b"H", b"F30:1", b"C444")]
     count_tries(cases, "a second width or height is refused", program, second)
     shown = hidden = video("mono")
@@ -88,7 +95,7 @@ def by_model(cases, program):
 
 
 def by_words(cases, program):
-    for words in ("", "fill", "fill 1,2,3,4", "blur 0,0,1,1 2", "fill 0,0,1,1 1,2", "fill 0,0,1,1 1,2,3,4", "pad 0,0,1,1 1,2,3", "fill 0,0,01,1 2", "fill 0,0,1 2", "mosaic 0,0,1,1 2", "crop 0,0,1,1 2", "crop 0,0,2,2 fill 0,0,2,2 9", "pad 0,0,2,2", "pad 0,0,2,2 9 crop 0,0,2,2", "1..2 pad 0,0,2,2 9", "1..2 crop 0,0,2,2", "1.2 fill 0,0,2,2 9", "2..1 fill 0,0,4,4 9", "0..0 fill 0,0,4,4 9", "fill 0,0,2,2 9 5..5 move 0,0,2,2 2,2", "--edits /nowhere", "--edits", "--strict", "--limit", "--limit x fill 0,0,2,2 9", "--loud fill 0,0,2,2 9", "--edits /dev/null fill 0,0,2,2 9"):
+    for words in ("", "fill", "fill 1,2,3,4", "blur 0,0,1,1 2", "fill 0,0,1,1 1,2", "fill 0,0,1,1 1,2,3,4", "pad 0,0,1,1 1,2,3", "fill 0,0,01,1 2", "fill 0,0,1 2", "mosaic 0,0,1,1 2", "crop 0,0,1,1 2", "crop 0,0,2,2 fill 0,0,2,2 9", "pad 0,0,2,2", "pad 0,0,2,2 9 crop 0,0,2,2", "1..2 pad 0,0,2,2 9", "1..2 crop 0,0,2,2", "1.2 fill 0,0,2,2 9", "cover 0,0,2,2+", "cover 0,0,2,2+ 9", "cover 0,0,2,2+1+1", "cover 0,0,2,2++1", "cover 0,0,2,2+01", "cover 0,0,2,2+-1", "cover 0,0,2,2+18446744073709551616", "cover 0,0,2+1,2", "cover +1", "cover 0,0,2,2 +1", "fill 0,0,2,2+1 9", "mosaic 0,0,2,2+1 2,2", "crop 0,0,2,2+1", "2..1 fill 0,0,4,4 9", "0..0 fill 0,0,4,4 9", "fill 0,0,2,2 9 5..5 move 0,0,2,2 2,2", "--edits /nowhere", "--edits", "--strict", "--limit", "--limit x fill 0,0,2,2 9", "--loud fill 0,0,2,2 9", "--edits /dev/null fill 0,0,2,2 9"):
         said = ends(program, words.split(), video("mono"))
         cases.count(f"words '{words}' are refused", said == (b"", "fault words", 1), str(said))
     with tempfile.NamedTemporaryFile("w", suffix=".edits") as listed:

@@ -144,6 +144,14 @@ def by_netpbm(cases, program):
     page = b"P5\n16 4\n255\n" + bytes(0 if byte >> at & 1 else 255 for byte in bits for at in reversed(range(8)))
     cases.count("a scanned PNG of 1 bit goes through pnmdepth", ours("cover 6,2,1,1 0", said("pnmdepth 255", scanned)) == ours("cover 6,2,1,1 0", page) != page)
     cases.count("and is refused without it", ends(program, ["cover", "6,2,1,1"], scanned)[1:] == ("fault header", 2))
+    # What a message recommends makes a picture that is read.
+    for command, given in (
+        ("pnmdepth 255", b"P1\n2 2\n0 1 1 0\n"), ("pnmdepth 255", b"P4\n16 4\n" + bits), ("pnmtopnm", b"P2\n2 2\n9\n0 1 9 0\n"), ("pnmtopnm", b"P3\n1 2\n300\n0 1 1 0 1 299\n"),
+        ("pnmdepth 255", PAM.format(2, 1, 1, 1, "BLACKANDWHITE").encode() + b"\0\1"), ("pnmdepth 255", PAM.format(1, 1, 2, 1, "BLACKANDWHITE_ALPHA").encode() + b"\0\1"), ("pamtopnm -assume", PAM.format(2, 1, 1, 255, "GRAY").encode() + b"ab"), ("pamtopnm -assume", PAM.format(1, 1, 4, 255, "CMYK").encode() + b"abcd"),
+    ):  # fmt: skip
+        refused, taken = (ends(program, ["cover", "0,0,1,1"], it) for it in (given, said(command, given)))
+        reasons = lines_said(program, ["cover", "0,0,1,1"], given)
+        cases.count(f"{command} makes a picture of {given[:40]!r}", refused[1:] == ("fault header", 2) and taken[1:] == ("", 0) and command in reasons[1], str(reasons))
     for name, greatest in ((name, greatest) for name in TUPLES for greatest in (1, 255, 65535)):
         given = tuples(name, greatest=greatest)
         cases.count(f"crop is pamcut of {name} with {greatest}", ours("crop 4,2,6,4", given * 2) == said("pamcut -left 4 -top 2 -width 6 -height 4", given * 2))
@@ -154,13 +162,14 @@ def by_netpbm(cases, program):
 
 # The beginning of an input, and a part of the line that is printed after the fault.
 REASONS = (
-    (b"", "the input is empty"), (b"RIFF1234WAVE", "none of YUV4MPEG2, P5, P6 and P7"), (b"P4\n8 1\na", "pbmtopgm 1 1"), (b"P3\n1 1\n255\n1 2 3", "pnmtopnm"), (b"P1\n", "pnmtopnm"), (b"P8\n", "P5, P6 and P7 are supported"),
+    (b"", "the input is empty"), (b"RIFF1234WAVE", "none of YUV4MPEG2, P5, P6 and P7"), (b"P4\n8 1\na", "pnmdepth 255"), (b"P3\n1 1\n255\n1 2 3", "pnmtopnm"), (b"P2\n", "pnmtopnm"), (b"P1\n", "pnmdepth 255"), (b"P8\n", "P5, P6 and P7 are supported"),
     (b"P5 0 1 255\na", "the width has to be from 1 to 4294967295"), (b"P5 4294967296 1 255\na", "the width has to be from 1 to 4294967295"), (b"P6 1 0 255\na", "the height has to be from 1"),
     (b"P5 1 1 0\na", "the greatest value of a sample has to be from 1 to 65535"), (b"P6 1 1 65536\na", "the greatest value of a sample has to be from 1 to 65535"), (b"P5 x 1 255\na", "the width has the byte 120"),
     (b"P5 1 1 255", "has no end"), (b"P5x", "there is no white space"), (b"P7\nWIDTH 1\nWIDTH 1\n", "WIDTH occurs twice"), (b"P7\nHEIGHT x\n", "HEIGHT needs a number"), (b"P7\nCOLOR 1\n", "COLOR isn't one of WIDTH"),
     (PAM.format(1, 1, 1, 1, "BLACKANDWHITE").encode(), "TUPLTYPE BLACKANDWHITE isn't supported"), (PAM.format(1, 1, 1, 1, "GRAY").encode(), "TUPLTYPE GRAY isn't supported"), (PAM.format(1, 1, 3, 255, "RGB_ALPHA").encode(), "DEPTH 3 isn't that of its TUPLTYPE"),
     (PAM.format(0, 1, 1, 1, "GRAYSCALE").encode(), "the width and the height have to be from 1"), (PAM.format(1, 1, 1, 70000, "GRAYSCALE").encode(), "MAXVAL has to be from 1 to 65535"), (b"P7\nWIDTH 1\nENDHDR\n", "needs WIDTH, HEIGHT, DEPTH, MAXVAL and TUPLTYPE"),
-    (b"YUV4MPEG2 W4 H4 C420", "the first line has no end"), (b"YUV4MPEG2 W4 H4 " + b"X" * 300 + b"\n", "more than 256 bytes"), (b"YUV4MPEG2 H4\n", "no field W"), (b"YUV4MPEG2 W4 H4 H4\n", "the field H occurs twice"), (b"YUV4MPEG2 Wx H4\n", "the field W of the first line is no number"),
+    (b"YUV4MPEG2 W4 H4 C420", "the first line has no end"), (b"YUV4MPEG2 W4 H4 " + b"X" * 300 + b"\n", "more than 256 bytes"), (b"YUV4MPEG2 H4\n", "no field W"), (b"YUV4MPEG2 W4 H4 H4\n", "the field H occurs twice"), (b"YUV4MPEG2 Wx H4\n", "the field W of the first line has to be a number from 1 to 4294967295"),
+    (b"YUV4MPEG2 W0 H4\n", "the field W of the first line has to be"), (b"YUV4MPEG2 W4 H0\n", "the field H of the first line has to be"), (b"YUV4MPEG2 W99999999999 H4\n", "the field W of the first line has to be"), (b"YUV4MPEG2 W4 H4294967296\n", "the field H of the first line has to be"),
     (b"YUV4MPEG2 W4 H4 C410\n", "the sampling C410 isn't supported"), (b"YUV4MPEG2 W4 H4 C420p11\n", "the sampling C420p11 isn't supported"), (b"YUV4MPEG2 W4 H4 C42\x1b0\n", "the sampling C.. isn't supported"),
 )  # fmt: skip
 

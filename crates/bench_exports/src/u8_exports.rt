@@ -161,8 +161,8 @@ pub extern "C" fn bench_u8_zip_pixels(
 /// The number of pixels of an image that is made from its places, whose memory is freed at once.
 #[unsafe(no_mangle)]
 pub extern "C" fn bench_u8_from_places(alloc: Global, width: usize, height: usize) -> usize
-    requires wide { width < 2 ^ 32 }
-    requires high { height < 2 ^ 32 }
+    requires width_bound { width < 2 ^ 32 }
+    requires height_bound { height < 2 ^ 32 }
 {
     match ImgVec::from_places(
         alloc,

@@ -41,15 +41,9 @@ pub(crate) fn tiles<T: Copy>(cells: &mut [T], shape: Shape, value: T)
 pub(crate) fn bands<T: Copy>(cells: &mut [T], shape: Shape, value: T)
     requires fits { Fits (shaped cells.old shape) }
 {
-    let mut bands = BandsMut::new(ImgRefMut::from_parts(cells, shape), TILE);
-    for _ in 0..usize::MAX {
-        match bands.next() {
-            Some(mut band) => {
-                if band.is_valid() {
-                    band.fill(value);
-                }
-            }
-            None => break,
+    for mut band in BandsMut::new(ImgRefMut::from_parts(cells, shape), TILE) {
+        if band.is_valid() {
+            band.fill(value);
         }
     }
 }

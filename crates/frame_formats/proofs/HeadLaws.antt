@@ -1,5 +1,5 @@
 -- What is known of heads of pictures.
-use Rattle.std.proofs.Common.{◌≡◌, ℕ, ◌<◌, List, [], ◌∷◌, ◌++◌, Option, Some, None, refl, sym, ap, ◌∙◌, arith, inl, inr}
+use Rattle.std.proofs.Common.{◌≡◌, ℕ, List, [], ◌∷◌, ◌++◌, Some, None, refl, sym, ap, ◌∙◌, arith, inl, inr}
 use Rattle.std.proofs.lemmas.Bool.Decides.{eqb_tells}
 use Rattle.frame_formats.specs.Picture.{pushed, scanned, start, done_as, picture_of}
 use Rattle.frame_formats.specs.declared.picture.Picture.{Picture}

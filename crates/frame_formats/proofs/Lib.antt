@@ -5,3 +5,4 @@ pub mod PictureSizes
 pub mod WrittenHeads
 pub mod StepsEach
 pub mod EditsEach
+pub mod Times

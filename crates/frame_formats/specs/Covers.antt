@@ -35,9 +35,10 @@ video_unit f = unit (chroma_unit f.chroma).across (if f.interlaced then 2 * (chr
 abbrev pub one_pixel : Samples
 one_pixel = unit 1 1
 
--- how many pixels more are covered on each side: two, and at least a sample
-abbrev pub margin : ℕ → ℕ
-margin step = max 2 step
+-- how many pixels more are covered on each side: those that are named, or else two, and at least a sample
+abbrev pub margin_of : Option ℕ → ℕ → ℕ
+margin_of (Some margin) step = margin
+margin_of None step = max 2 step
 
 -- the greatest multiple of the step that isn't above a number, and the least that isn't below it
 abbrev pub down_to : ℕ → ℕ → ℕ
@@ -47,19 +48,19 @@ abbrev pub up_to : ℕ → ℕ → ℕ
 up_to step at = if at % step == 0 then at else at + (step - at % step)
 
 -- where a cover begins and how many pixels it has, of so many in this direction: outwards to whole samples, within the frame
-abbrev pub cover_start : ℕ → ℕ → ℕ → ℕ
-cover_start step pixels start = if nat_le pixels (start - margin step) then 0 else down_to step (start - margin step)
+abbrev pub cover_start : ℕ → ℕ → ℕ → ℕ → ℕ
+cover_start step margin pixels start = if nat_le pixels (start - margin) then 0 else down_to step (start - margin)
 
-abbrev pub cover_count : ℕ → ℕ → ℕ → ℕ → ℕ
-cover_count step pixels start count = if nat_le pixels (start - margin step) then 0 else min pixels (up_to step (start + count + margin step)) - cover_start step pixels start
+abbrev pub cover_count : ℕ → ℕ → ℕ → ℕ → ℕ → ℕ
+cover_count step margin pixels start count = if nat_le pixels (start - margin) then 0 else min pixels (up_to step (start + count + margin)) - cover_start step margin pixels start
 
 -- the window that a cover fills
-abbrev pub cover_window : Samples → ℕ → ℕ → Window → Window
-cover_window s width height w = record {
-  left = cover_start s.across width w.left;
-  top = cover_start s.down height w.top;
-  width = cover_count s.across width w.left w.width;
-  height = cover_count s.down height w.top w.height;
+abbrev pub cover_window : Samples → Option ℕ → ℕ → ℕ → Window → Window
+cover_window s margin width height w = record {
+  left = cover_start s.across (margin_of margin s.across) width w.left;
+  top = cover_start s.down (margin_of margin s.down) height w.top;
+  width = cover_count s.across (margin_of margin s.across) width w.left w.width;
+  height = cover_count s.down (margin_of margin s.down) height w.top w.height;
 }
 
 -- a fill that covers, as the fill that it becomes
@@ -67,8 +68,8 @@ abbrev pub fill_in : Samples → ℕ → ℕ → Window → Paint → Change Pai
 fill_in s width height w (Grey value) = Fill w (Grey value)
 fill_in s width height w Black = Fill w Black
 fill_in s width height w (Colour red green blue) = Fill w (Colour red green blue)
-fill_in s width height w (Around (Some value)) = Fill (cover_window s width height w) (Grey value)
-fill_in s width height w (Around None) = Fill (cover_window s width height w) Black
+fill_in s width height w (Around (Some value) margin) = Fill (cover_window s margin width height w) (Grey value)
+fill_in s width height w (Around None margin) = Fill (cover_window s margin width height w) Black
 
 abbrev pub settled : Samples → ℕ → ℕ → Change Paint → Change Paint
 settled s width height (Fill w paint) = fill_in s width height w paint

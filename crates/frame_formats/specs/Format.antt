@@ -85,13 +85,19 @@ abbrev pub sampling_named : Option (List ℕ) → Option (Chroma × Pixel)
 sampling_named None = Some (Small, video_pixel 255)
 sampling_named (Some word) = sampling_of word
 
+-- a size in pixels, from 1 to 4294967295
+unfoldable pub size_of : List ℕ → Option ℕ
+size_of text = do
+  size ← number_of text
+  if nat_lt 0 size && nat_lt size (2 ^ 32) then Some size else None
+
 -- the fields after the first
 unfoldable pub format_in : List (List ℕ) → Option Format
 format_in fields = do
   wide ← tagged_once 87 fields
-  width ← number_of wide
+  width ← size_of wide
   high ← tagged_once 72 fields
-  height ← number_of high
+  height ← size_of high
   sampling ← sampling_named (tagged 67 fields)
   Some (record { width = width; height = height; chroma = sampling.0; pixel = sampling.1; interlaced = is_interlaced (tagged 73 fields) })
 

@@ -1,5 +1,5 @@
 -- The head of a picture.
-use Rattle.std.specs.Prelude.{◌≡◌, ℕ, ◌+◌, ◌-◌, ◌*◌, ◌<◌, ◌^◌, ◌==◌, ◌||◌, ◌&&◌, Bool, true, false, nat_lt, nat_le, if◌then◌else◌, List, [], ◌∷◌, ◌++◌, Option, Some, None, codes}
+use Rattle.std.specs.Prelude.{◌≡◌, ℕ, ◌-◌, ◌^◌, ◌==◌, ◌||◌, ◌&&◌, Bool, true, false, nat_lt, nat_le, if◌then◌else◌, List, [], ◌∷◌, ◌++◌, Option, Some, None}
 use Rattle.text_model.specs.Reading.{◌>>=◌}
 use Rattle.frame_formats.specs.Digits.{is_digit, with_digit}
 use Rattle.frame_formats.specs.Pam.{lines, tuple_depth, lines_pushed, lines_start}

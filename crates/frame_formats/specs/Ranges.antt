@@ -1,5 +1,5 @@
 -- Ranges of frames that words name, and which frames they are.
-use Rattle.std.specs.Prelude.{ℕ, ◌+◌, ◌-◌, ◌*◌, ◌/◌, ◌^◌, ◌&&◌, ◌||◌, ◌==◌, nat_lt, min, if◌then◌else◌, List, [], ◌∷◌, Option, Some, None, length}
+use Rattle.std.specs.Prelude.{◌≡◌, ◌<◌, ◌≤◌, ◌↔◌, ⊤, ℕ, ◌+◌, ◌-◌, ◌*◌, ◌/◌, ◌^◌, ◌&&◌, ◌||◌, ◌==◌, nat_lt, min, if◌then◌else◌, List, [], ◌∷◌, Option, Some, None, length}
 use Rattle.std.specs.List.{list_all}
 use Rattle.std.specs.Option.{option_map}
 use Rattle.text_model.specs.Parts.{parts_of}
@@ -130,3 +130,25 @@ abbrev pub frames_in : Option Rate → Range → Option (ℕ × ℕ)
 frames_in rate (Frames first end) = Some (first, end)
 frames_in None (Times from to) = None
 frames_in (Some rate) (Times from to) = if (rate.frames == 0) || (rate.seconds == 0) then None else frames_from (frame_at rate from) (end_at rate to)
+
+-- ---- the same without a division: frame n is at n * seconds / frames seconds
+
+-- a frame isn't before a time in nanoseconds
+abbrev pub IsFrom : Rate → ℕ → ℕ → Type 0
+IsFrom rate time n = time * rate.frames ≤ n * (rate.seconds * 1000000000)
+
+-- a frame is before the end of a range, where it has one
+abbrev pub IsBefore : Rate → Option ℕ → ℕ → Type 0
+IsBefore rate None n = ⊤
+IsBefore rate (Some time) n = n * (rate.seconds * 1000000000) < time * rate.frames
+
+-- a frame is one of these, from the first up to the first after them
+abbrev pub IsAmong : Option (ℕ × ℕ) → ℕ → Type 0
+IsAmong None n = ⊥
+IsAmong (Some span) n = (span.0 ≤ n) × (n < span.1)
+
+-- these are exactly the frames of a range: of times, all those whose time is in it, and no other. A rate has no number that is 0, and the number of each frame is below 2 ^ 64 - 1
+abbrev pub AreExactly : Option Rate → Range → Option (ℕ × ℕ) → Type 0
+AreExactly rate (Frames first end) found = found ≡ Some (first, end)
+AreExactly None (Times from to) found = found ≡ None
+AreExactly (Some rate) (Times from to) found = 0 < rate.frames → 0 < rate.seconds → (n : ℕ) → n < 18446744073709551615 → IsAmong found n ↔ (IsFrom rate from n × IsBefore rate to n)

@@ -74,8 +74,8 @@ abbrev pub value_in : Pixel → Paint → Option (List ℕ)
 value_in p (Grey value) = grey_of p value
 value_in p Black = grey_of p (black p)
 value_in p (Colour red green blue) = colour_of p red green blue
-value_in p (Around (Some value)) = grey_of p value
-value_in p (Around None) = grey_of p (black p)
+value_in p (Around (Some value) margin) = grey_of p value
+value_in p (Around None margin) = grey_of p (black p)
 
 -- what a change is to a plane of such pixels
 unfoldable pub change_in : Pixel → Change Paint → Option (Change (List ℕ))

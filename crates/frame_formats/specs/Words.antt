@@ -10,7 +10,7 @@ use Rattle.image_planes.specs.declared.change.Change.TheVariants.{Fill, Mosaic, 
 use Rattle.frame_formats.specs.declared.framing.Framing.{Framing}
 use Rattle.frame_formats.specs.declared.framing.Framing.TheVariants.{Crop, Pad}
 use Rattle.text_model.specs.Parts.{parts_of}
-use Rattle.text_model.specs.Reading.{◌>>=◌, number_of, number_at, window_of, is_nil}
+use Rattle.text_model.specs.Reading.{◌>>=◌, number_of, first_of_parts, number_at, window_of, is_nil}
 use Rattle.frame_formats.specs.Ranges.{range_of}
 use Rattle.frame_formats.specs.declared.ranges.Range.{Range}
 use Rattle.frame_formats.specs.declared.ranges.Range.TheVariants.{Frames}
@@ -73,28 +73,46 @@ framing_at [] = None
 framing_at (word ∷ []) = None
 framing_at (word ∷ (numbers ∷ words)) = window_of numbers >>= λ window. framing_by word window words
 
--- a cover of a window, whose value may be left out: then it is black; and how many words there are
-abbrev pub cover_by : Window → Option ℕ → Change Paint × ℕ
-cover_by window (Some value) = (Fill window (Around (Some value)), 3)
-cover_by window None = (Fill window (Around None), 2)
+-- the margin after a plus sign, which may be left out
+abbrev pub margin_in : List (List ℕ) → Option (Option ℕ)
+margin_in [] = Some None
+margin_in (part ∷ parts) = if is_nil parts then option_map (λ margin. Some margin) (number_of part) else None
 
-abbrev pub cover_at : Window → List (List ℕ) → Change Paint × ℕ
-cover_at window [] = cover_by window None
-cover_at window (last ∷ words) = cover_by window (number_of last)
+-- a window and the margin around it, by what there is before and after plus signs
+unfoldable pub rectangle_in : List (List ℕ) → Option (Window × Option ℕ)
+rectangle_in parts = do
+  window ← first_of_parts window_of parts
+  margin ← margin_in window.1
+  Some (window.0, margin)
+
+abbrev pub rectangle_of : List ℕ → Option (Window × Option ℕ)
+rectangle_of word = rectangle_in (parts_of 43 word)
+
+-- a cover of a window, whose value may be left out: then it is black; and how many words there are
+abbrev pub cover_by : Window → Option ℕ → Option ℕ → Change Paint × ℕ
+cover_by window margin (Some value) = (Fill window (Around (Some value) margin), 3)
+cover_by window margin None = (Fill window (Around None margin), 2)
+
+abbrev pub cover_at : Window → Option ℕ → List (List ℕ) → Change Paint × ℕ
+cover_at window margin [] = cover_by window margin None
+cover_at window margin (last ∷ words) = cover_by window margin (number_of last)
 
 -- another change, by its word, its window and what follows it
 abbrev pub other_at : List ℕ → Window → List (List ℕ) → Option (Change Paint × ℕ)
 other_at word window [] = None
 other_at word window (last ∷ words) = option_map (λ change. (change, 3)) (change_of word window last)
 
-abbrev pub change_at : List ℕ → Window → List (List ℕ) → Option (Change Paint × ℕ)
-change_at word window words = if bytes_eq word (codes "cover") then Some (cover_at window words) else other_at word window words
+-- a change by its word, its numbers and the words after them, and how many words there are: only a cover has a margin
+abbrev pub change_at : List ℕ → List ℕ → List (List ℕ) → Option (Change Paint × ℕ)
+change_at word numbers words =
+    if bytes_eq word (codes "cover") then option_map (λ r. cover_at r.0 r.1 words) (rectangle_of numbers)
+    else window_of numbers >>= λ window. other_at word window words
 
 -- a change of the frames of a range at the front of words, and how many words there are
 unfoldable pub step_at : Range → List (List ℕ) → Option (Edit × ℕ)
 step_at range [] = None
 step_at range (word ∷ []) = None
-step_at range (word ∷ (numbers ∷ words)) = window_of numbers >>= λ window. option_map (λ c. (record { range = range; change = c.0 }, c.1)) (change_at word window words)
+step_at range (word ∷ (numbers ∷ words)) = option_map (λ c. (record { range = range; change = c.0 }, c.1)) (change_at word numbers words)
 
 -- the same with the range before it: with no range it is a change of all frames
 abbrev pub ranged_by : Option Range → List ℕ → List (List ℕ) → Option (Edit × ℕ)

@@ -3,7 +3,7 @@
 ghost use Rattle.std.specs.Prelude.{◌≡◌, ◌<◌, IfOk, IfErr, Some, None};
 ghost use Rattle.frame_formats.specs.Plan.{Tells};
 ghost use Rattle.frame_formats.specs.Steps.{all_some};
-ghost use Rattle.frame_formats.specs.Covers.{chroma_unit, video_unit, margin, cover_start, cover_count, cover_window, fill_in, settled, step_in};
+ghost use Rattle.frame_formats.specs.Covers.{chroma_unit, video_unit, margin_of, cover_start, cover_count, cover_window, fill_in, settled, step_in};
 
 use crate::header::{Chroma, Format};
 use crate::plans::PlanFault;
@@ -53,12 +53,18 @@ pub(crate) fn unit_of_video(format: Format) -> Unit
 }
 
 // Where a cover begins in one direction, and how many pixels it has, of so many.
-fn cover_of(step: usize, pixels: usize, start: usize, count: usize) -> (usize, usize)
+fn cover_of(
+    step: usize,
+    margin: Option<usize>,
+    pixels: usize,
+    start: usize,
+    count: usize,
+) -> (usize, usize)
     requires { 0 < step }
-    ensures start { result.0 ≡ cover_start step pixels start }
-    ensures count { result.1 ≡ cover_count step pixels start count }
+    ensures start { result.0 ≡ cover_start step (margin_of margin step) pixels start }
+    ensures count { result.1 ≡ cover_count step (margin_of margin step) pixels start count }
 {
-    let more = step.max(2);
+    let more = margin.unwrap_or(step.max(2));
     let from = start.saturating_sub(more);
     if pixels <= from {
         return (0, 0);
@@ -80,13 +86,19 @@ fn cover_of(step: usize, pixels: usize, start: usize, count: usize) -> (usize, u
     }
 }
 
-fn cover_window(unit: Unit, width: usize, height: usize, window: Window) -> Window
+fn cover_window(
+    unit: Unit,
+    margin: Option<usize>,
+    width: usize,
+    height: usize,
+    window: Window,
+) -> Window
     requires across { 0 < unit.across }
     requires down { 0 < unit.down }
-    ensures { result ≡ cover_window unit width height window }
+    ensures { result ≡ cover_window unit margin width height window }
 {
-    let (left, wide) = cover_of(unit.across, width, window.left, window.width);
-    let (top, high) = cover_of(unit.down, height, window.top, window.height);
+    let (left, wide) = cover_of(unit.across, margin, width, window.left, window.width);
+    let (top, high) = cover_of(unit.down, margin, height, window.top, window.height);
     Window::new(left, top, wide, high)
 }
 
@@ -98,9 +110,9 @@ fn settle(unit: Unit, width: usize, height: usize, change: Change<Paint>) -> Cha
     match change {
         Change::Fill {
             window,
-            value: Paint::Around(value),
+            value: Paint::Around { value, margin },
         } => Change::Fill {
-            window: cover_window(unit, width, height, window),
+            window: cover_window(unit, margin, width, height, window),
             value: match value {
                 Some(value) => Paint::Grey(value),
                 None => Paint::Black,

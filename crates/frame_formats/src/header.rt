@@ -2,7 +2,7 @@
 
 ghost use Rattle.std.specs.Prelude.{◌≡◌, ◌<◌, IfSome};
 ghost use Rattle.std.specs.Option.{option_map};
-ghost use Rattle.frame_formats.specs.Format.{tagged, tagged_once, is_interlaced, chroma_of, deep_chroma, depth_of, deep_of, sampling_of, format_of};
+ghost use Rattle.frame_formats.specs.Format.{tagged, tagged_once, is_interlaced, chroma_of, deep_chroma, depth_of, deep_of, sampling_of, size_of, format_of};
 ghost use Rattle.texts.specs.Parts.{parts_left};
 
 use crate::steps::Pixel;
@@ -163,6 +163,15 @@ fn read_sampling(word: &[u8]) -> Option<(Chroma, Pixel)>
     }
 }
 
+/// A size in pixels, from 1 to 4294967295.
+#[tactic(auto, unfolding(crate::specs::Format::size_of))]
+pub fn read_size(text: &[u8]) -> Option<usize>
+    ensures { result ≡ size_of text.now }
+{
+    let size = usize::read(text)?;
+    (size > 0 && size <= u32::MAX as usize).then_some(size)
+}
+
 /// The format that the line names, or `None` where it isn't a supported one.
 #[tactic(auto, unfolding(crate::specs::Format::format_in))]
 pub fn read_format(line: &[u8]) -> Option<Format>
@@ -172,8 +181,8 @@ pub fn read_format(line: &[u8]) -> Option<Format>
     if fields.next_part()? != b"YUV4MPEG2".as_slice() {
         return None;
     }
-    let width = usize::read(single_field(fields, b'W')?)?;
-    let height = usize::read(single_field(fields, b'H')?)?;
+    let width = read_size(single_field(fields, b'W')?)?;
+    let height = read_size(single_field(fields, b'H')?)?;
     let (chroma, pixel) = match field(fields, b'C') {
         Some(word) => read_sampling(word)?,
         None => (Chroma::Small, Pixel::of_video(255)),

@@ -23,7 +23,7 @@ mod words;
 
 pub use covers::Unit;
 pub use framing::Framing;
-pub use header::{Chroma, Format, read_format};
+pub use header::{Chroma, Format, read_format, read_size};
 pub use hiding::recipes_hide;
 pub use image_planes::{Change, Window};
 pub use lists::{Edits, WordsFault};

@@ -3,7 +3,7 @@
 ghost use Rattle.std.specs.Prelude.{◌≡◌, ◌<◌, IfSome, length};
 ghost use Rattle.text_model.specs.Reading.{Finds, first_of_parts};
 ghost use Rattle.texts.specs.Parts.{parts_left};
-ghost use Rattle.frame_formats.specs.Ranges.{end_of, span_of, two_digits, clock_of, fraction_of, time_at, end_time_at, times_of, range_of, rate_in, rate_of, frame_at, frames_in};
+ghost use Rattle.frame_formats.specs.Ranges.{end_of, span_of, two_digits, clock_of, fraction_of, time_at, end_time_at, times_of, range_of, rate_in, rate_of, frame_at, frames_in, AreExactly};
 ghost use Rattle.text_model.specs.Parts.{parts_of};
 
 use crate::digits::is_digit;
@@ -224,9 +224,11 @@ fn frame_at(rate: Rate, time: u64) -> u64
 
 impl Range {
     /// The numbers of the first frame and of the first after them, in a video of this rate. `None`
-    /// where times have no rate or no frame. A rate has no number that is 0.
+    /// where times have no rate or no frame. A rate has no number that is 0. Those of times are the
+    /// frames whose time is in the range.
     pub fn frames(self, rate: Option<Rate>) -> Option<(u64, u64)>
-        ensures { result ≡ frames_in rate self }
+        ensures frames { result ≡ frames_in rate self }
+        ensures exact { AreExactly rate self result }
     {
         match self {
             Range::Frames { first, end } => Some((first, end)),

@@ -19,9 +19,12 @@ pub enum Paint {
         green: usize,
         blue: usize,
     },
-    /// This brightness and no colour, also of the samples around the window, with a margin. Without
-    /// a number it is `Black`.
-    Around(Option<usize>),
+    /// This brightness and no colour, also of the samples around the window. Without a number it is
+    /// `Black`. The margin is in pixels. Without a number it is 2, and at least a sample.
+    Around {
+        value: Option<usize>,
+        margin: Option<usize>,
+    },
 }
 
 /// What the bytes of a pixel are: samples of one byte each, or of two where a value may be above
@@ -162,8 +165,12 @@ fn value_in(pixel: Pixel, paint: Paint) -> Option<Value>
     ensures { result ≡ value_in pixel paint }
 {
     match paint {
-        Paint::Grey(value) | Paint::Around(Some(value)) => grey_of(pixel, value),
-        Paint::Black | Paint::Around(None) => grey_of(pixel, black(pixel)),
+        Paint::Grey(value)
+        | Paint::Around {
+            value: Some(value),
+            ..
+        } => grey_of(pixel, value),
+        Paint::Black | Paint::Around { value: None, .. } => grey_of(pixel, black(pixel)),
         Paint::Colour { red, green, blue } => colour_of(pixel, red, green, blue),
     }
 }

@@ -2,7 +2,8 @@
 
 ghost use Rattle.std.specs.Prelude.{◌≡◌, ◌+◌, ◌<◌, ◌≤◌, map, IfSome, length};
 ghost use Rattle.text_model.specs.Parts.{parts_of};
-ghost use Rattle.frame_formats.specs.Words.{pair_of, colour_in, paint_of, change_of, pad_of, framing_at, cover_at, change_at, step_at, ranged_at};
+ghost use Rattle.texts.specs.Parts.{parts_left};
+ghost use Rattle.frame_formats.specs.Words.{pair_of, colour_in, paint_of, change_of, pad_of, framing_at, margin_in, rectangle_of, cover_at, change_at, step_at, ranged_at};
 
 use crate::framing::Framing;
 use crate::ranges::{Range, read_range};
@@ -109,9 +110,34 @@ pub(crate) fn read_framing(words: &[&[u8]]) -> Option<(Framing, usize)>
     }
 }
 
-// A cover of a window by the words after it, and how many words it has with its own two.
-fn read_cover(window: Window, words: &[&[u8]]) -> (Change<Paint>, usize)
-    ensures cover { result ≡ cover_at window (map (λ w. w.now) words.now) }
+// The margin that is left of a rectangle, or none.
+fn read_margin(parts: Parts<'_>) -> Option<Option<usize>>
+    ensures { result ≡ margin_in (parts_left parts.entry) }
+{
+    let mut rest = parts;
+    let Some(margin) = rest.next_part() else {
+        return Some(None);
+    };
+    if !rest.is_done() {
+        return None;
+    }
+    Some(Some(usize::read(margin)?))
+}
+
+// A window and the margin around it.
+#[tactic(auto, unfolding(crate::specs::Words::rectangle_in))]
+fn read_rectangle(piece: &[u8]) -> Option<(Window, Option<usize>)>
+    ensures { result ≡ rectangle_of piece.now }
+{
+    let mut parts = Parts::new(piece, b'+');
+    let window = next(&mut parts)?;
+    let margin = read_margin(parts)?;
+    Some((window, margin))
+}
+
+// A cover by the words after its rectangle, and how many words it has with its own two.
+fn read_cover(window: Window, margin: Option<usize>, words: &[&[u8]]) -> (Change<Paint>, usize)
+    ensures cover { result ≡ cover_at window margin (map (λ w. w.now) words.now) }
     ensures some { 0 < result.1 }
     ensures there { result.1 ≤ length words.now + 2 }
 {
@@ -120,19 +146,21 @@ fn read_cover(window: Window, words: &[&[u8]]) -> (Change<Paint>, usize)
         [last, ..] => usize::read(last),
     };
     let count = if value.is_some() { 3 } else { 2 };
-    let value = Paint::Around(value);
+    let value = Paint::Around { value, margin };
     (Change::Fill { window, value }, count)
 }
 
-// A change by its word, its window and the words after them, and how many words it has.
-fn read_changed(word: &[u8], window: Window, words: &[&[u8]]) -> Option<(Change<Paint>, usize)>
-    ensures change { result ≡ change_at word.now window (map (λ w. w.now) words.now) }
+// A change by its word, its numbers and the words after them, and how many words it has.
+fn read_changed(word: &[u8], numbers: &[u8], words: &[&[u8]]) -> Option<(Change<Paint>, usize)>
+    ensures change { result ≡ change_at word.now numbers.now (map (λ w. w.now) words.now) }
     ensures some { IfSome result (λ c. 0 < c.1) }
     ensures there { IfSome result (λ c. c.1 ≤ length words.now + 2) }
 {
     if word == b"cover".as_slice() {
-        return Some(read_cover(window, words));
+        let (window, margin) = read_rectangle(numbers)?;
+        return Some(read_cover(window, margin, words));
     }
+    let window = Window::read(numbers)?;
     let (last, _) = words.split_first()?;
     Some((read_change(word, window, last)?, 3))
 }
@@ -146,8 +174,7 @@ fn read_step(range: Range, words: &[&[u8]]) -> Option<(Edit, usize)>
 {
     let (word, others) = words.split_first()?;
     let (numbers, others) = others.split_first()?;
-    let window = Window::read(numbers)?;
-    let (change, count) = read_changed(word, window, others)?;
+    let (change, count) = read_changed(word, numbers, others)?;
     Some((Edit { range, change }, count))
 }
 

@@ -53,7 +53,7 @@ impl<'a, T> PixelsRefIter<'a, T> {
     fn from_counts(cells: Cells<'a, T>, counts: Counts) -> PixelsRefIter<'a, T>
         requires reaches { counts.remaining + counts.rows_left * (counts.pad + counts.width)
             ≤ length cells.cells }
-        requires wide { 0 < counts.rows_left → 0 < counts.width }
+        requires width_positive { 0 < counts.rows_left → 0 < counts.width }
         ensures pixels { refs_left result ≡ pick
             (marks counts.remaining counts.rows_left counts.width counts.pad) cells.entry.cells }
     {
@@ -75,7 +75,7 @@ impl<'a, T> PixelsRefIter<'a, T> {
 
     // Goes on to the next row, past the padding before it.
     fn enter_row(&mut self)
-        requires over { self.old.remaining ≡ 0 }
+        requires row_ended { self.old.remaining ≡ 0 }
         requires some { 0 < self.old.rows_left }
         ensures stays { refs_left self.new ≡ refs_left self.old }
         ensures remaining { 0 < self.new.remaining }

@@ -53,7 +53,7 @@ impl<'a, T> PixelsIterMut<'a, T> {
         pad: usize,
     ) -> PixelsIterMut<'a, T>
         requires reaches { remaining + rows_left * (pad + width) ≤ length cells.old }
-        requires wide { 0 < rows_left → 0 < width }
+        requires width_positive { 0 < rows_left → 0 < width }
         ensures name { pixels_name result ≡ cells.entry.ghost_name }
         ensures cells { cells_left result ≡ cells.old }
         ensures marks { marks_left result ≡ marks remaining rows_left width pad }

@@ -6,9 +6,9 @@ use Rattle.std.proofs.lemmas.List.{drop-drop, drop-take, take-take, take_all, le
 use Rattle.std.proofs.iter.Next.{firm}
 use Rattle.std.proofs.lemmas.List.Elements.{All-map}
 use Rattle.std.proofs.lemmas.List.FromFn.{map-range_with_len_more, length-range_with_len, get_or-range_with_len}
-use Rattle.image_model.specs.Grid.{grid_of}
 use Rattle.image_model.specs.Layout.{Layout, Fits, layout}
-use Rattle.image_model.specs.Rows.{row, rows, row_count, grid_rows}
+use Rattle.image_rows.specs.Rows.{AreRows}
+use Rattle.image_model.specs.Rows.{row, rows, row_count}
 use Rattle.image_model.proofs.Tables.{map_along}
 use Rattle.image_model.proofs.Rows.{row_stretch, row_count-wide, some_column, row_count-le, length-row, length-rows, rows_from_fits, grid_rows_of}
 
@@ -106,12 +106,11 @@ rows_wide l fits =
     let at : get_or (range_with_len 0 n) k d ≡ k = omega (arith, get_or-range_with_len 0 n k d number) in
     ap (λ y. length (row l y)) at ∙ wide_row l fits k number)
 
--- what is said of the rows of a whole layout: they are those of its grid too, counted and countable, and all as wide
-abbrev pub AreRows : {T : Type 0} → Layout T → List (List T) → Type 0
-AreRows l left = (left ≡ grid_rows (grid_of l)) × (length left ≡ row_count l.width l.height) × (length left < 2 ^ 64) × All (λ r. length r ≡ l.width) left
-
+-- what is said of the rows of a whole layout
 pub are_rows : {T : Type 0} (l : Layout T) (left : List (List T)) → left ≡ rows l → row_count l.width l.height < 2 ^ 32 → Fits l → AreRows l left
-are_rows l left are small fits = grind (arith, length-rows, grid_rows_of, rows_wide)
+are_rows l left are small fits =
+    let count : length left ≡ row_count l.width l.height = ap length are ∙ length-rows l in
+    record { rows = are; grid = are ∙ sym (grid_rows_of l); count = count; countable = omega (arith, count, small); lengths = subst (All (λ r. length r ≡ l.width)) (sym are) (rows_wide l fits) }
 
 -- what the proofs of iterators go by: how many rows are left, and a row that comes off at either end
 pub ruleset counting = (length-rows_left)

@@ -1,9 +1,10 @@
 -- What a contract sees of a row iterator: the rows that are left, and how writes reach the buffer.
-use Rattle.std.specs.Prelude.{◌≡◌, ℕ, ◌+◌, ◌-◌, ◌*◌, List, ◌++◌, take, drop, Option, Some, None}
+use Rattle.std.specs.Prelude.{◌≡◌, ℕ, ◌+◌, ◌-◌, ◌*◌, ◌^◌, ◌<◌, List, ◌++◌, length, All, take, drop, Option, Some, None}
 use Rattle.std.specs.Borrow.{MutBor, GName, Fml, RattleType, ftrue, follows_both, Array}
 use Rattle.std.specs.Iterator.{YieldsFirstMut, YieldsLastMut}
-use Rattle.image_model.specs.Layout.{layout}
-use Rattle.image_model.specs.Rows.{rows}
+use Rattle.image_model.specs.Layout.{Layout, layout}
+use Rattle.image_model.specs.Grid.{grid_of}
+use Rattle.image_model.specs.Rows.{rows as rows_of, row_count, grid_rows}
 use Rattle.image_shape.specs.declared.ends.End.{End}
 use Rattle.image_shape.specs.declared.ends.End.TheVariants.{First, Last}
 use Rattle.image_shape.specs.declared.spacing.Spacing.{Spacing}
@@ -36,9 +37,17 @@ module _ {T : Type 0} where
 
   -- ---- what an iterator holds
 
+  -- these are all rows of a layout and of its grid, from top to bottom: a number below 2^64, each as long as the layout is wide
+  pub record AreRows (l : Layout T) (xs : List (List T)) : Type 0 where
+    pub rows : xs ≡ rows_of l
+    pub grid : xs ≡ grid_rows (grid_of l)
+    pub count : length xs ≡ row_count l.width l.height
+    pub countable : length xs < 2 ^ 64
+    pub lengths : All (λ row. length row ≡ l.width) xs
+
   -- the rows that are left in an iterator for reading: those of the cells that it still holds
   unfoldable pub refs_left : RowsIter T → List (List T)
-  refs_left s = rows (layout s.cells.now s.width s.count s.stride)
+  refs_left s = rows_of (layout s.cells.now s.width s.count s.stride)
 
   -- the cells that an iterator still holds, for writing
   abbrev pub cells_left : RowsIterMut T → List T
@@ -54,7 +63,7 @@ module _ {T : Type 0} where
 
   -- the rows that are left
   unfoldable pub muts_left : RowsIterMut T → List (List T)
-  muts_left s = rows (layout (drop s.spacing.skip (cells_left s)) s.spacing.width s.spacing.count s.spacing.stride)
+  muts_left s = rows_of (layout (drop s.spacing.skip (cells_left s)) s.spacing.width s.spacing.count s.spacing.stride)
 
   -- ---- how a row is split off
 

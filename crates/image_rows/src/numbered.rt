@@ -9,7 +9,7 @@ use image_shape::Shape;
 
 /// The pixels of row `y`. The cells fit the shape, which has that row.
 pub fn row<T>(cells: &[T], shape: Shape, y: usize) -> &[T]
-    requires below { y < shape_height shape }
+    requires row { y < shape_height shape }
     requires fits { Fits (shaped cells.now shape) }
     ensures value { result.now ≡ row_of (shaped cells.now shape) y }
     ensures len { length result.now ≡ shape_width shape }

@@ -1,11 +1,10 @@
 //! Rows for reading.
 
-ghost use Rattle.std.specs.Prelude.{◌≡◌, ◌^◌, ◌<◌, ◌≤◌, length, All, Some, IfSome};
+ghost use Rattle.std.specs.Prelude.{◌≡◌, ◌<◌, ◌≤◌, length, Some, IfSome};
 ghost use Rattle.std.specs.Iterator.{YieldsFirstRef, item_count, UpTo, YieldsLastRef};
 ghost use Rattle.std.specs.Iterator.SizeHint.{IsWithinCount};
 ghost use Rattle.image_model.specs.Layout.{Fits, layout};
-ghost use Rattle.image_model.specs.Rows.{rows as rows_of, row_count, grid_rows};
-ghost use Rattle.image_shape.specs.Shape.{shape_width, shape_height, shape_stride, shaped_grid, shaped};
+ghost use Rattle.image_shape.specs.Shape.{shaped};
 
 use image_shape::{Shape, Spacing, Stretch};
 use std::iter::{ExactSizeIterator, FusedIterator};
@@ -24,18 +23,13 @@ pub struct RowsIter<'a, T> {
 }
 
 impl<'a, T> RowsIter<'a, T> {
-    ghost use Rattle.image_rows.specs.Rows.{refs_left};
+    ghost use Rattle.image_rows.specs.Rows.{refs_left, AreRows};
 
     /// The rows of cells in a shape that they fit.
     #[tactic(auto, unfolding(crate::specs::Rows::refs_left))]
     pub fn new(cells: &'a [T], shape: Shape) -> RowsIter<'a, T>
         requires fits { Fits (shaped cells.now shape) }
-        ensures rows { refs_left result ≡ rows_of (shaped cells.now shape) }
-        ensures grid { refs_left result ≡ grid_rows (shaped_grid cells.now shape) }
-        ensures count { length (refs_left result)
-            ≡ row_count (shape_width shape) (shape_height shape) }
-        ensures countable { length (refs_left result) < 2 ^ 64 }
-        ensures wide { All (λ row. length row ≡ shape_width shape) (refs_left result) }
+        ensures whole { AreRows (shaped cells.now shape) (refs_left result) }
     {
         let spacing = Spacing::whole(shape);
         RowsIter {

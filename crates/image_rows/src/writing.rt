@@ -1,12 +1,11 @@
 //! Rows for writing.
 
-ghost use Rattle.std.specs.Prelude.{◌≡◌, ◌+◌, ◌-◌, ◌*◌, ◌^◌, ◌<◌, ◌≤◌, length, All, Some, IfSome};
+ghost use Rattle.std.specs.Prelude.{◌≡◌, ◌+◌, ◌-◌, ◌*◌, ◌<◌, ◌≤◌, length, Some, IfSome};
 ghost use Rattle.std.specs.Borrow.{sem};
 ghost use Rattle.std.specs.Iterator.{YieldsFirstMut, YieldsLastMut, item_count, UpTo};
 ghost use Rattle.std.specs.Iterator.SizeHint.{IsWithinCount};
 ghost use Rattle.image_model.specs.Layout.{Fits};
-ghost use Rattle.image_model.specs.Rows.{rows as rows_of, row_count, grid_rows};
-ghost use Rattle.image_shape.specs.Shape.{shape_width, shape_height, shape_stride, shaped_grid, shaped};
+ghost use Rattle.image_shape.specs.Shape.{shape_width, shape_height, shape_stride, shaped};
 ghost use Rattle.image_shape.specs.Spacing.{whole_spacing};
 
 use crate::parts::cut_out;
@@ -27,7 +26,7 @@ pub struct RowsIterMut<'a, T> {
 }
 
 impl<'a, T> RowsIterMut<'a, T> {
-    ghost use Rattle.image_rows.specs.Rows.{muts_left, cells_left, rows_name, spacing_left, Yields, Moves, hands_on};
+    ghost use Rattle.image_rows.specs.Rows.{muts_left, cells_left, rows_name, spacing_left, AreRows, Yields, Moves, hands_on};
 
     /// The rows of cells in a shape that they fit, for writing.
     pub fn new(cells: &'a mut [T], shape: Shape) -> RowsIterMut<'a, T>
@@ -36,12 +35,7 @@ impl<'a, T> RowsIterMut<'a, T> {
         ensures cells { cells_left result ≡ cells.old }
         ensures spacing { spacing_left result
             ≡ whole_spacing (shape_width shape) (shape_height shape) (shape_stride shape) }
-        ensures rows { muts_left result ≡ rows_of (shaped cells.old shape) }
-        ensures grid { muts_left result ≡ grid_rows (shaped_grid cells.old shape) }
-        ensures count { length (muts_left result)
-            ≡ row_count (shape_width shape) (shape_height shape) }
-        ensures countable { length (muts_left result) < 2 ^ 64 }
-        ensures wide { All (λ row. length row ≡ shape_width shape) (muts_left result) }
+        ensures whole { AreRows (shaped cells.old shape) (muts_left result) }
     {
         RowsIterMut {
             cells,

@@ -41,7 +41,7 @@ impl<C: AsMutSlice> TileCursor<C> {
         requires tile_width { 0 < tile_width }
         requires tile_height { 0 < tile_height }
         ensures image { image_of result ≡ img }
-        ensures left { tiles_left C.cells result
+        ensures rest { tiles_left C.cells result
             ≡ tiles (width_of img) (height_of img) tile_width tile_height }
     {
         let tiling = Tiling::new(img.width(), img.height(), tile_width, tile_height);

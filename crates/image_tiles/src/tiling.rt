@@ -65,8 +65,8 @@ impl Tiling {
     // How many tiles of an image are left: its sizes are below 2 ^ 32, so the number fits.
     #[tactic(auto, using(crate::proofs::Tilings::countable, crate::proofs::Tilings::some_left))]
     pub(crate) fn number_left(&self) -> usize
-        requires narrow { tiling_width self.now < 2 ^ 32 }
-        requires low { tiling_height self.now < 2 ^ 32 }
+        requires width_bound { tiling_width self.now < 2 ^ 32 }
+        requires height_bound { tiling_height self.now < 2 ^ 32 }
         ensures value { result ≡ length (windows_left self.now) }
         ensures some { 0 < result → IsTrue (has_tile self.now) }
     {

@@ -33,9 +33,8 @@ impl<C: AsMutSlice> Img<C> {
         ensures fits { Fits (layout_by C.cells self.new) }
         ensures container { OnlyCellsChange C.cells C.with_cells self.old self.new }
     {
-        let shape = self.shape();
-        let len = self.buf.as_slice().len();
-        map_places(self.buf.stretch_mut(0, len), shape, &f);
+        let (cells, shape) = self.all_parts_mut();
+        map_places(cells, shape, &f);
     }
 
     /// Every pixel becomes the result of `f` for it and the pixel of `other` at its place. It goes
@@ -67,9 +66,7 @@ impl<C: AsMutSlice> Img<C> {
         ensures fits { Fits (layout_by C.cells self.new) }
         ensures container { OnlyCellsChange C.cells C.with_cells self.old self.new }
     {
-        let shape = self.shape();
-        let len = self.buf.as_slice().len();
-        let cells = self.buf.stretch_mut(0, len);
+        let (cells, shape) = self.all_parts_mut();
         zip_pixels(cells, shape, other.buf, other.shape(), &f);
     }
 }

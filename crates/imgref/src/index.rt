@@ -96,7 +96,7 @@ impl<C: AsSlice> Img<C> {
     ///
     /// The image fits (`is_valid`), and `y` is below `height()`.
     pub fn row(&self, y: usize) -> &[C::Item]
-        requires below { y < height_of self.now }
+        requires row { y < height_of self.now }
         requires fits { Fits (layout_by C.cells self.now) }
         ensures value { result.now ≡ row_of (layout_by C.cells self.now) y }
         ensures len { length result.now ≡ width_of self.now }
@@ -114,7 +114,7 @@ impl<C: AsMutSlice> Img<C> {
     /// The image fits (`is_valid`), and `y` is below `height()`.
     #[tactic(auto, unfolding(crate::specs::Index::with_row))]
     pub fn row_mut(&mut self, y: usize) -> &mut [C::Item]
-        requires below { y < height_of self.old }
+        requires row { y < height_of self.old }
         requires fits { Fits (layout_by C.cells self.old) }
         ensures* writes_back { sem 𝓛 (Lends (the_row C.row) (Array C.Item.row 0) self.entry result
             (with_row C.cells C.with_cells self.old y)) }

@@ -1,15 +1,14 @@
 //! The pixels of an image, one by one.
 
-ghost use Rattle.std.specs.Prelude.{◌≡◌, ◌*◌, ◌^◌, ◌<◌, length};
+ghost use Rattle.std.specs.Prelude.{◌≡◌};
 ghost use Rattle.std.specs.Borrow.{sem, follows, Array};
 ghost use Rattle.std.specs.Iterator.{YieldsFirst, YieldsFirstRef};
 ghost use Rattle.std.specs.Iterator.Runs.{YieldsInOrder, YieldsRefsInOrder};
 ghost use Rattle.image_model.specs.Layout.{Fits, SameOutside};
 ghost use Rattle.image_model.specs.Grid.{uniform};
 ghost use Rattle.image_model.specs.Mapped.{HasAnswers, IsMapped};
-ghost use Rattle.image_model.specs.Rows.{pixels as pixels_of, grid_pixels};
-ghost use Rattle.image_pixels.specs.Pixels.{refs_left, copies_left};
-ghost use Rattle.imgref.specs.Image.{buf_of, width_of, height_of, grid_by, layout_by, OnlyCellsChange, with_all, ref_grid, ref_layout};
+ghost use Rattle.image_pixels.specs.Pixels.{refs_left, copies_left, ArePixels};
+ghost use Rattle.imgref.specs.Image.{buf_of, width_of, height_of, grid_by, layout_by, OnlyCellsChange, with_all, ref_layout};
 
 use crate::containers::{AsMutSlice, AsSlice};
 use crate::img::Img;
@@ -26,10 +25,7 @@ impl<'s, T> Img<&'s [T]> {
     /// The image fits: `is_valid`.
     pub fn pixels_ref(&self) -> PixelsRefIter<'s, T>
         requires fits { Fits (ref_layout self.now) }
-        ensures pixels { refs_left result ≡ pixels_of (ref_layout self.now) }
-        ensures grid { refs_left result ≡ grid_pixels (ref_grid self.now) }
-        ensures count { length (refs_left result) ≡ width_of self.now * height_of self.now }
-        ensures countable { length (refs_left result) < 2 ^ 64 }
+        ensures whole { ArePixels (ref_layout self.now) (refs_left result) }
         ensures runs { YieldsRefsInOrder (YieldsFirstRef (refs_left {T = T})) refs_left }
     {
         PixelsRefIter::new(self.buf, self.shape())
@@ -45,10 +41,7 @@ impl<'s, T: Copy> Img<&'s [T]> {
     /// The image fits: `is_valid`.
     pub fn pixels(&self) -> PixelsIter<'s, T>
         requires fits { Fits (ref_layout self.now) }
-        ensures pixels { copies_left result ≡ pixels_of (ref_layout self.now) }
-        ensures grid { copies_left result ≡ grid_pixels (ref_grid self.now) }
-        ensures count { length (copies_left result) ≡ width_of self.now * height_of self.now }
-        ensures countable { length (copies_left result) < 2 ^ 64 }
+        ensures whole { ArePixels (ref_layout self.now) (copies_left result) }
         ensures runs { YieldsInOrder (YieldsFirst (copies_left {T = T})) copies_left }
     {
         PixelsIter::new(self.buf, self.shape())
@@ -67,10 +60,7 @@ where
     /// The image fits: `is_valid`.
     pub fn pixels(&self) -> PixelsIter<'_, C::Item>
         requires fits { Fits (layout_by C.cells self.now) }
-        ensures pixels { copies_left result ≡ pixels_of (layout_by C.cells self.now) }
-        ensures grid { copies_left result ≡ grid_pixels (grid_by C.cells self.now) }
-        ensures count { length (copies_left result) ≡ width_of self.now * height_of self.now }
-        ensures countable { length (copies_left result) < 2 ^ 64 }
+        ensures whole { ArePixels (layout_by C.cells self.now) (copies_left result) }
         ensures runs { YieldsInOrder (YieldsFirst (copies_left {T = C.Item})) copies_left }
     {
         PixelsIter::new(self.buf.as_slice(), self.shape())
@@ -159,10 +149,7 @@ impl<C: AsMutSlice> Img<C> {
         ensures cells { cells_left result ≡ C.cells (buf_of self.old) }
         ensures marks { marks_left result
             ≡ marks_of (width_of self.old) (height_of self.old) (stride_of self.old) }
-        ensures pixels { muts_left result ≡ pixels_of (layout_by C.cells self.old) }
-        ensures grid { muts_left result ≡ grid_pixels (grid_by C.cells self.old) }
-        ensures count { length (muts_left result) ≡ width_of self.old * height_of self.old }
-        ensures countable { length (muts_left result) < 2 ^ 64 }
+        ensures whole { ArePixels (layout_by C.cells self.old) (muts_left result) }
     {
         self.exact_pixels_mut()
     }
@@ -181,10 +168,7 @@ impl<C: AsMutSlice> Img<C> {
         ensures cells { cells_left result ≡ C.cells (buf_of self.old) }
         ensures marks { marks_left result
             ≡ marks_of (width_of self.old) (height_of self.old) (stride_of self.old) }
-        ensures pixels { muts_left result ≡ pixels_of (layout_by C.cells self.old) }
-        ensures grid { muts_left result ≡ grid_pixels (grid_by C.cells self.old) }
-        ensures count { length (muts_left result) ≡ width_of self.old * height_of self.old }
-        ensures countable { length (muts_left result) < 2 ^ 64 }
+        ensures whole { ArePixels (layout_by C.cells self.old) (muts_left result) }
     {
         let (cells, shape) = self.all_parts_mut();
         PixelsIterMut::new(cells, shape)

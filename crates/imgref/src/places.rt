@@ -46,7 +46,7 @@ impl<C: AsMutSlice> Img<C> {
         C::Item: Copy + 'a,
         requires fits { Fits (layout_by C.cells self.old) }
         requires column { x < width_of self.old }
-        requires line { y < height_of self.old }
+        requires row { y < height_of self.old }
         ensures grid { grid_by C.cells self.new
             ≡ patch (grid_by C.cells self.old) x y (uniform 1 1 value) }
         ensures outside { SameOutside (layout_by C.cells self.old) (layout_by C.cells self.new) }
@@ -140,7 +140,7 @@ impl<C: AsMutSlice> Img<C> {
     where
         C::Item: Copy + 'a,
         requires fits { Fits (layout_by C.cells self.old) }
-        requires below { y < height_of self.old }
+        requires row { y < height_of self.old }
         ensures grid { grid_by C.cells self.new
             ≡ patch (grid_by C.cells self.old) 0 y (uniform (width_of self.old) 1 value) }
         ensures outside { SameOutside (layout_by C.cells self.old) (layout_by C.cells self.new) }

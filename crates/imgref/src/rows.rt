@@ -1,13 +1,12 @@
 //! The rows of an image, from either end.
 
-ghost use Rattle.std.specs.Prelude.{◌≡◌, ◌^◌, ◌<◌, length, All};
+ghost use Rattle.std.specs.Prelude.{◌≡◌};
 ghost use Rattle.std.specs.Borrow.{sem, follows, Array};
 ghost use Rattle.image_model.specs.Layout.{Fits};
-ghost use Rattle.image_model.specs.Rows.{rows as rows_of, row_count, grid_rows};
-ghost use Rattle.image_rows.specs.Rows.{refs_left, muts_left, cells_left, spacing_left, rows_name};
+ghost use Rattle.image_rows.specs.Rows.{refs_left, muts_left, cells_left, spacing_left, rows_name, AreRows};
 ghost use Rattle.image_shape.specs.Spacing.{whole_spacing};
 ghost use Rattle.imgref.specs.contracts.img.Img.{the_row};
-ghost use Rattle.imgref.specs.Image.{buf_of, width_of, height_of, stride_of, grid_by, layout_by, with_all, ref_grid, ref_layout};
+ghost use Rattle.imgref.specs.Image.{buf_of, width_of, height_of, stride_of, layout_by, with_all, ref_layout};
 
 use crate::containers::{AsMutSlice, AsSlice};
 use crate::img::Img;
@@ -22,12 +21,7 @@ impl<'s, T> Img<&'s [T]> {
     /// The image fits: `is_valid`.
     pub fn rows(&self) -> RowsIter<'s, T>
         requires fits { Fits (ref_layout self.now) }
-        ensures rows { refs_left result ≡ rows_of (ref_layout self.now) }
-        ensures grid { refs_left result ≡ grid_rows (ref_grid self.now) }
-        ensures count { length (refs_left result)
-            ≡ row_count (width_of self.now) (height_of self.now) }
-        ensures countable { length (refs_left result) < 2 ^ 64 }
-        ensures wide { All (λ row. length row ≡ width_of self.now) (refs_left result) }
+        ensures whole { AreRows (ref_layout self.now) (refs_left result) }
     {
         RowsIter::new(self.buf, self.shape())
     }
@@ -42,12 +36,7 @@ impl<C: AsMutSlice> Img<C> {
     /// The image fits: `is_valid`.
     pub fn rows(&self) -> RowsIter<'_, C::Item>
         requires fits { Fits (layout_by C.cells self.now) }
-        ensures rows { refs_left result ≡ rows_of (layout_by C.cells self.now) }
-        ensures grid { refs_left result ≡ grid_rows (grid_by C.cells self.now) }
-        ensures count { length (refs_left result)
-            ≡ row_count (width_of self.now) (height_of self.now) }
-        ensures countable { length (refs_left result) < 2 ^ 64 }
-        ensures wide { All (λ row. length row ≡ width_of self.now) (refs_left result) }
+        ensures whole { AreRows (layout_by C.cells self.now) (refs_left result) }
     {
         RowsIter::new(self.buf.as_slice(), self.shape())
     }
@@ -67,12 +56,7 @@ impl<C: AsMutSlice> Img<C> {
         ensures cells { cells_left result ≡ C.cells (buf_of self.old) }
         ensures spacing { spacing_left result
             ≡ whole_spacing (width_of self.old) (height_of self.old) (stride_of self.old) }
-        ensures rows { muts_left result ≡ rows_of (layout_by C.cells self.old) }
-        ensures grid { muts_left result ≡ grid_rows (grid_by C.cells self.old) }
-        ensures count { length (muts_left result)
-            ≡ row_count (width_of self.old) (height_of self.old) }
-        ensures countable { length (muts_left result) < 2 ^ 64 }
-        ensures wide { All (λ row. length row ≡ width_of self.old) (muts_left result) }
+        ensures whole { AreRows (layout_by C.cells self.old) (muts_left result) }
     {
         let (cells, shape) = self.all_parts_mut();
         RowsIterMut::new(cells, shape)

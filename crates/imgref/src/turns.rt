@@ -30,9 +30,8 @@ impl<C: AsMutSlice> Img<C> {
         ensures fits { Fits (layout_by C.cells self.new) }
         ensures container { OnlyCellsChange C.cells C.with_cells self.old self.new }
     {
-        let shape = self.shape();
-        let len = self.buf.as_slice().len();
-        flip_rows(self.buf.stretch_mut(0, len), shape);
+        let (cells, shape) = self.all_parts_mut();
+        flip_rows(cells, shape);
     }
 
     /// The image is mirrored: its first column changes places with its last, and so on. The padding
@@ -51,9 +50,8 @@ impl<C: AsMutSlice> Img<C> {
         ensures fits { Fits (layout_by C.cells self.new) }
         ensures container { OnlyCellsChange C.cells C.with_cells self.old self.new }
     {
-        let shape = self.shape();
-        let len = self.buf.as_slice().len();
-        flip_columns(self.buf.stretch_mut(0, len), shape);
+        let (cells, shape) = self.all_parts_mut();
+        flip_columns(cells, shape);
     }
 
     /// Columns `x` and `z` are exchanged, and the padding stays. No memory is allocated. (In the
@@ -73,9 +71,8 @@ impl<C: AsMutSlice> Img<C> {
         ensures fits { Fits (layout_by C.cells self.new) }
         ensures container { OnlyCellsChange C.cells C.with_cells self.old self.new }
     {
-        let shape = self.shape();
-        let len = self.buf.as_slice().len();
-        swap_columns(self.buf.stretch_mut(0, len), shape, x, z);
+        let (cells, shape) = self.all_parts_mut();
+        swap_columns(cells, shape, x, z);
     }
 
     /// The image is transposed in place: each pixel changes places with the one across the
@@ -96,9 +93,8 @@ impl<C: AsMutSlice> Img<C> {
         ensures fits { Fits (layout_by C.cells self.new) }
         ensures container { OnlyCellsChange C.cells C.with_cells self.old self.new }
     {
-        let shape = self.shape();
-        let len = self.buf.as_slice().len();
-        transpose_square(self.buf.stretch_mut(0, len), shape);
+        let (cells, shape) = self.all_parts_mut();
+        transpose_square(cells, shape);
     }
 
     /// The image is turned clockwise in place. The padding stays, and no memory is allocated. For a
@@ -120,9 +116,8 @@ impl<C: AsMutSlice> Img<C> {
         ensures fits { Fits (layout_by C.cells self.new) }
         ensures container { OnlyCellsChange C.cells C.with_cells self.old self.new }
     {
-        let shape = self.shape();
-        let len = self.buf.as_slice().len();
-        turn_in_place(self.buf.stretch_mut(0, len), shape, turn);
+        let (cells, shape) = self.all_parts_mut();
+        turn_in_place(cells, shape, turn);
     }
 }
 
@@ -141,16 +136,14 @@ impl<C: AsSlice> Img<C> {
         requires fits { Fits (layout_by C.cells self.now) }
         requires target_fits { Fits (layout_by D.cells target.old) }
         requires columns { width_of target.old ≡ height_of self.now }
-        requires lines { height_of target.old ≡ width_of self.now }
+        requires rows { height_of target.old ≡ width_of self.now }
         ensures grid { grid_by D.cells target.new ≡ transposed (grid_by C.cells self.now) }
         ensures outside { SameOutside (layout_by D.cells target.old)
             (layout_by D.cells target.new) }
         ensures fits { Fits (layout_by D.cells target.new) }
         ensures container { OnlyCellsChange D.cells D.with_cells target.old target.new }
     {
-        let shape = target.shape();
-        let len = target.buf.as_slice().len();
-        let cells = target.buf.stretch_mut(0, len);
+        let (cells, shape) = target.all_parts_mut();
         transpose_pixels(cells, shape, self.buf.as_slice(), self.shape());
     }
 
@@ -167,7 +160,7 @@ impl<C: AsSlice> Img<C> {
         requires target_fits { Fits (layout_by D.cells target.old) }
         requires columns { width_of target.old
             ≡ turned_width turn (width_of self.now) (height_of self.now) }
-        requires lines { height_of target.old
+        requires rows { height_of target.old
             ≡ turned_height turn (width_of self.now) (height_of self.now) }
         ensures grid { grid_by D.cells target.new ≡ turned turn (grid_by C.cells self.now) }
         ensures outside { SameOutside (layout_by D.cells target.old)
@@ -175,9 +168,7 @@ impl<C: AsSlice> Img<C> {
         ensures fits { Fits (layout_by D.cells target.new) }
         ensures container { OnlyCellsChange D.cells D.with_cells target.old target.new }
     {
-        let shape = target.shape();
-        let len = target.buf.as_slice().len();
-        let cells = target.buf.stretch_mut(0, len);
+        let (cells, shape) = target.all_parts_mut();
         turn_pixels(cells, shape, self.buf.as_slice(), self.shape(), turn);
     }
 }

@@ -10,7 +10,7 @@ use imgref::ImgVec;
 pub fn put_above_fill(image: &mut ImgVec<u8>, x: usize, y: usize, value: u8) -> Option<u8>
     requires fits { Fits (vec_layout image.old) }
     requires column { x < width_of image.old }
-    requires line { y + 1 < height_of image.old }
+    requires row { y + 1 < height_of image.old }
     ensures value { result ≡ Some value }
     ensures grid { vec_grid image.new ≡ patch (patch (vec_grid image.old) x y (uniform 1 1 value))
         0 (y + 1) (uniform (width_of image.old) 1 0) }

@@ -23,7 +23,7 @@ pub fn copy_but_one<T: Copy>(
     requires same_width { width_of source ≡ width_of image.old }
     requires same_height { height_of source ≡ height_of image.old }
     requires column { x < width_of source }
-    requires line { y < height_of source }
+    requires row { y < height_of source }
     ensures grid { vec_grid image.new ≡ patch (ref_grid source.entry) x y (uniform 1 1 value) }
     ensures outside { SameOutside (vec_layout image.old) (vec_layout image.new) }
 {
@@ -34,7 +34,7 @@ pub fn copy_but_one<T: Copy>(
 /// Each row except the first moves up by one; the last row also stays where it is.
 pub fn scroll_up<T: Copy>(image: &mut ImgVec<T>)
     requires fits { Fits (vec_layout image.old) }
-    requires high { 1 ≤ height_of image.old }
+    requires height_positive { 1 ≤ height_of image.old }
     ensures grid { vec_grid image.new ≡ patch (vec_grid image.old) 0 0
         (view (vec_grid image.old) 0 1 (width_of image.old) (height_of image.old - 1)) }
     ensures outside { SameOutside (vec_layout image.old) (vec_layout image.new) }

@@ -10,7 +10,7 @@ use imgref::{ImgRef, ImgVec};
 fn three_from(src: ImgRef<'_, u8>, x: usize, y: usize) -> u16
     requires fits { Fits (ref_layout src) }
     requires column { x + 2 < width_of src }
-    requires line { y < height_of src }
+    requires row { y < height_of src }
     ensures value { result ≡ sum_of_three (ref_grid src.entry) x y }
     ensures small { result ≤ 3 * 255 }
 {

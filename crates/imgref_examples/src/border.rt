@@ -10,8 +10,8 @@ use imgref::{ImgVec, Window};
 pub fn draw_border(image: &mut ImgVec<u8>, w: Window, value: u8)
     requires fits { Fits (vec_layout image.old) }
     requires inside { IsInside (width_of image.old) (height_of image.old) (as_window w) }
-    requires wide { 0 < w.width }
-    requires high { 0 < w.height }
+    requires width_positive { 0 < w.width }
+    requires height_positive { 0 < w.height }
     ensures grid { vec_grid image.new ≡ patch (patch (patch (patch (vec_grid image.old)
         w.left w.top (uniform w.width 1 value))
         w.left (w.top + w.height - 1) (uniform w.width 1 value))

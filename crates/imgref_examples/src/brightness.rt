@@ -42,7 +42,7 @@ fn brighten_row(row: &mut [u8], by: u8)
 // The same of row `y` of an image.
 fn brighten_line(image: &mut ImgVec<u8>, y: usize, by: u8)
     requires fits { Fits (vec_layout image.old) }
-    requires below { y < height_of image.old }
+    requires row { y < height_of image.old }
     ensures grid { vec_grid image.new ≡ patch (vec_grid image.old) 0 y
         (one_row (map (brighter by) (row (vec_layout image.old) y))) }
     ensures outside { SameOutside (vec_layout image.old) (vec_layout image.new) }

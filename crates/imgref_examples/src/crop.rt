@@ -10,19 +10,19 @@ use std::alloc::{AllocError, Global};
 pub fn crop_packed(
     alloc: Global,
     image: ImgRef<'_, u8>,
-    place: Window,
+    window: Window,
 ) -> Result<ImgVec<u8>, AllocError>
     requires fits { Fits (ref_layout image) }
-    requires inside { IsInside (width_of image) (height_of image) (as_window place) }
+    requires inside { IsInside (width_of image) (height_of image) (as_window window) }
     ensures grid { IfOk result
-        (λ copy. vec_grid copy ≡ window_view (ref_grid image.entry) (as_window place)) }
-    ensures stride { IfOk result (λ copy. stride_of copy ≡ max place.width 1) }
+        (λ copy. vec_grid copy ≡ window_view (ref_grid image.entry) (as_window window)) }
+    ensures stride { IfOk result (λ copy. stride_of copy ≡ max window.width 1) }
     ensures packed { IfOk result
-        (λ copy. length (vec_layout copy).cells ≡ place.width * place.height) }
+        (λ copy. length (vec_layout copy).cells ≡ window.width * window.height) }
 {
-    let cells = vec![in alloc; 0u8; place.width * place.height]?;
-    let mut copy = ImgVec::new_stride(cells, place.width, place.height, place.width.max(1));
-    copy.copy_from(image.window(place));
+    let cells = vec![in alloc; 0u8; window.width * window.height]?;
+    let mut copy = ImgVec::new_stride(cells, window.width, window.height, window.width.max(1));
+    copy.copy_from(image.window(window));
     Ok(copy)
 }
 
@@ -30,18 +30,18 @@ pub fn crop_packed(
 pub fn crop_copy(
     alloc: Global,
     image: ImgRef<'_, u8>,
-    place: Window,
+    window: Window,
 ) -> Result<Option<Vec<u8>>, AllocError>
     requires { Fits (ref_layout image) }
     ensures inside { IfOk result (λ copy. IsSome copy
-        ↔ IsInside (width_of image.entry) (height_of image.entry) (as_window place)) }
+        ↔ IsInside (width_of image.entry) (height_of image.entry) (as_window window)) }
     ensures pixels { IfOk result (λ copy. IfSome copy (λ cells.
-        cells.items ≡ grid_pixels (window_view (ref_grid image.entry) (as_window place)))) }
+        cells.items ≡ grid_pixels (window_view (ref_grid image.entry) (as_window window)))) }
 {
-    if !image.shape().has_window(place) {
+    if !image.shape().has_window(window) {
         return Ok(None);
     }
-    let part = image.window(place);
+    let part = image.window(window);
     let mut cells = Vec::new(alloc);
     for row in part.rows() {
         cells.extend_from_slice(row)?;

@@ -13,7 +13,7 @@ use imgref::{ImgRefMut, ImgVec};
 pub fn dot(image: &mut ImgRefMut<'_, u8>, x: usize, y: usize)
     requires fits { Fits (mut_layout image.old) }
     requires column { x < width_of image.old }
-    requires line { y < height_of image.old }
+    requires row { y < height_of image.old }
     ensures grid { mut_grid image.new ≡ patch (mut_grid image.old) x y (uniform 1 1 7) }
     ensures outside { SameOutside (mut_layout image.old) (mut_layout image.new) }
 {
@@ -23,8 +23,8 @@ pub fn dot(image: &mut ImgRefMut<'_, u8>, x: usize, y: usize)
 /// Writes two pixels and a part of the second row.
 pub fn three_places(image: &mut ImgVec<u8>, value: u8)
     requires fits { Fits (vec_layout image.old) }
-    requires wide { 3 ≤ width_of image.old }
-    requires high { 2 ≤ height_of image.old }
+    requires columns { 3 ≤ width_of image.old }
+    requires rows { 2 ≤ height_of image.old }
     ensures { DrawsThree (vec_layout image.old) (vec_layout image.new) value }
 {
     image.put(0, 0, 1);
@@ -35,8 +35,8 @@ pub fn three_places(image: &mut ImgVec<u8>, value: u8)
 /// The same, by index.
 pub fn three_by_index(image: &mut ImgVec<u8>, value: u8)
     requires fits { Fits (vec_layout image.old) }
-    requires wide { 3 ≤ width_of image.old }
-    requires high { 2 ≤ height_of image.old }
+    requires columns { 3 ≤ width_of image.old }
+    requires rows { 2 ≤ height_of image.old }
     ensures { DrawsThree (vec_layout image.old) (vec_layout image.new) value }
 {
     image[(0usize, 0usize)] = 1;
@@ -60,7 +60,7 @@ pub fn stripes(image: &mut ImgVec<u8>)
 pub fn put_then_get(image: &mut ImgVec<u8>, x: usize, y: usize, value: u8) -> Option<u8>
     requires fits { Fits (vec_layout image.old) }
     requires column { x < width_of image.old }
-    requires line { y < height_of image.old }
+    requires row { y < height_of image.old }
     ensures value { result ≡ Some value }
     ensures grid { vec_grid image.new ≡ patch (vec_grid image.old) x y (uniform 1 1 value) }
     ensures outside { SameOutside (vec_layout image.old) (vec_layout image.new) }

@@ -41,17 +41,17 @@ fn turn_cells<T: Copy>(src: ImgRef<'_, T>, cells: &mut [T], shape: Shape)
 }
 
 /// The same into a window of an image.
-pub fn turn_into_window<T: Copy>(src: ImgRef<'_, T>, image: &mut ImgVec<T>, place: Window)
+pub fn turn_into_window<T: Copy>(src: ImgRef<'_, T>, image: &mut ImgVec<T>, window: Window)
     requires src_fits { Fits (ref_layout src) }
     requires fits { Fits (vec_layout image.old) }
-    requires inside { IsInside (width_of image.old) (height_of image.old) (as_window place) }
-    requires width { place.width ≡ height_of src }
-    requires height { place.height ≡ width_of src }
-    ensures grid { vec_grid image.new ≡ patch (vec_grid image.old) place.left place.top
+    requires inside { IsInside (width_of image.old) (height_of image.old) (as_window window) }
+    requires width { window.width ≡ height_of src }
+    requires height { window.height ≡ width_of src }
+    ensures grid { vec_grid image.new ≡ patch (vec_grid image.old) window.left window.top
         (table (height_of src.entry) (width_of src.entry)
         (turned_pixel (height_of src.entry) (ref_grid src.entry))) }
     ensures outside { SameOutside (vec_layout image.old) (vec_layout image.new) }
 {
-    let (cells, shape) = image.window_parts_mut(place);
+    let (cells, shape) = image.window_parts_mut(window);
     turn_cells(src, cells, shape);
 }

@@ -25,7 +25,7 @@ fn invert_row(row: &mut [u8])
 // The same for row `y` of an image.
 fn invert_line(image: &mut ImgVec<u8>, y: usize)
     requires fits { Fits (vec_layout image.old) }
-    requires below { y < height_of image.old }
+    requires row { y < height_of image.old }
     ensures grid { vec_grid image.new
         ≡ patch (vec_grid image.old) 0 y
         (one_row (map (λ p. 255 - p) (row (vec_layout image.old) y))) }

@@ -25,7 +25,7 @@ pub fn fill_row_at<'a, C: AsMutSlice>(image: &'a mut Img<C>, y: usize, value: C:
 where
     C::Item: Copy + 'a,
     requires fits { Fits (layout_by C.cells image.old) }
-    requires below { y < height_of image.old }
+    requires row { y < height_of image.old }
     ensures grid { grid_by C.cells image.new
         ≡ patch (grid_by C.cells image.old) 0 y (uniform (width_of image.old) 1 value) }
     ensures outside { SameOutside (layout_by C.cells image.old) (layout_by C.cells image.new) }

@@ -32,7 +32,7 @@ pub fn blend(image: &mut ImgVec<u8>, over: ImgRef<'_, u8>, alpha: u8)
 #[tactic(auto, unfolding(crate::specs::Scenes::in_disc))]
 fn is_in_disc(left: u32, top: u32, radius: u32, x: usize, y: usize) -> bool
     requires column { x < 2 ^ 32 }
-    requires line { y < 2 ^ 32 }
+    requires row { y < 2 ^ 32 }
     ensures { result ≡ in_disc left top radius x y }
 {
     let across = u128::from((x as u32).abs_diff(left));
@@ -59,8 +59,8 @@ pub fn fill_disc(image: &mut ImgVec<u8>, left: u32, top: u32, radius: u32, value
 
 /// A ramp of grey: each column is as bright as its distance from the first one.
 pub fn ramp(alloc: Global, width: usize, height: usize) -> Result<ImgVec<u8>, AllocError>
-    requires wide { width < 2 ^ 32 }
-    requires high { height < 2 ^ 32 }
+    requires width_bound { width < 2 ^ 32 }
+    requires height_bound { height < 2 ^ 32 }
     ensures grid { IfOk result
         (λ image. vec_grid image ≡ from_places width height (λ x y. ramp_at width x)) }
 {

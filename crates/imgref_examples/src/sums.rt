@@ -62,15 +62,15 @@ pub fn greatest(image: ImgRef<'_, u8>) -> u8
 }
 
 /// The sum of the pixels of a window.
-pub fn window_sum(image: ImgRef<'_, u8>, place: Window) -> u64
+pub fn window_sum(image: ImgRef<'_, u8>, window: Window) -> u64
     requires fits { Fits (ref_layout image) }
-    requires inside { IsInside (width_of image) (height_of image) (as_window place) }
-    requires small { place.width * place.height < 2 ^ 56 }
-    ensures value { result ≡ sum (grid_pixels (window_view (ref_grid image.entry) (as_window place))) }
-    ensures bound { result ≤ 255 * (place.width * place.height) }
+    requires inside { IsInside (width_of image) (height_of image) (as_window window) }
+    requires small { window.width * window.height < 2 ^ 56 }
+    ensures value { result ≡ sum (grid_pixels (window_view (ref_grid image.entry) (as_window window))) }
+    ensures bound { result ≤ 255 * (window.width * window.height) }
 {
     let mut total = 0;
-    for pixel in image.window(place).pixels() {
+    for pixel in image.window(window).pixels() {
         total += u64::from(pixel);
     }
     total

@@ -15,7 +15,7 @@ use imgref::{AsMutSlice, Img, ImgRefMut, Shape, Window};
 pub fn put_pixel<T: Copy>(cells: &mut [T], shape: Shape, x: usize, y: usize, value: T)
     requires fits { Fits (shaped cells.old shape) }
     requires column { x < shape_width shape }
-    requires line { y < shape_height shape }
+    requires row { y < shape_height shape }
     ensures grid { shaped_grid cells.new shape
         ≡ patch (shaped_grid cells.old shape) x y (uniform 1 1 value) }
     ensures outside { SameOutside (shaped cells.old shape) (shaped cells.new shape) }
@@ -30,7 +30,7 @@ fn put_inside<T: Copy>(cells: &mut [T], shape: Shape, window: Window, x: usize, 
     requires fits { Fits (shaped cells.old shape) }
     requires inside { IsInside (shape_width shape) (shape_height shape) (as_window window) }
     requires column { x < window.width }
-    requires line { y < window.height }
+    requires row { y < window.height }
     ensures grid { shaped_grid cells.new shape ≡ patch (shaped_grid cells.old shape)
         (window.left + x) (window.top + y) (uniform 1 1 value) }
     ensures outside { SameOutside (shaped cells.old shape) (shaped cells.new shape) }
@@ -65,7 +65,7 @@ where
     requires second_inside { IsInside place.first.width place.first.height
         (as_window place.second) }
     requires column { place.x < place.second.width }
-    requires line { place.y < place.second.height }
+    requires row { place.y < place.second.height }
     ensures grid { grid_by C.cells image.new
         ≡ patch (grid_by C.cells image.old) (place.first.left + (place.second.left + place.x))
         (place.first.top + (place.second.top + place.y)) (uniform 1 1 value) }
@@ -84,7 +84,7 @@ pub fn put_in_cells<T: Copy>(cells: &mut [T], shape: Shape, place: NestedPlace, 
     requires second_inside { IsInside place.first.width place.first.height
         (as_window place.second) }
     requires column { place.x < place.second.width }
-    requires line { place.y < place.second.height }
+    requires row { place.y < place.second.height }
     ensures grid { shaped_grid cells.new shape
         ≡ patch (shaped_grid cells.old shape) (place.first.left + (place.second.left + place.x))
         (place.first.top + (place.second.top + place.y)) (uniform 1 1 value) }

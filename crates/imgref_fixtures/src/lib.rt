@@ -64,6 +64,15 @@ pub fn cells_of(alloc: Global, count: usize, value: u8) -> Result<Vec<u8>, Alloc
     Ok(cells)
 }
 
+// Each of the 315 images of 1 to 15 columns, 1 to 7 rows and 0 to 2 cells of padding, whose cells
+// are 1.
+pub fn small_image(alloc: Global, number: usize) -> Result<ImgVec<u8>, AllocError> {
+    let (width, height, padding) = (1 + number % 15, 1 + number / 15 % 7, number / 105 % 3);
+    let stride = width + padding;
+    let cells = cells_of(alloc, stride * height + padding, 1)?;
+    Ok(Img::new_stride(cells, width, height, stride))
+}
+
 pub fn hash_of<T: Hash>(value: &T) -> u64 {
     let mut hasher = DefaultHasher::new();
     value.hash(&mut hasher);

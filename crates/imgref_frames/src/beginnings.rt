@@ -1,9 +1,9 @@
 //! Why an input begins with no supported video and no head of a picture, in words for standard
 //! error. Nothing here changes what is written or the status.
 
-use frame_formats::{Fields, Head, Key, Lines, Place, Scan};
+use frame_formats::{Fields, Head, Key, Lines, Place, Scan, read_size};
 use std::str;
-use texts::{Field, Parts};
+use texts::Parts;
 
 // The bytes as a text, where all of them can be printed.
 fn shown(bytes: &[u8]) -> &str {
@@ -77,8 +77,10 @@ fn say_no_size(rt: &HostRuntime, fields: Parts<'_>, letter: u8, name: &str) -> b
         let _ = eprintln!(rt; "the field {name} occurs twice in the first line");
         return true;
     }
-    if usize::read(text).is_none() {
-        let _ = eprintln!(rt; "the field {name} of the first line is no number, or too great");
+    if read_size(text).is_none() {
+        let _ = eprintln!(rt;
+            "the field {name} of the first line has to be a number from 1 to 4294967295"
+        );
         return true;
     }
     false
@@ -88,10 +90,12 @@ fn say_no_size(rt: &HostRuntime, fields: Parts<'_>, letter: u8, name: &str) -> b
 
 fn say_no_picture(rt: &HostRuntime, kind: u8, front: &[u8]) {
     let _ = match kind {
-        b'1' | b'2' | b'3' => eprintln!(rt;
-            "P1, P2 and P3 have pixels in digits: pnmtopnm makes P4, P5 or P6 of them"
+        b'1' | b'4' => eprintln!(rt;
+            "P1 and P4 have bits for pixels: pnmdepth 255 makes P5 of them"
         ),
-        b'4' => eprintln!(rt; "P4 has bits for pixels: pbmtopgm 1 1 or pamtopnm makes P5 of it"),
+        b'2' | b'3' => eprintln!(rt;
+            "P2 and P3 have samples in digits: pnmtopnm makes P5 or P6 of them"
+        ),
         b'5' | b'6' | b'7' => {
             say_no_numbers(rt, front);
             Ok(())
@@ -195,7 +199,7 @@ fn say_no_line(rt: &HostRuntime, lines: Lines, byte: u8, word: &[u8]) {
         }
         Place::Gap | Place::Letters(..) => {
             eprintln!(rt;
-                "TUPLTYPE {} isn't supported, or occurs twice: only GRAYSCALE, RGB, GRAYSCALE_ALPHA and RGB_ALPHA. pamtopnm makes P5 or P6 of other pictures",
+                "TUPLTYPE {} isn't supported, or occurs twice: only GRAYSCALE, RGB, GRAYSCALE_ALPHA and RGB_ALPHA. pnmdepth 255 makes one of them of black and white, and pamtopnm -assume makes P5 or P6 of others",
                 shown(word)
             )
         }

@@ -37,6 +37,7 @@ const USAGE: &str = "usage: imgref_frames [OPTION..] EDIT.. < video > video
 The input is a video (YUV4MPEG2), or pictures (PGM, PPM, PAM), one after the other.
 EDIT is one of these. The edits are applied to each frame or picture, in their order:
        [A..B] cover L,T,W,H [V]       brightness V or black, no colour, with a margin
+       [A..B] cover L,T,W,H+M [V]     the same with a margin of M pixels
        [A..B] fill L,T,W,H V          exactly this rectangle: brightness V, no colour
        [A..B] fill L,T,W,H R,G,B      a colour, only for pictures in colour
        [A..B] mosaic L,T,W,H TW,TH    tiles of TW by TH pixels

@@ -119,7 +119,7 @@ fn check_value(frame: Frame, value: usize) -> Option<Wrong> {
 fn check_change(frame: Frame, change: Change<Paint>) -> Option<Wrong> {
     match change {
         Change::Fill { window, value } => match value {
-            Paint::Around(value) => check_value(frame, value?),
+            Paint::Around { value, .. } => check_value(frame, value?),
             Paint::Grey(value) => check_value(frame, value).or(check_window(frame, window)),
             Paint::Black => check_window(frame, window),
             Paint::Colour { .. } if !frame.has_colours => Some(Wrong::Colour),

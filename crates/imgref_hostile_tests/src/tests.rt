@@ -12,6 +12,7 @@ mod greatest_units;
 mod memory;
 mod short_buffers;
 mod short_copies;
+mod unit_buffers;
 mod units;
 mod whole_buffers;
 mod windows;

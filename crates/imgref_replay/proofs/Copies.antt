@@ -1,5 +1,5 @@
 -- A window of an image of a list, copied over another window of the list.
-use Rattle.std.proofs.Common.{◌≡◌, ℕ, ◌-◌, ◌<◌, Bool, false, List, ◌++◌, length, map, set, get_or, None, Vec, refl, sym, ap, ◌∙◌, arith, All, Ok}
+use Rattle.std.proofs.Common.{◌≡◌, ℕ, ◌-◌, ◌<◌, Bool, false, List, ◌++◌, length, map, set, get_or, None, Vec, refl, sym, ap, subst, ◌∙◌, arith, All, Ok}
 use Rattle.std.proofs.lemmas.Bool.{cond-false, and_from, eq-eqb}
 use Rattle.std.proofs.lemmas.List.{set-append_left, set-append_right, get_or_append_left, get_or-append_right}
 use Rattle.image_model.specs.Layout.{Layout, Fits, SameOutside}
@@ -19,17 +19,17 @@ use Rattle.imgref_replay.proofs.Images.{fits_at, inside_at, grid_at-images, grid
 use Rattle.imgref_replay.proofs.Steps.{faults_after}
 
 -- an image of the list that shows a window of image j, in its old image's place
-pub copied : {T Z : Type 0} (images : List (Img (Vec T Z))) (i j left top : ℕ) (from : model.Window) (image seen new : Img (Vec T Z)) → i < length images → j < length images → image ≡ get_or images i image → seen ≡ get_or images j seen
+pub copied : {T Z : Type 0} (images : List (Img (Vec T Z))) (i j left top : ℕ) (from : model.Window) (image seen new : Img (Vec T Z)) (news : List (Img (Vec T Z))) → news ≡ set images i new → i < length images → j < length images → image ≡ get_or images i image → seen ≡ get_or images j seen
     → grid_of (vec_layout new) ≡ patch (grid_of (vec_layout image)) left top (window_view (grid_of (vec_layout seen)) from) → SameOutside (vec_layout image) (vec_layout new) → Fits (vec_layout new) → All Fits (map vec_layout images)
-    → ShowsCopy i left top (window_view (grid_at (grids_of images) j) from) (map vec_layout images) (map vec_layout (set images i new))
-copied images i j left top from image seen new there seen_there is seen_is shows outside fits all_fit =
+    → ShowsCopy i left top (window_view (grid_at (grids_of images) j) from) (map vec_layout images) (map vec_layout news)
+copied images i j left top from image seen new news changed there seen_there is seen_is shows outside fits all_fit =
     let copy = window_view (grid_at (grids_of images) j) from in
     let shown = shows ∙ ap (λ g. patch (grid_of (vec_layout image)) left top (window_view g from)) (sym (grid_at-images images j seen seen_there seen_is)) in
-    record {
+    subst (λ all. ShowsCopy i left top copy (map vec_layout images) (map vec_layout all)) (sym changed) (record {
       grids = grids_set images i new ∙ ap (set (grids_of images) i) (shown ∙ ap (λ g. patch g left top copy) (sym (grid_at-images images i image there is)));
       kept = kept_set (λ _. false) images i image new there is (λ _ _. refl) outside;
       fits = fits_set images i new fits all_fit;
-    }
+    })
 
 -- two images of a list and windows of theirs
 pub may_copy : {T Z : Type 0} (images : List (Img (Vec T Z))) (i j : ℕ) (image seen : Img (Vec T Z)) (to from : model.Window) → i < length images → j < length images → image ≡ get_or images i image → seen ≡ get_or images j seen

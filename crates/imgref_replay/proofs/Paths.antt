@@ -3,8 +3,11 @@ use Rattle.std.proofs.Common.{◌≡◌, ℕ, ◌+◌, ◌<◌, ◌≤◌, true,
 use Rattle.std.specs.Option.{option_map}
 use Rattle.std.proofs.lemmas.List.{take_more, take_all, drop_more, map-append, take-append-drop, length-map, length-take-le}
 use Rattle.image_model.specs.Windows as model
-use Rattle.image_model.specs.Windows.{IsInside, is_inside, first_outside, path_window, path_width, path_height}
-use Rattle.image_model.proofs.Paths.{nested, path_inside, path_window-push, first_outside-append}
+use Rattle.image_model.specs.Windows.{IsInside, is_inside, first_outside, path_window, path_width, path_height, path_layout}
+use Rattle.image_model.specs.Layout.{Layout, Fits}
+use Rattle.image_model.specs.Grid.{grid_of}
+use Rattle.image_model.proofs.Paths.{nested, path_inside, path_window-push, first_outside-append, path_has, path_fits, path_grid}
+use Rattle.imgref_replay.specs.Path.{IsPathWindow}
 use Rattle.image_shape.specs.declared.window.Window.{Window}
 use Rattle.imgref.specs.Window.{as_window, as_path}
 
@@ -63,3 +66,12 @@ module _ (width height : ℕ) (path : List Window) where
           comes_to = at;
           within = subst (IsInside width height) (sym at) (path_inside width height (as_path (take (n + 1) path)) none);
         }
+
+-- a layout that is the path's is its window
+pub path_window_is : {T : Type 0} (l : Layout T) (path : List model.Window) → l.width ≤ l.stride → Fits l → first_outside l.width l.height path ≡ None → (m : Layout T) → m ≡ path_layout l path → IsPathWindow l path m
+path_window_is l path wide fits inside m is = record {
+  layout = is;
+  corner = (path_has l path wide fits inside).begins;
+  fits = subst (λ out. Fits out) (sym is) (path_fits l path wide fits inside);
+  view = ap grid_of is ∙ path_grid l path wide fits inside;
+}

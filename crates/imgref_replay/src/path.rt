@@ -4,11 +4,11 @@ ghost use Rattle.std.specs.Prelude.{◌≡◌, ◌≤◌, IfOk};
 ghost use Rattle.std.specs.Result.{result_err};
 ghost use Rattle.std.specs.Borrow.{sem, follows, follows_if, Array};
 ghost use Rattle.image_model.specs.Layout.{Fits, Reaches};
-ghost use Rattle.image_model.specs.Windows.{IsInside, IsWithin, first_outside, with_stretch, path_window, path_stretch, path_layout, path_view, whole};
+ghost use Rattle.image_model.specs.Windows.{IsInside, IsWithin, first_outside, with_stretch, path_window, path_stretch, whole};
 ghost use Rattle.imgref.specs.Shape.{shape_width, shape_height, shape_stride};
 ghost use Rattle.imgref.specs.Window.{as_window, as_path, as_stretch};
-ghost use Rattle.imgref.specs.Image.{buf_of, width_of, height_of, stride_of, mut_grid, mut_layout, ref_grid, ref_layout};
-ghost use Rattle.imgref_replay.specs.Path.{BeginsAtCorner, LeadsTo, window_name};
+ghost use Rattle.imgref.specs.Image.{buf_of, width_of, height_of, stride_of, mut_layout, ref_layout};
+ghost use Rattle.imgref_replay.specs.Path.{IsPathWindow, LeadsTo, window_name};
 
 use imgref::{ImgRef, ImgRefMut, Shape, Stretch, Window};
 
@@ -70,12 +70,8 @@ pub fn window_at<'s, T>(img: ImgRef<'s, T>, path: &[Window]) -> Result<ImgRef<'s
     requires fits { Fits (ref_layout img) }
     ensures outside { result_err result
         ≡ first_outside (width_of img.entry) (height_of img.entry) (as_path path.now) }
-    ensures layout { IfOk result
-        (λ w. ref_layout w ≡ path_layout (ref_layout img.entry) (as_path path.now)) }
-    ensures corner { IfOk result (λ _. BeginsAtCorner (ref_layout img.entry) (as_path path.now)) }
-    ensures fits { IfOk result (λ w. Fits (ref_layout w)) }
-    ensures view { IfOk result
-        (λ w. ref_grid w ≡ path_view (ref_grid img.entry) (as_path path.now)) }
+    ensures window { IfOk result
+        (λ w. IsPathWindow (ref_layout img.entry) (as_path path.now) (ref_layout w)) }
 {
     let (cells, shape) = img.into_parts();
     let (stretch, inner) = region_at(cells.len(), shape, path)?;
@@ -103,12 +99,8 @@ pub fn into_window_at<'s, T>(
         (buf_of img.entry).now) }
     ensures outside { result_err result
         ≡ first_outside (width_of img.entry) (height_of img.entry) (as_path path.now) }
-    ensures layout { IfOk result
-        (λ w. mut_layout w ≡ path_layout (mut_layout img.entry) (as_path path.now)) }
-    ensures corner { IfOk result (λ _. BeginsAtCorner (mut_layout img.entry) (as_path path.now)) }
-    ensures fits { IfOk result (λ w. Fits (mut_layout w)) }
-    ensures view { IfOk result
-        (λ w. mut_grid w ≡ path_view (mut_grid img.entry) (as_path path.now)) }
+    ensures window { IfOk result
+        (λ w. IsPathWindow (mut_layout img.entry) (as_path path.now) (mut_layout w)) }
 {
     let (cells, shape) = img.into_parts();
     match region_at(cells.len(), shape, path) {

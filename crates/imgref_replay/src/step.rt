@@ -16,6 +16,9 @@ use crate::path::path_window;
 use image_commands::{Command, Place, Refusal, Reply};
 use imgref::{ImgRef, ImgVec, Window};
 
+/// What a command replies, or its first fault.
+type Answer<T> = Result<Reply<T>, Refusal>;
+
 /// The window that a place names in its image, or the first fault of the place.
 fn locate<T>(images: &[ImgVec<T>], spot: &Place) -> Result<Window, Refusal>
     ensures fault { result_err result
@@ -108,12 +111,7 @@ fn locate_pixel<T>(
 }
 
 /// The pixel at a place of a window.
-fn get<T: Copy + Eq>(
-    images: &[ImgVec<T>],
-    spot: &Place,
-    x: usize,
-    y: usize,
-) -> Result<Reply<T>, Refusal>
+fn get<T: Copy + Eq>(images: &[ImgVec<T>], spot: &Place, x: usize, y: usize) -> Answer<T>
     requires { AllFit images.now }
     ensures { IsStep T.eq (Command.Get spot.now x y) (layouts_of images.now)
         (layouts_of images.now) result }
@@ -129,7 +127,7 @@ fn put<T: Copy + Eq>(
     x: usize,
     y: usize,
     value: T,
-) -> Result<Reply<T>, Refusal>
+) -> Answer<T>
     requires { AllFit images.old }
     ensures { IsStep T.eq (Command.Put spot.now x y value) (layouts_of images.old)
         (layouts_of images.new) result }
@@ -140,7 +138,7 @@ fn put<T: Copy + Eq>(
 }
 
 /// Writes the value at every place of a window.
-fn fill<T: Copy + Eq>(images: &mut [ImgVec<T>], spot: &Place, value: T) -> Result<Reply<T>, Refusal>
+fn fill<T: Copy + Eq>(images: &mut [ImgVec<T>], spot: &Place, value: T) -> Answer<T>
     requires { AllFit images.old }
     ensures { IsStep T.eq (Command.Fill spot.now value) (layouts_of images.old)
         (layouts_of images.new) result }
@@ -151,7 +149,7 @@ fn fill<T: Copy + Eq>(images: &mut [ImgVec<T>], spot: &Place, value: T) -> Resul
 }
 
 /// The number of pixels of a window that are equal to the value.
-fn count<T: Copy + Eq>(images: &[ImgVec<T>], spot: &Place, value: T) -> Result<Reply<T>, Refusal>
+fn count<T: Copy + Eq>(images: &[ImgVec<T>], spot: &Place, value: T) -> Answer<T>
     requires { AllFit images.now }
     ensures { IsStep T.eq (Command.Count spot.now value) (layouts_of images.now)
         (layouts_of images.now) result }
@@ -174,11 +172,7 @@ fn count_equal<T: Copy + Eq>(image: ImgRef<'_, T>, value: T) -> usize
 }
 
 /// Whether two windows have the same size, and equal pixels at every place.
-fn same<T: Copy + Eq>(
-    images: &[ImgVec<T>],
-    first: &Place,
-    second: &Place,
-) -> Result<Reply<T>, Refusal>
+fn same<T: Copy + Eq>(images: &[ImgVec<T>], first: &Place, second: &Place) -> Answer<T>
     requires { AllFit images.now }
     ensures { IsStep T.eq (Command.Same first.now second.now) (layouts_of images.now)
         (layouts_of images.now) result }
@@ -190,11 +184,7 @@ fn same<T: Copy + Eq>(
 }
 
 /// Writes the old pixels of one window over those of another of its size.
-fn blit<T: Copy + Eq>(
-    images: &mut [ImgVec<T>],
-    source: &Place,
-    target: &Place,
-) -> Result<Reply<T>, Refusal>
+fn blit<T: Copy + Eq>(images: &mut [ImgVec<T>], source: &Place, target: &Place) -> Answer<T>
     requires { AllFit images.old }
     ensures { IsStep T.eq (Command.Blit source.now target.now) (layouts_of images.old)
         (layouts_of images.new) result }
@@ -213,7 +203,7 @@ fn mosaic<T: Copy + Eq>(
     spot: &Place,
     tile_width: usize,
     tile_height: usize,
-) -> Result<Reply<T>, Refusal>
+) -> Answer<T>
     requires { AllFit images.old }
     ensures { IsStep T.eq (Command.Mosaic spot.now tile_width tile_height) (layouts_of images.old)
         (layouts_of images.new) result }
@@ -227,7 +217,7 @@ fn mosaic<T: Copy + Eq>(
 }
 
 /// Leaves only the rows of an image in its buffer, at the least stride.
-fn compact<T: Copy + Eq>(images: &mut [ImgVec<T>], image: usize) -> Result<Reply<T>, Refusal>
+fn compact<T: Copy + Eq>(images: &mut [ImgVec<T>], image: usize) -> Answer<T>
     requires { AllFit images.old }
     ensures { IsStep T.eq (Command.Compact image) (layouts_of images.old)
         (layouts_of images.new) result }
@@ -240,7 +230,7 @@ fn compact<T: Copy + Eq>(images: &mut [ImgVec<T>], image: usize) -> Result<Reply
 }
 
 /// Runs one command, or returns its first fault and changes nothing.
-fn accept<T: Copy + Eq>(images: &mut [ImgVec<T>], command: &Command<T>) -> Result<Reply<T>, Refusal>
+fn accept<T: Copy + Eq>(images: &mut [ImgVec<T>], command: &Command<T>) -> Answer<T>
     requires { AllFit images.old }
     ensures { IsStep T.eq command.now (layouts_of images.old) (layouts_of images.new) result }
 {

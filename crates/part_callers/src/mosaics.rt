@@ -16,8 +16,8 @@ use imgref::{ImgRefMut, Shape};
 // Every pixel becomes that of (0, 0).
 fn flatten<T: Copy>(cells: &mut [T], shape: Shape)
     requires fits { Fits (shaped cells.old shape) }
-    requires wide { 0 < shape_width shape }
-    requires high { 0 < shape_height shape }
+    requires width_positive { 0 < shape_width shape }
+    requires height_positive { 0 < shape_height shape }
     ensures grid { grid_of (shaped cells.new shape) ≡ flat (grid_of (shaped cells.old shape)) }
     ensures outside { SameOutside (shaped cells.old shape) (shaped cells.new shape) }
 {

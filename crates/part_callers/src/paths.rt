@@ -51,7 +51,7 @@ where
     requires inside { first_outside (width_of image.old) (height_of image.old) (as_path path.now)
         ≡ None }
     requires column { place.0 < path_width (width_of image.old) (as_path path.now) }
-    requires line { place.1 < path_height (height_of image.old) (as_path path.now) }
+    requires row { place.1 < path_height (height_of image.old) (as_path path.now) }
     ensures grid { grid_by C.cells image.new
         ≡ patch (grid_by C.cells image.old) (corner_left (as_path path.now) + place.0)
         (corner_top (as_path path.now) + place.1) (uniform 1 1 value) }

@@ -47,7 +47,7 @@ where
     ensures outside { SameOutside (layout_by C.cells (image_of tiles.old))
         (layout_by C.cells (image_of tiles.new)) }
     ensures fits { Fits (layout_by C.cells (image_of tiles.new)) }
-    ensures left { tiles_left C.cells tiles.old
+    ensures rest { tiles_left C.cells tiles.old
         ≡ tile_now (tiling_of tiles.old) ∷ tiles_left C.cells tiles.new }
 {
     let (cells, shape) = tile_parts(tiles);

@@ -1,7 +1,7 @@
 //! Pixels copied from another image, and windows moved within one.
 
 use imgref::{AsMutSlice, Img, ImgRef, ImgRefMut, ImgVec};
-use imgref_fixtures::{PADDED, SQUARE, square, square_mut};
+use imgref_fixtures::{PADDED, SQUARE, padded_view, square, square_mut};
 use std::alloc::{AllocError, Global};
 use std::process::Abort;
 use std::test::Fail;
@@ -127,24 +127,20 @@ const WITH_PART: [u8; 11] = [1, 2, 3, 0, 4, 2, 3, 0, 7, 6, 7];
 
 #[test]
 fn a_window_gets_an_image(rt: HostRuntime) -> Result<(), Fail> {
-    let mut owner: ImgVec<u8> = Img::new_stride(SQUARE.to_vec(rt.alloc())?, 3, 3, 4);
-    let source: ImgRef<'_, u8> = Img::new_stride(PADDED.as_slice(), 3, 2, 4);
-    assert!(rt; owner.is_valid() && source.is_valid());
-    owner.copy_window(1, 1, source.sub_image(1, 0, 2, 2));
+    let source = padded_view();
+    assert!(rt; source.has_window(1, 0, 2, 2));
+    let part = source.sub_image(1, 0, 2, 2);
+    let mut owner = square(rt.alloc())?;
+    assert!(rt; owner.has_window(1, 1, 2, 2));
+    owner.copy_window(1, 1, part);
     assert!(rt; owner.buf().as_slice() == WITH_PART.as_slice());
-    Ok(())
-}
-
-// Through a window for writing it is the same.
-#[test]
-fn a_window_for_writing_gets_an_image(rt: HostRuntime) {
+    // Through a window for writing it is the same.
     let mut cells = SQUARE;
-    let mut lent: ImgRefMut<'_, u8> = Img::new_stride(cells.as_mut_slice(), 3, 3, 4);
-    let source: ImgRef<'_, u8> = Img::new_stride(PADDED.as_slice(), 3, 2, 4);
-    assert!(rt; lent.is_valid() && source.is_valid());
-    lent.sub_image_mut(1, 1, 2, 2)
-        .copy_from(source.sub_image(1, 0, 2, 2));
+    let mut lent = square_mut(&mut cells);
+    assert!(rt; lent.has_window(1, 1, 2, 2));
+    lent.sub_image_mut(1, 1, 2, 2).copy_from(part);
     assert!(rt; cells == WITH_PART);
+    Ok(())
 }
 
 #[test]

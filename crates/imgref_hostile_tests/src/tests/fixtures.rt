@@ -1,8 +1,18 @@
-//! What the image of nine cells has at its places and in its windows.
+//! What the image of nine cells has at its places and in its windows, its rows, and cells
+//! without size.
 
-use imgref::{AsMutSlice, Img, ImgRefMut, Window};
+use imgref::{AsMutSlice, Img, ImgRef, ImgRefMut, ImgVec, Window};
 use imgref_fixtures::numbers_of;
+use std::alloc::{AllocError, Global};
 use std::process::Abort;
+
+// Nine cells without size.
+pub const UNITS: [(); 9] = [(); 9];
+
+// Three by two of them, with one cell of padding after each row.
+pub fn units(alloc: Global) -> Result<ImgVec<()>, AllocError> {
+    Ok(Img::new_stride(UNITS.to_vec(alloc)?, 3, 2, 4))
+}
 
 // The pixel of a place of that image.
 pub fn pixel_at(x: usize, y: usize) -> Option<u8> {
@@ -26,6 +36,15 @@ pub fn window_mut<'a, C: AsMutSlice<Item = u8>>(
     let (left, top, width, height) = numbers_of(window);
     assert!(rt; image.is_valid() && image.has_window(left, top, width, height));
     image.sub_image_mut(left, top, width, height)
+}
+
+// Whether the rows of an image are joined to these.
+pub fn is_joined(alloc: Global, image: ImgRef<'_, u8>, due: &[u8]) -> Result<bool, AllocError> {
+    if !image.is_valid() {
+        return Ok(false);
+    }
+    let (joined, _, _) = image.to_contiguous_buf(alloc)?;
+    Ok(joined.as_ref() == due)
 }
 
 // Which cells a window has.

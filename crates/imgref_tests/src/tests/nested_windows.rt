@@ -1,10 +1,9 @@
 //! Writes through a window of a window.
 
-use imgref::{ImgRefMut, ImgVec, Shape, Window};
+use imgref::{Shape, Window};
 use imgref_examples::{NestedPlace, put_in_cells, put_nested};
+use imgref_fixtures::{PADDED, padded, padded_mut};
 use std::test::Fail;
-
-const CELLS: [u8; 9] = [1, 2, 3, 4, 5, 6, 7, 8, 9];
 
 // It is the place (2, 1) of the image, cell 6.
 const PLACE: NestedPlace = NestedPlace {
@@ -28,7 +27,7 @@ const AFTER: [u8; 9] = [1, 2, 3, 4, 5, 6, 0, 8, 9];
 
 #[test]
 fn a_write_lands_at_the_summed_place(rt: HostRuntime) -> Result<(), Fail> {
-    let mut owner: ImgVec<u8> = ImgVec::new_stride(CELLS.to_vec(rt.alloc())?, 3, 2, 4);
+    let mut owner = padded(rt.alloc())?;
     assert!(rt; owner.is_valid() && owner.shape().has_window(PLACE.first));
     put_nested(&mut owner, PLACE, 0);
     assert!(rt; owner.into_buf().as_slice() == AFTER.as_slice());
@@ -37,12 +36,12 @@ fn a_write_lands_at_the_summed_place(rt: HostRuntime) -> Result<(), Fail> {
 
 #[test]
 fn a_write_in_lent_cells_lands_at_the_summed_place(rt: HostRuntime) {
-    let mut cells = CELLS;
-    let mut lent: ImgRefMut<'_, u8> = ImgRefMut::new_stride(cells.as_mut_slice(), 3, 2, 4);
+    let mut cells = PADDED;
+    let mut lent = padded_mut(&mut cells);
     assert!(rt; lent.is_valid() && lent.shape().has_window(PLACE.first));
     put_nested(&mut lent, PLACE, 0);
     assert!(rt; cells.as_slice() == AFTER.as_slice());
-    let mut cells = CELLS;
+    let mut cells = PADDED;
     put_in_cells(&mut cells, Shape::new(3, 2, 4), PLACE, 0);
     assert!(rt; cells.as_slice() == AFTER.as_slice());
 }

@@ -81,6 +81,18 @@ fn pixels_without_size_are_lent(rt: HostRuntime) {
     assert!(rt; is_over(&mut items) && is_over(&mut items));
 }
 
+// What the nine cells are once so many pixels are 0.
+const CLEARED: [(usize, [u8; 9]); 8] = [
+    (0, PADDED),
+    (1, [0, 2, 3, 4, 5, 6, 7, 8, 9]),
+    (2, [0, 0, 3, 4, 5, 6, 7, 8, 9]),
+    (3, [0, 0, 0, 4, 5, 6, 7, 8, 9]),
+    (4, [0, 0, 0, 4, 0, 6, 7, 8, 9]),
+    (5, [0, 0, 0, 4, 0, 0, 7, 8, 9]),
+    (6, [0, 0, 0, 4, 0, 0, 0, 8, 9]),
+    (7, [0, 0, 0, 4, 0, 0, 0, 8, 9]),
+];
+
 // Sets so many pixels to 0, and drops the iterator.
 fn clear_first<C: AsMutSlice<Item = u8>>(rt: &impl Abort, image: &mut Img<C>, count: usize) {
     assert!(rt; image.is_valid());
@@ -95,15 +107,7 @@ fn clear_first<C: AsMutSlice<Item = u8>>(rt: &impl Abort, image: &mut Img<C>, co
 
 #[test]
 fn writes_before_a_drop_stand(rt: HostRuntime) -> Result<(), Fail> {
-    for (count, left) in [
-        (0usize, [1u8, 2, 3, 4, 5, 6, 7, 8, 9]),
-        (1, [0, 2, 3, 4, 5, 6, 7, 8, 9]),
-        (2, [0, 0, 3, 4, 5, 6, 7, 8, 9]),
-        (3, [0, 0, 0, 4, 5, 6, 7, 8, 9]),
-        (4, [0, 0, 0, 4, 0, 6, 7, 8, 9]),
-        (5, [0, 0, 0, 4, 0, 0, 7, 8, 9]),
-        (6, [0, 0, 0, 4, 0, 0, 0, 8, 9]),
-    ] {
+    for (count, left) in CLEARED {
         let mut image = padded(rt.alloc())?;
         clear_first(&rt, &mut image, count);
         let mut cells = PADDED;
@@ -118,21 +122,13 @@ fn writes_before_a_drop_stand(rt: HostRuntime) -> Result<(), Fail> {
 
 #[test]
 fn the_first_pixels_are_written(rt: HostRuntime) -> Result<(), Fail> {
-    let left = [
-        (0, PADDED),
-        (2, [0u8, 0, 3, 4, 5, 6, 7, 8, 9]),
-        (4, [0, 0, 0, 4, 0, 6, 7, 8, 9]),
-        (7, [0, 0, 0, 4, 0, 0, 0, 8, 9]),
-    ];
-    for (count, cells_left) in left {
+    for (count, left) in CLEARED {
         let mut image = padded(rt.alloc())?;
-        let mut cells = PADDED;
-        let mut lent = padded_mut(&mut cells);
-        assert!(rt; image.is_valid() && lent.is_valid());
         write_first(&mut image, count, 0);
-        write_first(&mut lent, count, 0);
+        let mut cells = PADDED;
+        write_first(&mut padded_mut(&mut cells), count, 0);
         assert!(rt;
-            image.buf().as_slice() == cells_left.as_slice() && cells == cells_left,
+            image.buf().as_slice() == left.as_slice() && cells == left,
             "{count}"
         );
     }

@@ -10,7 +10,7 @@ use imgref_fixtures::{PADDED, padded};
 use std::test::Fail;
 
 fn row_of<C: AsSlice>(image: &Img<C>, y: usize) -> &[C::Item]
-    requires below { y < height_of image.now }
+    requires row { y < height_of image.now }
     requires fits { Fits (layout_by C.cells image.now) }
 {
     image.row(y)
@@ -18,7 +18,7 @@ fn row_of<C: AsSlice>(image: &Img<C>, y: usize) -> &[C::Item]
 
 #[tactic(auto, unfolding(imgref::specs::Index::with_row))]
 fn set_row<T: Copy>(image: &mut ImgVec<T>, y: usize, values: &[T])
-    requires below { y < height_of image.old }
+    requires row { y < height_of image.old }
     requires some { 0 < width_of image.old }
     requires fits { Fits (vec_layout image.old) }
     requires long { length values.now ≡ width_of image.old }

@@ -7,4 +7,4 @@ pub returns-clause-value : goal.returns-clause-value
 returns-clause-value g c =
     let l = shaped c.args.cells.now c.args.shape in
     let many : c.range.result.end - c.range.result.start ≡ l.width = omega (arith, c.range.ensures.start, c.range.ensures.end, c.any_row.ensures.len) in
-    (λ i. take (many i) (drop ((c.range.ensures.start ∙ c.any_row.ensures.start) i) l.cells)) ∙ row_is l c.args.y c.requires.fits c.requires.below
+    (λ i. take (many i) (drop ((c.range.ensures.start ∙ c.any_row.ensures.start) i) l.cells)) ∙ row_is l c.args.y c.requires.fits c.requires.row

@@ -8,4 +8,4 @@ abbrev pub invariant-loop-row : goal.invariant-loop-row
 invariant-loop-row l =
     (goal.iterator-loop-row).can_next l.row-iterator ×
     (goal.iterator-loop-row).is_finite l.row-iterator ×
-    (l.cells.items ++ flat_map (λ r. r) (refs_left l.row-iterator) ≡ grid_pixels (window_view (ref_grid l.fn.image) (as_window l.fn.place)))
+    (l.cells.items ++ flat_map (λ r. r) (refs_left l.row-iterator) ≡ grid_pixels (window_view (ref_grid l.fn.image) (as_window l.fn.window)))

@@ -4,14 +4,12 @@ use mir.Syntax.{impl}
 use denote.Param.NoDrop.{glues}
 use Rattle.std.proofs.Common.{◌≡◌, refl, ap, subst, ℕ, ◌*◌, ◌<◌, ◌^◌, List, [], ◌∷◌, ◌++◌, length, w64, MutBor}
 use Rattle.image_model.specs.Layout.{Layout, Fits}
-use Rattle.image_model.specs.Grid.{grid_of}
-use Rattle.image_model.specs.Rows.{pixels, grid_pixels}
 use Rattle.borrow_laws.proofs.Walking.{Lft, GName, Share, ftrue, fdead, fres, flft, flent, fat, full_share, SProp, emp, id⊢, apply∗, coded_list, Args, Dict, Fn, Ty, named, dnil, tcons, tnil, inst_fn, Val, vint, vptr, vunit, ◌⊑◌, ⊑_trans, meet_⊑_right, fact, fact_i, tables, ‵, ◌⊛◌, raw, later, some, ◌$◌, ◌∵◌, !, qed, by, move, keep, drop, split, split3, join, fsplit, fjoin, fpick, feq_l, feq_i, rewrite, use0, use1, use2, use3, await, pick, stop, from, addr, of_opd, unit_lit, and_then, no_more, returns, enter, alloc_all, pass_all, free_all, look_at, get, through, sets, lands_as, take_at, give_at, Body, part_in_at, part_out_at, Array, unit, usize, no, yes, uint_Makes, uint_vals, uint_Tells, follows, followed, shows, Is, lends_ref, ref_back, part_at, mem, param, copied, layout, param_laws, copied_laws, copied_copy, RattleType, owns, MutRef, mut_vals, mut_Tells, plain, named_lft, types_at, nothing, heard, owned, peeks, only, calls_at, lasts, triple_of, framed, Stays, stay_ref, stay_dropped, walk_of, Goes-ref, Goes-dropped, proved, leaves}
 use Rattle.borrow_laws.proofs.Bodies.{of_copied}
 use Rattle.borrow_laws.proofs.Endings.{ends_said}
 use Rattle.borrow_laws.proofs.Lifetimes.{Ends, begins, Loan, Kept, lent, lends, ends}
 use Rattle.image_pixels.specs.Marks.{marks_of}
-use Rattle.image_pixels.specs.Pixels.{cells_left, marks_left, muts_left, pixels_name}
+use Rattle.image_pixels.specs.Pixels.{ArePixels, cells_left, marks_left, muts_left, pixels_name}
 use Rattle.image_pixels.specs.declared.pixels_mut.PixelsIterMut.{PixelsIterMut}
 use Rattle.image_pixels.specs.contracts.pixels_mut.PixelsIterMut as P
 use Rattle.image_pixels.proofs.pixels_mut.PixelsIterMut.TheLaws as laws
@@ -68,8 +66,7 @@ cover_first_spec 𝓤 𝓛 𝓜 𝓡 wired X Y LX LY CY gh d gs ds gc dc bm bs b
     let F : List Y.Denot → Img X.Denot = with_all gs.cells gh.with_cells x.now in
     let marked = marks_of x.now.width x.now.height x.now.stride in
     use1 𝓛 (later (some (λ (r : Sort). ((‵ (flft α qα) ⊛ ‵ (flft κ₁ q₁) ⊛ ‵ (flft κ₂ q₂) ⊛ ‵ ftrue) ⊛ ‵ (cursor.own_val r (v₁ ∷ []))) ⊛ some (λ (ws : Unit {0} × Unit {0}). ‵ (lasts (M.ended X Y gh d gs ds) z₁.0.0 z₁.0.3 ws)
-    ⊛ (‵ (follows Whole (Array (param 1 Y) 0) δ (pixels_name r) F) ⊛ raw (fact 𝓤 (cells_left r ≡ old.cells)) ⊛ raw (fact 𝓤 (marks_left r ≡ marked)) ⊛ raw (fact 𝓤 (muts_left r ≡ pixels old)) ⊛ raw (fact 𝓤 (muts_left r ≡ grid_pixels (grid_of old)))
-    ⊛ raw (fact 𝓤 (length (muts_left r) ≡ x.now.width * x.now.height)) ⊛ raw (fact 𝓤 (length (muts_left r) < 2 ^ 64))))))) (id⊢ 𝓤 _) $
+    ⊛ (‵ (follows Whole (Array (param 1 Y) 0) δ (pixels_name r) F) ⊛ raw (fact 𝓤 (cells_left r ≡ old.cells)) ⊛ raw (fact 𝓤 (marks_left r ≡ marked)) ⊛ raw (fact 𝓤 (ArePixels old (muts_left r)))))))) (id⊢ 𝓤 _) $
     await ! tt $ pick ! (λ r. split ! $ split ! $ move ! (2 ∷ []) $ pick ! (λ ws₁. split ! $ drop ! $ split ! $ move ! (1 ∷ []) $ split ! $ heard ! (cells_left r ≡ old.cells) (λ cells. split ! $ heard ! (marks_left r ≡ marked) (λ marked_is. drop ! $
     -- [what follows; the tokens; the cursor; what is kept; the value]
     let lowered : Sort → Val = laws.lowered (named_lft 3 0 tt (α, (κ₁, (κ₂, tt)))) (param 1 Y) (param_laws 1 Y LY) in

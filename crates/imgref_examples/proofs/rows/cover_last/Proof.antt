@@ -6,8 +6,6 @@ use Rattle.std.proofs.Common.{⊎_elim, ◌≡◌, refl, sym, ap, subst, ℕ, �
 use Rattle.std.proofs.alloc.Shapes.{after}
 use Rattle.std.specs.contracts.option.Option as OP
 use Rattle.image_model.specs.Layout.{Layout, Fits}
-use Rattle.image_model.specs.Grid.{grid_of}
-use Rattle.image_model.specs.Rows.{rows, row_count, grid_rows}
 use Rattle.imgref.specs.Image.{with_all, layout_by}
 use Rattle.borrow_laws.proofs.Walking.{full_share, Lft, GName, Share, feq, ftrue, fdead, fres, fat, flft, flent, SProp, ent, emp, id⊢, apply∗, sem, Args, Fn, Ty, named, ty_unit, skip, inst_fn, Val, WT, has_ty, vptr, vunit, of_list, Wp, after_seq, at_return, ◌⊑◌, ⊑_trans, meet_⊑_right, fact, fact_i, tables, Item, Sq, any_q, ‵, ◌⊛◌, raw, later, some, at_ret, runs, ◌$◌, ◌∵◌, !, qed, by, move, keep, drop, split, split3, join, fsplit, fjoin, feq_l, feq_i, rewrite, use0, use1, use2, use3, await, pick, live, vrt, in_variant, all_of, sub, agg, stop, fld, hop, from, addr, of_opd, unit_lit, and_then, no_more, first, switches_on, skips, exec, returns, enter, alloc_all, pass_all, free_all, look_at, look_in_at, get, get_in, get_tag, through, sets, lands_as, lands_last, env, holding, forget_but, take_at, give_at, Array, unit, no, follows, followed, finally-res, shows, Is, lends_ref, ref_back, part_at, mem, part_in_at, part_out_at, param, copied, param_laws, copied_laws, copied_copy, RattleType, owns, MutRef, mut_vals, mut_Tells, plain, named_lft, types_at, MutSlice, nothing, heard, peeks, only, calls_at, calls_at_last, lasts, triple_of, framed, Stays, stay_ref, stay_dropped, walk_of, Goes-ref, Goes-dropped, proved, leaves, owned, row_Makes, lit}
 use Rattle.borrow_laws.proofs.Bodies.{of_copied, first_arm, type_of}
@@ -27,7 +25,7 @@ use Rattle.image_rows.proofs.IterValues.{cells_out}
 use Rattle.image_rows.specs.contracts.writing.RowsIterMut.step as N
 use Rattle.image_rows.proofs.writing.RowsIterMut.step.Met as stepping
 use Rattle.imgref.specs.Spacing.{whole_spacing}
-use Rattle.imgref.specs.Rows.{cells_left, spacing_left, muts_left, rows_name, put_back, hands_on, Yields, Moves}
+use Rattle.imgref.specs.Rows.{AreRows, cells_left, spacing_left, muts_left, rows_name, put_back, hands_on, Yields, Moves}
 use Rattle.imgref.specs.declared.img.Img.{Img}
 use Rattle.imgref.specs.contracts.img.Img.{the_row}
 use Rattle.imgref.specs.contracts.img.Img.rows_mut as M
@@ -77,10 +75,8 @@ cover_last_spec 𝓤 𝓛 𝓜 𝓡 wired X Y LX LY CY gh d gs ds gc dc bm bs bc
     let Sort : Type 0 = RowsIterMut Y.Denot in
     let F : List Y.Denot → Img X.Denot = with_all gs.cells gh.with_cells x.now in
     use1 𝓛 (later (some (λ (r : Sort). ((‵ (flft α qα) ⊛ ‵ (flft κ₁ q₁) ⊛ ‵ (flft κ₂ q₂) ⊛ ‵ ftrue) ⊛ ‵ (Rows.own_val r (v₁ ∷ []))) ⊛ some (λ (ws : Unit {0} × Unit {0}). ‵ (lasts (M.ended X Y gh d gs ds) z₁.0.0 z₁.0.3 ws)
-    ⊛ (‵ (follows Whole (Array (param 1 Y) 0) δ (rows_name r) F) ⊛ raw (fact 𝓤 (cells_left r ≡ old.cells)) ⊛ raw (fact 𝓤 (spacing_left r ≡ whole_spacing old.width old.height old.stride)) ⊛ raw (fact 𝓤 (muts_left r ≡ rows old)) ⊛ raw (fact 𝓤 (muts_left r ≡ grid_rows (grid_of old)))
-    ⊛ raw (fact 𝓤 (length (muts_left r) ≡ row_count old.width old.height)) ⊛ raw (fact 𝓤 (length (muts_left r) < 2 ^ 64)) ⊛ raw (fact 𝓤 (All (λ row. length row ≡ old.width) (muts_left r)))))))) (id⊢ 𝓤 _) $
-    await ! tt $ pick ! (λ r. split ! $ split ! $ move ! (2 ∷ []) $ pick ! (λ ws₁. split ! $ drop ! $ split ! $ move ! (1 ∷ []) $ split ! $ heard ! (cells_left r ≡ old.cells) (λ cells. split ! $ heard ! (spacing_left r ≡ whole_spacing old.width old.height old.stride) (λ spacing.
-    split ! $ drop ! $ split ! $ drop ! $ split ! $ heard ! (length (muts_left r) ≡ row_count old.width old.height) (λ counted. split ! $ drop ! $ heard ! (All (λ row. length row ≡ old.width) (muts_left r)) (λ wide.
+    ⊛ (‵ (follows Whole (Array (param 1 Y) 0) δ (rows_name r) F) ⊛ raw (fact 𝓤 (cells_left r ≡ old.cells)) ⊛ raw (fact 𝓤 (spacing_left r ≡ whole_spacing old.width old.height old.stride)) ⊛ raw (fact 𝓤 (AreRows old (muts_left r)))))))) (id⊢ 𝓤 _) $
+    await ! tt $ pick ! (λ r. split ! $ split ! $ move ! (2 ∷ []) $ pick ! (λ ws₁. split ! $ drop ! $ split ! $ move ! (1 ∷ []) $ split ! $ heard ! (cells_left r ≡ old.cells) (λ cells. split ! $ heard ! (spacing_left r ≡ whole_spacing old.width old.height old.stride) (λ spacing. heard ! (AreRows old (muts_left r)) (λ all.
     -- [what follows; the tokens; the iterator; what is kept; the value]
     let LY₁ = param_laws 1 Y LY in
     let lowers = laws.lowers named_α (param 1 Y) LY₁ in
@@ -167,7 +163,7 @@ cover_last_spec 𝓤 𝓛 𝓜 𝓡 wired X Y LX LY CY gh d gs ds gc dc bm bs bc
     exec ! 𝓣.C 𝓣.Λ E rest (at_ret E Post) $ forget_but ! E (1 ∷ 2 ∷ []) refl $
     -- [how the iterator's cells end; α; κ₂; what follows the row; κ₁; what follows; what is kept; the value]
     rewrite ! 0 (λ (s : Sort). Res (rows_name s) (cells_left t)) at_end refl $
-    rewrite ! 0 (Res (rows_name r)) (none_left old r t value cells spacing counted (subst (λ (m' : Given). Yields Last r m' t) e steps) at_end) refl $
+    rewrite ! 0 (Res (rows_name r)) (none_left old r t value cells spacing all.count (subst (λ (m' : Given). Yields Last r m' t) e steps) at_end) refl $
     move ! (3 ∷ 7 ∷ []) $ drop ! $ drop ! $ tail))
     (λ (found : (y : MutBor (List Y.Denot)) × (m ≡ Some y)). let y : MutBor (List Y.Denot) = found.0 in let e : m ≡ Some y = found.1 in
     let ν : GName = y.ghost_name in let full : List Y.Denot = replicate (length y.now) value in
@@ -199,8 +195,8 @@ cover_last_spec 𝓤 𝓛 𝓜 𝓡 wired X Y LX LY CY gh d gs ds gc dc bm bs bc
     use1 𝓛 (Res ν ws₃.0) (finally-res 𝓛 R ν ws₃.0) $ rewrite ! 0 (Res ν) is_full refl $
     move ! (0 ∷ 6 ∷ []) $ use2 𝓛 (‵ (ends_as A₀ A₀ (rows_name r) (rows_name t) (put_back Last r full))) (ends_beside 𝓛 A₀ A₀ A₀ (rows_name r) ν (rows_name t) (put_back Last r) full) $
     move ! (0 ∷ 5 ∷ []) $ use2 𝓛 (Res (rows_name r) (put_back Last r full (cells_left t))) (ends_said 𝓛 A₀ A₀ (rows_name r) (rows_name t) (put_back Last r full) (cells_left t)) $
-    rewrite ! 0 (Res (rows_name r)) (last_left old r t value cells spacing counted fits wide y (subst (λ (m' : Given). Yields Last r m' t) e steps) (subst (λ (m' : Given). Moves Last r m' t) e moved)) refl $
+    rewrite ! 0 (Res (rows_name r)) (last_left old r t value cells spacing all.count fits all.lengths y (subst (λ (m' : Given). Yields Last r m' t) e steps) (subst (λ (m' : Given). Moves Last r m' t) e moved)) refl $
     -- [how the cells end; the row's length; its borrow; nothing; the tokens; κ₁; what follows; what is kept]
     move ! (1 ∷ 2 ∷ 3 ∷ []) $ drop ! $ drop ! $ drop ! $ move ! (1 ∷ []) $ split3 ! $ move ! (2 ∷ []) $ drop ! $ forget_but ! E (1 ∷ 2 ∷ []) refl $ move ! (2 ∷ 0 ∷ 1 ∷ []) $ tail)))))))
     (none_or_some m)
-    )))))))))))))))))))))))
+    ))))))))))))))))))))))

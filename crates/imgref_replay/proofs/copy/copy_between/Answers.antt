@@ -1,5 +1,5 @@
 -- Within one image it is a move; of two, each part of the list has one.
-use Rattle.std.proofs.Common.{◌≡◌, ◌<◌, get_or, map, set, ap, sym, ◌∙◌, subst, arith}
+use Rattle.std.proofs.Common.{◌≡◌, refl, ◌<◌, get_or, map, set, ap, sym, ◌∙◌, subst, arith}
 use Rattle.image_model.specs.Windows.{IsInside, window_view}
 use Rattle.imgref.specs.Image.{vec_layout}
 use Rattle.imgref.specs.Window.{as_window}
@@ -35,7 +35,7 @@ returns-then-source-target g c =
     let is : old ≡ get_or images i old = ap (get_or images i) c.index-images-target.is in
     let moved = c.move_inside in
     subst (λ j. ShowsCopy i a.to.left a.to.top (window_view (grid_at (grids_of images) j) (as_window a.from)) (map vec_layout images) (map vec_layout (set images i moved.new.self))) (sym c.if-source-target.true)
-    (copied images i i a.to.left a.to.top (as_window a.from) old old moved.new.self r.target r.target is is moved.ensures.grid moved.ensures.outside moved.ensures.fits r.fit)
+    (copied images i i a.to.left a.to.top (as_window a.from) old old moved.new.self (set images i moved.new.self) refl r.target r.target is is moved.ensures.grid moved.ensures.outside moved.ensures.fits r.fit)
 
 -- ---- the image that is read is in front
 
@@ -61,10 +61,8 @@ returns-then-source-target-2 g c =
     let seen = get_or parts.result.0.now a.source c.index-front-source.result in
     let is : old ≡ get_or images a.target old = in_back images _ _ a.target value cut c.index-back-0.result ∙ ap (get_or images a.target) c.index-back-0.is in
     let seen_is : seen ≡ get_or images a.source seen = in_front images _ _ a.target value cut a.source c.index-front-source.result c.if-source-target-2.true ∙ ap (get_or images a.source) c.index-front-source.is in
-    let copy = window_view (grid_at (grids_of images) a.source) (as_window a.from) in
     let over = c.copy_over in
-    subst (λ all. ShowsCopy a.target a.to.left a.to.top copy (map vec_layout images) (map vec_layout all)) (sym (set_back images _ _ a.target value cut over.new.image))
-    (copied images a.target a.source a.to.left a.to.top (as_window a.from) old seen over.new.image r.target r.source is seen_is over.ensures.grid over.ensures.outside over.ensures.fits r.fit)
+    copied images a.target a.source a.to.left a.to.top (as_window a.from) old seen over.new.image _ (set_back images _ _ a.target value cut over.new.image) r.target r.source is seen_is over.ensures.grid over.ensures.outside over.ensures.fits r.fit
 
 -- ---- the image that is written is in front
 
@@ -94,7 +92,5 @@ returns-else-source-target-2 g c =
     let seen = get_or parts.result.1.now 0 read.result in
     let is : old ≡ get_or images a.target old = in_front images _ _ a.source value cut a.target c.index-front-target.result below ∙ ap (get_or images a.target) c.index-front-target.is in
     let seen_is : seen ≡ get_or images a.source seen = in_back images _ _ a.source value cut read.result ∙ ap (get_or images a.source) read.is in
-    let copy = window_view (grid_at (grids_of images) a.source) (as_window a.from) in
     let over = c.copy_over-else-source-target-2 in
-    subst (λ all. ShowsCopy a.target a.to.left a.to.top copy (map vec_layout images) (map vec_layout all)) (sym (set_front images _ _ a.source value cut a.target over.new.image below))
-    (copied images a.target a.source a.to.left a.to.top (as_window a.from) old seen over.new.image r.target r.source is seen_is over.ensures.grid over.ensures.outside over.ensures.fits r.fit)
+    copied images a.target a.source a.to.left a.to.top (as_window a.from) old seen over.new.image _ (set_front images _ _ a.source value cut a.target over.new.image below) r.target r.source is seen_is over.ensures.grid over.ensures.outside over.ensures.fits r.fit

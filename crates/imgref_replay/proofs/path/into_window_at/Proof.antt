@@ -10,17 +10,16 @@ use Rattle.std.specs.declared.result.Result.TheVariants.{Ok, Err}
 use Rattle.borrow_laws.proofs.Walking.{none, SProp, emp, id⊢, Lft, GName, ftrue, flft, fobs, coded_list, Args, Fn, named, inst_fn, Val, vint, vcons, vnil, Env, WpFn, ◌⊑◌, ⊑_refl, ⊑_trans, ⊑_meet, fact, fact_i, tables, Item, ‵, ◌⊛◌, raw, later, some, prop, at_ret, ◌$◌, ◌∵◌, !, qed, by, move, keep, drop, split, split3, join, fsplit, fsplit3, fjoin, fpick, rewrite, regoal, use0, use1, use2, await, pick, updating, now, done, live, vrt, in_variant, all_of, sub, agg, stop, fld, hop, from, addr, of_opd, lit, and_then, no_more, first, exec, returns, enter, alloc_all, pass_all, free_all, look_at, look_in_at, get, get_in, get_tag, sets, sets_last, lands_as, env, name_done, Array, usize, follows, follows_if, heres_id, shows, Is, param, uint_Makes, RattleType, owns, types_at, MutSlice, ShrSlice, slice_val, shr_slice_Tells, nothing, heard, peeks, owned, only, calls_at, lasts, triple_of, framed, Stays, stay_dropped, walk_of, proved_at, leaves}
 use Rattle.borrow_laws.proofs.Bodies.{of_one}
 use Rattle.borrow_laws.proofs.Followed.{if_some, if_none}
-use Rattle.image_model.specs.Grid.{grid_of}
 use Rattle.image_model.specs.Layout.{Layout, Fits, layout}
 use Rattle.image_model.specs.Windows as model
-use Rattle.image_model.specs.Windows.{Stretch, first_outside, path_stretch, path_layout, path_view, stretch_cells, whole, with_stretch}
-use Rattle.image_model.proofs.Paths.{path_has, path_fits, path_grid}
+use Rattle.image_model.specs.Windows.{Stretch, first_outside, path_stretch, stretch_cells, whole, with_stretch}
 use Rattle.imgref.specs.Image.{mut_layout, shape_of}
 use Rattle.imgref.specs.declared.img.Img.{Img}
 use Rattle.imgref.specs.contracts.img.Img.into_parts as parts
 use Rattle.imgref.proofs.img.Img.into_parts.Met as apart
 use Rattle.imgref.specs.Window.{as_path, as_stretch}
-use Rattle.imgref_replay.specs.Path.{BeginsAtCorner, LeadsTo}
+use Rattle.imgref_replay.specs.Path.{IsPathWindow, LeadsTo}
+use Rattle.imgref_replay.proofs.Paths.{path_window_is}
 use Rattle.image_shape.specs.declared.window.Stretch.{Stretch as Run}
 use Rattle.image_shape.specs.declared.shape.Shape.{Shape}
 use Rattle.image_shape.specs.contracts.window.Stretch as stretch
@@ -67,10 +66,7 @@ into_window_at_spec 𝓤 𝓛 𝓜 𝓡 wired T L =
     let FitsIn : Type 0 = Fits li in
     let F : List T.Denot → List T.Denot = with_stretch xs st in
     let Seen : Result (Img (MutBor (List T.Denot))) ℕ → Type 0 = λ r. result_err r ≡ out in
-    let Laid : Result (Img (MutBor (List T.Denot))) ℕ → Type 0 = λ r. IfOk r (λ y. mut_layout y ≡ path_layout li ws) in
-    let Corner : Result (Img (MutBor (List T.Denot))) ℕ → Type 0 = λ r. IfOk r (λ _. BeginsAtCorner li ws) in
-    let Fitting : Result (Img (MutBor (List T.Denot))) ℕ → Type 0 = λ r. IfOk r (λ y. Fits (mut_layout y)) in
-    let Viewed : Result (Img (MutBor (List T.Denot))) ℕ → Type 0 = λ r. IfOk r (λ y. grid_of (mut_layout y) ≡ path_view (grid_of li) ws) in
+    let Found : Result (Img (MutBor (List T.Denot))) ℕ → Type 0 = λ r. IfOk r (λ y. IsPathWindow li ws (mut_layout y)) in
     let alive : κ ⊑ T.lives → κ ⊑ X.lives = λ le. ⊑_meet κ κ T.lives (⊑_refl κ) le in
     let G₁ = triple_of 𝓛 (parts.signature X) (parts.spec X 𝓛 𝓜.mem 𝓡.returns) in
     let z₁ : G₁.Ghost = (((κ, tt), (qs.0, tt), tt, (img, tt), (w ∷ [], tt)), tt) in
@@ -149,10 +145,7 @@ into_window_at_spec 𝓤 𝓛 𝓜 𝓡 wired T L =
                 ⊛ (‵ (follows (Array R 0) (Array R 0) γ r₃.buf.ghost_name (with_stretch xs (as_stretch y.0))) ⊛ raw (fact 𝓤 (Made r₃))))))) (id⊢ 𝓤 _) $
                 await ! tt $ pick ! (λ r₃. split ! $ split ! $ move ! (2 ∷ []) $ pick ! (λ us₃. split ! $ drop ! $ split ! $ move ! (1 ∷ []) $ heard ! (Made r₃) (λ made.
                 -- [what follows; the tokens of κ and κT; the window; the path's token]
-                let laid : Laid (Ok r₃) = made ∙ (λ i. layout (stretch_cells xs (leads.cells i)) (leads.width i) (leads.height i) (leads.stride i)) in
-                let corner : Corner (Ok r₃) = (path_has li ws wide fits (sym all_inside)).begins in
-                let fitting : Fitting (Ok r₃) = subst (λ (u : Layout T.Denot). Fits u) (sym laid) (path_fits li ws wide fits (sym all_inside)) in
-                let viewed : Viewed (Ok r₃) = ap (λ (u : Layout T.Denot). grid_of u) laid ∙ path_grid li ws wide fits (sym all_inside) in
+                let found : Found (Ok r₃) = path_window_is li ws wide fits (sym all_inside) (mut_layout r₃) (made ∙ (λ i. layout (stretch_cells xs (leads.cells i)) (leads.width i) (leads.height i) (leads.stride i))) in
                 move ! (2 ∷ []) $ peeks ! Row (Is Row) (shows 𝓛 Row) r₃ (v₃ ∷ []) (λ is₃. let t = img_told (named 0) κ R r₃ (v₃ ∷ []) is₃ in
                 let w₃ : Val = img_val r₃.buf.ref_ptr (length r₃.buf.now) (shape_of r₃) in
                 rewrite ! 0 (λ (us : List Val). ‵ (Row.own_val r₃ us)) (t.0) refl $
@@ -164,8 +157,7 @@ into_window_at_spec 𝓤 𝓛 𝓜 𝓡 wired T L =
                 use1 𝓛 (‵ ((result.the_row Row usize).own_val (Ok r₃) (live 0 (vcons w₃ vnil) ∷ []))) (ok_made 𝓛 Row r₃ w₃) $ move ! (1 ∷ []) $
                 rewrite ! 0 (λ (u : Stretch). ‵ (follows (Array R 0) (Array R 0) γ r₃.buf.ghost_name (with_stretch xs u))) leads.cells refl $
                 use1 𝓛 (‵ (follows_if (Array R 0) (Array R 0) γ (there r₃.buf.ghost_name) F xs)) (if_some 𝓛 (Array R 0) (Array R 0) γ F xs r₃.buf.ghost_name) $
-                use0 𝓛 (raw (fact 𝓤 (Viewed (Ok r₃)))) (fact_i 𝓤 (Viewed (Ok r₃)) (emp 𝓤) viewed) $ use0 𝓛 (raw (fact 𝓤 (Fitting (Ok r₃)))) (fact_i 𝓤 (Fitting (Ok r₃)) (emp 𝓤) fitting) $ join ! $
-                use0 𝓛 (raw (fact 𝓤 (Corner (Ok r₃)))) (fact_i 𝓤 (Corner (Ok r₃)) (emp 𝓤) corner) $ join ! $ use0 𝓛 (raw (fact 𝓤 (Laid (Ok r₃)))) (fact_i 𝓤 (Laid (Ok r₃)) (emp 𝓤) laid) $ join ! $ use0 𝓛 (raw (fact 𝓤 (Seen (Ok r₃)))) (fact_i 𝓤 (Seen (Ok r₃)) (emp 𝓤) all_inside) $ join ! $ move ! (1 ∷ 0 ∷ []) $ join ! $
+                use0 𝓛 (raw (fact 𝓤 (Found (Ok r₃)))) (fact_i 𝓤 (Found (Ok r₃)) (emp 𝓤) found) $ use0 𝓛 (raw (fact 𝓤 (Seen (Ok r₃)))) (fact_i 𝓤 (Seen (Ok r₃)) (emp 𝓤) all_inside) $ join ! $ move ! (1 ∷ 0 ∷ []) $ join ! $
                 -- [the ensures; the answer; the tokens of κ and κT; the path's token]
                 move ! (3 ∷ []) $ split ! $ move ! (4 ∷ []) $ split ! $ move ! (2 ∷ 1 ∷ []) $ join ! $ move ! (1 ∷ 0 ∷ []) $ join ! $ move ! (1 ∷ []) $ drop ! $
                 nothing ! $ nothing ! $ fjoin ! $ nothing ! $ fjoin ! $ move ! (1 ∷ 0 ∷ 3 ∷ 2 ∷ []) $ by ! (leaves 𝓛 En stays c z (live 0 (vcons w₃ vnil)) (Ok r₃) ((tt, tt), (tt, tt)) (tt, (tt, tt))))))))),
@@ -185,8 +177,7 @@ into_window_at_spec 𝓤 𝓛 𝓜 𝓡 wired T L =
                   sets ! (of_opd ! (get ! refl)) refl (tt, (record { fits = lit< tt }, (record { fits = o.2 }, tt))) $
                   returns ! (look_at ! 0 refl) $ free_all ! refl $
                   use1 𝓛 (‵ (follows_if (Array R 0) (Array R 0) γ none F xs)) (if_none 𝓛 (Array R 0) (Array R 0) γ F xs) $
-                  use0 𝓛 (raw (fact 𝓤 (Viewed (Err k)))) (fact_i 𝓤 (Viewed (Err k)) (emp 𝓤) tt) $ use0 𝓛 (raw (fact 𝓤 (Fitting (Err k)))) (fact_i 𝓤 (Fitting (Err k)) (emp 𝓤) tt) $ join ! $
-                  use0 𝓛 (raw (fact 𝓤 (Corner (Err k)))) (fact_i 𝓤 (Corner (Err k)) (emp 𝓤) tt) $ join ! $ use0 𝓛 (raw (fact 𝓤 (Laid (Err k)))) (fact_i 𝓤 (Laid (Err k)) (emp 𝓤) tt) $ join ! $ use0 𝓛 (raw (fact 𝓤 (Seen (Err k)))) (fact_i 𝓤 (Seen (Err k)) (emp 𝓤) failed) $ join ! $ move ! (1 ∷ 0 ∷ []) $ join ! $
+                  use0 𝓛 (raw (fact 𝓤 (Found (Err k)))) (fact_i 𝓤 (Found (Err k)) (emp 𝓤) tt) $ use0 𝓛 (raw (fact 𝓤 (Seen (Err k)))) (fact_i 𝓤 (Seen (Err k)) (emp 𝓤) failed) $ join ! $ move ! (1 ∷ 0 ∷ []) $ join ! $
                   use0 𝓛 (‵ ((result.the_row Row usize).own_val (Err k) (live 1 (vcons (vint w64 k) vnil) ∷ []))) (err_made 𝓛 Row k (o.2)) $
                   -- [the answer; the ensures; the path's token; the token of κ; the token of κT]
                   move ! (2 ∷ []) $ split ! $ move ! (4 ∷ []) $ split ! $ move ! (2 ∷ 6 ∷ []) $ join ! $ move ! (1 ∷ 0 ∷ []) $ join ! $ move ! (1 ∷ []) $ drop ! $ move ! (1 ∷ []) $ drop ! $

@@ -1,12 +1,10 @@
--- What is left of the image along the path is the path's window, which fits and shows the path's view.
-use Rattle.std.proofs.Common.{rules, ◌≡◌, ◌≤◌, None, sym, ap, ◌∙◌, subst}
-use Rattle.image_model.specs.Grid.{grid_of}
-use Rattle.image_model.specs.Layout.{Fits}
+-- What is left of the image along the path is the path's window.
+use Rattle.std.proofs.Common.{rules, ◌≡◌, ◌≤◌, None, subst}
 use Rattle.image_model.specs.Windows.{first_outside, path_layout}
-use Rattle.image_model.proofs.Paths.{path_has, path_fits, path_grid}
 use Rattle.imgref.specs.Image.{ref_layout}
 use Rattle.imgref.specs.Shape.{shape_width, shape_stride}
 use Rattle.imgref.specs.Window.{as_path}
+use Rattle.imgref_replay.proofs.Paths.{path_window_is}
 use Rattle.imgref_replay.proofs.path.window_at.Goals as goal
 
 pub returns : goal.returns
@@ -16,10 +14,4 @@ returns g c =
     let wide : l.width ≤ l.stride = subst (λ s. shape_width s ≤ shape_stride s) c.into_parts.ensures.shape c.in_ok-stretch.ensures.holds_width in
     let inside : first_outside l.width l.height path ≡ None = search rules in
     let is : ref_layout c.from_parts.result ≡ path_layout l path = search rules in
-    record {
-      outside = search rules;
-      layout = search rules;
-      corner = (path_has l path wide c.requires.fits inside).begins;
-      fits = subst (λ out. Fits out) (sym is) (path_fits l path wide c.requires.fits inside);
-      view = ap grid_of is ∙ path_grid l path wide c.requires.fits inside;
-    }
+    record { outside = search rules; window = path_window_is l path wide c.requires.fits inside (ref_layout c.from_parts.result) is }

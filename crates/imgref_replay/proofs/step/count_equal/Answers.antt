@@ -9,4 +9,4 @@ pub returns : goal.returns
 returns g c =
     let test : g.row.T.Denot → Bool = λ pixel. g.T.PartialEq.eq pixel c.args.value in
     let folded : c.fold.result ≡ fold (step test) 0 (pixels (ref_layout c.args.image)) = search rules in
-    folded ∙ counted test (pixels (ref_layout c.args.image)) 0 (omega (arith, c.pixels.ensures.countable, ap length c.pixels.ensures.pixels))
+    folded ∙ counted test (pixels (ref_layout c.args.image)) 0 (omega (arith, c.pixels.ensures.whole.countable, ap length c.pixels.ensures.whole.pixels))

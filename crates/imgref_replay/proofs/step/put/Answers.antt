@@ -14,7 +14,7 @@ put-requires g c =
     let is = ap (get_or images i) c.index-images-spot.is in
     let found = c.in_ok-column.ensures in
     let inside = place_at images i _ _ _ found.image is (found.place.column_inside, found.place.row_inside) in
-    record { fits = fits_at images i _ found.image is c.requires; column = inside.0; line = inside.1 }
+    record { fits = fits_at images i _ found.image is c.requires; column = inside.0; row = inside.1 }
 
 pub returns : goal.returns
 unfolding uniform

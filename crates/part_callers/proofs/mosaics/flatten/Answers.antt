@@ -19,4 +19,4 @@ returns-clause-grid g c =
     let is : mut_layout tile ≡ l = λ k. shaped (made.buf k).now (made.shape k) in
     let first : pixel l 0 0 ≡ Some value = subst (λ (v : Layout g.row.T.Denot). pixel v 0 0 ≡ Some value) is c.index-pixel.ensures in
     let ends : mut_layout left ≡ shaped (buf_of left).now c.args.shape = ap (λ (i : Img (MutBor (List g.row.T.Denot))). layout (buf_of left).now (width_of i) (height_of i) (stride_of i)) c.fill.ensures.container ∙ ap (shaped (buf_of left).now) made.shape in
-    ap (λ (cells : List g.row.T.Denot). grid_of (shaped cells c.args.shape)) (search rules) ∙ sym (ap (λ (v : Layout g.row.T.Denot). grid_of v) ends) ∙ c.fill.ensures.grid ∙ one_value l (width_of tile) (height_of tile) value first c.requires.wide c.requires.high made.width made.height
+    ap (λ (cells : List g.row.T.Denot). grid_of (shaped cells c.args.shape)) (search rules) ∙ sym (ap (λ (v : Layout g.row.T.Denot). grid_of v) ends) ∙ c.fill.ensures.grid ∙ one_value l (width_of tile) (height_of tile) value first c.requires.width_positive c.requires.height_positive made.width made.height

@@ -21,5 +21,5 @@ returns-clause-grid g c =
     ap (λ (j : Img (MutBor (List g.row.T.Denot))). grid_of (mut_layout j)) c.into_img.ensures
     ∙ c.flatten_rest.ensures.grid
     ∙ ap (λ (j : Img (MutBor (List g.row.T.Denot))). all_flattened (grid_of (mut_layout j)) (windows_left (tiling_of made.result))) made.ensures.image
-    ∙ ap (all_flattened (grid_of (mut_layout i))) (sym (all_left made.result fits) ∙ made.ensures.left)
+    ∙ ap (all_flattened (grid_of (mut_layout i))) (sym (all_left made.result fits) ∙ made.ensures.rest)
     ∙ mosaic_is (width_of i) (height_of i) c.args.tile_width c.args.tile_height c.requires.tile_width c.requires.tile_height (pixel (mut_layout i))

@@ -11,9 +11,8 @@ use Rattle.borrow_laws.proofs.Walking.{SProp, emp, id⊢, Lft, GName, ftrue, flf
 use Rattle.borrow_laws.proofs.Bodies.{of_container, first_arm, type_of}
 use Rattle.borrow_laws.proofs.Followed.{if_given}
 use Rattle.image_model.specs.Layout.{Layout, Fits}
-use Rattle.image_model.specs.Grid.{grid_of}
 use Rattle.image_model.specs.Windows as model
-use Rattle.image_model.specs.Windows.{first_outside, path_stretch, path_layout, path_view, whole, with_stretch}
+use Rattle.image_model.specs.Windows.{first_outside, path_stretch, path_layout, whole, with_stretch}
 use Rattle.image_shape.specs.declared.shape.Shape.{Shape}
 use Rattle.imgref.specs.Image.{with_all, layout_by, mut_layout, shape_of}
 use Rattle.imgref.proofs.ImageValues.{img_row, img_told, LentCells, lent_cells_laws, ImgParts, img_parts_told}
@@ -27,7 +26,7 @@ use Rattle.imgref.specs.Window.{as_path}
 use Rattle.image_shape.specs.declared.window.Window.{Window}
 use Rattle.image_shape.specs.contracts.window.Window as window
 use Rattle.image_tiles.proofs.BandValues.{band_val, band_ok}
-use Rattle.imgref_replay.specs.Path.{BeginsAtCorner, window_name}
+use Rattle.imgref_replay.specs.Path.{IsPathWindow, window_name}
 use Rattle.imgref_replay.specs.contracts.into_window_at as f
 use Rattle.imgref_replay.proofs.into_window_at.Met as finding
 use Rattle.part_callers.specs.Paths.{IsNested}
@@ -105,15 +104,14 @@ parts_at_spec 𝓤 𝓛 𝓜 𝓡 wired X Y LX LY gh d gs ds bm bs =
     calls_at ! fm G₂ (finding.met 𝓤 𝓛 𝓜 𝓡 (compiled.calls-imgref_replay::into_window_at 𝓡.env wired) Y LY) z₂ (and_then ! (get ! refl) (and_then ! (get ! refl) (no_more !))) (λ v₂.
     let lr : Layout Y.Denot = mut_layout r in
     let Seen : Given → Type 0 = λ m. result_err m ≡ first_outside lr.width lr.height ws in
-    let Laid : Given → Type 0 = λ m. IfOk m (λ y. mut_layout y ≡ path_layout lr ws) in
+    let Found : Given → Type 0 = λ m. IfOk m (λ y. IsPathWindow lr ws (mut_layout y)) in
     use1 𝓛 (later (some (λ (m : Given). (Tok₂ ⊛ ‵ (Ans.own_val m (v₂ ∷ []))) ⊛ some (λ (us₂ : (Unit {0} × Unit {0}) × (Unit {0} × Unit {0})). ‵ (lasts (f.ended Y) z₂.0.0 z₂.0.3 us₂)
-    ⊛ (‵ (follows_if A₀ A₀ r.buf.ghost_name (window_name m) (G lr) r.buf.now) ⊛ raw (fact 𝓤 (Seen m)) ⊛ raw (fact 𝓤 (Laid m)) ⊛ raw (fact 𝓤 (IfOk m (λ _. BeginsAtCorner lr ws)))
-    ⊛ raw (fact 𝓤 (IfOk m (λ y. Fits (mut_layout y)))) ⊛ raw (fact 𝓤 (IfOk m (λ y. grid_of (mut_layout y) ≡ path_view (grid_of lr) ws)))))))) (id⊢ 𝓤 _) $
-    await ! tt $ pick ! (λ m. split ! $ split ! $ move ! (2 ∷ []) $ pick ! (λ us₂. split ! $ drop ! $ split ! $ move ! (1 ∷ []) $ split ! $ heard ! (Seen m) (λ seen. split ! $ heard ! (Laid m) (λ laid. drop ! $
+    ⊛ (‵ (follows_if A₀ A₀ r.buf.ghost_name (window_name m) (G lr) r.buf.now) ⊛ raw (fact 𝓤 (Seen m)) ⊛ raw (fact 𝓤 (Found m))))))) (id⊢ 𝓤 _) $
+    await ! tt $ pick ! (λ m. split ! $ split ! $ move ! (2 ∷ []) $ pick ! (λ us₂. split ! $ drop ! $ split ! $ move ! (1 ∷ []) $ split ! $ heard ! (Seen m) (λ seen. heard ! (Found m) (λ is_found.
     -- [what the whole image follows; the tokens; the window, if the path is inside; the token of κX; what the image follows]
     ⊎_elim
     (λ (found : (y : Tile) × (m ≡ Ok y)). let y : Tile = found.0 in let e : m ≡ Ok y = found.1 in
-    let is_path : mut_layout y ≡ path_layout li ws = subst Laid e laid ∙ ap (λ (k : Layout Y.Denot). path_layout k ws) all in
+    let is_path : mut_layout y ≡ path_layout li ws = (subst Found e is_found).layout ∙ ap (λ (k : Layout Y.Denot). path_layout k ws) all in
     rewrite ! 0 (λ (m' : Given). ‵ (follows_if A₀ A₀ r.buf.ghost_name (window_name m') (G lr) r.buf.now)) e refl $ use1 𝓛 (‵ (follows A₀ A₀ r.buf.ghost_name y.buf.ghost_name (G lr))) (if_given 𝓛 A₀ A₀ r.buf.ghost_name y.buf.ghost_name (G lr) r.buf.now) $
     move ! (4 ∷ 0 ∷ []) $ use2 𝓛 (‵ (follows Whole A₀ γ y.buf.ghost_name (λ others. F (G lr others)))) (follows_then 𝓛 Whole A₀ A₀ F (G lr) γ r.buf.ghost_name y.buf.ghost_name) $
     rewrite ! 0 (λ (k : Layout Y.Denot). ‵ (follows Whole A₀ γ y.buf.ghost_name (λ others. F (G k others)))) all refl $

@@ -18,7 +18,7 @@ returns-clause-grid g c =
     let width : ℕ = path_width (width_of c.args.image.now) path in
     let height : ℕ = path_height (height_of c.args.image.now) path in
     let across : x + 1 ≤ width = omega (arith, c.requires.column) in
-    let down : y + 1 ≤ height = omega (arith, c.requires.line) in
+    let down : y + 1 ≤ height = omega (arith, c.requires.row) in
     window.grid c.put_pixel.new.cells c.put_pixel.ensures.outside
     ∙ ap (patch all (corner_left path) (corner_top path)) (c.put_pixel.ensures.grid ∙ ap (λ (v : Grid g.row.C-Item.Denot). patch v x y (uniform 1 1 c.args.value)) window.shows)
     ∙ fill_in_view all (corner_left path) (corner_top path) width height x y 1 1 c.args.value across down

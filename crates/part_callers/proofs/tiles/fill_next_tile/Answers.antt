@@ -19,7 +19,7 @@ returns-clause-grid g c =
 pub returns-clause-fits : goal.returns-clause-fits
 returns-clause-fits g c = c.tile_parts-cells.ensures.tile.still_fits c.fill.new.cells c.fill.ensures.outside
 
-pub returns-clause-left : goal.returns-clause-left
-returns-clause-left g c =
+pub returns-clause-rest : goal.returns-clause-rest
+returns-clause-rest g c =
     c.tile_parts-cells.ensures.tile.first
     ∙ ap (λ (ws : List Window). tile_now (tiling_of c.args.tiles.now) ∷ ws) (sym (cond-true _ _ _ ((is_fitting_decides _).1 (returns-clause-fits g c))))

@@ -8,7 +8,7 @@ pub returns-clause-stays : goal.returns-clause-stays
 unfolding refs_left
 returns-clause-stays g c =
     let s = c.args.self.now in
-    let reaches : s.rows_left * (s.pad + s.width) ≤ length s.cells.cells = omega (arith, s.reaches, c.requires.over) in
+    let reaches : s.rows_left * (s.pad + s.width) ≤ length s.cells.cells = omega (arith, s.reaches, c.requires.row_ended) in
     ap (λ xs. pick (marks s.width (s.rows_left - 1) s.width s.pad) xs) c.take.ensures.rest
     ∙ pick_entered s.rows_left s.width s.pad s.cells.cells c.requires.some reaches
-    ∙ ap (λ n. pick (marks n s.rows_left s.width s.pad) s.cells.cells) (sym c.requires.over)
+    ∙ ap (λ n. pick (marks n s.rows_left s.width s.pad) s.cells.cells) (sym c.requires.row_ended)

@@ -12,5 +12,4 @@ returns g c =
     let cells = c.args.cells.now in
     let shape = c.args.shape in
     let are = ap (λ s. rows (layout cells s.width s.count s.stride)) c.whole-spacing.ensures.value ∙ rows_counted cells (shape_width shape) (shape_stride shape) (shape_height shape) in
-    let all = are_rows (shaped cells shape) _ are c.whole-spacing.ensures.small c.requires.fits in
-    record { rows = are; grid = all.0; count = all.1; countable = all.2; wide = all.3 }
+    record { whole = are_rows (shaped cells shape) _ are c.whole-spacing.ensures.small c.requires.fits }

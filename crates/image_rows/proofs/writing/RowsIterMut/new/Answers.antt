@@ -12,5 +12,4 @@ returns g c =
     let cells = c.args.cells.now in
     let shape = c.args.shape in
     let are = ap (λ s. rows (layout (drop s.skip cells) s.width s.count s.stride)) c.whole.ensures.value ∙ rows_counted cells (shape_width shape) (shape_stride shape) (shape_height shape) in
-    let all = are_rows (shaped cells shape) _ are c.whole.ensures.small c.requires.fits in
-    record { name = refl; cells = refl; spacing = c.whole.ensures.value; rows = are; grid = all.0; count = all.1; countable = all.2; wide = all.3 }
+    record { name = refl; cells = refl; spacing = c.whole.ensures.value; whole = are_rows (shaped cells shape) _ are c.whole.ensures.small c.requires.fits }

@@ -1,10 +1,8 @@
 -- `exact_pixels_mut` makes a cursor over all cells, under the name by which the image's cells were lent. Assumes `Logic`.
-use Rattle.std.proofs.Common.{◌≡◌, refl, sym, ap, ◌∙◌, subst, ℕ, ◌*◌, ◌<◌, ◌^◌, List, [], ◌∷◌, ◌++◌, length, MutBor}
+use Rattle.std.proofs.Common.{◌≡◌, refl, sym, ap, ◌∙◌, subst, ℕ, ◌<◌, ◌^◌, List, [], ◌∷◌, ◌++◌, length, MutBor}
 use Rattle.borrow_laws.proofs.Walking.{Lft, GName, ftrue, flft, SProp, emp, id⊢, Args, Fn, named, inst_fn, Val, vptr, vstruct, vcons, vnil, of_list, WpFn, ◌⊑◌, fact, fact_i, tables, Item, ‵, ◌⊛◌, raw, later, some, prop, ◌$◌, ◌∵◌, !, qed, by, move, keep, drop, split, split3, join, fsplit, fjoin, fpick, rewrite, regoal, use0, use1, use2, await, pick, whole, sub, agg, stop, fld, hop, from, addr, of_opd, and_then, no_more, returns, enter, alloc_all, pass_all, free_all, look_at, look_in_at, get, get_in, through, sets, lands_as, Array, follows, shows, Is, param, param_laws, RattleType, owns, MutRef, mut_vals, mut_Tells, plain, named_lft, types_at, MutSlice, slice_val, nothing, heard, peeks, only, Tuple, calls_at, lasts, triple_of, framed, Stays, stay_dropped, walk_of, Goes-spent_ref, proved_at, leaves}
 use Rattle.borrow_laws.proofs.Bodies.{of_container}
 use Rattle.image_model.specs.Layout.{Layout, Fits}
-use Rattle.image_model.specs.Grid.{grid_of}
-use Rattle.image_model.specs.Rows.{pixels, grid_pixels}
 use Rattle.image_shape.specs.declared.shape.Shape.{Shape}
 use Rattle.image_shape.specs.contracts.shape.Shape as shape
 use Rattle.image_shape.specs.Shape.{shaped}
@@ -114,9 +112,7 @@ exact_pixels_mut_spec 𝓤 𝓛 𝓜 𝓡 wired X Y LX LY gh d gs ds bm bs =
     move ! (2 ∷ []) $ rewrite ! 0 (λ (γ : GName). ‵ (follows Whole (Array R 0) x.ghost_name γ F)) (sym name) refl $ move ! (1 ∷ []) $
     -- [the tokens; what follows; the cursor]
     returns ! (look_at ! 0 refl) $ free_all ! refl $
-    let are : ArePixels old (muts_left r) = subst (λ l. Whole₂ l r) is_old whole in
-    use0 𝓛 (raw (fact 𝓤 (length (muts_left r) < 2 ^ 64))) (fact_i 𝓤 (length (muts_left r) < 2 ^ 64) (emp 𝓤) are.countable) $ use0 𝓛 (raw (fact 𝓤 (length (muts_left r) ≡ old.width * old.height))) (fact_i 𝓤 (length (muts_left r) ≡ old.width * old.height) (emp 𝓤) are.count) $ join ! $
-    use0 𝓛 (raw (fact 𝓤 (muts_left r ≡ grid_pixels (grid_of old)))) (fact_i 𝓤 (muts_left r ≡ grid_pixels (grid_of old)) (emp 𝓤) are.grid) $ join ! $ use0 𝓛 (raw (fact 𝓤 (muts_left r ≡ pixels old))) (fact_i 𝓤 (muts_left r ≡ pixels old) (emp 𝓤) are.pixels) $ join ! $
+    use0 𝓛 (raw (fact 𝓤 (Whole₂ old r))) (fact_i 𝓤 (Whole₂ old r) (emp 𝓤) (subst (λ l. Whole₂ l r) is_old whole)) $
     use0 𝓛 (raw (fact 𝓤 (Marks old r))) (fact_i 𝓤 (Marks old r) (emp 𝓤) (subst (λ l. Marks l r) is_old marks)) $ join ! $ use0 𝓛 (raw (fact 𝓤 (Cells old r))) (fact_i 𝓤 (Cells old r) (emp 𝓤) full) $ join ! $
     -- [the plain clauses; the tokens; what follows; the cursor]
     move ! (2 ∷ 0 ∷ []) $ join ! $ nothing ! $ nothing ! $ fjoin ! $

@@ -1,12 +1,10 @@
 -- `pixels_mut` makes the cursor of `exact_pixels_mut`, which goes on under a name of the whole image. Assumes `Logic`.
-use Rattle.std.proofs.Common.{◌≡◌, refl, sym, ap, ◌∙◌, subst, ◌*◌, ◌<◌, ◌^◌, List, [], ◌∷◌, ◌++◌, length, MutBor}
+use Rattle.std.proofs.Common.{◌≡◌, refl, sym, ap, ◌∙◌, subst, List, [], ◌∷◌, ◌++◌, length, MutBor}
 use Rattle.borrow_laws.proofs.Walking.{Lft, GName, ftrue, flft, SProp, emp, id⊢, Args, Fn, named, inst_fn, Val, vptr, WpFn, ◌⊑◌, fact, fact_i, tables, ‵, ◌⊛◌, raw, later, some, prop, ◌$◌, ◌∵◌, !, qed, by, move, keep, drop, split, split3, join, fsplit, fjoin, rewrite, regoal, use0, use1, use2, await, pick, stop, addr, and_then, no_more, returns, enter, alloc_all, pass_all, free_all, look_at, get, through, sets, lands_as, Array, follows, follows_then, shows, Is, param, param_laws, RattleType, owns, MutRef, mut_vals, mut_Tells, plain, named_lft, types_at, nothing, heard, peeks, only, calls_at, lasts, triple_of, framed, Stays, stay_dropped, walk_of, Goes-spent_ref, proved_at, leaves}
 use Rattle.borrow_laws.proofs.Bodies.{of_container}
 use Rattle.image_model.specs.Layout.{Layout, Fits}
-use Rattle.image_model.specs.Grid.{grid_of}
-use Rattle.image_model.specs.Rows.{pixels, grid_pixels}
 use Rattle.image_pixels.specs.Marks.{marks_of}
-use Rattle.image_pixels.specs.Pixels.{cells_left, marks_left, muts_left, pixels_name}
+use Rattle.image_pixels.specs.Pixels.{ArePixels, cells_left, marks_left, muts_left, pixels_name}
 use Rattle.image_pixels.specs.declared.pixels_mut.PixelsIterMut.{PixelsIterMut}
 use Rattle.image_pixels.specs.contracts.pixels_mut.PixelsIterMut as P
 use Rattle.image_pixels.proofs.pixels_mut.PixelsIterMut.TheLaws as laws
@@ -53,12 +51,11 @@ pixels_mut_spec 𝓤 𝓛 𝓜 𝓡 wired X Y LX LY gh d gs ds bm bs =
     let F : List Y.Denot → Img X.Denot = with_all gs.cells gh.with_cells x.now in
     let Sort : Type 0 = PixelsIterMut Y.Denot in
     let Cells : Sort → Type 0 = λ r. cells_left r ≡ old.cells in let Marks : Sort → Type 0 = λ r. marks_left r ≡ marks_of old.width old.height old.stride in
-    let Pixels : Sort → Type 0 = λ r. muts_left r ≡ pixels old in let Grid : Sort → Type 0 = λ r. muts_left r ≡ grid_pixels (grid_of old) in
-    let Count : Sort → Type 0 = λ r. length (muts_left r) ≡ old.width * old.height in let Countable : Sort → Type 0 = λ r. length (muts_left r) < 2 ^ 64 in
+    let All_pixels : Sort → Type 0 = λ r. ArePixels old (muts_left r) in
     use1 𝓛 (later (some (λ (r : Sort). ((‵ (flft κ qs.0) ⊛ ‵ (flft κX qs.1.0) ⊛ ‵ (flft κY qs.1.1.0) ⊛ ‵ ftrue) ⊛ ‵ (cursor.own_val r (v ∷ []))) ⊛ some (λ (us : Unit {0} × Unit {0}). ‵ (lasts (f.ended X Y gh d gs ds) z₁.0.0 z₁.0.3 us)
-    ⊛ (‵ (follows Whole (Array R 0) x.ghost_name (pixels_name r) F) ⊛ raw (fact 𝓤 (Cells r)) ⊛ raw (fact 𝓤 (Marks r)) ⊛ raw (fact 𝓤 (Pixels r)) ⊛ raw (fact 𝓤 (Grid r)) ⊛ raw (fact 𝓤 (Count r)) ⊛ raw (fact 𝓤 (Countable r))))))) (id⊢ 𝓤 _) $
+    ⊛ (‵ (follows Whole (Array R 0) x.ghost_name (pixels_name r) F) ⊛ raw (fact 𝓤 (Cells r)) ⊛ raw (fact 𝓤 (Marks r)) ⊛ raw (fact 𝓤 (All_pixels r))))))) (id⊢ 𝓤 _) $
     await ! tt $ pick ! (λ r. split ! $ split ! $ move ! (2 ∷ []) $ pick ! (λ us. split ! $ drop ! $
-    split ! $ move ! (1 ∷ []) $ split ! $ heard ! (Cells r) (λ full. split ! $ heard ! (Marks r) (λ marks. split ! $ heard ! (Pixels r) (λ are_pixels. split ! $ heard ! (Grid r) (λ grid. split ! $ heard ! (Count r) (λ count. heard ! (Countable r) (λ countable.
+    split ! $ move ! (1 ∷ []) $ split ! $ heard ! (Cells r) (λ full. split ! $ heard ! (Marks r) (λ marks. heard ! (All_pixels r) (λ all.
     -- [what follows; the tokens; the cursor]
     move ! (2 ∷ []) $ peeks ! cursor (Is cursor) (shows 𝓛 cursor) r (v ∷ []) (λ is.
     let word : Val = laws.lowered α R (param_laws 1 Y LY) r in
@@ -83,12 +80,10 @@ pixels_mut_spec 𝓤 𝓛 𝓜 𝓡 wired X Y LX LY gh d gs ds bm bs =
     -- [the tokens; what follows; the cursor]
     returns ! (look_at ! 0 refl) $ free_all ! refl $
     let Fitting : Type 0 = AnyCellsFit gs.cells gh.with_cells x.now in let As_long : Type 0 = KeepsCount gs.cells gh.with_cells x.now in
-    use0 𝓛 (raw (fact 𝓤 (Countable r'))) (fact_i 𝓤 (Countable r') (emp 𝓤) countable) $ use0 𝓛 (raw (fact 𝓤 (Count r'))) (fact_i 𝓤 (Count r') (emp 𝓤) count) $ join ! $
-    use0 𝓛 (raw (fact 𝓤 (Grid r'))) (fact_i 𝓤 (Grid r') (emp 𝓤) grid) $ join ! $ use0 𝓛 (raw (fact 𝓤 (Pixels r'))) (fact_i 𝓤 (Pixels r') (emp 𝓤) are_pixels) $ join ! $
-    use0 𝓛 (raw (fact 𝓤 (Marks r'))) (fact_i 𝓤 (Marks r') (emp 𝓤) marks) $ join ! $ use0 𝓛 (raw (fact 𝓤 (Cells r'))) (fact_i 𝓤 (Cells r') (emp 𝓤) full) $ join ! $
+    use0 𝓛 (raw (fact 𝓤 (All_pixels r'))) (fact_i 𝓤 (All_pixels r') (emp 𝓤) all) $ use0 𝓛 (raw (fact 𝓤 (Marks r'))) (fact_i 𝓤 (Marks r') (emp 𝓤) marks) $ join ! $ use0 𝓛 (raw (fact 𝓤 (Cells r'))) (fact_i 𝓤 (Cells r') (emp 𝓤) full) $ join ! $
     use0 𝓛 (raw (fact 𝓤 Fitting)) (fact_i 𝓤 Fitting (emp 𝓤) (any_cells_fit gs.cells gh.with_cells bm.others_stay x.now fits)) $ join ! $
     use0 𝓛 (raw (fact 𝓤 As_long)) (fact_i 𝓤 As_long (emp 𝓤) (keeps_count gs.cells gh.with_cells bm.others_stay x.now)) $ join ! $
     -- [the plain clauses; the tokens; what follows; the cursor]
     move ! (2 ∷ 0 ∷ []) $ join ! $ nothing ! $ nothing ! $ fjoin ! $
     -- [the reference; the ensures; the tokens; the cursor]
-    move ! (2 ∷ 0 ∷ 3 ∷ 1 ∷ []) $ by ! (leaves 𝓛 En stays c z word r' (tt, tt) (tt, tt))))))))))))))))))
+    move ! (2 ∷ 0 ∷ 3 ∷ 1 ∷ []) $ by ! (leaves 𝓛 En stays c z word r' (tt, tt) (tt, tt)))))))))))))))

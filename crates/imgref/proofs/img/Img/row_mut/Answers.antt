@@ -12,20 +12,18 @@ pub returns : goal.returns
 unfolding with_row
 returns g c =
     let i = c.args.self.now in
-    let cells = g.C.AsSlice.cells in
-    let with_cells = g.C.AsMutSlice.with_cells in
-    let stay = g.met.C.AsMutSlice.others_stay in
+    let l = layout_by g.C.AsSlice.cells i in
     let row = c.any_row-row.result in
-    let start : row.start ≡ row_start (layout_by cells i) c.args.y = rw (c.any_row-row.ensures.start, c.shape.ensures) refl in
+    let start : row.start ≡ row_start l c.args.y = rw (c.any_row-row.ensures.start, c.shape.ensures) refl in
     let len : row.len ≡ width_of i = rw (c.any_row-row.ensures.len, c.shape.ensures) refl in
-    let value = c.stretch_mut.ensures.value ∙ (λ k. take (len k) (drop (start k) (cells i.buf))) in (
+    let value = c.stretch_mut.ensures.value ∙ (λ k. take (len k) (drop (start k) l.cells)) in (
       (refl, λ w. rw (start, len) (same_image _ _ _ _ _ _ _ _)),
       record {
         writes_back = tt;
-        value = value ∙ row_is (layout_by cells i) c.args.y c.requires.fits c.requires.below;
-        len = ap length c.stretch_mut.ensures.value ∙ length-stretch_cells (cells i.buf) (record { start = row.start; len = row.len }) (omega (arith, c.any_row-row.ensures.inside, ap length c.as_slice.ensures)) ∙ len;
-        grid = row_patches cells with_cells stay i c.args.y c.requires.fits c.requires.below i.holds_width;
-        outside = row_keeps cells with_cells stay i c.args.y c.requires.fits c.requires.below;
-        fits = row_fits cells with_cells stay i c.args.y c.requires.fits c.requires.below;
+        value = value ∙ row_is l c.args.y c.requires.fits c.requires.row;
+        len = ap length c.stretch_mut.ensures.value ∙ length-stretch_cells l.cells (record { start = row.start; len = row.len }) (omega (arith, c.any_row-row.ensures.inside, ap length c.as_slice.ensures)) ∙ len;
+        grid = row_patches _ _ g.met.C.AsMutSlice.others_stay i c.args.y c.requires.fits c.requires.row i.holds_width;
+        outside = row_keeps _ _ g.met.C.AsMutSlice.others_stay i c.args.y c.requires.fits c.requires.row;
+        fits = row_fits _ _ g.met.C.AsMutSlice.others_stay i c.args.y c.requires.fits c.requires.row;
       },
     )
