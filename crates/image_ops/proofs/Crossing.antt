@@ -12,7 +12,8 @@ use Rattle.image_model.proofs.Stretches.{length-with_stretch, with_stretch_at, w
 use Rattle.image_model.proofs.Grids.{pixel_at, same_grids}
 use Rattle.image_shape.specs.declared.shape.Shape.{Shape}
 use Rattle.image_ops.specs.Gathered.{AreGathered, from_end, mirrored_place}
-use Rattle.image_ops.proofs.RowsWritten.{RowsDone, still}
+use Rattle.image_ops.proofs.CellByCell.{one_set}
+use Rattle.image_ops.proofs.RowsWritten.{RowsDone, RowRange, cell_of_row}
 
 -- ---- cell by cell
 
@@ -26,13 +27,7 @@ pub gathered_more : {T : Type 0} (from : ℕ → ℕ) (source old new : List T) 
     → slice_get source (from n) ≡ Some value → GatheredTo from source old (set new n value) (n + 1)
 gathered_more from source old new n value so within there = record {
   as_many = length-set new n value ∙ so.as_many;
-  each = λ k below.
-      elim (cases_lt k n) [
-        | inl earlier ↦ slice_get-set_other new n k value (λ e. absurd (omega (arith, e, earlier))) ∙ so.each k earlier
-        | inr last ↦
-            let this : n ≡ k = omega (arith, below, last) in
-            ap (slice_get (set new n value)) (sym this) ∙ slice_get-set_same new n value (omega (arith, within, so.as_many)) ∙ sym there ∙ ap (λ m. slice_get source (from m)) this
-      ];
+  each = one_set (λ k p. p ≡ slice_get source (from k)) new n value (omega (arith, within, so.as_many)) so.each (sym there);
 }
 
 -- ---- cells that change places with those at the same distance from the other end
@@ -150,23 +145,15 @@ module _ {T : Type 0} (old : List T) (done n last : ℕ) (inside : 2 * done + n 
 
 -- ---- rows of which each cell is taken from the same row
 
--- the cell of a row that is still to be written
-pub cell_in_row : {T : Type 0} (IsRight : ℕ → ℕ → Option T → Type 0) (old now : List T) (s : Shape) (y : ℕ) (from upto x : ℕ)
-    → RowsDone IsRight old now s y → from ≡ y * s.stride → upto ≡ from + s.width → x < s.width
-    → slice_get (take (upto - from) (drop from now)) x ≡ slice_get old (y * s.stride + x)
-cell_in_row IsRight old now s y from upto x so begins ends column =
-    let inside : x < upto - from = omega (arith, column, ends) in
-    slice_get-take (upto - from) (drop from now) x inside ∙ slice_get-drop from now x ∙ ap (λ n. slice_get now (n + x)) begins ∙ still IsRight old now s y so x column
-
 -- each pixel of a row comes from another of that row
 abbrev pub FromRow : {T : Type 0} → (ℕ → ℕ) → List T → Shape → ℕ → ℕ → Option T → Type 0
 FromRow from old s x y p = p ≡ slice_get old (y * s.stride + from x)
 
 pub row_from : {T : Type 0} (from : ℕ → ℕ) (old now line : List T) (s : Shape) (y : ℕ) (first upto : ℕ) → RowsDone (FromRow from old s) old now s y
-    → first ≡ y * s.stride → upto ≡ first + s.width → length line ≡ s.width → AreGathered from (take (upto - first) (drop first now)) line
-    → ((x : ℕ) → x < s.width → from x < s.width) → (x : ℕ) → x < s.width → FromRow from old s x y (slice_get line x)
-row_from from old now line s y first upto so begins ends long made within x column =
-    made.each x (omega (arith, column, long)) ∙ cell_in_row (FromRow from old s) old now s y first upto (from x) so begins ends (within x column)
+    → RowRange s y first upto → AreGathered from (take (upto - first) (drop first now)) line
+    → ((x : ℕ) → x < s.width → from x < s.width) → (x : ℕ) → x < s.width → x < length line → FromRow from old s x y (slice_get line x)
+row_from from old now line s y first upto so at made within x column here =
+    made.each x here ∙ cell_of_row (FromRow from old s) old now s y so first upto (from x) at (within x column)
 
 -- the grid of such a table of cells
 pub from_rows : {T : Type 0} (from : ℕ → ℕ) (l : Layout T) → ((x : ℕ) → x < l.width → from x < l.width)

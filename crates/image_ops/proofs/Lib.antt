@@ -17,3 +17,5 @@ pub mod Diagonals
 pub mod Parts
 pub mod PixelSpreading
 pub mod Patterns
+pub mod Turned
+pub mod CellByCell

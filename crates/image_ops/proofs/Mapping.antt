@@ -1,10 +1,9 @@
 -- Cells and rows that a closure changes one after the other.
-use Rattle.std.proofs.Common.{◌≡◌, ℕ, ◌+◌, ◌-◌, ◌*◌, ◌<◌, ◌≤◌, List, length, take, drop, Option, Some, ap, ◌∙◌, arith}
+use Rattle.std.proofs.Common.{◌≡◌, ℕ, ◌+◌, ◌-◌, ◌*◌, ◌<◌, ◌≤◌, List, length, take, drop, Option, Some, ◌∙◌}
 use Rattle.std.specs.List.{slice_get}
-use Rattle.image_model.proofs.Cells.{slice_get-take, slice_get-drop}
 use Rattle.image_shape.specs.declared.shape.Shape.{Shape}
 use Rattle.image_ops.specs.Mapping.{AreAnswers}
-use Rattle.image_ops.proofs.RowsWritten.{RowsDone, still}
+use Rattle.image_ops.proofs.RowsWritten.{RowsDone, RowRange, cell_of_row}
 
 -- the first n cells are answers at the old ones, and the others are as before
 pub record AnsweredUpto {T : Type 0} (answers : T → T → Type 0) (old new : List T) (n : ℕ) : Type 0 where
@@ -18,11 +17,8 @@ IsAnswer {T} answers old s x y new = (p q : T) → slice_get old (y * s + x) ≡
 
 -- the answers at the cells of a row are answers at its places
 pub row_answers : {T : Type 0} (answers : T → T → Type 0) (old now line : List T) (s : Shape) (y : ℕ) (from upto x : ℕ)
-    → RowsDone (IsAnswer answers old s.stride) old now s y → from ≡ y * s.stride → upto ≡ from + s.width → x < s.width
+    → RowsDone (IsAnswer answers old s.stride) old now s y → RowRange s y from upto → x < s.width
     → AreAnswers answers (take (upto - from) (drop from now)) line
     → IsAnswer answers old s.stride x y (slice_get line x)
-row_answers answers old now line s y from upto x so begins ends column made p q was is =
-    let inside : x < upto - from = omega (arith, column, ends) in
-    made.each x p q
-    (slice_get-take (upto - from) (drop from now) x inside ∙ slice_get-drop from now x ∙ ap (λ n. slice_get now (n + x)) begins ∙ still (IsAnswer answers old s.stride) old now s y so x column ∙ was)
-    is
+row_answers answers old now line s y from upto x so at column made p q was is =
+    made.each x p q (cell_of_row _ old now s y so from upto x at column ∙ was) is

@@ -1,6 +1,5 @@
 -- An image that becomes its mosaic row by row.
-use Rattle.std.proofs.Common.{◌≡◌, ℕ, ◌+◌, ◌-◌, ◌*◌, ◌%◌, ◌<◌, List, ◌++◌, length, take, drop, Option, sym, ap, ◌∙◌, arith, ap₂}
-use Rattle.std.specs.List.{slice_get}
+use Rattle.std.proofs.Common.{◌≡◌, ℕ, ◌+◌, ◌-◌, ◌*◌, ◌%◌, ◌<◌, List, ◌++◌, take, drop, Option, sym, ap, ◌∙◌, arith, ap₂}
 use Rattle.image_model.specs.Layout.{Fits, pixel}
 use Rattle.image_model.specs.Grid.{Grid, grid, grid_of}
 use Rattle.image_model.specs.Rows.{row_count}
@@ -9,9 +8,8 @@ use Rattle.image_model.specs.Tiles.{tile_start}
 use Rattle.image_shape.specs.Shape.{shaped, shaped_grid}
 use Rattle.image_shape.specs.declared.shape.Shape.{Shape}
 use Rattle.image_shape.specs.declared.window.Stretch as part
-use Rattle.image_model.proofs.Cells.{slice_get-take, slice_get-drop}
 use Rattle.image_model.proofs.Grids.{same_grids, at_place, pixel_at}
-use Rattle.image_ops.proofs.RowsWritten.{RowsDone, still, row_length, row_written, row_copied, shows_table}
+use Rattle.image_ops.proofs.RowsWritten.{RowsDone, RowRange, cell_of_row, row_written, row_copied, shows_table}
 use Rattle.image_ops.specs.Mosaic.{mosaic, mosaic_by, shown_column, IsSpreadBy}
 use Rattle.image_ops.proofs.Corners.{own_start, start_before}
 use Rattle.image_ops.proofs.Parts.{of_one_cell, of_one_pixel, shown_before}
@@ -40,18 +38,14 @@ module _ {T : Type 0} (old : List T) (s : Shape) (size tw th : ℕ) where
 
   module _ (now : List T) (y : ℕ) (so : Shown now y) (fits : Fits (shaped old s)) (below : y < row_count s.width s.height) where
     -- with the first row of a tile spread
-    pub row_spread : (from upto : ℕ) (begins : from ≡ y * s.stride) (ends : upto ≡ from + s.width) (line : List T) → y % th ≡ 0
+    pub row_spread : (from upto : ℕ) (at : RowRange s y from upto) (line : List T) → y % th ≡ 0
         → IsSpreadBy size tw (take (upto - from) (drop from now)) line → Shown (take from now ++ (line ++ drop (upto - from) (drop from now))) (y + 1)
-    row_spread from upto begins ends line first spread =
-        let many : length (take (upto - from) (drop from now)) ≡ s.width = row_length _ old now s y so fits below from upto begins ends in
+    row_spread from upto at line first spread =
         let own : y ≡ tile_start th y = omega (arith, first) in
-        row_written _ old now s y so fits below from upto begins ends line (spread.as_many ∙ many)
-        (λ x column.
-        spread.each x (omega (arith, column, many))
-        ∙ slice_get-take (upto - from) (drop from now) (shown_column size tw x) (omega (arith, column, ends, shown_before size tw x))
-        ∙ slice_get-drop from now (shown_column size tw x)
-        ∙ ap (λ n. slice_get now (n + shown_column size tw x)) begins
-        ∙ still _ old now s y so (shown_column size tw x) (omega (arith, column, shown_before size tw x))
+        row_written _ old now s y so fits below from upto at line spread.as_many
+        (λ x column here.
+        spread.each x (omega (arith, here, spread.as_many))
+        ∙ cell_of_row _ old now s y so from upto (shown_column size tw x) at (omega (arith, column, shown_before size tw x))
         ∙ ap (in_row x) own)
 
     -- with another row of it copied from the row above

@@ -1,14 +1,13 @@
 -- A row that gets a pattern again and again, from left to right.
-use Rattle.std.proofs.Common.{◌≡◌, ℕ, ◌+◌, ◌-◌, ◌%◌, ◌<◌, ◌≤◌, inl, inr, List, length, set, Some, get_or, refl, sym, ap, ◌∙◌, arith}
+use Rattle.std.proofs.Common.{◌≡◌, ℕ, ◌+◌, ◌-◌, ◌%◌, ◌<◌, ◌≤◌, List, length, set, Some, get_or, refl, sym, ap, ◌∙◌, arith}
 use Rattle.std.specs.List.{slice_get}
-use Rattle.std.proofs.lemmas.Bool.{cases_lt}
 use Rattle.std.proofs.lemmas.List.{length-set}
 use Rattle.std.proofs.lemmas.Option.{slice_get-get_or}
 use Rattle.std.proofs.Math.Nat.{mod-eq_of_lt}
 use Rattle.image_model.specs.Grid.{uniform}
 use Rattle.image_model.proofs.Grids.{same_grids}
-use Rattle.image_model.proofs.Cells.{slice_get-set_same, slice_get-set_other}
 use Rattle.image_ops.specs.Repeated.{repeated, IsRepeated}
+use Rattle.image_ops.proofs.CellByCell.{one_set}
 use Rattle.image_ops.proofs.Parts.{place_before}
 
 -- the cells before number x have the pattern
@@ -28,13 +27,7 @@ module _ {T : Type 0} (pattern old : List T) (some : 0 < length pattern) where
     more : Some value ≡ slice_get pattern (x % length pattern) → RepeatedUpto pattern old (set now x value) (x + 1)
     more is = record {
       as_many = length-set now x value ∙ so.as_many;
-      each = λ k upto.
-          elim (cases_lt k x) [
-            | inl before ↦ slice_get-set_other now x k value (λ e. omega (arith, e, before)) ∙ so.each k before
-            | inr last ↦
-                let this : k ≡ x = omega (arith, upto, last) in
-                ap (slice_get (set now x value)) this ∙ slice_get-set_same now x value (omega (arith, here, so.as_many)) ∙ is ∙ ap (λ n. slice_get pattern (n % length pattern)) (sym this)
-          ];
+      each = one_set (λ k p. p ≡ slice_get pattern (k % length pattern)) now x value (omega (arith, here, so.as_many)) so.each is;
     }
 
     -- of the pattern itself

@@ -6,8 +6,9 @@ use Rattle.std.proofs.lemmas.List.{length-set}
 use Rattle.std.proofs.lemmas.Option.{slice_get-get_or}
 use Rattle.std.proofs.Math.Nat.{add-mul}
 use Rattle.image_model.specs.Tiles.{tile_start}
-use Rattle.image_model.proofs.Cells.{slice_get-set_same, slice_get-set_other}
+use Rattle.image_model.proofs.Cells.{slice_get-set_other}
 use Rattle.image_ops.specs.Mosaic.{shown_column, IsSpread, IsSpreadBy}
+use Rattle.image_ops.proofs.CellByCell.{one_set}
 use Rattle.image_ops.proofs.Corners.{first_start, next_start}
 use Rattle.image_ops.proofs.Parts.{of_one_cell, of_one_pixel, shows_itself, shows_before}
 
@@ -89,18 +90,12 @@ module _ {T : Type 0} (size tile : ℕ) (some : 0 < size) (wide : 0 < tile) (old
     pub other_pixel : (value : T) → corner + size ≤ x → x < corner + tile * size → x < length old → value ≡ get_or now (x - size) value → SpreadByUpto size tile old (set now x value) corner (x + 1)
     other_pixel value after below here is = record {
       as_many = length-set now x value ∙ so.as_many;
-      each = λ k upto.
-          elim (cases_lt k x) [
-            | inl before ↦ slice_get-set_other now x k value (λ e. omega (arith, e, before)) ∙ so.each k before
-            | inr last ↦
-                let this : k ≡ x = omega (arith, upto, last) in
-                ap (slice_get (set now x value)) this
-                ∙ slice_get-set_same now x value (omega (arith, here, so.as_many))
-                ∙ ap Some is
-                ∙ sym (slice_get-get_or now (x - size) value (omega (arith, here, so.as_many)))
-                ∙ so.each (x - size) (omega (arith, some, after))
-                ∙ ap (slice_get old) (shows_before size tile so.pixel x some so.starts (omega (arith, so.at, so.from)) (omega (arith, so.at, after)) (omega (arith, so.at, below)) ∙ ap (shown_column size tile) (sym this))
-          ];
+      each =
+          one_set (λ k p. p ≡ slice_get old (shown_column size tile k)) now x value (omega (arith, here, so.as_many)) so.each
+          (ap Some is
+          ∙ sym (slice_get-get_or now (x - size) value (omega (arith, here, so.as_many)))
+          ∙ so.each (x - size) (omega (arith, some, after))
+          ∙ ap (slice_get old) (shows_before size tile so.pixel x some so.starts (omega (arith, so.at, so.from)) (omega (arith, so.at, after)) (omega (arith, so.at, below))));
       others = λ k above. slice_get-set_other now x k value (λ e. omega (arith, e, above)) ∙ so.others k (omega (arith, above));
       pixel = so.pixel;
       starts = so.starts;

@@ -1,11 +1,11 @@
 -- Cells and rows that a closure changes one after the other, by their numbers and places.
-use Rattle.std.proofs.Common.{◌≡◌, ℕ, ◌+◌, ◌-◌, ◌*◌, ◌<◌, ◌≤◌, List, length, set, take, drop, Option, Some, sym, ap, subst, ◌∙◌, arith, length-set, inl, inr}
+use Rattle.std.proofs.Common.{◌≡◌, ℕ, ◌+◌, ◌-◌, ◌*◌, ◌<◌, ◌≤◌, List, length, set, take, drop, Option, Some, subst, ◌∙◌, arith, length-set}
 use Rattle.std.specs.List.{slice_get}
-use Rattle.std.proofs.lemmas.Bool.{cases_lt}
-use Rattle.image_model.proofs.Cells.{slice_get-take, slice_get-drop, slice_get-set_same, slice_get-set_other}
+use Rattle.image_model.proofs.Cells.{slice_get-set_other}
 use Rattle.image_shape.specs.declared.shape.Shape.{Shape}
 use Rattle.image_ops.specs.CellAnswers.{AreAnswersAt}
-use Rattle.image_ops.proofs.RowsWritten.{RowsDone, still}
+use Rattle.image_ops.proofs.CellByCell.{one_set}
+use Rattle.image_ops.proofs.RowsWritten.{RowsDone, RowRange, cell_of_row}
 
 -- the first n cells are answers, and the others are as before
 pub record AnsweredTo {T : Type 0} (answers : ℕ → T → T → Type 0) (old new : List T) (n : ℕ) : Type 0 where
@@ -17,21 +17,13 @@ pub record AnsweredTo {T : Type 0} (answers : ℕ → T → T → Type 0) (old n
 abbrev pub IsAnswerAt : {T : Type 0} → (ℕ → ℕ → T → T → Type 0) → List T → ℕ → ℕ → ℕ → Option T → Type 0
 IsAnswerAt {T} answers old s x y new = (p q : T) → slice_get old (y * s + x) ≡ Some p → new ≡ Some q → answers x y p q
 
--- what a cell of a row is, while the rows above are written
-pub cell_of_row : {T : Type 0} (answers : ℕ → ℕ → T → T → Type 0) (old now : List T) (s : Shape) (y : ℕ) (from upto x : ℕ)
-    → RowsDone (IsAnswerAt answers old s.stride) old now s y → from ≡ y * s.stride → upto ≡ from + s.width → x < s.width
-    → slice_get (take (upto - from) (drop from now)) x ≡ slice_get old (y * s.stride + x)
-cell_of_row answers old now s y from upto x so begins ends column =
-    let inside : x < upto - from = omega (arith, column, ends) in
-    slice_get-take (upto - from) (drop from now) x inside ∙ slice_get-drop from now x ∙ ap (λ n. slice_get now (n + x)) begins ∙ still (IsAnswerAt answers old s.stride) old now s y so x column
-
 -- the answers at the cells of a row are answers at its places
 pub row_answers_at : {T : Type 0} (answers : ℕ → ℕ → T → T → Type 0) (old now line : List T) (s : Shape) (y : ℕ) (from upto x : ℕ)
-    → RowsDone (IsAnswerAt answers old s.stride) old now s y → from ≡ y * s.stride → upto ≡ from + s.width → x < s.width
+    → RowsDone (IsAnswerAt answers old s.stride) old now s y → RowRange s y from upto → x < s.width
     → AreAnswersAt (λ k. answers k y) (take (upto - from) (drop from now)) line
     → IsAnswerAt answers old s.stride x y (slice_get line x)
-row_answers_at answers old now line s y from upto x so begins ends column made p q was is =
-    made.each x p q (cell_of_row answers old now s y from upto x so begins ends column ∙ was) is
+row_answers_at answers old now line s y from upto x so at column made p q was is =
+    made.each x p q (cell_of_row _ old now s y so from upto x at column ∙ was) is
 
 -- one cell more
 pub answered_more : {T : Type 0} (answers : ℕ → T → T → Type 0) (old now : List T) (n : ℕ) (value : T) → AnsweredTo answers old now n → n < length old
@@ -39,13 +31,7 @@ pub answered_more : {T : Type 0} (answers : ℕ → T → T → Type 0) (old now
 answered_more {T} answers old now n value so within made = record {
   as_many = length-set now n value ∙ so.as_many;
   each = λ k p q below was is.
-      elim (cases_lt k n) [
-        | inl earlier ↦ so.each k p q earlier was (sym (slice_get-set_other now n k value (λ e. absurd (omega (arith, e, earlier)))) ∙ is)
-        | inr last ↦
-            let this : n ≡ k = omega (arith, below, last) in
-            let same : Some value ≡ Some q = sym (slice_get-set_same now n value (omega (arith, within, so.as_many))) ∙ ap (slice_get (set now n value)) this ∙ is in
-            let is_value : value ≡ q = cc same in
-            subst (λ m. answers m p q) this (subst (answers n p) is_value (made p (ap (slice_get old) this ∙ was)))
-      ];
+      one_set (λ j new. (p' q' : T) → slice_get old j ≡ Some p' → new ≡ Some q' → answers j p' q') now n value (omega (arith, within, so.as_many))
+      (λ j earlier p' q'. so.each j p' q' earlier) (λ p' q' was' is'. let same : value ≡ q' = cc is' in subst (answers n p') same (made p' was')) k below p q was is;
   others = λ k above. slice_get-set_other now n k value (λ e. absurd (omega (arith, e, above))) ∙ so.others k (omega arith);
 }

@@ -24,6 +24,15 @@ filled_more (suc n) value (x ∷ xs) within =
     let on : suc n + 1 ≡ suc (n + 1) = omega arith in
     ap (λ ys. value ∷ ys) (filled_more n value xs (omega (arith, within))) ∙ ap (λ k. replicate k value ++ drop k (x ∷ xs)) (sym on)
 
+-- the numbers of the cells of row y
+pub record RowRange (s : Shape) (y from upto : ℕ) : Type 0 where
+  pub begins : from ≡ y * s.stride
+  pub ends : upto ≡ from + s.width
+
+-- a range that a row gives
+pub row_range : (s : Shape) (y : ℕ) {from upto start len : ℕ} → from ≡ start → upto ≡ start + len → start ≡ y * s.stride → len ≡ s.width → RowRange s y from upto
+row_range s y first last begins count = record { begins = first ∙ begins; ends = omega (arith, first, last, count) }
+
 -- each place of the first y rows has a pixel that is right there, and all other cells are as before
 pub record RowsDone {T : Type 0} (IsRight : ℕ → ℕ → Option T → Type 0) (old new : List T) (s : Shape) (y : ℕ) : Type 0 where
   pub as_many : length new ≡ length old
@@ -44,6 +53,11 @@ module _ {T : Type 0} (IsRight : ℕ → ℕ → Option T → Type 0) (old now :
             let next : (j + 1) * s.stride ≤ y * s.stride = mul-le-mul_right s.stride (omega arith) in
             absurd (omega (arith, next, at, inside, s.holds_width));
       })
+
+  -- so is each of the cells that a range of row y has
+  pub cell_of_row : (from upto x : ℕ) → RowRange s y from upto → x < s.width → slice_get (take (upto - from) (drop from now)) x ≡ slice_get old (y * s.stride + x)
+  cell_of_row from upto x at column =
+      slice_get-take (upto - from) (drop from now) x (omega (arith, column, at.ends)) ∙ slice_get-drop from now x ∙ ap (λ n. slice_get now (n + x)) at.begins ∙ still x column
 
   module _ (fits : Fits (shaped old s)) (below : y < row_count s.width s.height) where
     -- one row more
@@ -78,22 +92,20 @@ module _ {T : Type 0} (IsRight : ℕ → ℕ → Option T → Type 0) (old now :
         }
 
     -- the cells of the row, which a loop writes over
-    module _ (from upto : ℕ) (begins : from ≡ y * s.stride) (ends : upto ≡ from + s.width) where
-      abbrev pub row_cells : List T
-      row_cells = take (upto - from) (drop from now)
-
+    module _ (from upto : ℕ) (at : RowRange s y from upto) where
       -- are as many as a row has
-      pub row_length : length row_cells ≡ s.width
+      pub row_length : length (take (upto - from) (drop from now)) ≡ s.width
       row_length =
-          omega (arith, begins, ends, row_reached (length old) s.width s.height s.stride y fits below, so.as_many, length-take (upto - from) (drop from now), length-drop from now)
+          omega (arith, at.begins, at.ends, row_reached (length old) s.width s.height s.stride y fits below, so.as_many, length-take (upto - from) (drop from now), length-drop from now)
 
       -- one row more, of the cells that a loop leaves: those before the row, the row, and those after it
-      pub row_written : (line : List T) → length line ≡ s.width → ((x : ℕ) → x < s.width → IsRight x y (slice_get line x))
+      pub row_written : (line : List T) → length line ≡ length (take (upto - from) (drop from now)) → ((x : ℕ) → x < s.width → x < length line → IsRight x y (slice_get line x))
           → RowsDone IsRight old (take from now ++ (line ++ drop (upto - from) (drop from now))) s (y + 1)
-      row_written line long right =
-          let back : upto - from ≡ s.width = omega (arith, ends) in
-          let rest : drop (upto - from) (drop from now) ≡ drop (y * s.stride + s.width) now = ap (λ n. drop n (drop from now)) back ∙ drop-drop s.width from now ∙ ap (λ n. drop (n + s.width) now) begins in
-          subst (λ cells. RowsDone IsRight old cells s (y + 1)) (λ i. take (sym begins i) now ++ (line ++ sym rest i)) (one_row_more line long right)
+      row_written line as_many right =
+          let long : length line ≡ s.width = as_many ∙ row_length in
+          let back : upto - from ≡ s.width = omega (arith, at.ends) in
+          let rest : drop (upto - from) (drop from now) ≡ drop (y * s.stride + s.width) now = ap (λ n. drop n (drop from now)) back ∙ drop-drop s.width from now ∙ ap (λ n. drop (n + s.width) now) at.begins in
+          subst (λ cells. RowsDone IsRight old cells s (y + 1)) (λ i. take (sym at.begins i) now ++ (line ++ sym rest i)) (one_row_more line long (λ x column. right x column (omega (arith, column, long))))
 
   module _ (all : y ≡ row_count s.width s.height) where
     -- all rows are written, and what is outside the places stays

@@ -5,9 +5,10 @@ use Rattle.std.proofs.lemmas.Bool.{cases_lt}
 use Rattle.std.proofs.lemmas.List.{length-set, length-replicate}
 use Rattle.image_model.specs.Tiles.{tile_start}
 use Rattle.image_model.specs.Windows.{Stretch, with_stretch}
-use Rattle.image_model.proofs.Cells.{slice_get-set_same, slice_get-set_other, slice_get-replicate}
+use Rattle.image_model.proofs.Cells.{slice_get-set_other, slice_get-replicate}
 use Rattle.image_model.proofs.Stretches.{length-with_stretch, with_stretch_at, with_stretch_beside}
 use Rattle.image_ops.specs.Mosaic.{IsSpread}
+use Rattle.image_ops.proofs.CellByCell.{one_set}
 use Rattle.image_ops.proofs.Corners.{first_start, start_of, next_start}
 
 -- the cells before number x are spread, and those from it on are as before; a tile begins at the corner, which shows the pixel
@@ -51,16 +52,9 @@ module _ {T : Type 0} (tile : ℕ) (some : 0 < tile) (old : List T) where
     pub one_cell_more : x < corner + tile → x < length old → SpreadUpto tile old (set now x pixel) corner (x + 1)
     one_cell_more inside here = record {
       as_many = length-set now x pixel ∙ so.as_many;
-      each = λ k upto.
-          elim (cases_lt k x) [
-            | inl before ↦ slice_get-set_other now x k pixel (λ e. omega (arith, e, before)) ∙ so.each k before
-            | inr last ↦
-                let this : k ≡ x = omega (arith, upto, last) in
-                ap (slice_get (set now x pixel)) this
-                ∙ slice_get-set_same now x pixel (omega (arith, here, so.as_many))
-                ∙ sym shows
-                ∙ ap (slice_get old) (sym (start_of tile corner some (so.starts (omega (arith, here, so.from))) k (omega (arith, last, so.from)) (omega (arith, upto, inside))))
-          ];
+      each =
+          one_set (λ k p. p ≡ slice_get old (tile_start tile k)) now x pixel (omega (arith, here, so.as_many)) so.each
+          (sym shows ∙ ap (slice_get old) (sym (start_of tile corner some (so.starts (omega (arith, here, so.from))) x so.from inside)));
       others = λ k above. slice_get-set_other now x k pixel (λ e. omega (arith, e, above)) ∙ so.others k (omega (arith, above));
       starts = so.starts;
       from = omega (arith, so.from);

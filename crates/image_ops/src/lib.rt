@@ -41,9 +41,7 @@ pub use places::{map_places, zip_pixels};
 pub use repeating::repeat_pixels;
 pub use squares::{transpose_square, turn_in_place};
 pub use swapping::swap_rows;
-pub use turning::{
-    Turn, transpose_pixels, turn_half_pixels, turn_left_pixels, turn_pixels, turn_right_pixels,
-};
+pub use turning::{Turn, transpose_pixels, turn_pixels};
 pub use windows::{
     copy_window, fill_window, mosaic_window, mosaic_window_by, padded_part, padded_stretch_mut,
     repeat_window,

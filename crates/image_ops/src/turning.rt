@@ -64,66 +64,6 @@ pub fn transpose_pixels<T: Copy>(cells: &mut [T], shape: Shape, source: &[T], so
     }
 }
 
-/// The same, with the source turned clockwise by a quarter: its first row becomes the last column.
-pub fn turn_right_pixels<T: Copy>(cells: &mut [T], shape: Shape, source: &[T], source_shape: Shape)
-    requires fits { Fits (shaped cells.old shape) }
-    requires source_fits { Fits (shaped source.now source_shape) }
-    requires columns { shape_width shape ≡ shape_height source_shape }
-    requires lines { shape_height shape ≡ shape_width source_shape }
-    ensures grid { shaped_grid cells.new shape ≡ turned_right (shaped_grid source.now source_shape) }
-    ensures outside { SameOutside (shaped cells.old shape) (shaped cells.new shape) }
-{
-    for y in 0..shape.row_count() {
-        let row = shape.row(cells.len(), y);
-        let last = source_shape.row(source.len(), source_shape.height() - 1);
-        gather_back(
-            &mut cells[row.range()],
-            source,
-            last.start + y,
-            source_shape.stride(),
-        );
-    }
-}
-
-/// The same, with the source turned by three quarters: its first row becomes the first column, from
-/// the bottom.
-pub fn turn_left_pixels<T: Copy>(cells: &mut [T], shape: Shape, source: &[T], source_shape: Shape)
-    requires fits { Fits (shaped cells.old shape) }
-    requires source_fits { Fits (shaped source.now source_shape) }
-    requires columns { shape_width shape ≡ shape_height source_shape }
-    requires lines { shape_height shape ≡ shape_width source_shape }
-    ensures grid { shaped_grid cells.new shape ≡ turned_left (shaped_grid source.now source_shape) }
-    ensures outside { SameOutside (shaped cells.old shape) (shaped cells.new shape) }
-{
-    for y in 0..shape.row_count() {
-        let row = shape.row(cells.len(), y);
-        let column = source_shape.width() - 1 - y;
-        gather(
-            &mut cells[row.range()],
-            source,
-            column,
-            source_shape.stride(),
-        );
-    }
-}
-
-/// The same, with the source turned by a half: its first row becomes the last one, from right to
-/// left. Both have the same size.
-pub fn turn_half_pixels<T: Copy>(cells: &mut [T], shape: Shape, source: &[T], source_shape: Shape)
-    requires fits { Fits (shaped cells.old shape) }
-    requires source_fits { Fits (shaped source.now source_shape) }
-    requires columns { shape_width shape ≡ shape_width source_shape }
-    requires lines { shape_height shape ≡ shape_height source_shape }
-    ensures grid { shaped_grid cells.new shape ≡ turned_half (shaped_grid source.now source_shape) }
-    ensures outside { SameOutside (shaped cells.old shape) (shaped cells.new shape) }
-{
-    for y in 0..shape.row_count() {
-        let place = shape.row(cells.len(), y);
-        let from = row(source, source_shape, source_shape.height() - 1 - y);
-        copy_back(&mut cells[place.range()], from);
-    }
-}
-
 /// A turn of an image, clockwise.
 #[derive(Clone, Copy, PartialEq, Eq)]
 pub enum Turn {
@@ -153,9 +93,22 @@ pub fn turn_pixels<T: Copy>(
     ensures grid { shaped_grid cells.new shape ≡ turned turn (shaped_grid source.now source_shape) }
     ensures outside { SameOutside (shaped cells.old shape) (shaped cells.new shape) }
 {
-    match turn {
-        Turn::Right => turn_right_pixels(cells, shape, source, source_shape),
-        Turn::Half => turn_half_pixels(cells, shape, source, source_shape),
-        Turn::Left => turn_left_pixels(cells, shape, source, source_shape),
+    for y in 0..shape.row_count() {
+        let place = shape.row(cells.len(), y);
+        let target = &mut cells[place.range()];
+        match turn {
+            Turn::Right => {
+                let last = source_shape.row(source.len(), source_shape.height() - 1);
+                gather_back(target, source, last.start + y, source_shape.stride());
+            }
+            Turn::Half => {
+                let from = row(source, source_shape, source_shape.height() - 1 - y);
+                copy_back(target, from);
+            }
+            Turn::Left => {
+                let column = source_shape.width() - 1 - y;
+                gather(target, source, column, source_shape.stride());
+            }
+        }
     }
 }

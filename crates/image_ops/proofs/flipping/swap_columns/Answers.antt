@@ -1,24 +1,18 @@
 -- The rows so far have changed, and nothing else.
-use Rattle.std.proofs.Common.{◌≡◌, ℕ, ◌+◌, ◌<◌, ◌∙◌, arith}
+use Rattle.std.proofs.Common.{◌∙◌, arith}
 use Rattle.image_model.specs.Grid.{grid_of}
-use Rattle.image_model.specs.Rows.{row_count}
 use Rattle.image_model.specs.Turns.{swapped_column, columns_swapped}
 use Rattle.image_shape.specs.Shape.{shaped}
-use Rattle.image_ops.proofs.Crossing.{FromRow, row_from, from_rows, swapped_within}
-use Rattle.image_ops.proofs.RowsWritten.{row_written, row_length, shows_table}
+use Rattle.image_ops.proofs.Crossing.{row_from, from_rows, swapped_within}
+use Rattle.image_ops.proofs.RowsWritten.{row_range, row_written, shows_table}
 use Rattle.image_ops.proofs.flipping.swap_columns.Goals as goal
 
 pub loop-y-preserved : goal.loop-y-preserved
 loop-y-preserved g c =
-    let from : ℕ → ℕ = swapped_column c.args.x c.args.z in
     let made = c.swap_cells in
-    let row = c.range in
-    let begins = row.ensures.start ∙ c.row-row.ensures.start in
-    let ends : row.result.end ≡ row.result.start + c.args.shape.width = omega (arith, row.ensures.start, row.ensures.end, c.row-row.ensures.len) in
-    let below : c.loop-y.y < row_count c.args.shape.width c.args.shape.height = omega (arith, c.row_count-y-end.ensures.value) in
-    let long = row_length (FromRow from c.args.cells.now c.args.shape) c.args.cells.now c.loop-y.cells c.args.shape c.loop-y.y c.loop-y.invariant c.requires.fits below row.result.start row.result.end begins ends in
-    row_written (FromRow from c.args.cells.now c.args.shape) _ _ c.args.shape c.loop-y.y c.loop-y.invariant c.requires.fits below row.result.start row.result.end begins ends made.new.row (made.ensures.as_many ∙ long)
-    (row_from from _ _ made.new.row c.args.shape c.loop-y.y row.result.start row.result.end c.loop-y.invariant begins ends (made.ensures.as_many ∙ long) made.ensures.swapped (λ x column. swapped_within c.args.x c.args.z x c.args.shape.width c.requires.first c.requires.second column))
+    let at = row_range c.args.shape c.loop-y.y c.range.ensures.start c.range.ensures.end c.row-row.ensures.start c.row-row.ensures.len in
+    row_written _ _ _ c.args.shape c.loop-y.y c.loop-y.invariant c.requires.fits (omega (arith, c.row_count-y-end.ensures.value)) _ _ at made.new.row made.ensures.as_many
+    (row_from (swapped_column c.args.x c.args.z) _ _ made.new.row c.args.shape c.loop-y.y _ _ c.loop-y.invariant at made.ensures.swapped (λ x column. swapped_within c.args.x c.args.z x c.args.shape.width c.requires.first c.requires.second column))
 
 pub returns-clause-grid : goal.returns-clause-grid
 unfolding grid_of columns_swapped

@@ -1,35 +1,22 @@
 -- The rows so far are answers, and nothing else has changed.
-use Rattle.std.proofs.Common.{◌≡◌, ◌+◌, ◌<◌, ◌∙◌, arith}
-use Rattle.image_model.specs.Rows.{row_count}
+use Rattle.std.proofs.Common.{arith, rules}
 use Rattle.image_shape.specs.Shape.{shaped}
 use Rattle.image_model.proofs.Mapped.{is_mapped}
 use Rattle.image_ops.proofs.Mapping.{row_answers}
-use Rattle.image_ops.proofs.RowsWritten.{no_row, row_written, row_length, all_right, outside_stays}
+use Rattle.image_ops.proofs.RowsWritten.{row_range, row_written, all_right}
 use Rattle.image_ops.proofs.map.map_pixels.Goals as goal
-
-pub loop-y-init : goal.loop-y-init
-loop-y-init g c = no_row _ c.args.cells.now c.args.shape
 
 pub loop-y-preserved : goal.loop-y-preserved
 loop-y-preserved g c =
     let made = c.map_cells in
-    let row = c.range in
-    let begins = row.ensures.start ∙ c.row-row.ensures.start in
-    let ends : row.result.end ≡ row.result.start + c.args.shape.width = omega (arith, row.ensures.start, row.ensures.end, c.row-row.ensures.len) in
-    let below : c.loop-y.y < row_count c.args.shape.width c.args.shape.height = omega (arith, c.row_count-y-end.ensures.value) in
-    let long = row_length _ _ _ c.args.shape c.loop-y.y c.loop-y.invariant c.requires.fits below row.result.start row.result.end begins ends in
-    row_written _ _ _ c.args.shape c.loop-y.y c.loop-y.invariant c.requires.fits below row.result.start row.result.end begins ends made.new.cells (made.ensures.as_many ∙ long)
-    (λ x column. row_answers (goal.F-post g c.args.f.now) _ _ made.new.cells c.args.shape c.loop-y.y row.result.start row.result.end x c.loop-y.invariant begins ends column made.ensures)
+    let at = row_range c.args.shape c.loop-y.y c.range.ensures.start c.range.ensures.end c.row-row.ensures.start c.row-row.ensures.len in
+    row_written _ _ _ c.args.shape c.loop-y.y c.loop-y.invariant c.requires.fits (omega (arith, c.row_count-y-end.ensures.value)) _ _ at made.new.cells made.ensures.as_many
+    (λ x column here. row_answers (goal.F-post g c.args.f.now) _ _ made.new.cells c.args.shape c.loop-y.y _ _ x c.loop-y.invariant at column made.ensures)
 
 pub returns-clause-answers : goal.returns-clause-answers
 returns-clause-answers g c = λ x j p q column line was is.
     all_right _ _ _ c.args.shape c.loop-y.y c.loop-y.invariant (omega (arith, c.row_count-y-end.ensures.value)) x j column line p q was is
 
-pub returns-clause-outside : goal.returns-clause-outside
-returns-clause-outside g c = outside_stays _ _ _ c.args.shape c.loop-y.y c.loop-y.invariant (omega (arith, c.row_count-y-end.ensures.value))
-
 pub returns-clause-grid : goal.returns-clause-grid
 returns-clause-grid g c =
-    let old = shaped c.args.cells.now c.args.shape in
-    let new = shaped c.loop-y.cells c.args.shape in
-    is_mapped _ old new c.requires.fits (returns-clause-outside g c) (returns-clause-answers g c)
+    is_mapped _ (shaped c.args.cells.now c.args.shape) (shaped c.loop-y.cells c.args.shape) c.requires.fits (search rules) (returns-clause-answers g c)

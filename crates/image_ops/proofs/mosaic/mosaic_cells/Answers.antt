@@ -5,6 +5,7 @@ use Rattle.image_model.specs.Grid.{grid_of}
 use Rattle.image_model.specs.Rows.{row_count}
 use Rattle.image_shape.specs.Shape.{shaped}
 use Rattle.image_ops.specs.Mosaic.{mosaic_by}
+use Rattle.image_ops.proofs.RowsWritten.{row_range}
 use Rattle.image_ops.proofs.Mosaics.{of_single_tiles, row_spread, row_repeated, mosaic_shown}
 use Rattle.image_ops.proofs.mosaic.mosaic_cells.Goals as goal
 
@@ -27,8 +28,7 @@ loop-y-preserved g c =
     let below : y < row_count s.width s.height = omega (arith, c.row_count-y-end.ensures.value, c.loop-y-test.true) in
     elim c.if-y-tile_height-eq0.branch [
       | goal.then-y-tile_height-eq0 w ↦
-          let cut = w.range in
-          rw w.cells-is (row_spread old s c.args.size tw th c.loop-y.cells y c.loop-y.invariant c.requires.fits below cut.result.start cut.result.end (cut.ensures.start ∙ row.ensures.start) (omega (arith, cut.ensures.start, cut.ensures.end, row.ensures.len)) w.spread.new.row w.if-y-tile_height-eq0.true w.spread.ensures)
+          rw w.cells-is (row_spread old s c.args.size tw th c.loop-y.cells y c.loop-y.invariant c.requires.fits below _ _ (row_range s y w.range.ensures.start w.range.ensures.end row.ensures.start row.ensures.len) w.spread.new.row w.if-y-tile_height-eq0.true w.spread.ensures)
       | goal.else-y-tile_height-eq0 w ↦
           let later : 0 < y % th = omega (arith, w.if-y-tile_height-eq0.false) in
           let above = w.row_above in

@@ -1,37 +1,29 @@
 -- The rows so far are answers, and nothing else has changed.
-use Rattle.std.proofs.Common.{◌≡◌, ◌+◌, ◌<◌, ◌∙◌, sym, arith, rules}
+use Rattle.std.proofs.Common.{◌<◌, ◌∙◌, sym, arith, rules}
 use Rattle.image_model.specs.Rows.{row_count}
 use Rattle.image_shape.specs.Shape.{shaped}
 use Rattle.image_model.proofs.ByPlace.{is_mapped_by_place}
 use Rattle.image_model.proofs.Rows.{row_count-le}
-use Rattle.image_ops.proofs.PlaceAnswers.{cell_of_row, row_answers_at}
+use Rattle.image_ops.proofs.PlaceAnswers.{row_answers_at}
 use Rattle.image_ops.proofs.Elements.{in_row}
-use Rattle.image_ops.proofs.RowsWritten.{row_written, row_length, all_right}
+use Rattle.image_ops.proofs.RowsWritten.{row_range, row_length, cell_of_row, row_written, all_right}
 use Rattle.image_ops.proofs.places.map_places.Goals as goal
 
 pub map_row-requires : goal.map_row-requires
 map_row-requires g c = record {
   callable = λ x p here.
-      let row = c.range in
-      let begins = row.ensures.start ∙ c.row-row.ensures.start in
-      let ends : row.result.end ≡ row.result.start + c.args.shape.width = omega (arith, row.ensures.start, row.ensures.end, c.row-row.ensures.len) in
+      let at = row_range c.args.shape c.loop-y.y c.range.ensures.start c.range.ensures.end c.row-row.ensures.start c.row-row.ensures.len in
       let below : c.loop-y.y < row_count c.args.shape.width c.args.shape.height = omega (arith, c.row_count-y-end.ensures.value) in
-      let long = row_length _ _ _ c.args.shape c.loop-y.y c.loop-y.invariant c.requires.fits below row.result.start row.result.end begins ends in
-      let column : x < c.args.shape.width = in_row _ x p _ here long in
+      let column = in_row _ x p _ here (row_length _ _ _ c.args.shape c.loop-y.y c.loop-y.invariant c.requires.fits below _ _ at) in
       c.requires.callable x c.loop-y.y p column (omega (arith, below, row_count-le c.args.shape.width c.args.shape.height))
-      (sym (cell_of_row (goal.F-post g c.args.f.now) _ _ c.args.shape c.loop-y.y row.result.start row.result.end x c.loop-y.invariant begins ends column) ∙ here);
+      (sym (cell_of_row _ _ _ c.args.shape c.loop-y.y c.loop-y.invariant _ _ x at column) ∙ here);
 }
 
 pub loop-y-preserved : goal.loop-y-preserved
 loop-y-preserved g c =
-    let made = c.map_row in
-    let row = c.range in
-    let begins = row.ensures.start ∙ c.row-row.ensures.start in
-    let ends : row.result.end ≡ row.result.start + c.args.shape.width = omega (arith, row.ensures.start, row.ensures.end, c.row-row.ensures.len) in
-    let below : c.loop-y.y < row_count c.args.shape.width c.args.shape.height = omega (arith, c.row_count-y-end.ensures.value) in
-    let long = row_length _ _ _ c.args.shape c.loop-y.y c.loop-y.invariant c.requires.fits below row.result.start row.result.end begins ends in
-    row_written _ _ _ c.args.shape c.loop-y.y c.loop-y.invariant c.requires.fits below row.result.start row.result.end begins ends made.new.cells (made.ensures.as_many ∙ long)
-    (λ x column. row_answers_at (goal.F-post g c.args.f.now) _ _ made.new.cells c.args.shape c.loop-y.y row.result.start row.result.end x c.loop-y.invariant begins ends column made.ensures)
+    let at = row_range c.args.shape c.loop-y.y c.range.ensures.start c.range.ensures.end c.row-row.ensures.start c.row-row.ensures.len in
+    row_written _ _ _ c.args.shape c.loop-y.y c.loop-y.invariant c.requires.fits (omega (arith, c.row_count-y-end.ensures.value)) _ _ at c.map_row.new.cells c.map_row.ensures.as_many
+    (λ x column here. row_answers_at (goal.F-post g c.args.f.now) _ _ c.map_row.new.cells c.args.shape c.loop-y.y _ _ x c.loop-y.invariant at column c.map_row.ensures)
 
 pub returns-clause-answers : goal.returns-clause-answers
 returns-clause-answers g c = λ x j p q column line was is.

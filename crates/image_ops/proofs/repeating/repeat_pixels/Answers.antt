@@ -1,13 +1,10 @@
 -- The first row gets the pattern, and each other one is a copy of the row above it.
-use Rattle.std.proofs.Common.{◌≡◌, ℕ, ◌+◌, ◌%◌, ◌<◌, length, Option, refl, arith, ◌∙◌}
+use Rattle.std.proofs.Common.{ℕ, ◌%◌, ◌<◌, length, Option, refl, arith, ◌∙◌}
 use Rattle.std.specs.List.{slice_get}
 use Rattle.image_ops.specs.Repeated.{repeated}
 use Rattle.image_model.specs.Rows.{row_count}
-use Rattle.image_ops.proofs.RowsWritten.{no_row, row_written, row_length, row_copied, shows_table, outside_stays}
+use Rattle.image_ops.proofs.RowsWritten.{row_range, row_written, row_copied, shows_table}
 use Rattle.image_ops.proofs.repeating.repeat_pixels.Goals as goal
-
-pub loop-y-init : goal.loop-y-init
-loop-y-init g c = no_row _ c.args.cells.now c.args.shape
 
 pub loop-y-preserved : goal.loop-y-preserved
 loop-y-preserved g c =
@@ -21,12 +18,9 @@ loop-y-preserved g c =
     let below : y < row_count s.width s.height = omega (arith, c.row_count-y-end.ensures.value, c.loop-y-test.true) in
     elim c.if-y-eq0.branch [
       | goal.then-y-eq0 w ↦
-          let cut = w.range in
-          let begins = cut.ensures.start ∙ row.ensures.start in
-          let ends : cut.result.end ≡ cut.result.start + s.width = omega (arith, cut.ensures.start, cut.ensures.end, row.ensures.len) in
-          let long = row_length _ old c.loop-y.cells s y so c.requires.fits below cut.result.start cut.result.end begins ends in
           let line = w.repeat_cells.ensures in
-          rw w.cells-is (row_written _ old c.loop-y.cells s y so c.requires.fits below cut.result.start cut.result.end begins ends w.repeat_cells.new.row (line.as_many ∙ long) (λ x column. line.each x (omega (arith, column, long))))
+          let at = row_range s y w.range.ensures.start w.range.ensures.end row.ensures.start row.ensures.len in
+          rw w.cells-is (row_written _ old c.loop-y.cells s y so c.requires.fits below _ _ at w.repeat_cells.new.row line.as_many (λ x column here. line.each x (omega (arith, here, line.as_many))))
       | goal.else-y-eq0 w ↦
           let above = w.row_above in
           rw (w.cells-is, w.repeat_row.ensures) (row_copied at old c.loop-y.cells s y so c.requires.fits below above.result row.result (omega (arith, w.if-y-eq0.false)) (λ x. refl) above.ensures.start (above.ensures.len ∙ row.ensures.len) row.ensures.start)
@@ -37,6 +31,3 @@ unfolding repeated
 returns-clause-grid g c =
     let pattern = c.args.pattern.now in
     shows_table (λ x _. slice_get pattern (x % length pattern)) _ _ c.args.shape c.loop-y.y c.loop-y.invariant (omega (arith, c.row_count-y-end.ensures.value))
-
-pub returns-clause-outside : goal.returns-clause-outside
-returns-clause-outside g c = outside_stays _ _ _ c.args.shape c.loop-y.y c.loop-y.invariant (omega (arith, c.row_count-y-end.ensures.value))

@@ -1,36 +1,21 @@
 -- The rows so far come from the source.
-use Rattle.std.proofs.Common.{◌≡◌, ◌+◌, ◌*◌, ◌<◌, ap, ◌∙◌, arith}
+use Rattle.std.proofs.Common.{◌+◌, ◌*◌, ap, ◌∙◌, arith}
 use Rattle.std.specs.List.{slice_get}
-use Rattle.image_model.specs.Layout.{Layout, pixel}
-use Rattle.image_model.specs.Grid.{grid, grid_of}
-use Rattle.image_model.specs.Rows.{row_count}
+use Rattle.image_model.specs.Grid.{grid_of}
 use Rattle.image_model.specs.Turns.{transposed}
-use Rattle.image_model.proofs.Rows.{row_count-le}
 use Rattle.image_shape.specs.Shape.{shaped}
-use Rattle.image_ops.proofs.RowsWritten.{row_written, row_length, shows_table}
-use Rattle.image_ops.proofs.FromPlaces.{from_places}
+use Rattle.image_ops.proofs.RowsWritten.{row_range}
+use Rattle.image_ops.proofs.FromPlaces.{row_gathered, shows_places}
 use Rattle.image_ops.proofs.turning.transpose_pixels.Goals as goal
 
 pub loop-y-preserved : goal.loop-y-preserved
 loop-y-preserved g c =
-    let s = c.args.shape in
-    let y = c.loop-y.y in
-    let from : Layout g.row.T.Denot = shaped c.args.source.now c.args.source_shape in
-    let made = c.gather in
-    let row = c.range in
-    let begins = row.ensures.start ∙ c.row-row.ensures.start in
-    let ends : row.result.end ≡ row.result.start + s.width = omega (arith, row.ensures.start, row.ensures.end, c.row-row.ensures.len) in
-    let below : y < row_count s.width s.height = omega (arith, c.row_count-y-end.ensures.value) in
-    let line : y < s.height = omega (arith, below, row_count-le s.width s.height) in
-    let long = row_length (λ x y p. p ≡ pixel from y x) c.args.cells.now c.loop-y.cells s y c.loop-y.invariant c.requires.fits below row.result.start row.result.end begins ends in
-    let as_long : _ ≡ s.width = made.ensures.as_many ∙ long in
-    row_written (λ x y p. p ≡ pixel from y x) _ _ s y c.loop-y.invariant c.requires.fits below row.result.start row.result.end begins ends made.new.cells as_long
-    (λ x column. made.ensures.taken.each x (omega (arith, column, as_long)) ∙ ap (slice_get from.cells) (ap (λ n. y + x * n) c.stride.ensures.value ∙ omega arith))
+    let at = row_range c.args.shape c.loop-y.y c.range.ensures.start c.range.ensures.end c.row-row.ensures.start c.row-row.ensures.len in
+    row_gathered (shaped c.args.source.now c.args.source_shape) (λ _ y. y) (λ x _. x) _ _ c.args.shape c.loop-y.y c.loop-y.invariant _ _ c.requires.fits (omega (arith, c.row_count-y-end.ensures.value)) at c.gather.ensures.as_many c.gather.ensures.taken
+    (λ x column. ap (slice_get c.args.source.now) (ap (λ n. c.loop-y.y + x * n) c.stride.ensures.value ∙ omega arith))
 
 pub returns-clause-grid : goal.returns-clause-grid
 unfolding grid_of transposed
 returns-clause-grid g c =
-    let from : Layout g.row.T.Denot = shaped c.args.source.now c.args.source_shape in
-    shows_table (λ x y. pixel from y x) _ _ c.args.shape c.loop-y.y c.loop-y.invariant (omega (arith, c.row_count-y-end.ensures.value))
-    ∙ from_places from c.args.shape.width c.args.shape.height (λ _ y. y) (λ x _. x) (λ x y column line. (omega (arith, column, line, c.requires.columns, c.requires.lines), omega (arith, column, line, c.requires.columns, c.requires.lines)))
-    ∙ (λ i. grid (c.requires.columns i) (c.requires.lines i) (λ x y. (grid_of from).pixel y x))
+    shows_places (shaped c.args.source.now c.args.source_shape) (λ _ y. y) (λ x _. x) _ _ c.args.shape c.loop-y.y c.loop-y.invariant _ _ c.requires.columns c.requires.lines (omega (arith, c.row_count-y-end.ensures.value))
+    (λ x y column line. (omega (arith, column, line), omega (arith, column, line)))
