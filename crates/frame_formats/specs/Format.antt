@@ -9,6 +9,7 @@ use Rattle.image_planes.specs.declared.target.Resize.{Resize}
 use Rattle.image_planes.specs.declared.target.Resize.TheVariants.{Crop, Pad}
 use Rattle.text_model.specs.Parts.{parts_of}
 use Rattle.text_model.specs.Reading.{◌>>=◌, number_of}
+use Rattle.frame_formats.specs.Names.{value_named}
 use Rattle.frame_formats.specs.Steps.{video_pixel, grey_of, no_colour}
 use Rattle.frame_formats.specs.declared.steps.Pixel.{Pixel}
 use Rattle.frame_formats.specs.declared.header.Chroma.{Chroma}
@@ -24,17 +25,19 @@ tagged letter (field ∷ fields) = if slice_index field 0 == letter then Some (d
 
 -- how a word names the chroma samples: in one byte each, for two by two pixels, for two by one, for four by one, for each
 abbrev pub chroma_of : List ℕ → Option Chroma
-chroma_of word =
-    if bytes_eq word (codes "mono") then Some Mono
-    else if bytes_eq word (codes "420jpeg") then Some Small
-    else if bytes_eq word (codes "420mpeg2") then Some Small
-    else if bytes_eq word (codes "420paldv") then Some Small
-    else if bytes_eq word (codes "420") then Some Small
-    else if bytes_eq word (codes "422") then Some Wide
-    else if bytes_eq word (codes "411") then Some Quarter
-    else if bytes_eq word (codes "444") then Some Whole
-    else if bytes_eq word (codes "444alpha") then Some WholeAlpha
-    else None
+chroma_of =
+    value_named (
+    (codes "mono", Mono)
+    ∷ (codes "420jpeg", Small)
+    ∷ (codes "420mpeg2", Small)
+    ∷ (codes "420paldv", Small)
+    ∷ (codes "420", Small)
+    ∷ (codes "422", Wide)
+    ∷ (codes "411", Quarter)
+    ∷ (codes "444", Whole)
+    ∷ (codes "444alpha", WholeAlpha)
+    ∷ []
+    )
 
 -- the same where no other field begins with it: of two sizes others may take the last
 abbrev pub tagged_once : ℕ → List (List ℕ) → Option (List ℕ)
@@ -49,22 +52,11 @@ is_interlaced (Some word) = bytes_eq word (codes "t") || (bytes_eq word (codes "
 
 -- how a word begins that names samples of two bytes
 abbrev pub deep_chroma : List ℕ → Option Chroma
-deep_chroma word =
-    if bytes_eq word (codes "mono") then Some Mono
-    else if bytes_eq word (codes "420p") then Some Small
-    else if bytes_eq word (codes "422p") then Some Wide
-    else if bytes_eq word (codes "444p") then Some Whole
-    else None
+deep_chroma = value_named ((codes "mono", Mono) ∷ (codes "420p", Small) ∷ (codes "422p", Wide) ∷ (codes "444p", Whole) ∷ [])
 
 -- and how it ends: the number of bits, as the greatest value of so many
 abbrev pub depth_of : List ℕ → Option ℕ
-depth_of word =
-    if bytes_eq word (codes "9") then Some 511
-    else if bytes_eq word (codes "10") then Some 1023
-    else if bytes_eq word (codes "12") then Some 4095
-    else if bytes_eq word (codes "14") then Some 16383
-    else if bytes_eq word (codes "16") then Some 65535
-    else None
+depth_of = value_named ((codes "9", 511) ∷ (codes "10", 1023) ∷ (codes "12", 4095) ∷ (codes "14", 16383) ∷ (codes "16", 65535) ∷ [])
 
 unfoldable pub deep_of : List ℕ → Option (Chroma × Pixel)
 deep_of word = do

@@ -1,3 +1,4 @@
+pub mod Names
 pub mod Steps
 pub mod Format
 pub mod Covers

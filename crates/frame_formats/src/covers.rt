@@ -124,6 +124,7 @@ fn settle(unit: Unit, width: usize, height: usize, change: Change<Paint>) -> Cha
 
 /// The edits as steps of a frame of this size. A cover is the fill that it is there, and a range of
 /// times has the frames that are in it at this rate.
+#[tactic(auto, using(crate::proofs::StepsEach::one_more, crate::proofs::StepsEach::one_stops, crate::proofs::StepsEach::edit_settled, crate::proofs::StepsEach::edit_stops))]
 pub(crate) fn settle_all(
     alloc: Global,
     unit: Unit,

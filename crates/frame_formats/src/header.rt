@@ -2,9 +2,10 @@
 
 ghost use Rattle.std.specs.Prelude.{◌≡◌, ◌<◌, IfSome};
 ghost use Rattle.std.specs.Option.{option_map};
-ghost use Rattle.frame_formats.specs.Format.{tagged, tagged_once, is_interlaced, chroma_of, deep_chroma, depth_of, deep_of, sampling_of, size_of, format_of};
+ghost use Rattle.frame_formats.specs.Format.{tagged, tagged_once, is_interlaced, deep_of, sampling_of, size_of, format_of};
 ghost use Rattle.texts.specs.Parts.{parts_left};
 
+use crate::names::value_named;
 use crate::steps::Pixel;
 use texts::{Field, Parts};
 
@@ -83,81 +84,45 @@ fn read_interlaced(word: Option<&[u8]>) -> bool
     }
 }
 
-fn read_chroma(word: &[u8]) -> Option<Chroma>
-    ensures { result ≡ chroma_of word.now }
-{
-    if word == b"mono".as_slice() {
-        Some(Chroma::Mono)
-    } else if word == b"420jpeg".as_slice()
-        || word == b"420mpeg2".as_slice()
-        || word == b"420paldv".as_slice()
-        || word == b"420".as_slice()
-    {
-        Some(Chroma::Small)
-    } else if word == b"422".as_slice() {
-        Some(Chroma::Wide)
-    } else if word == b"411".as_slice() {
-        Some(Chroma::Quarter)
-    } else if word == b"444".as_slice() {
-        Some(Chroma::Whole)
-    } else if word == b"444alpha".as_slice() {
-        Some(Chroma::WholeAlpha)
-    } else {
-        None
-    }
-}
-
-// How a word begins that names samples of two bytes.
-fn read_deep_chroma(word: &[u8]) -> Option<Chroma>
-    ensures { result ≡ deep_chroma word.now }
-{
-    if word == b"mono".as_slice() {
-        Some(Chroma::Mono)
-    } else if word == b"420p".as_slice() {
-        Some(Chroma::Small)
-    } else if word == b"422p".as_slice() {
-        Some(Chroma::Wide)
-    } else if word == b"444p".as_slice() {
-        Some(Chroma::Whole)
-    } else {
-        None
-    }
-}
-
-// The greatest value of so many bits.
-fn read_depth(word: &[u8]) -> Option<u16>
-    ensures { result ≡ depth_of word.now }
-{
-    if word == b"9".as_slice() {
-        Some(511)
-    } else if word == b"10".as_slice() {
-        Some(1023)
-    } else if word == b"12".as_slice() {
-        Some(4095)
-    } else if word == b"14".as_slice() {
-        Some(16383)
-    } else if word == b"16".as_slice() {
-        Some(65535)
-    } else {
-        None
-    }
-}
-
-// Samples of two bytes.
+// Samples of two bytes: how the word begins, and the greatest value of so many bits.
 #[tactic(auto, unfolding(crate::specs::Format::deep_of))]
 fn read_deep(word: &[u8]) -> Option<(Chroma, Pixel)>
     ensures { result ≡ deep_of word.now }
 {
-    let (name, depth) = word.split_at(word.len().min(4));
-    let chroma = read_deep_chroma(name)?;
-    Some((chroma, Pixel::of_video(read_depth(depth)?)))
+    let chromas: [(&[u8], Chroma); 4] = [
+        (b"mono", Chroma::Mono),
+        (b"420p", Chroma::Small),
+        (b"422p", Chroma::Wide),
+        (b"444p", Chroma::Whole),
+    ];
+    let depths: [(&[u8], u16); 5] = [
+        (b"9", 511),
+        (b"10", 1023),
+        (b"12", 4095),
+        (b"14", 16383),
+        (b"16", 65535),
+    ];
+    let (name, bits) = word.split_at(word.len().min(4));
+    let chroma = value_named(name, &chromas)?;
+    Some((chroma, Pixel::of_video(value_named(bits, &depths)?)))
 }
 
 // The chroma samples that a word names, and what a sample is.
 fn read_sampling(word: &[u8]) -> Option<(Chroma, Pixel)>
     ensures { result ≡ sampling_of word.now }
 {
-    match read_chroma(word) {
+    let chromas: [(&[u8], Chroma); 9] = [
+        (b"mono", Chroma::Mono),
+        (b"420jpeg", Chroma::Small),
+        (b"420mpeg2", Chroma::Small),
+        (b"420paldv", Chroma::Small),
+        (b"420", Chroma::Small),
+        (b"422", Chroma::Wide),
+        (b"411", Chroma::Quarter),
+        (b"444", Chroma::Whole),
+        (b"444alpha", Chroma::WholeAlpha),
+    ];
+    match value_named(word, &chromas) {
         Some(chroma) => Some((chroma, Pixel::of_video(255))),
         None => read_deep(word),
     }

@@ -143,6 +143,7 @@ fn size_on(layer: Layer, width: usize, height: usize) -> (usize, usize)
 }
 
 // The plane in a frame of this size, with what is done to it.
+#[tactic(auto, using(crate::proofs::StepsEach::one_more, crate::proofs::StepsEach::one_stops, crate::proofs::StepsEach::step_made, crate::proofs::StepsEach::no_step))]
 fn plane_on(
     alloc: Global,
     pixel: Pixel,

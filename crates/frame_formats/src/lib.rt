@@ -12,6 +12,7 @@ mod hiding;
 mod layers;
 mod line;
 mod lists;
+mod names;
 mod pam;
 mod pam_words;
 mod picture;

@@ -115,35 +115,19 @@ impl Plan {
         ensures fault { IfErr result
             (Tells (video_recipe (edits steps.now framing) line.now ≡ None)) }
     {
+        let (pixel, width, height) = (format.pixel, format.width, format.height);
         let layers = video_layers(format.chroma);
         let unit = unit_of_video(format);
-        let rate = read_rate(line);
-        let settled = settle_all(alloc, unit, rate, format.width, format.height, steps)?;
-        let planes = planes_of(
-            alloc,
-            format.pixel,
-            layers,
-            format.width,
-            format.height,
-            &settled,
-        )?;
+        let settled = settle_all(alloc, unit, read_rate(line), width, height, steps)?;
+        let planes = planes_of(alloc, pixel, layers, width, height, &settled)?;
         let Some(framing) = framing else {
             return Plan::new(ended_line(alloc, line)?, planes, None);
         };
-        let resize = resize_of(format.pixel, format.width, format.height, framing).ok_or(
-            PlanFault::Outside,
-        )?;
+        let resize = resize_of(pixel, width, height, framing).ok_or(PlanFault::Outside)?;
         if resize.height() < 1 {
             return Err(PlanFault::Outside);
         }
-        let targets = targets_of(
-            alloc,
-            format.pixel,
-            layers,
-            format.width,
-            format.height,
-            resize,
-        )?;
+        let targets = targets_of(alloc, pixel, layers, width, height, resize)?;
         let head = resized_line(alloc, line, resize.width(), resize.height())?;
         Plan::new(head, planes, Some(targets))
     }
@@ -165,28 +149,19 @@ impl Plan {
         ensures fault { IfErr result
             (Tells (picture_recipe (edits steps.now framing) picture ≡ None)) }
     {
-        let pixel = picture_pixel(picture);
+        let (pixel, width, height) = (picture_pixel(picture), picture.width, picture.height);
         let layers = picture_layers();
         let unit = Unit { across: 1, down: 1 };
-        let settled = settle_all(alloc, unit, None, picture.width, picture.height, steps)?;
-        let planes = planes_of(
-            alloc,
-            pixel,
-            layers,
-            picture.width,
-            picture.height,
-            &settled,
-        )?;
+        let settled = settle_all(alloc, unit, None, width, height, steps)?;
+        let planes = planes_of(alloc, pixel, layers, width, height, &settled)?;
         let Some(framing) = framing else {
             return Plan::new(picture_head(alloc, picture)?, planes, None);
         };
-        let resize = resize_of(pixel, picture.width, picture.height, framing).ok_or(
-            PlanFault::Outside,
-        )?;
+        let resize = resize_of(pixel, width, height, framing).ok_or(PlanFault::Outside)?;
         if resize.height() == 0 {
             return Err(PlanFault::Outside);
         }
-        let targets = targets_of(alloc, pixel, layers, picture.width, picture.height, resize)?;
+        let targets = targets_of(alloc, pixel, layers, width, height, resize)?;
         let resized = Picture {
             width: resize.width(),
             height: resize.height(),

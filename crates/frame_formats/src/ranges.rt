@@ -3,7 +3,7 @@
 ghost use Rattle.std.specs.Prelude.{◌≡◌, ◌<◌, IfSome, length};
 ghost use Rattle.text_model.specs.Reading.{Finds, first_of_parts};
 ghost use Rattle.texts.specs.Parts.{parts_left};
-ghost use Rattle.frame_formats.specs.Ranges.{end_of, span_of, two_digits, clock_of, fraction_of, time_at, end_time_at, times_of, range_of, rate_in, rate_of, frame_at, frames_in, AreExactly};
+ghost use Rattle.frame_formats.specs.Ranges.{end_of, after_gap, span_of, two_digits, clock_of, fraction_of, time_at, end_time_at, times_of, range_of, rate_in, rate_of, frame_at, frames_in, AreExactly};
 ghost use Rattle.text_model.specs.Parts.{parts_of};
 
 use crate::digits::is_digit;
@@ -50,6 +50,13 @@ fn next_end(parts: &mut Parts<'_>) -> Option<usize>
     read_end(parts.next_part()?)
 }
 
+// Passes over the empty part that two dots have between them.
+fn skip_gap(parts: &mut Parts<'_>) -> Option<()>
+    ensures { Finds (λ _. parts_left parts.new) result (after_gap (parts_left parts.old)) }
+{
+    parts.next_part()?.is_empty().then_some(())
+}
+
 // The numbers of the first frame and of the first after the last one, as in `12..80`.
 #[tactic(auto, unfolding(crate::specs::Ranges::span_in))]
 fn read_span(word: &[u8]) -> Option<(usize, usize)>
@@ -57,10 +64,7 @@ fn read_span(word: &[u8]) -> Option<(usize, usize)>
 {
     let mut parts = Parts::new(word, b'.');
     let first = next(&mut parts)?;
-    let gap = parts.next_part()?;
-    if !gap.is_empty() {
-        return None;
-    }
+    skip_gap(&mut parts)?;
     let end = next_end(&mut parts)?;
     parts.is_done().then_some((first, end))
 }
@@ -165,10 +169,7 @@ fn read_times(word: &[u8]) -> Option<Range>
 {
     let mut parts = Parts::new(word, b'.');
     let from = next_time(&mut parts)?;
-    let gap = parts.next_part()?;
-    if !gap.is_empty() {
-        return None;
-    }
+    skip_gap(&mut parts)?;
     let to = next_end_time(&mut parts)?;
     parts.is_done().then_some(Range::Times { from, to })
 }

@@ -61,31 +61,6 @@ pub(crate) fn spans_of(alloc: Global, steps: &[Step<Value>]) -> Result<Vec<Span>
     Ok(spans)
 }
 
-// Applies the steps of a block for the frame of this number, where its span has that frame.
-#[tactic(auto, using(crate::proofs::Blocks::block_skipped))]
-fn do_block(
-    cells: &mut [u8],
-    shape: Shape,
-    size: usize,
-    block: &[Step<Value>],
-    span: Span,
-    number: u64,
-)
-    requires fits { Fits (shaped cells.old shape) }
-    requires some { 0 < size }
-    requires few { size < 9 }
-    requires inside { IsTrue
-        (are_inside (shape_width shape / size) (shape_height shape) block.now) }
-    requires span { IsTrue (has_all span block.now) }
-    ensures grid { grid_of (shaped cells.new shape)
-        ≡ stepped size number block.now (grid_of (shaped cells.old shape)) }
-    ensures outside { SameOutside (shaped cells.old shape) (shaped cells.new shape) }
-{
-    if span.has(number) {
-        do_steps(cells, shape, size, block, number);
-    }
-}
-
 /// Applies the steps for the frame of this number to the image that the bytes make in this shape,
 /// block by block. A pixel has `size` bytes; the padding stays.
 pub(crate) fn do_blocks(
@@ -109,7 +84,9 @@ pub(crate) fn do_blocks(
     let mut left = steps;
     for span in spans {
         let (block, others) = left.split_at(left.len().min(BLOCK));
-        do_block(cells, shape, size, block, *span, number);
         left = others;
+        if span.has(number) {
+            do_steps(cells, shape, size, block, number);
+        }
     }
 }

@@ -190,18 +190,13 @@ next_letter edit n r0 r1 r2 w0 w1 p read = passed_on (PictureHead edit) n r0 r1 
 
 -- ---- the first byte of pictures
 
+-- what was read from the letter on was read from the first byte on
+read_behind : (old left new : Option (List ℕ)) (bytes : List ℕ) → Consumes old left (80 ∷ []) → Consumes (behind_letter left) new bytes → Consumes old new bytes
+read_behind None left new bytes letter read = tt
+read_behind (Some all) None new bytes letter read = absurd letter
+read_behind (Some all) (Some rest) new bytes letter read = subst (λ (l : List ℕ). Consumes (Some l) new bytes) (sym letter) read
+
 -- what is said of memory after the letter is so from the first byte on
 pub behind_letter_stops : (r : Result ℕ RunFault) (edit : Edits) (old left new : Option (List ℕ)) → Consumes old left (80 ∷ []) → PicturesStop r edit (behind_letter left) new → Stops r edit old new
-behind_letter_stops (Err (Memory n)) edit None left new read stop = inr (record { pieces = stop.pieces; are = stop.are; count_is = stop.count_is; head = stop.head; picture = stop.picture; is = stop.is; read = tt; other = stop.other })
-behind_letter_stops (Err (Memory n)) edit (Some bytes) None new read stop = absurd read
-behind_letter_stops (Err (Memory n)) edit (Some bytes) (Some rest) new read stop = inr (record {
-  pieces = stop.pieces;
-  are = stop.are;
-  count_is = stop.count_is;
-  head = stop.head;
-  picture = stop.picture;
-  is = stop.is;
-  read = subst (λ (l : List ℕ). Consumes (Some l) new (pieces_text stop.pieces ++ stop.head)) (sym read) stop.read;
-  other = stop.other;
-})
-behind_letter_stops _ edit old left new read stop = tt
+behind_letter_stops (Err (Memory n)) edit old left new letter stop = inr (record { pieces = stop.pieces; are = stop.are; count_is = stop.count_is; head = stop.head; picture = stop.picture; is = stop.is; read = read_behind old left new (pieces_text stop.pieces ++ stop.head) letter stop.read; other = stop.other })
+behind_letter_stops _ edit old left new letter stop = tt

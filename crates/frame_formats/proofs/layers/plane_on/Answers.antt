@@ -3,14 +3,8 @@ use Rattle.std.proofs.Common.{arith}
 use Rattle.std.proofs.lemmas.Grind.{common_steps}
 use Rattle.frame_formats.specs.Layers.{change_on}
 use Rattle.frame_formats.specs.Steps.{step_by}
-use Rattle.frame_formats.proofs.StepsEach.{one_more, one_stops, all_done, step_made, no_step}
+use Rattle.frame_formats.proofs.StepsEach.{all_done}
 use Rattle.frame_formats.proofs.layers.plane_on.Goals as goal
-
-pub returns-in_err-ok_or-clause-fault : goal.returns-in_err-ok_or-clause-fault
-returns-in_err-ok_or-clause-fault c = grind (arith, one_stops, no_step)
-
-pub loop-step-preserved : goal.loop-step-preserved
-loop-step-preserved c = grind (arith, one_more, step_made)
 
 pub returns-clause-plane : goal.returns-clause-plane
 returns-clause-plane c =

@@ -1,22 +1,17 @@
 -- One block more.
-use Rattle.std.proofs.Common.{◌≡◌, ◌/◌, ◌∙◌, ℕ, List, take, drop, ap, ap₂, arith, rules, ◌+◌}
-use Rattle.image_model.specs.Grid.{grid_of}
+use Rattle.std.proofs.Common.{◌≡◌, ◌/◌, ◌∙◌, ℕ, List, take, drop, ap, ap₂, sym, arith, rules, ◌+◌}
+use Rattle.image_model.specs.Grid.{Grid, grid_of}
+use Rattle.image_model.specs.Layout.{SameOutside}
 use Rattle.imgref.specs.Shape.{shaped, shape_width, shape_height}
 use Rattle.image_planes.specs.Changes.{are_inside, stepped}
 use Rattle.image_planes.specs.Spans.{has_all, are_spans}
 use Rattle.image_planes.specs.declared.change.Step.{Step}
-use Rattle.image_planes.proofs.Blocks.{in_parts, inside_parts, span_at, take_upto, drop_upto}
+use Rattle.image_planes.proofs.Blocks.{block_skipped, in_parts, inside_parts, span_at, take_upto, drop_upto}
 use Rattle.image_planes.proofs.spans.do_blocks.Goals as goal
+use Rattle.image_planes.proofs.spans.do_blocks.Goals.{then-has, else-has}
 
-pub do_block-requires-clause-inside : goal.do_block-requires-clause-inside
-do_block-requires-clause-inside c = grind (arith, inside_parts)
-
-pub do_block-requires-clause-span : goal.do_block-requires-clause-span
-do_block-requires-clause-span c =
-    let left : List (Step (List ℕ)) = c.loop-span.left.now in
-    let here = span_at c.args.spans.now c.loop-span.span-index _ left c.loop-span-test.true c.loop-span.invariant.spans in
-    let front : c.split_at.result.0.now ≡ take 512 left = c.split_at.ensures.front ∙ ap (λ k. take k left) c.min.ensures ∙ take_upto 512 left in
-    ap (has_all _) front ∙ here.0
+pub do_steps-requires-clause-inside : goal.do_steps-requires-clause-inside
+do_steps-requires-clause-inside c = grind (arith, inside_parts)
 
 pub loop-span-preserved : goal.loop-span-preserved
 loop-span-preserved c =
@@ -25,10 +20,17 @@ loop-span-preserved c =
     let n : ℕ = c.min.result in
     let inv = c.loop-span.invariant in
     let here = span_at a.spans.now c.loop-span.span-index (record { first = 0; end = 0 }) left c.loop-span-test.true inv.spans in
+    let front : c.split_at.result.0.now ≡ take 512 left = c.split_at.ensures.front ∙ ap (λ k. take k left) c.min.ensures ∙ take_upto 512 left in
     let back : drop n left ≡ drop 512 left = ap (λ k. drop k left) c.min.ensures ∙ drop_upto 512 left in
+    let old : Grid ℕ = grid_of (shaped c.loop-span.cells a.shape) in
+    let done : (grid_of (shaped c.if-has.cells a.shape) ≡ stepped a.size a.number c.split_at.result.0.now old) × SameOutside (shaped c.loop-span.cells a.shape) (shaped c.if-has.cells a.shape) =
+    elim c.if-has.branch [
+      | then-has w ↦ rw w.cells-is (w.do_steps.ensures.grid, w.do_steps.ensures.outside)
+      | else-has w ↦ rw w.cells-is (sym (block_skipped a.size a.number _ c.split_at.result.0.now old (ap (has_all _) front ∙ here.0) (sym c.has.ensures ∙ w.if-has.false)), search rules)
+    ] in
     record {
-      grid = ap₂ (λ ss g. stepped a.size a.number ss g) c.split_at.ensures.back (c.do_block.ensures.grid ∙ ap (λ ss. stepped a.size a.number ss (grid_of (shaped c.loop-span.cells a.shape))) c.split_at.ensures.front) ∙ in_parts a.size a.number n left (grid_of (shaped c.loop-span.cells a.shape)) ∙ inv.grid;
-      outside = search rules;
+      grid = ap₂ (λ ss g. stepped a.size a.number ss g) c.split_at.ensures.back (done.0 ∙ ap (λ ss. stepped a.size a.number ss old) c.split_at.ensures.front) ∙ in_parts a.size a.number n left old ∙ inv.grid;
+      outside = search (rules, done.1);
       inside = ap (are_inside (shape_width a.shape / a.size) (shape_height a.shape)) c.split_at.ensures.back ∙ (inside_parts (shape_width a.shape / a.size) (shape_height a.shape) n left inv.inside).1;
       spans = ap (are_spans (drop (c.loop-span.span-index + 1) a.spans.now)) (c.split_at.ensures.back ∙ back) ∙ here.1;
     }

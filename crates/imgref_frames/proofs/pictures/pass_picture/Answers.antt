@@ -4,9 +4,8 @@ use Rattle.devices.specs.Device.{device_of}
 use Rattle.frame_formats.specs.Planned.{recipe_of}
 use Rattle.imgref_frames.specs.Request.{edits_of}
 use Rattle.imgref_frames.specs.Kept.{kept_picture, picture_in, PictureStops}
-use Rattle.imgref_frames.specs.Passing.{PassesCells, PassesPicture}
+use Rattle.imgref_frames.specs.Passing.{PassesPicture}
 use Rattle.imgref_frames.specs.Pictures.{IsHead, behind_letter}
-use Rattle.imgref_frames.specs.Video.{with_head}
 use Rattle.imgref_frames.proofs.HandedOn.{handed_on}
 use Rattle.imgref_frames.proofs.Heads.{no_next}
 use Rattle.imgref_frames.proofs.Rounds.{picture_made, not_planned, new_head}
@@ -37,24 +36,14 @@ pub returns-clause-passes : goal.returns-clause-passes
 returns-clause-passes g c =
     let found = rw c.in-Some.is at c.in_ok-picture.ensures.head in
     let made = c.in_ok-made.made in
-    let r2 = g.R.Read.remaining (device_of c.read_head.new.reader) in
-    let r3 = g.R.Read.remaining (device_of c.pass_cells.new.reader) in
-    let w1 = g.W.Write.contents (device_of c.args.writer.now) in
-    let w2 = g.W.Write.contents (device_of c.pass_cells.new.writer) in
-    picture_made c.heads_end_themselves.ensures.apart c.heads_end_themselves.ensures.begins (edits_of c.args.request) c.args.number made.picture (recipe_of made.plan) found.0 (subst (IsHead found.0) (sym c.in_ok-made.ensures.picture) found.1) c.in_ok-made.ensures.kept.plan
-    (behind_letter (g.R.Read.remaining (device_of c.args.reader.now))) r2 r3 w1 w2 found.2 (Ok tt)
-    (subst (λ h. PassesCells (Ok tt) (with_head h (recipe_of made.plan)) c.args.number r2 r3 w1 w2) c.head-head.ensures c.in_ok-pass_cells.ensures.passes)
+    picture_made c.heads_end_themselves.ensures.apart c.heads_end_themselves.ensures.begins (edits_of c.args.request) c.args.number made.picture (recipe_of made.plan) found.0 (subst (IsHead found.0) (sym c.in_ok-made.ensures.picture) found.1) c.in_ok-made.ensures.kept.plan _ _ _ _ _ found.2 (Ok tt)
+    (rw (sym c.head-head.ensures) c.in_ok-pass_cells.ensures.passes)
 
 pub returns-in_err-pass_cells-clause-passes : goal.returns-in_err-pass_cells-clause-passes
 returns-in_err-pass_cells-clause-passes g c =
     let found = rw c.in-Some.is at c.in_ok-picture.ensures.head in
     let made = c.in_ok-made.made in
-    let r2 = g.R.Read.remaining (device_of c.read_head.new.reader) in
-    let r3 = g.R.Read.remaining (device_of c.pass_cells.new.reader) in
-    let w1 = g.W.Write.contents (device_of c.args.writer.now) in
-    let w2 = g.W.Write.contents (device_of c.pass_cells.new.writer) in
-    handed_on (λ r. PassesPicture (picture_in r) (edits_of c.args.request) c.args.number (behind_letter (g.R.Read.remaining (device_of c.args.reader.now))) r3 w1 w2)
-    c.from_residual-in_err-pass_cells.result c.in_err-pass_cells.field-0.0 c.from_residual-in_err-pass_cells.ensures
-    (picture_made c.heads_end_themselves.ensures.apart c.heads_end_themselves.ensures.begins (edits_of c.args.request) c.args.number made.picture (recipe_of made.plan) found.0 (subst (IsHead found.0) (sym c.in_ok-made.ensures.picture) found.1) c.in_ok-made.ensures.kept.plan
-    (behind_letter (g.R.Read.remaining (device_of c.args.reader.now))) r2 r3 w1 w2 found.2 (Err c.in_err-pass_cells.field-0.0)
-    (subst (λ h. PassesCells (Err c.in_err-pass_cells.field-0.0) (with_head h (recipe_of made.plan)) c.args.number r2 r3 w1 w2) c.head-head.ensures c.in_err-pass_cells.ensures.passes))
+    let kept = handed_on (λ r. PassesPicture (picture_in r) (edits_of c.args.request) c.args.number (behind_letter (g.R.Read.remaining (device_of c.args.reader.now))) (g.R.Read.remaining (device_of c.pass_cells.new.reader)) (g.W.Write.contents (device_of c.args.writer.now)) (g.W.Write.contents (device_of c.pass_cells.new.writer))) in
+    kept c.from_residual-in_err-pass_cells.result c.in_err-pass_cells.field-0.0 c.from_residual-in_err-pass_cells.ensures
+    (picture_made c.heads_end_themselves.ensures.apart c.heads_end_themselves.ensures.begins (edits_of c.args.request) c.args.number made.picture (recipe_of made.plan) found.0 (subst (IsHead found.0) (sym c.in_ok-made.ensures.picture) found.1) c.in_ok-made.ensures.kept.plan _ _ _ _ _ found.2 (Err c.in_err-pass_cells.field-0.0)
+      (rw (sym c.head-head.ensures) c.in_err-pass_cells.ensures.passes))
