@@ -2,9 +2,9 @@
 use base.Share
 use mir.Syntax.{impl}
 use denote.Param.NoDrop.{glues}
-use Rattle.std.proofs.Common.{◌≡◌, refl, ap, subst, ℕ, ◌*◌, ◌<◌, ◌^◌, List, [], ◌∷◌, ◌++◌, w64, MutBor}
+use Rattle.std.proofs.Common.{◌≡◌, refl, ap, subst, ℕ, ◌<◌, ◌^◌, List, [], ◌∷◌, ◌++◌, w64, MutBor}
 use Rattle.image_model.specs.Layout.{Layout, Fits}
-use Rattle.borrow_laws.proofs.Walking.{Lft, GName, Share, ftrue, fres, flft, fat, full_share, SProp, emp, id⊢, coded_list, Args, Dict, Fn, Ty, named, dnil, tcons, tnil, inst_fn, Val, vint, vptr, vunit, ◌⊑◌, ⊑_trans, meet_⊑_right, fact, fact_i, tables, ‵, ◌⊛◌, raw, later, some, ◌$◌, ◌∵◌, !, qed, by, move, keep, drop, split, split3, join, fsplit, fjoin, fpick, feq_l, feq_i, rewrite, use0, use1, use2, use3, await, pick, stop, from, addr, of_opd, unit_lit, and_then, no_more, returns, enter, alloc_all, pass_all, free_all, look_at, get, through, sets, lands_as, take_at, give_at, part_in_at, part_out_at, Array, unit, usize, no, yes, uint_Makes, uint_vals, uint_Tells, follows, followed, shows, Is, part_at, mem, param, copied, layout, param_laws, copied_laws, copied_copy, RattleType, owns, mut_vals, mut_Tells, plain, named_lft, types_at, nothing, heard, owned, peeks, only, calls_at, lasts, triple_of, framed, Stays, stay_ref, stay_dropped, walk_of, Goes-ref, Goes-dropped, proved, leaves}
+use Rattle.borrow_laws.proofs.Walking.{Lft, GName, Share, ftrue, fres, flft, fat, full_share, SProp, emp, id⊢, coded_list, Args, Dict, Fn, Ty, named, dnil, tcons, tnil, inst_fn, Val, vint, vptr, vunit, ◌⊑◌, ⊑_trans, meet_⊑_right, fact, fact_i, tables, ‵, ◌⊛◌, raw, later, some, ◌$◌, ◌∵◌, !, qed, by, move, keep, drop, split, split3, join, fsplit, fjoin, fpick, feq_l, feq_i, rewrite, use0, use1, use2, use3, await, pick, stop, from, addr, of_opd, unit_lit, and_then, no_more, returns, enter, alloc_all, pass_all, free_all, look_at, get, through, sets, lands_as, take_at, give_at, part_in_at, part_out_at, Array, unit, usize, no, yes, uint_Makes, uint_vals, uint_Tells, follows, followed, shows, Is, part_at, param, copied, layout, param_laws, copied_laws, copied_copy, RattleType, owns, mut_vals, mut_Tells, plain, named_lft, types_at, nothing, heard, owned, peeks, only, calls_at, lasts, triple_of, framed, Stays, stay_ref, stay_dropped, walk_of, Goes-ref, Goes-dropped, proved, leaves}
 use Rattle.borrow_laws.proofs.Bodies.{of_copied}
 use Rattle.borrow_laws.proofs.Endings.{ends_said}
 use Rattle.borrow_laws.proofs.Lifetimes.{Loan, Kept, lent, lends, ends}

@@ -1,12 +1,12 @@
 -- `cover_last` lends the image to an iterator and the iterator to `step`, fills the last row and lets the others go: the image ends as its cells do. Assumes `Logic`.
 use base.Share
 use mir.Syntax.{Body}
-use Rattle.std.proofs.Common.{⊎_elim, ◌≡◌, refl, sym, ap, subst, ℕ, ◌^◌, ◌<◌, List, [], ◌∷◌, length, replicate, T, lit<, MutBor, Option, Some, None}
+use Rattle.std.proofs.Common.{⊎_elim, ◌≡◌, refl, sym, ap, subst, ℕ, List, [], ◌∷◌, length, replicate, T, lit<, MutBor, Option, Some, None}
 use Rattle.std.proofs.alloc.Shapes.{after}
 use Rattle.std.specs.contracts.option.Option as OP
 use Rattle.image_model.specs.Layout.{Layout, Fits}
 use Rattle.imgref.specs.Image.{with_all, layout_by}
-use Rattle.borrow_laws.proofs.Walking.{full_share, Lft, GName, Share, feq, ftrue, fres, fat, flft, SProp, ent, emp, id⊢, sem, Args, Fn, Ty, named, ty_unit, skip, inst_fn, Val, WT, has_ty, vptr, vunit, of_list, Wp, after_seq, at_return, ◌⊑◌, ⊑_trans, meet_⊑_right, fact, fact_i, tables, Item, Sq, any_q, ‵, ◌⊛◌, raw, later, some, at_ret, runs, ◌$◌, ◌∵◌, !, qed, by, move, keep, drop, split, split3, join, fsplit, fjoin, feq_l, feq_i, rewrite, use0, use1, use2, use3, await, pick, live, vrt, in_variant, all_of, sub, agg, stop, fld, hop, from, addr, of_opd, unit_lit, and_then, no_more, first, switches_on, skips, exec, returns, enter, alloc_all, pass_all, free_all, look_at, look_in_at, get, get_in, get_tag, through, sets, lands_as, lands_last, env, holding, forget_but, take_at, give_at, Array, unit, no, follows, followed, finally-res, shows, Is, part_at, mem, part_in_at, part_out_at, param, copied, param_laws, copied_laws, copied_copy, RattleType, owns, mut_vals, mut_Tells, plain, named_lft, types_at, MutSlice, nothing, heard, peeks, only, calls_at, calls_at_last, lasts, triple_of, framed, Stays, stay_ref, stay_dropped, walk_of, Goes-ref, Goes-dropped, proved, leaves, owned, row_Makes, lit}
+use Rattle.borrow_laws.proofs.Walking.{full_share, Lft, GName, Share, feq, ftrue, fres, fat, flft, SProp, ent, emp, id⊢, sem, Args, Fn, Ty, named, ty_unit, skip, inst_fn, Val, WT, has_ty, vptr, vunit, of_list, Wp, after_seq, at_return, ◌⊑◌, ⊑_trans, meet_⊑_right, fact, fact_i, tables, Item, Sq, any_q, ‵, ◌⊛◌, raw, later, some, at_ret, runs, ◌$◌, ◌∵◌, !, qed, by, move, keep, drop, split, split3, join, fsplit, fjoin, feq_l, feq_i, rewrite, use0, use1, use2, use3, await, pick, live, vrt, in_variant, all_of, sub, agg, stop, fld, hop, from, addr, of_opd, unit_lit, and_then, no_more, first, switches_on, skips, exec, returns, enter, alloc_all, pass_all, free_all, look_at, look_in_at, get, get_in, get_tag, through, sets, lands_as, lands_last, env, holding, forget_but, take_at, give_at, Array, unit, no, follows, followed, finally-res, shows, Is, part_at, part_in_at, part_out_at, param, copied, param_laws, copied_laws, copied_copy, RattleType, owns, mut_vals, mut_Tells, plain, named_lft, types_at, MutSlice, nothing, heard, peeks, only, calls_at, calls_at_last, lasts, triple_of, framed, Stays, stay_ref, stay_dropped, walk_of, Goes-ref, Goes-dropped, proved, leaves, owned, row_Makes, lit}
 use Rattle.borrow_laws.proofs.Bodies.{of_copied, first_arm, type_of}
 use Rattle.borrow_laws.proofs.Declared.{typed}
 use Rattle.borrow_laws.specs.Endings.{ends_as}

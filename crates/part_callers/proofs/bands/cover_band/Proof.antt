@@ -11,7 +11,7 @@ use Rattle.image_shape.specs.declared.shape.Shape.{Shape}
 use Rattle.image_shape.specs.contracts.shape.Shape as shape
 use Rattle.imgref.specs.Image.{with_all, layout_by, mut_layout, shape_of}
 use Rattle.imgref.proofs.ImageValues.{shape_val, shape_made, img_row, LentCells, lent_cells_laws, ImgParts, img_parts_told}
-use Rattle.borrow_laws.proofs.Walking.{full_share, Lft, GName, Share, ftrue, fres, fat, flft, SProp, ent, emp, id⊢, sem, Args, Fn, Ty, named, ty_unit, skip, inst_fn, vint, Val, WT, has_ty, vptr, vunit, Wp, after_seq, at_return, ◌⊑◌, ⊑_refl, ⊑_meet, ⊑_trans, meet_⊑_right, fact, fact_i, tables, Item, Sq, any_q, ‵, ◌⊛◌, raw, later, some, at_ret, runs, ◌$◌, ◌∵◌, !, qed, by, move, keep, drop, split, split3, join, fsplit, fpick, fjoin, feq_l, feq_i, rewrite, use0, use1, use2, use3, await, pick, vrt, in_variant, all_of, sub, agg, stop, fld, hop, from, addr, of_opd, unit_lit, and_then, no_more, first, switches_on, skips, exec, returns, enter, alloc_all, pass_all, free_all, look_at, look_in_at, get, get_in, get_tag, through, sets, lands_as, lands_last, env, holding, forget_but, take_at, give_at, Array, unit, usize, no, yes, follows, followed, finally-res, shows, Is, uint_Makes, uint_vals, uint_Tells, part_at, mem, part_in_at, part_out_at, param, copied, param_laws, copied_laws, copied_copy, RattleType, owns, mut_vals, mut_Tells, plain, named_lft, types_at, MutSlice, slice_val, nothing, heard, owned, peeks, only, calls_at, calls_at_last, lasts, triple_of, framed, Stays, stay_ref, stay_dropped, walk_of, Goes-ref, Goes-dropped, proved, leaves}
+use Rattle.borrow_laws.proofs.Walking.{full_share, Lft, GName, Share, ftrue, fres, fat, flft, SProp, ent, emp, id⊢, sem, Args, Fn, Ty, named, ty_unit, skip, inst_fn, vint, Val, WT, has_ty, vptr, vunit, Wp, after_seq, at_return, ◌⊑◌, ⊑_refl, ⊑_meet, ⊑_trans, meet_⊑_right, fact, fact_i, tables, Item, Sq, any_q, ‵, ◌⊛◌, raw, later, some, at_ret, runs, ◌$◌, ◌∵◌, !, qed, by, move, keep, drop, split, split3, join, fsplit, fpick, fjoin, feq_l, feq_i, rewrite, use0, use1, use2, use3, await, pick, vrt, in_variant, all_of, sub, agg, stop, fld, hop, from, addr, of_opd, unit_lit, and_then, no_more, first, switches_on, skips, exec, returns, enter, alloc_all, pass_all, free_all, look_at, look_in_at, get, get_in, get_tag, through, sets, lands_as, lands_last, env, holding, forget_but, take_at, give_at, Array, unit, usize, no, yes, follows, followed, finally-res, shows, Is, uint_Makes, uint_vals, uint_Tells, part_at, part_in_at, part_out_at, param, copied, param_laws, copied_laws, copied_copy, RattleType, owns, mut_vals, mut_Tells, plain, named_lft, types_at, MutSlice, slice_val, nothing, heard, owned, peeks, only, calls_at, calls_at_last, lasts, triple_of, framed, Stays, stay_ref, stay_dropped, walk_of, Goes-ref, Goes-dropped, proved, leaves}
 use Rattle.borrow_laws.proofs.Bodies.{of_copied, first_arm, type_of}
 use Rattle.borrow_laws.proofs.Declared.{typed}
 use Rattle.borrow_laws.specs.Endings.{ends_as}
