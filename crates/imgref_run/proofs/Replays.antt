@@ -1,5 +1,5 @@
 -- A script that is run as it is read: what was run so far, and what one more line adds.
-use Rattle.std.proofs.Common.{◌≡◌, ℕ, eqb, List, [], ◌∷◌, ◌++◌, map, length, All, refl, sym, ap, subst, ◌∙◌, append_assoc, arith}
+use Rattle.std.proofs.Common.{◌≡◌, ℕ, eqb, List, [], ◌∷◌, ◌++◌, map, All, refl, sym, ap, subst, ◌∙◌, append_assoc}
 use Rattle.std.proofs.lemmas.List.{append-nil, map-append}
 use Rattle.std.proofs.lemmas.List.Elements.{All-push}
 use Rattle.std.proofs.lemmas.Option.{same_Some}
@@ -10,14 +10,9 @@ use Rattle.image_commands.specs.declared.commands.Command.{Command}
 use Rattle.image_commands.specs.declared.commands.Reply.{Reply}
 use Rattle.imgref_replay.specs.Run.{replies_to, IsRun}
 use Rattle.script_text.specs.Line.{Order, order_of}
-use Rattle.script_text.specs.Script.{IsScript, AreGood, IsRead}
+use Rattle.script_text.specs.Script.{IsRead}
 use Rattle.script_text.specs.Output.{reply_text, ended_line, replies_text}
 use Rattle.script_text.specs.declared.script.Script.{Script}
-use Rattle.script_text.specs.Script.{IsFaultOf}
-use Rattle.script_text.specs.declared.fault.ScriptFault.{ScriptFault}
-use Rattle.script_text.specs.declared.fault.ScriptFault.TheVariants.{Line as BadLine, Memory as NoMemory}
-use Rattle.imgref_run.specs.Fault.{of_script, ExplainsBad}
-use Rattle.imgref_run.specs.Program.{IsReplayOf}
 
 -- the lines that were read are these images and commands, and the commands were run. Before the first command the images are as they were read
 pub record IsSoFar (lines : List (List ℕ)) (script : Script) (layouts : List (Layout ℕ)) (text : List ℕ) : Type 0 where
@@ -36,17 +31,6 @@ still layouts fit = record {
   grids_are = refl;
   all_kept = λ i old new in_old in_new. subst (SameOutside old) (same_Some old new (sym in_old ∙ in_new)) (outside_refl old);
   all_fit = fit;
-}
-
-pub nothing_read : (lines : List (List ℕ)) (script : Script) (layouts : List (Layout ℕ)) (text : List ℕ) → IsRead script lines [] [] → layouts ≡ [] → text ≡ [] → IsSoFar lines script layouts text
-nothing_read lines script layouts text read none silent = record {
-  images = layouts;
-  commands = [];
-  replies = [];
-  read = subst (λ is. IsRead script lines is []) (sym none) read;
-  run = still layouts (subst (All Fits) (sym none) (λ i d lt. absurd (omega arith)));
-  first = λ _. refl;
-  told = silent;
 }
 
 none_mapped : (commands : List (Command ℕ)) → map order_of commands ≡ [] → commands ≡ []
@@ -94,15 +78,3 @@ command_run lines script next layouts news text more command reply so reads runs
   first = λ none. absurd (not_nothing so.commands command none);
   told = added ∙ ap (λ t. t ++ ended_line (reply_text reply)) so.told ∙ sym (replies_more so.replies reply);
 }
-
--- no line is left
-pub all_run : (lines : List (List ℕ)) (script : Script) (layouts : List (Layout ℕ)) (text : List ℕ) → IsSoFar lines script layouts text
-    → ((images : List (Layout ℕ)) (orders : List Order) → IsRead script lines images orders → IsScript lines images orders × AreGood lines (length lines)) → IsReplayOf lines layouts text
-all_run lines script layouts text so ends =
-    let whole = ends so.images (map order_of so.commands) so.read in
-    record { images = so.images; commands = so.commands; script = whole.0; good = whole.1; replies = so.replies; run = so.run; told = so.told }
-
--- the next line isn't good, or no memory was found for it
-pub explains : (lines : List (List ℕ)) (fault : ScriptFault) → IsFaultOf lines fault → ExplainsBad lines (of_script fault)
-explains lines (BadLine n) h = h
-explains lines NoMemory h = tt

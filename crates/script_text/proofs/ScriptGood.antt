@@ -1,13 +1,13 @@
 -- Good lines: what a script that is read line by line comes to.
-use Rattle.std.proofs.Common.{◌≡◌, ℕ, suc, ◌+◌, ◌-◌, ◌<◌, ◌≤◌, false, List, [], ◌∷◌, ◌++◌, map, length, take, drop, get_or, refl, sym, ap, subst, ◌∙◌, append_assoc, arith, add-one, below_more, All}
-use Rattle.std.proofs.lemmas.List.{take_all, length-drop, append-nil, map-append}
+use Rattle.std.proofs.Common.{◌≡◌, ℕ, suc, ◌+◌, ◌-◌, ◌<◌, false, List, [], ◌∷◌, ◌++◌, map, length, take, drop, get_or, refl, sym, ap, subst, ◌∙◌, append_assoc, arith, add-one, below_more, All}
+use Rattle.std.proofs.lemmas.List.{length-drop, append-nil, map-append}
 use Rattle.std.proofs.Math.Seq.{drop-cons, take-suc}
 use Rattle.std.specs.List.{AllByRecursion}
 use Rattle.std.proofs.lemmas.List.Elements.{recursion_from_All}
 use Rattle.image_model.specs.Layout.{Layout}
 use Rattle.text_model.specs.Reading.{is_nil}
 use Rattle.script_text.specs.Line.{Order, image_line, order_line, image_text, order_text, IsScriptImage, IsOrder, IsLineOf}
-use Rattle.script_text.specs.Script.{IsScript, NoCommand, MayFollow, IsGood, IsGoodAt, AreGood, IsFirstBad}
+use Rattle.script_text.specs.Script.{IsScript, NoCommand, IsGood, IsGoodAt, AreGood, IsFirstBad}
 use Rattle.script_text.proofs.LineTexts.{one_value}
 
 -- ---- one more line
@@ -34,10 +34,6 @@ only_images before images orders script none =
 -- an image's line is good where no command is before it
 pub good_image : (before : List (List ℕ)) (line : List ℕ) (i : Layout ℕ) → IsLineOf line (image_line i) → NoCommand before → IsGood before line
 good_image before line i is none = record { entry = image_line i; in_range = is.in_range; text = is.text; may_follow = none }
-
--- an image's line isn't good after a command's
-pub late_image : (before : List (List ℕ)) (line : List ℕ) (i : Layout ℕ) → IsLineOf line (image_line i) → (NoCommand before → ⊥) → IsGood before line → ⊥
-late_image before line i is some good = some (subst (MayFollow before) (is.only good.entry good.in_range good.text) good.may_follow)
 
 -- lines of which some stand for commands
 pub some_command : (before : List (List ℕ)) (images : List (Layout ℕ)) (orders : List Order) → IsScript before images orders → is_nil orders ≡ false → NoCommand before → ⊥
@@ -113,15 +109,6 @@ first_bad all n line rest next good bad =
       good_before = rw back good;
       bad = rw (back, next.here) bad;
     }
-
-past_end : (all : List (List ℕ)) (n : ℕ) → drop n all ≡ [] → length all ≤ n
-past_end all n none = omega (arith, length-drop n all, ap length none)
-
-pub whole_script : (all : List (List ℕ)) (n : ℕ) (images : List (Layout ℕ)) (orders : List Order) → drop n all ≡ [] → IsScript (take n all) images orders → IsScript all images orders
-whole_script all n images orders none script = rw (take_all n all (past_end all n none)) at script
-
-pub all_good : (all : List (List ℕ)) (n : ℕ) → drop n all ≡ [] → AreGood all n → AreGood all (length all)
-all_good all n none good k lt = good k (omega (arith, past_end all n none))
 
 -- ---- the lines of images
 

@@ -1,5 +1,5 @@
 -- A script that is read line by line: what it is when its next line is read.
-use Rattle.std.proofs.Common.{◌≡◌, ℕ, ◌+◌, ◌-◌, ◌^◌, Bool, true, false, not, IsTrue, min, List, [], ◌∷◌, ◌++◌, take, drop, refl, sym, ap, subst, ◌∙◌, arith, length, Some}
+use Rattle.std.proofs.Common.{◌≡◌, ℕ, ◌+◌, ◌-◌, ◌^◌, Bool, true, false, not, IsTrue, min, List, [], ◌∷◌, ◌++◌, take, drop, refl, sym, ap, subst, ◌∙◌, arith, Some}
 use Rattle.image_model.specs.Layout.{Layout}
 use Rattle.imgref.specs.Image.{vec_layout}
 use Rattle.text_model.specs.Reading.{is_nil}
@@ -10,11 +10,7 @@ use Rattle.script_text.specs.Script.{IsScript, NoCommand, IsGood, AreGood, IsFir
 use Rattle.script_text.specs.declared.line.Line.{Line}
 use Rattle.script_text.specs.declared.line.Line.TheVariants.{Image, Command as Ordered}
 use Rattle.script_text.specs.declared.script.Script.{Script}
-use Rattle.script_text.proofs.ScriptGood.{only_images, good_image, some_command, image_added, order_added, next_is, more_good, first_bad, whole_script, all_good}
-
--- no line is left
-pub ends : (s : Script) (lines : List (List ℕ)) (images : List (Layout ℕ)) (orders : List Order) → lines_left s ≡ [] → IsRead s lines images orders → IsScript lines images orders × AreGood lines (length lines)
-ends s lines images orders none r = (whole_script lines s.number images orders (r.left ∙ none) r.script, all_good lines s.number (r.left ∙ none) r.good)
+use Rattle.script_text.proofs.ScriptGood.{only_images, good_image, some_command, image_added, order_added, next_is, more_good, first_bad}
 
 commanded : (s : Script) (lines : List (List ℕ)) (images : List (Layout ℕ)) (orders : List Order) → IsRead s lines images orders → IsTrue s.has_command → NoCommand (take s.number lines) → ⊥
 commanded s lines images orders r has none =
