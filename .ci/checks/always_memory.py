@@ -19,6 +19,8 @@ from functions import with_function, with_head
 
 # No machine has so many bytes.
 NO_ROOM = "let _room: Vec<u8> = Vec::with_capacity(alloc, usize::MAX)?;"
+# The same of a call that only adds to a vector.
+NO_MORE_ROOM = "text.reserve(usize::MAX)?;"
 HANDED_BACK = "if true { return Err(self); }"
 
 # The crate, the file and the function, what is put at its head, and the crate whose tests are run.
@@ -30,8 +32,9 @@ CASES = [
     ("imgref", "cow", "into_vec", HANDED_BACK, "imgref_hostile_tests"),
     ("imgref", "by_place", "from_places", NO_ROOM, "imgref_examples"),
     ("imgref_replay", "run", "replay", NO_ROOM, "imgref_replay_tests"),
-    ("script_text", "script", "read_script", "if true { return Err(ScriptFault::Memory); }", "imgref_run"),
-    ("script_text", "output", "format_output", NO_ROOM, "imgref_run"),
+    ("script_text", "script", "next", "if true { return Err(ScriptFault::Memory); }", "imgref_run"),
+    ("script_text", "output", "push_reply", NO_MORE_ROOM, "imgref_run"),
+    ("script_text", "output", "push_images", NO_MORE_ROOM, "imgref_run"),
     ("imgref_run", "program", "run", "if true { return Err(RunFault::Memory); }", "imgref_run"),
 ]
 # The same of calls that only the program for video and pictures makes: the crate, the file, the function, what is put at its

@@ -4,6 +4,7 @@ pub mod Endings
 pub mod Options
 pub mod Pairs
 pub mod Parts
+pub mod Places
 pub mod Stretches
 pub mod Bodies
 pub mod Declared

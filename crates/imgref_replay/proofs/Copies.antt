@@ -64,11 +64,14 @@ blitted {T} eq images news source target from to accepted from_is to_is wide hig
 -- ---- a list in two parts
 
 module _ {X : Type 0} (all front back : List X) (n : ℕ) (parts : all ≡ front ++ back) (cut : length front ≡ n) where
-  pub in_front : (i : ℕ) (d : X) → i < n → get_or front i d ≡ get_or all i d
-  in_front i d below = sym (ap (λ xs. get_or xs i d) parts ∙ get_or_append_left front back d i (omega (arith, cut)))
+  -- an element of either part is one of the list
+  pub front_is : (i : ℕ) (d : X) → i < n → d ≡ get_or front i d → get_or front i d ≡ get_or all i (get_or front i d)
+  front_is i d below is = sym (ap (λ xs. get_or xs i d) parts ∙ get_or_append_left front back d i (omega (arith, cut))) ∙ ap (get_or all i) is
 
-  pub in_back : (d : X) → get_or back 0 d ≡ get_or all n d
-  in_back d = sym (ap (λ xs. get_or xs n d) parts ∙ get_or-append_right front back n n d cut (omega arith) ∙ ap (λ k. get_or back k d) (let none : n - n ≡ 0 = omega arith in none))
+  pub back_is : (d : X) → d ≡ get_or back 0 d → get_or back 0 d ≡ get_or all n (get_or back 0 d)
+  back_is d is =
+      sym (ap (λ xs. get_or xs n d) parts ∙ get_or-append_right front back n n d cut (omega arith) ∙ ap (λ k. get_or back k d) (let none : n - n ≡ 0 = omega arith in none))
+      ∙ ap (get_or all n) is
 
   pub set_front : (i : ℕ) (x : X) → i < n → set front i x ++ back ≡ set all i x
   set_front i x below = sym (ap (λ xs. set xs i x) parts ∙ set-append_left front back i x (omega (arith, cut)))

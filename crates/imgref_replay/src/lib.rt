@@ -10,3 +10,4 @@ pub use image_commands::{Command, Place, Refusal, Reply};
 pub use imgref::Window;
 pub use path::{into_window_at, window_at};
 pub use run::{replay, replay_into, two_layouts};
+pub use step::replay_next;

@@ -5,7 +5,7 @@ ghost use Rattle.imgref.specs.Lists.{AllFit, layouts_of, grids_of};
 ghost use Rattle.imgref_replay.specs.Run.{IsRun};
 ghost use Rattle.imgref_replay.specs.Layouts.{GridsAgree, RepliesAgree};
 
-use crate::step::step;
+use crate::step::replay_next;
 use image_commands::{Command, Reply};
 use imgref::ImgVec;
 use std::alloc::{AllocError, Global};
@@ -31,7 +31,7 @@ pub fn replay_into<T: Copy + Eq>(
     ensures { IsRun T.eq commands.now (layouts_of images.old) (layouts_of images.new) replies.new }
 {
     for (i, command) in commands.iter().enumerate() {
-        replies[i] = step(images, command);
+        replies[i] = replay_next(images, command);
     }
 }
 

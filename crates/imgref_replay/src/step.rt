@@ -1,8 +1,8 @@
 //! One command: it runs over images, or is refused for its first fault.
 
-ghost use Rattle.std.specs.Prelude.{◌≡◌, ◌<◌, ◌+◌, ◌^◌, ◌∷◌, [], IfOk, OnOk, length, count_by};
+ghost use Rattle.std.specs.Prelude.{◌≡◌, ◌<◌, ◌+◌, ◌^◌, ◌∷◌, ◌++◌, [], List, IfOk, OnOk, length, count_by};
 ghost use Rattle.std.specs.Result.{result_err};
-ghost use Rattle.image_model.specs.Layout.{Fits};
+ghost use Rattle.image_model.specs.Layout.{Layout, Fits};
 ghost use Rattle.image_model.specs.Rows.{pixels};
 ghost use Rattle.imgref.specs.Image.{ref_grid, ref_layout};
 ghost use Rattle.imgref.specs.Window.{as_window};
@@ -250,11 +250,23 @@ fn accept<T: Copy + Eq>(images: &mut [ImgVec<T>], command: &Command<T>) -> Answe
     }
 }
 
-/// Runs one command, or replies with its first fault and changes nothing.
-pub(crate) fn step<T: Copy + Eq>(images: &mut [ImgVec<T>], command: &Command<T>) -> Reply<T>
+/// Runs one command and returns its reply. With a fault the reply names the first, and nothing
+/// changes. It allocates no memory.
+///
+/// This is the run of the one command, as for `replay_into`. After a run of other commands it is the
+/// run of these and the new one.
+///
+/// # Requires
+///
+/// Every image fits (`is_valid`).
+pub fn replay_next<T: Copy + Eq>(images: &mut [ImgVec<T>], command: &Command<T>) -> Reply<T>
     requires { AllFit images.old }
-    ensures { IsRun T.eq (command.now ∷ []) (layouts_of images.old)
+    ensures run { IsRun T.eq (command.now ∷ []) (layouts_of images.old)
         (layouts_of images.new) (result ∷ []) }
+    ensures more { (before : List (Command T)) (olds : List (Layout T)) (replies : List (Reply T))
+        → IsRun T.eq before olds (layouts_of images.old) replies
+        → IsRun T.eq (before ++ command.now ∷ []) olds (layouts_of images.new)
+        (replies ++ result ∷ []) }
 {
     match accept(images, command) {
         Ok(reply) => reply,

@@ -1,1 +1,2 @@
 pub mod ProgramWrites
+pub mod Replays

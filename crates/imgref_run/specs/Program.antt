@@ -9,8 +9,18 @@ use Rattle.imgref_run.specs.declared.fault.RunFault.{RunFault}
 use Rattle.imgref_run.specs.declared.fault.RunFault.TheVariants.{Line, Memory, Input, Output}
 use Rattle.script_text.specs.Line.{order_of, image_text}
 use Rattle.script_text.specs.Script.{lines_of, IsScript, AreGood, IsFirstBad}
-use Rattle.script_text.specs.Output.{output_text}
+use Rattle.script_text.specs.Output.{replies_text, output_text}
 use Rattle.devices.specs.Whole.{AppendsBeginning}
+
+-- the lines are a script, and these are its images after its commands, and the lines of the replies
+pub record IsReplayOf (lines : List (List ℕ)) (layouts : List (Layout ℕ)) (text : List ℕ) : Type 0 where
+  pub images : List (Layout ℕ)
+  pub commands : List (Command ℕ)
+  pub script : IsScript lines images (map order_of commands)
+  pub good : AreGood lines (length lines)
+  pub replies : List (Reply ℕ)
+  pub run : IsRun (λ a b. a == b) commands images layouts replies
+  pub told : text ≡ replies_text replies
 
 -- the input is a script, and the text is its output: the lines of the replies to its commands, and those of its images after them, which are themselves the script of these images
 pub record IsOutputOf (input text : List ℕ) : Type 0 where

@@ -5,5 +5,6 @@ pub mod LineImages
 pub mod LineTexts
 pub mod ScriptLines
 pub mod ScriptGood
+pub mod ScriptRead
 pub mod OutputImages
 pub mod Digits

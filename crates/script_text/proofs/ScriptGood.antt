@@ -1,13 +1,13 @@
 -- Good lines: what a script that is read line by line comes to.
-use Rattle.std.proofs.Common.{◌≡◌, ℕ, suc, ◌+◌, ◌-◌, ◌<◌, ◌≤◌, true, false, eqb, List, [], ◌∷◌, ◌++◌, map, length, take, drop, get_or, refl, sym, ap, subst, ◌∙◌, arith, add-one, below_more, All}
-use Rattle.std.proofs.lemmas.Bool.{eqb-false, eqb-true}
-use Rattle.std.proofs.lemmas.List.{take_all, length-drop, append-nil}
+use Rattle.std.proofs.Common.{◌≡◌, ℕ, suc, ◌+◌, ◌-◌, ◌<◌, false, List, [], ◌∷◌, ◌++◌, map, length, take, drop, get_or, refl, sym, ap, subst, ◌∙◌, append_assoc, arith, add-one, below_more, All}
+use Rattle.std.proofs.lemmas.List.{length-drop, append-nil, map-append}
 use Rattle.std.proofs.Math.Seq.{drop-cons, take-suc}
 use Rattle.std.specs.List.{AllByRecursion}
-use Rattle.std.proofs.lemmas.List.Elements.{recursion_from_All, All-from_recursion}
-use Rattle.image_model.specs.Layout.{Layout, Fits}
-use Rattle.script_text.specs.Line.{Order, Entry, image_line, order_line, image_text, order_text, IsScriptImage, IsOrder, IsLineOf}
-use Rattle.script_text.specs.Script.{IsScript, NoCommand, MayFollow, IsGood, IsGoodAt, AreGood, IsFirstBad}
+use Rattle.std.proofs.lemmas.List.Elements.{recursion_from_All}
+use Rattle.image_model.specs.Layout.{Layout}
+use Rattle.text_model.specs.Reading.{is_nil}
+use Rattle.script_text.specs.Line.{Order, image_line, order_line, image_text, order_text, IsScriptImage, IsOrder, IsLineOf}
+use Rattle.script_text.specs.Script.{IsScript, NoCommand, IsGood, IsGoodAt, AreGood, IsFirstBad}
 use Rattle.script_text.proofs.LineTexts.{one_value}
 
 -- ---- one more line
@@ -35,17 +35,35 @@ only_images before images orders script none =
 pub good_image : (before : List (List ℕ)) (line : List ℕ) (i : Layout ℕ) → IsLineOf line (image_line i) → NoCommand before → IsGood before line
 good_image before line i is none = record { entry = image_line i; in_range = is.in_range; text = is.text; may_follow = none }
 
-follows_none : (before : List (List ℕ)) (images : List (Layout ℕ)) (o : Order) (orders : List Order) (i : Layout ℕ) (d : Entry) → IsScript before images (o ∷ orders) → image_line i ≡ d → MayFollow before d → ⊥
-follows_none before images o orders i d script same may =
-    let none : NoCommand before = subst (MayFollow before) (sym same) may in
-    not_commandless images o orders script.orders_in_range.0 (subst NoCommand script.texts none)
+-- lines of which some stand for commands
+pub some_command : (before : List (List ℕ)) (images : List (Layout ℕ)) (orders : List Order) → IsScript before images orders → is_nil orders ≡ false → NoCommand before → ⊥
+some_command before images [] script some none = absurd cc
+some_command before images (o ∷ orders) script some none = not_commandless images o orders script.orders_in_range.0 (subst NoCommand script.texts none)
 
--- an image's line isn't good after a command's
-pub late_image : (before : List (List ℕ)) (images : List (Layout ℕ)) (orders : List Order) (line : List ℕ) (i : Layout ℕ) → IsScript before images orders → 0 < length orders
-    → IsLineOf line (image_line i) → IsGood before line → ⊥
-late_image before images [] line i script many is good = omega arith
-late_image before images (o ∷ orders) line i script many is good =
-    follows_none before images o orders i good.entry script (sym (is.only good.entry good.in_range good.text)) good.may_follow
+all_pushed : {X : Type 0} (P : X → Type 0) (xs : List X) (x : X) → AllByRecursion P xs → P x → AllByRecursion P (xs ++ x ∷ [])
+all_pushed P [] x all here = (here, tt)
+all_pushed P (y ∷ xs) x all here = (all.0, all_pushed P xs x all.1 here)
+
+-- one more image, where there is no command yet
+pub image_added : (before : List (List ℕ)) (images : List (Layout ℕ)) (line : List ℕ) (i : Layout ℕ) → IsScript before images [] → IsLineOf line (image_line i) → IsScript (before ++ line ∷ []) (images ++ i ∷ []) []
+image_added before images line i script is = record {
+  texts =
+      ap (λ l. l ++ line ∷ []) (script.texts ∙ append-nil (map image_text images)) ∙ ap (λ t. map image_text images ++ t ∷ []) is.text
+      ∙ sym (map-append image_text images (i ∷ [])) ∙ sym (append-nil (map image_text (images ++ i ∷ [])));
+  images_in_range = all_pushed IsScriptImage images i script.images_in_range is.in_range;
+  orders_in_range = tt;
+}
+
+-- one more command
+pub order_added : (before : List (List ℕ)) (images : List (Layout ℕ)) (orders : List Order) (line : List ℕ) (o : Order) → IsScript before images orders → IsLineOf line (order_line o)
+    → IsScript (before ++ line ∷ []) images (orders ++ o ∷ [])
+order_added before images orders line o script is = record {
+  texts =
+      ap (λ l. l ++ line ∷ []) script.texts ∙ append_assoc (map image_text images) (map order_text orders) (line ∷ [])
+      ∙ ap (λ t. map image_text images ++ (map order_text orders ++ t ∷ [])) is.text ∙ ap (λ l. map image_text images ++ l) (sym (map-append order_text orders (o ∷ [])));
+  images_in_range = script.images_in_range;
+  orders_in_range = all_pushed IsOrder orders o script.orders_in_range is.in_range;
+}
 
 -- ---- the next of the lines
 
@@ -73,17 +91,6 @@ next_is all n line rest e =
 
 -- ---- a script that is read line by line
 
-pub none_mapped : {A B : Type 0} (f : A → B) (xs : List A) (n : ℕ) → n ≡ length xs → true ≡ eqb n 0 → map f xs ≡ []
-none_mapped f [] n e test = refl
-none_mapped f (x ∷ xs) n e test = absurd (omega (arith, eqb-true n 0 (sym test)))
-
-pub some_mapped : {A B : Type 0} (f : A → B) (xs : List A) (n : ℕ) → n ≡ length xs → false ≡ eqb n 0 → 0 < length (map f xs)
-some_mapped f [] n e test = absurd (eqb-false n 0 (sym test) e)
-some_mapped f (x ∷ xs) n e test = omega arith
-
-pub empty_script : (images : List (Layout ℕ)) (orders : List Order) → images ≡ [] → orders ≡ [] → IsScript [] images orders
-empty_script images orders a b = rw (a, b) (record { texts = refl; images_in_range = tt; orders_in_range = tt })
-
 pub none_good : (all : List (List ℕ)) → AreGood all 0
 none_good all k lt = absurd (omega arith)
 
@@ -103,25 +110,8 @@ first_bad all n line rest next good bad =
       bad = rw (back, next.here) bad;
     }
 
-past_end : (all : List (List ℕ)) (n : ℕ) → drop n all ≡ [] → length all ≤ n
-past_end all n none = omega (arith, length-drop n all, ap length none)
-
-pub whole_script : (all : List (List ℕ)) (n : ℕ) (images : List (Layout ℕ)) (orders : List Order) → drop n all ≡ [] → IsScript (take n all) images orders → IsScript all images orders
-whole_script all n images orders none script = rw (take_all n all (past_end all n none)) at script
-
-pub all_good : (all : List (List ℕ)) (n : ℕ) → drop n all ≡ [] → AreGood all n → AreGood all (length all)
-all_good all n none good k lt = good k (omega (arith, past_end all n none))
-
 -- ---- the lines of images
 
 -- images that scripts may hold are a script by themselves
 pub own_script : (images : List (Layout ℕ)) → All IsScriptImage images → IsScript (map image_text images) images []
 own_script images good = record { texts = sym (append-nil (map image_text images)); images_in_range = recursion_from_All IsScriptImage images good; orders_in_range = tt }
-
-layouts_fit : (images : List (Layout ℕ)) → AllByRecursion IsScriptImage images → AllByRecursion Fits images
-layouts_fit [] all = tt
-layouts_fit (i ∷ images) all = (all.0.fits, layouts_fit images all.1)
-
--- images that scripts may hold fit
-pub All-fit : (images : List (Layout ℕ)) → AllByRecursion IsScriptImage images → All Fits images
-All-fit images all = All-from_recursion Fits images (layouts_fit images all)

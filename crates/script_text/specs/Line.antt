@@ -1,5 +1,5 @@
 -- Lines of a script: an image or a command as a value, without where it lies in memory, its text, and which values have one.
-use Rattle.std.specs.Prelude.{◌≡◌, ℕ, ◌≤◌, List, [], ◌∷◌, ◌++◌, map, Option, Some, None, option_map, codes}
+use Rattle.std.specs.Prelude.{◌≡◌, ℕ, ◌≤◌, Bool, true, false, List, [], ◌∷◌, ◌++◌, map, Option, Some, None, option_map, codes}
 use Rattle.std.specs.List.{find, flat_map, join_with_byte, AllByRecursion}
 use Rattle.std.specs.Str.{bytes_eq}
 use Rattle.std.specs.Fmt.{decimal}
@@ -133,6 +133,11 @@ sizes_fields i = codes "image" ∷ decimal i.width ∷ decimal i.height ∷ deci
 pub data Entry : Type 0 where
   image_line : Layout ℕ → Entry
   order_line : Order → Entry
+
+-- whether it is a command
+abbrev pub is_order : Entry → Bool
+is_order (image_line i) = false
+is_order (order_line o) = true
 
 -- what a line of the program stands for
 abbrev pub entry_of : Line → Entry

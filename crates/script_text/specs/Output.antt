@@ -24,6 +24,14 @@ reply_text (Refused NoTile) = codes "refused 5"
 abbrev pub ended_line : List ℕ → List ℕ
 ended_line line = line ++ 10 ∷ []
 
--- a line for each reply, and then one for each image
+-- a line for each reply
+abbrev pub replies_text : List (Reply ℕ) → List ℕ
+replies_text replies = flat_map (λ r. ended_line (reply_text r)) replies
+
+-- a line for each image
+abbrev pub images_text : List (Layout ℕ) → List ℕ
+images_text images = flat_map (λ i. ended_line (image_text i)) images
+
+-- the lines of the replies, and then those of the images
 abbrev pub output_text : List (Reply ℕ) → List (Layout ℕ) → List ℕ
-output_text replies images = flat_map (λ r. ended_line (reply_text r)) replies ++ flat_map (λ i. ended_line (image_text i)) images
+output_text replies images = replies_text replies ++ images_text images

@@ -1,13 +1,17 @@
--- A script, from its values to its bytes, and its first bad line.
-use Rattle.std.specs.Prelude.{◌≡◌, ℕ, ◌-◌, ◌<◌, ◌≤◌, List, [], ◌∷◌, ◌++◌, map, length, take, ◌==◌, if◌then◌else◌}
+-- A script, from its values to its bytes, its first bad line, and how far it has been read.
+use Rattle.std.specs.Prelude.{◌≡◌, ℕ, ◌-◌, ◌^◌, ◌<◌, ◌≤◌, List, [], ◌∷◌, ◌++◌, map, length, take, drop, Option, Some, None, not, ◌==◌, if◌then◌else◌}
 use Rattle.std.specs.List.{AllByRecursion, slice_index_or}
 use Rattle.image_model.specs.Layout.{Layout}
 use Rattle.imgref.specs.Image.{vec_layout}
 use Rattle.text_model.specs.Parts.{parts_of}
+use Rattle.text_model.specs.Reading.{is_nil}
+use Rattle.texts.specs.Parts.{parts_left}
 use Rattle.script_text.specs.Line.{Order, order_of, Entry, image_line, order_line, entry_text, image_text, order_text, IsScriptImage, IsOrder, IsEntry}
+use Rattle.script_text.specs.declared.line.Line.{Line}
+use Rattle.script_text.specs.declared.line.Line.TheVariants.{Image, Command as Ordered}
 use Rattle.script_text.specs.declared.script.Script.{Script}
 use Rattle.script_text.specs.declared.fault.ScriptFault.{ScriptFault}
-use Rattle.script_text.specs.declared.fault.ScriptFault.TheVariants.{Line, Memory}
+use Rattle.script_text.specs.declared.fault.ScriptFault.TheVariants.{Line as BadLine, Memory}
 
 -- ---- lines
 
@@ -22,14 +26,6 @@ unfoldable pub lines_of : List ℕ → List (List ℕ)
 lines_of bytes = whole_lines (parts_of 10 bytes)
 
 -- ---- scripts
-
--- the images of a script of the program
-abbrev pub images_of : Script → List (Layout ℕ)
-images_of s = map vec_layout s.images.items
-
--- its commands
-abbrev pub orders_of : Script → List Order
-orders_of s = map order_of s.commands.items
 
 -- the lines are the texts of these images, and then of these commands
 pub record IsScript (lines : List (List ℕ)) (images : List (Layout ℕ)) (orders : List Order) : Type 0 where
@@ -72,5 +68,26 @@ pub record IsFirstBad (lines : List (List ℕ)) (n : ℕ) : Type 0 where
 
 -- the fault is out of memory, or it names the first line that isn't good
 abbrev pub IsFaultOf : List (List ℕ) → ScriptFault → Type 0
-IsFaultOf lines (Line n) = IsFirstBad lines n
+IsFaultOf lines (BadLine n) = IsFirstBad lines n
 IsFaultOf lines Memory = Unit {0}
+
+-- ---- a script that is read line by line
+
+-- the lines that are left
+abbrev pub lines_left : Script → List (List ℕ)
+lines_left s = whole_lines (parts_left s.pieces)
+
+-- of these lines the first are read, as the texts of these images and commands, and the others are left
+pub record IsRead (s : Script) (lines : List (List ℕ)) (images : List (Layout ℕ)) (orders : List Order) : Type 0 where
+  pub script : IsScript (take s.number lines) images orders
+  pub good : AreGood lines s.number
+  pub left : drop s.number lines ≡ lines_left s
+  pub within : s.number ≤ length lines
+  pub countable : length lines < 2 ^ 64
+  pub commanded : s.has_command ≡ not (is_nil orders)
+
+-- after these images and commands nothing was read, since the lines are their script; or one more line was
+abbrev pub ReadsOn : Script → List (List ℕ) → List (Layout ℕ) → List Order → Option Line → Type 0
+ReadsOn s lines images orders None = IsScript lines images orders × AreGood lines (length lines)
+ReadsOn s lines images orders (Some (Image i)) = (orders ≡ []) × IsRead s lines (images ++ vec_layout i ∷ []) []
+ReadsOn s lines images orders (Some (Ordered c)) = IsRead s lines images (orders ++ order_of c ∷ [])

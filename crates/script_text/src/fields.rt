@@ -11,16 +11,11 @@ use image_commands::{Place, Window};
 use std::alloc::Global;
 use texts::{Field, Parts};
 
-/// The values that all remaining parts denote. The memory for this many values is allocated at the
-/// start.
-pub(crate) fn read_each<T: Field>(
-    alloc: Global,
-    parts: &mut Parts<'_>,
-    room: usize,
-) -> Result<Vec<T>, LineFault>
+/// The values that all remaining parts denote.
+pub(crate) fn read_each<T: Field>(alloc: Global, parts: &mut Parts<'_>) -> Result<Vec<T>, LineFault>
     ensures { Gives (λ values. values.items) result (each_of T.reading (parts_left parts.old)) }
 {
-    let mut values = Vec::with_capacity(alloc, room)?;
+    let mut values = Vec::new(alloc);
     while !parts.is_done() {
         let Some(value) = texts::next(parts) else {
             return Err(LineFault::Bad);
@@ -46,11 +41,7 @@ fn path(alloc: Global, field: &[u8]) -> Result<Vec<Window>, LineFault>
     if field == b"-".as_slice() {
         return Ok(Vec::new(alloc));
     }
-    // A path is kept as long as its command: it takes the room of its windows and no more.
-    let windows = field.iter().fold(1usize, |count, byte| {
-        count.wrapping_add(usize::from(*byte == b'/'))
-    });
-    read_each(alloc, &mut Parts::new(field, b'/'), windows)
+    read_each(alloc, &mut Parts::new(field, b'/'))
 }
 
 /// The path that the next field denotes.

@@ -10,6 +10,6 @@ mod output;
 mod script;
 
 pub use fault::ScriptFault;
-pub use line::lines_have_one_value;
-pub use output::format_output;
-pub use script::{Script, read_script};
+pub use line::{Line, lines_have_one_value};
+pub use output::{push_images, push_reply};
+pub use script::Script;

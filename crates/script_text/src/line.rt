@@ -3,7 +3,7 @@
 ghost use Rattle.std.specs.Prelude.{◌≡◌, IfOk, IsErrOf, codes};
 ghost use Rattle.image_model.specs.Layout.{layout};
 ghost use Rattle.imgref.specs.Image.{vec_layout};
-ghost use Rattle.script_text.specs.Line.{Entry, IsEntry, IsLineOf, entry_text, entry_of, EachTextHasOneValue};
+ghost use Rattle.script_text.specs.Line.{Entry, IsEntry, IsLineOf, is_order, entry_text, entry_of, EachTextHasOneValue};
 ghost use Rattle.text_model.specs.Parts.{parts_of};
 ghost use Rattle.texts.specs.Parts.{parts_left};
 ghost use Rattle.script_text.specs.Reading.{Gives, sized, image_in, line_in};
@@ -18,11 +18,23 @@ use texts::Parts;
 
 /// What a line stands for.
 #[derive(Drop)]
-pub(crate) enum Line {
+pub enum Line {
     /// An image, which fits.
     Image(ImgVec<u8>),
     /// A command, whose image, windows and place may be missing.
     Command(Command<u8>),
+}
+
+impl Line {
+    // Whether it is a command.
+    pub(crate) fn is_command(&self) -> bool
+        ensures { result ≡ is_order (entry_of self.now) }
+    {
+        match self {
+            Line::Image(_) => false,
+            Line::Command(_) => true,
+        }
+    }
 }
 
 // The image of these cells and sizes, where it is one that scripts may hold.
@@ -53,7 +65,7 @@ fn read_image(alloc: Global, fields: &mut Parts<'_>) -> Result<ImgVec<u8>, LineF
     let width = next_value(fields)?;
     let height = next_value(fields)?;
     let stride = next_value(fields)?;
-    let cells = read_each(alloc, fields, 0)?;
+    let cells = read_each(alloc, fields)?;
     sized_image(cells, width, height, stride)
 }
 

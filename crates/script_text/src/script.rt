@@ -1,24 +1,25 @@
-//! A script: images, and then commands over them.
+//! A script: images, and then commands over them, read line by line.
 
-ghost use Rattle.std.specs.Prelude.{◌≡◌, ◌∷◌, ◌++◌, [], List, ℕ, length, MatchOption, OnOk, IfOk, IfErr, IsErrOf};
-ghost use Rattle.imgref.specs.Lists.{AllFit};
+ghost use Rattle.std.specs.Prelude.{◌≡◌, ◌∷◌, ℕ, List, [], MatchOption, IfOk, OnErr, IfErr, IsTrue, IsErrOf};
+ghost use Rattle.image_model.specs.Layout.{Layout};
 ghost use Rattle.texts.specs.Parts.{parts_left};
-ghost use Rattle.script_text.specs.Script.{whole_lines, lines_of, images_of, orders_of, IsScript, IsGood, AreGood, IsFaultOf};
+ghost use Rattle.script_text.specs.Line.{IsLineOf, Order, is_order, entry_of};
+ghost use Rattle.script_text.specs.Script.{whole_lines, lines_of, NoCommand, IsGood, IsFaultOf, lines_left, IsRead, ReadsOn};
 
 use crate::fault::{LineFault, ScriptFault};
 use crate::line::{Line, read_line};
-use image_commands::Command;
-use imgref::ImgVec;
 use std::alloc::Global;
 use texts::Parts;
 
-/// The contents of a script.
+/// A script that is read line by line, first its images and then its commands.
 #[derive(Drop)]
-pub struct Script {
-    /// The images, each of which fits.
-    pub images: Vec<ImgVec<u8>>,
-    /// The commands over them, from the first to the last.
-    pub commands: Vec<Command<u8>>,
+pub struct Script<'a> {
+    // What is left, split at its line feeds.
+    pieces: Parts<'a>,
+    // How many lines have been read.
+    number: u64,
+    // Whether the last of them is a command.
+    has_command: bool,
 }
 
 // The next line of a script that is split at its line feeds: an empty last piece isn't a line.
@@ -34,56 +35,64 @@ fn next_line<'a>(pieces: &mut Parts<'a>) -> Option<&'a [u8]>
     Some(piece)
 }
 
-impl Script {
-    // Adds what the line stands for, where it is good after the lines before it.
-    fn add(&mut self, alloc: Global, line: &[u8]) -> Result<(), LineFault>
-        ensures added { OnOk result
-            ((before : List (List ℕ)) → IsScript before (images_of self.old) (orders_of self.old)
-            → IsScript (before ++ line.now ∷ []) (images_of self.new) (orders_of self.new)) }
-        ensures good { OnOk result ((before : List (List ℕ))
-            → IsScript before (images_of self.old) (orders_of self.old) → IsGood before line.now) }
-        ensures bad { IsErrOf result LineFault.Bad → (before : List (List ℕ))
-            → IsScript before (images_of self.old) (orders_of self.old)
-            → IsGood before line.now → ⊥ }
-    {
-        match read_line(alloc, line)? {
-            Line::Image(image) => {
-                if !self.commands.is_empty() {
-                    return Err(LineFault::Bad);
-                }
-                self.images.push(image)?;
-            }
-            Line::Command(command) => self.commands.push(command)?,
-        }
-        Ok(())
+// What the line stands for, where it is good after other lines. Of these some are commands, or none.
+fn read_after(alloc: Global, has_command: bool, text: &[u8]) -> Result<Line, LineFault>
+    ensures found { IfOk result (λ line. IsLineOf text.now (entry_of line)) }
+    ensures follows { IfOk result
+        (λ line. IsTrue has_command → IsTrue (is_order (entry_of line))) }
+    ensures bad { IsErrOf result LineFault.Bad → (before : List (List ℕ))
+        → (IsTrue has_command → NoCommand before → ⊥) → IsGood before text.now → ⊥ }
+{
+    let line = read_line(alloc, text)?;
+    if has_command && !line.is_command() {
+        return Err(LineFault::Bad);
     }
+    Ok(line)
 }
 
-/// The images and the commands that the bytes are the script of. Each image fits.
-///
-/// # Errors
-///
-/// Where the bytes are no script, the fault names the first line, from 1, that isn't good.
-pub fn read_script(alloc: Global, bytes: &[u8]) -> Result<Script, ScriptFault>
-    ensures script { IfOk result
-        (λ script. IsScript (lines_of bytes.now) (images_of script) (orders_of script)) }
-    ensures good { OnOk result (AreGood (lines_of bytes.now) (length (lines_of bytes.now))) }
-    ensures fit { IfOk result (λ script. AllFit script.images.items) }
-    ensures fault { IfErr result (IsFaultOf (lines_of bytes.now)) }
-{
-    let mut script = Script {
-        images: Vec::new(alloc),
-        commands: Vec::new(alloc),
-    };
-    let mut pieces = Parts::new(bytes, b'\n');
-    let mut number = 0u64;
-    while let Some(line) = next_line(&mut pieces) {
-        number += 1;
-        match script.add(alloc, line) {
-            Ok(()) => {}
-            Err(LineFault::Bad) => return Err(ScriptFault::Line(number)),
-            Err(LineFault::Memory) => return Err(ScriptFault::Memory),
+impl<'a> Script<'a> {
+    /// The script that the bytes are, of which no line has been read.
+    pub fn new(bytes: &'a [u8]) -> Self
+        ensures { IsRead result (lines_of bytes.now) [] [] }
+    {
+        Script {
+            pieces: Parts::new(bytes, b'\n'),
+            number: 0,
+            has_command: false,
         }
     }
-    Ok(script)
+
+    /// What the next line stands for, or `None` after the last line. Each image fits, and comes
+    /// before the first command.
+    ///
+    /// # Errors
+    ///
+    /// The line isn't good, and the fault has its number, from 1. Or no memory was found. The line is
+    /// then the next one still.
+    pub fn next(&mut self, alloc: Global) -> Result<Option<Line>, ScriptFault>
+        ensures line { IfOk result (λ found. MatchOption found (lines_left self.old ≡ [])
+            (λ line. (text : List ℕ) × (lines_left self.old ≡ text ∷ lines_left self.new)
+            × IsLineOf text (entry_of line))) }
+        ensures read { IfOk result (λ found. (lines : List (List ℕ)) (images : List (Layout ℕ))
+            (orders : List Order) → IsRead self.old lines images orders
+            → ReadsOn self.new lines images orders found) }
+        ensures fault { IfErr result (λ fault. (lines : List (List ℕ)) (images : List (Layout ℕ))
+            (orders : List Order) → IsRead self.old lines images orders → IsFaultOf lines fault) }
+        ensures unchanged { OnErr result (self.new ≡ self.old) }
+    {
+        let mut pieces = self.pieces;
+        let Some(text) = next_line(&mut pieces) else {
+            return Ok(None);
+        };
+        let number = self.number.saturating_add(1);
+        let line = match read_after(alloc, self.has_command, text) {
+            Ok(line) => line,
+            Err(LineFault::Bad) => return Err(ScriptFault::Line(number)),
+            Err(LineFault::Memory) => return Err(ScriptFault::Memory),
+        };
+        self.pieces = pieces;
+        self.number = number;
+        self.has_command = line.is_command();
+        Ok(Some(line))
+    }
 }

@@ -1,10 +1,13 @@
 //! Bytes that are split at a separator.
 
-ghost use Rattle.std.specs.Prelude.{◌≡◌, ◌≤◌, ◌<◌, ◌+◌, ◌-◌, ◌^◌, ◌↔◌, ◌==◌, ◌∷◌, [], IsTrue, None, IfSome, MatchOption, length, take, position};
+ghost use Rattle.std.specs.Prelude.{◌≡◌, ◌≤◌, ◌<◌, ◌+◌, ◌-◌, ◌^◌, ◌↔◌, ◌==◌, ◌∷◌, [], IsTrue, None, IfSome, MatchOption, length, take, map, position};
 ghost use Rattle.std.specs.List.{position_or_len, position_from};
+ghost use Rattle.std.specs.Simd.Lanes.{mask_l};
 ghost use Rattle.text_model.specs.Parts.{parts_of};
 ghost use Rattle.text_model.specs.Reading.{number_of, first_of_parts};
 ghost use Rattle.texts.specs.Parts.{parts_left};
+
+use std::simd::prelude::*;
 
 /// The parts that are left of bytes that are split at a separator. The empty list of bytes is one
 /// empty part.
@@ -104,29 +107,45 @@ fn short_number(bytes: &[u8], end: u8) -> Option<(usize, usize)>
     None
 }
 
-// Where the byte first occurs. It looks at four bytes a turn, which takes fewer than half of the
-// instructions of the library's `position`.
+// How many bytes are compared at once.
+const LANES: usize = 16;
+
+// A bit for each lane, which is set where the lane is that byte.
+#[inline(always)]
+fn marks(lanes: u8x16, byte: u8) -> u64
+    ensures { result ≡ mask_l (map (λ b. b == byte) lanes) }
+{
+    lanes.simd_eq(u8x16::splat(byte)).to_bitmask()
+}
+
+// How many of the first 16 bytes come before the first such byte: all where there is none.
+#[inline(always)]
+fn lanes_before(bytes: &[u8], byte: u8) -> usize
+    requires { LANES ≤ length bytes.now }
+    ensures { result ≡ position_or_len (λ b. b == byte) (take LANES bytes.now) }
+{
+    let marked = marks(u8x16::from_slice(bytes), byte);
+    if marked == 0 {
+        return LANES;
+    }
+    marked.trailing_zeros() as usize
+}
+
+// Where the byte first occurs. It looks at 16 bytes a turn, which takes less than an instruction a
+// byte, where the library's `position` takes seven.
 #[tactic(auto, using(crate::proofs::Positions::counted_from_zero))]
 fn find(bytes: &[u8], byte: u8) -> Option<usize>
     ensures { result ≡ position (λ b. b == byte) bytes.now }
 {
     let mut rest = bytes;
     let mut at = 0;
-    while let [a, b, c, d, others @ ..] = rest {
-        if *a == byte {
-            return Some(at);
+    while rest.len() >= LANES {
+        let before = lanes_before(rest, byte);
+        if before < LANES {
+            return Some(at + before);
         }
-        if *b == byte {
-            return Some(at + 1);
-        }
-        if *c == byte {
-            return Some(at + 2);
-        }
-        if *d == byte {
-            return Some(at + 3);
-        }
-        rest = others;
-        at += 4;
+        rest = &rest[LANES..];
+        at += LANES;
     }
     find_from(at, rest, byte)
 }

@@ -105,32 +105,21 @@ fn clear_first<C: AsMutSlice<Item = u8>>(rt: &impl Abort, image: &mut Img<C>, co
     drop(pixels);
 }
 
+// Also by `write_first`, which drops its cursor too.
 #[test]
 fn writes_before_a_drop_stand(rt: HostRuntime) -> Result<(), Fail> {
     for (count, left) in CLEARED {
-        let mut image = padded(rt.alloc())?;
+        let (mut image, mut other) = (padded(rt.alloc())?, padded(rt.alloc())?);
         clear_first(&rt, &mut image, count);
-        let mut cells = PADDED;
-        clear_first(&rt, &mut padded_mut(&mut cells), count);
+        write_first(&mut other, count, 0);
         assert!(rt;
-            image.buf().as_slice() == left.as_slice() && cells == left,
-            "after {count}"
-        );
-    }
-    Ok(())
-}
-
-#[test]
-fn the_first_pixels_are_written(rt: HostRuntime) -> Result<(), Fail> {
-    for (count, left) in CLEARED {
-        let mut image = padded(rt.alloc())?;
-        write_first(&mut image, count, 0);
-        let mut cells = PADDED;
-        write_first(&mut padded_mut(&mut cells), count, 0);
-        assert!(rt;
-            image.buf().as_slice() == left.as_slice() && cells == left,
+            image.buf().as_slice() == left.as_slice() && other.buf().as_slice() == left.as_slice(),
             "{count}"
         );
+        let (mut cells, mut others) = (PADDED, PADDED);
+        clear_first(&rt, &mut padded_mut(&mut cells), count);
+        write_first(&mut padded_mut(&mut others), count, 0);
+        assert!(rt; cells == left && others == left, "{count}");
     }
     Ok(())
 }

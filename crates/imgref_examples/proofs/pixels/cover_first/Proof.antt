@@ -2,12 +2,13 @@
 use base.Share
 use mir.Syntax.{impl}
 use denote.Param.NoDrop.{glues}
-use Rattle.std.proofs.Common.{◌≡◌, refl, ap, subst, ℕ, ◌*◌, ◌<◌, ◌^◌, List, [], ◌∷◌, ◌++◌, length, w64, MutBor}
+use Rattle.std.proofs.Common.{◌≡◌, refl, ap, subst, ℕ, ◌<◌, ◌^◌, List, [], ◌∷◌, ◌++◌, w64, MutBor}
 use Rattle.image_model.specs.Layout.{Layout, Fits}
-use Rattle.borrow_laws.proofs.Walking.{Lft, GName, Share, ftrue, fdead, fres, flft, flent, fat, full_share, SProp, emp, id⊢, apply∗, coded_list, Args, Dict, Fn, Ty, named, dnil, tcons, tnil, inst_fn, Val, vint, vptr, vunit, ◌⊑◌, ⊑_trans, meet_⊑_right, fact, fact_i, tables, ‵, ◌⊛◌, raw, later, some, ◌$◌, ◌∵◌, !, qed, by, move, keep, drop, split, split3, join, fsplit, fjoin, fpick, feq_l, feq_i, rewrite, use0, use1, use2, use3, await, pick, stop, from, addr, of_opd, unit_lit, and_then, no_more, returns, enter, alloc_all, pass_all, free_all, look_at, get, through, sets, lands_as, take_at, give_at, Body, part_in_at, part_out_at, Array, unit, usize, no, yes, uint_Makes, uint_vals, uint_Tells, follows, followed, shows, Is, lends_ref, ref_back, part_at, mem, param, copied, layout, param_laws, copied_laws, copied_copy, RattleType, owns, MutRef, mut_vals, mut_Tells, plain, named_lft, types_at, nothing, heard, owned, peeks, only, calls_at, lasts, triple_of, framed, Stays, stay_ref, stay_dropped, walk_of, Goes-ref, Goes-dropped, proved, leaves}
+use Rattle.borrow_laws.proofs.Walking.{Lft, GName, Share, ftrue, fres, flft, fat, full_share, SProp, emp, id⊢, coded_list, Args, Dict, Fn, Ty, named, dnil, tcons, tnil, inst_fn, Val, vint, vptr, vunit, ◌⊑◌, ⊑_trans, meet_⊑_right, fact, fact_i, tables, ‵, ◌⊛◌, raw, later, some, ◌$◌, ◌∵◌, !, qed, by, move, keep, drop, split, split3, join, fsplit, fjoin, fpick, feq_l, feq_i, rewrite, use0, use1, use2, use3, await, pick, stop, from, addr, of_opd, unit_lit, and_then, no_more, returns, enter, alloc_all, pass_all, free_all, look_at, get, through, sets, lands_as, take_at, give_at, part_in_at, part_out_at, Array, unit, usize, no, yes, uint_Makes, uint_vals, uint_Tells, follows, followed, shows, Is, part_at, param, copied, layout, param_laws, copied_laws, copied_copy, RattleType, owns, mut_vals, mut_Tells, plain, named_lft, types_at, nothing, heard, owned, peeks, only, calls_at, lasts, triple_of, framed, Stays, stay_ref, stay_dropped, walk_of, Goes-ref, Goes-dropped, proved, leaves}
 use Rattle.borrow_laws.proofs.Bodies.{of_copied}
 use Rattle.borrow_laws.proofs.Endings.{ends_said}
-use Rattle.borrow_laws.proofs.Lifetimes.{Ends, begins, Loan, Kept, lent, lends, ends}
+use Rattle.borrow_laws.proofs.Lifetimes.{Loan, Kept, lent, lends, ends}
+use Rattle.borrow_laws.proofs.Places.{KeptPlace, lends_place, place_ends}
 use Rattle.image_pixels.specs.Marks.{marks_of}
 use Rattle.image_pixels.specs.Pixels.{ArePixels, cells_left, marks_left, muts_left, pixels_name}
 use Rattle.image_pixels.specs.declared.pixels_mut.PixelsIterMut.{PixelsIterMut}
@@ -79,35 +80,30 @@ cover_first_spec 𝓤 𝓛 𝓜 𝓡 wired X Y LX LY CY gh d gs ds gc dc bm bs b
     lands_as ! (ap only told₁) refl (fit r (v₁ ∷ []) is₁) $
     sets ! (of_opd ! (get ! refl)) refl (fit r (v₁ ∷ []) is₁) $
     -- [the cursor; what follows; the tokens; what is kept; the value]
-    move ! (2 ∷ []) $ split3 ! $ move ! (2 ∷ []) $ split ! $ move ! (1 ∷ []) $ drop ! $ move ! (1 ∷ []) $
-    use1 𝓛 (‵ (flft α (Share.left qα)) ⊛ ‵ (flft α (Share.right qα))) (𝓛.lfts.lft_split α qα) $ split ! $
-    use1 𝓛 (later (some (λ (p' : ℕ × Share). ‵ (flft (p'.0 ∷ α) p'.1) ⊛ raw (Ends 𝓛 α (Share.left qα) p'.0 p'.1)))) (begins 𝓛 α (Share.left qα)) $ await ! tt $ pick ! (λ p'. split ! $
-    let β : Lft = p'.0 ∷ α in let qβ : Share = p'.1 in let inside : β ⊑ α = meet_⊑_right (p'.0 ∷ []) α in
-    -- [β; its end; α; κ₂; κ₁; the cursor; what follows; what is kept; the value]
-    take_at ! 4 $ move ! (0 ∷ 6 ∷ []) $
-    -- [local 4; the cursor; β; its end; α; κ₂; κ₁; what follows; what is kept; the value]
+    move ! (2 ∷ []) $ split3 ! $ move ! (2 ∷ []) $ split ! $ move ! (1 ∷ []) $ drop ! $
+    take_at ! 4 $ move ! (0 ∷ 4 ∷ []) $
+    -- [local 4; the cursor; κ₂; α; κ₁; what follows; what is kept; the value]
     let spelled : Ty = low.mir in
-    use2 𝓛 (‵ (part_at cursor full_share r (l 4) 0)) (part_in_at 𝓛 cursor refl full_share r (l 4) 0 spelled refl (lowered r)) $
-    use1 𝓛 (later (some (λ (ε : GName). ‵ ((MutRef (named 0) β cursor).own_val (record { ref_ptr = (l 4, 0); ghost_name = ε; now = r }) (vptr (l 4) 0 ∷ [])) ⊛ ‵ (flent β (Body (mem cursor) (l 4) 0 ε)))))
-    (lends_ref 𝓛 cursor (named 0) β r (l 4) 0) $ await ! tt $ pick ! (λ ε. split ! $
-    -- [the borrow; what is kept of it; β; its end; α; κ₂; κ₁; what follows; what is kept; the value]
+    use2 𝓛 (‵ (part_at cursor full_share r (l 4) 0)) (part_in_at 𝓛 cursor refl full_share r (l 4) 0 spelled refl (lowered r)) $ move ! (2 ∷ 0 ∷ []) $
+    use2 𝓛 (later (some (λ (p : Loan). ‵ (lent cursor (l 4) 0 (p.0 ∷ α) p.2 r) ⊛ ‵ (flft (p.0 ∷ α) p.1) ⊛ ‵ (flft α (Share.right qα)) ⊛ raw (KeptPlace 𝓛 cursor α qα (l 4) p)))) (lends_place 𝓛 cursor α qα (l 4) r) $ await ! tt $ pick ! (λ p'. split3 ! $ move ! (2 ∷ []) $ split ! $ move ! (2 ∷ 3 ∷ []) $
+    let β : Lft = p'.0 ∷ α in let qβ : Share = p'.1 in let ε : GName = p'.2 in let inside : β ⊑ α = meet_⊑_right (p'.0 ∷ []) α in
+    -- [the borrow; β; α; what is kept of the place; κ₂; κ₁; what follows; what is kept; the value]
     sets ! (addr ! (from ! (stop !))) refl (tt, tt) $
     let G₂ = triple_of 𝓛 (W.signature Y) (W.spec Y gc dc 𝓛 𝓜.mem 𝓡.returns) in
     let x₂ : MutBor Sort = record { ref_ptr = (l 4, 0); ghost_name = ε; now = r } in
     let z₂ : G₂.Ghost = (((β, (α, (κ₂, tt))), (qβ, (Share.right qα, (q₂, tt))), (inside, (⊑_trans β α κ₂ inside in₂, (in₂, tt))), (x₂, (count, (value, tt))), (mut_vals x₂, (vint w64 count ∷ [], (v ∷ [], tt)))), tt) in
-    nothing ! $ move ! (10 ∷ 0 ∷ []) $ fjoin ! $ owned ! usize (Is usize) (uint_Makes 𝓛 w64) count (vint w64 count ∷ []) (refl, low_count) $ fjoin ! $ move ! (1 ∷ 0 ∷ []) $ fjoin ! $
-    nothing ! $ move ! (6 ∷ 0 ∷ []) $ join ! $ move ! (5 ∷ 0 ∷ []) $ join ! $ move ! (3 ∷ 0 ∷ []) $ join ! $ join ! $
+    nothing ! $ move ! (9 ∷ 0 ∷ []) $ fjoin ! $ owned ! usize (Is usize) (uint_Makes 𝓛 w64) count (vint w64 count ∷ []) (refl, low_count) $ fjoin ! $ move ! (1 ∷ 0 ∷ []) $ fjoin ! $
+    nothing ! $ move ! (5 ∷ 0 ∷ []) $ join ! $ move ! (3 ∷ 0 ∷ []) $ join ! $ move ! (2 ∷ 0 ∷ []) $ join ! $ join ! $
     nothing ! $ use0 𝓛 (raw (fact 𝓤 (κ₂ ⊑ Y.lives))) (fact_i 𝓤 (κ₂ ⊑ Y.lives) (emp 𝓤) inY) $ join ! $ move ! (1 ∷ 0 ∷ []) $ use2 𝓛 (raw (G₂.pre z₂)) (id⊢ 𝓤 _) $
-    -- [what the call asks; what is kept of the borrow; the end of β; κ₁; what follows; what is kept]
+    -- [what the call asks; what is kept of the place; κ₁; what follows; what is kept]
     calls_at ! fm G₂ (writing.met 𝓤 𝓛 𝓜 𝓡 (compiled.calls-imgref_examples::pixels::write_next 𝓡.env wired) Y LY CY gc dc bc) z₂ (and_then ! (get ! refl) (and_then ! (get ! refl) (and_then ! (get ! refl) (no_more !)))) (λ v₂.
     use1 𝓛 (later (some (λ (u : Unit {0}). ((‵ (flft β qβ) ⊛ ‵ (flft α (Share.right qα)) ⊛ ‵ (flft κ₂ q₂) ⊛ ‵ ftrue) ⊛ ‵ (unit.own_val u (v₂ ∷ []))) ⊛ some (λ (ws : Sort × (Unit {0} × (Unit {0} × Unit {0}))). ‵ (lasts (W.ended Y gc dc) z₂.0.0 z₂.0.3 ws) ⊛ ‵ (writes_first R count value r ws.0))))) (id⊢ 𝓤 _) $
     await ! tt $ pick ! (λ u. split ! $ split ! $ move ! (1 ∷ []) $ feq_l ! (λ is_unit. lands_as ! (ap only is_unit) refl (tt, tt) $
     move ! (1 ∷ []) $ pick ! (λ ws₂. let t : Sort = ws₂.0 in split ! $ fsplit ! $ fsplit ! $
-    -- [the cursor's last value; its borrow; nothing; what it fills; the tokens; what is kept of the borrow; the end of β; κ₁; what follows; what is kept]
-    move ! (4 ∷ []) $ split3 ! $ move ! (0 ∷ 8 ∷ []) $ use2 𝓛 (later (‵ (fdead β) ⊛ ‵ (flft α (Share.left qα)))) (apply∗ 𝓤 (𝓛.A.lft β qβ) _) $ await ! tt $ split ! $
-    move ! (1 ∷ 2 ∷ []) $ use2 𝓛 (‵ (flft α qα)) (𝓛.lfts.lft_join α qα) $
-    -- [α; β is over; κ₂; the cursor's last value; its borrow; nothing; what it fills; what is kept of the borrow; κ₁; what follows; what is kept]
-    move ! (1 ∷ 7 ∷ 3 ∷ []) $ use3 𝓛 (later (‵ (part_at cursor full_share t (l 4) 0))) (ref_back 𝓛 cursor β ε t (l 4) 0) $ await ! tt $
+    -- [the cursor's last value; its borrow; nothing; what it fills; the tokens; what is kept of the place; κ₁; what follows; what is kept]
+    move ! (4 ∷ []) $ split3 ! $ join ! $
+    -- [β and α; κ₂; the cursor's last value; its borrow; nothing; what it fills; what is kept of the place; κ₁; what follows; what is kept]
+    move ! (0 ∷ 6 ∷ 2 ∷ []) $ use3 𝓛 (later (‵ (part_at cursor full_share t (l 4) 0) ⊛ ‵ (flft α qα))) (place_ends 𝓛 cursor α qα (l 4) p' t) $ await ! tt $ split ! $
     use1 𝓛 (some (λ (v₃ : Val). ‵ (fat full_share spelled (l 4) 0 v₃) ⊛ ‵ (cursor.own_val t (v₃ ∷ [])))) (part_out_at 𝓛 cursor refl full_share t (l 4) 0 spelled refl) $ pick ! (λ v₃. split ! $
     move ! (1 ∷ []) $ peeks ! cursor (Is cursor) (shows 𝓛 cursor) t (v₃ ∷ []) (λ is₃.
     let told₃ : v₃ ∷ [] ≡ lowered t ∷ [] = low.val_is t (v₃ ∷ []) is₃ in
@@ -140,4 +136,4 @@ cover_first_spec 𝓤 𝓛 𝓜 𝓡 wired X Y LX LY CY gh d gs ds gc dc bm bs b
     feq_i ! (List Val) (vunit ∷ []) (vunit ∷ []) refl $ nothing ! $ nothing ! $ fjoin ! $ nothing ! $ fjoin ! $ move ! (4 ∷ 0 ∷ []) $ fjoin ! $
     nothing ! $ move ! (5 ∷ 0 ∷ []) $ join ! $ move ! (8 ∷ 0 ∷ []) $ join ! $ move ! (4 ∷ 0 ∷ []) $ join ! $
     -- [the tokens; the image; (); the ensures]
-    keep ! (0 ∷ 1 ∷ 2 ∷ 3 ∷ []) $ by ! (leaves 𝓛 En hs c bound vunit tt (F zs, (tt, (tt, tt))) (tt, (tt, (tt, tt))))))))))))))))))))))))))))))
+    keep ! (0 ∷ 1 ∷ 2 ∷ 3 ∷ []) $ by ! (leaves 𝓛 En hs c bound vunit tt (F zs, (tt, (tt, tt))) (tt, (tt, (tt, tt)))))))))))))))))))))))))))))

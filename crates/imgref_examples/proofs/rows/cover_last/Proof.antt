@@ -1,18 +1,18 @@
 -- `cover_last` lends the image to an iterator and the iterator to `step`, fills the last row and lets the others go: the image ends as its cells do. Assumes `Logic`.
 use base.Share
 use mir.Syntax.{Body}
-use types.SemTy.{Body as BorBody}
-use Rattle.std.proofs.Common.{⊎_elim, ◌≡◌, refl, sym, ap, subst, ℕ, ◌^◌, ◌<◌, List, [], ◌∷◌, length, replicate, T, lit<, MutBor, Option, Some, None, All}
+use Rattle.std.proofs.Common.{⊎_elim, ◌≡◌, refl, sym, ap, subst, ℕ, List, [], ◌∷◌, length, replicate, T, lit<, MutBor, Option, Some, None}
 use Rattle.std.proofs.alloc.Shapes.{after}
 use Rattle.std.specs.contracts.option.Option as OP
 use Rattle.image_model.specs.Layout.{Layout, Fits}
 use Rattle.imgref.specs.Image.{with_all, layout_by}
-use Rattle.borrow_laws.proofs.Walking.{full_share, Lft, GName, Share, feq, ftrue, fdead, fres, fat, flft, flent, SProp, ent, emp, id⊢, apply∗, sem, Args, Fn, Ty, named, ty_unit, skip, inst_fn, Val, WT, has_ty, vptr, vunit, of_list, Wp, after_seq, at_return, ◌⊑◌, ⊑_trans, meet_⊑_right, fact, fact_i, tables, Item, Sq, any_q, ‵, ◌⊛◌, raw, later, some, at_ret, runs, ◌$◌, ◌∵◌, !, qed, by, move, keep, drop, split, split3, join, fsplit, fjoin, feq_l, feq_i, rewrite, use0, use1, use2, use3, await, pick, live, vrt, in_variant, all_of, sub, agg, stop, fld, hop, from, addr, of_opd, unit_lit, and_then, no_more, first, switches_on, skips, exec, returns, enter, alloc_all, pass_all, free_all, look_at, look_in_at, get, get_in, get_tag, through, sets, lands_as, lands_last, env, holding, forget_but, take_at, give_at, Array, unit, no, follows, followed, finally-res, shows, Is, lends_ref, ref_back, part_at, mem, part_in_at, part_out_at, param, copied, param_laws, copied_laws, copied_copy, RattleType, owns, MutRef, mut_vals, mut_Tells, plain, named_lft, types_at, MutSlice, nothing, heard, peeks, only, calls_at, calls_at_last, lasts, triple_of, framed, Stays, stay_ref, stay_dropped, walk_of, Goes-ref, Goes-dropped, proved, leaves, owned, row_Makes, lit}
+use Rattle.borrow_laws.proofs.Walking.{full_share, Lft, GName, Share, feq, ftrue, fres, fat, flft, SProp, ent, emp, id⊢, sem, Args, Fn, Ty, named, ty_unit, skip, inst_fn, Val, WT, has_ty, vptr, vunit, of_list, Wp, after_seq, at_return, ◌⊑◌, ⊑_trans, meet_⊑_right, fact, fact_i, tables, Item, Sq, any_q, ‵, ◌⊛◌, raw, later, some, at_ret, runs, ◌$◌, ◌∵◌, !, qed, by, move, keep, drop, split, split3, join, fsplit, fjoin, feq_l, feq_i, rewrite, use0, use1, use2, use3, await, pick, live, vrt, in_variant, all_of, sub, agg, stop, fld, hop, from, addr, of_opd, unit_lit, and_then, no_more, first, switches_on, skips, exec, returns, enter, alloc_all, pass_all, free_all, look_at, look_in_at, get, get_in, get_tag, through, sets, lands_as, lands_last, env, holding, forget_but, take_at, give_at, Array, unit, no, follows, followed, finally-res, shows, Is, part_at, part_in_at, part_out_at, param, copied, param_laws, copied_laws, copied_copy, RattleType, owns, mut_vals, mut_Tells, plain, named_lft, types_at, MutSlice, nothing, heard, peeks, only, calls_at, calls_at_last, lasts, triple_of, framed, Stays, stay_ref, stay_dropped, walk_of, Goes-ref, Goes-dropped, proved, leaves, owned, row_Makes, lit}
 use Rattle.borrow_laws.proofs.Bodies.{of_copied, first_arm, type_of}
 use Rattle.borrow_laws.proofs.Declared.{typed}
 use Rattle.borrow_laws.specs.Endings.{ends_as}
 use Rattle.borrow_laws.proofs.Endings.{ends_beside, ends_said}
-use Rattle.borrow_laws.proofs.Lifetimes.{Ends, begins, Loan, Kept, lent, lends, ends}
+use Rattle.borrow_laws.proofs.Lifetimes.{Loan, Kept, lent, lends, ends}
+use Rattle.borrow_laws.proofs.Places.{KeptPlace, lends_place, place_ends}
 use Rattle.borrow_laws.proofs.Options.{none_or_some, none_told, some_told, some_slice, lent_val}
 use Rattle.borrow_laws.proofs.Parts.{given_up}
 use Rattle.image_shape.specs.declared.ends.End.TheVariants.{Last}
@@ -88,18 +88,14 @@ cover_last_spec 𝓤 𝓛 𝓜 𝓡 wired X Y LX LY CY gh d gs ds gc dc bm bs bc
     lands_as ! (ap only t₁) refl (fit r (v₁ ∷ []) is₁) $
     sets ! (of_opd ! (get ! refl)) refl (fit r (v₁ ∷ []) is₁) $
     -- [the iterator; what follows; the tokens; what is kept; the value]
-    move ! (2 ∷ []) $ split3 ! $ move ! (2 ∷ []) $ split ! $ move ! (1 ∷ []) $ drop ! $ move ! (1 ∷ []) $
-    use1 𝓛 (‵ (flft α (Share.left qα)) ⊛ ‵ (flft α (Share.right qα))) (𝓛.lfts.lft_split α qα) $ split ! $
-    use1 𝓛 (later (some (λ (p' : ℕ × Share). ‵ (flft (p'.0 ∷ α) p'.1) ⊛ raw (Ends 𝓛 α (Share.left qα) p'.0 p'.1)))) (begins 𝓛 α (Share.left qα)) $ await ! tt $ pick ! (λ p'. split ! $
-    let β : Lft = p'.0 ∷ α in let qβ : Share = p'.1 in let inside : β ⊑ α = meet_⊑_right (p'.0 ∷ []) α in
-    -- [β; its end; α; κ₂; κ₁; the iterator; what follows; what is kept; the value]
-    take_at ! 3 $ move ! (0 ∷ 6 ∷ []) $
-    -- [local 3; the iterator; β; its end; α; κ₂; κ₁; what follows; what is kept; the value]
+    move ! (2 ∷ []) $ split3 ! $ move ! (2 ∷ []) $ split ! $ move ! (1 ∷ []) $ drop ! $
+    take_at ! 3 $ move ! (0 ∷ 4 ∷ []) $
+    -- [local 3; the iterator; κ₂; α; κ₁; what follows; what is kept; the value]
     let spelled : Ty = type_of 3 fn.locals in
-    use2 𝓛 (‵ (part_at Rows full_share r (l 3) 0)) (part_in_at 𝓛 Rows refl full_share r (l 3) 0 spelled refl (word r)) $
-    use1 𝓛 (later (some (λ (ε : GName). ‵ ((MutRef (named 0) β Rows).own_val (record { ref_ptr = (l 3, 0); ghost_name = ε; now = r }) (vptr (l 3) 0 ∷ [])) ⊛ ‵ (flent β (BorBody (mem Rows) (l 3) 0 ε)))))
-    (lends_ref 𝓛 Rows (named 0) β r (l 3) 0) $ await ! tt $ pick ! (λ ε. split ! $
-    -- [the borrow; what is kept of it; β; its end; α; κ₂; κ₁; what follows; what is kept; the value]
+    use2 𝓛 (‵ (part_at Rows full_share r (l 3) 0)) (part_in_at 𝓛 Rows refl full_share r (l 3) 0 spelled refl (word r)) $ move ! (2 ∷ 0 ∷ []) $
+    use2 𝓛 (later (some (λ (p : Loan). ‵ (lent Rows (l 3) 0 (p.0 ∷ α) p.2 r) ⊛ ‵ (flft (p.0 ∷ α) p.1) ⊛ ‵ (flft α (Share.right qα)) ⊛ raw (KeptPlace 𝓛 Rows α qα (l 3) p)))) (lends_place 𝓛 Rows α qα (l 3) r) $ await ! tt $ pick ! (λ p'. split3 ! $ move ! (2 ∷ []) $ split ! $ move ! (2 ∷ 3 ∷ []) $
+    let β : Lft = p'.0 ∷ α in let qβ : Share = p'.1 in let ε : GName = p'.2 in let inside : β ⊑ α = meet_⊑_right (p'.0 ∷ []) α in
+    -- [the borrow; β; α; what is kept of the place; κ₂; κ₁; what follows; what is kept; the value]
     sets ! (addr ! (from ! (stop !))) refl (tt, tt) $
     sets ! (agg ! (and_then ! (lit ! tt) (no_more !))) refl (tt, (record { fits = lit< tt }, tt)) $
     let e_last : Val = end_laws.lowered Last in
@@ -107,9 +103,9 @@ cover_last_spec 𝓤 𝓛 𝓜 𝓡 wired X Y LX LY CY gh d gs ds gc dc bm bs bc
     let x₂ : MutBor Sort = record { ref_ptr = (l 3, 0); ghost_name = ε; now = r } in
     let z₂ : G₂.Ghost = (((β, (α, (κ₂, tt))), (qβ, (Share.right qα, (q₂, tt))), (inside, (⊑_trans β α κ₂ inside in₂, (in₂, tt))), (x₂, (Last, tt)), (mut_vals x₂, (e_last ∷ [], tt))), tt) in
     nothing ! $ owned ! end_type.the_row (Is end_type.the_row) (row_Makes end_type.the_row end_laws.the_row_plain 𝓛) Last (e_last ∷ []) ([], (refl, (tt, (refl, tt)))) $ join ! $ move ! (1 ∷ 0 ∷ []) $ join ! $
-    nothing ! $ move ! (6 ∷ 0 ∷ []) $ join ! $ move ! (5 ∷ 0 ∷ []) $ join ! $ move ! (3 ∷ 0 ∷ []) $ join ! $ join ! $
+    nothing ! $ move ! (5 ∷ 0 ∷ []) $ join ! $ move ! (3 ∷ 0 ∷ []) $ join ! $ move ! (2 ∷ 0 ∷ []) $ join ! $ join ! $
     nothing ! $ use0 𝓛 (raw (fact 𝓤 (κ₂ ⊑ Y.lives))) (fact_i 𝓤 (κ₂ ⊑ Y.lives) (emp 𝓤) inY) $ join ! $ move ! (1 ∷ 0 ∷ []) $ use2 𝓛 (raw (G₂.pre z₂)) (id⊢ 𝓤 _) $
-    -- [what the call asks; what is kept of the borrow; the end of β; κ₁; what follows; what is kept; the value]
+    -- [what the call asks; what is kept of the place; κ₁; what follows; what is kept; the value]
     calls_at ! fm G₂ (stepping.met 𝓤 𝓛 𝓜 𝓡 (compiled.calls-image_rows::writing::RowsIterMut::step 𝓡.env wired) Y LY) z₂ (and_then ! (get ! refl) (and_then ! (get ! refl) (no_more !))) (λ v₂.
     let Slice : RattleType = MutSlice (named 0) α R in
     let Row : RattleType = OP.the_row Slice in
@@ -118,12 +114,11 @@ cover_last_spec 𝓤 𝓛 𝓜 𝓡 wired X Y LX LY CY gh d gs ds gc dc bm bs bc
     ⊛ (‵ (hands_on R Last r m ws.0) ⊛ raw (fact 𝓤 (Yields Last r m ws.0)) ⊛ raw (fact 𝓤 (Moves Last r m ws.0))))))) (id⊢ 𝓤 _) $
     await ! tt $ pick ! (λ m. split ! $ split ! $ move ! (2 ∷ []) $ pick ! (λ ws₂. let t : Sort = ws₂.0 in split ! $ fsplit ! $ fsplit ! $ move ! (3 ∷ []) $ split3 ! $ move ! (1 ∷ []) $
     heard ! (Yields Last r m t) (λ steps. move ! (1 ∷ []) $ heard ! (Moves Last r m t) (λ moved.
-    -- [what follows the row; how the iterator ends; its borrow; nothing; the tokens; the row; what is kept of the borrow; the end of β; κ₁; what follows; what is kept; the value]
+    -- [what follows the row; how the iterator ends; its borrow; nothing; the tokens; the row; what is kept of the place; κ₁; what follows; what is kept; the value]
     move ! (4 ∷ []) $ split3 ! $ move ! (2 ∷ []) $ split ! $ move ! (1 ∷ []) $ drop ! $
-    move ! (1 ∷ 9 ∷ []) $ use2 𝓛 (later (‵ (fdead β) ⊛ ‵ (flft α (Share.left qα)))) (apply∗ 𝓤 (𝓛.A.lft β qβ) _) $ await ! tt $ split ! $
-    move ! (1 ∷ 3 ∷ []) $ use2 𝓛 (‵ (flft α qα)) (𝓛.lfts.lft_join α qα) $
-    -- [α; β is over; κ₂; what follows the row; how the iterator ends; its borrow; nothing; the row; what is kept of the borrow; κ₁; what follows; what is kept; the value]
-    move ! (1 ∷ 8 ∷ 4 ∷ []) $ use3 𝓛 (later (‵ (part_at Rows full_share t (l 3) 0))) (ref_back 𝓛 Rows β ε t (l 3) 0) $ await ! tt $
+    move ! (1 ∷ 2 ∷ []) $ join ! $
+    -- [β and α; κ₂; what follows the row; how the iterator ends; its borrow; nothing; the row; what is kept of the place; κ₁; what follows; what is kept; the value]
+    move ! (0 ∷ 7 ∷ 3 ∷ []) $ use3 𝓛 (later (‵ (part_at Rows full_share t (l 3) 0) ⊛ ‵ (flft α qα))) (place_ends 𝓛 Rows α qα (l 3) p' t) $ await ! tt $ split ! $
     use1 𝓛 (some (λ (v₃ : Val). ‵ (fat full_share spelled (l 3) 0 v₃) ⊛ ‵ (Rows.own_val t (v₃ ∷ [])))) (part_out_at 𝓛 Rows refl full_share t (l 3) 0 spelled refl) $ pick ! (λ v₃. split ! $
     move ! (1 ∷ []) $ peeks ! Rows (Is Rows) (shows 𝓛 Rows) t (v₃ ∷ []) (λ is₃. let t₃ = told t (v₃ ∷ []) is₃ in
     rewrite ! 0 (λ (us : List Val). ‵ (Rows.own_val t us)) t₃ refl $ move ! (1 ∷ []) $ rewrite ! 0 (λ (us : Val). ‵ (fat full_share spelled (l 3) 0 us)) (ap only t₃) refl $ give_at ! 3 $
@@ -199,4 +194,4 @@ cover_last_spec 𝓤 𝓛 𝓜 𝓡 wired X Y LX LY CY gh d gs ds gc dc bm bs bc
     -- [how the cells end; the row's length; its borrow; nothing; the tokens; κ₁; what follows; what is kept]
     move ! (1 ∷ 2 ∷ 3 ∷ []) $ drop ! $ drop ! $ drop ! $ move ! (1 ∷ []) $ split3 ! $ move ! (2 ∷ []) $ drop ! $ forget_but ! E (1 ∷ 2 ∷ []) refl $ move ! (2 ∷ 0 ∷ 1 ∷ []) $ tail)))))))
     (none_or_some m)
-    ))))))))))))))))))))))
+    )))))))))))))))))))))

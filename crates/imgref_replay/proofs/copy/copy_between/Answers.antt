@@ -1,5 +1,5 @@
 -- Within one image it is a move; of two, each part of the list has one.
-use Rattle.std.proofs.Common.{◌≡◌, refl, ◌<◌, get_or, map, set, ap, sym, ◌∙◌, subst, arith}
+use Rattle.std.proofs.Common.{◌≡◌, refl, ◌<◌, get_or, map, set, ap, sym, subst, arith}
 use Rattle.image_model.specs.Windows.{IsInside, window_view}
 use Rattle.imgref.specs.Image.{vec_layout}
 use Rattle.imgref.specs.Window.{as_window}
@@ -7,7 +7,7 @@ use Rattle.imgref.specs.Lists.{grids_of}
 use Rattle.image_commands.specs.Commands.{grid_at}
 use Rattle.imgref_replay.specs.Step.{ShowsCopy}
 use Rattle.imgref_replay.proofs.Images.{fits_at, inside_at}
-use Rattle.imgref_replay.proofs.Copies.{may_copy, copied, in_front, in_back, set_front, set_back}
+use Rattle.imgref_replay.proofs.Copies.{may_copy, copied, front_is, back_is, set_front, set_back}
 use Rattle.imgref_replay.proofs.copy.copy_between.Goals as goal
 
 -- ---- the same image is read and written
@@ -43,26 +43,20 @@ pub copy_over-requires : goal.copy_over-requires
 copy_over-requires g c =
     let a = c.args in
     let r = c.requires in
-    let images = a.images.now in
     let parts = c.split_at_mut-front.ensures in
-    let is = in_back images _ _ a.target parts.value parts.front_len c.index-back-0.result ∙ ap (get_or images a.target) c.index-back-0.is in
-    let seen_is = in_front images _ _ a.target parts.value parts.front_len a.source c.index-front-source.result c.if-source-target-2.true ∙ ap (get_or images a.source) c.index-front-source.is in
-    may_copy images a.target a.source _ _ (as_window a.to) (as_window a.from) r.target r.source is seen_is r.fit r.target_inside r.source_inside r.same_width r.same_height
+    let is = back_is a.images.now _ _ a.target parts.value parts.front_len _ c.index-back-0.is in
+    let seen_is = front_is a.images.now _ _ a.target parts.value parts.front_len a.source _ c.if-source-target-2.true c.index-front-source.is in
+    may_copy a.images.now a.target a.source _ _ (as_window a.to) (as_window a.from) r.target r.source is seen_is r.fit r.target_inside r.source_inside r.same_width r.same_height
 
 pub returns-then-source-target-2 : goal.returns-then-source-target-2
 returns-then-source-target-2 g c =
     let a = c.args in
     let r = c.requires in
-    let images = a.images.now in
-    let parts = c.split_at_mut-front in
-    let value = parts.ensures.value in
-    let cut = parts.ensures.front_len in
-    let old = get_or parts.result.1.now 0 c.index-back-0.result in
-    let seen = get_or parts.result.0.now a.source c.index-front-source.result in
-    let is : old ≡ get_or images a.target old = in_back images _ _ a.target value cut c.index-back-0.result ∙ ap (get_or images a.target) c.index-back-0.is in
-    let seen_is : seen ≡ get_or images a.source seen = in_front images _ _ a.target value cut a.source c.index-front-source.result c.if-source-target-2.true ∙ ap (get_or images a.source) c.index-front-source.is in
+    let parts = c.split_at_mut-front.ensures in
     let over = c.copy_over in
-    copied images a.target a.source a.to.left a.to.top (as_window a.from) old seen over.new.image _ (set_back images _ _ a.target value cut over.new.image) r.target r.source is seen_is over.ensures.grid over.ensures.outside over.ensures.fits r.fit
+    let is = back_is a.images.now _ _ a.target parts.value parts.front_len _ c.index-back-0.is in
+    let seen_is = front_is a.images.now _ _ a.target parts.value parts.front_len a.source _ c.if-source-target-2.true c.index-front-source.is in
+    copied a.images.now a.target a.source a.to.left a.to.top (as_window a.from) _ _ over.new.image _ (set_back a.images.now _ _ a.target parts.value parts.front_len over.new.image) r.target r.source is seen_is over.ensures.grid over.ensures.outside over.ensures.fits r.fit
 
 -- ---- the image that is written is in front
 
@@ -70,27 +64,19 @@ pub copy_over-requires-else-source-target-2 : goal.copy_over-requires-else-sourc
 copy_over-requires-else-source-target-2 g c =
     let a = c.args in
     let r = c.requires in
-    let images = a.images.now in
     let parts = c.split_at_mut-front-else-source-target-2.ensures in
     let below : a.target < a.source = omega (arith, c.if-source-target.false, c.if-source-target-2.false) in
-    let is = in_front images _ _ a.source parts.value parts.front_len a.target c.index-front-target.result below ∙ ap (get_or images a.target) c.index-front-target.is in
-    let read = c.index-back-0-else-source-target-2 in
-    let seen_is = in_back images _ _ a.source parts.value parts.front_len read.result ∙ ap (get_or images a.source) read.is in
-    may_copy images a.target a.source _ _ (as_window a.to) (as_window a.from) r.target r.source is seen_is r.fit r.target_inside r.source_inside r.same_width r.same_height
+    let is = front_is a.images.now _ _ a.source parts.value parts.front_len a.target _ below c.index-front-target.is in
+    let seen_is = back_is a.images.now _ _ a.source parts.value parts.front_len _ c.index-back-0-else-source-target-2.is in
+    may_copy a.images.now a.target a.source _ _ (as_window a.to) (as_window a.from) r.target r.source is seen_is r.fit r.target_inside r.source_inside r.same_width r.same_height
 
 pub returns-else-source-target-2 : goal.returns-else-source-target-2
 returns-else-source-target-2 g c =
     let a = c.args in
     let r = c.requires in
-    let images = a.images.now in
-    let parts = c.split_at_mut-front-else-source-target-2 in
-    let value = parts.ensures.value in
-    let cut = parts.ensures.front_len in
-    let below : a.target < a.source = omega (arith, c.if-source-target.false, c.if-source-target-2.false) in
-    let read = c.index-back-0-else-source-target-2 in
-    let old = get_or parts.result.0.now a.target c.index-front-target.result in
-    let seen = get_or parts.result.1.now 0 read.result in
-    let is : old ≡ get_or images a.target old = in_front images _ _ a.source value cut a.target c.index-front-target.result below ∙ ap (get_or images a.target) c.index-front-target.is in
-    let seen_is : seen ≡ get_or images a.source seen = in_back images _ _ a.source value cut read.result ∙ ap (get_or images a.source) read.is in
+    let parts = c.split_at_mut-front-else-source-target-2.ensures in
     let over = c.copy_over-else-source-target-2 in
-    copied images a.target a.source a.to.left a.to.top (as_window a.from) old seen over.new.image _ (set_front images _ _ a.source value cut a.target over.new.image below) r.target r.source is seen_is over.ensures.grid over.ensures.outside over.ensures.fits r.fit
+    let below : a.target < a.source = omega (arith, c.if-source-target.false, c.if-source-target-2.false) in
+    let is = front_is a.images.now _ _ a.source parts.value parts.front_len a.target _ below c.index-front-target.is in
+    let seen_is = back_is a.images.now _ _ a.source parts.value parts.front_len _ c.index-back-0-else-source-target-2.is in
+    copied a.images.now a.target a.source a.to.left a.to.top (as_window a.from) _ _ over.new.image _ (set_front a.images.now _ _ a.source parts.value parts.front_len a.target over.new.image below) r.target r.source is seen_is over.ensures.grid over.ensures.outside over.ensures.fits r.fit

@@ -1,7 +1,6 @@
 -- `cover_band` makes the bands of an image, takes the first, fills it and lets the others go: what the image shows then. Assumes `Logic`.
 use base.Share
 use mir.Syntax.{Body}
-use types.SemTy.{Body as BorBody}
 use Rattle.std.proofs.Common.{⊎_elim, ◌≡◌, refl, sym, ap, subst, ◌∙◌, ℕ, ◌^◌, ◌<◌, List, [], ◌∷◌, length, T, lit<, w64, MutBor, Option, Some, None}
 use Rattle.std.proofs.alloc.Shapes.{after}
 use Rattle.std.specs.Iterator.{YieldsFirstBy}
@@ -12,12 +11,13 @@ use Rattle.image_shape.specs.declared.shape.Shape.{Shape}
 use Rattle.image_shape.specs.contracts.shape.Shape as shape
 use Rattle.imgref.specs.Image.{with_all, layout_by, mut_layout, shape_of}
 use Rattle.imgref.proofs.ImageValues.{shape_val, shape_made, img_row, LentCells, lent_cells_laws, ImgParts, img_parts_told}
-use Rattle.borrow_laws.proofs.Walking.{full_share, Lft, GName, Share, ftrue, fdead, fres, fat, flft, flent, SProp, ent, emp, id⊢, apply∗, sem, Args, Fn, Ty, named, ty_unit, skip, inst_fn, vint, Val, WT, has_ty, vptr, vunit, Wp, after_seq, at_return, ◌⊑◌, ⊑_refl, ⊑_meet, ⊑_trans, meet_⊑_right, fact, fact_i, tables, Item, Sq, any_q, ‵, ◌⊛◌, raw, later, some, at_ret, runs, ◌$◌, ◌∵◌, !, qed, by, move, keep, drop, split, split3, join, fsplit, fpick, fjoin, feq_l, feq_i, rewrite, use0, use1, use2, use3, await, pick, vrt, in_variant, all_of, sub, agg, stop, fld, hop, from, addr, of_opd, unit_lit, and_then, no_more, first, switches_on, skips, exec, returns, enter, alloc_all, pass_all, free_all, look_at, look_in_at, get, get_in, get_tag, through, sets, lands_as, lands_last, env, holding, forget_but, take_at, give_at, Array, unit, usize, no, yes, follows, followed, finally-res, shows, Is, uint_Makes, uint_vals, uint_Tells, lends_ref, ref_back, part_at, mem, part_in_at, part_out_at, param, copied, param_laws, copied_laws, copied_copy, RattleType, owns, MutRef, mut_vals, mut_Tells, plain, named_lft, types_at, MutSlice, slice_val, nothing, heard, owned, peeks, only, calls_at, calls_at_last, lasts, triple_of, framed, Stays, stay_ref, stay_dropped, walk_of, Goes-ref, Goes-dropped, proved, leaves}
+use Rattle.borrow_laws.proofs.Walking.{full_share, Lft, GName, Share, ftrue, fres, fat, flft, SProp, ent, emp, id⊢, sem, Args, Fn, Ty, named, ty_unit, skip, inst_fn, vint, Val, WT, has_ty, vptr, vunit, Wp, after_seq, at_return, ◌⊑◌, ⊑_refl, ⊑_meet, ⊑_trans, meet_⊑_right, fact, fact_i, tables, Item, Sq, any_q, ‵, ◌⊛◌, raw, later, some, at_ret, runs, ◌$◌, ◌∵◌, !, qed, by, move, keep, drop, split, split3, join, fsplit, fpick, fjoin, feq_l, feq_i, rewrite, use0, use1, use2, use3, await, pick, vrt, in_variant, all_of, sub, agg, stop, fld, hop, from, addr, of_opd, unit_lit, and_then, no_more, first, switches_on, skips, exec, returns, enter, alloc_all, pass_all, free_all, look_at, look_in_at, get, get_in, get_tag, through, sets, lands_as, lands_last, env, holding, forget_but, take_at, give_at, Array, unit, usize, no, yes, follows, followed, finally-res, shows, Is, uint_Makes, uint_vals, uint_Tells, part_at, part_in_at, part_out_at, param, copied, param_laws, copied_laws, copied_copy, RattleType, owns, mut_vals, mut_Tells, plain, named_lft, types_at, MutSlice, slice_val, nothing, heard, owned, peeks, only, calls_at, calls_at_last, lasts, triple_of, framed, Stays, stay_ref, stay_dropped, walk_of, Goes-ref, Goes-dropped, proved, leaves}
 use Rattle.borrow_laws.proofs.Bodies.{of_copied, first_arm, type_of}
 use Rattle.borrow_laws.proofs.Declared.{typed}
 use Rattle.borrow_laws.specs.Endings.{ends_as}
 use Rattle.borrow_laws.proofs.Endings.{ends_beside, ends_said}
-use Rattle.borrow_laws.proofs.Lifetimes.{Ends, begins, Loan, Kept, lent, lends, ends}
+use Rattle.borrow_laws.proofs.Lifetimes.{Loan, Kept, lent, lends, ends}
+use Rattle.borrow_laws.proofs.Places.{KeptPlace, lends_place, place_ends}
 use Rattle.borrow_laws.proofs.Options.{none_or_some, none_told, lent_val}
 use Rattle.borrow_laws.proofs.Parts.{given_up}
 use Rattle.image_tiles.specs.declared.bands.BandsMut.{BandsMut}
@@ -94,26 +94,22 @@ cover_band_spec 𝓤 𝓛 𝓜 𝓡 wired X Y LX LY CY gh d gs ds gc dc bm bs bc
     lands_as ! (ap only t₁) refl (fit r (v₁ ∷ []) is₁) $
     sets ! (of_opd ! (get ! refl)) refl (fit r (v₁ ∷ []) is₁) $
     -- [the iterator; what follows; the tokens; what is kept; the value]
-    move ! (2 ∷ []) $ split3 ! $ move ! (2 ∷ []) $ split ! $ move ! (1 ∷ []) $ drop ! $ move ! (1 ∷ []) $
-    use1 𝓛 (‵ (flft α (Share.left qα)) ⊛ ‵ (flft α (Share.right qα))) (𝓛.lfts.lft_split α qα) $ split ! $
-    use1 𝓛 (later (some (λ (p' : ℕ × Share). ‵ (flft (p'.0 ∷ α) p'.1) ⊛ raw (Ends 𝓛 α (Share.left qα) p'.0 p'.1)))) (begins 𝓛 α (Share.left qα)) $ await ! tt $ pick ! (λ p'. split ! $
-    let β : Lft = p'.0 ∷ α in let qβ : Share = p'.1 in let inside : β ⊑ α = meet_⊑_right (p'.0 ∷ []) α in
-    -- [β; its end; α; κ₂; κ₁; the iterator; what follows; what is kept; the value]
-    take_at ! 4 $ move ! (0 ∷ 6 ∷ []) $
-    -- [local 4; the iterator; β; its end; α; κ₂; κ₁; what follows; what is kept; the value]
+    move ! (2 ∷ []) $ split3 ! $ move ! (2 ∷ []) $ split ! $ move ! (1 ∷ []) $ drop ! $
+    take_at ! 4 $ move ! (0 ∷ 4 ∷ []) $
+    -- [local 4; the iterator; κ₂; α; κ₁; what follows; what is kept; the value]
     let spelled : Ty = type_of 4 fn.locals in
-    use2 𝓛 (‵ (part_at Rows full_share r (l 4) 0)) (part_in_at 𝓛 Rows refl full_share r (l 4) 0 spelled refl (word r)) $
-    use1 𝓛 (later (some (λ (ε : GName). ‵ ((MutRef (named 0) β Rows).own_val (record { ref_ptr = (l 4, 0); ghost_name = ε; now = r }) (vptr (l 4) 0 ∷ [])) ⊛ ‵ (flent β (BorBody (mem Rows) (l 4) 0 ε)))))
-    (lends_ref 𝓛 Rows (named 0) β r (l 4) 0) $ await ! tt $ pick ! (λ ε. split ! $
-    -- [the borrow; what is kept of it; β; its end; α; κ₂; κ₁; what follows; what is kept; the value]
+    use2 𝓛 (‵ (part_at Rows full_share r (l 4) 0)) (part_in_at 𝓛 Rows refl full_share r (l 4) 0 spelled refl (word r)) $ move ! (2 ∷ 0 ∷ []) $
+    use2 𝓛 (later (some (λ (p : Loan). ‵ (lent Rows (l 4) 0 (p.0 ∷ α) p.2 r) ⊛ ‵ (flft (p.0 ∷ α) p.1) ⊛ ‵ (flft α (Share.right qα)) ⊛ raw (KeptPlace 𝓛 Rows α qα (l 4) p)))) (lends_place 𝓛 Rows α qα (l 4) r) $ await ! tt $ pick ! (λ p'. split3 ! $ move ! (2 ∷ []) $ split ! $ move ! (2 ∷ 3 ∷ []) $
+    let β : Lft = p'.0 ∷ α in let qβ : Share = p'.1 in let ε : GName = p'.2 in let inside : β ⊑ α = meet_⊑_right (p'.0 ∷ []) α in
+    -- [the borrow; β; α; what is kept of the place; κ₂; κ₁; what follows; what is kept; the value]
     sets ! (addr ! (from ! (stop !))) refl (tt, tt) $
     let G₂ = triple_of 𝓛 (N.signature Y) (N.spec Y 𝓛 𝓜.mem 𝓡.returns) in
     let x₂ : MutBor Sort = record { ref_ptr = (l 4, 0); ghost_name = ε; now = r } in
     let z₂ : G₂.Ghost = (((β, (α, (κ₂, tt))), (qβ, (Share.right qα, (q₂, tt))), (inside, (⊑_trans β α κ₂ inside in₂, (in₂, tt))), (x₂, tt), (mut_vals x₂, tt)), tt) in
     nothing ! $ move ! (1 ∷ 0 ∷ []) $ fjoin ! $
-    nothing ! $ move ! (6 ∷ 0 ∷ []) $ join ! $ move ! (5 ∷ 0 ∷ []) $ join ! $ move ! (3 ∷ 0 ∷ []) $ join ! $ join ! $
+    nothing ! $ move ! (5 ∷ 0 ∷ []) $ join ! $ move ! (3 ∷ 0 ∷ []) $ join ! $ move ! (2 ∷ 0 ∷ []) $ join ! $ join ! $
     nothing ! $ use0 𝓛 (raw (fact 𝓤 (κ₂ ⊑ Y.lives))) (fact_i 𝓤 (κ₂ ⊑ Y.lives) (emp 𝓤) inY) $ join ! $ move ! (1 ∷ 0 ∷ []) $ use2 𝓛 (raw (G₂.pre z₂)) (id⊢ 𝓤 _) $
-    -- [what the call asks; what is kept of the borrow; the end of β; κ₁; what follows; what is kept; the value]
+    -- [what the call asks; what is kept of the place; κ₁; what follows; what is kept; the value]
     calls_at ! fm G₂ (stepping.met 𝓤 𝓛 𝓜 𝓡 (compiled.calls-image_tiles::bands::BandsMut::step 𝓡.env wired) Y LY) z₂ (and_then ! (get ! refl) (no_more !)) (λ v₂.
     let Slice : RattleType = MutSlice (named 0) α R in
     let Image : RattleType = img_row (named 0) α R in
@@ -124,12 +120,11 @@ cover_band_spec 𝓤 𝓛 𝓜 𝓡 wired X Y LX LY CY gh d gs ds gc dc bm bs bc
     ⊛ (‵ (hands_on R r m ws.0) ⊛ raw (fact 𝓤 (YieldsFirstBy mut_layout bands_left r m ws.0)) ⊛ raw (fact 𝓤 (Moves r m ws.0))))))) (id⊢ 𝓤 _) $
     await ! tt $ pick ! (λ m. split ! $ split ! $ move ! (2 ∷ []) $ pick ! (λ ws₂. let t : Sort = ws₂.0 in split ! $ fsplit ! $ fsplit ! $ move ! (3 ∷ []) $ split3 ! $ move ! (1 ∷ []) $
     heard ! (YieldsFirstBy mut_layout bands_left r m t) (λ steps. move ! (1 ∷ []) $ heard ! (Moves r m t) (λ moved.
-    -- [what follows the row; how the iterator ends; its borrow; nothing; the tokens; the row; what is kept of the borrow; the end of β; κ₁; what follows; what is kept; the value]
+    -- [what follows the row; how the iterator ends; its borrow; nothing; the tokens; the row; what is kept of the place; κ₁; what follows; what is kept; the value]
     move ! (4 ∷ []) $ split3 ! $ move ! (2 ∷ []) $ split ! $ move ! (1 ∷ []) $ drop ! $
-    move ! (1 ∷ 9 ∷ []) $ use2 𝓛 (later (‵ (fdead β) ⊛ ‵ (flft α (Share.left qα)))) (apply∗ 𝓤 (𝓛.A.lft β qβ) _) $ await ! tt $ split ! $
-    move ! (1 ∷ 3 ∷ []) $ use2 𝓛 (‵ (flft α qα)) (𝓛.lfts.lft_join α qα) $
-    -- [α; β is over; κ₂; what follows the row; how the iterator ends; its borrow; nothing; the row; what is kept of the borrow; κ₁; what follows; what is kept; the value]
-    move ! (1 ∷ 8 ∷ 4 ∷ []) $ use3 𝓛 (later (‵ (part_at Rows full_share t (l 4) 0))) (ref_back 𝓛 Rows β ε t (l 4) 0) $ await ! tt $
+    move ! (1 ∷ 2 ∷ []) $ join ! $
+    -- [β and α; κ₂; what follows the row; how the iterator ends; its borrow; nothing; the row; what is kept of the place; κ₁; what follows; what is kept; the value]
+    move ! (0 ∷ 7 ∷ 3 ∷ []) $ use3 𝓛 (later (‵ (part_at Rows full_share t (l 4) 0) ⊛ ‵ (flft α qα))) (place_ends 𝓛 Rows α qα (l 4) p' t) $ await ! tt $ split ! $
     use1 𝓛 (some (λ (v₃ : Val). ‵ (fat full_share spelled (l 4) 0 v₃) ⊛ ‵ (Rows.own_val t (v₃ ∷ [])))) (part_out_at 𝓛 Rows refl full_share t (l 4) 0 spelled refl) $ pick ! (λ v₃. split ! $
     move ! (1 ∷ []) $ peeks ! Rows (Is Rows) (shows 𝓛 Rows) t (v₃ ∷ []) (λ is₃. let t₃ = told t (v₃ ∷ []) is₃ in
     rewrite ! 0 (λ (us : List Val). ‵ (Rows.own_val t us)) t₃ refl $ move ! (1 ∷ []) $ rewrite ! 0 (λ (us : Val). ‵ (fat full_share spelled (l 4) 0 us)) (ap only t₃) refl $ give_at ! 4 $
@@ -233,4 +228,4 @@ cover_band_spec 𝓤 𝓛 𝓜 𝓡 wired X Y LX LY CY gh d gs ds gc dc bm bs bc
     -- [how the cells end; the number; the borrow; the rest; the tokens; κ₁; what follows; what is kept]
     move ! (1 ∷ 2 ∷ 3 ∷ []) $ drop ! $ drop ! $ drop ! $ move ! (1 ∷ []) $ split3 ! $ move ! (2 ∷ []) $ drop ! $ forget_but ! E (1 ∷ 2 ∷ 3 ∷ []) refl $ move ! (2 ∷ 0 ∷ 1 ∷ []) $
     tail (put_back r ws₄.0 (cells_left t)) (first_band old bh value high narrow fits r t cells spacing lists y yields moves ws₄.0 stays one)))))))))))))))))
-    (none_or_some m))))))))))))))))))))))))
+    (none_or_some m)))))))))))))))))))))))

@@ -6,7 +6,7 @@ use Rattle.imgref.specs.Image.{vec_layout}
 use Rattle.script_text.specs.Line.{IsScriptImage}
 use Rattle.script_text.proofs.ScriptGood.{own_script}
 use Rattle.script_text.proofs.OutputImages.{at_image, more_images}
-use Rattle.script_text.proofs.output.format_output.Goals as goal
+use Rattle.script_text.proofs.output.push_images.Goals as goal
 
 pub push_image-requires : goal.push_image-requires
 push_image-requires c = at_image Fits vec_layout c.args.images.now c.loop-image.image-index c.image-item.result c.loop-image-test.true c.image-item.is c.requires
