@@ -46,4 +46,4 @@ returns-in_err-pass_cells-clause-passes g c =
     let kept = handed_on (λ r. PassesPicture (picture_in r) (edits_of c.args.request) c.args.number (behind_letter (g.R.Read.remaining (device_of c.args.reader.now))) (g.R.Read.remaining (device_of c.pass_cells.new.reader)) (g.W.Write.contents (device_of c.args.writer.now)) (g.W.Write.contents (device_of c.pass_cells.new.writer))) in
     kept c.from_residual-in_err-pass_cells.result c.in_err-pass_cells.field-0.0 c.from_residual-in_err-pass_cells.ensures
     (picture_made c.heads_end_themselves.ensures.apart c.heads_end_themselves.ensures.begins (edits_of c.args.request) c.args.number made.picture (recipe_of made.plan) found.0 (subst (IsHead found.0) (sym c.in_ok-made.ensures.picture) found.1) c.in_ok-made.ensures.kept.plan _ _ _ _ _ found.2 (Err c.in_err-pass_cells.field-0.0)
-      (rw (sym c.head-head.ensures) c.in_err-pass_cells.ensures.passes))
+    (rw (sym c.head-head.ensures) c.in_err-pass_cells.ensures.passes))
