@@ -224,6 +224,9 @@ def is_unreadable(line, texts):
     at = ERROR.match(line)
     if not at or at[1] not in texts and not at[1].startswith(("src/", "specs/")):
         return False
+    # (a copied answer that names a step which the bug took away doesn't fit its goal any more, and is left out)
+    if STALE.match(line):
+        return False
     return not at[2] or bool(UNREADABLE.search(re.sub(r"`[^`]*`", "", at[3])))
 
 
