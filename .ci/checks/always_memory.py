@@ -54,7 +54,7 @@ RUNS = [
     ("imgref_frames", "program", "run", "if true { return Err(RunFault::Memory(0)); }", VIDEO, FILL),
 ]
 # The files that are kept of a crate with many tests.
-FILES = {"imgref_hostile_tests": ("contiguous", "copies"), "imgref_replay_tests": ("commands", "fixtures")}
+FILES = {"imgref_hostile_tests": ("contiguous", "copies", "fixtures"), "imgref_replay_tests": ("commands", "fixtures")}
 
 
 def keep_tests(crate, files):
