@@ -81,9 +81,6 @@ pub record Begins (old new : Plain) : Type 0 where
   pub more : List Edit
   pub steps : new.steps ≡ old.steps ++ more
 
-pub begins_itself : (old : Plain) → Begins old old
-begins_itself old = record { more = []; steps = sym (append-nil old.steps) }
-
 behind_more : (old mid new : Plain) (more : List Edit) → Begins old mid → new.steps ≡ mid.steps ++ more → Begins old new
 behind_more old mid new more b steps = record { more = b.more ++ more; steps = steps ∙ ap (λ l. l ++ more) b.steps ∙ append_assoc old.steps b.more more }
 

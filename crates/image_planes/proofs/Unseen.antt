@@ -60,9 +60,6 @@ corner w tile_width tile_height x y =
     let b : eqb (tile_start tile_height (w.top + tile_start tile_height y - w.top)) (w.top + tile_start tile_height y - w.top) ≡ true = same_eqb _ _ (ap (tile_start tile_height) top ∙ twice tile_height y ∙ sym top) in
     rw (a, b) refl
 
-start_below : (tile x : ℕ) → tile_start tile x ≤ x
-start_below tile x = omega arith
-
 covered : (w : Coded) (x y : ℕ) → x < w.width → y < w.height → covers w.left w.top w.width w.height (w.left + x) (w.top + y) ≡ true
 covered w x y column line = (covers_decides w.left w.top w.width w.height (w.left + x) (w.top + y)).1 (omega arith, omega arith, omega arith, omega arith)
 

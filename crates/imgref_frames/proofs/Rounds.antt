@@ -185,9 +185,6 @@ next_head edit before n r0 r1 r2 w0 w1 p _ count stop = tt
 pub memory_count : (edit : Edits) (n : ℕ) (r1 r2 w1 w2 : Option (List ℕ)) (e : RunFault) → PassesPicture (Err e) edit n r1 r2 w1 w2 → (k : ℕ) → e ≡ Memory k → k ≡ n
 memory_count edit n r1 r2 w1 w2 e passes k is = (subst (λ (f : RunFault). PassesPicture (Err f) edit n r1 r2 w1 w2) is passes).0
 
-pub next_letter : (edit : Edits) (n : ℕ) (r0 r1 r2 w0 w1 : Option (List ℕ)) → Passed (PictureHead edit) n r0 r1 w0 w1 → Consumes r1 r2 (80 ∷ []) → Passed (PictureHead edit) n r0 (behind_letter r2) w0 w1
-next_letter edit n r0 r1 r2 w0 w1 p read = passed_on (PictureHead edit) n r0 r1 (behind_letter r2) w0 w1 p (none_read r1 r2 read)
-
 -- ---- the first byte of pictures
 
 -- what was read from the letter on was read from the first byte on

@@ -10,9 +10,6 @@ abbrev pub late_left : Bool → List Edit → Bool
 late_left true ss = list_any (λ t. covers t.change) ss
 late_left false ss = covers_late ss
 
-pub covers_here : (ss : List Edit) (i : ℕ) (d : Edit) (total : Bool) → i < length ss → covers (get_or ss i d).change ≡ true → late_left true (drop i ss) ≡ total → total ≡ true
-covers_here ss i d total within found so_far = let one : late_left true (drop i ss) ≡ true = at_drop_more (late_left true) ss i d within ∙ rw found refl in sym so_far ∙ one
-
 pub covers_later : (ss : List Edit) (i : ℕ) (d : Edit) (total : Bool) → i < length ss → covers (get_or ss i d).change ≡ false → late_left true (drop i ss) ≡ total → late_left true (drop (i + 1) ss) ≡ total
 covers_later ss i d total within found so_far = let one : late_left true (drop i ss) ≡ late_left true (drop (i + 1) ss) = at_drop_more (late_left true) ss i d within ∙ rw found refl in sym one ∙ so_far
 
