@@ -1,7 +1,7 @@
 #!/usr/bin/env python3
 """Tries the planted bugs, crates/*/must-fail/*.edit: the prover must refuse each at a goal of the function that it changes.
 
-    planted_bugs.py [CRATE..] [--only NAME] [--changed [COMMIT]] [--list]
+    planted_bugs.py [CRATE..] [--only NAME] [--changed [COMMIT]] [--list] [--compile]
 
 A function's proof cites the contracts of others and not their bodies. So many bugs are tried in one check, and each is judged
 by the goals that stay open in its own function. Several bugs of one function are several copies of it, each with a name of its
@@ -14,7 +14,8 @@ then refused by a proof by hand alone is counted and said.
 
 The crates are proved first, where their cached proofs are not fresh, and are only read: each check runs in a room of its own.
 With --changed only those bugs are tried whose own text, or whose function's source, proof files or crate's definitions, differ
-from a commit (the last one that is on origin/main, else HEAD). The last line counts the bugs.
+from a commit (the last one that is on origin/main, else HEAD). With --compile nothing is proved: it tells in a few minutes which
+bugs don't compile any more, for example because an item was renamed. The last line counts the bugs.
 """
 import argparse
 import collections
@@ -37,6 +38,8 @@ STALE = re.compile(r"(?:note: )?(?:\./)?(proofs/\S+/Answers\.antt):\d+:\d+: erro
 ERROR = re.compile(r"(?:\./)?(\S+?):\d+:\d+: error: (?:(`[^`]*`): )?(.*)")
 # An error of these kinds says that a text could not be read, where a bug that only makes a statement false reads well.
 UNREADABLE = re.compile(r"is not in scope|has no field|is no name|operand is missing|expected the end|cannot continue")
+# No function has this name. A check of it alone compiles the crate, says that there is none, and proves nothing.
+NO_FUNCTION = "no_such_function"
 HARDLY = re.compile(r"(?:\./)?proofs/.*(?:has no field|is not in scope|has no `|was not admitted)")
 
 
@@ -262,6 +265,18 @@ def try_all(name, bugs):
         yield judged(left[0], *first)
 
 
+def compile_all(name, bugs):
+    """Compiles bugs together, and where that fails one by one. Gives for each whether it compiles and what to say."""
+    lines, _ = said_with(name, plant(bugs, ROOT / "crates" / name).texts, [NO_FUNCTION])
+    if any(f"no function `{NO_FUNCTION}`" in it for it in lines):
+        yield from ((True, f"{bug.name}: compiles") for bug in bugs)
+    elif len(bugs) > 1:
+        for bug in bugs:
+            yield from compile_all(name, [bug])
+    else:
+        yield False, f"{bugs[0].name}: FAILED: it doesn't compile: {' | '.join(lines[:2])[:300]}"
+
+
 def judged(bug, lines, status, texts):
     """Whether a bug is refused that left no goal of its function open, by what the check said of it alone, and what to say."""
     bad = next((it for it in lines if is_unreadable(it, texts)), None)
@@ -334,6 +349,7 @@ def main():
     asked.add_argument("--only", action="append", default=[], metavar="NAME")
     asked.add_argument("--changed", nargs="?", const="", default=None, metavar="COMMIT")
     asked.add_argument("--list", action="store_true", help="prints the bugs of each check, and tries none")
+    asked.add_argument("--compile", action="store_true", help="compiles the bugs, and proves nothing")
     asked = asked.parse_args()
     bugs, bad = all_bugs(asked.crates or [*crates()], asked.only)
     print(*bad, sep="\n", end="\n" if bad else "")
@@ -354,7 +370,8 @@ def main():
     with workers(processors()) as pool:
         # (the longest first)
         checks.sort(key=lambda it: -len(it[1]) * (1 + len(with_those_below(it[0]))))
-        for it in concurrent.futures.as_completed([pool.submit(lambda *it: [*try_all(*it)], *it) for it in checks]):
+        way = compile_all if asked.compile else try_all
+        for it in concurrent.futures.as_completed([pool.submit(lambda *it: [*way(*it)], *it) for it in checks]):
             for is_refused, line in it.result():
                 passed, failed = passed + is_refused, failed + (not is_refused)
                 print(line, flush=True)
