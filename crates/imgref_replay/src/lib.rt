@@ -2,6 +2,7 @@
 #![tactic(auto)]
 
 mod copy;
+mod counting;
 mod path;
 mod run;
 mod step;

@@ -1,9 +1,8 @@
 //! One command: it runs over images, or is refused for its first fault.
 
-ghost use Rattle.std.specs.Prelude.{◌≡◌, ◌<◌, ◌+◌, ◌^◌, ◌∷◌, ◌++◌, [], List, IfOk, OnOk, length, count_by};
+ghost use Rattle.std.specs.Prelude.{◌≡◌, ◌<◌, ◌+◌, ◌^◌, ◌∷◌, ◌++◌, [], List, IfOk, OnOk, length};
 ghost use Rattle.std.specs.Result.{result_err};
 ghost use Rattle.image_model.specs.Layout.{Layout, Fits};
-ghost use Rattle.image_model.specs.Rows.{pixels};
 ghost use Rattle.imgref.specs.Image.{ref_grid, ref_layout};
 ghost use Rattle.imgref.specs.Window.{as_window};
 ghost use Rattle.imgref.specs.Lists.{AllFit, layouts_of, grids_of};
@@ -12,6 +11,7 @@ ghost use Rattle.imgref_replay.specs.Step.{IsInsideOf, first_fault, IsStep};
 ghost use Rattle.imgref_replay.specs.Run.{IsRun};
 
 use crate::copy::copy_between;
+use crate::counting::count_equal;
 use crate::path::path_window;
 use image_commands::{Command, Place, Refusal, Reply};
 use imgref::{ImgRef, ImgVec, Window};
@@ -155,20 +155,6 @@ fn count<T: Copy + Eq>(images: &[ImgVec<T>], spot: &Place, value: T) -> Answer<T
         (layouts_of images.now) result }
 {
     Ok(Reply::Counted(count_equal(view(images, spot)?, value)))
-}
-
-/// The number of pixels of a fitting image that are equal to the value.
-fn count_equal<T: Copy + Eq>(image: ImgRef<'_, T>, value: T) -> usize
-    requires { Fits (ref_layout image) }
-    ensures { result ≡ count_by (λ pixel. T.eq pixel value) (pixels (ref_layout image.entry)) }
-{
-    image.pixels().fold(0usize, |count, pixel| {
-        if pixel == value {
-            count.wrapping_add(1)
-        } else {
-            count
-        }
-    })
 }
 
 /// Whether two windows have the same size, and equal pixels at every place.

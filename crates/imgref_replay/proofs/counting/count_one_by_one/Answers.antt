@@ -3,7 +3,7 @@ use Rattle.std.specs.List.{fold}
 use Rattle.image_model.specs.Rows.{pixels}
 use Rattle.imgref.specs.Image.{ref_layout}
 use Rattle.imgref_replay.proofs.Counts.{step, counted}
-use Rattle.imgref_replay.proofs.step.count_equal.Goals as goal
+use Rattle.imgref_replay.proofs.counting.count_one_by_one.Goals as goal
 
 pub returns : goal.returns
 returns g c =
