@@ -32,6 +32,72 @@ fn have_equal_rows<T: PartialEq>(
     true
 }
 
+// The shapes in which the cells of two images of one size are compared. Where the rows of both
+// touch, all of them are one row: so there is one comparison, and not one for each row.
+fn fewest_rows<T: PartialEq>(
+    first: &[T],
+    first_shape: Shape,
+    second: &[T],
+    second_shape: Shape,
+) -> (Shape, Shape)
+    requires first_fits { Fits (shaped first.now first_shape) }
+    requires second_fits { Fits (shaped second.now second_shape) }
+    requires same_width { shape_width first_shape ≡ shape_width second_shape }
+    requires same_height { shape_height first_shape ≡ shape_height second_shape }
+    ensures first_fits { Fits (shaped first.now result.0) }
+    ensures second_fits { Fits (shaped second.now result.1) }
+    ensures same_width { shape_width result.0 ≡ shape_width result.1 }
+    ensures same_height { shape_height result.0 ≡ shape_height result.1 }
+    ensures same_result { pointwise (pointwise T.eq)
+        (rows_of (shaped first.now result.0)) (rows_of (shaped second.now result.1))
+        ≡ pointwise (pointwise T.eq)
+        (rows_of (shaped first.now first_shape)) (rows_of (shaped second.now second_shape)) }
+{
+    let width = first_shape.width();
+    if width == first_shape.stride() && width == second_shape.stride() {
+        let count = first_shape.pixel_count();
+        if let Some(joined) = Shape::checked(count, 1, count) {
+            return (joined, joined);
+        }
+    }
+    (first_shape, second_shape)
+}
+
+// Whether two images of one size have equal pixels.
+fn have_equal_pixels<T: PartialEq>(
+    first: &[T],
+    first_shape: Shape,
+    second: &[T],
+    second_shape: Shape,
+) -> bool
+    requires first_fits { Fits (shaped first.now first_shape) }
+    requires second_fits { Fits (shaped second.now second_shape) }
+    requires same_width { shape_width first_shape ≡ shape_width second_shape }
+    requires same_height { shape_height first_shape ≡ shape_height second_shape }
+    ensures { result ≡ pointwise (pointwise T.eq) (rows_of (shaped first.now first_shape))
+        (rows_of (shaped second.now second_shape)) }
+{
+    let (one, other) = fewest_rows(first, first_shape, second, second_shape);
+    have_equal_rows(first, one, second, other)
+}
+
+/// Whether two images that fit are equal: they have the same size and equal pixels.
+pub fn are_equal_fitting<T: PartialEq>(
+    first: &[T],
+    first_shape: Shape,
+    second: &[T],
+    second_shape: Shape,
+) -> bool
+    requires first_fits { Fits (shaped first.now first_shape) }
+    requires second_fits { Fits (shaped second.now second_shape) }
+    ensures { result
+        ≡ is_alike T.eq (shaped first.now first_shape) (shaped second.now second_shape) }
+{
+    first_shape.width() == second_shape.width()
+        && first_shape.height() == second_shape.height()
+        && have_equal_pixels(first, first_shape, second, second_shape)
+}
+
 /// Whether two images are equal: they have the same size, and either both fit and their rows are
 /// equal, or neither fits.
 pub fn are_equal<T: PartialEq>(
@@ -49,7 +115,8 @@ pub fn are_equal<T: PartialEq>(
         return false;
     }
     if first_shape.fits(first.len()) {
-        second_shape.fits(second.len()) && have_equal_rows(first, first_shape, second, second_shape)
+        second_shape.fits(second.len())
+            && have_equal_pixels(first, first_shape, second, second_shape)
     } else {
         !second_shape.fits(second.len())
     }

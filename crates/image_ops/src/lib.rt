@@ -27,7 +27,7 @@ mod windows;
 
 pub use clones::{cloned, contiguous, joined_clones};
 pub use copy::copy_pixels;
-pub use equality::are_equal;
+pub use equality::{are_equal, are_equal_fitting};
 pub use fill::{fill_cells, fill_pixels};
 pub use flipping::{flip_columns, flip_rows, swap_columns};
 pub use hashing::hash_pixels;

@@ -5,8 +5,8 @@ ghost use Rattle.imgref_c.specs.Words.{as_window, code, copy_status, grid_of, la
 
 use crate::images::ClaimedShape;
 use crate::status::Status;
+use image_ops::are_equal_fitting;
 use image_shape::Window;
-use imgref::ImgRef;
 
 // The window gets the pixels of `source`, which has its size.
 pub(crate) fn copy_window<T: Copy>(
@@ -55,7 +55,6 @@ pub(crate) fn equal_images<T: PartialEq>(
     if !claimed.is_image(cells.len()) || !claimed_other.is_image(other.len()) {
         return Status::NotAnImage;
     }
-    let image = ImgRef::from_parts(cells, claimed.shape());
-    *equal = image.same_pixels(ImgRef::from_parts(other, claimed_other.shape()));
+    *equal = are_equal_fitting(cells, claimed.shape(), other, claimed_other.shape());
     Status::Done
 }
