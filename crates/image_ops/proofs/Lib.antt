@@ -19,3 +19,4 @@ pub mod PixelSpreading
 pub mod Patterns
 pub mod Turned
 pub mod CellByCell
+pub mod Touching

@@ -4,7 +4,7 @@ use Rattle.std.proofs.lemmas.List.{length-replicate}
 use Rattle.image_model.specs.Grid.{uniform}
 use Rattle.image_model.proofs.Cells.{slice_get-replicate}
 use Rattle.image_ops.proofs.RowsWritten.{row_range, row_written, shows_table}
-use Rattle.image_ops.proofs.fill.fill_pixels.Goals as goal
+use Rattle.image_ops.proofs.fill.fill_rows.Goals as goal
 
 pub loop-y-preserved : goal.loop-y-preserved
 loop-y-preserved g c =
