@@ -17,6 +17,6 @@ pub mod Diagonals
 pub mod Parts
 pub mod PixelSpreading
 pub mod Patterns
-pub mod Turned
+pub mod Quarters
 pub mod CellByCell
 pub mod Touching

@@ -8,3 +8,4 @@ pub mod Gathered
 pub mod Made
 pub mod Turned
 pub mod Repeated
+pub mod Quarters

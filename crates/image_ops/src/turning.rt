@@ -2,13 +2,23 @@
 
 ghost use Rattle.std.specs.Prelude.{◌≡◌, ◌+◌, ◌-◌, ◌*◌, ◌<◌, ◌≤◌, length};
 ghost use Rattle.image_model.specs.Layout.{Fits, SameOutside};
-ghost use Rattle.image_model.specs.Turns.{transposed, turned_right, turned_half, turned_left};
+ghost use Rattle.image_model.specs.Grid.{patch};
+ghost use Rattle.image_model.specs.Turns.{transposed, turned_half};
+ghost use Rattle.image_model.specs.Windows.{IsInside};
 ghost use Rattle.image_shape.specs.Shape.{shape_width, shape_height, shaped_grid, shaped};
+ghost use Rattle.image_shape.specs.Window.{as_window};
 ghost use Rattle.image_ops.specs.Gathered.{AreGathered};
+ghost use Rattle.image_ops.specs.Quarters.{quartered, first_row};
 ghost use Rattle.image_ops.specs.Turned.{turned, turned_width, turned_height};
 
+use crate::windows::{exact_part, padded_part};
 use image_rows::row;
-use image_shape::Shape;
+use image_shape::{Shape, Window};
+
+// How many columns are written at a time. A column of the target has the cells of a row of the
+// source, and a row of the target takes one cell from each of these rows. So their cells are still
+// in the nearest cache when the next row takes the cells beside them.
+const STRIP: usize = 64;
 
 // Each cell becomes a cell of the source, from cell `start` on and `step` cells further each time.
 fn gather<T: Copy>(cells: &mut [T], source: &[T], start: usize, step: usize)
@@ -47,6 +57,141 @@ pub(crate) fn copy_back<T: Copy>(cells: &mut [T], source: &[T])
     }
 }
 
+/// A turn of an image, clockwise.
+#[derive(Clone, Copy, PartialEq, Eq)]
+pub enum Turn {
+    /// By a quarter: the first row becomes the last column.
+    Right,
+    /// By a half: the first row becomes the last one, from right to left.
+    Half,
+    /// By three quarters: the first row becomes the first column, from the bottom.
+    Left,
+}
+
+// How columns become rows.
+#[derive(Clone, Copy)]
+enum Quarter {
+    // The first column becomes the first row: the image is transposed.
+    Across,
+    // The first row becomes the last column.
+    Right,
+    // The first row becomes the first column, from the bottom.
+    Left,
+}
+
+// Every pixel of `shape` in `cells` becomes the pixel of the source whose columns are rows, row by
+// row.
+fn quarter_rows<T: Copy>(
+    cells: &mut [T],
+    shape: Shape,
+    source: &[T],
+    source_shape: Shape,
+    quarter: Quarter,
+)
+    requires fits { Fits (shaped cells.old shape) }
+    requires source_fits { Fits (shaped source.now source_shape) }
+    requires columns { shape_width shape ≡ shape_height source_shape }
+    requires lines { shape_height shape ≡ shape_width source_shape }
+    ensures grid { shaped_grid cells.new shape
+        ≡ quartered quarter (shaped_grid source.now source_shape) }
+    ensures outside { SameOutside (shaped cells.old shape) (shaped cells.new shape) }
+{
+    for y in 0..shape.row_count() {
+        let place = shape.row(cells.len(), y);
+        let target = &mut cells[place.range()];
+        match quarter {
+            Quarter::Across => gather(target, source, y, source_shape.stride()),
+            Quarter::Right => {
+                let last = source_shape.row(source.len(), source_shape.height() - 1);
+                gather_back(target, source, last.start + y, source_shape.stride());
+            }
+            Quarter::Left => {
+                let column = source_shape.width() - 1 - y;
+                gather(target, source, column, source_shape.stride());
+            }
+        }
+    }
+}
+
+// The window gets the pixels of the source whose columns are rows; every other cell stays.
+fn quarter_window<T: Copy>(
+    cells: &mut [T],
+    shape: Shape,
+    window: Window,
+    source: &[T],
+    source_shape: Shape,
+    quarter: Quarter,
+)
+    requires fits { Fits (shaped cells.old shape) }
+    requires inside { IsInside (shape_width shape) (shape_height shape) (as_window window) }
+    requires source_fits { Fits (shaped source.now source_shape) }
+    requires columns { window.width ≡ shape_height source_shape }
+    requires lines { window.height ≡ shape_width source_shape }
+    ensures grid { shaped_grid cells.new shape ≡ patch (shaped_grid cells.old shape)
+        window.left window.top (quartered quarter (shaped_grid source.now source_shape)) }
+    ensures outside { SameOutside (shaped cells.old shape) (shaped cells.new shape) }
+{
+    let (part, inner) = exact_part(cells.len(), shape, window);
+    quarter_rows(&mut cells[part], inner, source, source_shape, quarter);
+}
+
+// The first of the `width` rows of a source of `height` rows that the columns from `left` on get.
+fn first_row(quarter: Quarter, height: usize, left: usize, width: usize) -> usize
+    requires there { left + width ≤ height }
+    ensures { result ≡ first_row quarter height left width }
+{
+    match quarter {
+        Quarter::Right => height - left - width,
+        Quarter::Across | Quarter::Left => left,
+    }
+}
+
+// How many columns have a pixel: 0 where there is no row.
+fn column_count(shape: Shape) -> usize
+    ensures rows { 0 < shape_height shape → result ≡ shape_width shape }
+    ensures within { result ≤ shape_width shape }
+{
+    match shape.height() {
+        0 => 0,
+        _ => shape.width(),
+    }
+}
+
+// Every pixel of `shape` in `cells` becomes the pixel of the source whose columns are rows, a few
+// columns at a time; the padding stays.
+fn quarter_pixels<T: Copy>(
+    cells: &mut [T],
+    shape: Shape,
+    source: &[T],
+    source_shape: Shape,
+    quarter: Quarter,
+)
+    requires fits { Fits (shaped cells.old shape) }
+    requires source_fits { Fits (shaped source.now source_shape) }
+    requires columns { shape_width shape ≡ shape_height source_shape }
+    requires lines { shape_height shape ≡ shape_width source_shape }
+    ensures grid { shaped_grid cells.new shape
+        ≡ quartered quarter (shaped_grid source.now source_shape) }
+    ensures outside { SameOutside (shaped cells.old shape) (shaped cells.new shape) }
+{
+    if shape.width() <= STRIP {
+        quarter_rows(cells, shape, source, source_shape, quarter);
+        return;
+    }
+    let (columns, lines) = (column_count(shape), shape.height());
+    let (source_width, source_height) = (source_shape.width(), source_shape.height());
+    let mut left = 0;
+    while left < columns {
+        let width = STRIP.min(columns - left);
+        let top = first_row(quarter, source_height, left, width);
+        let rows = Window::new(0, top, source_width, width);
+        let (part, part_shape) = padded_part(source, source_shape, rows);
+        let strip = Window::new(left, 0, width, lines);
+        quarter_window(cells, shape, strip, part, part_shape, quarter);
+        left += width;
+    }
+}
+
 /// Every pixel of `shape` in `cells` becomes the pixel of the source in whose row it is a column:
 /// the source is transposed. The padding stays. Both fit (`Shape::fits`), and the one is as wide as
 /// the other is high.
@@ -58,21 +203,25 @@ pub fn transpose_pixels<T: Copy>(cells: &mut [T], shape: Shape, source: &[T], so
     ensures grid { shaped_grid cells.new shape ≡ transposed (shaped_grid source.now source_shape) }
     ensures outside { SameOutside (shaped cells.old shape) (shaped cells.new shape) }
 {
-    for y in 0..shape.row_count() {
-        let row = shape.row(cells.len(), y);
-        gather(&mut cells[row.range()], source, y, source_shape.stride());
-    }
+    quarter_pixels(cells, shape, source, source_shape, Quarter::Across);
 }
 
-/// A turn of an image, clockwise.
-#[derive(Clone, Copy, PartialEq, Eq)]
-pub enum Turn {
-    /// By a quarter: the first row becomes the last column.
-    Right,
-    /// By a half: the first row becomes the last one, from right to left.
-    Half,
-    /// By three quarters: the first row becomes the first column, from the bottom.
-    Left,
+// Every pixel of `shape` in `cells` becomes the pixel of the source turned by a half; the padding
+// stays.
+fn half_pixels<T: Copy>(cells: &mut [T], shape: Shape, source: &[T], source_shape: Shape)
+    requires fits { Fits (shaped cells.old shape) }
+    requires source_fits { Fits (shaped source.now source_shape) }
+    requires columns { shape_width shape ≡ shape_width source_shape }
+    requires lines { shape_height shape ≡ shape_height source_shape }
+    ensures grid { shaped_grid cells.new shape ≡ turned_half (shaped_grid source.now source_shape) }
+    ensures outside { SameOutside (shaped cells.old shape) (shaped cells.new shape) }
+{
+    for y in 0..shape.row_count() {
+        let place = shape.row(cells.len(), y);
+        let target = &mut cells[place.range()];
+        let from = row(source, source_shape, source_shape.height() - 1 - y);
+        copy_back(target, from);
+    }
 }
 
 /// Every pixel of `shape` in `cells` becomes the pixel of the turned source at its place; the
@@ -93,22 +242,9 @@ pub fn turn_pixels<T: Copy>(
     ensures grid { shaped_grid cells.new shape ≡ turned turn (shaped_grid source.now source_shape) }
     ensures outside { SameOutside (shaped cells.old shape) (shaped cells.new shape) }
 {
-    for y in 0..shape.row_count() {
-        let place = shape.row(cells.len(), y);
-        let target = &mut cells[place.range()];
-        match turn {
-            Turn::Right => {
-                let last = source_shape.row(source.len(), source_shape.height() - 1);
-                gather_back(target, source, last.start + y, source_shape.stride());
-            }
-            Turn::Half => {
-                let from = row(source, source_shape, source_shape.height() - 1 - y);
-                copy_back(target, from);
-            }
-            Turn::Left => {
-                let column = source_shape.width() - 1 - y;
-                gather(target, source, column, source_shape.stride());
-            }
-        }
+    match turn {
+        Turn::Right => quarter_pixels(cells, shape, source, source_shape, Quarter::Right),
+        Turn::Half => half_pixels(cells, shape, source, source_shape),
+        Turn::Left => quarter_pixels(cells, shape, source, source_shape, Quarter::Left),
     }
 }

@@ -56,7 +56,7 @@ pub fn padded_stretch_mut<T>(
 }
 
 // The numbers of the window's cells, of `count` cells that fit the shape, and the window's shape.
-fn exact_part(count: usize, shape: Shape, window: Window) -> (Range<usize>, Shape)
+pub(crate) fn exact_part(count: usize, shape: Shape, window: Window) -> (Range<usize>, Shape)
     requires fits { Reaches count (shape_width shape) (shape_height shape) (shape_stride shape) }
     requires inside { IsInside (shape_width shape) (shape_height shape) (as_window window) }
     ensures part { IsPart count shape result.1 (as_window window) result.0.start result.0.end }
