@@ -1,7 +1,7 @@
 -- Squares of which each place changes places with the one across the diagonal, pair by pair.
-use Rattle.std.proofs.Common.{◌≡◌, ◌≢◌, ℕ, ◌+◌, ◌*◌, ◌<◌, ◌≤◌, ◌⊎◌, Bool, List, length, refl, sym, ap, ◌∙◌, arith, inl, inr, nat_lt, if◌then◌else◌}
+use Rattle.std.proofs.Common.{◌≡◌, ◌≢◌, ℕ, ◌+◌, ◌*◌, ◌<◌, ◌≤◌, ◌⊎◌, Bool, true, false, List, length, refl, sym, ap, ◌∙◌, arith, inl, inr, nat_lt, if◌then◌else◌, ◌||◌, ◌&&◌, max}
 use Rattle.std.specs.List.{slice_get}
-use Rattle.std.proofs.lemmas.Bool.{cases_lt}
+use Rattle.std.proofs.lemmas.Bool.{cases_lt, cond-true, cond-false}
 use Rattle.std.proofs.lemmas.Bool.Decides.{nat_tests, eqb_tells}
 use Rattle.std.proofs.lemmas.Nat.{same_from_place}
 use Rattle.std.proofs.lemmas.Option.{slice_get_past}
@@ -16,31 +16,71 @@ use Rattle.image_shape.specs.Shape.{shaped, shaped_grid}
 use Rattle.image_shape.specs.declared.shape.Shape.{Shape}
 use Rattle.image_ops.specs.Gathered.{AreGathered}
 
--- whether column u of row v has changed places, once the places to the right of the diagonal have that come before column x of row y
-abbrev pub is_crossed : ℕ → ℕ → ℕ → ℕ → Bool
-is_crossed x y u v = if nat_lt v u then is_before x y u v else is_before x y v u
+-- whether the pair of column a and row b, to the right of the diagonal, has changed places: its column is one of the first `from`, or one of the first `upto` and comes before column x of row y
+abbrev pub is_done : ℕ → ℕ → ℕ → ℕ → ℕ → ℕ → Bool
+is_done from upto x y a b = nat_lt a from || (nat_lt a upto && is_before x y a b)
+
+-- whether column u of row v has changed places then
+abbrev pub is_crossed : ℕ → ℕ → ℕ → ℕ → ℕ → ℕ → Bool
+is_crossed from upto x y u v = if nat_lt v u then is_done from upto x y u v else is_done from upto x y v u
 
 -- the cell from which column u of row v has its pixel then
-abbrev pub crossed_cell : ℕ → ℕ → ℕ → ℕ → ℕ → ℕ
-crossed_cell stride x y u v = if is_crossed x y u v then u * stride + v else v * stride + u
+abbrev pub crossed_cell : ℕ → ℕ → ℕ → ℕ → ℕ → ℕ → ℕ → ℕ
+crossed_cell stride from upto x y u v = if is_crossed from upto x y u v then u * stride + v else v * stride + u
 
 -- these pairs have changed places, and the padding stays
-pub record CrossedUpto {T : Type 0} (x y : ℕ) (old new : List T) (s : Shape) : Type 0 where
+pub record CrossedUpto {T : Type 0} (from upto x y : ℕ) (old new : List T) (s : Shape) : Type 0 where
   pub as_many : length new ≡ length old
-  pub each : (u v : ℕ) → u < s.width → v < s.height → slice_get new (v * s.stride + u) ≡ slice_get old (crossed_cell s.stride x y u v)
+  pub each : (u v : ℕ) → u < s.width → v < s.height → slice_get new (v * s.stride + u) ≡ slice_get old (crossed_cell s.stride from upto x y u v)
   pub others : (k : ℕ) → IsPadding s.width s.height s.stride k → slice_get new k ≡ slice_get old k
 
 -- a place on the diagonal keeps its cell
-on_diagonal : (stride x y u v : ℕ) → u ≡ v → crossed_cell stride x y u v ≡ v * stride + u
-on_diagonal stride x y u v same = grind (arith, same)
+on_diagonal : (stride from upto x y u v : ℕ) → u ≡ v → crossed_cell stride from upto x y u v ≡ v * stride + u
+on_diagonal stride from upto x y u v same = grind (arith, same)
 
--- two ends of the loop have the same cells if each place off the diagonal has changed places at both or at neither
-same_cell : (stride x y m n u v : ℕ) → (u ≢ v → is_crossed x y u v ≡ is_crossed m n u v) → crossed_cell stride x y u v ≡ crossed_cell stride m n u v
-same_cell stride x y m n u v alike =
+-- two points of the loops have the same cells if each place off the diagonal has changed places at both or at neither
+same_cell : (stride from upto x y j k m n u v : ℕ) → (u ≢ v → is_crossed from upto x y u v ≡ is_crossed j k m n u v) → crossed_cell stride from upto x y u v ≡ crossed_cell stride j k m n u v
+same_cell stride from upto x y j k m n u v alike =
     elim (eqb_tells u v) [
-      | inl (_, same) ↦ on_diagonal stride x y u v same ∙ sym (on_diagonal stride m n u v same)
+      | inl (_, same) ↦ on_diagonal stride from upto x y u v same ∙ sym (on_diagonal stride j k m n u v same)
       | inr (_, other) ↦ ap (λ b. if b then u * stride + v else v * stride + u) (alike other)
     ]
+
+-- a pair is done at one point of the loops where it is done at another
+same_crossed : (from upto x y j k m n u v : ℕ) → u ≢ v → ((a b : ℕ) → b < a → ((a ≡ u) × (b ≡ v)) ⊎ ((a ≡ v) × (b ≡ u)) → is_done from upto x y a b ≡ is_done j k m n a b) → is_crossed from upto x y u v ≡ is_crossed j k m n u v
+same_crossed from upto x y j k m n u v other alike =
+    elim (cases_lt v u) [
+      | inl below ↦
+          let hit : nat_lt v u ≡ true = grind (arith, nat_tests, below) in
+          cond-true (nat_lt v u) _ _ hit ∙ alike u v below (inl (refl, refl)) ∙ sym (cond-true (nat_lt v u) _ _ hit)
+      | inr above ↦
+          let miss : nat_lt v u ≡ false = grind (arith, nat_tests, above) in
+          cond-false (nat_lt v u) _ _ miss ∙ alike v u (omega (arith, above, λ (e : v ≡ u). other (sym e))) (inr (refl, refl)) ∙ sym (cond-false (nat_lt v u) _ _ miss)
+    ]
+
+-- at the start of a row of the strip
+done_at_start : (from upto y a b : ℕ) → b < a → is_done from upto 0 y a b ≡ is_done from upto (max from (y + 1)) y a b
+done_at_start from upto y a b below = grind (arith, nat_tests, below)
+
+-- at its end
+done_at_end : (from upto x y a b : ℕ) → b < a → upto ≤ x → is_done from upto x y a b ≡ is_done from upto 0 (y + 1) a b
+done_at_end from upto x y a b below wide = grind (arith, nat_tests, below, wide)
+
+-- and after the last row
+done_at_last : (from upto x y a b : ℕ) → b < a → upto ≤ y → from ≤ upto → is_done from upto x y a b ≡ is_done upto upto 0 0 a b
+done_at_last from upto x y a b below high later = grind (arith, nat_tests, below, high, later)
+
+-- a pair other than the next one
+done_more : (from upto x y a b : ℕ) → ((a ≡ x) × (b ≡ y) → ⊥) → is_done from upto x y a b ≡ is_done from upto (x + 1) y a b
+done_more from upto x y a b other = grind (arith, nat_tests, other)
+
+-- a strip begins
+done_before : (from right a b : ℕ) → is_done from from 0 0 a b ≡ is_done from right 0 0 a b
+done_before from right a b = grind (arith, nat_tests)
+
+-- two cells that are exchanged
+second_of : (i j : ℕ) → swapped_column i j j ≡ i
+second_of i j = grind arith
 
 -- two places are the same or not
 same_place : (u v x y : ℕ) → ((u ≡ x) × (v ≡ y)) ⊎ ((u ≡ x) × (v ≡ y) → ⊥)
@@ -52,32 +92,42 @@ same_place u v x y =
 
 module _ {T : Type 0} (s : Shape) where
   -- no pair yet
-  pub none_crossed : (cells : List T) → CrossedUpto 0 0 cells cells s
+  pub none_crossed : (cells : List T) → CrossedUpto 0 0 0 0 cells cells s
   none_crossed cells = record {
     as_many = refl;
     each = λ u v column line. ap (slice_get cells) (grind (arith, nat_tests));
     others = λ k padding. refl;
   }
 
-  module _ (old now : List T) (x y : ℕ) (so : CrossedUpto x y old now s) where
-    -- the same pairs, said by another place
-    same_pairs : (m n : ℕ) → ((u v : ℕ) → u < s.width → v < s.height → u ≢ v → is_crossed x y u v ≡ is_crossed m n u v) → CrossedUpto m n old now s
-    same_pairs m n alike = record {
+  module _ (old now : List T) (from upto x y : ℕ) (so : CrossedUpto from upto x y old now s) where
+    -- the same pairs, said by another point of the loops
+    same_pairs : (j k m n : ℕ) → ((a b : ℕ) → b < a → is_done from upto x y a b ≡ is_done j k m n a b) → CrossedUpto j k m n old now s
+    same_pairs j k m n alike = record {
       as_many = so.as_many;
-      each = λ u v column line. so.each u v column line ∙ ap (slice_get old) (same_cell s.stride x y m n u v (alike u v column line));
+      each = λ u v column line.
+          so.each u v column line
+          ∙ ap (slice_get old) (same_cell s.stride from upto x y j k m n u v (λ other. same_crossed from upto x y j k m n u v other (λ a b below one. alike a b below)));
       others = so.others;
     }
 
-    -- a row begins to the right of the diagonal
-    pub row_begins : x ≡ 0 → CrossedUpto (y + 1) y old now s
-    row_begins none = same_pairs (y + 1) y (λ u v column line other. grind (arith, nat_tests, none, other))
+    -- a strip of columns begins after those before it
+    pub strip_begins : (right : ℕ) → from ≡ upto → x ≡ 0 → y ≡ 0 → CrossedUpto from right 0 0 old now s
+    strip_begins right none first top = same_pairs from right 0 0 (λ a b below. (λ i. is_done from (sym none i) (first i) (top i) a b) ∙ done_before from right a b)
+
+    -- a row of the strip begins at its first column, and to the right of the diagonal
+    pub row_begins : (start : ℕ) → x ≡ 0 → start ≡ max from (y + 1) → CrossedUpto from upto start y old now s
+    row_begins start first at = same_pairs from upto start y (λ a b below. ap (λ n. is_done from upto n y a b) first ∙ done_at_start from upto y a b below ∙ ap (λ n. is_done from upto n y a b) (sym at))
 
     -- and is at its end where the next one begins
-    pub row_crossed : s.width ≡ s.height → s.width ≤ x → CrossedUpto 0 (y + 1) old now s
-    row_crossed square wide = same_pairs 0 (y + 1) (λ u v column line other. grind (arith, nat_tests, column, line, square, wide))
+    pub row_crossed : upto ≤ x → CrossedUpto from upto 0 (y + 1) old now s
+    row_crossed wide = same_pairs from upto 0 (y + 1) (λ a b below. done_at_end from upto x y a b below wide)
+
+    -- the strip is at its end after its last row
+    pub strip_crossed : upto ≤ y → from ≤ upto → CrossedUpto upto upto 0 0 old now s
+    strip_crossed high later = same_pairs upto upto 0 0 (λ a b below. done_at_last from upto x y a b below high later)
 
     -- one pair more
-    module _ (fits : Fits (shaped old s)) (square : s.width ≡ s.height) (right : y < x) (column : x < s.width) (i j : ℕ) (is_i : i ≡ y * s.stride + x) (is_j : j ≡ x * s.stride + y) where
+    module _ (fits : Fits (shaped old s)) (square : s.width ≡ s.height) (right : y < x) (after : from ≤ x) (here : x < upto) (column : x < s.width) (i j : ℕ) (is_i : i ≡ y * s.stride + x) (is_j : j ≡ x * s.stride + y) where
       -- the two cells
       pub first_within : i < length now
       first_within = omega (arith, is_i, reached (length old) s.width s.height s.stride x y fits column (omega arith), so.as_many)
@@ -97,32 +147,37 @@ module _ {T : Type 0} (s : Shape) where
         first_is = made.each i (omega (arith, first_within, as_many)) ∙ ap (slice_get now) (grind arith)
 
         second_is : slice_get new j ≡ slice_get now i
-        second_is = made.each j (omega (arith, second_within, as_many)) ∙ ap (slice_get now) (grind arith)
+        second_is = made.each j (omega (arith, second_within, as_many)) ∙ ap (slice_get now) (second_of i j)
 
-        crossed_at : (u v : ℕ) → u < s.width → v < s.height → slice_get new (v * s.stride + u) ≡ slice_get old (crossed_cell s.stride (x + 1) y u v)
+        crossed_at : (u v : ℕ) → u < s.width → v < s.height → slice_get new (v * s.stride + u) ≡ slice_get old (crossed_cell s.stride from upto (x + 1) y u v)
         crossed_at u v in_u in_v =
             elim (same_place u v x y) [
-              | inl here ↦
-                  let at : v * s.stride + u ≡ i = ap (λ n. n * s.stride + u) here.1 ∙ ap (λ n. y * s.stride + n) here.0 ∙ sym is_i in
-                  let was : crossed_cell s.stride x y y x ≡ x * s.stride + y = grind (arith, nat_tests, right) in
-                  let is : crossed_cell s.stride (x + 1) y u v ≡ x * s.stride + y = ap (λ n. crossed_cell s.stride (x + 1) y n v) here.0 ∙ ap (λ n. crossed_cell s.stride (x + 1) y x n) here.1 ∙ grind (arith, nat_tests, right) in
+              | inl first ↦
+                  let at : v * s.stride + u ≡ i = ap (λ n. n * s.stride + u) first.1 ∙ ap (λ n. y * s.stride + n) first.0 ∙ sym is_i in
+                  let was : crossed_cell s.stride from upto x y y x ≡ x * s.stride + y = grind (arith, nat_tests, right, after, here) in
+                  let is : crossed_cell s.stride from upto (x + 1) y u v ≡ x * s.stride + y = ap (λ n. crossed_cell s.stride from upto (x + 1) y n v) first.0 ∙ ap (λ n. crossed_cell s.stride from upto (x + 1) y x n) first.1 ∙ grind (arith, nat_tests, right, after, here) in
                   ap (slice_get new) at ∙ first_is ∙ ap (slice_get now) is_j ∙ so.each y x (omega arith) (omega arith) ∙ ap (slice_get old) (was ∙ sym is)
               | inr not_first ↦
                   elim (same_place u v y x) [
                     | inl there ↦
                         let at : v * s.stride + u ≡ j = ap (λ n. n * s.stride + u) there.1 ∙ ap (λ n. x * s.stride + n) there.0 ∙ sym is_j in
-                        let was : crossed_cell s.stride x y x y ≡ y * s.stride + x = grind (arith, nat_tests, right) in
-                        let is : crossed_cell s.stride (x + 1) y u v ≡ y * s.stride + x = ap (λ n. crossed_cell s.stride (x + 1) y n v) there.0 ∙ ap (λ n. crossed_cell s.stride (x + 1) y y n) there.1 ∙ grind (arith, nat_tests, right) in
+                        let was : crossed_cell s.stride from upto x y x y ≡ y * s.stride + x = grind (arith, nat_tests, right, after, here) in
+                        let is : crossed_cell s.stride from upto (x + 1) y u v ≡ y * s.stride + x = ap (λ n. crossed_cell s.stride from upto (x + 1) y n v) there.0 ∙ ap (λ n. crossed_cell s.stride from upto (x + 1) y y n) there.1 ∙ grind (arith, nat_tests, right, after, here) in
                         ap (slice_get new) at ∙ second_is ∙ ap (slice_get now) is_i ∙ so.each x y (omega arith) (omega arith) ∙ ap (slice_get old) (was ∙ sym is)
                     | inr not_second ↦
                         let not_i : v * s.stride + u ≢ i = λ e. let p = same_from_place v u y x s.stride (omega (arith, s.holds_width)) (omega (arith, s.holds_width)) (e ∙ is_i) in not_first (p.1, p.0) in
                         let not_j : v * s.stride + u ≢ j = λ e. let p = same_from_place v u x y s.stride (omega (arith, s.holds_width)) (omega (arith, s.holds_width)) (e ∙ is_j) in not_second (p.1, p.0) in
                         other_stays (v * s.stride + u) not_i not_j ∙ so.each u v in_u in_v
-                        ∙ ap (slice_get old) (same_cell s.stride x y (x + 1) y u v (λ other. grind (arith, nat_tests, not_first, not_second, right)))
+                        ∙ ap (slice_get old) (same_cell s.stride from upto x y from upto (x + 1) y u v (λ other.
+                        same_crossed from upto x y from upto (x + 1) y u v other (λ a b below one. done_more from upto x y a b (λ e.
+                        elim one [
+                          | inl f ↦ not_first (sym f.0 ∙ e.0, sym f.1 ∙ e.1)
+                          | inr f ↦ not_second (sym f.1 ∙ e.1, sym f.0 ∙ e.0)
+                        ]))))
                   ]
             ]
 
-        pub one_crossed : CrossedUpto (x + 1) y old new s
+        pub one_crossed : CrossedUpto from upto (x + 1) y old new s
         one_crossed = record {
           as_many = as_many ∙ so.as_many;
           each = crossed_at;
@@ -130,15 +185,15 @@ module _ {T : Type 0} (s : Shape) where
         }
 
     -- all pairs
-    module _ (square : s.width ≡ s.height) (high : s.height ≤ y) where
+    module _ (square : s.width ≡ s.height) (all : s.height ≤ from) where
       pub all_crossed : shaped_grid now s ≡ transposed (shaped_grid old s)
       unfolding grid_of transposed
       all_crossed =
           same_grids s.width s.height (pixel (shaped now s)) (λ u v. (grid_of (shaped old s)).pixel v u) (λ u v column line. so.each u v column line ∙ ap (slice_get old) (passed u v column line) ∙ sym (pixel_at (shaped old s) v u (omega arith) (omega arith)))
           ∙ (λ i. grid (square i) (sym square i) (λ u v. (grid_of (shaped old s)).pixel v u))
         where
-          passed : (u v : ℕ) → u < s.width → v < s.height → crossed_cell s.stride x y u v ≡ u * s.stride + v
-          passed u v column line = grind (arith, nat_tests, column, line, square, high)
+          passed : (u v : ℕ) → u < s.width → v < s.height → crossed_cell s.stride from upto x y u v ≡ u * s.stride + v
+          passed u v column line = grind (arith, nat_tests, column, line, square, all)
 
       pub crossed_outside : SameOutside (shaped old s) (shaped now s)
       crossed_outside = record { width_stays = refl; height_stays = refl; stride_stays = refl; length_stays = so.as_many; padding_stays = so.others }

@@ -1,6 +1,6 @@
 //! Squares that are transposed and turned in place.
 
-ghost use Rattle.std.specs.Prelude.{◌≡◌};
+ghost use Rattle.std.specs.Prelude.{◌≡◌, ◌<◌};
 ghost use Rattle.image_model.specs.Layout.{Fits, SameOutside};
 ghost use Rattle.image_model.specs.Turns.{transposed};
 ghost use Rattle.image_shape.specs.Shape.{shape_width, shape_height, shaped_grid, shaped};
@@ -9,6 +9,30 @@ ghost use Rattle.image_ops.specs.Turned.{turned, turned_width};
 use crate::flipping::{flip_columns, flip_rows, swap_cells};
 use crate::turning::Turn;
 use image_shape::Shape;
+use std::mem::{size_of, size_of_val};
+
+// How many bytes of an image are crossed at once: these are near anyway.
+const NEAR: usize = 524_288;
+
+// How many columns are crossed at a time. Their pixels come from so many rows, a pixel of each at a
+// time. So the lines of these rows have to stay in the nearest cache until the pixels beside them are
+// taken. At a stride of 4096 bytes it keeps eight of them, and more at others.
+fn strip_width<T>(cells: &[T], side: usize, stride: usize) -> usize
+    ensures { 0 < result }
+{
+    let Some(cell) = cells.first() else {
+        return 1;
+    };
+    if cells.len() * size_of::<T>() <= NEAR {
+        return side.max(1);
+    }
+    match stride.wrapping_mul(size_of_val(cell)).trailing_zeros() {
+        0..=9 => 64,
+        10 => 32,
+        11 => 16,
+        _ => 8,
+    }
+}
 
 /// Columns become rows, and rows columns, in place: each pixel changes places with the one across
 /// the diagonal, and the padding stays. The cells fit (`Shape::fits`), and the image is as wide as
@@ -21,10 +45,16 @@ pub fn transpose_square<T: Copy>(cells: &mut [T], shape: Shape)
     ensures outside { SameOutside (shaped cells.old shape) (shaped cells.new shape) }
 {
     let side = shape.height();
-    for y in 0..side {
-        for x in y + 1..side {
-            swap_cells(cells, shape.cell(x, y), shape.cell(y, x));
+    let width = strip_width(cells, side, shape.stride());
+    let mut left = 0;
+    while left < side {
+        let right = left + width.min(side - left);
+        for y in 0..right {
+            for x in left.max(y + 1)..right {
+                swap_cells(cells, shape.cell(x, y), shape.cell(y, x));
+            }
         }
+        left = right;
     }
 }
 
