@@ -15,6 +15,3 @@ two_digits n many few = decimal_step n many (omega arith) ∙ ap (λ l. l ++ ((4
 
 pub three_digits : (n : ℕ) → 100 ≤ n → n < 1000 → decimal n ≡ (48 + n / 10 / 10 % 10) ∷ (48 + n / 10 % 10) ∷ (48 + n % 10) ∷ []
 three_digits n many few = decimal_step n (omega arith) (omega arith) ∙ ap (λ l. l ++ ((48 + n % 10) ∷ [])) (two_digits (n / 10) (omega arith) (omega arith))
-
--- what the proof of a number's text goes by
-pub ruleset digits = (one_digit, two_digits, three_digits)

@@ -8,3 +8,4 @@ pub mod ScriptGood
 pub mod ScriptRead
 pub mod OutputImages
 pub mod Digits
+pub mod PixelTexts

@@ -1,11 +1,12 @@
-use Rattle.std.proofs.Common.{◌≡◌, ◌∷◌, ◌++◌, take, All}
+use Rattle.std.proofs.Common.{◌≡◌, ◌∷◌, ◌++◌, length}
 use Rattle.std.specs.List.{flat_map}
 use Rattle.std.specs.Fmt.{decimal}
-use Rattle.text_model.specs.Fields.{IsPixel}
 use Rattle.script_text.proofs.output.push_cells.Given as goal
 
-abbrev pub invariant-loop-cell : goal.invariant-loop-cell
-invariant-loop-cell l = record {
-  text : l.text.items ≡ l.initial.text.items ++ flat_map (λ cell. 32 ∷ decimal cell) (take l.cell-index l.cells);
-  pixels : All IsPixel (take l.cell-index l.cells);
-}
+-- the cells before those that are left are written
+abbrev pub invariant-loop-rest : goal.invariant-loop-rest
+invariant-loop-rest l =
+    l.text.items ++ flat_map (λ cell. 32 ∷ decimal cell) l.rest ≡ l.initial.text.items ++ flat_map (λ cell. 32 ∷ decimal cell) l.cells
+
+abbrev pub decreases-loop-rest : goal.decreases-loop-rest
+decreases-loop-rest l = length l.rest
