@@ -112,21 +112,23 @@ const LANES: usize = 16;
 
 // A bit for each lane, which is set where the lane is that byte.
 #[inline(always)]
-fn marks(lanes: u8x16, byte: u8) -> u64
-    ensures { result ≡ mask_l (map (λ b. b == byte) lanes) }
+fn marks<const N: usize>(lanes: Simd<u8, N>, byte: u8) -> u64
+    requires { N ≤ 64 }
+    ensures { result ≡ mask_l (map (λ b. b == byte) lanes.entry) }
 {
-    lanes.simd_eq(u8x16::splat(byte)).to_bitmask()
+    lanes.simd_eq(Simd::<u8, N>::splat(byte)).to_bitmask()
 }
 
-// How many of the first 16 bytes come before the first such byte: all where there is none.
+// How many of the first N bytes come before the first such byte: all where there is none.
 #[inline(always)]
-fn lanes_before(bytes: &[u8], byte: u8) -> usize
-    requires { LANES ≤ length bytes.now }
-    ensures { result ≡ position_or_len (λ b. b == byte) (take LANES bytes.now) }
+fn lanes_before<const N: usize>(bytes: &[u8], byte: u8) -> usize
+    requires few { N ≤ 64 }
+    requires long { N ≤ length bytes.now }
+    ensures { result ≡ position_or_len (λ b. b == byte) (take N bytes.now) }
 {
-    let marked = marks(u8x16::from_slice(bytes), byte);
+    let marked = marks::<N>(Simd::<u8, N>::from_slice(bytes), byte);
     if marked == 0 {
-        return LANES;
+        return N;
     }
     marked.trailing_zeros() as usize
 }
@@ -140,17 +142,44 @@ fn find(bytes: &[u8], byte: u8) -> Option<usize>
     let mut rest = bytes;
     let mut at = 0;
     while rest.len() >= LANES {
-        let before = lanes_before(rest, byte);
+        let before = lanes_before::<LANES>(rest, byte);
         if before < LANES {
             return Some(at + before);
         }
         rest = &rest[LANES..];
         at += LANES;
     }
-    find_from(at, rest, byte)
+    if rest.len() >= 8 {
+        find_at_ends::<8>(at, rest, byte)
+    } else if rest.len() >= 4 {
+        find_at_ends::<4>(at, rest, byte)
+    } else {
+        find_from(at, rest, byte)
+    }
 }
 
-// The same, byte by byte, of bytes of which the first has this number.
+// The same of bytes of which the first has this number. They are looked at as the first N and the
+// last N, which may overlap: most fields are too short for 16 bytes at once.
+#[inline(always)]
+fn find_at_ends<const N: usize>(start: usize, bytes: &[u8], byte: u8) -> Option<usize>
+    requires few { N ≤ 64 }
+    requires covers { (N ≤ length bytes.now) × (length bytes.now ≤ N + N) }
+    requires fits { start + length bytes.now < 2 ^ 64 }
+    ensures { result ≡ position_from (λ b. b == byte) start bytes.now }
+{
+    let before = lanes_before::<N>(bytes, byte);
+    if before < N {
+        return Some(start + before);
+    }
+    let last = bytes.len() - N;
+    let before = lanes_before::<N>(&bytes[last..], byte);
+    if before < N {
+        return Some(start + last + before);
+    }
+    None
+}
+
+// The same, byte by byte.
 fn find_from(start: usize, bytes: &[u8], byte: u8) -> Option<usize>
     requires { start + length bytes.now < 2 ^ 64 }
     ensures { result ≡ position_from (λ b. b == byte) start bytes.now }

@@ -3,4 +3,4 @@ use Rattle.std.proofs.lemmas.Simd.{bitmask_splat}
 use Rattle.texts.proofs.parts.marks.Goals as goal
 
 pub returns : goal.returns
-returns c = bitmask_splat w8 eqb c.args.lanes 16 c.args.byte c.fits-lanes.0 (omega arith)
+returns g c = bitmask_splat w8 eqb c.args.lanes g.row.N c.args.byte c.fits-lanes.0 (omega arith)
