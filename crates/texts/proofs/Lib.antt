@@ -1,2 +1,3 @@
 pub mod PartsLeft
 pub mod Positions
+pub mod LongNumbers

@@ -62,11 +62,36 @@ fn digits(piece: &[u8]) -> Option<usize>
         [a @ b'0'..=b'9', b @ b'0'..=b'9', c @ b'0'..=b'9'] => {
             Some((value(*a) * 10 + value(*b)) * 10 + value(*c))
         }
-        _ => any_digits(piece),
+        _ => more_digits(piece),
     }
 }
 
-// The same of any number of digits.
+// A number is read digit by digit while it is less: then one digit more can't make it too great.
+const LONG: usize = 100_000_000_000_000_000;
+
+// The same of any number of digits. To see them as a text first and parse that takes four times as
+// long, and coordinates of large images have four digits.
+fn more_digits(piece: &[u8]) -> Option<usize>
+    requires { slice_index piece.now 0 ≢ 43 }
+    ensures { result ≡ digits_of piece.now }
+{
+    let mut number = 0;
+    for byte in piece {
+        if !byte.is_ascii_digit() {
+            return None;
+        }
+        if number >= LONG {
+            return any_digits(piece);
+        }
+        number = number * 10 + value(*byte);
+    }
+    if piece.is_empty() {
+        return None;
+    }
+    Some(number)
+}
+
+// The same of any number of digits, as the library reads them.
 fn any_digits(piece: &[u8]) -> Option<usize>
     requires { slice_index piece.now 0 ≢ 43 }
     ensures { result ≡ digits_of piece.now }

@@ -1,0 +1,35 @@
+use Rattle.std.proofs.Common.{◌≡◌, ℕ, false, get_or, take_all, ap, sym, ◌∙◌, arith}
+use Rattle.std.specs.Char.{is_ascii_digit}
+use Rattle.std.specs.Str.Parse.{digits_value}
+use Rattle.std.proofs.lemmas.Bool.Decides.{nat_tests}
+use borrow.Author.Count.{below_more}
+use Rattle.texts.specs.Digits.{IsDigit}
+use Rattle.texts.proofs.LongNumbers.{digits_are, digits_are_not, no_digits, value_more}
+use Rattle.texts.proofs.fields.more_digits.Goals as goal
+
+pub returns-then-not-is_ascii_digit : goal.returns-then-not-is_ascii_digit
+returns-then-not-is_ascii_digit c =
+    let at = c.loop-byte.byte-index in
+    let other : is_ascii_digit (get_or c.args.piece.now at 0) ≡ false = cc in
+    sym (digits_are_not at c.args.piece.now c.loop-byte-test.true other)
+
+pub loop-byte-preserved : goal.loop-byte-preserved
+loop-byte-preserved c =
+    let l = c.loop-byte in
+    let piece = c.args.piece.now in
+    let digit : IsDigit (get_or piece l.byte-index 0) = record { low = grind (arith, nat_tests); high = grind (arith, nat_tests) } in
+    record {
+      digits = below_more (λ (k : ℕ). IsDigit (get_or piece k 0)) l.byte-index l.invariant.digits digit;
+      value = omega (arith, value_more l.byte-index l.number piece c.loop-byte-test.true digit l.invariant.value);
+      small = omega arith;
+    }
+
+pub returns-then-is_empty : goal.returns-then-is_empty
+returns-then-is_empty c = sym (no_digits c.args.piece.now (grind (arith, nat_tests)))
+
+pub returns : goal.returns
+returns c =
+    let l = c.loop-byte in
+    let piece = c.args.piece.now in
+    let value : digits_value 10 piece ≡ l.number = ap (digits_value 10) (sym (take_all l.byte-index piece (omega arith))) ∙ l.invariant.value in
+    sym (digits_are piece l.number (grind (arith, nat_tests)) (λ k few. l.invariant.digits k (omega arith)) value (omega arith))
