@@ -1,4 +1,3 @@
-pub mod FieldsEach
 pub mod PathTexts
 pub mod LineOrders
 pub mod LineImages

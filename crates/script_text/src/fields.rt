@@ -16,6 +16,7 @@ pub(crate) fn read_each<T: Field>(alloc: Global, parts: &mut Parts<'_>) -> Resul
     ensures { Gives (λ values. values.items) result (each_of T.reading (parts_left parts.old)) }
 {
     let mut values = Vec::new(alloc);
+    texts::read_many(&mut values, parts)?;
     while !parts.is_done() {
         let Some(value) = texts::next(parts) else {
             return Err(LineFault::Bad);
@@ -25,7 +26,8 @@ pub(crate) fn read_each<T: Field>(alloc: Global, parts: &mut Parts<'_>) -> Resul
     Ok(values)
 }
 
-/// The value that the next field denotes.
+/// The value that the next field denotes. Inlined, since a call of it costs as much as the reading.
+#[inline(always)]
 pub(crate) fn next_value<T: Field>(fields: &mut Parts<'_>) -> Result<T, LineFault>
     ensures { Gives (λ x. (x, parts_left fields.new)) result
         (first_of_parts T.reading (parts_left fields.old)) }

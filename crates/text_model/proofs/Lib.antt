@@ -4,3 +4,4 @@ pub mod PartsCut
 pub mod PartsJoined
 pub mod FieldTexts
 pub mod ShortNumbers
+pub mod FieldsEach

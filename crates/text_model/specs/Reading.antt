@@ -1,5 +1,5 @@
 -- Reading: a piece of text as a value, or nothing where it isn't the text of a value.
-use Rattle.std.specs.Prelude.{◌≡◌, ℕ, ◌^◌, Bool, true, false, ◌&&◌, ◌||◌, List, [], ◌∷◌, length, Option, Some, None, nat_lt, nat_le, ◌==◌, if◌then◌else◌, slice_index, option_and_then}
+use Rattle.std.specs.Prelude.{◌≡◌, ℕ, ◌^◌, Bool, true, false, ◌&&◌, ◌||◌, List, [], ◌∷◌, ◌++◌, length, Option, Some, None, nat_lt, nat_le, ◌==◌, if◌then◌else◌, slice_index, option_and_then}
 use Rattle.std.specs.Option.{option_map}
 use Rattle.std.specs.Str.{all_ascii_digits}
 use Rattle.std.specs.Str.Parse.{digits_value}
@@ -37,6 +37,10 @@ each_of read (part ∷ parts) = do
   value ← read part
   values ← each_of read parts
   Some (value ∷ values)
+
+-- what is read, after what was read before
+abbrev pub with_front : {A : Type 0} → List A → Option (List A) → Option (List A)
+with_front front rest = option_map (λ xs. front ++ xs) rest
 
 -- what the first part is read as, and the parts after it
 unfoldable pub first_of_parts : {A : Type 0} → (List ℕ → Option A) → List (List ℕ) → Option (A × List (List ℕ))

@@ -1,3 +1,4 @@
 pub mod PartsLeft
 pub mod Positions
+pub mod ShortPixels
 pub mod LongNumbers

@@ -4,6 +4,7 @@
 
 mod fields;
 mod parts;
+mod pixels;
 
-pub use fields::{Field, next};
+pub use fields::{Field, next, read_many};
 pub use parts::Parts;

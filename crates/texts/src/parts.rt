@@ -1,12 +1,14 @@
 //! Bytes that are split at a separator.
 
-ghost use Rattle.std.specs.Prelude.{◌≡◌, ◌≤◌, ◌<◌, ◌+◌, ◌-◌, ◌^◌, ◌↔◌, ◌==◌, ◌∷◌, [], IsTrue, None, IfSome, MatchOption, length, take, map, position};
+ghost use Rattle.std.specs.Prelude.{◌≡◌, ◌≤◌, ◌<◌, ◌+◌, ◌-◌, ◌^◌, ◌↔◌, ◌==◌, ◌∷◌, [], IsTrue, OnOk, None, IfSome, MatchOption, length, take, map, position};
 ghost use Rattle.std.specs.List.{position_or_len, position_from};
 ghost use Rattle.std.specs.Simd.Lanes.{mask_l};
 ghost use Rattle.text_model.specs.Parts.{parts_of};
-ghost use Rattle.text_model.specs.Reading.{number_of, first_of_parts};
+ghost use Rattle.text_model.specs.Reading.{number_of, pixel_of, first_of_parts, each_of, with_front};
 ghost use Rattle.texts.specs.Parts.{parts_left};
 
+use crate::pixels::read_pixels;
+use std::alloc::AllocError;
 use std::simd::prelude::*;
 
 /// The parts that are left of bytes that are split at a separator. The empty list of bytes is one
@@ -53,6 +55,23 @@ impl<'a> Parts<'a> {
         }
         self.rest = None;
         Some(number)
+    }
+
+    /// Adds the pixels that the next parts denote, as long as many of them can be read at once.
+    pub(crate) fn read_pixels(&mut self, values: &mut Vec<u8>) -> Result<(), AllocError>
+        ensures { OnOk result (with_front values.new.items (each_of pixel_of (parts_left self.new))
+            ≡ with_front values.old.items (each_of pixel_of (parts_left self.old))) }
+    {
+        let Some(rest) = self.rest else {
+            return Ok(());
+        };
+        if self.separator >= b'0' {
+            return Ok(());
+        }
+        let rest = read_pixels::<64>(rest, self.separator, values)?;
+        let rest = read_pixels::<16>(rest, self.separator, values)?;
+        self.rest = Some(rest);
+        Ok(())
     }
 
     /// The next part, or `None` where no part is left.

@@ -1,13 +1,16 @@
 -- Each part is read in turn, or none of them.
-use Rattle.std.proofs.Common.{refl}
+use Rattle.std.proofs.Common.{refl, ◌∙◌}
 use Rattle.text_model.specs.Reading.{each_of}
 use Rattle.texts.specs.Parts.{parts_left}
-use Rattle.script_text.proofs.FieldsEach.{each_of-more, each_of-stops, each_of-done, first_of_parts-smaller}
+use Rattle.text_model.proofs.FieldsEach.{with_nothing, each_of-more, each_of-stops, each_of-done, first_of_parts-smaller}
 use Rattle.script_text.proofs.fields.read_each.Goals as goal
 
 pub returns-in_default : goal.returns-in_default
 returns-in_default g c = each_of-stops g.T.Field.reading c.loop-parts.values.items (parts_left c.loop-parts.parts) (each_of g.T.Field.reading (parts_left c.args.parts.now))
     (λ none. absurd (cc (c.loop-parts-test.ensures.1 none))) c.in_default.ensures c.loop-parts.invariant
+
+pub loop-parts-init : goal.loop-parts-init
+loop-parts-init g c = rw c.new-values.ensures.items at c.in_ok-read_many.ensures ∙ with_nothing (each_of g.T.Field.reading (parts_left c.args.parts.now))
 
 pub loop-parts-preserved : goal.loop-parts-preserved
 loop-parts-preserved g c = rw c.in_ok-push.ensures.items (each_of-more g.T.Field.reading c.loop-parts.values.items (parts_left c.loop-parts.parts) (parts_left c.next.new.parts)

@@ -2,11 +2,11 @@
 use Rattle.std.proofs.Common.{◌≡◌, ◌<◌, ℕ, length, List, [], ◌∷◌, ◌++◌, Option, Some, None, refl, sym, ap, ◌∙◌, append_assoc, arith}
 use Rattle.std.specs.Option.{option_map}
 use Rattle.std.proofs.lemmas.List.{append-nil}
-use Rattle.text_model.specs.Reading.{each_of, first_of_parts, ◌>>=◌}
+use Rattle.text_model.specs.Reading.{each_of, first_of_parts, with_front, ◌>>=◌}
 
--- what is read, after what was read before
-abbrev pub with_front : {A : Type 0} → List A → Option (List A) → Option (List A)
-with_front front rest = option_map (λ xs. front ++ xs) rest
+pub with_nothing : {A : Type 0} (o : Option (List A)) → with_front [] o ≡ o
+with_nothing None = refl
+with_nothing (Some xs) = refl
 
 grown : {A : Type 0} (front : List A) (x : A) (rest : Option (List A)) → with_front front (rest >>= λ xs. Some (x ∷ xs)) ≡ with_front (front ++ x ∷ []) rest
 grown front x None = refl
