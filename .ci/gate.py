@@ -33,6 +33,8 @@ from processes import end_on_signals, started, workers
 CHECKS = ROOT / ".ci/checks"
 # These need the proofs of tests, or prove crates again with a change: they run in the gate alone.
 GATE_ALONE = ("always_memory.py", "refused_growths.py", "layers.py", "row_mover_privacy.py")
+# These time calls, so they come last, with nothing beside them.
+TIMED = ("bindings.py",)
 # The crates that `test` proves, with those below them: the programs and the library for C.
 PRODUCT = ("imgref_run", "imgref_frames", "imgref_c")
 # What each takes from nothing on four processors, in minutes.
@@ -147,6 +149,12 @@ def scripts(folder, top=ROOT, words=(), without=()):
     return [Part(it.name, [sys.executable, str(top / it.relative_to(ROOT)), *words], top) for it in sorted(folder.glob("*.py")) if it.name not in without]
 
 
+def cached_checks(without=()):
+    """The checks that go over cached proofs: those that run beside other parts, and those that time calls."""
+    every = scripts(CHECKS / "proofs", without=without)
+    return [it for it in every if it.name not in TIMED], [it for it in every if it.name in TIMED]
+
+
 def side_by_side(lines):
     """Runs lines of parts side by side, the parts of each one after the other. What waits for a part that failed runs too. A
     list in a line is of lines again."""
@@ -195,10 +203,12 @@ def test(parts, _):
     """Runs every test with nothing proved, proves and builds the product beside that, and tries what was built."""
     tests = Part("tests", [sys.executable, str(ROOT / ".ci/tests.py")], nice=0)
     product = Part("product", building(*PRODUCT), counts=False, nice=5)
-    built = scripts(CHECKS / "built", words=[ONE_BUILD], without=GATE_ALONE) + scripts(CHECKS / "proofs", without=GATE_ALONE)
+    cached, timed = cached_checks(without=GATE_ALONE)
+    built = scripts(CHECKS / "built", words=[ONE_BUILD], without=GATE_ALONE) + cached
     beside = scripts(CHECKS, without=GATE_ALONE)
-    parts += [tests, product, *built, *beside]
+    parts += [tests, product, *built, *beside, *timed]
     side_by_side([[tests], [product, [[it] for it in built]], beside])
+    side_by_side([timed])
 
 
 def gate(parts, only):
@@ -209,9 +219,10 @@ def gate(parts, only):
         built = scripts(CHECKS / "built", top)
         proofs = Part("cached proofs", building(*(it for it in crates() if (ROOT / "crates" / it / "must-fail").is_dir())), counts=False, nice=0)
         bugs = Part("planted bugs", [sys.executable, str(ROOT / ".ci/planted_bugs.py"), *only], nice=0)
-        cached, beside = scripts(CHECKS / "proofs"), scripts(CHECKS)
-        parts += [of_ci, *built, proofs, bugs, *cached, *beside]
+        (cached, timed), beside = cached_checks(), scripts(CHECKS)
+        parts += [of_ci, *built, proofs, bugs, *cached, *beside, *timed]
         side_by_side([[of_ci, [[it] for it in built]], [proofs, [[bugs], cached]], beside])
+        side_by_side([timed])
         say(f"\n{functions()} functions proved · {tests()} tests · {bugs.passed} planted bugs refused")
 
 
