@@ -128,6 +128,9 @@ pub fn push_reply(text: &mut Vec<u8>, reply: Reply<u8>) -> Result<(), AllocError
     text.extend_from_slice(b"\n")
 }
 
+// How many bytes a space and the text of a pixel have at most.
+const LONGEST: usize = 4;
+
 // How many pixels are written before they are added.
 const BLOCK: usize = 128;
 
@@ -150,7 +153,10 @@ fn push_cells(text: &mut Vec<u8>, cells: &[u8]) -> Result<(), AllocError>
         (text.new.items ≡ text.old.items ++ flat_map (λ cell. 32 ∷ decimal cell) cells.now) }
     ensures pixels { OnOk result (All IsPixel cells.now) }
 {
-    let mut block = [0; 4 * BLOCK];
+    // Room for all of them at once: growth by doubling would copy a long text again and again, and
+    // may take as much.
+    text.reserve(cells.len().saturating_mul(LONGEST))?;
+    let mut block = [0; LONGEST * BLOCK];
     let mut rest = cells;
     while !rest.is_empty() {
         let (some, others) = rest.split_at(rest.len().min(BLOCK));
