@@ -68,6 +68,8 @@ impl<'a> Parts<'a> {
         if self.separator >= b'0' {
             return Ok(());
         }
+        // A pixel has a byte at least, and a separator comes between two.
+        values.reserve(rest.len() - rest.len() / 2)?;
         let rest = read_pixels::<64>(rest, self.separator, values)?;
         let rest = read_pixels::<16>(rest, self.separator, values)?;
         self.rest = Some(rest);
