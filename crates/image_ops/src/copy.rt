@@ -1,10 +1,62 @@
 //! Copies of the pixels of one image over those of another.
 
-ghost use Rattle.std.specs.Prelude.{◌≡◌};
+ghost use Rattle.std.specs.Prelude.{◌≡◌, ◌*◌, ◌<◌, ◌≤◌, length};
 ghost use Rattle.image_model.specs.Layout.{Fits, SameOutside};
 ghost use Rattle.image_shape.specs.Shape.{shape_width, shape_height, shaped_grid, shaped};
 
 use image_shape::Shape;
+use std::mem::size_of;
+
+// The most cells, and the most bytes, of a short row.
+const FEW: usize = 16;
+
+// Copies `N` to `2 * N` cells, as the first and the last `N`.
+#[inline(always)]
+fn copy_ends<T: Copy, const N: usize>(cells: &mut [T], source: &[T])
+    requires some { 0 < N }
+    requires as_many { length cells.old ≡ length source.now }
+    requires enough { N ≤ length cells.old }
+    requires few { length cells.old ≤ 2 * N }
+    ensures { cells.new ≡ source.now }
+{
+    let last = cells.len() - N;
+    cells[..N].copy_from_slice(&source[..N]);
+    cells[last..last + N].copy_from_slice(&source[last..last + N]);
+}
+
+// Copies a row of at most 16 cells.
+#[inline(always)]
+fn copy_few<T: Copy>(cells: &mut [T], source: &[T])
+    requires as_many { length cells.old ≡ length source.now }
+    requires few { length cells.old ≤ 16 }
+    ensures { cells.new ≡ source.now }
+{
+    let len = cells.len();
+    if len > 8 {
+        copy_ends::<T, 8>(cells, source);
+    } else if len > 4 {
+        copy_ends::<T, 4>(cells, source);
+    } else if len > 2 {
+        copy_ends::<T, 2>(cells, source);
+    } else if len > 0 {
+        copy_ends::<T, 1>(cells, source);
+    }
+}
+
+// Copies a row. For a short one a call of `memcpy` would take longer than the copy. The compiler
+// takes the tests out of the loop over rows.
+#[inline(always)]
+fn copy_row<T: Copy>(cells: &mut [T], source: &[T])
+    requires as_many { length cells.old ≡ length source.now }
+    ensures len { length cells.new ≡ length cells.old }
+    ensures after { cells.new ≡ source.now }
+{
+    if cells.len() <= FEW && cells.len() * size_of::<T>() <= FEW {
+        copy_few(cells, source);
+    } else {
+        cells.copy_from_slice(source);
+    }
+}
 
 /// Every pixel of `shape` in `cells` becomes the pixel of the source at its place, row by row; the
 /// padding stays. Both fit (`Shape::fits`) and have the same size; their strides may differ.
@@ -19,6 +71,6 @@ pub fn copy_pixels<T: Copy>(cells: &mut [T], shape: Shape, source: &[T], source_
     for y in 0..shape.row_count() {
         let row = shape.row(cells.len(), y);
         let from = source_shape.row(source.len(), y);
-        cells[row.range()].copy_from_slice(&source[from.range()]);
+        copy_row(&mut cells[row.range()], &source[from.range()]);
     }
 }

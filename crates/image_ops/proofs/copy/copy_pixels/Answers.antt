@@ -16,10 +16,10 @@ loop-y-preserved g c =
     let read = c.range-in-loop-y in
     let at = row_range c.args.shape y c.range.ensures.start c.range.ensures.end c.row-row.ensures.start c.row-row.ensures.len in
     let many : read.result.end - read.result.start ≡ from.width = omega (arith, read.ensures.start, read.ensures.end, c.row-from.ensures.len) in
-    let line : c.copy_from_slice.new.self ≡ row from y =
-    c.copy_from_slice.ensures.after ∙ (λ i. take (many i) (drop ((read.ensures.start ∙ c.row-from.ensures.start) i) from.cells)) ∙ sym (row_stretch from y) in
-    row_written _ _ _ c.args.shape y c.loop-y.invariant c.requires.fits (omega (arith, c.row_count-y-end.ensures.value)) _ _ at c.copy_from_slice.new.self
-    c.copy_from_slice.ensures.len
+    let line : c.copy_row.new.cells ≡ row from y =
+    c.copy_row.ensures.after ∙ (λ i. take (many i) (drop ((read.ensures.start ∙ c.row-from.ensures.start) i) from.cells)) ∙ sym (row_stretch from y) in
+    row_written _ _ _ c.args.shape y c.loop-y.invariant c.requires.fits (omega (arith, c.row_count-y-end.ensures.value)) _ _ at c.copy_row.new.cells
+    c.copy_row.ensures.len
     (λ x column here. ap (λ r. slice_get r x) line ∙ row_pixel from x y (omega (arith, column, c.requires.same_width)))
 
 pub returns-clause-grid : goal.returns-clause-grid
