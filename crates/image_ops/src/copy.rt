@@ -10,7 +10,8 @@ use std::mem::size_of;
 // The most cells, and the most bytes, of a short row.
 const FEW: usize = 16;
 
-// Copies `N` to `2 * N` cells, as the first and the last `N`.
+// Copies `N` to `2 * N` cells, as the first and the last `N`. They are read into registers first:
+// between two lists the compiler would test whether these overlap.
 #[inline(always)]
 fn copy_ends<T: Copy, const N: usize>(cells: &mut [T], source: &[T])
     requires some { 0 < N }
@@ -19,9 +20,29 @@ fn copy_ends<T: Copy, const N: usize>(cells: &mut [T], source: &[T])
     requires few { length cells.old ≤ 2 * N }
     ensures { cells.new ≡ source.now }
 {
-    let last = cells.len() - N;
-    cells[..N].copy_from_slice(&source[..N]);
-    cells[last..last + N].copy_from_slice(&source[last..last + N]);
+    let start = cells.len() - N;
+    let mut first = [source[0]; N];
+    let mut last = [source[0]; N];
+    first.as_mut_slice().copy_from_slice(&source[..N]);
+    last.as_mut_slice()
+        .copy_from_slice(&source[start..start + N]);
+    cells[..N].copy_from_slice(first.as_slice());
+    cells[start..start + N].copy_from_slice(last.as_slice());
+}
+
+// Copies one or two cells.
+#[inline(always)]
+fn copy_pair<T: Copy>(cells: &mut [T], source: &[T])
+    requires as_many { length cells.old ≡ length source.now }
+    requires some { 1 ≤ length cells.old }
+    requires few { length cells.old ≤ 2 }
+    ensures { cells.new ≡ source.now }
+{
+    let end = cells.len() - 1;
+    let first = source[0];
+    let last = source[end];
+    cells[0] = first;
+    cells[end] = last;
 }
 
 // Copies a row of at most 16 cells.
@@ -39,7 +60,7 @@ fn copy_few<T: Copy>(cells: &mut [T], source: &[T])
     } else if len > 2 {
         copy_ends::<T, 2>(cells, source);
     } else if len > 0 {
-        copy_ends::<T, 1>(cells, source);
+        copy_pair(cells, source);
     }
 }
 
