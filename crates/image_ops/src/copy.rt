@@ -4,6 +4,7 @@ ghost use Rattle.std.specs.Prelude.{◌≡◌, ◌*◌, ◌<◌, ◌≤◌, leng
 ghost use Rattle.image_model.specs.Layout.{Fits, SameOutside};
 ghost use Rattle.image_shape.specs.Shape.{shape_width, shape_height, shaped_grid, shaped};
 
+use crate::joining::fewest_rows;
 use image_shape::Shape;
 use std::mem::size_of;
 
@@ -79,9 +80,8 @@ fn copy_row<T: Copy>(cells: &mut [T], source: &[T])
     }
 }
 
-/// Every pixel of `shape` in `cells` becomes the pixel of the source at its place, row by row; the
-/// padding stays. Both fit (`Shape::fits`) and have the same size; their strides may differ.
-pub fn copy_pixels<T: Copy>(cells: &mut [T], shape: Shape, source: &[T], source_shape: Shape)
+// Every pixel of `shape` in `cells` becomes the pixel of the source at its place, row by row.
+fn copy_rows<T: Copy>(cells: &mut [T], shape: Shape, source: &[T], source_shape: Shape)
     requires fits { Fits (shaped cells.old shape) }
     requires source_fits { Fits (shaped source.now source_shape) }
     requires same_width { shape_width shape ≡ shape_width source_shape }
@@ -94,4 +94,18 @@ pub fn copy_pixels<T: Copy>(cells: &mut [T], shape: Shape, source: &[T], source_
         let from = source_shape.row(source.len(), y);
         copy_row(&mut cells[row.range()], &source[from.range()]);
     }
+}
+
+/// Every pixel of `shape` in `cells` becomes the pixel of the source at its place, row by row; the
+/// padding stays. Both fit (`Shape::fits`) and have the same size; their strides may differ.
+pub fn copy_pixels<T: Copy>(cells: &mut [T], shape: Shape, source: &[T], source_shape: Shape)
+    requires fits { Fits (shaped cells.old shape) }
+    requires source_fits { Fits (shaped source.now source_shape) }
+    requires same_width { shape_width shape ≡ shape_width source_shape }
+    requires same_height { shape_height shape ≡ shape_height source_shape }
+    ensures grid { shaped_grid cells.new shape ≡ shaped_grid source.now source_shape }
+    ensures outside { SameOutside (shaped cells.old shape) (shaped cells.new shape) }
+{
+    let (rows, source_rows) = fewest_rows(shape, source_shape);
+    copy_rows(cells, rows, source, source_rows);
 }
