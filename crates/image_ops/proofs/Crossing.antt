@@ -60,6 +60,14 @@ mirrored_inner n from upto k after = grind (arith, nat_tests)
 pub mirrored_all : (n k : ℕ) → k < n → mirrored_place n 0 n k ≡ n - 1 - k
 mirrored_all n k below = grind (arith, nat_tests)
 
+-- one pair more
+pub mirrored_once : (n x k : ℕ) → 2 * x + 1 < n → k < n → mirrored_place n 0 x (swapped_column x (n - 1 - x) k) ≡ mirrored_place n 0 (x + 1) k
+mirrored_once n x k inside below = grind (arith, nat_tests)
+
+-- half of the pairs are all of them
+pub mirrored_half : (n half k : ℕ) → n ≤ 2 * half + 1 → 2 * half ≤ n → k < n → mirrored_place n 0 half k ≡ n - 1 - k
+mirrored_half n half k reached within below = grind (arith, nat_tests)
+
 -- two blocks that reach each other are all that is left
 pub mirrored_rest : (n done more k : ℕ) → n ≤ 2 * (done + more) → k < n → mirrored_place n done (done + more) k ≡ mirrored_place n done n k
 mirrored_rest n done more k reached below = grind (arith, nat_tests)

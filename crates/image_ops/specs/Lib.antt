@@ -5,6 +5,7 @@ pub mod Pairs
 pub mod CellAnswers
 pub mod Part
 pub mod Gathered
+pub mod Joined
 pub mod Made
 pub mod Turned
 pub mod Repeated

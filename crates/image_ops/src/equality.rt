@@ -7,6 +7,7 @@ ghost use Rattle.image_model.specs.Rows.{rows as rows_of};
 ghost use Rattle.image_model.specs.Alike.{is_alike};
 ghost use Rattle.image_shape.specs.Shape.{shape_width, shape_height, shaped};
 
+use crate::joining::fewest_rows;
 use image_rows::row;
 use image_shape::Shape;
 
@@ -32,37 +33,6 @@ fn have_equal_rows<T: PartialEq>(
     true
 }
 
-// The shapes in which the cells of two images of one size are compared. Where the rows of both
-// touch, all of them are one row: so there is one comparison, and not one for each row.
-fn fewest_rows<T: PartialEq>(
-    first: &[T],
-    first_shape: Shape,
-    second: &[T],
-    second_shape: Shape,
-) -> (Shape, Shape)
-    requires first_fits { Fits (shaped first.now first_shape) }
-    requires second_fits { Fits (shaped second.now second_shape) }
-    requires same_width { shape_width first_shape ≡ shape_width second_shape }
-    requires same_height { shape_height first_shape ≡ shape_height second_shape }
-    ensures first_fits { Fits (shaped first.now result.0) }
-    ensures second_fits { Fits (shaped second.now result.1) }
-    ensures same_width { shape_width result.0 ≡ shape_width result.1 }
-    ensures same_height { shape_height result.0 ≡ shape_height result.1 }
-    ensures same_result { pointwise (pointwise T.eq)
-        (rows_of (shaped first.now result.0)) (rows_of (shaped second.now result.1))
-        ≡ pointwise (pointwise T.eq)
-        (rows_of (shaped first.now first_shape)) (rows_of (shaped second.now second_shape)) }
-{
-    let width = first_shape.width();
-    if width == first_shape.stride() && width == second_shape.stride() {
-        let count = first_shape.pixel_count();
-        if let Some(joined) = Shape::checked(count, 1, count) {
-            return (joined, joined);
-        }
-    }
-    (first_shape, second_shape)
-}
-
 // Whether two images of one size have equal pixels.
 fn have_equal_pixels<T: PartialEq>(
     first: &[T],
@@ -77,7 +47,7 @@ fn have_equal_pixels<T: PartialEq>(
     ensures { result ≡ pointwise (pointwise T.eq) (rows_of (shaped first.now first_shape))
         (rows_of (shaped second.now second_shape)) }
 {
-    let (one, other) = fewest_rows(first, first_shape, second, second_shape);
+    let (one, other) = fewest_rows(first_shape, second_shape);
     have_equal_rows(first, one, second, other)
 }
 

@@ -1,10 +1,11 @@
 //! Fills: one value in every pixel.
 
-ghost use Rattle.std.specs.Prelude.{◌≡◌, length, replicate, List};
+ghost use Rattle.std.specs.Prelude.{◌≡◌, length, replicate};
 ghost use Rattle.image_model.specs.Layout.{Fits, SameOutside};
 ghost use Rattle.image_model.specs.Grid.{uniform};
 ghost use Rattle.image_shape.specs.Shape.{shape_width, shape_height, shaped_grid, shaped};
 
+use crate::joining::fewest_rows;
 use image_shape::Shape;
 
 /// Every cell becomes `value`.
@@ -29,26 +30,6 @@ fn fill_rows<T: Copy>(cells: &mut [T], shape: Shape, value: T)
     }
 }
 
-// The shape in which the pixels are filled. Where the rows touch, all of them are one row: so there
-// is one fill, and not one for each row.
-fn fewest_rows<T>(cells: &[T], shape: Shape) -> Shape
-    requires fits { Fits (shaped cells.now shape) }
-    ensures fits { Fits (shaped cells.now result) }
-    ensures grid { (news : List T) (value : T) → shaped_grid news result
-        ≡ uniform (shape_width result) (shape_height result) value
-        → shaped_grid news shape ≡ uniform (shape_width shape) (shape_height shape) value }
-    ensures outside { (news : List T) → SameOutside (shaped cells.now result) (shaped news result)
-        → SameOutside (shaped cells.now shape) (shaped news shape) }
-{
-    if shape.width() == shape.stride() {
-        let count = shape.pixel_count();
-        if let Some(joined) = Shape::checked(count, 1, count) {
-            return joined;
-        }
-    }
-    shape
-}
-
 /// Every pixel of `shape` in `cells` becomes `value`; the padding stays. The cells must fit;
 /// `Shape::fits` tests it.
 pub fn fill_pixels<T: Copy>(cells: &mut [T], shape: Shape, value: T)
@@ -57,6 +38,6 @@ pub fn fill_pixels<T: Copy>(cells: &mut [T], shape: Shape, value: T)
         ≡ uniform (shape_width shape) (shape_height shape) value }
     ensures outside { SameOutside (shaped cells.old shape) (shaped cells.new shape) }
 {
-    let rows = fewest_rows(cells, shape);
+    let (rows, _) = fewest_rows(shape, shape);
     fill_rows(cells, rows, value);
 }

@@ -64,11 +64,26 @@ fn reverse_middle<T: Copy>(row: &mut [T], done: usize)
     }
 }
 
-// The cells in the opposite order.
+// The cells in the opposite order, pair by pair.
+fn reverse_few<T: Copy>(row: &mut [T])
+    ensures as_many { length row.new ≡ length row.old }
+    ensures turned { AreGathered (λ x. length row.old - 1 - x) row.old row.new }
+{
+    for x in 0..row.len() / 2 {
+        let z = row.len() - 1 - x;
+        swap_cells(row, x, z);
+    }
+}
+
+// The cells in the opposite order. Blocks of a few cells would take longer than their pairs.
 fn reverse_row<T: Copy>(row: &mut [T])
     ensures as_many { length row.new ≡ length row.old }
     ensures turned { AreGathered (λ x. length row.old - 1 - x) row.old row.new }
 {
+    if row.len() < 8 {
+        reverse_few(row);
+        return;
+    }
     let blocks = row.len() / 32;
     for block in 0..blocks {
         cross_blocks::<T, 16>(row, 16 * block);

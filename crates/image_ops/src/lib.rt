@@ -12,6 +12,7 @@ mod equality;
 mod fill;
 mod flipping;
 mod hashing;
+mod joining;
 mod making;
 mod map;
 mod mosaic;

@@ -25,6 +25,7 @@ fn copy_block<T: Copy, const N: usize>(cells: &mut [T], start: usize, target: us
 }
 
 // Copies `N` to `2 * N` cells, as the first and the last `N`: all are read before one is written.
+#[inline(always)]
 fn copy_ends<T: Copy, const N: usize>(cells: &mut [T], start: usize, len: usize, target: usize)
     requires some { 0 < N }
     requires enough { N ≤ len }
@@ -45,8 +46,26 @@ fn copy_ends<T: Copy, const N: usize>(cells: &mut [T], start: usize, len: usize,
     cells[target + len - N..target + len].copy_from_slice(last.as_slice());
 }
 
-// Copies at most 16 cells.
-fn copy_few<T: Copy>(cells: &mut [T], start: usize, len: usize, target: usize)
+// Copies one or two cells: both are read before one is written.
+#[inline(always)]
+fn copy_pair<T: Copy>(cells: &mut [T], start: usize, len: usize, target: usize)
+    requires some { 1 ≤ len }
+    requires few { len ≤ 2 }
+    requires source { start + len ≤ length cells.old }
+    requires target { target + len ≤ length cells.old }
+    ensures { cells.new ≡ shifted cells.old start len target }
+{
+    let _count = cells.len();
+    let first = cells[start];
+    let last = cells[start + len - 1];
+    cells[target] = first;
+    cells[target + len - 1] = last;
+}
+
+/// Copies at most 16 cells. Not inlined: the compiler would write it once for each length into
+/// each loop over rows.
+#[inline(never)]
+pub(crate) fn copy_few<T: Copy>(cells: &mut [T], start: usize, len: usize, target: usize)
     requires few { len ≤ 16 }
     requires source { start + len ≤ length cells.old }
     requires target { target + len ≤ length cells.old }
@@ -59,7 +78,7 @@ fn copy_few<T: Copy>(cells: &mut [T], start: usize, len: usize, target: usize)
     } else if len > 2 {
         copy_ends::<T, 2>(cells, start, len, target);
     } else if len > 0 {
-        copy_ends::<T, 1>(cells, start, len, target);
+        copy_pair(cells, start, len, target);
     }
 }
 

@@ -1,8 +1,9 @@
-ghost use Rattle.std.specs.Prelude.{◌≡◌, ◌+◌, ◌≤◌, length};
+ghost use Rattle.std.specs.Prelude.{◌≡◌, ◌+◌, ◌≤◌, IsTrue, length};
 ghost use Rattle.image_model.specs.Shifts.{shifted};
 
-use crate::blocks::copy_by_blocks;
+use crate::blocks::{copy_by_blocks, copy_few};
 use std::marker::Model;
+use std::mem::size_of;
 
 /// Shifts cells within one borrowed list, and counts the shifts.
 ///
@@ -59,7 +60,7 @@ impl<'a, T: Copy> RowMover<'a, T> {
 
     /// Copies `len` cells, from cell `start` on, to the cells from `target` on, as one shift. The
     /// stretches may overlap, and every other cell stays (`shifted`).
-    #[inline]
+    #[inline(always)]
     pub fn shift(&mut self, start: usize, len: usize, target: usize)
         requires source { start + len ≤ length self.old.cells }
         requires target { target + len ≤ length self.old.cells }
@@ -71,13 +72,51 @@ impl<'a, T: Copy> RowMover<'a, T> {
     {
         let RowMover { cells, shifts } = self;
         *shifts += 1;
-        if start + len <= target {
-            copy_behind(cells, start, len, target);
-        } else if target + len <= start {
-            copy_before(cells, start, len, target);
-        } else {
-            copy_by_blocks(cells, start, len, target);
-        }
+        copy_stretch(cells, start, len, target);
+    }
+}
+
+// The most cells, and the most bytes, of a short stretch.
+const FEW: usize = 16;
+
+// Whether a stretch of so many cells is so short that the tests of the longer ones, and a call of
+// `memmove`, would take longer than its copy.
+#[inline(always)]
+fn is_short<T>(cells: &[T], len: usize) -> bool
+    requires inside { len ≤ length cells.now }
+    ensures { IsTrue result → len ≤ 16 }
+{
+    let _count = cells.len();
+    len <= FEW && len * size_of::<T>() <= FEW
+}
+
+// Copies a stretch to a place that it may overlap.
+#[inline(always)]
+fn copy_stretch<T: Copy>(cells: &mut [T], start: usize, len: usize, target: usize)
+    requires source { start + len ≤ length cells.old }
+    requires target { target + len ≤ length cells.old }
+    ensures { cells.new ≡ shifted cells.old start len target }
+{
+    if is_short(cells, len) {
+        copy_few(cells, start, len, target);
+    } else {
+        copy_long(cells, start, len, target);
+    }
+}
+
+// The same of any length. Not inlined, so that the loops over rows stay small.
+#[inline(never)]
+fn copy_long<T: Copy>(cells: &mut [T], start: usize, len: usize, target: usize)
+    requires source { start + len ≤ length cells.old }
+    requires target { target + len ≤ length cells.old }
+    ensures { cells.new ≡ shifted cells.old start len target }
+{
+    if start + len <= target {
+        copy_behind(cells, start, len, target);
+    } else if target + len <= start {
+        copy_before(cells, start, len, target);
+    } else {
+        copy_by_blocks(cells, start, len, target);
     }
 }
 

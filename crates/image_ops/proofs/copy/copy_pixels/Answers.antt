@@ -1,30 +1,24 @@
--- The rows so far are those of the source.
-use Rattle.std.proofs.Common.{◌≡◌, ◌-◌, take, drop, sym, ap, ◌∙◌, arith}
-use Rattle.std.specs.List.{slice_get}
-use Rattle.image_model.specs.Layout.{pixel}
-use Rattle.image_model.specs.Grid.{grid, grid_of}
-use Rattle.image_model.specs.Rows.{row}
-use Rattle.image_model.proofs.Rows.{row_pixel, row_stretch}
-use Rattle.image_shape.specs.Shape.{shaped}
-use Rattle.image_ops.proofs.RowsWritten.{row_range, row_written, shows_table}
+-- What is copied as one row is copied.
+use Rattle.image_ops.proofs.Touching.{first_fits, second_fits, same_widths, same_heights, stays_outside, shows_source}
 use Rattle.image_ops.proofs.copy.copy_pixels.Goals as goal
 
-pub loop-y-preserved : goal.loop-y-preserved
-loop-y-preserved g c =
-    let y = c.loop-y.y in
-    let from = shaped c.args.source.now c.args.source_shape in
-    let read = c.range-in-loop-y in
-    let at = row_range c.args.shape y c.range.ensures.start c.range.ensures.end c.row-row.ensures.start c.row-row.ensures.len in
-    let many : read.result.end - read.result.start ≡ from.width = omega (arith, read.ensures.start, read.ensures.end, c.row-from.ensures.len) in
-    let line : c.copy_from_slice.new.self ≡ row from y =
-    c.copy_from_slice.ensures.after ∙ (λ i. take (many i) (drop ((read.ensures.start ∙ c.row-from.ensures.start) i) from.cells)) ∙ sym (row_stretch from y) in
-    row_written _ _ _ c.args.shape y c.loop-y.invariant c.requires.fits (omega (arith, c.row_count-y-end.ensures.value)) _ _ at c.copy_from_slice.new.self
-    c.copy_from_slice.ensures.len
-    (λ x column here. ap (λ r. slice_get r x) line ∙ row_pixel from x y (omega (arith, column, c.requires.same_width)))
+pub copy_rows-requires : goal.copy_rows-requires
+copy_rows-requires g c =
+    let s = c.args.shape in
+    let t = c.args.source_shape in
+    let r = c.requires in
+    let so = c.fewest_rows.ensures in
+    record {
+      fits = first_fits s t _ _ r.same_width r.same_height so c.args.cells.now r.fits;
+      source_fits = second_fits s t _ _ r.same_width r.same_height so c.args.source.now r.source_fits;
+      same_width = same_widths s t _ _ r.same_width r.same_height so;
+      same_height = same_heights s t _ _ r.same_width r.same_height so;
+    }
 
 pub returns-clause-grid : goal.returns-clause-grid
-unfolding grid_of
 returns-clause-grid g c =
-    let from = shaped c.args.source.now c.args.source_shape in
-    shows_table (pixel from) _ _ c.args.shape c.loop-y.y c.loop-y.invariant (omega (arith, c.row_count-y-end.ensures.value))
-    ∙ (λ i. grid (c.requires.same_width i) (c.requires.same_height i) (pixel from))
+    shows_source c.args.shape c.args.source_shape _ _ c.requires.same_width c.requires.same_height c.fewest_rows.ensures c.copy_rows.new.cells c.args.source.now c.copy_rows.ensures.grid
+
+pub returns-clause-outside : goal.returns-clause-outside
+returns-clause-outside g c =
+    stays_outside c.args.shape c.args.source_shape _ _ c.requires.same_width c.requires.same_height c.fewest_rows.ensures c.args.cells.now c.copy_rows.new.cells c.copy_rows.ensures.outside
