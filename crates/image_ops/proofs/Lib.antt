@@ -20,3 +20,5 @@ pub mod Patterns
 pub mod Quarters
 pub mod CellByCell
 pub mod Touching
+pub mod Shuffles
+pub mod QuarterBlocks

@@ -1,0 +1,20 @@
+-- Blocks of 16 by 16 cells, and images that are read row by row.
+use Rattle.std.specs.Prelude.{ℕ, ◌+◌, ◌-◌, ◌*◌, ◌/◌, ◌%◌, Bool, true, false}
+use Rattle.image_model.specs.Grid.{Grid, grid}
+
+-- where cell k of 256 comes from, once both halves are put together alternately
+abbrev pub shuffled_place : ℕ → ℕ
+shuffled_place k = k % 2 * 128 + k / 2
+
+-- where it comes from, once columns are rows
+abbrev pub across_place : ℕ → ℕ
+across_place k = k % 16 * 16 + k / 16
+
+-- which of so many rows is read for row y, from the last one on or not
+abbrev pub line_read : Bool → ℕ → ℕ → ℕ
+line_read true height y = height - 1 - y
+line_read false height y = y
+
+-- the grid upside down, or as it is
+abbrev pub read_over : {T : Type 0} → Bool → Grid T → Grid T
+read_over back g = grid g.width g.height (λ x y. g.pixel x (line_read back g.height y))
