@@ -22,3 +22,4 @@ pub mod CellByCell
 pub mod Touching
 pub mod Shuffles
 pub mod QuarterBlocks
+pub mod SquareBlocks
