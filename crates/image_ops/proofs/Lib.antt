@@ -20,3 +20,6 @@ pub mod Patterns
 pub mod Quarters
 pub mod CellByCell
 pub mod Touching
+pub mod Shuffles
+pub mod QuarterBlocks
+pub mod SquareBlocks

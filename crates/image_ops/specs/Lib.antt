@@ -10,3 +10,4 @@ pub mod Made
 pub mod Turned
 pub mod Repeated
 pub mod Quarters
+pub mod Blocks

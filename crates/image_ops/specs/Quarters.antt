@@ -1,5 +1,5 @@
 -- Images whose columns are rows: transposed, or turned by a quarter or three quarters.
-use Rattle.std.specs.Prelude.{ℕ, ◌-◌}
+use Rattle.std.specs.Prelude.{ℕ, ◌-◌, Bool, true, false}
 use Rattle.image_model.specs.Grid.{Grid, grid}
 use Rattle.image_ops.specs.declared.turning.Quarter.{Quarter}
 use Rattle.image_ops.specs.declared.turning.Quarter.TheVariants.{Across, Right, Left}
@@ -25,3 +25,21 @@ abbrev pub first_row : Quarter → ℕ → ℕ → ℕ → ℕ
 first_row Across height left width = left
 first_row Right height left width = height - left - width
 first_row Left height left width = left
+
+-- and the first of so many columns of a source of this width that the rows from one on show
+abbrev pub first_column : Quarter → ℕ → ℕ → ℕ → ℕ
+first_column Across width top height = top
+first_column Right width top height = top
+first_column Left width top height = width - top - height
+
+-- whether the rows of a block are read from the last one on, before it is transposed
+abbrev pub reads_back : Quarter → Bool
+reads_back Across = false
+reads_back Right = true
+reads_back Left = false
+
+-- whether they are written from the last one on, after that
+abbrev pub writes_back : Quarter → Bool
+writes_back Across = false
+writes_back Right = false
+writes_back Left = true

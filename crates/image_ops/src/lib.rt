@@ -6,6 +6,7 @@
 //! [`RowMover`](row_mover::RowMover) move pixels in place.
 #![tactic(auto)]
 
+mod blocks;
 mod clones;
 mod copy;
 mod equality;

@@ -1,14 +1,18 @@
 //! Squares that are transposed and turned in place.
 
-ghost use Rattle.std.specs.Prelude.{◌≡◌, ◌<◌};
+ghost use Rattle.std.specs.Prelude.{◌≡◌, ◌+◌, ◌*◌, ◌<◌, ◌≤◌, length};
+ghost use Rattle.image_model.specs.Grid.{patch, view};
 ghost use Rattle.image_model.specs.Layout.{Fits, SameOutside};
 ghost use Rattle.image_model.specs.Turns.{transposed};
-ghost use Rattle.image_shape.specs.Shape.{shape_width, shape_height, shaped_grid, shaped};
+ghost use Rattle.image_shape.specs.Shape.{shape_width, shape_height, shape_stride, shaped_grid, shaped};
+ghost use Rattle.image_ops.specs.Blocks.{crossed_at, corner_crossed};
 ghost use Rattle.image_ops.specs.Turned.{turned, turned_width};
 
+use crate::blocks::{block_shape, read_rows, transpose_block};
 use crate::flipping::{flip_columns, flip_rows, swap_cells};
 use crate::turning::Turn;
-use image_shape::Shape;
+use crate::windows::{exact_part, padded_part};
+use image_shape::{Shape, Window};
 use std::mem::{size_of, size_of_val};
 
 // How many bytes of an image are crossed at once: these are near anyway.
@@ -34,6 +38,111 @@ fn strip_width<T>(cells: &[T], side: usize, stride: usize) -> usize
     }
 }
 
+// The block becomes the 16 by 16 pixels from column `left` of row `top` on, transposed.
+#[inline(always)]
+fn read_across<T: Copy>(
+    block: &mut [T],
+    square: Shape,
+    cells: &[T],
+    shape: Shape,
+    left: usize,
+    top: usize,
+)
+    requires many { length block.old ≡ 256 }
+    requires width { shape_width square ≡ 16 }
+    requires height { shape_height square ≡ 16 }
+    requires stride { shape_stride square ≡ 16 }
+    requires fits { Fits (shaped cells.now shape) }
+    requires column { left + 16 ≤ shape_width shape }
+    requires line { top + 16 ≤ shape_height shape }
+    ensures as_many { length block.new ≡ length block.old }
+    ensures grid { shaped_grid block.new square
+        ≡ transposed (view (shaped_grid cells.now shape) left top 16 16) }
+{
+    let (part, part_shape) = padded_part(cells, shape, Window::new(left, top, 16, 16));
+    read_rows(block, square, part, part_shape, false);
+    transpose_block(block, square);
+}
+
+// The 16 by 16 pixels from column `left` of row `top` on become those of the block; every other
+// cell stays.
+#[inline(always)]
+fn write_block<T: Copy>(
+    cells: &mut [T],
+    shape: Shape,
+    left: usize,
+    top: usize,
+    block: &[T],
+    square: Shape,
+)
+    requires many { length block.now ≡ 256 }
+    requires width { shape_width square ≡ 16 }
+    requires height { shape_height square ≡ 16 }
+    requires stride { shape_stride square ≡ 16 }
+    requires fits { Fits (shaped cells.old shape) }
+    requires column { left + 16 ≤ shape_width shape }
+    requires line { top + 16 ≤ shape_height shape }
+    ensures grid { shaped_grid cells.new shape
+        ≡ patch (shaped_grid cells.old shape) left top (shaped_grid block.now square) }
+    ensures outside { SameOutside (shaped cells.old shape) (shaped cells.new shape) }
+{
+    let (part, inner) = exact_part(cells.len(), shape, Window::new(left, top, 16, 16));
+    read_rows(&mut cells[part], inner, block, square, false);
+}
+
+// The 16 by 16 pixels from column `left` of row `top` on change places with those across the
+// diagonal. Both blocks are read before one is written: so they may be the same.
+fn cross_at<T: Copy>(cells: &mut [T], shape: Shape, left: usize, top: usize)
+    requires fits { Fits (shaped cells.old shape) }
+    requires square { shape_width shape ≡ shape_height shape }
+    requires column { left + 16 ≤ shape_width shape }
+    requires line { top + 16 ≤ shape_width shape }
+    ensures grid { shaped_grid cells.new shape ≡ crossed_at left top (shaped_grid cells.old shape) }
+    ensures outside { SameOutside (shaped cells.old shape) (shaped cells.new shape) }
+{
+    let square = block_shape();
+    let mut upper = [cells[0]; 256];
+    let mut lower = [cells[0]; 256];
+    read_across(upper.as_mut_slice(), square, cells, shape, left, top);
+    read_across(lower.as_mut_slice(), square, cells, shape, top, left);
+    write_block(cells, shape, top, left, upper.as_slice(), square);
+    write_block(cells, shape, left, top, lower.as_slice(), square);
+}
+
+// Of the first `blocks` times 16 columns and rows each pixel changes places with the one across the
+// diagonal, by blocks of 16 by 16 pixels. Blocks of 64 columns come one after the other: so the
+// pixels beside those of a block are still near.
+fn cross_blocks<T: Copy>(cells: &mut [T], shape: Shape, blocks: usize)
+    requires fits { Fits (shaped cells.old shape) }
+    requires square { shape_width shape ≡ shape_height shape }
+    requires inside { 16 * blocks ≤ shape_width shape }
+    ensures grid { shaped_grid cells.new shape
+        ≡ corner_crossed (16 * blocks) (shaped_grid cells.old shape) }
+    ensures outside { SameOutside (shaped cells.old shape) (shaped cells.new shape) }
+{
+    let mut from = 0;
+    while from < blocks {
+        let upto = from + 4.min(blocks - from);
+        for line in 0..upto {
+            for column in from.max(line)..upto {
+                cross_at(cells, shape, 16 * column, 16 * line);
+            }
+        }
+        from = upto;
+    }
+}
+
+// How many blocks of 16 columns a side has, or 0 where they don't pay. The compiler makes vector code
+// of them for cells of one or two bytes, and for those of two it pays from two blocks on.
+fn block_count<T>(cells: &[T], side: usize) -> usize
+    ensures within { 16 * result ≤ side }
+{
+    match cells.first() {
+        Some(cell) if size_of_val(cell) <= 2 && 16 * size_of_val(cell) <= side => side / 16,
+        _ => 0,
+    }
+}
+
 /// Columns become rows, and rows columns, in place: each pixel changes places with the one across
 /// the diagonal, and the padding stays. The cells fit (`Shape::fits`), and the image is as wide as
 /// it is high.
@@ -46,7 +155,9 @@ pub fn transpose_square<T: Copy>(cells: &mut [T], shape: Shape)
 {
     let side = shape.height();
     let width = strip_width(cells, side, shape.stride());
-    let mut left = 0;
+    let blocks = block_count(cells, side);
+    cross_blocks(cells, shape, blocks);
+    let mut left = 16 * blocks;
     while left < side {
         let right = left + width.min(side - left);
         for y in 0..right {

@@ -1,19 +1,21 @@
 //! Pixels written to another image that is transposed or turned.
 
-ghost use Rattle.std.specs.Prelude.{◌≡◌, ◌+◌, ◌-◌, ◌*◌, ◌<◌, ◌≤◌, length};
+ghost use Rattle.std.specs.Prelude.{◌≡◌, ◌+◌, ◌-◌, ◌*◌, ◌<◌, ◌≤◌, length, IsTrue};
 ghost use Rattle.image_model.specs.Layout.{Fits, SameOutside};
-ghost use Rattle.image_model.specs.Grid.{patch};
+ghost use Rattle.image_model.specs.Grid.{patch, view};
 ghost use Rattle.image_model.specs.Turns.{transposed, turned_half};
 ghost use Rattle.image_model.specs.Windows.{IsInside};
 ghost use Rattle.image_shape.specs.Shape.{shape_width, shape_height, shaped_grid, shaped};
 ghost use Rattle.image_shape.specs.Window.{as_window};
 ghost use Rattle.image_ops.specs.Gathered.{AreGathered};
-ghost use Rattle.image_ops.specs.Quarters.{quartered, first_row};
+ghost use Rattle.image_ops.specs.Quarters.{quartered, first_column, first_row, reads_back, writes_back};
 ghost use Rattle.image_ops.specs.Turned.{turned, turned_width, turned_height};
 
+use crate::blocks::{block_shape, read_rows, transpose_block};
 use crate::windows::{exact_part, padded_part};
 use image_rows::row;
 use image_shape::{Shape, Window};
+use std::mem::size_of_val;
 
 // How many columns are written at a time. A column of the target has the cells of a row of the
 // source, and a row of the target takes one cell from each of these rows. So their cells are still
@@ -113,6 +115,187 @@ fn quarter_rows<T: Copy>(
     }
 }
 
+// The first of the `width` rows of a source of `height` rows that the columns from `left` on get.
+fn first_row(quarter: Quarter, height: usize, left: usize, width: usize) -> usize
+    requires there { left + width ≤ height }
+    ensures { result ≡ first_row quarter height left width }
+{
+    match quarter {
+        Quarter::Right => height - left - width,
+        Quarter::Across | Quarter::Left => left,
+    }
+}
+
+// The first of the `height` columns of a source of `width` columns that the rows from `top` on get.
+fn first_column(quarter: Quarter, width: usize, top: usize, height: usize) -> usize
+    requires there { top + height ≤ width }
+    ensures { result ≡ first_column quarter width top height }
+{
+    match quarter {
+        Quarter::Left => width - top - height,
+        Quarter::Across | Quarter::Right => top,
+    }
+}
+
+// Whether a block is read from its last row on.
+fn reads_back(quarter: Quarter) -> bool
+    ensures { result ≡ reads_back quarter }
+{
+    match quarter {
+        Quarter::Right => true,
+        Quarter::Across | Quarter::Left => false,
+    }
+}
+
+// Whether it is written from its last row on.
+fn writes_back(quarter: Quarter) -> bool
+    ensures { result ≡ writes_back quarter }
+{
+    match quarter {
+        Quarter::Left => true,
+        Quarter::Across | Quarter::Right => false,
+    }
+}
+
+// Every pixel of `shape` in `cells` becomes the pixel of the source whose columns are rows. Both
+// have 16 by 16 pixels, which the compiler knows where this is inlined.
+#[inline(always)]
+fn quarter_block<T: Copy>(
+    cells: &mut [T],
+    shape: Shape,
+    source: &[T],
+    source_shape: Shape,
+    quarter: Quarter,
+)
+    requires fits { Fits (shaped cells.old shape) }
+    requires width { shape_width shape ≡ 16 }
+    requires height { shape_height shape ≡ 16 }
+    requires source_fits { Fits (shaped source.now source_shape) }
+    requires columns { shape_height source_shape ≡ 16 }
+    requires lines { shape_width source_shape ≡ 16 }
+    ensures grid { shaped_grid cells.new shape
+        ≡ quartered quarter (shaped_grid source.now source_shape) }
+    ensures outside { SameOutside (shaped cells.old shape) (shaped cells.new shape) }
+{
+    let square = block_shape();
+    let mut block = [source[0]; 256];
+    read_rows(
+        block.as_mut_slice(),
+        square,
+        source,
+        source_shape,
+        reads_back(quarter),
+    );
+    transpose_block(block.as_mut_slice(), square);
+    read_rows(cells, shape, block.as_slice(), square, writes_back(quarter));
+}
+
+// The same of the 16 by 16 pixels from column `left` of row `top` on, of an image that gets all
+// pixels of the source; every other cell stays.
+fn quarter_at<T: Copy>(
+    cells: &mut [T],
+    shape: Shape,
+    left: usize,
+    top: usize,
+    source: &[T],
+    source_shape: Shape,
+    quarter: Quarter,
+)
+    requires fits { Fits (shaped cells.old shape) }
+    requires source_fits { Fits (shaped source.now source_shape) }
+    requires columns { shape_width shape ≡ shape_height source_shape }
+    requires lines { shape_height shape ≡ shape_width source_shape }
+    requires wide { left + 16 ≤ shape_width shape }
+    requires high { top + 16 ≤ shape_height shape }
+    ensures grid { shaped_grid cells.new shape ≡ patch (shaped_grid cells.old shape) left top
+        (view (quartered quarter (shaped_grid source.now source_shape)) left top 16 16) }
+    ensures outside { SameOutside (shaped cells.old shape) (shaped cells.new shape) }
+{
+    let column = first_column(quarter, source_shape.width(), top, 16);
+    let line = first_row(quarter, source_shape.height(), left, 16);
+    let place = Window::new(column, line, 16, 16);
+    let (seen, seen_shape) = padded_part(source, source_shape, place);
+    let (part, inner) = exact_part(cells.len(), shape, Window::new(left, top, 16, 16));
+    quarter_block(&mut cells[part], inner, seen, seen_shape, quarter);
+}
+
+// Every pixel of `shape` in `cells` becomes the pixel of the source whose columns are rows, block
+// by block. Where a last block would be cut off, it begins earlier: what is written twice is the
+// same. It isn't inlined, so that rows of other images take no longer than without it.
+#[inline(never)]
+fn quarter_blocks<T: Copy>(
+    cells: &mut [T],
+    shape: Shape,
+    source: &[T],
+    source_shape: Shape,
+    quarter: Quarter,
+)
+    requires fits { Fits (shaped cells.old shape) }
+    requires source_fits { Fits (shaped source.now source_shape) }
+    requires columns { shape_width shape ≡ shape_height source_shape }
+    requires lines { shape_height shape ≡ shape_width source_shape }
+    requires wide { 16 ≤ shape_width shape }
+    requires high { 16 ≤ shape_height shape }
+    ensures grid { shaped_grid cells.new shape
+        ≡ quartered quarter (shaped_grid source.now source_shape) }
+    ensures outside { SameOutside (shaped cells.old shape) (shaped cells.new shape) }
+{
+    let (width, height) = (shape.width(), shape.height());
+    let mut top = 0;
+    while top < height {
+        let line = top.min(height - 16);
+        let mut left = 0;
+        while left < width {
+            let column = left.min(width - 16);
+            quarter_at(cells, shape, column, line, source, source_shape, quarter);
+            left += 16;
+        }
+        top += 16;
+    }
+}
+
+// Whether blocks pay. Cells of two bytes gain nothing by them, and of wider ones the compiler makes
+// no vector code. In small sizes too many pixels would be written twice.
+fn blocks_pay<T>(source: &[T], shape: Shape) -> bool
+    ensures wide { IsTrue result → 16 ≤ shape_width shape }
+    ensures high { IsTrue result → 16 ≤ shape_height shape }
+{
+    let (width, height) = (shape.width(), shape.height());
+    let Some(cell) = source.first() else {
+        return false;
+    };
+    if size_of_val(cell) != 1 || width < 16 || height < 16 {
+        return false;
+    }
+    width == 16 || height == 16 || width + height >= 48
+}
+
+// Every pixel of `shape` in `cells` becomes the pixel of the source whose columns are rows, by
+// blocks or row by row. This and `quarter_pixels` are inlined, so that each turn has loops of its
+// own.
+#[inline(always)]
+fn quarter_strip<T: Copy>(
+    cells: &mut [T],
+    shape: Shape,
+    source: &[T],
+    source_shape: Shape,
+    quarter: Quarter,
+)
+    requires fits { Fits (shaped cells.old shape) }
+    requires source_fits { Fits (shaped source.now source_shape) }
+    requires columns { shape_width shape ≡ shape_height source_shape }
+    requires lines { shape_height shape ≡ shape_width source_shape }
+    ensures grid { shaped_grid cells.new shape
+        ≡ quartered quarter (shaped_grid source.now source_shape) }
+    ensures outside { SameOutside (shaped cells.old shape) (shaped cells.new shape) }
+{
+    if blocks_pay(source, shape) {
+        quarter_blocks(cells, shape, source, source_shape, quarter);
+    } else {
+        quarter_rows(cells, shape, source, source_shape, quarter);
+    }
+}
+
 // The window gets the pixels of the source whose columns are rows; every other cell stays.
 fn quarter_window<T: Copy>(
     cells: &mut [T],
@@ -132,18 +315,7 @@ fn quarter_window<T: Copy>(
     ensures outside { SameOutside (shaped cells.old shape) (shaped cells.new shape) }
 {
     let (part, inner) = exact_part(cells.len(), shape, window);
-    quarter_rows(&mut cells[part], inner, source, source_shape, quarter);
-}
-
-// The first of the `width` rows of a source of `height` rows that the columns from `left` on get.
-fn first_row(quarter: Quarter, height: usize, left: usize, width: usize) -> usize
-    requires there { left + width ≤ height }
-    ensures { result ≡ first_row quarter height left width }
-{
-    match quarter {
-        Quarter::Right => height - left - width,
-        Quarter::Across | Quarter::Left => left,
-    }
+    quarter_strip(&mut cells[part], inner, source, source_shape, quarter);
 }
 
 // How many columns have a pixel: 0 where there is no row.
@@ -159,6 +331,7 @@ fn column_count(shape: Shape) -> usize
 
 // Every pixel of `shape` in `cells` becomes the pixel of the source whose columns are rows, a few
 // columns at a time; the padding stays.
+#[inline(always)]
 fn quarter_pixels<T: Copy>(
     cells: &mut [T],
     shape: Shape,
@@ -175,7 +348,7 @@ fn quarter_pixels<T: Copy>(
     ensures outside { SameOutside (shaped cells.old shape) (shaped cells.new shape) }
 {
     if shape.width() <= STRIP {
-        quarter_rows(cells, shape, source, source_shape, quarter);
+        quarter_strip(cells, shape, source, source_shape, quarter);
         return;
     }
     let (columns, lines) = (column_count(shape), shape.height());
@@ -206,6 +379,31 @@ pub fn transpose_pixels<T: Copy>(cells: &mut [T], shape: Shape, source: &[T], so
     quarter_pixels(cells, shape, source, source_shape, Quarter::Across);
 }
 
+// The same of a long row, in a function of its own. Inside the loop over the rows the compiler tests
+// once, for all of them, whether the images overlap. Since the rows of the source go back, that test
+// always fails, and cells would go one by one.
+#[inline(never)]
+fn copy_long_back<T: Copy>(cells: &mut [T], source: &[T])
+    requires as_many { length source.now ≡ length cells.old }
+    ensures as_many { length cells.new ≡ length cells.old }
+    ensures taken { AreGathered (λ k. length cells.old - 1 - k) source.now cells.new }
+{
+    copy_back(cells, source);
+}
+
+// The same of a row of any length: in a short one a call takes longer than the cells.
+fn copy_row_back<T: Copy>(cells: &mut [T], source: &[T])
+    requires as_many { length source.now ≡ length cells.old }
+    ensures as_many { length cells.new ≡ length cells.old }
+    ensures taken { AreGathered (λ k. length cells.old - 1 - k) source.now cells.new }
+{
+    if cells.len() < 8 {
+        copy_back(cells, source);
+    } else {
+        copy_long_back(cells, source);
+    }
+}
+
 // Every pixel of `shape` in `cells` becomes the pixel of the source turned by a half; the padding
 // stays.
 fn half_pixels<T: Copy>(cells: &mut [T], shape: Shape, source: &[T], source_shape: Shape)
@@ -220,7 +418,7 @@ fn half_pixels<T: Copy>(cells: &mut [T], shape: Shape, source: &[T], source_shap
         let place = shape.row(cells.len(), y);
         let target = &mut cells[place.range()];
         let from = row(source, source_shape, source_shape.height() - 1 - y);
-        copy_back(target, from);
+        copy_row_back(target, from);
     }
 }
 

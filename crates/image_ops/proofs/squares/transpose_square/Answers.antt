@@ -1,7 +1,11 @@
--- The start of a strip and of a row, one pair more, the end of a row and of a strip, and all pairs.
+-- The pairs of blocks, the start of a strip and of a row, one pair more, the end of a row and of a strip, and all pairs.
 use Rattle.std.proofs.Common.{refl, arith}
 use Rattle.image_ops.proofs.Diagonals.{strip_begins, row_begins, one_crossed, row_crossed, all_crossed}
+use Rattle.image_ops.proofs.SquareBlocks.{corner_cells}
 use Rattle.image_ops.proofs.squares.transpose_square.Goals as goal
+
+pub loop-left-init : goal.loop-left-init
+loop-left-init g c = corner_cells c.args.shape c.args.cells.now c.cross_blocks.new.cells _ c.requires.square c.cross_blocks.ensures.grid c.cross_blocks.ensures.outside
 
 pub loop-y-init : goal.loop-y-init
 loop-y-init g c = strip_begins c.args.shape c.args.cells.now c.loop-left.cells c.loop-left.left c.loop-left.left 0 0 c.loop-left.invariant _ refl refl refl

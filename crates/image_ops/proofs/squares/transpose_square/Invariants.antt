@@ -3,7 +3,7 @@ use Rattle.image_ops.proofs.Diagonals.{CrossedUpto}
 use Rattle.image_ops.proofs.squares.transpose_square.Given as goal
 
 abbrev pub invariant-loop-left : goal.invariant-loop-left
-invariant-loop-left g l = CrossedUpto l.left l.left 0 0 l.initial.cells l.cells l.shape
+invariant-loop-left g l = CrossedUpto l.left l.left 0 0 l.fn.cells l.cells l.shape
 
 abbrev pub decreases-loop-left : goal.decreases-loop-left
 decreases-loop-left g l = l.side - l.left

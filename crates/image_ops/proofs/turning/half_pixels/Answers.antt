@@ -19,9 +19,9 @@ loop-y-preserved g c =
     let at = row_range s y c.range.ensures.start c.range.ensures.end c.row-place.ensures.start c.row-place.ensures.len in
     let below : y < row_count s.width s.height = omega (arith, c.row_count-y-end.ensures.value, c.loop-y-test.true) in
     let long = row_length _ _ c.loop-y.cells s y c.loop-y.invariant c.requires.fits below _ _ at in
-    row_written _ _ c.loop-y.cells s y c.loop-y.invariant c.requires.fits below _ _ at _ c.copy_back.ensures.as_many
+    row_written _ _ c.loop-y.cells s y c.loop-y.invariant c.requires.fits below _ _ at _ c.copy_row_back.ensures.as_many
     (λ x column here.
-    c.copy_back.ensures.taken.each x here
+    c.copy_row_back.ensures.taken.each x here
     ∙ ap (λ xs. slice_get xs (length (take (c.range.result.end - c.range.result.start) (drop c.range.result.start c.loop-y.cells)) - 1 - x)) c.row-from.ensures.value
     ∙ ap (λ n. slice_get (row_of from (c.height.result - 1 - y)) (n - 1 - x)) (long ∙ c.requires.columns)
     ∙ row_pixel from (from.width - 1 - x) (c.height.result - 1 - y) (omega (arith, column, c.requires.columns))

@@ -1,0 +1,301 @@
+-- Squares of which blocks of 16 by 16 pixels change places with those across the diagonal, pair by pair.
+use Rattle.std.proofs.Common.{◌≡◌, ℕ, ◌+◌, ◌-◌, ◌*◌, ◌/◌, ◌<◌, ◌≤◌, ◌⊎◌, Bool, true, false, List, Option, refl, sym, ap, ◌∙◌, arith, inl, inr, nat_lt, if◌then◌else◌, ◌||◌, ◌&&◌, max, min}
+use Rattle.std.specs.List.{slice_get}
+use Rattle.std.proofs.lemmas.Bool.{cases_Bool, cases_lt, cond-true, cond-false, true≢false}
+use Rattle.std.proofs.lemmas.Bool.Decides.{nat_tests}
+use Rattle.image_model.specs.Layout.{SameOutside, pixel}
+use Rattle.image_model.specs.Grid.{Grid, grid, grid_of, covers, patch, view}
+use Rattle.image_model.specs.Turns.{transposed}
+use Rattle.image_model.proofs.Grids.{at_place, covers_decides, pixel_at, same_grids, is_patch}
+use Rattle.image_shape.specs.Shape.{shaped, shaped_grid}
+use Rattle.image_shape.specs.declared.shape.Shape.{Shape}
+use Rattle.image_ops.specs.Blocks.{read_over, is_across, crossed_at, corner_crossed}
+use Rattle.image_ops.proofs.Diagonals.{is_done, crossed_cell, CrossedUpto}
+
+-- ---- two blocks that change places
+
+-- rows that are read in their order
+pub read_plain : {T : Type 0} (w h : ℕ) (f : ℕ → ℕ → Option T) → read_over false (grid w h f) ≡ grid w h f
+read_plain w h f = same_grids w h _ f (λ x y column line. at_place w h f x y column line)
+
+module _ {T : Type 0} (w h : ℕ) (f : ℕ → ℕ → Option T) (left top : ℕ) where
+  abbrev g : Grid T
+  g = grid w h f
+
+  abbrev first : ℕ → ℕ → Option T
+  first x y = if covers top left 16 16 x y then g.pixel y x else g.pixel x y
+
+  -- a place of a block has the pixel across the diagonal
+  in_transposed : (a b x y : ℕ) → covers a b 16 16 x y ≡ true → g.pixel y x ≡ (transposed (view g b a 16 16)).pixel (x - a) (y - b)
+  unfolding transposed view
+  in_transposed a b x y hit =
+      let c = (covers_decides a b 16 16 x y).0 hit in
+      let same_x : a + (x - a) ≡ x = omega (arith, c.0) in
+      let same_y : b + (y - b) ≡ y = omega (arith, c.1) in
+      let in_x : x - a < 16 = omega (arith, c.0, c.2) in
+      let in_y : y - b < 16 = omega (arith, c.1, c.3) in
+      (λ i. g.pixel (sym same_y i) (sym same_x i))
+      ∙ sym (at_place 16 16 (λ m n. g.pixel (b + m) (a + n)) (y - b) (x - a) in_y in_x)
+      ∙ sym (at_place 16 16 (λ u v. (view g b a 16 16).pixel v u) (x - a) (y - b) in_x in_y)
+
+  first_patch : grid w h first ≡ patch g top left (transposed (view g left top 16 16))
+  unfolding transposed view
+  first_patch =
+      is_patch g top left (transposed (view g left top 16 16)) first
+      (λ x y column line hit. cond-true (covers top left 16 16 x y) _ _ hit ∙ in_transposed top left x y hit)
+      (λ x y column line miss. cond-false (covers top left 16 16 x y) _ _ miss)
+
+  second_patch : crossed_at left top g ≡ patch (grid w h first) left top (transposed (view g top left 16 16))
+  unfolding transposed view
+  second_patch =
+      is_patch (grid w h first) left top (transposed (view g top left 16 16)) (λ x y. if is_across left top x y then g.pixel y x else g.pixel x y)
+      (λ x y column line hit. ap (λ b. if b || covers top left 16 16 x y then g.pixel y x else g.pixel x y) hit ∙ in_transposed left top x y hit)
+      (λ x y column line miss. ap (λ b. if b || covers top left 16 16 x y then g.pixel y x else g.pixel x y) miss ∙ sym (at_place w h first x y column line))
+
+  -- both are read, transposed, before one is written
+  pub both_crossed : patch (patch g top left (transposed (view g left top 16 16))) left top (transposed (view g top left 16 16)) ≡ crossed_at left top g
+  both_crossed = ap (λ p. patch p left top (transposed (view g top left 16 16))) (sym first_patch) ∙ sym second_patch
+
+-- ---- pairs of blocks one after the other
+
+-- whether the blocks of a place and of the one across the diagonal have changed places
+abbrev pub block_done : ℕ → ℕ → ℕ → ℕ → ℕ → ℕ → Bool
+block_done from upto x y u v = is_done from upto x y (max (u / 16) (v / 16)) (min (u / 16) (v / 16))
+
+-- the pixel at a place, or across the diagonal
+abbrev pub crossed_pixel : {T : Type 0} → Bool → Grid T → ℕ → ℕ → Option T
+crossed_pixel true g u v = g.pixel v u
+crossed_pixel false g u v = g.pixel u v
+
+-- these pairs of blocks have changed places, and the padding stays
+pub record BlocksCrossed {T : Type 0} (from upto x y : ℕ) (old new : List T) (s : Shape) : Type 0 where
+  pub outside : SameOutside (shaped old s) (shaped new s)
+  pub each : (u v : ℕ) → u < s.width → v < s.height → (shaped_grid new s).pixel u v ≡ crossed_pixel (block_done from upto x y u v) (shaped_grid old s) u v
+
+-- the other points of the loops, for a column that is not before the row
+at_row_start : (from upto y a b : ℕ) → b ≤ a → is_done from upto 0 y a b ≡ is_done from upto (max from y) y a b
+at_row_start from upto y a b below = grind (arith, nat_tests, below)
+
+at_row_end : (from upto x y a b : ℕ) → b ≤ a → upto ≤ x → is_done from upto x y a b ≡ is_done from upto 0 (y + 1) a b
+at_row_end from upto x y a b below wide = grind (arith, nat_tests, below, wide)
+
+at_strip_end : (from upto x y a b : ℕ) → b ≤ a → upto ≤ y → from ≤ upto → is_done from upto x y a b ≡ is_done upto upto 0 0 a b
+at_strip_end from upto x y a b below high later = grind (arith, nat_tests, below, high, later)
+
+at_strip_start : (from right a b : ℕ) → is_done from from 0 0 a b ≡ is_done from right 0 0 a b
+at_strip_start from right a b = grind (arith, nat_tests)
+
+none_done : (a b : ℕ) → is_done 0 0 0 0 a b ≡ false
+none_done a b = grind (arith, nat_tests)
+
+this_before : (from upto x y : ℕ) → from ≤ x → is_done from upto x y x y ≡ false
+this_before from upto x y after = grind (arith, nat_tests, after)
+
+this_after : (from upto x y : ℕ) → x < upto → is_done from upto (x + 1) y x y ≡ true
+this_after from upto x y here = grind (arith, nat_tests, here)
+
+other_same : (from upto x y a b : ℕ) → ((a ≡ x) × (b ≡ y) → ⊥) → is_done from upto x y a b ≡ is_done from upto (x + 1) y a b
+other_same from upto x y a b other = grind (arith, nat_tests, other)
+
+min_max : (a b : ℕ) → min a b ≤ max a b
+min_max a b = omega arith
+
+max_comm : (a b : ℕ) → max a b ≡ max b a
+max_comm a b = omega arith
+
+min_comm : (a b : ℕ) → min a b ≡ min b a
+min_comm a b = omega arith
+
+-- the block of a place
+column_of : (x u : ℕ) → 16 * x ≤ u → u < 16 * x + 16 → u / 16 ≡ x
+column_of x u from upto = omega (arith, from, upto)
+
+block_from : (x u : ℕ) → u / 16 ≡ x → 16 * x ≤ u
+block_from x u same = omega (arith, same)
+
+block_upto : (x u : ℕ) → u / 16 ≡ x → u < 16 * x + 16
+block_upto x u same = omega (arith, same)
+
+-- a place is in the block or across from it where their pair is this one
+pair_of : (x y u v : ℕ) → y ≤ x → is_across (16 * x) (16 * y) u v ≡ true → (max (u / 16) (v / 16) ≡ x) × (min (u / 16) (v / 16) ≡ y)
+pair_of x y u v below hit =
+    elim (cases_Bool (covers (16 * x) (16 * y) 16 16 u v)) [
+      | inl upper ↦
+          let c = (covers_decides (16 * x) (16 * y) 16 16 u v).0 upper in
+          let in_u = column_of x u c.0 c.2 in
+          let in_v = column_of y v c.1 c.3 in
+          (omega (arith, in_u, in_v, below), omega (arith, in_u, in_v, below))
+      | inr not_upper ↦
+          let c = (covers_decides (16 * y) (16 * x) 16 16 u v).0 (ap (λ b. b || covers (16 * y) (16 * x) 16 16 u v) (sym not_upper) ∙ hit) in
+          let in_u = column_of y u c.0 c.2 in
+          let in_v = column_of x v c.1 c.3 in
+          (omega (arith, in_u, in_v, below), omega (arith, in_u, in_v, below))
+    ]
+
+both_false : (a b : Bool) → a || b ≡ false → (a ≡ false) × (b ≡ false)
+both_false true b e = absurd (true≢false e)
+both_false false b e = (refl, e)
+
+block_covers : (x y u v : ℕ) → u / 16 ≡ x → v / 16 ≡ y → covers (16 * x) (16 * y) 16 16 u v ≡ true
+block_covers x y u v column line = (covers_decides (16 * x) (16 * y) 16 16 u v).1 (block_from x u column, block_from y v line, block_upto x u column, block_upto y v line)
+
+not_pair : (x y u v : ℕ) → is_across (16 * x) (16 * y) u v ≡ false → (max (u / 16) (v / 16) ≡ x) × (min (u / 16) (v / 16) ≡ y) → ⊥
+not_pair x y u v miss same =
+    let none = both_false (covers (16 * x) (16 * y) 16 16 u v) (covers (16 * y) (16 * x) 16 16 u v) miss in
+    elim (cases_lt (u / 16) (v / 16)) [
+      | inl above ↦ true≢false (sym (block_covers y x u v (omega (arith, above, same.1)) (omega (arith, above, same.0))) ∙ none.1)
+      | inr below ↦ true≢false (sym (block_covers x y u v (omega (arith, below, same.0)) (omega (arith, below, same.1))) ∙ none.0)
+    ]
+
+module _ {T : Type 0} (s : Shape) where
+  -- no pair yet
+  pub none_crossed : (cells : List T) → BlocksCrossed 0 0 0 0 cells cells s
+  none_crossed cells = record {
+    outside = record { width_stays = refl; height_stays = refl; stride_stays = refl; length_stays = refl; padding_stays = λ k padding. refl };
+    each = λ u v column line. ap (λ b. crossed_pixel b (shaped_grid cells s) u v) (sym (none_done (max (u / 16) (v / 16)) (min (u / 16) (v / 16))));
+  }
+
+  module _ (old now : List T) (from upto x y : ℕ) (so : BlocksCrossed from upto x y old now s) where
+    -- the same pairs, said by another point of the loops
+    same_pairs : (j k m n : ℕ) → ((a b : ℕ) → b ≤ a → is_done from upto x y a b ≡ is_done j k m n a b) → BlocksCrossed j k m n old now s
+    same_pairs j k m n alike = record {
+      outside = so.outside;
+      each = λ u v column line.
+          so.each u v column line
+          ∙ ap (λ b. crossed_pixel b (shaped_grid old s) u v) (alike (max (u / 16) (v / 16)) (min (u / 16) (v / 16)) (min_max (u / 16) (v / 16)));
+    }
+
+    -- a strip of blocks begins after those before it
+    pub strip_begins : (right : ℕ) → from ≡ upto → x ≡ 0 → y ≡ 0 → BlocksCrossed from right 0 0 old now s
+    strip_begins right none first top = same_pairs from right 0 0 (λ a b below. (λ i. is_done from (sym none i) (first i) (top i) a b) ∙ at_strip_start from right a b)
+
+    -- a row of the strip begins at its first column, and not before the diagonal
+    pub row_begins : (start : ℕ) → x ≡ 0 → start ≡ max from y → BlocksCrossed from upto start y old now s
+    row_begins start first at = same_pairs from upto start y (λ a b below. ap (λ n. is_done from upto n y a b) first ∙ at_row_start from upto y a b below ∙ ap (λ n. is_done from upto n y a b) (sym at))
+
+    -- and is at its end where the next one begins
+    pub row_crossed : upto ≤ x → BlocksCrossed from upto 0 (y + 1) old now s
+    row_crossed wide = same_pairs from upto 0 (y + 1) (λ a b below. at_row_end from upto x y a b below wide)
+
+    -- the strip is at its end after its last row
+    pub strip_crossed : upto ≤ y → from ≤ upto → BlocksCrossed upto upto 0 0 old now s
+    strip_crossed high later = same_pairs upto upto 0 0 (λ a b below. at_strip_end from upto x y a b below high later)
+
+    -- one pair more
+    module _ (square : s.width ≡ s.height) (right : y ≤ x) (after : from ≤ x) (here : x < upto) (new : List T) (shown : shaped_grid new s ≡ crossed_at (16 * x) (16 * y) (shaped_grid now s)) (stays : SameOutside (shaped now s) (shaped new s)) where
+      shown_at : (u v : ℕ) → u < s.width → v < s.height → (shaped_grid new s).pixel u v ≡ (if is_across (16 * x) (16 * y) u v then (shaped_grid now s).pixel v u else (shaped_grid now s).pixel u v)
+      unfolding grid_of
+      shown_at u v column line =
+          ap (λ g. g.pixel u v) shown
+          ∙ at_place s.width s.height (λ m n. if is_across (16 * x) (16 * y) m n then (shaped_grid now s).pixel n m else (shaped_grid now s).pixel m n) u v column line
+
+      same_done : (u v : ℕ) → block_done from upto x y u v ≡ block_done from upto x y v u
+      same_done u v = (λ i. is_done from upto x y (max_comm (u / 16) (v / 16) i) (min_comm (u / 16) (v / 16) i))
+
+      crossed_more : (u v : ℕ) → u < s.width → v < s.height → (shaped_grid new s).pixel u v ≡ crossed_pixel (block_done from upto (x + 1) y u v) (shaped_grid old s) u v
+      crossed_more u v column line =
+          elim (cases_Bool (is_across (16 * x) (16 * y) u v)) [
+            | inl hit ↦
+                let pair = pair_of x y u v right hit in
+                let was : block_done from upto x y v u ≡ false = sym (same_done u v) ∙ (λ i. is_done from upto x y (pair.0 i) (pair.1 i)) ∙ this_before from upto x y after in
+                let is : block_done from upto (x + 1) y u v ≡ true = (λ i. is_done from upto (x + 1) y (pair.0 i) (pair.1 i)) ∙ this_after from upto x y here in
+                shown_at u v column line
+                ∙ cond-true (is_across (16 * x) (16 * y) u v) _ _ hit
+                ∙ so.each v u (omega (arith, line, square)) (omega (arith, column, square))
+                ∙ ap (λ b. crossed_pixel b (shaped_grid old s) v u) was
+                ∙ ap (λ b. crossed_pixel b (shaped_grid old s) u v) (sym is)
+            | inr miss ↦
+                shown_at u v column line
+                ∙ cond-false (is_across (16 * x) (16 * y) u v) _ _ miss
+                ∙ so.each u v column line
+                ∙ ap (λ b. crossed_pixel b (shaped_grid old s) u v) (other_same from upto x y (max (u / 16) (v / 16)) (min (u / 16) (v / 16)) (not_pair x y u v miss))
+          ]
+
+      pub one_pair_more : BlocksCrossed from upto (x + 1) y old new s
+      one_pair_more = record {
+        outside = record {
+          width_stays = refl;
+          height_stays = refl;
+          stride_stays = refl;
+          length_stays = stays.length_stays ∙ so.outside.length_stays;
+          padding_stays = λ k padding. stays.padding_stays k padding ∙ so.outside.padding_stays k padding;
+        };
+        each = crossed_more;
+      }
+
+-- ---- all pairs of blocks
+
+in_corner : (n u v : ℕ) → u < 16 * n → v < 16 * n → is_done n n 0 0 (max (u / 16) (v / 16)) (min (u / 16) (v / 16)) ≡ true
+in_corner n u v column line =
+    let left : u / 16 < n = omega (arith, column) in
+    let right : v / 16 < n = omega (arith, line) in
+    let both : max (u / 16) (v / 16) < n = omega (arith, left, right) in
+    first_done n (max (u / 16) (v / 16)) (min (u / 16) (v / 16)) both
+  where
+    first_done : (n a b : ℕ) → a < n → is_done n n 0 0 a b ≡ true
+    first_done n a b here = grind (arith, nat_tests, here)
+
+past_corner : (n u v : ℕ) → (16 * n ≤ u) ⊎ (16 * n ≤ v) → is_done n n 0 0 (max (u / 16) (v / 16)) (min (u / 16) (v / 16)) ≡ false
+past_corner n u v past =
+    let far : n ≤ max (u / 16) (v / 16) = elim past [ inl right ↦ omega (arith, right) | inr below ↦ omega (arith, below) ] in
+    later_done n (max (u / 16) (v / 16)) (min (u / 16) (v / 16)) far
+  where
+    later_done : (n a b : ℕ) → n ≤ a → is_done n n 0 0 a b ≡ false
+    later_done n a b here = grind (arith, nat_tests, here)
+
+-- the test of a corner
+corner_true : (n u v : ℕ) → u < n → v < n → nat_lt u n && nat_lt v n ≡ true
+corner_true n u v column line = grind (arith, nat_tests, column, line)
+
+corner_false : (n u v : ℕ) → (n ≤ u) ⊎ (n ≤ v) → nat_lt u n && nat_lt v n ≡ false
+corner_false n u v past = elim past [ inl right ↦ grind (arith, nat_tests, right) | inr below ↦ grind (arith, nat_tests, below) ]
+
+-- a place is in the corner or not
+corner_cases : (n u v : ℕ) → ((u < n) × (v < n)) ⊎ ((n ≤ u) ⊎ (n ≤ v))
+corner_cases n u v =
+    elim (cases_lt u n) [
+      | inl column ↦ elim (cases_lt v n) [ inl line ↦ inl (column, line) | inr below ↦ inr (inr below) ]
+      | inr right ↦ inr (inl right)
+    ]
+
+module _ {T : Type 0} (s : Shape) (old now : List T) where
+  -- these are the first columns and rows
+  pub all_pairs : (n : ℕ) → BlocksCrossed n n 0 0 old now s → shaped_grid now s ≡ corner_crossed (16 * n) (shaped_grid old s)
+  unfolding grid_of
+  all_pairs n so =
+      same_grids s.width s.height (pixel (shaped now s)) (λ u v. if nat_lt u (16 * n) && nat_lt v (16 * n) then (shaped_grid old s).pixel v u else (shaped_grid old s).pixel u v)
+      (λ u v column line.
+      sym (pixel_at (shaped now s) u v column line)
+      ∙ so.each u v column line
+      ∙ elim (corner_cases (16 * n) u v) [
+        | inl inside ↦ ap (λ b. crossed_pixel b (shaped_grid old s) u v) (in_corner n u v inside.0 inside.1) ∙ sym (cond-true (nat_lt u (16 * n) && nat_lt v (16 * n)) _ _ (corner_true (16 * n) u v inside.0 inside.1))
+        | inr past ↦ ap (λ b. crossed_pixel b (shaped_grid old s) u v) (past_corner n u v past) ∙ sym (cond-false (nat_lt u (16 * n) && nat_lt v (16 * n)) _ _ (corner_false (16 * n) u v past))
+      ])
+
+  -- the cells of such an image, for the pairs that are left
+  module _ (n : ℕ) (square : s.width ≡ s.height) (shown : shaped_grid now s ≡ corner_crossed n (shaped_grid old s)) (stays : SameOutside (shaped old s) (shaped now s)) where
+    crossed_inside : (stride u v : ℕ) → u < n → v < n → crossed_cell stride n n 0 0 u v ≡ u * stride + v
+    crossed_inside stride u v column line = grind (arith, nat_tests, column, line)
+
+    crossed_outside_corner : (stride u v : ℕ) → (n ≤ u) ⊎ (n ≤ v) → crossed_cell stride n n 0 0 u v ≡ v * stride + u
+    crossed_outside_corner stride u v past = elim past [ inl right ↦ grind (arith, nat_tests, right) | inr below ↦ grind (arith, nat_tests, below) ]
+
+    cell_at : (u v : ℕ) → u < s.width → v < s.height → slice_get now (v * s.stride + u) ≡ slice_get old (crossed_cell s.stride n n 0 0 u v)
+    unfolding grid_of
+    cell_at u v column line =
+        sym (pixel_at (shaped now s) u v column line)
+        ∙ ap (λ g. g.pixel u v) shown
+        ∙ at_place s.width s.height (λ x y. if nat_lt x n && nat_lt y n then (shaped_grid old s).pixel y x else (shaped_grid old s).pixel x y) u v column line
+        ∙ elim (corner_cases n u v) [
+          | inl inside ↦
+              cond-true (nat_lt u n && nat_lt v n) _ _ (corner_true n u v inside.0 inside.1)
+              ∙ pixel_at (shaped old s) v u (omega (arith, line, square)) (omega (arith, column, square))
+              ∙ ap (slice_get old) (sym (crossed_inside s.stride u v inside.0 inside.1))
+          | inr past ↦
+              cond-false (nat_lt u n && nat_lt v n) _ _ (corner_false n u v past)
+              ∙ pixel_at (shaped old s) u v column line
+              ∙ ap (slice_get old) (sym (crossed_outside_corner s.stride u v past))
+        ]
+
+    pub corner_cells : CrossedUpto n n 0 0 old now s
+    corner_cells = record { as_many = stays.length_stays; each = cell_at; others = stays.padding_stays }

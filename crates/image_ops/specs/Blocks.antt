@@ -1,0 +1,32 @@
+-- Blocks of 16 by 16 cells, and images that are read row by row.
+use Rattle.std.specs.Prelude.{ℕ, ◌+◌, ◌-◌, ◌*◌, ◌/◌, ◌%◌, Bool, true, false, ◌&&◌, ◌||◌, nat_lt, if◌then◌else◌}
+use Rattle.image_model.specs.Grid.{Grid, grid, covers}
+
+-- where cell k of 256 comes from, once both halves are put together alternately
+abbrev pub shuffled_place : ℕ → ℕ
+shuffled_place k = k % 2 * 128 + k / 2
+
+-- where it comes from, once columns are rows
+abbrev pub across_place : ℕ → ℕ
+across_place k = k % 16 * 16 + k / 16
+
+-- which of so many rows is read for row y, from the last one on or not
+abbrev pub line_read : Bool → ℕ → ℕ → ℕ
+line_read true height y = height - 1 - y
+line_read false height y = y
+
+-- the grid upside down, or as it is
+abbrev pub read_over : {T : Type 0} → Bool → Grid T → Grid T
+read_over back g = grid g.width g.height (λ x y. g.pixel x (line_read back g.height y))
+
+-- whether a place is in the block of 16 by 16 places at a corner, or in the one across the diagonal
+abbrev pub is_across : ℕ → ℕ → ℕ → ℕ → Bool
+is_across left top x y = covers left top 16 16 x y || covers top left 16 16 x y
+
+-- the places of both blocks have changed places with those across the diagonal
+abbrev pub crossed_at : {T : Type 0} → ℕ → ℕ → Grid T → Grid T
+crossed_at left top g = grid g.width g.height (λ x y. if is_across left top x y then g.pixel y x else g.pixel x y)
+
+-- so have the places of the first so many columns and rows
+abbrev pub corner_crossed : {T : Type 0} → ℕ → Grid T → Grid T
+corner_crossed upto g = grid g.width g.height (λ x y. if nat_lt x upto && nat_lt y upto then g.pixel y x else g.pixel x y)
