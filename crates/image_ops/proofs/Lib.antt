@@ -20,3 +20,4 @@ pub mod Patterns
 pub mod Quarters
 pub mod CellByCell
 pub mod Touching
+pub mod BlockSpreading
