@@ -104,6 +104,9 @@ fn spread_by_tiles<T: Copy>(row: &mut [T], tile_width: usize)
 
 // Each pixel of so many cells becomes the first one of its tile. A pixel that isn't the first gets
 // the cells of the one before it.
+//
+// It isn't inlined: beside the loops for cells, none of them would have enough registers.
+#[inline(never)]
 fn spread_by_pixels<T: Copy>(row: &mut [T], size: usize, tile_width: usize)
     requires size { 0 < size }
     requires tile_width { 0 < tile_width }
@@ -111,12 +114,12 @@ fn spread_by_pixels<T: Copy>(row: &mut [T], size: usize, tile_width: usize)
 {
     let tile = tile_width.saturating_mul(size);
     let mut corner = 0;
-    for x in 0..row.len() {
-        if x - corner == tile {
-            corner = x;
-        } else if x - corner >= size {
-            row[x] = row[x - size];
+    while corner < row.len() {
+        let len = tile.min(row.len() - corner);
+        for x in size..len {
+            row[corner + x] = row[corner + x - size];
         }
+        corner += len;
     }
 }
 
