@@ -23,3 +23,4 @@ pub mod Touching
 pub mod Shuffles
 pub mod QuarterBlocks
 pub mod SquareBlocks
+pub mod BlockSpreading

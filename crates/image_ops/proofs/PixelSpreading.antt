@@ -1,5 +1,5 @@
 -- A row whose pixels of several cells become the first ones of their tiles, from left to right.
-use Rattle.std.proofs.Common.{◌≡◌, ℕ, ◌+◌, ◌-◌, ◌*◌, ◌<◌, ◌≤◌, inl, inr, List, length, set, Some, get_or, refl, sym, ap, ◌∙◌, arith}
+use Rattle.std.proofs.Common.{◌≡◌, ℕ, ◌+◌, ◌-◌, ◌*◌, ◌<◌, ◌≤◌, ◌⊎◌, inl, inr, List, length, set, Some, get_or, refl, sym, ap, subst, ◌∙◌, arith}
 use Rattle.std.specs.List.{slice_get}
 use Rattle.std.proofs.lemmas.Bool.{cases_lt}
 use Rattle.std.proofs.lemmas.List.{length-set}
@@ -31,6 +31,12 @@ pub record SpreadByUpto {T : Type 0} (size tile : ℕ) (old now : List T) (corne
   pub from : corner ≤ x
   pub within : x ≤ corner + tile * size
 
+-- the tiles before a cell are spread: that is all, or another tile begins there
+pub record TilesSpread {T : Type 0} (size tile : ℕ) (old now : List T) (corner : ℕ) : Type 0 where
+  pub as_many : length now ≡ length old
+  pub going : corner < length old → SpreadByUpto size tile old now corner corner
+  pub done : length old ≤ corner → IsSpreadBy size tile old now
+
 module _ {T : Type 0} (size tile : ℕ) (some : 0 < size) (wide : 0 < tile) (old : List T) where
   -- none yet
   pub no_pixel : SpreadByUpto size tile old old 0 0
@@ -45,46 +51,40 @@ module _ {T : Type 0} (size tile : ℕ) (some : 0 < size) (wide : 0 < tile) (old
     within = omega arith;
   }
 
-  -- all
-  pub all_pixels : (now : List T) (corner x : ℕ) → x ≡ length old → SpreadByUpto size tile old now corner x → IsSpreadBy size tile old now
-  all_pixels now corner x all so = record { as_many = so.as_many; each = λ k below. so.each k (omega (arith, below, all)) }
+  pub no_tile : TilesSpread size tile old old 0
+  no_tile = record { as_many = refl; going = λ _. no_pixel; done = λ none. record { as_many = refl; each = λ k below. absurd (omega (arith, below, none)) } }
 
-  module _ (now : List T) (corner x : ℕ) (so : SpreadByUpto size tile old now corner x) where
-    -- a cell of the first pixel of a tile stays
-    stays : (k : ℕ) → k < x + 1 → shown_column size tile x ≡ x → slice_get now k ≡ slice_get old (shown_column size tile k)
-    stays k upto own =
-        elim (cases_lt k x) [
-          | inl before ↦ so.each k before
-          | inr last ↦ let this : k ≡ x = omega (arith, upto, last) in ap (slice_get now) this ∙ so.others x (omega arith) ∙ ap (slice_get old) (sym own ∙ ap (shown_column size tile) (sym this))
-        ]
-
-    pub first_pixel : x < corner + size → size ≤ tile * size → SpreadByUpto size tile old now corner (x + 1)
-    first_pixel below room = record {
+  module _ (now : List T) (corner : ℕ) (so : SpreadByUpto size tile old now corner corner) where
+    -- the first pixel of a tile stays
+    pub first_pixel : size ≤ tile * size → SpreadByUpto size tile old now corner (corner + size)
+    first_pixel room = record {
       as_many = so.as_many;
-      each = λ k upto. stays k upto (shows_itself size tile so.pixel x some so.starts (omega (arith, so.at, so.from)) (omega (arith, so.at, below)));
+      each = λ k upto.
+          elim (cases_lt k corner) [
+            | inl before ↦ so.each k before
+            | inr here ↦ so.others k here ∙ ap (slice_get old) (sym (shows_itself size tile so.pixel k some so.starts (omega (arith, so.at, here)) (omega (arith, so.at, upto))))
+          ];
       others = λ k above. so.others k (omega (arith, above));
       pixel = so.pixel;
       starts = so.starts;
       at = so.at;
-      from = omega (arith, so.from);
-      within = omega (arith, below, room);
+      from = omega arith;
+      within = omega (arith, room);
     }
 
+  module _ (now : List T) (corner x : ℕ) (so : SpreadByUpto size tile old now corner x) where
     -- the next tile begins where the one before it ends
-    pub next_tile : x ≡ corner + tile * size → size ≤ tile * size → SpreadByUpto size tile old now x (x + 1)
-    next_tile ends room =
-        let at : x ≡ (so.pixel + tile) * size = omega (arith, so.at, ends, add-mul so.pixel tile size) in
-        let starts = next_start tile so.pixel wide so.starts in
-        record {
-          as_many = so.as_many;
-          each = λ k upto. stays k upto (shows_itself size tile (so.pixel + tile) x some starts (omega (arith, at)) (omega (arith, at, some)));
-          others = λ k above. so.others k (omega (arith, above));
-          pixel = so.pixel + tile;
-          starts = starts;
-          at = at;
-          from = omega arith;
-          within = omega (arith, some, room);
-        }
+    next_tile : x ≡ corner + tile * size → SpreadByUpto size tile old now x x
+    next_tile ends = record {
+      as_many = so.as_many;
+      each = so.each;
+      others = so.others;
+      pixel = so.pixel + tile;
+      starts = next_start tile so.pixel wide so.starts;
+      at = omega (arith, so.at, ends, add-mul so.pixel tile size);
+      from = omega arith;
+      within = omega arith;
+    }
 
     -- another pixel gets the cells of the one before it
     pub other_pixel : (value : T) → corner + size ≤ x → x < corner + tile * size → x < length old → value ≡ get_or now (x - size) value → SpreadByUpto size tile old (set now x value) corner (x + 1)
@@ -103,3 +103,16 @@ module _ {T : Type 0} (size tile : ℕ) (some : 0 < size) (wide : 0 < tile) (old
       from = omega (arith, so.from);
       within = omega (arith, below);
     }
+
+  -- a whole tile, or the last one
+  pub one_tile_of_pixels : (now : List T) (corner x len : ℕ) → SpreadByUpto size tile old now corner (corner + x) → len ≤ x → (len ≡ tile * size) ⊎ (length old ≤ corner + len) → TilesSpread size tile old now (corner + len)
+  one_tile_of_pixels now corner x len so past ends = record {
+    as_many = so.as_many;
+    going = λ more. elim ends [
+      | inl whole ↦
+          let same : corner + x ≡ corner + len = omega (arith, whole, past, so.within) in
+          subst (λ k. SpreadByUpto size tile old now k k) same (next_tile now corner (corner + x) so (omega (arith, same, whole)))
+      | inr end ↦ absurd (omega (arith, more, end))
+    ];
+    done = λ all. record { as_many = so.as_many; each = λ k below. so.each k (omega (arith, below, all, past)) };
+  }

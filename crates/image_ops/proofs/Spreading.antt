@@ -101,3 +101,40 @@ module _ {T : Type 0} (tile : ℕ) (some : 0 < tile) (old : List T) where
         let back : corner + len - corner ≡ len = omega arith in
         let rest : drop (corner + len - corner) (drop corner now) ≡ drop (corner + len) now = ap (λ n. drop n (drop corner now)) back ∙ drop-drop len corner now in
         subst (λ cells. SpreadUpto tile old cells (corner + len) (corner + len)) (λ i. take corner now ++ (replicate len pixel ++ sym rest i)) one_tile
+
+-- ---- tiles of two cells
+
+module _ {T : Type 0} (old now : List T) (corner : ℕ) (so : SpreadUpto 2 old now corner corner) where
+  -- the first cell of a pair stays
+  first_cell : corner < length old → SpreadUpto 2 old now corner (corner + 1)
+  first_cell here = record {
+    as_many = so.as_many;
+    each = λ k upto.
+        elim (cases_lt k corner) [
+          | inl before ↦ so.each k before
+          | inr last ↦ let this : k ≡ corner = omega (arith, upto, last) in ap (slice_get now) this ∙ so.others corner (omega arith) ∙ ap (slice_get old) (sym (so.starts here) ∙ ap (tile_start 2) (sym this))
+        ];
+    others = λ k above. so.others k (omega (arith, above));
+    starts = so.starts;
+    from = omega arith;
+    within = omega arith;
+  }
+
+  -- the second cell becomes the first
+  pub one_pair_more : (pixel : T) → corner + 1 < length old → slice_get now corner ≡ Some pixel → SpreadUpto 2 old (set now (corner + 1) pixel) (corner + 2) (corner + 2)
+  one_pair_more pixel below is =
+      let shows : slice_get old corner ≡ Some pixel = sym (so.others corner (omega arith)) ∙ is in
+      new_corner 2 (omega arith) old (set now (corner + 1) pixel) corner (corner + 2) (omega arith)
+      (subst (SpreadUpto 2 old (set now (corner + 1) pixel) corner) (let e : corner + 1 + 1 ≡ corner + 2 = omega arith in e)
+      (one_cell_more 2 (omega arith) old now corner (corner + 1) pixel (first_cell (omega (arith, below))) shows (omega arith) below))
+
+  -- at the end at most one cell is left
+  pub all_pairs : length old ≤ corner + 1 → IsSpread 2 old now
+  all_pairs few = record {
+    as_many = so.as_many;
+    each = λ k below.
+        elim (cases_lt k corner) [
+          | inl before ↦ so.each k before
+          | inr last ↦ (first_cell (omega (arith, below, last))).each k (omega (arith, below, few))
+        ];
+  }

@@ -1,6 +1,6 @@
 //! Mosaics of cells in a shape: each tile gets the pixel at its corner.
 
-ghost use Rattle.std.specs.Prelude.{◌≡◌, ◌<◌};
+ghost use Rattle.std.specs.Prelude.{◌≡◌, ◌<◌, ◌≤◌, ◌+◌};
 ghost use Rattle.image_model.specs.Layout.{Fits, SameOutside};
 ghost use Rattle.image_model.specs.Grid.{grid_of};
 ghost use Rattle.image_shape.specs.Shape.{shaped};
@@ -9,6 +9,7 @@ ghost use Rattle.image_ops.specs.Mosaic.{mosaic_by, IsSpread, IsSpreadBy};
 use crate::fill::fill_cells;
 use crate::repeating::repeat_row;
 use image_shape::Shape;
+use std::mem::size_of_val;
 
 // From this width on a tile's part of a row is filled by one call.
 const FILLED_WIDTH: usize = 16;
@@ -32,6 +33,61 @@ fn spread_by_cells<T: Copy>(row: &mut [T], tile_width: usize)
     }
 }
 
+// The same for tiles of two cells: the second becomes the first.
+fn spread_pairs<T: Copy>(row: &mut [T])
+    ensures { IsSpread 2 row.old row.new }
+{
+    for pair in 0..row.len() / 2 {
+        row[2 * pair + 1] = row[2 * pair];
+    }
+}
+
+// The same by blocks of `N` cells, one for each tile: a tile has at most `N` cells, and two tiles
+// have at least as many.
+//
+// The compiler knows the length of a block, so it is one store or two. What a block writes after
+// its tile lies in the next tile, which gets its own block. So the next corner is read before.
+fn spread_by_blocks<T: Copy, const N: usize>(row: &mut [T], tile_width: usize)
+    requires tile_width { 0 < tile_width }
+    requires within_block { tile_width ≤ N }
+    requires within_tiles { N ≤ tile_width + tile_width }
+    ensures { IsSpread tile_width row.old row.new }
+{
+    let Some(first) = row.first() else {
+        return;
+    };
+    let mut pixel = *first;
+    let mut corner = 0;
+    while row.len() - corner > N {
+        let next = row[corner + tile_width];
+        fill_cells(&mut row[corner..corner + N], pixel);
+        pixel = next;
+        corner += tile_width;
+    }
+    row[corner] = pixel;
+    spread_by_cells(&mut row[corner..], tile_width);
+}
+
+// The same for narrow tiles, by the shortest block of 4, 8 or 16 cells that has room for a tile.
+// Blocks are faster in rows of some tiles, and for cells of which a register holds several.
+fn spread_narrow<T: Copy>(row: &mut [T], tile_width: usize)
+    requires several { 1 < tile_width }
+    requires narrow { tile_width < 16 }
+    ensures { IsSpread tile_width row.old row.new }
+{
+    if tile_width == 2 {
+        spread_pairs(row);
+    } else if row.len() < 4 * tile_width || !matches!(size_of_val(&row[0]), 1 | 2 | 4) {
+        spread_by_cells(row, tile_width);
+    } else if tile_width <= 4 {
+        spread_by_blocks::<T, 4>(row, tile_width);
+    } else if tile_width <= 8 {
+        spread_by_blocks::<T, 8>(row, tile_width);
+    } else {
+        spread_by_blocks::<T, 16>(row, tile_width);
+    }
+}
+
 // The same, tile by tile.
 fn spread_by_tiles<T: Copy>(row: &mut [T], tile_width: usize)
     requires tile_width { 0 < tile_width }
@@ -48,6 +104,9 @@ fn spread_by_tiles<T: Copy>(row: &mut [T], tile_width: usize)
 
 // Each pixel of so many cells becomes the first one of its tile. A pixel that isn't the first gets
 // the cells of the one before it.
+//
+// It isn't inlined: beside the loops for cells, none of them would have enough registers.
+#[inline(never)]
 fn spread_by_pixels<T: Copy>(row: &mut [T], size: usize, tile_width: usize)
     requires size { 0 < size }
     requires tile_width { 0 < tile_width }
@@ -55,12 +114,12 @@ fn spread_by_pixels<T: Copy>(row: &mut [T], size: usize, tile_width: usize)
 {
     let tile = tile_width.saturating_mul(size);
     let mut corner = 0;
-    for x in 0..row.len() {
-        if x - corner == tile {
-            corner = x;
-        } else if x - corner >= size {
-            row[x] = row[x - size];
+    while corner < row.len() {
+        let len = tile.min(row.len() - corner);
+        for x in size..len {
+            row[corner + x] = row[corner + x - size];
         }
+        corner += len;
     }
 }
 
@@ -76,7 +135,7 @@ fn spread<T: Copy>(row: &mut [T], size: usize, tile_width: usize)
     if size > 1 {
         spread_by_pixels(row, size, tile_width);
     } else if tile_width < FILLED_WIDTH {
-        spread_by_cells(row, tile_width);
+        spread_narrow(row, tile_width);
     } else {
         spread_by_tiles(row, tile_width);
     }

@@ -4,3 +4,4 @@ mod LastRow
 pub mod Replaced
 mod FirstPixels
 mod Padding
+mod WrappedSums

@@ -10,11 +10,9 @@ pub fn checksum(image: ImgRef<'_, u8>) -> u64
     requires { Fits (ref_layout image) }
     ensures { result ≡ sum (grid_pixels (ref_grid image.entry)) % 2 ^ 64 }
 {
-    let mut sum = 0u64;
-    for pixel in image.pixels() {
-        sum = sum.wrapping_add(u64::from(pixel));
-    }
-    sum
+    image
+        .pixels()
+        .fold(0u64, |sum, pixel| sum.wrapping_add(u64::from(pixel)))
 }
 
 // A sum so far with the pixels of a row.
