@@ -137,6 +137,8 @@ impl Field for u8 {
 impl Field for Window {
     ghost reading = { window_of };
 
+    // Both calls are inlined: a window that is returned goes by memory, and is waited for there.
+    #[inline(always)]
     #[tactic(auto, unfolding(text_model::specs::Reading::window_in))]
     fn read(piece: &[u8]) -> Option<Window> {
         let mut numbers = Parts::new(piece, b',');
@@ -146,6 +148,12 @@ impl Field for Window {
         let height = next(&mut numbers)?;
         let window = Window::new(left, top, width, height);
         numbers.is_done().then_some(window)
+    }
+
+    #[inline(always)]
+    #[tactic(auto, unfolding(text_model::specs::Reading::first_of_parts))]
+    fn next(parts: &mut Parts<'_>) -> Option<Window> {
+        Self::read(parts.next_part()?)
     }
 }
 
