@@ -6,7 +6,8 @@
 
 The kind of a crate is in crates.txt, where imgref_c is a static library. So it is built as `wasm64`
 in a room (workspace.py) that has another line for it. page.js is the modules of web/ in one file,
-each after those that it imports. Comments, indents and spaces beside operators are left out of what a browser loads.
+each after those that it imports. Comments, indents, spaces beside operators and most line ends are
+left out of what a browser loads.
 """
 import contextlib
 import functools
@@ -31,6 +32,8 @@ SPACE = re.compile(r"\s*([{};,]|:(?=\s))\s*")
 TEXT = re.compile(r""""(?:\\.|[^"\\\n])*"|'(?:\\.|[^'\\\n])*'|`(?:\\.|[^`\\])*`""")
 # What a script means is the same without spaces at these marks. Two signs in a row are not brought together.
 MARK = re.compile(r" *([=*/%<>&|^!?:;,.(){}\[\]]|\+(?! *\+)|-(?! *-)) *")
+# And without the end of a line after these marks, or before those. No line ends with a comment.
+LINE = re.compile(r"(?<=[;{,(\[])\n|\n(?=[}\])])")
 
 
 class Failure(Exception):
@@ -56,12 +59,18 @@ def slim(text):
 
 
 def tight(script):
-    """The script without spaces beside operators and brackets. Its texts stay as they are."""
+    """The script without spaces beside operators and brackets, and without line ends that no statement needs. Its texts stay as
+    they are."""
     kept, at = [], 0
     for it in TEXT.finditer(script):
-        kept += [MARK.sub(r"\1", script[at : it.start()]), it.group()]
+        kept += [tightened(script[at : it.start()]), it.group()]
         at = it.end()
-    return "".join([*kept, MARK.sub(r"\1", script[at:])])
+    return "".join([*kept, tightened(script[at:])])
+
+
+def tightened(code):
+    """The same of a part of a script that has no text."""
+    return LINE.sub("", MARK.sub(r"\1", code))
 
 
 def number_at(data, at):
