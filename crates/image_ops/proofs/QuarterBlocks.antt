@@ -6,6 +6,7 @@ use Rattle.image_model.specs.Grid.{Grid, grid, grid_of, patch, view}
 use Rattle.image_model.specs.Turns.{transposed}
 use Rattle.image_model.proofs.Grids.{at_place, pixel_at, same_grids}
 use Rattle.image_model.proofs.Patches.{in_patch, beside_patch, in_view}
+use Rattle.image_model.proofs.Places.{outside_trans}
 use Rattle.image_shape.specs.Shape.{shaped, shaped_grid}
 use Rattle.image_shape.specs.declared.shape.Shape.{Shape}
 use Rattle.image_ops.specs.Blocks.{read_over}
@@ -102,13 +103,7 @@ module _ {T : Type 0} (q : Grid T) (s : Shape) where
 
       pub one_block_more : BlocksDone q old new s (left + 16) top
       one_block_more = record {
-        outside = record {
-          width_stays = refl;
-          height_stays = refl;
-          stride_stays = refl;
-          length_stays = stays.length_stays ∙ so.outside.length_stays;
-          padding_stays = λ k padding. stays.padding_stays k padding ∙ so.outside.padding_stays k padding;
-        };
+        outside = outside_trans (shaped old s) (shaped now s) (shaped new s) so.outside stays;
         each = λ x y in_x in_y done.
             elim (cases_lt y line) [
               | inl above ↦ beside_block x y (inr (inl above)) ∙ so.each x y in_x in_y (inl (omega (arith, above, is_line)))

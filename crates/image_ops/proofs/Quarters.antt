@@ -6,6 +6,7 @@ use Rattle.image_model.specs.Grid.{Grid, grid, grid_of, patch, view}
 use Rattle.image_model.specs.Windows.{window, window_view}
 use Rattle.image_model.proofs.Grids.{at_place, pixel_at, same_grids}
 use Rattle.image_model.proofs.Patches.{in_patch, beside_patch}
+use Rattle.image_model.proofs.Places.{outside_trans}
 use Rattle.image_shape.specs.Shape.{shaped, shaped_grid}
 use Rattle.image_shape.specs.declared.shape.Shape.{Shape}
 use Rattle.image_ops.specs.Quarters.{source_column, source_row, quartered, first_row}
@@ -73,13 +74,7 @@ module _ {T : Type 0} (quarter : Quarter) (l : Layout T) (s : Shape) where
 
       pub one_strip_more : StripsDone quarter l old new s (left + count)
       one_strip_more = record {
-        outside = record {
-          width_stays = refl;
-          height_stays = refl;
-          stride_stays = refl;
-          length_stays = stays.length_stays ∙ so.outside.length_stays;
-          padding_stays = λ k padding. stays.padding_stays k padding ∙ so.outside.padding_stays k padding;
-        };
+        outside = outside_trans (shaped old s) (shaped now s) (shaped new s) so.outside stays;
         each = λ x y before column line.
             elim (cases_lt x left) [
               | inl earlier ↦ before_strip x y earlier ∙ so.each x y earlier column line

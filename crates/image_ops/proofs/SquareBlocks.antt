@@ -7,6 +7,7 @@ use Rattle.image_model.specs.Layout.{SameOutside, pixel}
 use Rattle.image_model.specs.Grid.{Grid, grid, grid_of, covers, patch, view}
 use Rattle.image_model.specs.Turns.{transposed}
 use Rattle.image_model.proofs.Grids.{at_place, covers_decides, pixel_at, same_grids, is_patch}
+use Rattle.image_model.proofs.Places.{outside_trans}
 use Rattle.image_shape.specs.Shape.{shaped, shaped_grid}
 use Rattle.image_shape.specs.declared.shape.Shape.{Shape}
 use Rattle.image_ops.specs.Blocks.{read_over, is_across, crossed_at, corner_crossed}
@@ -213,13 +214,7 @@ module _ {T : Type 0} (s : Shape) where
 
       pub one_pair_more : BlocksCrossed from upto (x + 1) y old new s
       one_pair_more = record {
-        outside = record {
-          width_stays = refl;
-          height_stays = refl;
-          stride_stays = refl;
-          length_stays = stays.length_stays ∙ so.outside.length_stays;
-          padding_stays = λ k padding. stays.padding_stays k padding ∙ so.outside.padding_stays k padding;
-        };
+        outside = outside_trans (shaped old s) (shaped now s) (shaped new s) so.outside stays;
         each = crossed_more;
       }
 
