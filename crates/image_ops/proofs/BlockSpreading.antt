@@ -10,10 +10,11 @@ use Rattle.std.proofs.lemmas.List.{append-nil}
 use Rattle.image_model.specs.Tiles.{tile_start}
 use Rattle.image_model.proofs.Tiles.{tile_start-is}
 use Rattle.image_model.specs.Windows.{Stretch, with_stretch}
-use Rattle.image_model.proofs.Cells.{slice_get-set_same, slice_get-set_other, slice_get-take, slice_get-drop, slice_get-append_left, slice_get-append_right, slice_get-replicate}
-use Rattle.image_model.proofs.Stretches.{length-with_stretch, with_stretch_at, with_stretch_beside}
+use Rattle.image_model.proofs.Cells.{slice_get-set_same, slice_get-set_other, slice_get-take, slice_get-drop, slice_get-append_left, slice_get-append_right}
+use Rattle.image_model.proofs.Stretches.{length-with_stretch, with_stretch_beside}
 use Rattle.image_ops.specs.Mosaic.{IsSpread}
 use Rattle.image_ops.proofs.Corners.{first_start, start_of, next_start}
+use Rattle.image_ops.proofs.Spreading.{filled_cell}
 
 -- tiles counted from the beginning of a tile
 module _ (tile c j : ℕ) (some : 0 < tile) where
@@ -62,17 +63,7 @@ module _ {T : Type 0} (tile : ℕ) (some : 0 < tile) (old : List T) where
           let long : length (replicate len pixel) ≡ len = length-replicate len pixel in
           record {
             as_many = length-with_stretch now part (replicate len pixel) within long ∙ so.as_many;
-            each = λ k upto.
-                elim (cases_lt k corner) [
-                  | inl before ↦ with_stretch_beside now part (replicate len pixel) within long k (inl before) ∙ so.each k before
-                  | inr here ↦
-                      let at : corner + (k - corner) ≡ k = omega (arith, here) in
-                      sym (ap (slice_get filled) at)
-                      ∙ with_stretch_at now part (replicate len pixel) within (k - corner) (omega (arith, upto, here, long, room))
-                      ∙ slice_get-replicate len (k - corner) pixel (omega (arith, upto, here, room))
-                      ∙ sym so.shows
-                      ∙ ap (slice_get old) (sym (start_of tile corner some so.starts k here upto))
-                ];
+            each = λ k upto. filled_cell tile some old now corner len pixel within so.starts so.shows so.each k (omega (arith, upto, room)) upto;
             others = λ k above. with_stretch_beside now part (replicate len pixel) within long k (inr (omega (arith, above, short))) ∙ so.others k (omega (arith, above));
             starts = next_start tile corner some so.starts;
             below = omega (arith, inside, room);

@@ -61,6 +61,24 @@ module _ {T : Type 0} (tile : ℕ) (some : 0 < tile) (old : List T) where
       within = omega (arith, inside);
     }
 
+  -- the cells up to the end of a stretch that is filled with a tile's pixel, where the stretch begins at the tile's corner
+  module _ (now : List T) (corner len : ℕ) (pixel : T) (within : corner + len ≤ length now) (starts : tile_start tile corner ≡ corner) (shows : slice_get old corner ≡ Some pixel) where
+    pub filled_cell : ((k : ℕ) → k < corner → slice_get now k ≡ slice_get old (tile_start tile k)) → (k : ℕ) → k < corner + len → k < corner + tile
+        → slice_get (with_stretch now (record { start = corner; len = len }) (replicate len pixel)) k ≡ slice_get old (tile_start tile k)
+    filled_cell each k in_part in_tile =
+        let part : Stretch = record { start = corner; len = len } in
+        let long : length (replicate len pixel) ≡ len = length-replicate len pixel in
+        elim (cases_lt k corner) [
+          | inl before ↦ with_stretch_beside now part (replicate len pixel) within long k (inl before) ∙ each k before
+          | inr here ↦
+              let at : corner + (k - corner) ≡ k = omega (arith, here) in
+              sym (ap (slice_get (with_stretch now part (replicate len pixel))) at)
+              ∙ with_stretch_at now part (replicate len pixel) within (k - corner) (omega (arith, in_part, here, long))
+              ∙ slice_get-replicate len (k - corner) pixel (omega (arith, in_part, here))
+              ∙ sym shows
+              ∙ ap (slice_get old) (sym (start_of tile corner some starts k here in_tile))
+        ]
+
   module _ (now : List T) (corner len : ℕ) (pixel : T) (so : SpreadUpto tile old now corner corner) (shows : slice_get old corner ≡ Some pixel) (below : corner < length old) (few : len ≤ tile) (inside : corner + len ≤ length old) (last : len ≡ tile ⊎ corner + len ≡ length old) where
     abbrev part : Stretch
     part = record { start = corner; len = len }
@@ -75,17 +93,7 @@ module _ {T : Type 0} (tile : ℕ) (some : 0 < tile) (old : List T) where
         let long : length (replicate len pixel) ≡ len = length-replicate len pixel in
         record {
           as_many = length-with_stretch now part (replicate len pixel) within long ∙ so.as_many;
-          each = λ k upto.
-              elim (cases_lt k corner) [
-                | inl before ↦ with_stretch_beside now part (replicate len pixel) within long k (inl before) ∙ so.each k before
-                | inr here ↦
-                    let at : corner + (k - corner) ≡ k = omega (arith, here) in
-                    sym (ap (slice_get filled) at)
-                    ∙ with_stretch_at now part (replicate len pixel) within (k - corner) (omega (arith, upto, here, long))
-                    ∙ slice_get-replicate len (k - corner) pixel (omega (arith, upto, here))
-                    ∙ sym shows
-                    ∙ ap (slice_get old) (sym (start_of tile corner some (so.starts below) k here (omega (arith, upto, few))))
-              ];
+          each = λ k upto. filled_cell now corner len pixel within (so.starts below) shows so.each k upto (omega (arith, upto, few));
           others = λ k above. with_stretch_beside now part (replicate len pixel) within long k (inr above) ∙ so.others k (omega (arith, above));
           starts = λ more. elim last [
             | inl whole ↦ ap (λ n. tile_start tile (corner + n)) whole ∙ next_start tile corner some (so.starts below) ∙ ap (λ n. corner + n) (sym whole)
