@@ -137,7 +137,8 @@ impl Field for u8 {
 impl Field for Window {
     ghost reading = { window_of };
 
-    // Both calls are inlined: a window that is returned goes by memory, and is waited for there.
+    // Both calls are inlined: a window that is returned goes by memory, and is waited for there. The
+    // trait's own `next` isn't inlined, so it is written again.
     #[inline(always)]
     #[tactic(auto, unfolding(text_model::specs::Reading::window_in))]
     fn read(piece: &[u8]) -> Option<Window> {
