@@ -4,19 +4,19 @@ ghost use Rattle.std.specs.Prelude.{◌≡◌};
 ghost use Rattle.script_text.specs.Line.{place_of};
 ghost use Rattle.texts.specs.Parts.{parts_left};
 ghost use Rattle.script_text.specs.Reading.{Gives, path_of, path_at, place_at};
-ghost use Rattle.text_model.specs.Reading.{each_of, first_of_parts};
+ghost use Rattle.text_model.specs.Reading.{pixel_of, each_of, with_front, first_of_parts};
 
 use crate::fault::LineFault;
 use image_commands::{Place, Window};
 use std::alloc::Global;
 use texts::{Field, Parts};
 
-/// The values that all remaining parts denote.
-pub(crate) fn read_each<T: Field>(alloc: Global, parts: &mut Parts<'_>) -> Result<Vec<T>, LineFault>
-    ensures { Gives (λ values. values.items) result (each_of T.reading (parts_left parts.old)) }
+// The values so far, and those that all remaining parts denote.
+fn read_others<T: Field>(so_far: Vec<T>, parts: &mut Parts<'_>) -> Result<Vec<T>, LineFault>
+    ensures { Gives (λ values. values.items) result
+        (with_front so_far.items (each_of T.reading (parts_left parts.old))) }
 {
-    let mut values = Vec::new(alloc);
-    texts::read_many(&mut values, parts)?;
+    let mut values = so_far;
     while !parts.is_done() {
         let Some(value) = texts::next(parts) else {
             return Err(LineFault::Bad);
@@ -24,6 +24,22 @@ pub(crate) fn read_each<T: Field>(alloc: Global, parts: &mut Parts<'_>) -> Resul
         values.push(value)?;
     }
     Ok(values)
+}
+
+/// The values that all remaining parts denote.
+pub(crate) fn read_each<T: Field>(alloc: Global, parts: &mut Parts<'_>) -> Result<Vec<T>, LineFault>
+    ensures { Gives (λ values. values.items) result (each_of T.reading (parts_left parts.old)) }
+{
+    read_others(Vec::new(alloc), parts)
+}
+
+/// The pixels that all remaining parts denote: many at once, as long as that goes.
+pub(crate) fn read_pixels(alloc: Global, parts: &mut Parts<'_>) -> Result<Vec<u8>, LineFault>
+    ensures { Gives (λ values. values.items) result (each_of pixel_of (parts_left parts.old)) }
+{
+    let mut pixels = Vec::new(alloc);
+    parts.read_pixels(&mut pixels)?;
+    read_others(pixels, parts)
 }
 
 /// The value that the next field denotes. Inlined, since a call of it costs as much as the reading.

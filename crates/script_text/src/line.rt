@@ -10,7 +10,7 @@ ghost use Rattle.script_text.specs.Reading.{Gives, sized, image_in, line_in};
 
 use crate::command::read_command;
 use crate::fault::LineFault;
-use crate::fields::{next_value, read_each};
+use crate::fields::{next_value, read_pixels};
 use image_commands::Command;
 use imgref::{Img, ImgVec};
 use std::alloc::Global;
@@ -65,7 +65,7 @@ fn read_image(alloc: Global, fields: &mut Parts<'_>) -> Result<ImgVec<u8>, LineF
     let width = next_value(fields)?;
     let height = next_value(fields)?;
     let stride = next_value(fields)?;
-    let cells = read_each(alloc, fields)?;
+    let cells = read_pixels(alloc, fields)?;
     sized_image(cells, width, height, stride)
 }
 

@@ -1,12 +1,11 @@
 //! Fields: pieces of text that denote a number, a pixel or a window.
 
-ghost use Rattle.std.specs.Prelude.{◌≡◌, ◌≢◌, ◌≤◌, ◌-◌, ℕ, List, Option, OnOk, slice_index};
-ghost use Rattle.text_model.specs.Reading.{Finds, digits_of, number_of, pixel_of, window_of, first_of_parts, each_of, with_front};
+ghost use Rattle.std.specs.Prelude.{◌≡◌, ◌≢◌, ◌≤◌, ◌-◌, ℕ, List, Option, slice_index};
+ghost use Rattle.text_model.specs.Reading.{Finds, digits_of, number_of, pixel_of, window_of, first_of_parts};
 ghost use Rattle.texts.specs.Parts.{parts_left};
 
 use crate::parts::{Parts, value};
 use image_shape::Window;
-use std::alloc::AllocError;
 
 /// A value that one piece of text denotes.
 pub trait Field: Copy {
@@ -23,16 +22,6 @@ pub trait Field: Copy {
             (first_of_parts reading (parts_left parts.old)) }
     {
         Self::read(parts.next_part()?)
-    }
-
-    // Adds the values that the next parts denote, as long as many of them can be read at once: all,
-    // some or none of them.
-    fn read_many(_values: &mut Vec<Self>, _parts: &mut Parts<'_>) -> Result<(), AllocError>
-        ensures { OnOk result
-            (with_front _values.new.items (each_of reading (parts_left _parts.new))
-            ≡ with_front _values.old.items (each_of reading (parts_left _parts.old))) }
-    {
-        Ok(())
     }
 }
 
@@ -80,12 +69,18 @@ fn digits(piece: &[u8]) -> Option<usize>
 // A number is read digit by digit while it is less: then one digit more can't make it too great.
 const LONG: usize = 100_000_000_000_000_000;
 
+// So many digits are read so. A longer piece would be read twice.
+const DIGITS: usize = 18;
+
 // The same of any number of digits. To see them as a text first and parse that takes four times as
 // long, and coordinates of large images have four digits.
 fn more_digits(piece: &[u8]) -> Option<usize>
     requires { slice_index piece.now 0 ≢ 43 }
     ensures { result ≡ digits_of piece.now }
 {
+    if piece.len() > DIGITS {
+        return any_digits(piece);
+    }
     let mut number = 0;
     for byte in piece {
         if !byte.is_ascii_digit() {
@@ -127,10 +122,6 @@ impl Field for u8 {
     fn next(parts: &mut Parts<'_>) -> Option<u8> {
         u8::try_from(usize::next(parts)?).ok()
     }
-
-    fn read_many(values: &mut Vec<u8>, parts: &mut Parts<'_>) -> Result<(), AllocError> {
-        parts.read_pixels(values)
-    }
 }
 
 /// A window: four numbers with commas between them.
@@ -165,19 +156,4 @@ pub fn next<T: Field>(parts: &mut Parts<'_>) -> Option<T>
         (first_of_parts T.reading (parts_left parts.old)) }
 {
     T::next(parts)
-}
-
-/// Adds the values that the next parts denote, as long as many of them can be read at once: all, some
-/// or none of them.
-///
-/// # Errors
-///
-/// No memory was found. Some of the values may have been added.
-#[inline(always)]
-pub fn read_many<T: Field>(values: &mut Vec<T>, parts: &mut Parts<'_>) -> Result<(), AllocError>
-    ensures { OnOk result
-        (with_front values.new.items (each_of T.reading (parts_left parts.new))
-        ≡ with_front values.old.items (each_of T.reading (parts_left parts.old))) }
-{
-    T::read_many(values, parts)
 }

@@ -6,5 +6,5 @@ mod fields;
 mod parts;
 mod pixels;
 
-pub use fields::{Field, next, read_many};
+pub use fields::{Field, next};
 pub use parts::Parts;

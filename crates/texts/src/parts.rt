@@ -1,6 +1,6 @@
 //! Bytes that are split at a separator.
 
-ghost use Rattle.std.specs.Prelude.{◌≡◌, ◌≤◌, ◌<◌, ◌+◌, ◌-◌, ◌^◌, ◌↔◌, ◌==◌, ◌∷◌, [], IsTrue, OnOk, None, IfSome, MatchOption, length, take, map, position};
+ghost use Rattle.std.specs.Prelude.{◌≡◌, ◌≤◌, ◌<◌, ◌+◌, ◌-◌, ◌^◌, ◌↔◌, ◌==◌, ◌∷◌, [], IsTrue, OnOk, OnErr, None, IfSome, MatchOption, length, take, map, position};
 ghost use Rattle.std.specs.List.{position_or_len, position_from};
 ghost use Rattle.std.specs.Simd.Lanes.{mask_l};
 ghost use Rattle.text_model.specs.Parts.{parts_of};
@@ -57,10 +57,18 @@ impl<'a> Parts<'a> {
         Some(number)
     }
 
-    /// Adds the pixels that the next parts denote, as long as many of them can be read at once.
-    pub(crate) fn read_pixels(&mut self, values: &mut Vec<u8>) -> Result<(), AllocError>
-        ensures { OnOk result (with_front values.new.items (each_of pixel_of (parts_left self.new))
+    /// Adds the pixels that the next parts denote, as long as many of them can be read at once: all,
+    /// some or none of them.
+    ///
+    /// # Errors
+    ///
+    /// No memory was found. The parts are then as they were, and some of the pixels may have been
+    /// added.
+    pub fn read_pixels(&mut self, values: &mut Vec<u8>) -> Result<(), AllocError>
+        ensures read { OnOk result
+            (with_front values.new.items (each_of pixel_of (parts_left self.new))
             ≡ with_front values.old.items (each_of pixel_of (parts_left self.old))) }
+        ensures unchanged { OnErr result (self.new ≡ self.old) }
     {
         let Some(rest) = self.rest else {
             return Ok(());
@@ -68,8 +76,6 @@ impl<'a> Parts<'a> {
         if self.separator >= b'0' {
             return Ok(());
         }
-        // A pixel has a byte at least, and a separator comes between two.
-        values.reserve(rest.len() - rest.len() / 2)?;
         let rest = read_pixels::<64>(rest, self.separator, values)?;
         let rest = read_pixels::<16>(rest, self.separator, values)?;
         self.rest = Some(rest);
