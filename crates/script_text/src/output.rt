@@ -153,9 +153,6 @@ fn push_cells(text: &mut Vec<u8>, cells: &[u8]) -> Result<(), AllocError>
         (text.new.items ≡ text.old.items ++ flat_map (λ cell. 32 ∷ decimal cell) cells.now) }
     ensures pixels { OnOk result (All IsPixel cells.now) }
 {
-    // Room for all of them at once: growth by doubling would copy a long text again and again, and
-    // may take as much.
-    text.reserve(cells.len().saturating_mul(LONGEST))?;
     let mut block = [0; LONGEST * BLOCK];
     let mut rest = cells;
     while !rest.is_empty() {
@@ -197,6 +194,19 @@ fn push_image(text: &mut Vec<u8>, image: &ImgVec<u8>) -> Result<(), AllocError>
     Ok(())
 }
 
+// How many bytes a line of an image has beside the texts of its cells: more only at sizes of many
+// digits.
+const BESIDE: usize = 64;
+
+// Room for the lines of images. Where there are few cells, it may be less than they take.
+fn room_of(images: &[ImgVec<u8>]) -> usize {
+    images.iter().fold(0usize, |room, image| {
+        let cells = image.buf().len();
+        room.saturating_add(cells.saturating_mul(LONGEST))
+            .saturating_add(cells.min(BESIDE))
+    })
+}
+
 /// Adds a line for each image. These lines are themselves a script of these images.
 ///
 /// # Requires
@@ -213,6 +223,9 @@ pub fn push_images(text: &mut Vec<u8>, images: &[ImgVec<u8>]) -> Result<(), Allo
     ensures again { OnOk result (IsScript (map image_text (layouts_of images.now))
         (layouts_of images.now) []) }
 {
+    // Room for all of them before one is written: growth by doubling would copy a long text again
+    // and again.
+    text.reserve(room_of(images))?;
     for image in images {
         push_image(text, image)?;
     }
