@@ -31,9 +31,13 @@ SPACE = re.compile(r"\s*([{};,]|:(?=\s))\s*")
 # A text of a script. No text holds a template that has another one in it; a regular expression writes \s for a space.
 TEXT = re.compile(r""""(?:\\.|[^"\\\n])*"|'(?:\\.|[^'\\\n])*'|`(?:\\.|[^`\\])*`""")
 # What a script means is the same without spaces at these marks. Two signs in a row are not brought together.
-MARK = re.compile(r" *([=*/%<>&|^!?:;,.(){}\[\]]|\+(?! *\+)|-(?! *-)) *")
+MARK = re.compile(r" *[=*/%<>&|^!?:;,.(){}\[\]] *|(?<![+ ]) *\+ *(?![+ ])|(?<![- ]) *- *(?![- ])")
 # And without the end of a line after these marks, or before those. No line ends with a comment.
 LINE = re.compile(r"(?<=[;{,(\[])\n|\n(?=[}\])])")
+# A statement at the end of a block needs no semicolon. No block ends with an empty statement.
+LAST = re.compile(r";(?=})")
+# A name that is never assigned again doesn't have to say so.
+CONSTANT = re.compile(r"\bconst\b")
 
 
 class Failure(Exception):
@@ -59,8 +63,8 @@ def slim(text):
 
 
 def tight(script):
-    """The script without spaces beside operators and brackets, and without line ends that no statement needs. Its texts stay as
-    they are."""
+    """The script without spaces beside operators and brackets, and without line ends and semicolons that no statement needs.
+    Its texts stay as they are."""
     kept, at = [], 0
     for it in TEXT.finditer(script):
         kept += [tightened(script[at : it.start()]), it.group()]
@@ -70,7 +74,8 @@ def tight(script):
 
 def tightened(code):
     """The same of a part of a script that has no text."""
-    return LINE.sub("", MARK.sub(r"\1", code))
+    code = LINE.sub("", MARK.sub(lambda it: it.group().strip(), code))
+    return CONSTANT.sub("let", LAST.sub("", code))
 
 
 def number_at(data, at):
@@ -117,7 +122,7 @@ def build():
             make_module()
     (OUT / FIRST).write_text(tight(slim(bundled(FIRST, set()))))
     (OUT / "index.html").write_text(slim((SOURCES / "index.html").read_text()))
-    (OUT / "style.css").write_text(SPACE.sub(r"\1", slim((SOURCES / "style.css").read_text())))
+    (OUT / "style.css").write_text(LAST.sub("", SPACE.sub(r"\1", slim((SOURCES / "style.css").read_text()))))
     size = sum(it.stat().st_size for it in OUT.iterdir())
     say(f"{OUT.relative_to(ROOT)}/index.html, {size // 1000} KB with the files beside it")
 
