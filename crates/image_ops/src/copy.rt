@@ -1,14 +1,14 @@
 //! Copies of the pixels of one image over those of another.
 
-ghost use Rattle.std.specs.Prelude.{◌≡◌, ◌*◌, ◌<◌, ◌≤◌, length};
+ghost use Rattle.std.specs.Prelude.{◌≡◌, ◌*◌, ◌<◌, ◌≤◌, length, IsTrue};
 ghost use Rattle.image_model.specs.Layout.{Fits, SameOutside};
 ghost use Rattle.image_shape.specs.Shape.{shape_width, shape_height, shaped_grid, shaped};
 
 use crate::joining::fewest_rows;
 use image_shape::Shape;
-use std::mem::size_of;
+use std::mem::size_of_val;
 
-// The most cells, and the most bytes, of a short row.
+// The most cells of a short row.
 const FEW: usize = 16;
 
 // Copies `N` to `2 * N` cells, as the first and the last `N`. They are read into registers first:
@@ -65,23 +65,42 @@ fn copy_few<T: Copy>(cells: &mut [T], source: &[T])
     }
 }
 
-// Copies a row. For a short one a call of `memcpy` would take longer than the copy. The compiler
-// takes the tests out of the loop over rows.
+// Whether rows are so short that a call of `memcpy` would take longer than their copy: at most 16
+// cells of one byte. Rows of wider cells gain less, and the page for a browser has no room for them.
+fn are_short<T>(cells: &[T], width: usize) -> bool
+    ensures { IsTrue result → width ≤ 16 }
+{
+    match cells.first() {
+        Some(cell) => size_of_val(cell) == 1 && width <= FEW,
+        None => false,
+    }
+}
+
+// Copies a row.
 #[inline(always)]
-fn copy_row<T: Copy>(cells: &mut [T], source: &[T])
+fn copy_row<T: Copy, const SHORT: bool>(cells: &mut [T], source: &[T])
     requires as_many { length cells.old ≡ length source.now }
+    requires short { IsTrue SHORT → length cells.old ≤ 16 }
     ensures len { length cells.new ≡ length cells.old }
     ensures after { cells.new ≡ source.now }
 {
-    if cells.len() <= FEW && cells.len() * size_of::<T>() <= FEW {
+    if SHORT {
         copy_few(cells, source);
     } else {
         cells.copy_from_slice(source);
     }
 }
 
-// Every pixel of `shape` in `cells` becomes the pixel of the source at its place, row by row.
-fn copy_rows<T: Copy>(cells: &mut [T], shape: Shape, source: &[T], source_shape: Shape)
+// Every pixel of `shape` in `cells` becomes the pixel of the source at its place, row by row. It
+// isn't inlined: beside the loop for short rows, the other one would have too few registers.
+#[inline(never)]
+fn copy_rows<T: Copy, const SHORT: bool>(
+    cells: &mut [T],
+    shape: Shape,
+    source: &[T],
+    source_shape: Shape,
+)
+    requires short { IsTrue SHORT → shape_width shape ≤ 16 }
     requires fits { Fits (shaped cells.old shape) }
     requires source_fits { Fits (shaped source.now source_shape) }
     requires same_width { shape_width shape ≡ shape_width source_shape }
@@ -92,7 +111,23 @@ fn copy_rows<T: Copy>(cells: &mut [T], shape: Shape, source: &[T], source_shape:
     for y in 0..shape.row_count() {
         let row = shape.row(cells.len(), y);
         let from = source_shape.row(source.len(), y);
-        copy_row(&mut cells[row.range()], &source[from.range()]);
+        copy_row::<T, SHORT>(&mut cells[row.range()], &source[from.range()]);
+    }
+}
+
+// The same, by what is faster for such rows.
+fn copy_each_row<T: Copy>(cells: &mut [T], shape: Shape, source: &[T], source_shape: Shape)
+    requires fits { Fits (shaped cells.old shape) }
+    requires source_fits { Fits (shaped source.now source_shape) }
+    requires same_width { shape_width shape ≡ shape_width source_shape }
+    requires same_height { shape_height shape ≡ shape_height source_shape }
+    ensures grid { shaped_grid cells.new shape ≡ shaped_grid source.now source_shape }
+    ensures outside { SameOutside (shaped cells.old shape) (shaped cells.new shape) }
+{
+    if are_short(cells, shape.width()) {
+        copy_rows::<T, true>(cells, shape, source, source_shape);
+    } else {
+        copy_rows::<T, false>(cells, shape, source, source_shape);
     }
 }
 
@@ -107,5 +142,5 @@ pub fn copy_pixels<T: Copy>(cells: &mut [T], shape: Shape, source: &[T], source_
     ensures outside { SameOutside (shaped cells.old shape) (shaped cells.new shape) }
 {
     let (rows, source_rows) = fewest_rows(shape, source_shape);
-    copy_rows(cells, rows, source, source_rows);
+    copy_each_row(cells, rows, source, source_rows);
 }

@@ -3,7 +3,7 @@ ghost use Rattle.image_model.specs.Shifts.{shifted};
 
 use crate::blocks::{copy_by_blocks, copy_few};
 use std::marker::Model;
-use std::mem::size_of;
+use std::mem::size_of_val;
 
 /// Shifts cells within one borrowed list, and counts the shifts.
 ///
@@ -80,14 +80,16 @@ impl<'a, T: Copy> RowMover<'a, T> {
 const FEW: usize = 16;
 
 // Whether a stretch of so many cells is so short that the tests of the longer ones, and a call of
-// `memmove`, would take longer than its copy.
+// `memmove`, would take longer than its copy. Cells of three bytes have no register of their size.
 #[inline(always)]
 fn is_short<T>(cells: &[T], len: usize) -> bool
-    requires inside { len ≤ length cells.now }
     ensures { IsTrue result → len ≤ 16 }
 {
-    let _count = cells.len();
-    len <= FEW && len * size_of::<T>() <= FEW
+    let Some(cell) = cells.first() else {
+        return false;
+    };
+    let size = size_of_val(cell);
+    matches!(size, 1 | 2 | 4 | 8 | 16) && len <= FEW && len * size <= FEW
 }
 
 // Copies a stretch to a place that it may overlap.
