@@ -1,24 +1,25 @@
 -- Squares of which each place changes places with the one across the diagonal, pair by pair.
-use Rattle.std.proofs.Common.{◌≡◌, ◌≢◌, ℕ, ◌+◌, ◌*◌, ◌<◌, ◌≤◌, ◌⊎◌, Bool, true, false, List, length, refl, sym, ap, ◌∙◌, arith, inl, inr, nat_lt, if◌then◌else◌, ◌||◌, ◌&&◌, max}
+use Rattle.std.proofs.Common.{◌≡◌, ◌≢◌, ℕ, ◌+◌, ◌*◌, ◌<◌, ◌≤◌, ◌⊎◌, Bool, true, false, List, length, refl, sym, ap, ◌∙◌, arith, inl, inr, nat_lt, nat_le, if◌then◌else◌, ◌&&◌, max}
 use Rattle.std.specs.List.{slice_get}
 use Rattle.std.proofs.lemmas.Bool.{cases_lt, cond-true, cond-false}
 use Rattle.std.proofs.lemmas.Bool.Decides.{nat_tests, eqb_tells}
 use Rattle.std.proofs.lemmas.Nat.{same_from_place}
 use Rattle.std.proofs.lemmas.Option.{slice_get_past}
 use Rattle.image_model.specs.Layout.{Fits, IsPadding, SameOutside, pixel}
-use Rattle.image_model.specs.Grid.{grid, grid_of}
+use Rattle.image_model.specs.Grid.{grid_of}
 use Rattle.image_model.specs.Tables.{is_before}
-use Rattle.image_model.specs.Turns.{swapped_column, transposed}
+use Rattle.image_model.specs.Turns.{swapped_column}
 use Rattle.image_model.proofs.Grids.{pixel_at, same_grids}
 use Rattle.image_model.proofs.Places.{reached}
 use Rattle.image_model.proofs.Turns.{right_from_transposed, left_from_transposed, half_from_mirrored}
 use Rattle.image_shape.specs.Shape.{shaped, shaped_grid}
 use Rattle.image_shape.specs.declared.shape.Shape.{Shape}
+use Rattle.image_ops.specs.Blocks.{is_in_strip, strip_crossed}
 use Rattle.image_ops.specs.Gathered.{AreGathered}
 
--- whether the pair of column a and row b, to the right of the diagonal, has changed places: its column is one of the first `from`, or one of the first `upto` and comes before column x of row y
-abbrev pub is_done : ℕ → ℕ → ℕ → ℕ → ℕ → ℕ → Bool
-is_done from upto x y a b = nat_lt a from || (nat_lt a upto && is_before x y a b)
+-- whether the pair of column a and row b, to the right of the diagonal, has changed places: its column is one from `from` to `upto`, and comes before column x of row y
+abbrev is_done : ℕ → ℕ → ℕ → ℕ → ℕ → ℕ → Bool
+is_done from upto x y a b = nat_le from a && nat_lt a upto && is_before x y a b
 
 -- whether column u of row v has changed places then
 abbrev pub is_crossed : ℕ → ℕ → ℕ → ℕ → ℕ → ℕ → Bool
@@ -66,17 +67,9 @@ done_at_start from upto y a b below = grind (arith, nat_tests, below)
 done_at_end : (from upto x y a b : ℕ) → b < a → upto ≤ x → is_done from upto x y a b ≡ is_done from upto 0 (y + 1) a b
 done_at_end from upto x y a b below wide = grind (arith, nat_tests, below, wide)
 
--- and after the last row
-done_at_last : (from upto x y a b : ℕ) → b < a → upto ≤ y → from ≤ upto → is_done from upto x y a b ≡ is_done upto upto 0 0 a b
-done_at_last from upto x y a b below high later = grind (arith, nat_tests, below, high, later)
-
 -- a pair other than the next one
 done_more : (from upto x y a b : ℕ) → ((a ≡ x) × (b ≡ y) → ⊥) → is_done from upto x y a b ≡ is_done from upto (x + 1) y a b
 done_more from upto x y a b other = grind (arith, nat_tests, other)
-
--- a strip begins
-done_before : (from right a b : ℕ) → is_done from from 0 0 a b ≡ is_done from right 0 0 a b
-done_before from right a b = grind (arith, nat_tests)
 
 -- two cells that are exchanged
 second_of : (i j : ℕ) → swapped_column i j j ≡ i
@@ -90,10 +83,36 @@ same_place u v x y =
       | inr (_, other) ↦ inr (λ e. other e.0)
     ]
 
+-- a place is in the strip, past it or before it
+pub strip_cases : (from upto u v : ℕ) → ((u < upto) × (v < upto) × ((from ≤ u) ⊎ (from ≤ v))) ⊎ ((upto ≤ u) ⊎ (upto ≤ v)) ⊎ ((u < from) × (v < from))
+strip_cases from upto u v =
+    elim (cases_lt u upto) [
+      | inr right ↦ inr (inl (inl right))
+      | inl column ↦
+          elim (cases_lt v upto) [
+            | inr below ↦ inr (inl (inr below))
+            | inl line ↦
+                elim (cases_lt u from) [
+                  | inr there ↦ inl (column, line, inl there)
+                  | inl before ↦ elim (cases_lt v from) [ inr there ↦ inl (column, line, inr there) | inl above ↦ inr (inr (before, above)) ]
+                ]
+          ]
+    ]
+
+-- and the test says so
+pub strip_true : (from upto u v : ℕ) → u < upto → v < upto → (from ≤ u) ⊎ (from ≤ v) → is_in_strip from upto u v ≡ true
+strip_true from upto u v column line there = elim there [ inl right ↦ grind (arith, nat_tests, column, line, right) | inr below ↦ grind (arith, nat_tests, column, line, below) ]
+
+pub strip_past : (from upto u v : ℕ) → (upto ≤ u) ⊎ (upto ≤ v) → is_in_strip from upto u v ≡ false
+strip_past from upto u v past = elim past [ inl right ↦ grind (arith, nat_tests, right) | inr below ↦ grind (arith, nat_tests, below) ]
+
+pub strip_before : (from upto u v : ℕ) → u < from → v < from → is_in_strip from upto u v ≡ false
+strip_before from upto u v column line = grind (arith, nat_tests, column, line)
+
 module _ {T : Type 0} (s : Shape) where
   -- no pair yet
-  pub none_crossed : (cells : List T) → CrossedUpto 0 0 0 0 cells cells s
-  none_crossed cells = record {
+  pub none_crossed : (from upto : ℕ) (cells : List T) → CrossedUpto from upto 0 0 cells cells s
+  none_crossed from upto cells = record {
     as_many = refl;
     each = λ u v column line. ap (slice_get cells) (grind (arith, nat_tests));
     others = λ k padding. refl;
@@ -110,10 +129,6 @@ module _ {T : Type 0} (s : Shape) where
       others = so.others;
     }
 
-    -- a strip of columns begins after those before it
-    pub strip_begins : (right : ℕ) → from ≡ upto → x ≡ 0 → y ≡ 0 → CrossedUpto from right 0 0 old now s
-    strip_begins right none first top = same_pairs from right 0 0 (λ a b below. (λ i. is_done from (sym none i) (first i) (top i) a b) ∙ done_before from right a b)
-
     -- a row of the strip begins at its first column, and to the right of the diagonal
     pub row_begins : (start : ℕ) → x ≡ 0 → start ≡ max from (y + 1) → CrossedUpto from upto start y old now s
     row_begins start first at = same_pairs from upto start y (λ a b below. ap (λ n. is_done from upto n y a b) first ∙ done_at_start from upto y a b below ∙ ap (λ n. is_done from upto n y a b) (sym at))
@@ -121,10 +136,6 @@ module _ {T : Type 0} (s : Shape) where
     -- and is at its end where the next one begins
     pub row_crossed : upto ≤ x → CrossedUpto from upto 0 (y + 1) old now s
     row_crossed wide = same_pairs from upto 0 (y + 1) (λ a b below. done_at_end from upto x y a b below wide)
-
-    -- the strip is at its end after its last row
-    pub strip_crossed : upto ≤ y → from ≤ upto → CrossedUpto upto upto 0 0 old now s
-    strip_crossed high later = same_pairs upto upto 0 0 (λ a b below. done_at_last from upto x y a b below high later)
 
     -- one pair more
     module _ (fits : Fits (shaped old s)) (square : s.width ≡ s.height) (right : y < x) (after : from ≤ x) (here : x < upto) (column : x < s.width) (i j : ℕ) (is_i : i ≡ y * s.stride + x) (is_j : j ≡ x * s.stride + y) where
@@ -184,19 +195,40 @@ module _ {T : Type 0} (s : Shape) where
           others = λ k padding. other_stays k (λ e. padding.no_place x y column (omega arith) (sym is_i ∙ sym e)) (λ e. padding.no_place y x (omega arith) (omega arith) (sym is_j ∙ sym e)) ∙ so.others k padding;
         }
 
-    -- all pairs
-    module _ (square : s.width ≡ s.height) (all : s.height ≤ from) where
-      pub all_crossed : shaped_grid now s ≡ transposed (shaped_grid old s)
-      unfolding grid_of transposed
-      all_crossed =
-          same_grids s.width s.height (pixel (shaped now s)) (λ u v. (grid_of (shaped old s)).pixel v u) (λ u v column line. so.each u v column line ∙ ap (slice_get old) (passed u v column line) ∙ sym (pixel_at (shaped old s) v u (omega arith) (omega arith)))
-          ∙ (λ i. grid (square i) (sym square i) (λ u v. (grid_of (shaped old s)).pixel v u))
-        where
-          passed : (u v : ℕ) → u < s.width → v < s.height → crossed_cell s.stride from upto x y u v ≡ u * s.stride + v
-          passed u v column line = grind (arith, nat_tests, column, line, square, all)
+    -- all pairs of the strip
+    module _ (square : s.width ≡ s.height) (high : upto ≤ y) where
+      in_strip : (stride u v : ℕ) → u < upto → v < upto → (from ≤ u) ⊎ (from ≤ v) → crossed_cell stride from upto x y u v ≡ u * stride + v
+      in_strip stride u v column line there = elim there [ inl right ↦ grind (arith, nat_tests, high, column, line, right) | inr below ↦ grind (arith, nat_tests, high, column, line, below) ]
 
-      pub crossed_outside : SameOutside (shaped old s) (shaped now s)
-      crossed_outside = record { width_stays = refl; height_stays = refl; stride_stays = refl; length_stays = so.as_many; padding_stays = so.others }
+      past_strip : (stride u v : ℕ) → (upto ≤ u) ⊎ (upto ≤ v) → crossed_cell stride from upto x y u v ≡ v * stride + u
+      past_strip stride u v past = elim past [ inl right ↦ grind (arith, nat_tests, right) | inr below ↦ grind (arith, nat_tests, below) ]
+
+      before_strip : (stride u v : ℕ) → u < from → v < from → crossed_cell stride from upto x y u v ≡ v * stride + u
+      before_strip stride u v column line = grind (arith, nat_tests, column, line)
+
+      pub strip_shown : shaped_grid now s ≡ strip_crossed from upto (shaped_grid old s)
+      unfolding grid_of
+      strip_shown =
+          same_grids s.width s.height (pixel (shaped now s)) (λ u v. if is_in_strip from upto u v then (shaped_grid old s).pixel v u else (shaped_grid old s).pixel u v)
+          (λ u v column line.
+          so.each u v column line
+          ∙ elim (strip_cases from upto u v) [
+            | inl here ↦
+                ap (slice_get old) (in_strip s.stride u v here.0 here.1 here.2)
+                ∙ sym (pixel_at (shaped old s) v u (omega (arith, line, square)) (omega (arith, column, square)))
+                ∙ sym (cond-true (is_in_strip from upto u v) _ _ (strip_true from upto u v here.0 here.1 here.2))
+            | inr (inl past) ↦
+                ap (slice_get old) (past_strip s.stride u v past)
+                ∙ sym (pixel_at (shaped old s) u v column line)
+                ∙ sym (cond-false (is_in_strip from upto u v) _ _ (strip_past from upto u v past))
+            | inr (inr before) ↦
+                ap (slice_get old) (before_strip s.stride u v before.0 before.1)
+                ∙ sym (pixel_at (shaped old s) u v column line)
+                ∙ sym (cond-false (is_in_strip from upto u v) _ _ (strip_before from upto u v before.0 before.1))
+          ])
+
+      pub strip_outside : SameOutside (shaped old s) (shaped now s)
+      strip_outside = record { width_stays = refl; height_stays = refl; stride_stays = refl; length_stays = so.as_many; padding_stays = so.others }
 
 -- the cells of a pair are there
 pub ruleset within = (first_within, second_within)

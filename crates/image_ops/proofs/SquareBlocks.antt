@@ -1,17 +1,17 @@
 -- Squares of which blocks of 16 by 16 pixels change places with those across the diagonal, pair by pair.
 use Rattle.std.proofs.Common.{◌≡◌, ℕ, ◌+◌, ◌-◌, ◌*◌, ◌/◌, ◌<◌, ◌≤◌, ◌⊎◌, Bool, true, false, List, Option, refl, sym, ap, ◌∙◌, arith, inl, inr, nat_lt, if◌then◌else◌, ◌||◌, ◌&&◌, max, min}
-use Rattle.std.specs.List.{slice_get}
 use Rattle.std.proofs.lemmas.Bool.{cases_Bool, cases_lt, cond-true, cond-false, true≢false}
 use Rattle.std.proofs.lemmas.Bool.Decides.{nat_tests}
 use Rattle.image_model.specs.Layout.{SameOutside, pixel}
 use Rattle.image_model.specs.Grid.{Grid, grid, grid_of, covers, patch, view}
+use Rattle.image_model.specs.Tables.{is_before}
 use Rattle.image_model.specs.Turns.{transposed}
 use Rattle.image_model.proofs.Grids.{at_place, covers_decides, pixel_at, same_grids, is_patch}
 use Rattle.image_model.proofs.Places.{outside_trans}
 use Rattle.image_shape.specs.Shape.{shaped, shaped_grid}
 use Rattle.image_shape.specs.declared.shape.Shape.{Shape}
-use Rattle.image_ops.specs.Blocks.{read_over, is_across, crossed_at, corner_crossed}
-use Rattle.image_ops.proofs.Diagonals.{is_done, crossed_cell, CrossedUpto}
+use Rattle.image_ops.specs.Blocks.{read_over, is_across, crossed_at, corner_crossed, is_in_strip, strip_crossed}
+use Rattle.image_ops.proofs.Diagonals.{strip_cases, strip_true, strip_past, strip_before}
 
 -- ---- two blocks that change places
 
@@ -58,6 +58,10 @@ module _ {T : Type 0} (w h : ℕ) (f : ℕ → ℕ → Option T) (left top : ℕ
   both_crossed = ap (λ p. patch p left top (transposed (view g top left 16 16))) (sym first_patch) ∙ sym second_patch
 
 -- ---- pairs of blocks one after the other
+
+-- whether the pair of column a and row b has changed places: its column is one of the first `from`, or one of the first `upto` and comes before column x of row y
+abbrev pub is_done : ℕ → ℕ → ℕ → ℕ → ℕ → ℕ → Bool
+is_done from upto x y a b = nat_lt a from || (nat_lt a upto && is_before x y a b)
 
 -- whether the blocks of a place and of the one across the diagonal have changed places
 abbrev pub block_done : ℕ → ℕ → ℕ → ℕ → ℕ → ℕ → Bool
@@ -179,8 +183,8 @@ module _ {T : Type 0} (s : Shape) where
     row_crossed wide = same_pairs from upto 0 (y + 1) (λ a b below. at_row_end from upto x y a b below wide)
 
     -- the strip is at its end after its last row
-    pub strip_crossed : upto ≤ y → from ≤ upto → BlocksCrossed upto upto 0 0 old now s
-    strip_crossed high later = same_pairs upto upto 0 0 (λ a b below. at_strip_end from upto x y a b below high later)
+    pub strip_done : upto ≤ y → from ≤ upto → BlocksCrossed upto upto 0 0 old now s
+    strip_done high later = same_pairs upto upto 0 0 (λ a b below. at_strip_end from upto x y a b below high later)
 
     -- one pair more
     module _ (square : s.width ≡ s.height) (right : y ≤ x) (after : from ≤ x) (here : x < upto) (new : List T) (shown : shaped_grid new s ≡ crossed_at (16 * x) (16 * y) (shaped_grid now s)) (stays : SameOutside (shaped now s) (shaped new s)) where
@@ -267,30 +271,71 @@ module _ {T : Type 0} (s : Shape) (old now : List T) where
         | inr past ↦ ap (λ b. crossed_pixel b (shaped_grid old s) u v) (past_corner n u v past) ∙ sym (cond-false (nat_lt u (16 * n) && nat_lt v (16 * n)) _ _ (corner_false (16 * n) u v past))
       ])
 
-  -- the cells of such an image, for the pairs that are left
-  module _ (n : ℕ) (square : s.width ≡ s.height) (shown : shaped_grid now s ≡ corner_crossed n (shaped_grid old s)) (stays : SameOutside (shaped old s) (shaped now s)) where
-    crossed_inside : (stride u v : ℕ) → u < n → v < n → crossed_cell stride n n 0 0 u v ≡ u * stride + v
-    crossed_inside stride u v column line = grind (arith, nat_tests, column, line)
+-- ---- strips of columns after a corner
 
-    crossed_outside_corner : (stride u v : ℕ) → (n ≤ u) ⊎ (n ≤ v) → crossed_cell stride n n 0 0 u v ≡ v * stride + u
-    crossed_outside_corner stride u v past = elim past [ inl right ↦ grind (arith, nat_tests, right) | inr below ↦ grind (arith, nat_tests, below) ]
+module _ {T : Type 0} (w h : ℕ) (f : ℕ → ℕ → Option T) (square : w ≡ h) where
+  abbrev corner_pixel : ℕ → ℕ → ℕ → Option T
+  corner_pixel n x y = if nat_lt x n && nat_lt y n then (grid w h f).pixel y x else (grid w h f).pixel x y
 
-    cell_at : (u v : ℕ) → u < s.width → v < s.height → slice_get now (v * s.stride + u) ≡ slice_get old (crossed_cell s.stride n n 0 0 u v)
-    unfolding grid_of
-    cell_at u v column line =
-        sym (pixel_at (shaped now s) u v column line)
-        ∙ ap (λ g. g.pixel u v) shown
-        ∙ at_place s.width s.height (λ x y. if nat_lt x n && nat_lt y n then (shaped_grid old s).pixel y x else (shaped_grid old s).pixel x y) u v column line
-        ∙ elim (corner_cases n u v) [
-          | inl inside ↦
-              cond-true (nat_lt u n && nat_lt v n) _ _ (corner_true n u v inside.0 inside.1)
-              ∙ pixel_at (shaped old s) v u (omega (arith, line, square)) (omega (arith, column, square))
-              ∙ ap (slice_get old) (sym (crossed_inside s.stride u v inside.0 inside.1))
-          | inr past ↦
-              cond-false (nat_lt u n && nat_lt v n) _ _ (corner_false n u v past)
-              ∙ pixel_at (shaped old s) u v column line
-              ∙ ap (slice_get old) (sym (crossed_outside_corner s.stride u v past))
-        ]
+  crossed_pixel_at : (n u v : ℕ) → u < n → v < n → corner_pixel n u v ≡ (grid w h f).pixel v u
+  crossed_pixel_at n u v column line = cond-true (nat_lt u n && nat_lt v n) _ _ (corner_true n u v column line)
 
-    pub corner_cells : CrossedUpto n n 0 0 old now s
-    corner_cells = record { as_many = stays.length_stays; each = cell_at; others = stays.padding_stays }
+  same_pixel_at : (n u v : ℕ) → (n ≤ u) ⊎ (n ≤ v) → corner_pixel n u v ≡ (grid w h f).pixel u v
+  same_pixel_at n u v past = cond-false (nat_lt u n && nat_lt v n) _ _ (corner_false n u v past)
+
+  -- the corner is larger by the strip
+  pub corner_and_strip : (left right : ℕ) → left ≤ right → strip_crossed left right (corner_crossed left (grid w h f)) ≡ corner_crossed right (grid w h f)
+  corner_and_strip left right more =
+      same_grids w h (λ x y. if is_in_strip left right x y then (corner_crossed left (grid w h f)).pixel y x else (corner_crossed left (grid w h f)).pixel x y) (corner_pixel right)
+      (λ u v column line.
+      elim (strip_cases left right u v) [
+        | inl here ↦
+            cond-true (is_in_strip left right u v) _ _ (strip_true left right u v here.0 here.1 here.2)
+            ∙ at_place w h (corner_pixel left) v u (omega (arith, line, square)) (omega (arith, column, square))
+            ∙ same_pixel_at left v u (elim here.2 [ inl there ↦ inr there | inr there ↦ inl there ])
+            ∙ sym (crossed_pixel_at right u v here.0 here.1)
+        | inr (inl past) ↦
+            cond-false (is_in_strip left right u v) _ _ (strip_past left right u v past)
+            ∙ at_place w h (corner_pixel left) u v column line
+            ∙ same_pixel_at left u v (elim past [ inl there ↦ inl (omega (arith, there, more)) | inr there ↦ inr (omega (arith, there, more)) ])
+            ∙ sym (same_pixel_at right u v past)
+        | inr (inr before) ↦
+            cond-false (is_in_strip left right u v) _ _ (strip_before left right u v before.0 before.1)
+            ∙ at_place w h (corner_pixel left) u v column line
+            ∙ crossed_pixel_at left u v before.0 before.1
+            ∙ sym (crossed_pixel_at right u v (omega (arith, before.0, more)) (omega (arith, before.1, more)))
+      ])
+
+  -- all columns and rows
+  pub whole_corner : (n : ℕ) → w ≤ n → corner_crossed n (grid w h f) ≡ transposed (grid w h f)
+  unfolding transposed
+  whole_corner n all =
+      same_grids w h (corner_pixel n) (λ x y. (grid w h f).pixel y x) (λ u v column line. crossed_pixel_at n u v (omega (arith, column, all)) (omega (arith, line, square, all)))
+      ∙ (λ i. grid (square i) (sym square i) (λ x y. (grid w h f).pixel y x))
+
+  -- a strip of all columns and rows
+  pub whole_strip : (n : ℕ) → w ≤ n → strip_crossed 0 n (grid w h f) ≡ transposed (grid w h f)
+  unfolding transposed
+  whole_strip n all =
+      same_grids w h (λ x y. if is_in_strip 0 n x y then (grid w h f).pixel y x else (grid w h f).pixel x y) (λ x y. (grid w h f).pixel y x)
+      (λ u v column line. cond-true (is_in_strip 0 n u v) _ _ (strip_true 0 n u v (omega (arith, column, all)) (omega (arith, line, square, all)) (inl (omega arith))))
+      ∙ (λ i. grid (square i) (sym square i) (λ x y. (grid w h f).pixel y x))
+
+-- the first columns and rows have changed places, and the padding stays
+pub record CornerCrossed {T : Type 0} (upto : ℕ) (old new : List T) (s : Shape) : Type 0 where
+  pub shown : shaped_grid new s ≡ corner_crossed upto (shaped_grid old s)
+  pub outside : SameOutside (shaped old s) (shaped new s)
+
+module _ {T : Type 0} (s : Shape) (old now : List T) (upto : ℕ) (so : CornerCrossed upto old now s) (square : s.width ≡ s.height) where
+  -- one strip more
+  pub one_strip_more : (right : ℕ) (new : List T) → upto ≤ right → shaped_grid new s ≡ strip_crossed upto right (shaped_grid now s) → SameOutside (shaped now s) (shaped new s) → CornerCrossed right old new s
+  unfolding grid_of
+  one_strip_more right new more shown stays = record {
+    shown = shown ∙ ap (strip_crossed upto right) so.shown ∙ corner_and_strip s.width s.height (pixel (shaped old s)) square upto right more;
+    outside = outside_trans (shaped old s) (shaped now s) (shaped new s) so.outside stays;
+  }
+
+  -- all strips
+  pub all_strips : s.height ≤ upto → shaped_grid now s ≡ transposed (shaped_grid old s)
+  unfolding grid_of
+  all_strips all = so.shown ∙ whole_corner s.width s.height (pixel (shaped old s)) square upto (omega (arith, square, all))

@@ -1,5 +1,5 @@
 -- Blocks of 16 by 16 cells, and images that are read row by row.
-use Rattle.std.specs.Prelude.{ℕ, ◌+◌, ◌-◌, ◌*◌, ◌/◌, ◌%◌, Bool, true, false, ◌&&◌, ◌||◌, nat_lt, if◌then◌else◌}
+use Rattle.std.specs.Prelude.{ℕ, ◌+◌, ◌-◌, ◌*◌, ◌/◌, ◌%◌, Bool, true, false, ◌&&◌, ◌||◌, nat_lt, nat_le, if◌then◌else◌}
 use Rattle.image_model.specs.Grid.{Grid, grid, covers}
 
 -- where cell k of 256 comes from, once both halves are put together alternately
@@ -30,3 +30,11 @@ crossed_at left top g = grid g.width g.height (λ x y. if is_across left top x y
 -- so have the places of the first so many columns and rows
 abbrev pub corner_crossed : {T : Type 0} → ℕ → Grid T → Grid T
 corner_crossed upto g = grid g.width g.height (λ x y. if nat_lt x upto && nat_lt y upto then g.pixel y x else g.pixel x y)
+
+-- whether a place is in the columns from one to another, or across from them, where these columns and rows end together
+abbrev pub is_in_strip : ℕ → ℕ → ℕ → ℕ → Bool
+is_in_strip from upto x y = nat_lt x upto && nat_lt y upto && (nat_le from x || nat_le from y)
+
+-- such places have changed places with those across the diagonal
+abbrev pub strip_crossed : {T : Type 0} → ℕ → ℕ → Grid T → Grid T
+strip_crossed from upto g = grid g.width g.height (λ x y. if is_in_strip from upto x y then g.pixel y x else g.pixel x y)

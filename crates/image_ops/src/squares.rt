@@ -5,7 +5,7 @@ ghost use Rattle.image_model.specs.Grid.{patch, view};
 ghost use Rattle.image_model.specs.Layout.{Fits, SameOutside};
 ghost use Rattle.image_model.specs.Turns.{transposed};
 ghost use Rattle.image_shape.specs.Shape.{shape_width, shape_height, shape_stride, shaped_grid, shaped};
-ghost use Rattle.image_ops.specs.Blocks.{crossed_at, corner_crossed};
+ghost use Rattle.image_ops.specs.Blocks.{crossed_at, corner_crossed, strip_crossed};
 ghost use Rattle.image_ops.specs.Turned.{turned, turned_width};
 
 use crate::blocks::{block_shape, read_rows, transpose_block};
@@ -143,11 +143,40 @@ fn block_count<T>(cells: &[T], side: usize) -> usize
     }
 }
 
-/// Columns become rows, and rows columns, in place: each pixel changes places with the one across
-/// the diagonal, and the padding stays. The cells fit (`Shape::fits`), and the image is as wide as
-/// it is high.
+// From how many columns on blocks or strips may pay. A smaller square is near, and has no block that
+// pays.
+fn least_side<T>(cells: &[T]) -> usize
+    ensures { result ≤ 128 }
+{
+    match cells.first() {
+        Some(cell) => 16 * size_of_val(cell).min(8),
+        None => 128,
+    }
+}
+
+// Of the columns from `left` to `right` each pixel above the diagonal changes places with the one
+// across it.
+#[inline(always)]
 #[tactic(auto, using(crate::proofs::Diagonals::within))]
-pub fn transpose_square<T: Copy>(cells: &mut [T], shape: Shape)
+fn cross_strip<T: Copy>(cells: &mut [T], shape: Shape, left: usize, right: usize)
+    requires fits { Fits (shaped cells.old shape) }
+    requires square { shape_width shape ≡ shape_height shape }
+    requires inside { right ≤ shape_height shape }
+    ensures grid { shaped_grid cells.new shape
+        ≡ strip_crossed left right (shaped_grid cells.old shape) }
+    ensures outside { SameOutside (shaped cells.old shape) (shaped cells.new shape) }
+{
+    for y in 0..right {
+        for x in left.max(y + 1)..right {
+            swap_cells(cells, shape.cell(x, y), shape.cell(y, x));
+        }
+    }
+}
+
+// Columns become rows, and rows columns, by blocks and by strips. It isn't inlined, so that small
+// squares take no longer than without it.
+#[inline(never)]
+fn cross_square<T: Copy>(cells: &mut [T], shape: Shape)
     requires fits { Fits (shaped cells.old shape) }
     requires square { shape_width shape ≡ shape_height shape }
     ensures grid { shaped_grid cells.new shape ≡ transposed (shaped_grid cells.old shape) }
@@ -160,12 +189,25 @@ pub fn transpose_square<T: Copy>(cells: &mut [T], shape: Shape)
     let mut left = 16 * blocks;
     while left < side {
         let right = left + width.min(side - left);
-        for y in 0..right {
-            for x in left.max(y + 1)..right {
-                swap_cells(cells, shape.cell(x, y), shape.cell(y, x));
-            }
-        }
+        cross_strip(cells, shape, left, right);
         left = right;
+    }
+}
+
+/// Columns become rows, and rows columns, in place: each pixel changes places with the one across
+/// the diagonal, and the padding stays. The cells fit (`Shape::fits`), and the image is as wide as
+/// it is high.
+pub fn transpose_square<T: Copy>(cells: &mut [T], shape: Shape)
+    requires fits { Fits (shaped cells.old shape) }
+    requires square { shape_width shape ≡ shape_height shape }
+    ensures grid { shaped_grid cells.new shape ≡ transposed (shaped_grid cells.old shape) }
+    ensures outside { SameOutside (shaped cells.old shape) (shaped cells.new shape) }
+{
+    let side = shape.height();
+    if side < least_side(cells) {
+        cross_strip(cells, shape, 0, side);
+    } else {
+        cross_square(cells, shape);
     }
 }
 

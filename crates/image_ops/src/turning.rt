@@ -15,12 +15,15 @@ use crate::blocks::{block_shape, read_rows, transpose_block};
 use crate::windows::{exact_part, padded_part};
 use image_rows::row;
 use image_shape::{Shape, Window};
-use std::mem::size_of_val;
+use std::mem::{size_of, size_of_val};
 
-// How many columns are written at a time. A column of the target has the cells of a row of the
-// source, and a row of the target takes one cell from each of these rows. So their cells are still
-// in the nearest cache when the next row takes the cells beside them.
+// The least number of columns that are written at a time. A column of the target has the cells of a
+// row of the source, and a row of the target takes one cell from each of these rows. So their cells
+// are still in the nearest cache when the next row takes the cells beside them.
 const STRIP: usize = 64;
+
+// A source of so many bytes stays in the nearest cache, and needs no strips.
+const NEAR: usize = 28_672;
 
 // Each cell becomes a cell of the source, from cell `start` on and `step` cells further each time.
 fn gather<T: Copy>(cells: &mut [T], source: &[T], start: usize, step: usize)
@@ -261,18 +264,20 @@ fn blocks_pay<T>(source: &[T], shape: Shape) -> bool
     ensures high { IsTrue result → 16 ≤ shape_height shape }
 {
     let (width, height) = (shape.width(), shape.height());
+    if width < 16 || height < 16 {
+        return false;
+    }
     let Some(cell) = source.first() else {
         return false;
     };
-    if size_of_val(cell) != 1 || width < 16 || height < 16 {
+    if size_of_val(cell) != 1 {
         return false;
     }
     width == 16 || height == 16 || width + height >= 48
 }
 
 // Every pixel of `shape` in `cells` becomes the pixel of the source whose columns are rows, by
-// blocks or row by row. This and `quarter_pixels` are inlined, so that each turn has loops of its
-// own.
+// blocks or row by row.
 #[inline(always)]
 fn quarter_strip<T: Copy>(
     cells: &mut [T],
@@ -318,6 +323,35 @@ fn quarter_window<T: Copy>(
     quarter_strip(&mut cells[part], inner, source, source_shape, quarter);
 }
 
+// How many columns are at least written at a time. Where few rows share the lines of the cache, the
+// start of a strip takes as long as many of its pixels, and one row shares none.
+fn least_columns(height: usize) -> usize
+    ensures { 0 < result }
+{
+    match height {
+        0..=1 => usize::MAX,
+        2..=3 => 512,
+        4..=15 => 256,
+        _ => STRIP,
+    }
+}
+
+// How many columns are written at a time. The lines of the cache that have their pixels stay in the
+// nearest one at the stride of the source, or nearly so.
+fn strip_columns<T>(source: &[T], stride: usize, height: usize) -> usize
+    ensures { 0 < result }
+{
+    let least = least_columns(height);
+    let Some(cell) = source.first() else {
+        return least;
+    };
+    match stride.wrapping_mul(size_of_val(cell)).trailing_zeros() {
+        0..=7 => least.max(256),
+        8 => least.max(128),
+        _ => least,
+    }
+}
+
 // How many columns have a pixel: 0 where there is no row.
 fn column_count(shape: Shape) -> usize
     ensures rows { 0 < shape_height shape → result ≡ shape_width shape }
@@ -329,8 +363,46 @@ fn column_count(shape: Shape) -> usize
     }
 }
 
-// Every pixel of `shape` in `cells` becomes the pixel of the source whose columns are rows, a few
-// columns at a time; the padding stays.
+// Every pixel of `shape` in `cells` becomes the pixel of the source whose columns are rows, some
+// columns at a time; the padding stays. It isn't inlined, so that small images take no longer than
+// without it.
+#[inline(never)]
+fn quarter_strips<T: Copy>(
+    cells: &mut [T],
+    shape: Shape,
+    source: &[T],
+    source_shape: Shape,
+    quarter: Quarter,
+)
+    requires fits { Fits (shaped cells.old shape) }
+    requires source_fits { Fits (shaped source.now source_shape) }
+    requires columns { shape_width shape ≡ shape_height source_shape }
+    requires lines { shape_height shape ≡ shape_width source_shape }
+    ensures grid { shaped_grid cells.new shape
+        ≡ quartered quarter (shaped_grid source.now source_shape) }
+    ensures outside { SameOutside (shaped cells.old shape) (shaped cells.new shape) }
+{
+    let most = strip_columns(source, source_shape.stride(), shape.height());
+    if shape.width() <= most {
+        quarter_strip(cells, shape, source, source_shape, quarter);
+        return;
+    }
+    let (columns, lines) = (column_count(shape), shape.height());
+    let (source_width, source_height) = (source_shape.width(), source_shape.height());
+    let mut left = 0;
+    while left < columns {
+        let width = most.min(columns - left);
+        let top = first_row(quarter, source_height, left, width);
+        let rows = Window::new(0, top, source_width, width);
+        let (part, part_shape) = padded_part(source, source_shape, rows);
+        let strip = Window::new(left, 0, width, lines);
+        quarter_window(cells, shape, strip, part, part_shape, quarter);
+        left += width;
+    }
+}
+
+// Every pixel of `shape` in `cells` becomes the pixel of the source whose columns are rows; the
+// padding stays. This is inlined, so that a small image costs only the loops of its turn.
 #[inline(always)]
 fn quarter_pixels<T: Copy>(
     cells: &mut [T],
@@ -347,21 +419,10 @@ fn quarter_pixels<T: Copy>(
         ≡ quartered quarter (shaped_grid source.now source_shape) }
     ensures outside { SameOutside (shaped cells.old shape) (shaped cells.new shape) }
 {
-    if shape.width() <= STRIP {
-        quarter_strip(cells, shape, source, source_shape, quarter);
-        return;
-    }
-    let (columns, lines) = (column_count(shape), shape.height());
-    let (source_width, source_height) = (source_shape.width(), source_shape.height());
-    let mut left = 0;
-    while left < columns {
-        let width = STRIP.min(columns - left);
-        let top = first_row(quarter, source_height, left, width);
-        let rows = Window::new(0, top, source_width, width);
-        let (part, part_shape) = padded_part(source, source_shape, rows);
-        let strip = Window::new(left, 0, width, lines);
-        quarter_window(cells, shape, strip, part, part_shape, quarter);
-        left += width;
+    if source.len() * size_of::<T>() <= NEAR && !blocks_pay(source, shape) {
+        quarter_rows(cells, shape, source, source_shape, quarter);
+    } else {
+        quarter_strips(cells, shape, source, source_shape, quarter);
     }
 }
 
@@ -391,16 +452,30 @@ fn copy_long_back<T: Copy>(cells: &mut [T], source: &[T])
     copy_back(cells, source);
 }
 
-// The same of a row of any length: in a short one a call takes longer than the cells.
+// Whether a call pays for a row. In a short one it takes longer than the cells, and of cells of other
+// sizes the compiler makes no vector code.
+fn call_pays<T>(cells: &[T]) -> bool
+    ensures long { IsTrue result → 8 ≤ length cells.now }
+{
+    let Some(cell) = cells.first() else {
+        return false;
+    };
+    match size_of_val(cell) {
+        1 | 2 | 4 | 8 => cells.len() >= 8,
+        _ => false,
+    }
+}
+
+// The same of a row of any length.
 fn copy_row_back<T: Copy>(cells: &mut [T], source: &[T])
     requires as_many { length source.now ≡ length cells.old }
     ensures as_many { length cells.new ≡ length cells.old }
     ensures taken { AreGathered (λ k. length cells.old - 1 - k) source.now cells.new }
 {
-    if cells.len() < 8 {
-        copy_back(cells, source);
-    } else {
+    if call_pays(cells) {
         copy_long_back(cells, source);
+    } else {
+        copy_back(cells, source);
     }
 }
 

@@ -6,7 +6,7 @@ use Rattle.image_model.specs.Windows.{window, window_view}
 use Rattle.image_shape.specs.Shape.{shaped, shaped_grid}
 use Rattle.image_ops.specs.Quarters.{quartered, first_row}
 use Rattle.image_ops.proofs.Quarters.{one_strip_more, all_strips}
-use Rattle.image_ops.proofs.turning.quarter_pixels.Goals as goal
+use Rattle.image_ops.proofs.turning.quarter_strips.Goals as goal
 
 pub loop-left-preserved : goal.loop-left-preserved
 loop-left-preserved g c =
