@@ -51,6 +51,10 @@ module _ {T : Type 0} (size tile : ℕ) (some : 0 < size) (wide : 0 < tile) (old
     within = omega arith;
   }
 
+  -- all
+  pub all_pixels : (now : List T) (corner x : ℕ) → x ≡ length old → SpreadByUpto size tile old now corner x → IsSpreadBy size tile old now
+  all_pixels now corner x all so = record { as_many = so.as_many; each = λ k below. so.each k (omega (arith, below, all)) }
+
   pub no_tile : TilesSpread size tile old old 0
   no_tile = record { as_many = refl; going = λ _. no_pixel; done = λ none. record { as_many = refl; each = λ k below. absurd (omega (arith, below, none)) } }
 
@@ -85,6 +89,41 @@ module _ {T : Type 0} (size tile : ℕ) (some : 0 < size) (wide : 0 < tile) (old
       from = omega arith;
       within = omega arith;
     }
+
+    -- a cell of the first pixel of a tile stays
+    stays : (k : ℕ) → k < x + 1 → shown_column size tile x ≡ x → slice_get now k ≡ slice_get old (shown_column size tile k)
+    stays k upto own =
+        elim (cases_lt k x) [
+          | inl before ↦ so.each k before
+          | inr last ↦ let this : k ≡ x = omega (arith, upto, last) in ap (slice_get now) this ∙ so.others x (omega arith) ∙ ap (slice_get old) (sym own ∙ ap (shown_column size tile) (sym this))
+        ]
+
+    pub first_pixel_cell : x < corner + size → size ≤ tile * size → SpreadByUpto size tile old now corner (x + 1)
+    first_pixel_cell below room = record {
+      as_many = so.as_many;
+      each = λ k upto. stays k upto (shows_itself size tile so.pixel x some so.starts (omega (arith, so.at, so.from)) (omega (arith, so.at, below)));
+      others = λ k above. so.others k (omega (arith, above));
+      pixel = so.pixel;
+      starts = so.starts;
+      at = so.at;
+      from = omega (arith, so.from);
+      within = omega (arith, below, room);
+    }
+
+    -- so does the first cell of the next tile
+    pub next_tile_cell : x ≡ corner + tile * size → size ≤ tile * size → SpreadByUpto size tile old now x (x + 1)
+    next_tile_cell ends room =
+        let next = next_tile ends in
+        record {
+          as_many = so.as_many;
+          each = λ k upto. stays k upto (shows_itself size tile next.pixel x some next.starts (omega (arith, next.at)) (omega (arith, next.at, some)));
+          others = λ k above. so.others k (omega (arith, above));
+          pixel = next.pixel;
+          starts = next.starts;
+          at = next.at;
+          from = omega arith;
+          within = omega (arith, some, room);
+        }
 
     -- another pixel gets the cells of the one before it
     pub other_pixel : (value : T) → corner + size ≤ x → x < corner + tile * size → x < length old → value ≡ get_or now (x - size) value → SpreadByUpto size tile old (set now x value) corner (x + 1)

@@ -1,14 +1,14 @@
 //! Mosaics of cells in a shape: each tile gets the pixel at its corner.
 
-ghost use Rattle.std.specs.Prelude.{◌≡◌, ◌<◌, ◌≤◌, ◌+◌};
+ghost use Rattle.std.specs.Prelude.{◌≡◌, ◌<◌, ◌≤◌, ◌+◌, length};
 ghost use Rattle.image_model.specs.Layout.{Fits, SameOutside};
 ghost use Rattle.image_model.specs.Grid.{grid_of};
+ghost use Rattle.image_model.specs.Shifts.{shifted};
 ghost use Rattle.image_shape.specs.Shape.{shaped};
 ghost use Rattle.image_ops.specs.Mosaic.{mosaic_by, IsSpread, IsSpreadBy};
 
 use crate::fill::fill_cells;
-use crate::repeating::repeat_row;
-use image_shape::Shape;
+use image_shape::{Shape, Stretch};
 use std::mem::size_of_val;
 
 // From this width on a tile's part of a row is filled by one call.
@@ -31,6 +31,15 @@ fn spread_by_cells<T: Copy>(row: &mut [T], tile_width: usize)
         }
         row[x] = pixel;
     }
+}
+
+// The same in a function of its own, for what the blocks of each length leave.
+#[inline(never)]
+fn spread_rest<T: Copy>(row: &mut [T], tile_width: usize)
+    requires tile_width { 0 < tile_width }
+    ensures { IsSpread tile_width row.old row.new }
+{
+    spread_by_cells(row, tile_width);
 }
 
 // The same for tiles of two cells: the second becomes the first.
@@ -65,11 +74,11 @@ fn spread_by_blocks<T: Copy, const N: usize>(row: &mut [T], tile_width: usize)
         corner += tile_width;
     }
     row[corner] = pixel;
-    spread_by_cells(&mut row[corner..], tile_width);
+    spread_rest(&mut row[corner..], tile_width);
 }
 
 // The same for narrow tiles, by the shortest block of 4, 8 or 16 cells that has room for a tile.
-// Blocks are faster in rows of some tiles, and for cells of which a register holds several.
+// Blocks pay for cells of which a register holds several.
 fn spread_narrow<T: Copy>(row: &mut [T], tile_width: usize)
     requires several { 1 < tile_width }
     requires narrow { tile_width < 16 }
@@ -77,8 +86,8 @@ fn spread_narrow<T: Copy>(row: &mut [T], tile_width: usize)
 {
     if tile_width == 2 {
         spread_pairs(row);
-    } else if row.len() < 4 * tile_width || !matches!(size_of_val(&row[0]), 1 | 2 | 4) {
-        spread_by_cells(row, tile_width);
+    } else if row.len() < tile_width || !matches!(size_of_val(&row[0]), 1 | 2 | 4) {
+        spread_rest(row, tile_width);
     } else if tile_width <= 4 {
         spread_by_blocks::<T, 4>(row, tile_width);
     } else if tile_width <= 8 {
@@ -104,15 +113,30 @@ fn spread_by_tiles<T: Copy>(row: &mut [T], tile_width: usize)
 
 // Each pixel of so many cells becomes the first one of its tile. A pixel that isn't the first gets
 // the cells of the one before it.
-//
-// It isn't inlined: beside the loops for cells, none of them would have enough registers.
-#[inline(never)]
 fn spread_by_pixels<T: Copy>(row: &mut [T], size: usize, tile_width: usize)
     requires size { 0 < size }
     requires tile_width { 0 < tile_width }
     ensures { IsSpreadBy size tile_width row.old row.new }
 {
     let tile = tile_width.saturating_mul(size);
+    let mut corner = 0;
+    for x in 0..row.len() {
+        if x - corner == tile {
+            corner = x;
+        } else if x - corner >= size {
+            row[x] = row[x - size];
+        }
+    }
+}
+
+// The same by a loop for each tile, with no test of a cell. That is faster in wide rows.
+#[inline(never)]
+fn spread_tiles_of_pixels<T: Copy>(row: &mut [T], size: usize, tile_width: usize)
+    requires size { 0 < size }
+    requires tile_width { 0 < tile_width }
+    ensures { IsSpreadBy size tile_width row.old row.new }
+{
+    let tile = size.saturating_mul(tile_width);
     let mut corner = 0;
     while corner < row.len() {
         let len = tile.min(row.len() - corner);
@@ -123,8 +147,12 @@ fn spread_by_pixels<T: Copy>(row: &mut [T], size: usize, tile_width: usize)
     }
 }
 
-// The same, by what is faster for such tiles. A tile of one pixel shows that pixel.
-fn spread<T: Copy>(row: &mut [T], size: usize, tile_width: usize)
+// The same for wide rows, wide tiles and tiles of one pixel, by what is faster for such tiles. A tile
+// of one pixel shows that pixel.
+//
+// It isn't inlined: it would take registers from the loop over rows.
+#[inline(never)]
+fn spread_wide<T: Copy>(row: &mut [T], size: usize, tile_width: usize)
     requires size { 0 < size }
     requires tile_width { 0 < tile_width }
     ensures { IsSpreadBy size tile_width row.old row.new }
@@ -132,12 +160,98 @@ fn spread<T: Copy>(row: &mut [T], size: usize, tile_width: usize)
     if tile_width == 1 {
         return;
     }
-    if size > 1 {
-        spread_by_pixels(row, size, tile_width);
+    if size >= 2 {
+        spread_tiles_of_pixels(row, size, tile_width);
     } else if tile_width < FILLED_WIDTH {
         spread_narrow(row, tile_width);
     } else {
         spread_by_tiles(row, tile_width);
+    }
+}
+
+// The same for any row, which is taken for a wide one or not.
+#[inline(always)]
+fn spread<T: Copy>(row: &mut [T], size: usize, tile_width: usize, wide: bool)
+    requires size { 0 < size }
+    requires tile_width { 0 < tile_width }
+    ensures { IsSpreadBy size tile_width row.old row.new }
+{
+    if wide {
+        spread_wide(row, size, tile_width);
+    } else if size > 1 {
+        spread_by_pixels(row, size, tile_width);
+    } else {
+        spread_by_cells(row, tile_width);
+    }
+}
+
+// Whether rows of so many cells are taken for wide ones: a call for each pays. Both ways give the same.
+fn are_wide<T>(cells: &[T], width: usize, size: usize, tile_width: usize) -> bool {
+    if tile_width == 1 {
+        return true;
+    }
+    if size >= 2 {
+        return width >= 32 && (size >= 3 || tile_width >= 3);
+    }
+    if tile_width == 2 {
+        return width >= 8;
+    }
+    if tile_width >= FILLED_WIDTH {
+        return true;
+    }
+    let Some(cell) = cells.first() else {
+        return false;
+    };
+    width >= 24 && width / 4 >= tile_width && matches!(size_of_val(cell), 1 | 2 | 4)
+}
+
+// Copies a row. It isn't inlined: of two parts of one list the compiler doesn't know that they don't
+// overlap, and would make a second loop over rows for it.
+#[inline(never)]
+fn copy_cells<T: Copy>(cells: &mut [T], source: &[T])
+    requires as_many { length cells.old ≡ length source.now }
+    ensures { cells.new ≡ source.now }
+{
+    cells.copy_from_slice(source);
+}
+
+// The same as `repeating::repeat_row`, by that call.
+#[inline(always)]
+fn copy_down<T: Copy>(cells: &mut [T], row: Stretch, target: usize)
+    requires apart { row.start + row.len ≤ target }
+    requires target { target + row.len ≤ length cells.old }
+    ensures { cells.new ≡ shifted cells.old row.start row.len target }
+{
+    let (front, back) = cells.split_at_mut(target);
+    copy_cells(&mut back[..row.len], &front[row.range()]);
+}
+
+// Each row of the image becomes that of its mosaic. The compiler makes a loop for rows that are taken
+// for wide ones, and another for those that aren't.
+#[inline(never)]
+fn mosaic_rows<T: Copy>(
+    cells: &mut [T],
+    shape: Shape,
+    size: usize,
+    tile_width: usize,
+    tile_height: usize,
+    wide: bool,
+)
+    requires fits { Fits (shaped cells.old shape) }
+    requires size { 0 < size }
+    requires tile_width { 0 < tile_width }
+    requires tile_height { 0 < tile_height }
+    ensures grid { grid_of (shaped cells.new shape)
+        ≡ mosaic_by size tile_width tile_height (grid_of (shaped cells.old shape)) }
+    ensures outside { SameOutside (shaped cells.old shape) (shaped cells.new shape) }
+{
+    for y in 0..shape.row_count() {
+        let row = shape.row(cells.len(), y);
+        if y % tile_height == 0 {
+            spread(&mut cells[row.range()], size, tile_width, wide);
+        } else {
+            copy_down(cells, shape.row_above(row), row.start);
+        }
     }
 }
 
@@ -169,12 +283,6 @@ pub fn mosaic_cells<T: Copy>(
     if tile_width == 1 && tile_height == 1 {
         return;
     }
-    for y in 0..shape.row_count() {
-        let row = shape.row(cells.len(), y);
-        if y % tile_height == 0 {
-            spread(&mut cells[row.range()], size, tile_width);
-        } else {
-            repeat_row(cells, shape.row_above(row), row.start);
-        }
-    }
+    let wide = are_wide(cells, shape.width(), size, tile_width);
+    mosaic_rows(cells, shape, size, tile_width, tile_height, wide);
 }

@@ -22,4 +22,4 @@ loop-row-preserved g c =
 
 pub returns : goal.returns
 returns g c =
-    end_spread c.args.tile_width c.requires.tile_width c.args.row.now c.loop-row.row c.loop-row.corner c.loop-row.pixel c.loop-row.invariant c.spread_by_cells.new.row c.spread_by_cells.ensures
+    end_spread c.args.tile_width c.requires.tile_width c.args.row.now c.loop-row.row c.loop-row.corner c.loop-row.pixel c.loop-row.invariant c.spread_rest.new.row c.spread_rest.ensures

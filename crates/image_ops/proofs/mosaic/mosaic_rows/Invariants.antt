@@ -1,6 +1,6 @@
 -- The rows so far show the mosaic.
 use Rattle.image_ops.proofs.Mosaics.{Shown}
-use Rattle.image_ops.proofs.mosaic.mosaic_cells.Given as goal
+use Rattle.image_ops.proofs.mosaic.mosaic_rows.Given as goal
 
 abbrev pub invariant-loop-y : goal.invariant-loop-y
 invariant-loop-y g l = Shown l.initial.cells l.shape l.size l.tile_width l.tile_height l.cells l.y
