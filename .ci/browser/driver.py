@@ -23,6 +23,8 @@ CHANGE = """const it = document.getElementById(arguments[0]); it.value = argumen
 for (const kind of ["input", "change"]) { it.dispatchEvent(new Event(kind, { bubbles: true })); }"""
 # How long something is waited for, in seconds: the machine may be busy.
 PATIENCE = 60
+# The least time between two saved files, in seconds: of more than ten in a second Chromium drops the rest, and says nothing.
+PACE = 0.12
 ELEMENT = "element-6066-11e4-a52e-4f735466cecf"
 KEYS = {
     "Tab": "\ue004", "Shift": "\ue008", "Control": "\ue009", "Escape": "\ue00c", "Delete": "\ue017",
@@ -43,7 +45,7 @@ class Browser:
     """A session of a browser."""
 
     def __init__(self, driver, program, folder):
-        self.port_file, self.folder = folder / "driver.log", folder
+        self.port_file, self.folder, self.next_save = folder / "driver.log", folder, 0
         self.log = open(self.port_file, "w", encoding="utf-8")
         self.process = subprocess.Popen(
             [driver, "--port=0"], stdin=subprocess.DEVNULL, stdout=self.log, stderr=self.log
@@ -162,22 +164,25 @@ class Browser:
             ) if it["level"] == "SEVERE"
         ]
 
-    def saved(self, name):
-        """The bytes of a file that the page saves, and removes it."""
+    def saved(self, name, selector):
+        """The bytes of a file that the page saves after a click, and removes it."""
+        time.sleep(max(0, self.next_save - time.monotonic()))
+        self.next_save = time.monotonic() + PACE
+        self.run("document.querySelector(arguments[0]).click()", selector)
         path = self.folder / name
-        data = until(lambda: path.exists() and path.read_bytes())
+        data = until(lambda: path.exists() and path.read_bytes(), f"for {name}")
         path.unlink()
         return data
 
 
-def until(tells):
+def until(tells, what=""):
     """What a function gives as soon as it gives something."""
     ends = time.monotonic() + PATIENCE
     while time.monotonic() < ends:
         if value := tells():
             return value
         time.sleep(0.02)
-    raise RuntimeError("waited in vain")
+    raise RuntimeError(f"waited in vain {what}".strip())
 
 
 @contextlib.contextmanager

@@ -88,8 +88,7 @@ class Page:
         return self.browser.run("return document.getElementById('text').value")
 
     def save(self, name="page"):
-        self.browser.run("document.getElementById('save').click()")
-        data = self.browser.saved(f"{name}-covered.png")
+        data = self.browser.saved(f"{name}-covered.png", "#save")
         until(lambda: self.status().startswith("Saved"))
         return data
 
