@@ -5,6 +5,7 @@ use Rattle.std.specs.Str.{all_ascii_digits}
 use Rattle.std.specs.Str.Parse.{digits_value}
 use Rattle.std.proofs.lemmas.Bool.Decides.{nat_tests}
 use Rattle.std.proofs.lemmas.Int.Digits.{digits_value_more}
+use Rattle.std.proofs.lemmas.Str.Parse.{digits_value-take-le}
 use Rattle.text_model.specs.Reading.{digits_of}
 use Rattle.texts.specs.Digits.{IsDigit}
 
@@ -46,3 +47,10 @@ value_is b digit =
 -- one digit more
 pub value_more : (n value : ℕ) (xs : List ℕ) → n < length xs → IsDigit (get_or xs n 0) → digits_value 10 (take n xs) ≡ value → digits_value 10 (take (n + 1) xs) + 48 ≡ value * 10 + get_or xs n 0
 value_more n value xs long digit is = omega (arith, digits_value_more 10 xs n long, value_is (get_or xs n 0) digit)
+
+-- digits whose value is no usize, whatever follows
+pub too_great : (n : ℕ) (xs : List ℕ) → 2 ^ 64 ≤ digits_value 10 (take n xs) → digits_of xs ≡ None
+unfolding digits_of
+too_great n xs great =
+    let whole = digits_value-take-le 10 xs n (omega arith) in
+    grind (arith, nat_tests)

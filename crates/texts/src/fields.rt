@@ -1,6 +1,6 @@
 //! Fields: pieces of text that denote a number, a pixel or a window.
 
-ghost use Rattle.std.specs.Prelude.{◌≡◌, ◌≢◌, ◌≤◌, ◌-◌, ℕ, List, Option, slice_index};
+ghost use Rattle.std.specs.Prelude.{◌≡◌, ◌+◌, ◌*◌, ◌^◌, ◌<◌, ◌≤◌, ℕ, List, Option, Some, None};
 ghost use Rattle.text_model.specs.Reading.{Finds, digits_of, number_of, pixel_of, window_of, first_of_parts};
 ghost use Rattle.texts.specs.Parts.{parts_left};
 
@@ -53,7 +53,6 @@ impl Field for usize {
 // most three digits, and the library's `parse` asks of each byte more than that it is one.
 #[tactic(auto, unfolding(text_model::specs::Reading::digits_of))]
 fn digits(piece: &[u8]) -> Option<usize>
-    requires { slice_index piece.now 0 ≢ 43 }
     ensures { result ≡ digits_of piece.now }
 {
     match piece {
@@ -66,46 +65,40 @@ fn digits(piece: &[u8]) -> Option<usize>
     }
 }
 
-// A number is read digit by digit while it is less: then one digit more can't make it too great.
-const LONG: usize = 100_000_000_000_000_000;
+// A number that is less has room for one digit more.
+const LONG: usize = 1_000_000_000_000_000_000;
 
-// So many digits are read so. A longer piece would be read twice.
-const DIGITS: usize = 18;
+// The number with one digit more, where that is a `usize`.
+#[inline(always)]
+fn with_digit(number: usize, digit: usize) -> Option<usize>
+    requires { digit < 10 }
+    ensures too_great { result ≡ None → 2 ^ 64 ≤ number * 10 + digit }
+    ensures value { (more : ℕ) → result ≡ Some more → more ≡ number * 10 + digit }
+    ensures small { (more : ℕ) → result ≡ Some more → more < 2 ^ 64 }
+{
+    if number < LONG {
+        Some(number * 10 + digit)
+    } else {
+        number.checked_mul(10)?.checked_add(digit)
+    }
+}
 
 // The same of any number of digits. To see them as a text first and parse that takes four times as
 // long, and coordinates of large images have four digits.
 fn more_digits(piece: &[u8]) -> Option<usize>
-    requires { slice_index piece.now 0 ≢ 43 }
     ensures { result ≡ digits_of piece.now }
 {
-    if piece.len() > DIGITS {
-        return any_digits(piece);
-    }
     let mut number = 0;
     for byte in piece {
         if !byte.is_ascii_digit() {
             return None;
         }
-        if number >= LONG {
-            return any_digits(piece);
-        }
-        number = number * 10 + value(*byte);
+        number = with_digit(number, value(*byte))?;
     }
     if piece.is_empty() {
         return None;
     }
     Some(number)
-}
-
-// The same of any number of digits, as the library reads them.
-fn any_digits(piece: &[u8]) -> Option<usize>
-    requires { slice_index piece.now 0 ≢ 43 }
-    ensures { result ≡ digits_of piece.now }
-{
-    match str::from_utf8(piece) {
-        Ok(text) => text.parse().ok(),
-        Err(_) => None,
-    }
 }
 
 /// A pixel: a number up to 255.

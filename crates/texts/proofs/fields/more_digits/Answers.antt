@@ -1,10 +1,10 @@
-use Rattle.std.proofs.Common.{◌≡◌, ℕ, false, get_or, take_all, ap, sym, ◌∙◌, arith}
+use Rattle.std.proofs.Common.{◌≡◌, ◌+◌, ℕ, false, get_or, take_all, ap, sym, ◌∙◌, arith}
 use Rattle.std.specs.Char.{is_ascii_digit}
 use Rattle.std.specs.Str.Parse.{digits_value}
 use Rattle.std.proofs.lemmas.Bool.Decides.{nat_tests}
 use borrow.Author.Count.{below_more}
 use Rattle.texts.specs.Digits.{IsDigit}
-use Rattle.texts.proofs.LongNumbers.{digits_are, digits_are_not, no_digits, value_more}
+use Rattle.texts.proofs.LongNumbers.{digits_are, digits_are_not, no_digits, too_great, value_more}
 use Rattle.texts.proofs.fields.more_digits.Goals as goal
 
 pub returns-then-not-is_ascii_digit : goal.returns-then-not-is_ascii_digit
@@ -13,15 +13,26 @@ returns-then-not-is_ascii_digit c =
     let other : is_ascii_digit (get_or c.args.piece.now at 0) ≡ false = cc in
     sym (digits_are_not at c.args.piece.now c.loop-byte-test.true other)
 
+pub returns-in_err-number : goal.returns-in_err-number
+returns-in_err-number c =
+    let l = c.loop-byte in
+    let piece = c.args.piece.now in
+    let digit : IsDigit (get_or piece l.byte-index 0) = record { low = grind (arith, nat_tests); high = grind (arith, nat_tests) } in
+    let more = value_more l.byte-index l.number piece c.loop-byte-test.true digit l.invariant.value in
+    let great = c.with_digit.ensures.too_great (c.in_err-number.was) in
+    c.from_residual.ensures ∙ sym (too_great (l.byte-index + 1) piece (omega (arith, more, great)))
+
 pub loop-byte-preserved : goal.loop-byte-preserved
 loop-byte-preserved c =
     let l = c.loop-byte in
     let piece = c.args.piece.now in
     let digit : IsDigit (get_or piece l.byte-index 0) = record { low = grind (arith, nat_tests); high = grind (arith, nat_tests) } in
+    let more = value_more l.byte-index l.number piece c.loop-byte-test.true digit l.invariant.value in
+    let is = c.with_digit.ensures.value c.in_ok-number.number c.in_ok-number.was in
     record {
       digits = below_more (λ (k : ℕ). IsDigit (get_or piece k 0)) l.byte-index l.invariant.digits digit;
-      value = omega (arith, value_more l.byte-index l.number piece c.loop-byte-test.true digit l.invariant.value);
-      small = omega arith;
+      value = omega (arith, more, is);
+      small = c.with_digit.ensures.small c.in_ok-number.number c.in_ok-number.was;
     }
 
 pub returns-then-is_empty : goal.returns-then-is_empty
