@@ -21,5 +21,6 @@ pub(crate) fn fewest_rows(first: Shape, second: Shape) -> (Shape, Shape)
             return (joined, joined);
         }
     }
-    (first, second)
+    // With the size of the first the compiler knows that rows of both are equally long.
+    (first, Shape::new(width, first.height(), second.stride()))
 }
