@@ -1,6 +1,6 @@
 //! Mosaics of cells in a shape: each tile gets the pixel at its corner.
 
-ghost use Rattle.std.specs.Prelude.{◌≡◌, ◌<◌, ◌≤◌, ◌+◌, length};
+ghost use Rattle.std.specs.Prelude.{◌≡◌, ◌<◌, ◌≤◌, ◌+◌, ◌%◌, length};
 ghost use Rattle.image_model.specs.Layout.{Fits, SameOutside};
 ghost use Rattle.image_model.specs.Grid.{grid_of};
 ghost use Rattle.image_model.specs.Shifts.{shifted};
@@ -226,7 +226,18 @@ fn copy_down<T: Copy>(cells: &mut [T], row: Stretch, target: usize)
     copy_cells(&mut back[..row.len], &front[row.range()]);
 }
 
-// Each row of the image becomes that of its mosaic. The compiler makes a loop for rows that are taken
+// The line of a tile that comes after a line, from the first one again after the last.
+#[inline(always)]
+fn next_line(line: usize, tile_height: usize) -> usize
+    requires { line < tile_height }
+    ensures { result ≡ (line + 1) % tile_height }
+{
+    let next = line + 1;
+    if next == tile_height { 0 } else { next }
+}
+
+// Each row of the image becomes that of its mosaic. The line of its tile is counted: a remainder for
+// each row takes longer than the copy of a short row. The compiler makes a loop for rows that are taken
 // for wide ones, and another for those that aren't.
 #[inline(never)]
 fn mosaic_rows<T: Copy>(
@@ -245,13 +256,15 @@ fn mosaic_rows<T: Copy>(
         ≡ mosaic_by size tile_width tile_height (grid_of (shaped cells.old shape)) }
     ensures outside { SameOutside (shaped cells.old shape) (shaped cells.new shape) }
 {
+    let mut line = 0;
     for y in 0..shape.row_count() {
         let row = shape.row(cells.len(), y);
-        if y % tile_height == 0 {
+        if line == 0 {
             spread(&mut cells[row.range()], size, tile_width, wide);
         } else {
             copy_down(cells, shape.row_above(row), row.start);
         }
+        line = next_line(line, tile_height);
     }
 }
 

@@ -1,9 +1,13 @@
 -- One row more, by the row of the tile that it is.
-use Rattle.std.proofs.Common.{◌<◌, ◌%◌, arith, ◌∙◌}
+use Rattle.std.proofs.Common.{◌≡◌, ◌+◌, ◌<◌, ◌%◌, arith, ap, ◌∙◌}
+use Rattle.std.proofs.Math.Nat.{mod-lt, mod-add-mod}
 use Rattle.image_model.specs.Rows.{row_count}
 use Rattle.image_ops.proofs.RowsWritten.{row_range}
 use Rattle.image_ops.proofs.Mosaics.{row_spread, row_repeated, mosaic_shown}
 use Rattle.image_ops.proofs.mosaic.mosaic_rows.Goals as goal
+
+pub next_line-line-requires : goal.next_line-line-requires
+next_line-line-requires g c = rw c.loop-y.invariant.line (mod-lt c.loop-y.y c.requires.tile_height)
 
 pub loop-y-preserved : goal.loop-y-preserved
 loop-y-preserved g c =
@@ -13,16 +17,21 @@ loop-y-preserved g c =
     let tw = c.args.tile_width in
     let th = c.args.tile_height in
     let row = c.row-row in
+    let so = c.loop-y.invariant in
     let below : y < row_count s.width s.height = omega (arith, c.row_count-y-end.ensures.value, c.loop-y-test.true) in
-    elim c.if-y-tile_height-eq0.branch [
-      | goal.then-y-tile_height-eq0 w ↦
-          rw w.cells-is (row_spread old s c.args.size tw th c.loop-y.cells y c.loop-y.invariant c.requires.fits below _ _ (row_range s y w.range.ensures.start w.range.ensures.end row.ensures.start row.ensures.len) w.spread.new.row w.if-y-tile_height-eq0.true w.spread.ensures)
-      | goal.else-y-tile_height-eq0 w ↦
-          let later : 0 < y % th = omega (arith, w.if-y-tile_height-eq0.false) in
-          let above = w.row_above in
-          rw (w.cells-is, w.copy_down.ensures) (row_repeated old s c.args.size tw th c.loop-y.cells y c.loop-y.invariant c.requires.fits below above.result row.result c.requires.tile_height later above.ensures.start (above.ensures.len ∙ row.ensures.len) row.ensures.start)
-    ]
+    record {
+      shown = elim c.if-line-eq0.branch [
+        | goal.then-line-eq0 w ↦
+            let first : y % th ≡ 0 = omega (arith, so.line, w.if-line-eq0.true) in
+            rw w.cells-is (row_spread old s c.args.size tw th c.loop-y.cells y so.shown c.requires.fits below _ _ (row_range s y w.range.ensures.start w.range.ensures.end row.ensures.start row.ensures.len) w.spread.new.row first w.spread.ensures)
+        | goal.else-line-eq0 w ↦
+            let later : 0 < y % th = omega (arith, so.line, w.if-line-eq0.false) in
+            let above = w.row_above in
+            rw (w.cells-is, w.copy_down.ensures) (row_repeated old s c.args.size tw th c.loop-y.cells y so.shown c.requires.fits below above.result row.result c.requires.tile_height later above.ensures.start (above.ensures.len ∙ row.ensures.len) row.ensures.start)
+      ];
+      line = c.next_line-line.ensures ∙ ap (λ k. (k + 1) % th) so.line ∙ mod-add-mod y th 1;
+    }
 
 pub returns-clause-grid : goal.returns-clause-grid
 returns-clause-grid g c =
-    mosaic_shown c.args.cells.now c.args.shape c.args.size c.args.tile_width c.args.tile_height c.loop-y.cells c.loop-y.y c.loop-y.invariant (omega (arith, c.row_count-y-end.ensures.value))
+    mosaic_shown c.args.cells.now c.args.shape c.args.size c.args.tile_width c.args.tile_height c.loop-y.cells c.loop-y.y c.loop-y.invariant.shown (omega (arith, c.row_count-y-end.ensures.value))
