@@ -75,12 +75,13 @@ fn reverse_few<T: Copy>(row: &mut [T])
     }
 }
 
-// The cells in the opposite order. Blocks of a few cells would take longer than their pairs.
-fn reverse_row<T: Copy>(row: &mut [T])
+// The cells in the opposite order: a few of them pair by pair, and more by blocks.
+#[inline(always)]
+fn reverse_row<T: Copy, const FEW: bool>(row: &mut [T])
     ensures as_many { length row.new ≡ length row.old }
     ensures turned { AreGathered (λ x. length row.old - 1 - x) row.old row.new }
 {
-    if row.len() < 8 {
+    if FEW {
         reverse_few(row);
         return;
     }
@@ -93,6 +94,20 @@ fn reverse_row<T: Copy>(row: &mut [T])
     }
 }
 
+// In each row the first pixel changes places with the last, and so on. It isn't inlined: the loop
+// for rows of a few pixels would take registers from the other one.
+#[inline(never)]
+fn reverse_rows<T: Copy, const FEW: bool>(cells: &mut [T], shape: Shape)
+    requires fits { Fits (shaped cells.old shape) }
+    ensures grid { shaped_grid cells.new shape ≡ mirrored (shaped_grid cells.old shape) }
+    ensures outside { SameOutside (shaped cells.old shape) (shaped cells.new shape) }
+{
+    for y in 0..shape.row_count() {
+        let row = shape.row(cells.len(), y);
+        reverse_row::<T, FEW>(&mut cells[row.range()]);
+    }
+}
+
 /// In each row the first pixel changes places with the last, and so on; the padding stays. The
 /// cells must fit; `Shape::fits` tests it.
 pub fn flip_columns<T: Copy>(cells: &mut [T], shape: Shape)
@@ -100,9 +115,11 @@ pub fn flip_columns<T: Copy>(cells: &mut [T], shape: Shape)
     ensures grid { shaped_grid cells.new shape ≡ mirrored (shaped_grid cells.old shape) }
     ensures outside { SameOutside (shaped cells.old shape) (shaped cells.new shape) }
 {
-    for y in 0..shape.row_count() {
-        let row = shape.row(cells.len(), y);
-        reverse_row(&mut cells[row.range()]);
+    // Blocks of fewer pixels would take longer than their pairs.
+    if shape.width() < 8 {
+        reverse_rows::<T, true>(cells, shape);
+    } else {
+        reverse_rows::<T, false>(cells, shape);
     }
 }
 

@@ -7,7 +7,7 @@ use Rattle.image_shape.specs.Shape.{shaped}
 use Rattle.image_ops.specs.Gathered.{AreGathered}
 use Rattle.image_ops.proofs.Crossing.{row_from, from_rows}
 use Rattle.image_ops.proofs.RowsWritten.{row_range, row_length, row_written, shows_table}
-use Rattle.image_ops.proofs.flipping.flip_columns.Goals as goal
+use Rattle.image_ops.proofs.flipping.reverse_rows.Goals as goal
 
 pub loop-y-preserved : goal.loop-y-preserved
 loop-y-preserved g c =
