@@ -24,3 +24,4 @@ pub mod Shuffles
 pub mod QuarterBlocks
 pub mod SquareBlocks
 pub mod BlockSpreading
+pub mod CountedUpto

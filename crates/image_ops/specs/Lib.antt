@@ -11,3 +11,4 @@ pub mod Turned
 pub mod Repeated
 pub mod Quarters
 pub mod Blocks
+pub mod Counting

@@ -1,5 +1,5 @@
-//! Calls on all cells in a shape. They give windows, compare, hash, and copy without padding. They
-//! fill, copy and map pixels, make mosaics, and move pixels in place.
+//! Calls on all cells in a shape. They give windows, compare, count, hash, and copy without padding.
+//! They fill, copy and map pixels, make mosaics, and move pixels in place.
 //!
 //! Cells are a slice or a `Vec`, and a [`Shape`](image_shape::Shape) says where the rows of the
 //! image are in them. The crate hides the loops over rows, and that shifts of a
@@ -9,6 +9,7 @@
 mod blocks;
 mod clones;
 mod copy;
+mod counting;
 mod equality;
 mod fill;
 mod flipping;
@@ -29,6 +30,7 @@ mod windows;
 
 pub use clones::{cloned, contiguous, joined_clones};
 pub use copy::copy_pixels;
+pub use counting::count_pixels;
 pub use equality::{are_equal, are_equal_fitting};
 pub use fill::{fill_cells, fill_pixels};
 pub use flipping::{flip_columns, flip_rows, swap_columns};

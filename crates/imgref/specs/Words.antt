@@ -13,6 +13,7 @@ pub use Rattle.image_model.specs.Boxes.{IsNowhere, IsBoundingBox, sides, sides_u
 pub use Rattle.image_model.specs.Folds.{fold_upto}
 pub use Rattle.image_model.specs.Counts.{histogram_of, counted}
 pub use Rattle.image_model.specs.Turns.{columns_swapped, mirrored, transposed, turned_right, turned_half, turned_left}
+pub use Rattle.image_ops.specs.Counting.{Decides, IsCount}
 pub use Rattle.image_ops.specs.Turned.{turned, turned_width, turned_height}
 pub use Rattle.image_shape.specs.Window.{as_window}
 pub use Rattle.image_shape.specs.Shape.{shaped, shape_width, shape_height}

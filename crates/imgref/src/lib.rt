@@ -20,6 +20,7 @@ mod by_place;
 mod containers;
 mod contiguous;
 mod copies;
+mod counts;
 mod cow;
 mod eqhash;
 mod img;

@@ -1,4 +1,4 @@
--- Counting: by steps of one that could overflow, where the whole count fits; and of pixels by their places.
+-- Counting pixels by their places.
 use Rattle.std.proofs.Common.{◌≡◌, refl, ℕ, ◌+◌, ◌<◌, ◌≤◌, ◌^◌, ◌%◌, arith, Bool, true, false, cond, List, [], ◌∷◌, length, map, Option, Some, None, ◌∙◌, sym, ap, count_by}
 use Rattle.std.proofs.Math.Nat.{mod-eq_of_lt}
 use Rattle.std.specs.List.{fold, filter_map, flat_map, range_with_len, cons_option}
@@ -7,26 +7,6 @@ use Rattle.image_model.specs.Grid.{Grid}
 use Rattle.image_model.specs.Rows.{table_row, row_count, grid_pixels}
 use Rattle.image_commands.specs.PlaceTests.{are_alike_pixels}
 use Rattle.image_commands.specs.Commands.{count_places}
-
-module _ {T : Type 0} (test : T → Bool) where
-  -- one more where the test holds
-  abbrev pub step : ℕ → T → ℕ
-  step count x = cond (test x) ((count + 1) % 2 ^ 64) count
-
-  -- nothing overflows below the limit
-  stepped : (x : T) (count : ℕ) → count + 1 < 2 ^ 64 → step count x ≡ count + cond (test x) 1 0
-  stepped x count small = grind (arith, mod-eq_of_lt)
-
-  at_most_one : (b : Bool) → cond b 1 0 ≤ 1
-  at_most_one true = omega arith
-  at_most_one false = omega arith
-
-  pub counted : (xs : List T) (count : ℕ) → count + length xs < 2 ^ 64 → fold step count xs ≡ fold (λ a x. a + cond (test x) 1 0) count xs
-  counted [] count small = refl
-  counted (x ∷ xs) count small =
-      ap (λ k. fold step k xs) (stepped x count (omega (arith, small))) ∙ counted xs (count + cond (test x) 1 0) (omega (arith, small, at_most_one (test x)))
-
--- ---- pixels by their places
 
 module _ {T : Type 0} (eq : T → T → Bool) (value : T) where
   abbrev add : ℕ → T → ℕ

@@ -2,7 +2,6 @@
 #![tactic(auto)]
 
 mod copy;
-mod counting;
 mod path;
 mod run;
 mod step;

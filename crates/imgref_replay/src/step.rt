@@ -1,8 +1,9 @@
 //! One command: it runs over images, or is refused for its first fault.
 
-ghost use Rattle.std.specs.Prelude.{◌≡◌, ◌<◌, ◌+◌, ◌^◌, ◌∷◌, ◌++◌, [], List, IfOk, OnOk, length};
+ghost use Rattle.std.specs.Prelude.{◌≡◌, ◌<◌, ◌+◌, ◌^◌, ◌∷◌, ◌++◌, [], List, IfOk, OnOk, length, count_by};
 ghost use Rattle.std.specs.Result.{result_err};
 ghost use Rattle.image_model.specs.Layout.{Layout, Fits};
+ghost use Rattle.image_model.specs.Rows.{grid_pixels};
 ghost use Rattle.imgref.specs.Image.{ref_grid, ref_layout};
 ghost use Rattle.imgref.specs.Window.{as_window};
 ghost use Rattle.imgref.specs.Lists.{AllFit, layouts_of, grids_of};
@@ -11,7 +12,6 @@ ghost use Rattle.imgref_replay.specs.Step.{IsInsideOf, first_fault, IsStep};
 ghost use Rattle.imgref_replay.specs.Run.{IsRun};
 
 use crate::copy::copy_between;
-use crate::counting::count_equal;
 use crate::path::path_window;
 use image_commands::{Command, Place, Refusal, Reply};
 use imgref::{ImgRef, ImgVec, Window};
@@ -146,6 +146,14 @@ fn fill<T: Copy + Eq>(images: &mut [ImgVec<T>], spot: &Place, value: T) -> Answe
     let window = locate(images, spot)?;
     images[spot.image].fill_inside(window, value);
     Ok(Reply::Done)
+}
+
+/// The number of pixels of an image that are equal to the value.
+fn count_equal<T: Copy + Eq>(image: ImgRef<'_, T>, value: T) -> usize
+    requires { Fits (ref_layout image) }
+    ensures { result ≡ count_by (λ pixel. T.eq pixel value) (grid_pixels (ref_grid image.entry)) }
+{
+    image.count_where(|pixel| *pixel == value)
 }
 
 /// The number of pixels of a window that are equal to the value.

@@ -3,6 +3,7 @@
 ghost use Rattle.std.specs.Prelude.{◌≡◌, ◌+◌, ◌*◌, ◌∷◌, ◌++◌, ◌%◌, ◌≤◌, [], All, OnOk, map, codes, length, take};
 ghost use Rattle.std.specs.List.{flat_map};
 ghost use Rattle.std.specs.Fmt.{decimal};
+ghost use Rattle.std.specs.Io.{StartsWith};
 ghost use Rattle.image_model.specs.Layout.{Fits};
 ghost use Rattle.imgref.specs.Image.{vec_layout};
 ghost use Rattle.text_model.specs.Fields.{IsPixel};
@@ -82,8 +83,10 @@ fn place_pixel(block: &mut [u8], at: usize, pixel: u8) -> usize
 }
 
 // Adds a space and the text of a pixel.
+#[tactic(auto, using(text_model::proofs::Beginnings::beginnings))]
 fn push_pixel(text: &mut Vec<u8>, pixel: u8) -> Result<(), AllocError>
     ensures text { OnOk result (text.new.items ≡ text.old.items ++ 32 ∷ decimal pixel) }
+    ensures kept { StartsWith text.new.items text.old.items }
 {
     let mut block = [0; 4];
     let end = place_pixel(&mut block, 0, pixel);
@@ -91,9 +94,10 @@ fn push_pixel(text: &mut Vec<u8>, pixel: u8) -> Result<(), AllocError>
 }
 
 // Adds the text of a number.
-#[tactic(auto, using(crate::proofs::Digits::one_digit, crate::proofs::Digits::last_digit))]
+#[tactic(auto, using(crate::proofs::Digits::one_digit, crate::proofs::Digits::last_digit, text_model::proofs::Beginnings::beginnings))]
 fn push_number(text: &mut Vec<u8>, number: u64) -> Result<(), AllocError>
-    ensures { OnOk result (text.new.items ≡ text.old.items ++ decimal number) }
+    ensures text { OnOk result (text.new.items ≡ text.old.items ++ decimal number) }
+    ensures kept { StartsWith text.new.items text.old.items }
 {
     if number < 10 {
         return text.extend_from_slice(&[last_digit(number)]);
@@ -107,9 +111,11 @@ fn push_number(text: &mut Vec<u8>, number: u64) -> Result<(), AllocError>
 ///
 /// # Errors
 ///
-/// No memory was found. A part of the line may have been added.
+/// No memory was found. What was there before stays, and a part of the line may come after it.
+#[tactic(auto, using(text_model::proofs::Beginnings::beginnings))]
 pub fn push_reply(text: &mut Vec<u8>, reply: Reply<u8>) -> Result<(), AllocError>
-    ensures { OnOk result (text.new.items ≡ text.old.items ++ ended_line (reply_text reply)) }
+    ensures text { OnOk result (text.new.items ≡ text.old.items ++ ended_line (reply_text reply)) }
+    ensures kept { StartsWith text.new.items text.old.items }
 {
     match reply {
         Reply::Pixel(value) => {
@@ -148,9 +154,11 @@ fn place_cells(block: &mut [u8], cells: &[u8]) -> usize
     end
 }
 
+#[tactic(auto, using(text_model::proofs::Beginnings::beginnings))]
 fn push_cells(text: &mut Vec<u8>, cells: &[u8]) -> Result<(), AllocError>
     ensures text { OnOk result
         (text.new.items ≡ text.old.items ++ flat_map (λ cell. 32 ∷ decimal cell) cells.now) }
+    ensures kept { StartsWith text.new.items text.old.items }
     ensures pixels { OnOk result (All IsPixel cells.now) }
 {
     let mut block = [0; LONGEST * BLOCK];
@@ -165,14 +173,16 @@ fn push_cells(text: &mut Vec<u8>, cells: &[u8]) -> Result<(), AllocError>
 }
 
 // Adds what the line of an image begins with.
+#[tactic(auto, using(text_model::proofs::Beginnings::beginnings))]
 fn push_sizes(
     text: &mut Vec<u8>,
     width: usize,
     height: usize,
     stride: usize,
 ) -> Result<(), AllocError>
-    ensures { OnOk result (text.new.items ≡ text.old.items
+    ensures text { OnOk result (text.new.items ≡ text.old.items
         ++ line_of (codes "image" ∷ decimal width ∷ decimal height ∷ decimal stride ∷ [])) }
+    ensures kept { StartsWith text.new.items text.old.items }
 {
     text.extend_from_slice(b"image ")?;
     push_number(text, width as u64)?;
@@ -182,10 +192,12 @@ fn push_sizes(
     push_number(text, stride as u64)
 }
 
+#[tactic(auto, using(text_model::proofs::Beginnings::beginnings))]
 fn push_image(text: &mut Vec<u8>, image: &ImgVec<u8>) -> Result<(), AllocError>
     requires { Fits (vec_layout image.now) }
     ensures text { OnOk result
         (text.new.items ≡ text.old.items ++ ended_line (image_text (vec_layout image.now))) }
+    ensures kept { StartsWith text.new.items text.old.items }
     ensures good { OnOk result (IsScriptImage (vec_layout image.now)) }
 {
     push_sizes(text, image.width(), image.height(), image.stride())?;
@@ -194,16 +206,29 @@ fn push_image(text: &mut Vec<u8>, image: &ImgVec<u8>) -> Result<(), AllocError>
     Ok(())
 }
 
-// How many bytes a line of an image has beside the texts of its cells: more only at sizes of many
-// digits.
-const BESIDE: usize = 64;
+// How many bytes a space and the text of a number take.
+fn number_len(number: usize) -> usize {
+    number
+        .checked_ilog10()
+        .map_or(2, |power| power as usize + 2)
+}
 
-// Room for the lines of images. Where there are few cells, it may be less than they take.
-fn room_of(images: &[ImgVec<u8>]) -> usize {
-    images.iter().fold(0usize, |room, image| {
-        let cells = image.buf().len();
-        room.saturating_add(cells.saturating_mul(LONGEST))
-            .saturating_add(cells.min(BESIDE))
+// How many bytes the texts of so few pixels take, with a space before each. A sum of at most 63 of
+// them is a byte, and the compiler adds up 16 in one register.
+fn few_len(pixels: &[u8]) -> u8 {
+    pixels.iter().fold(0u8, |sum, pixel| {
+        sum.wrapping_add(2 + (*pixel > 9) as u8 + (*pixel > 99) as u8)
+    })
+}
+
+// How many bytes the line of an image takes.
+fn line_len(image: &ImgVec<u8>) -> usize {
+    let numbers = [image.width(), image.height(), image.stride()];
+    let sizes = numbers.iter().fold(b"image\n".len(), |sum, number| {
+        sum.saturating_add(number_len(*number))
+    });
+    image.buf().chunks(63).fold(sizes, |sum, pixels| {
+        sum.saturating_add(few_len(pixels) as usize)
     })
 }
 
@@ -215,17 +240,22 @@ fn room_of(images: &[ImgVec<u8>]) -> usize {
 ///
 /// # Errors
 ///
-/// No memory was found. A part of the lines may have been added.
+/// No memory was found. What was there before stays, and a part of the lines may come after it.
+#[tactic(auto, using(text_model::proofs::Beginnings::beginnings))]
 pub fn push_images(text: &mut Vec<u8>, images: &[ImgVec<u8>]) -> Result<(), AllocError>
     requires { AllFit images.now }
     ensures text { OnOk result
         (text.new.items ≡ text.old.items ++ images_text (layouts_of images.now)) }
+    ensures kept { StartsWith text.new.items text.old.items }
     ensures again { OnOk result (IsScript (map image_text (layouts_of images.now))
         (layouts_of images.now) []) }
 {
-    // Room for all of them before one is written: growth by doubling would copy a long text again
-    // and again.
-    text.reserve(room_of(images))?;
+    // Exactly the room of all lines: growth by doubling would copy a long text again and again, and
+    // take more. Where it isn't found, the text grows line by line.
+    let room = images
+        .iter()
+        .fold(0usize, |sum, image| sum.saturating_add(line_len(image)));
+    let _found = text.reserve_exact(room);
     for image in images {
         push_image(text, image)?;
     }

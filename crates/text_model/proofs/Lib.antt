@@ -5,3 +5,4 @@ pub mod PartsJoined
 pub mod FieldTexts
 pub mod ShortNumbers
 pub mod FieldsEach
+pub mod Beginnings

@@ -2,6 +2,7 @@
 
 ghost use Rattle.std.specs.Prelude.{◌≡◌, ◌≤◌, ◌<◌, ◌+◌, ◌-◌, ◌^◌, ◌↔◌, ◌==◌, ◌∷◌, [], IsTrue, OnOk, OnErr, None, IfSome, MatchOption, length, take, map, position};
 ghost use Rattle.std.specs.List.{position_or_len, position_from};
+ghost use Rattle.std.specs.Io.{StartsWith};
 ghost use Rattle.std.specs.Simd.Lanes.{mask_l};
 ghost use Rattle.text_model.specs.Parts.{parts_of};
 ghost use Rattle.text_model.specs.Reading.{number_of, pixel_of, first_of_parts, each_of, with_front};
@@ -62,12 +63,14 @@ impl<'a> Parts<'a> {
     ///
     /// # Errors
     ///
-    /// No memory was found. The parts are then as they were, and some of the pixels may have been
-    /// added.
+    /// No memory was found. The parts are then as they were. What was in the list stays, and some of
+    /// the pixels may come after it.
+    #[tactic(auto, using(text_model::proofs::Beginnings::beginnings))]
     pub fn read_pixels(&mut self, values: &mut Vec<u8>) -> Result<(), AllocError>
         ensures read { OnOk result
             (with_front values.new.items (each_of pixel_of (parts_left self.new))
             ≡ with_front values.old.items (each_of pixel_of (parts_left self.old))) }
+        ensures kept { StartsWith values.new.items values.old.items }
         ensures unchanged { OnErr result (self.new ≡ self.old) }
     {
         let Some(rest) = self.rest else {

@@ -1,6 +1,7 @@
 //! Pixels that are read many at once.
 
 ghost use Rattle.std.specs.Prelude.{◌≡◌, ℕ, ◌≤◌, ◌<◌, ◌+◌, IfOk, IfSome, length, take, drop, map, slice_index};
+ghost use Rattle.std.specs.Io.{StartsWith};
 ghost use Rattle.std.specs.Simd.Lanes.{mask_l};
 ghost use Rattle.text_model.specs.Parts.{parts_of};
 ghost use Rattle.text_model.specs.Reading.{pixel_of, each_of, with_front};
@@ -89,6 +90,7 @@ fn first_pixels<const N: usize>(bytes: &[u8], separator: u8, values: &mut [u8]) 
 }
 
 /// Adds the first pixels, as far as they can be read N bytes at a time, and returns what is left.
+#[tactic(auto, using(text_model::proofs::Beginnings::beginnings))]
 pub(crate) fn read_pixels<'a, const N: usize>(
     bytes: &'a [u8],
     separator: u8,
@@ -96,9 +98,10 @@ pub(crate) fn read_pixels<'a, const N: usize>(
 ) -> Result<&'a [u8], AllocError>
     requires few { N ≤ 64 }
     requires separator { separator < 48 }
-    ensures { IfOk result (λ rest.
+    ensures read { IfOk result (λ rest.
         with_front values.new.items (each_of pixel_of (parts_of separator rest.now))
         ≡ with_front values.old.items (each_of pixel_of (parts_of separator bytes.now))) }
+    ensures kept { StartsWith values.new.items values.old.items }
 {
     let mut rest = bytes;
     let mut some = [0; MOST];

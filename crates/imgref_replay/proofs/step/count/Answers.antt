@@ -16,6 +16,6 @@ returns g c =
     let eq = g.T.PartialEq.eq in
     let counted =
     c.count_equal.ensures
-    ∙ ap (count_by (λ pixel. eq pixel c.args.value)) (sym (grid_joined_rows_of (ref_layout c.in_ok-view.field-0)) ∙ ap grid_pixels c.in_ok-view.ensures.view)
+    ∙ ap (λ g. count_by (λ pixel. eq pixel c.args.value) (grid_pixels g)) c.in_ok-view.ensures.view
     ∙ count_is eq c.args.value (view_named c.args.spot.now (grids_of c.args.images.now)) in
     asked eq _ _ _ c.in_ok-view.ensures.fault (ap (λ n. Counted n) counted) refl refl c.requires

@@ -2,7 +2,7 @@ use Rattle.std.proofs.Common.{append_assoc, arith}
 use Rattle.script_text.proofs.Digits.{last_digit}
 use Rattle.script_text.proofs.output.+push_number.Goals as goal
 
-pub returns : goal.returns
-returns t c =
+pub returns-clause-text : goal.returns-clause-text
+returns-clause-text t c =
     let more = last_digit c.args.number (omega (arith, c.if-number-lt10.false)) (omega arith) in
-    rw (c.in_ok-extend_from_slice.ensures.items, c.in_ok-push_number.ensures, c.last_digit-2.ensures, more) (simp append_assoc)
+    rw (c.in_ok-extend_from_slice.ensures.items, c.in_ok-push_number.ensures.text, c.last_digit-2.ensures, more) (simp append_assoc)

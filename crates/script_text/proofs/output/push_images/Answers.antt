@@ -1,6 +1,7 @@
 use Rattle.std.proofs.Common.{map, arith}
 use Rattle.std.proofs.lemmas.Grind.{common_steps}
 use Rattle.std.proofs.lemmas.List.{take_all}
+use Rattle.text_model.proofs.Beginnings.{starts_before}
 use Rattle.image_model.specs.Layout.{Fits}
 use Rattle.imgref.specs.Image.{vec_layout}
 use Rattle.script_text.specs.Line.{IsScriptImage}
@@ -14,6 +15,7 @@ push_image-requires c = at_image Fits vec_layout c.args.images.now c.loop-image.
 pub loop-image-preserved : goal.loop-image-preserved
 loop-image-preserved c = record {
   text = grind (arith, common_steps);
+  kept = starts_before _ _ _ c.in_ok-push_image.ensures.kept c.loop-image.invariant.kept;
   good = more_images IsScriptImage vec_layout c.args.images.now c.loop-image.image-index c.image-item.result c.loop-image-test.true c.image-item.is c.loop-image.invariant.good c.in_ok-push_image.ensures.good;
 }
 
