@@ -241,11 +241,19 @@ def first_line(*words):
     return command(*words).splitlines()[0] if shutil.which(words[0]) else f"no {words[0]}"
 
 
+def commit():
+    """The commit that is timed, where git knows one, and whether the crates differ from it."""
+    if not shutil.which("git") or not (ROOT / ".git").exists():
+        return "no commit"
+    differs = command("git", "-C", ROOT, "status", "--porcelain", "--", "crates", "crates.txt")
+    return f"commit `{first_line('git', '-C', ROOT, 'rev-parse', '--short', 'HEAD')}`{' with changes' if differs else ''}"
+
+
 def conditions(rounds):
-    """What the figures depend on, in one line: the date, the processor, the compilers, and the load before the timing."""
+    """What the figures depend on, in one line: the commit, the date, the processor, the compilers, and the load before the timing."""
     processor = re.search(r"model name\s*: (.*)", pathlib.Path("/proc/cpuinfo").read_text())
     return (
-        f"Measured on {time.strftime('%Y-%m-%d')}. Processor: {processor.group(1) if processor else 'unknown'}, {os.cpu_count()} logical cores. "
+        f"Measured on {commit()}, {time.strftime('%Y-%m-%d')}. Processor: {processor.group(1) if processor else 'unknown'}, {os.cpu_count()} logical cores. "
         f"C: {first_line(*compiler(), '--version')}. Rust: {first_line('rustc', '--version')}. Rattle: {first_line('rt', 'version')}. "
         f"Rounds: {rounds} in each of {BUILDS} builds. Load average over a minute before the timing: {os.getloadavg()[0]:.2f}"
     )

@@ -4,7 +4,8 @@
 No clause can say that memory is found, and every contract allows the result out of memory. So the script program is run on each
 example, and the one for video on a small stream with each kind of edits, with the first growth refused, then with the second,
 until a run has none to refuse. Each time but the last it must say `fault memory` alone, on the stream for faults, and end with
-status 3: so all memory is taken before the first byte is written. The one for video says how many pictures it has written, and
+status 3: so all memory is taken before the first byte is written. Where the room for all images is refused, the script program
+may print its whole output all the same, since the text then grows line by line. The one for video says how many pictures it has written, and
 wrote exactly those. Each test is run so too, and must pass or return the refusal as its result: an assertion that fails shows an
 result that changed in the place of the error.
 """
@@ -58,12 +59,16 @@ def runs(library, command, given=b""):
     raise ValueError(f"{command}: it has no end")
 
 
-def of_program(library, command, given, told, ends):
+def of_program(library, command, given, told, ends, spared):
     """How many refused growths were reported on this input, and what is wrong. `told` is what a refusal must leave, one of some outputs,
-    each with what it says then, and a status, and `ends` what a run must that has none: its output, and its status."""
+    each with what it says then, and a status, and `ends` what a run must that has none: its output, and its status. So many
+    refusals may be spared: the run then ends as if there were none."""
     bad = []
     for number, (ran, was_refused) in enumerate(runs(library, command, given), 1):
         printed = ran.stdout + ran.stderr
+        if was_refused and spared and (ran.stdout, ran.returncode) == ends:
+            spared -= 1
+            continue
         outputs, status = told if was_refused else ({ends[0]: None}, ends[1])
         says_so = (outputs.get(ran.stdout) or b"fault memory") in printed
         if says_so != was_refused or ran.stdout not in outputs or ran.returncode != status:
@@ -105,7 +110,7 @@ def main():
         for name in ("imgref_run", "imgref_frames"):
             for program in both_builds(cases, name):
                 for _, words, label, given, told, ends in (it for it in tries if it[0] == name):
-                    growths, bad = of_program(library, [program, *words], given, told, ends)
+                    growths, bad = of_program(library, [program, *words], given, told, ends, spared=int(name == "imgref_run"))
                     cases.count(f"{program.name}, {label}: {growths} refused growths are reported, and nothing else is written", growths > 0 and not bad, "\n".join(bad[:3]))
         for crate in (it for it in crates() if says(it, "#[test]")):
             for program in built(crate, ("_tests",)) or [None]:

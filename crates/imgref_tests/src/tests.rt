@@ -1,6 +1,7 @@
 //! One file for each subject.
 
 mod changes;
+mod counts;
 mod equality;
 mod images;
 mod keys;

@@ -26,4 +26,4 @@ loop-text-preserved c =
     let runs = rw c.deref_mut.ensures.value at c.replay_next-reply.ensures.more in
     let same : take c.loop-text.images.len (news ++ drop (length news) images) ≡ news = grind (arith, common_steps) in
     subst (λ is. IsSoFar lines c.next.new.self (map vec_layout is) c.push_reply.new.text.items) (sym same)
-    (command_run lines c.loop-text.script c.next.new.self (map vec_layout images) (map vec_layout news) c.loop-text.text.items c.push_reply.new.text.items c.in-Command.command c.replay_next-reply.result c.loop-text.invariant (reads lines) runs c.in_ok-push_reply-in-Command.ensures)
+    (command_run lines c.loop-text.script c.next.new.self (map vec_layout images) (map vec_layout news) c.loop-text.text.items c.push_reply.new.text.items c.in-Command.command c.replay_next-reply.result c.loop-text.invariant (reads lines) runs c.in_ok-push_reply-in-Command.ensures.text)
