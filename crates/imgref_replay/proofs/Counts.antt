@@ -1,6 +1,5 @@
 -- Counting pixels by their places.
-use Rattle.std.proofs.Common.{◌≡◌, refl, ℕ, ◌+◌, ◌<◌, ◌≤◌, ◌^◌, ◌%◌, arith, Bool, true, false, cond, List, [], ◌∷◌, length, map, Option, Some, None, ◌∙◌, sym, ap, count_by}
-use Rattle.std.proofs.Math.Nat.{mod-eq_of_lt}
+use Rattle.std.proofs.Common.{◌≡◌, refl, ℕ, ◌+◌, arith, Bool, cond, List, [], ◌∷◌, map, Option, Some, None, ◌∙◌, sym, ap, count_by}
 use Rattle.std.specs.List.{fold, filter_map, flat_map, range_with_len, cons_option}
 use Rattle.std.proofs.lemmas.List.Sums.{fold-append}
 use Rattle.image_model.specs.Grid.{Grid}

@@ -1,8 +1,6 @@
-use Rattle.std.proofs.Common.{ap, sym, ◌∙◌, refl, count_by}
+use Rattle.std.proofs.Common.{ap, ◌∙◌, refl, count_by}
 use Rattle.image_model.specs.Grid.{view}
 use Rattle.image_model.specs.Rows.{grid_pixels}
-use Rattle.image_model.proofs.Rows.{grid_joined_rows_of}
-use Rattle.imgref.specs.Image.{ref_layout}
 use Rattle.imgref.specs.Lists.{grids_of}
 use Rattle.image_commands.specs.Commands.{view_named}
 use Rattle.image_commands.specs.declared.commands.Reply.TheVariants.{Counted}
