@@ -206,6 +206,9 @@ fn push_image(text: &mut Vec<u8>, image: &ImgVec<u8>) -> Result<(), AllocError>
     Ok(())
 }
 
+// An image of fewer cells is small.
+const FEW: usize = 64;
+
 // How many bytes a space and the text of a number take.
 fn number_len(number: usize) -> usize {
     number
@@ -232,6 +235,20 @@ fn line_len(image: &ImgVec<u8>) -> usize {
     })
 }
 
+// Exactly the room of all lines, or 0 where most images have few cells: to count it would then take
+// longer than growth does.
+fn room_of(images: &[ImgVec<u8>]) -> usize {
+    let cells = images
+        .iter()
+        .fold(0usize, |sum, image| sum.saturating_add(image.buf().len()));
+    if cells / FEW < images.len() {
+        return 0;
+    }
+    images
+        .iter()
+        .fold(0usize, |sum, image| sum.saturating_add(line_len(image)))
+}
+
 /// Adds a line for each image. These lines are themselves a script of these images.
 ///
 /// # Requires
@@ -250,12 +267,9 @@ pub fn push_images(text: &mut Vec<u8>, images: &[ImgVec<u8>]) -> Result<(), Allo
     ensures again { OnOk result (IsScript (map image_text (layouts_of images.now))
         (layouts_of images.now) []) }
 {
-    // Exactly the room of all lines: growth by doubling would copy a long text again and again, and
-    // take more. Where it isn't found, the text grows line by line.
-    let room = images
-        .iter()
-        .fold(0usize, |sum, image| sum.saturating_add(line_len(image)));
-    let _found = text.reserve_exact(room);
+    // Growth by doubling would copy a long text again and again, and take more room. Where it isn't
+    // found at once, the text grows all the same.
+    let _found = text.reserve_exact(room_of(images));
     for image in images {
         push_image(text, image)?;
     }
