@@ -26,7 +26,11 @@ MOST, PAGE = 1 << 28, 1 << 12
 # What may be more than before: a change of the heap's first blocks, and the pages of a build.
 SPARE = 64 << 10
 # By digits of a pixel: what each size needed beside a tiny script.
-NEEDED = {}
+NEEDED = {
+    1: [2101248, 2101248, 4198400, 4198400, 4198400, 8392704],
+    2: [2101248, 2101248, 3674112, 4198400, 4198400, 7344128],
+    3: [1839104, 1839104, 3674112, 3674112, 3674112, 7344128],
+}
 
 
 def script(digits, size):
