@@ -155,17 +155,18 @@ fn place_cells(block: &mut [u8], cells: &[u8]) -> usize
 }
 
 #[tactic(auto, using(text_model::proofs::Beginnings::beginnings))]
-fn push_cells(text: &mut Vec<u8>, cells: &[u8]) -> Result<(), AllocError>
+fn push_cells(text: &mut Vec<u8>, block: &mut [u8], cells: &[u8]) -> Result<(), AllocError>
+    requires { 512 ≤ length block.old }
     ensures text { OnOk result
         (text.new.items ≡ text.old.items ++ flat_map (λ cell. 32 ∷ decimal cell) cells.now) }
     ensures kept { StartsWith text.new.items text.old.items }
     ensures pixels { OnOk result (All IsPixel cells.now) }
+    ensures len { length block.new ≡ length block.old }
 {
-    let mut block = [0; LONGEST * BLOCK];
     let mut rest = cells;
     while !rest.is_empty() {
         let (some, others) = rest.split_at(rest.len().min(BLOCK));
-        let end = place_cells(&mut block, some);
+        let end = place_cells(block, some);
         text.extend_from_slice(&block[..end])?;
         rest = others;
     }
@@ -193,15 +194,17 @@ fn push_sizes(
 }
 
 #[tactic(auto, using(text_model::proofs::Beginnings::beginnings))]
-fn push_image(text: &mut Vec<u8>, image: &ImgVec<u8>) -> Result<(), AllocError>
-    requires { Fits (vec_layout image.now) }
+fn push_image(text: &mut Vec<u8>, block: &mut [u8], image: &ImgVec<u8>) -> Result<(), AllocError>
+    requires fits { Fits (vec_layout image.now) }
+    requires room { 512 ≤ length block.old }
     ensures text { OnOk result
         (text.new.items ≡ text.old.items ++ ended_line (image_text (vec_layout image.now))) }
     ensures kept { StartsWith text.new.items text.old.items }
     ensures good { OnOk result (IsScriptImage (vec_layout image.now)) }
+    ensures len { length block.new ≡ length block.old }
 {
     push_sizes(text, image.width(), image.height(), image.stride())?;
-    push_cells(text, image.buf())?;
+    push_cells(text, block, image.buf())?;
     text.extend_from_slice(b"\n")?;
     Ok(())
 }
@@ -216,8 +219,12 @@ fn number_len(number: usize) -> usize {
         .map_or(2, |power| power as usize + 2)
 }
 
-// How many bytes the texts of so few pixels take, with a space before each. A sum of at most 63 of
-// them is a byte, and the compiler adds up 16 in one register.
+// How many pixels are counted at once: three registers.
+const COUNTED: usize = 48;
+
+// How many bytes the texts of at most so many pixels take, with a space before each. The sum is a
+// byte: so the compiler adds up 16 in one register.
+#[inline(always)]
 fn few_len(pixels: &[u8]) -> u8 {
     pixels.iter().fold(0u8, |sum, pixel| {
         sum.wrapping_add(2 + (*pixel > 9) as u8 + (*pixel > 99) as u8)
@@ -230,9 +237,12 @@ fn line_len(image: &ImgVec<u8>) -> usize {
     let sizes = numbers.iter().fold(b"image\n".len(), |sum, number| {
         sum.saturating_add(number_len(*number))
     });
-    image.buf().chunks(63).fold(sizes, |sum, pixels| {
-        sum.saturating_add(few_len(pixels) as usize)
-    })
+    let (blocks, rest) = image.buf().as_chunks::<COUNTED>();
+    blocks
+        .iter()
+        .fold(sizes.saturating_add(few_len(rest) as usize), |sum, block| {
+            sum.saturating_add(few_len(block) as usize)
+        })
 }
 
 // Exactly the room of all lines, or 0 where most images have few cells: to count it would then take
@@ -270,8 +280,10 @@ pub fn push_images(text: &mut Vec<u8>, images: &[ImgVec<u8>]) -> Result<(), Allo
     // Growth by doubling would copy a long text again and again, and take more room. Where it isn't
     // found at once, the text grows all the same.
     let _found = text.reserve_exact(room_of(images));
+    // One block for all images: to clear another takes longer than a short line.
+    let mut block = [0; LONGEST * BLOCK];
     for image in images {
-        push_image(text, image)?;
+        push_image(text, &mut block, image)?;
     }
     Ok(())
 }

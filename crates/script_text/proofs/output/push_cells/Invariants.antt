@@ -8,6 +8,7 @@ use Rattle.script_text.proofs.output.push_cells.Given as goal
 abbrev pub invariant-loop-rest : goal.invariant-loop-rest
 invariant-loop-rest l = record {
   text : l.text.items ++ flat_map (λ cell. 32 ∷ decimal cell) l.rest ≡ l.initial.text.items ++ flat_map (λ cell. 32 ∷ decimal cell) l.cells;
+  len : length l.block ≡ length l.initial.block;
   kept : StartsWith l.text.items l.initial.text.items;
 }
 

@@ -20,5 +20,5 @@ returns-clause-good c = record {
   stride_positive = omega arith;
   holds_width = omega arith;
   cells = recursion_from_All IsPixel _ (rw (c.deref.ensures.value, c.buf.ensures) at c.in_ok-push_cells.ensures.pixels);
-  fits = c.requires;
+  fits = c.requires.fits;
 }
