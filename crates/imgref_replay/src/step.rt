@@ -40,6 +40,8 @@ fn locate<T>(images: &[ImgVec<T>], spot: &Place) -> Result<Window, Refusal>
 
 /// The windows that two places name in their images, or the first fault of these places. Both image
 /// numbers are tested before the first path.
+// Inlined: two windows that are returned go by memory, and the caller waits for them there.
+#[inline(always)]
 fn locate_both<T>(
     images: &[ImgVec<T>],
     first: &Place,
