@@ -5,7 +5,8 @@
  * below 2^32, and the cells reach the last pixel: imgref_is_image tells. An image with no pixel may have no cell.
  *
  * A cell has 1, 2, 4 or 8 bytes: each call on cells is here for uint8_t, uint16_t, uint32_t and uint64_t. A pixel of
- * three bytes is three cells of one byte, and its window has three times the columns.
+ * three bytes is three cells of one byte. fill_pixels and mosaic_pixels take such pixels. For the other calls its window has
+ * three times the columns.
  *
  * Units     Widths, columns and left are counted in pixels, and so are heights, rows and top. Strides and lengths are
  *           counted in cells.
@@ -87,10 +88,14 @@ imgref_status imgref_tile(size_t width, size_t height, size_t tile_width, size_t
  * fill_window  Every pixel of the window becomes `value`. NOT_AN_IMAGE, WINDOW_OUTSIDE.
  * copy_window  The window gets the pixels of `source`, an image of the window's size with a stride of its own. NOT_AN_IMAGE
  *              (of either), WINDOW_OUTSIDE, SIZES_DIFFER.
+ * fill_pixels  Every pixel of the window becomes `pixel`, which has `channels` cells (1 to 4), next to one another in a row.
+ *              Widths and columns are counted in pixels, and the stride in cells: a row has width * channels of them.
+ *              NOT_AN_IMAGE (also of pixels with another number of cells), WINDOW_OUTSIDE.
  * move_window  The window `to` gets the pixels that the window `from` had; they may overlap. NOT_AN_IMAGE, WINDOW_OUTSIDE (of
  *              either), SIZES_DIFFER.
  * mosaic       Each tile of the window, from the window's corner on, gets the pixel that was at the tile's corner.
  *              NOT_AN_IMAGE, WINDOW_OUTSIDE, NO_TILE (a tile of no pixel).
+ * mosaic_pixels  The same for pixels of `channels` cells, as fill_pixels has them. NOT_AN_IMAGE, WINDOW_OUTSIDE, NO_TILE.
  * pack         The rows come one after the other at the front of the cells, with no padding: from then on the stride is the
  *              width, or 1 for width 0, and the pixels are the first width * height cells. The cells after them stay.
  *              NOT_AN_IMAGE.
@@ -111,6 +116,11 @@ imgref_status imgref_tile(size_t width, size_t height, size_t tile_width, size_t
                                               imgref_rect from, imgref_rect to);                                              \
     imgref_status imgref_##NAME##_mosaic(CELL *cells, size_t len, size_t width, size_t height, size_t stride,                 \
                                          imgref_rect window, size_t tile_width, size_t tile_height);                          \
+    imgref_status imgref_##NAME##_fill_pixels(CELL *cells, size_t len, size_t width, size_t height, size_t stride,            \
+                                              imgref_rect window, const CELL *pixel, size_t channels);                        \
+    imgref_status imgref_##NAME##_mosaic_pixels(CELL *cells, size_t len, size_t width, size_t height, size_t stride,          \
+                                                size_t channels, imgref_rect window, size_t tile_width,                       \
+                                                size_t tile_height);                                                          \
     imgref_status imgref_##NAME##_pack(CELL *cells, size_t len, size_t width, size_t height, size_t stride);                  \
     imgref_status imgref_##NAME##_equal(const CELL *cells, size_t len, size_t width, size_t height, size_t stride,            \
                                         const CELL *other, size_t other_len, size_t other_width, size_t other_height,         \

@@ -84,6 +84,8 @@ template <std::size_t Size> struct calls;
         static constexpr auto copy_window = imgref_##NAME##_copy_window;                                                     \
         static constexpr auto move_window = imgref_##NAME##_move_window;                                                     \
         static constexpr auto mosaic = imgref_##NAME##_mosaic;                                                               \
+        static constexpr auto fill_pixels = imgref_##NAME##_fill_pixels;                                                     \
+        static constexpr auto mosaic_pixels = imgref_##NAME##_mosaic_pixels;                                                 \
         static constexpr auto pack = imgref_##NAME##_pack;                                                                   \
         static constexpr auto equal = imgref_##NAME##_equal;                                                                 \
     };
@@ -239,8 +241,22 @@ public:
     }
     void mosaic(std::size_t tile_width, std::size_t tile_height) const { mosaic(whole(), tile_width, tile_height); }
 
-    // The rows are joined at the front of the memory: the stride of this view is the width from now
-    // on, or 1 for width 0. Other views over the memory show moved pixels.
+    // The two for colours of N elements, 1 to 4, next to one another in a row: the width of this view
+    // is N times theirs. Windows and tiles are counted in colours.
+    template <std::size_t N> void fill_pixels(const rect &window, const value_type (&pixel)[N]) const {
+        cell made[N];
+        for (std::size_t k = 0; k < N; ++k) made[k] = bits(pixel[k]);
+        detail::done(calls::fill_pixels(written(), len_, width_ / N, height_, stride_, window, made, N));
+    }
+    // Throws refused (IMGREF_NOT_AN_IMAGE) for another number of channels.
+    void mosaic_pixels(std::size_t channels, const rect &window, std::size_t tile_width, std::size_t tile_height) const {
+        const std::size_t columns = channels ? width_ / channels : width_;
+        detail::done(calls::mosaic_pixels(written(), len_, columns, height_, stride_, channels, window, tile_width, tile_height));
+    }
+
+    // The rows are joined at the front of the memory, over what lies between them: after a window
+    // that is its parent's pixels. The stride of this view is the width from now on, or 1 for width
+    // 0. Other views over the memory show moved pixels.
     void pack() {
         detail::done(calls::pack(written(), len_, width_, height_, stride_));
         stride_ = width_ ? width_ : 1;

@@ -48,6 +48,20 @@ static bool is_inside(struct sizes is, struct imgref_window w) {
     return (unsigned __int128)w.left + w.width <= is.width && (unsigned __int128)w.top + w.height <= is.height;
 }
 
+/* ---- pixels of several cells */
+
+/* Mostly as many as a pixel may have. */
+static size_t any_channels(void) { return any() % 8 ? 1 + any() % 4 : any() % 7; }
+
+/* The pixels of a row, where a row has so many cells. */
+static size_t in_pixels(struct sizes is, size_t channels) { return channels && is.width < 64 ? is.width / channels : is.width; }
+
+static bool is_pixel_image(struct sizes is, size_t channels) {
+    if (channels < 1 || channels > 4 || is.width >> 32) return false;
+    is.width *= channels;
+    return is_image(is);
+}
+
 /* An image of this size, with padding and cells after its last pixel. */
 static struct sizes sized(size_t width, size_t height) {
     struct sizes is = {.width = width, .height = height, .stride = width + any() % 4};
@@ -203,6 +217,13 @@ static void by_hand(void) {
     count("by hand: a cell too few", imgref_u8_put(cells, 6, 3, 2, 4, 0, 0, 7) == IMGREF_NOT_AN_IMAGE && cells[0] == 1);
     count("by hand: no product overflows", imgref_u8_put(cells, 9, 3, UINT32_MAX, SIZE_MAX, 0, 0, 7) == IMGREF_NOT_AN_IMAGE && cells[0] == 1);
     count("by hand: pack", imgref_u8_pack(cells, 9, 3, 2, 4) == IMGREF_OK && !memcmp(cells, (uint8_t[]){1, 0, 0, 4, 0, 0, 0, 91, 92}, 9));
+    uint8_t colours[8] = {1, 2, 3, 4, 5, 6, 7, 90};
+    const uint8_t colour[3] = {21, 22, 23};
+    const struct imgref_window second = {1, 0, 1, 1}, both = {0, 0, 2, 1};
+    count("by hand: fill_pixels", imgref_u8_fill_pixels(colours, 8, 2, 1, 8, second, colour, 3) == IMGREF_OK && !memcmp(colours, (uint8_t[]){1, 2, 3, 21, 22, 23, 7, 90}, 8));
+    count("by hand: mosaic_pixels", imgref_u8_mosaic_pixels(colours, 8, 2, 1, 8, 3, both, 2, 1) == IMGREF_OK && !memcmp(colours, (uint8_t[]){1, 2, 3, 1, 2, 3, 7, 90}, 8));
+    count("by hand: a pixel of five cells", imgref_u8_mosaic_pixels(colours, 8, 1, 1, 8, 5, second, 2, 1) == IMGREF_NOT_AN_IMAGE && colours[3] == 1);
+    count("by hand: no width overflows", imgref_u8_fill_pixels(colours, 8, SIZE_MAX / 2 + 2, 1, 8, second, colour, 2) == IMGREF_NOT_AN_IMAGE && colours[3] == 1);
     count("by hand: no cell", imgref_u8_fill_window(&pixel, 0, 0, 5, 1, (struct imgref_window){0, 2, 0, 3}, 7) == IMGREF_OK && pixel == 6);
 }
 

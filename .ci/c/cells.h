@@ -146,6 +146,46 @@ static imgref_status MINE(one_mosaic)(struct sizes is) {
     return status;
 }
 
+static imgref_status MINE(one_fill_pixels)(struct sizes is) {
+    size_t channels = any_channels();
+    struct MINE(image) it = MINE(made)(is);
+    is.width = in_pixels(is, channels);
+    struct imgref_window w = any_window(is);
+    CELL pixel[8], *expected = MINE(copy)(&it);
+    for (size_t k = 0; k < 8; k++) pixel[k] = (CELL)any();
+    imgref_status wanted = !is_pixel_image(is, channels) ? IMGREF_NOT_AN_IMAGE : !is_inside(is, w) ? IMGREF_WINDOW_OUTSIDE : IMGREF_OK;
+    if (wanted == IMGREF_OK && w.width)
+        for (size_t y = 0; y < w.height; y++)
+            for (size_t x = 0; x < w.width; x++)
+                for (size_t k = 0; k < channels; k++) MINE(set)(expected, &it, (w.left + x) * channels + k, w.top + y, pixel[k]);
+    imgref_status status = OF(fill_pixels)(it.cells, is.len, is.width, is.height, is.stride, w, pixel, channels);
+    tell(MINE(left)(&it, expected, status, wanted));
+    MINE(freed)(it);
+    return status;
+}
+
+static imgref_status MINE(one_mosaic_pixels)(struct sizes is) {
+    size_t channels = any_channels(), wide = any() % 9 ? any() % 5 : any_number(), high = any() % 9 ? any() % 5 : any_number();
+    struct MINE(image) it = MINE(made)(is);
+    is.width = in_pixels(is, channels);
+    struct imgref_window w = any_window(is);
+    CELL *expected = MINE(copy)(&it);
+    imgref_status wanted = !is_pixel_image(is, channels) ? IMGREF_NOT_AN_IMAGE
+                           : !is_inside(is, w)           ? IMGREF_WINDOW_OUTSIDE
+                           : wide == 0 || high == 0      ? IMGREF_NO_TILE
+                                                         : IMGREF_OK;
+    if (wanted == IMGREF_OK && w.width)
+        for (size_t y = 0; y < w.height; y++)
+            for (size_t x = 0; x < w.width; x++)
+                for (size_t k = 0; k < channels; k++)
+                    MINE(set)(expected, &it, (w.left + x) * channels + k, w.top + y,
+                              MINE(was)(&it, (w.left + x / wide * wide) * channels + k, w.top + y / high * high));
+    imgref_status status = OF(mosaic_pixels)(it.cells, is.len, is.width, is.height, is.stride, channels, w, wide, high);
+    tell(MINE(left)(&it, expected, status, wanted));
+    MINE(freed)(it);
+    return status;
+}
+
 static imgref_status MINE(one_pack)(struct sizes is) {
     struct MINE(image) it = MINE(made)(is);
     CELL *expected = MINE(copy)(&it);
@@ -196,6 +236,9 @@ static void MINE(all_calls)(void) {
     series(TEXT "move_window", MINE(one_move_window),
            1u << IMGREF_OK | 1u << IMGREF_NOT_AN_IMAGE | 1u << IMGREF_WINDOW_OUTSIDE | 1u << IMGREF_SIZES_DIFFER);
     series(TEXT "mosaic", MINE(one_mosaic), 1u << IMGREF_OK | 1u << IMGREF_NOT_AN_IMAGE | 1u << IMGREF_WINDOW_OUTSIDE | 1u << IMGREF_NO_TILE);
+    series(TEXT "fill_pixels", MINE(one_fill_pixels), 1u << IMGREF_OK | 1u << IMGREF_NOT_AN_IMAGE | 1u << IMGREF_WINDOW_OUTSIDE);
+    series(TEXT "mosaic_pixels", MINE(one_mosaic_pixels),
+           1u << IMGREF_OK | 1u << IMGREF_NOT_AN_IMAGE | 1u << IMGREF_WINDOW_OUTSIDE | 1u << IMGREF_NO_TILE);
     series(TEXT "pack", MINE(one_pack), 1u << IMGREF_OK | 1u << IMGREF_NOT_AN_IMAGE);
     series(TEXT "equal", MINE(one_equal), 1u << IMGREF_OK | 1u << IMGREF_NOT_AN_IMAGE);
 }

@@ -105,6 +105,28 @@ static void empty_images() {
     check("pixels are compared by their bits", view(zeros, 1, 1) != view(negative, 1, 1) && view(nans, 1, 1) == view(same, 1, 1));
 }
 
+// Colours of three elements, next to one another: two and one that is cut off, in two rows.
+static void pixels_of_several() {
+    using namespace imgref;
+    std::array<std::uint16_t, 14> pixels{1, 2, 3, 4, 5, 6, 90, 7, 8, 9, 10, 11, 12, 91};
+    view image(pixels, 7, 2);
+    image.fill_pixels({1, 0, 1, 2}, {600, 601, 602});
+    check("fill_pixels", pixels == std::array<std::uint16_t, 14>{1, 2, 3, 600, 601, 602, 90, 7, 8, 9, 600, 601, 602, 91});
+    image.mosaic_pixels(3, {0, 0, 2, 2}, 2, 2);
+    check("mosaic_pixels", pixels == std::array<std::uint16_t, 14>{1, 2, 3, 1, 2, 3, 90, 1, 2, 3, 1, 2, 3, 91});
+    check("no such colours", is_refused(IMGREF_NOT_AN_IMAGE, [&] { image.mosaic_pixels(0, {0, 0, 1, 1}, 1, 1); }) && is_refused(IMGREF_NOT_AN_IMAGE, [&] { image.mosaic_pixels(5, {0, 0, 1, 1}, 1, 1); }) &&
+                                 is_refused(IMGREF_WINDOW_OUTSIDE, [&] { image.fill_pixels({2, 0, 1, 1}, {1, 2, 3}); }) && is_refused(IMGREF_NO_TILE, [&] { image.mosaic_pixels(3, {0, 0, 1, 1}, 0, 1); }));
+}
+
+// A window's rows are joined over the pixels beside it.
+static void packed_windows() {
+    using namespace imgref;
+    std::array<std::uint8_t, 6> pixels{1, 2, 3, 4, 5, 6};
+    view image(pixels, 3, 2);
+    image.window({0, 0, 2, 2}).pack();
+    check("a window is packed over the pixels beside it", pixels == std::array<std::uint8_t, 6>{1, 2, 4, 5, 5, 6});
+}
+
 static void tiles() {
     using namespace imgref;
     std::array<std::uint8_t, 6> pixels{};
@@ -142,6 +164,8 @@ int main() {
     check("cells of a colour", kept[5] == colour{7, 7, 7, 255} && kept[3] == colours[3] && kept[0] == colours[0]);
     refusals();
     empty_images();
+    pixels_of_several();
+    packed_windows();
     tiles();
 #ifdef IMGREF_HAS_MDSPAN
     spans();

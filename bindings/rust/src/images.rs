@@ -212,8 +212,36 @@ impl<Container: BufferMut> Img<Container> {
         done(unsafe { (calls_on::<Container>().mosaic)(cells.as_mut_ptr().cast(), cells.len(), self.width, self.height, self.stride, window, tile_width, tile_height) })
     }
 
-    /// Joins the rows at the front of the buffer: the stride is the width from now on, or 1 for
-    /// width 0. Returns the pixels, the width and the height. The cells after them stay.
+    /// Every colour of the window becomes `pixel`: 1 to 4 cells, next to one another in a row. The
+    /// width of this image is so many times that of the colours, and the window is counted in
+    /// colours.
+    ///
+    /// # Errors
+    ///
+    /// [`Refused::NotAnImage`] for another number of cells, [`Refused::WindowOutside`].
+    pub fn fill_pixels(&mut self, window: Window, pixel: &[Container::Pixel]) -> Result<(), Refused> {
+        let (channels, cells) = (pixel.len(), self.buf.cells_mut());
+        let columns = self.width.checked_div(channels).ok_or(Refused::NotAnImage)?;
+        done(unsafe { (calls_on::<Container>().fill_pixels)(cells.as_mut_ptr().cast(), cells.len(), columns, self.height, self.stride, window, pixel.as_ptr().cast(), channels) })
+    }
+
+    /// The same as [`Img::mosaic`] for colours of `channels` cells, as [`Img::fill_pixels`] has them.
+    ///
+    /// # Errors
+    ///
+    /// [`Refused::NotAnImage`] for another number of cells, [`Refused::WindowOutside`],
+    /// [`Refused::NoTile`].
+    pub fn mosaic_pixels(&mut self, channels: usize, window: Window, tile_width: usize, tile_height: usize) -> Result<(), Refused> {
+        let cells = self.buf.cells_mut();
+        let columns = self.width.checked_div(channels).ok_or(Refused::NotAnImage)?;
+        done(unsafe { (calls_on::<Container>().mosaic_pixels)(cells.as_mut_ptr().cast(), cells.len(), columns, self.height, self.stride, channels, window, tile_width, tile_height) })
+    }
+
+    /// Joins the rows at the front of the buffer, over what lies between them: on a window that is its
+    /// parent's pixels.
+    ///
+    /// The stride is the width from now on, or 1 for width 0. Returns the pixels, the width and the
+    /// height. The cells after them stay. [`Img::to_contiguous_buf`] copies the pixels instead.
     ///
     /// # Errors
     ///

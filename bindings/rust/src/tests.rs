@@ -1,6 +1,9 @@
 //! Each call on each kind of buffer, and each refusal.
 
-use super::{Cell, Img, ImgRef, ImgRefMut, ImgVec, Refused, Window};
+use std::cell::Cell as Count;
+use std::panic::{catch_unwind, AssertUnwindSafe};
+
+use super::{Buffer, BufferMut, Cell, Img, ImgRef, ImgRefMut, ImgVec, Refused, Window};
 
 // 3 by 2 at stride 4: the cells 3, 7 and 8 are padding.
 const CELLS: [u8; 9] = [1, 2, 3, 90, 4, 5, 6, 91, 92];
@@ -103,6 +106,31 @@ fn joins_rows_and_compares() {
     assert_eq!(owned.into_contiguous_buf(), Ok((vec![1, 2, 3, 4, 5, 6], 3, 2)));
 }
 
+#[test]
+fn joins_the_rows_of_a_window_over_its_parent() {
+    let mut image = ImgVec::new(vec![1u8, 2, 3, 4, 5, 6], 3, 2).unwrap();
+    assert_eq!(image.sub_image_mut(0, 0, 2, 2).unwrap().as_contiguous_buf(), Ok((&[1, 2, 4, 5][..], 2, 2)));
+    assert_eq!(image.into_buf(), [1, 2, 4, 5, 5, 6]);
+}
+
+// Two colours of three cells in a row, and a cell that is left over.
+#[test]
+fn takes_colours_of_several_cells() {
+    let mut image = ImgVec::new(vec![1u16, 2, 3, 4, 5, 6, 90, 7, 8, 9, 10, 11, 12, 91], 7, 2).unwrap();
+    image.fill_pixels(Window::new(1, 0, 1, 2), &[600, 601, 602]).unwrap();
+    assert_eq!(image.buf()[..], [1, 2, 3, 600, 601, 602, 90, 7, 8, 9, 600, 601, 602, 91]);
+    image.mosaic_pixels(3, Window::new(0, 0, 2, 2), 2, 2).unwrap();
+    let before = [1, 2, 3, 1, 2, 3, 90, 1, 2, 3, 1, 2, 3, 91];
+    assert_eq!(image.buf()[..], before);
+    for channels in [0, 5] {
+        assert_eq!(image.mosaic_pixels(channels, Window::new(0, 0, 1, 1), 1, 1), Err(Refused::NotAnImage));
+        assert_eq!(image.fill_pixels(Window::new(0, 0, 1, 1), &[1; 5][..channels]), Err(Refused::NotAnImage));
+    }
+    assert_eq!(image.fill_pixels(Window::new(2, 0, 1, 1), &[1, 2, 3]), Err(Refused::WindowOutside));
+    assert_eq!(image.mosaic_pixels(3, Window::new(0, 0, 1, 1), 0, 1), Err(Refused::NoTile));
+    assert_eq!(image.into_buf(), before);
+}
+
 fn calls_on<T: Cell + std::fmt::Debug>(least: T, most: T) {
     let mut image = ImgVec::new_stride(vec![least; 7], 3, 2, 4).unwrap();
     image.fill_window(Window::new(1, 0, 2, 2), most).unwrap();
@@ -137,4 +165,58 @@ fn refuses_what_is_no_image() {
     }
     assert!(ImgRef::<u64>::new(&[], 0, 7).is_ok());
     assert_eq!(Refused::NotAnImage.to_string(), "not an image");
+}
+
+// A buffer of the user's, which gives one cell alone from its second call on. Img::new makes the first.
+struct Shrinking {
+    cells: Vec<u8>,
+    calls: Count<usize>,
+}
+
+impl Shrinking {
+    fn len(&self) -> usize {
+        self.calls.set(self.calls.get() + 1);
+        if self.calls.get() > 1 { 1 } else { self.cells.len() }
+    }
+}
+
+impl Buffer for Shrinking {
+    type Pixel = u8;
+
+    fn cells(&self) -> &[u8] {
+        &self.cells[..self.len()]
+    }
+}
+
+impl BufferMut for Shrinking {
+    fn cells_mut(&mut self) -> &mut [u8] {
+        let len = self.len();
+        &mut self.cells[..len]
+    }
+}
+
+#[test]
+fn trusts_no_buffer_from_call_to_call() {
+    type Call = fn(&mut Img<Shrinking>) -> bool;
+    let calls: [(&str, Call); 13] = [
+        ("get", |it| it.get(7, 7).is_ok()),
+        ("put", |it| it.put(7, 7, 99).is_ok()),
+        ("fill_window", |it| it.fill_window(it.whole(), 99).is_ok()),
+        ("copy_window", |it| it.copy_window(it.whole(), ImgRef::new(&[99; 64][..], 8, 8).unwrap()).is_ok()),
+        ("move_window", |it| it.move_window(Window::new(0, 0, 8, 7), Window::new(0, 1, 8, 7)).is_ok()),
+        ("mosaic", |it| it.mosaic(it.whole(), 8, 8).is_ok()),
+        ("fill_pixels", |it| it.fill_pixels(Window::new(0, 0, 4, 8), &[98, 99]).is_ok()),
+        ("mosaic_pixels", |it| it.mosaic_pixels(2, Window::new(0, 0, 4, 8), 4, 8).is_ok()),
+        ("as_contiguous_buf", |it| it.as_contiguous_buf().is_ok()),
+        ("sub_image_mut", |it| it.sub_image_mut(0, 1, 8, 7).and_then(|mut it| it.fill_window(it.whole(), 99)).is_ok()),
+        ("rows_mut", |it| it.rows_mut().map(|row| row.fill(99)).count() == 8),
+        ("index", |it| it[(7, 7)] == 63),
+        ("==", |it| *it == ImgRef::new(&[0; 64][..], 8, 8).unwrap()),
+    ];
+    for (name, call) in calls {
+        let mut image = Img::new(Shrinking { cells: (0..64).collect(), calls: Count::new(0) }, 8, 8).unwrap();
+        let answer = catch_unwind(AssertUnwindSafe(|| call(&mut image)));
+        assert!(!matches!(answer, Ok(true)), "{name} is done");
+        assert!(image.into_buf().cells[1..].iter().copied().eq(1..64), "{name} writes past the buffer");
+    }
 }

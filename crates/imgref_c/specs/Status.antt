@@ -2,7 +2,7 @@
 use Rattle.std.specs.Prelude.{length, ℕ, ◌+◌, ◌-◌, ◌*◌, ◌^◌, ◌<◌, ◌≤◌, Bool, ◌&&◌, ◌||◌, ◌==◌, nat_le, nat_lt, if◌then◌else◌}
 use Rattle.image_model.specs.Layout.{Reaches}
 use Rattle.image_model.specs.Grid.{is_place}
-use Rattle.image_model.specs.Windows.{Window, is_inside}
+use Rattle.image_model.specs.Windows.{Window, window, is_inside}
 use Rattle.image_model.specs.Tiles.{tiles}
 use Rattle.imgref_c.specs.declared.status.Status.{Status}
 use Rattle.imgref_c.specs.declared.status.Status.TheVariants.{Done, NotAnImage, WindowOutside, SizesDiffer, PlaceOutside, NoTile}
@@ -73,6 +73,36 @@ mosaic_status count width height stride w tile_width tile_height =
     first (is_image count width height stride) NotAnImage
     (first (is_inside width height w) WindowOutside
     (first (nat_lt 0 tile_width && nat_lt 0 tile_height) NoTile Done))
+
+-- ---- pixels of several cells, next to one another in a row
+
+-- so many cells are an image of pixels of 1 to 4 cells, with a size in pixels and a stride in cells
+pub record IsPixelImage (channels count width height stride : ℕ) : Type 0 where
+  pub some : 1 ≤ channels
+  pub few : channels ≤ 4
+  pub cells : IsImage count (channels * width) height stride
+
+-- the same as a test
+unfoldable pub is_pixel_image : ℕ → ℕ → ℕ → ℕ → ℕ → Bool
+is_pixel_image channels count width height stride = nat_le 1 channels && (nat_le channels 4 && is_image count (channels * width) height stride)
+
+-- a window of pixels as one of cells
+abbrev pub in_cells : ℕ → Window → Window
+in_cells channels w = window (channels * w.left) w.top (channels * w.width) w.height
+
+-- of a call on a window of such pixels
+abbrev pub pixel_window_status : ℕ → ℕ → ℕ → ℕ → ℕ → Window → Status
+pixel_window_status channels count width height stride w =
+    first (is_pixel_image channels count width height stride) NotAnImage (first (is_inside width height w) WindowOutside Done)
+
+-- of a mosaic of a window of such pixels
+abbrev pub pixel_mosaic_status : ℕ → ℕ → ℕ → ℕ → ℕ → Window → ℕ → ℕ → Status
+pixel_mosaic_status channels count width height stride w tile_width tile_height =
+    first (is_pixel_image channels count width height stride) NotAnImage
+    (first (is_inside width height w) WindowOutside
+    (first (nat_lt 0 tile_width && nat_lt 0 tile_height) NoTile Done))
+
+-- ---- tiles
 
 -- of a call on the tiles of a size
 abbrev pub tiles_status : ℕ → ℕ → ℕ → ℕ → Status

@@ -3,8 +3,9 @@ pub use Rattle.image_model.specs.Layout.{layout}
 pub use Rattle.image_model.specs.Grid.{grid_of, uniform, Agree}
 pub use Rattle.image_model.specs.Windows.{exact_stretch, IsInside}
 pub use Rattle.image_model.specs.Tiles.{tiles}
-pub use Rattle.image_ops.specs.Mosaic.{mosaic as mosaic_of}
+pub use Rattle.image_ops.specs.Mosaic.{mosaic as mosaic_of, mosaic_by}
+pub use Rattle.image_ops.specs.Repeated.{repeated}
 pub use Rattle.image_shape.specs.Window.{as_window}
-pub use Rattle.imgref_c.specs.Status.{code, is_image as passes, IsImage, image_status, place_status, window_status, copy_status, move_status, pair_status, mosaic_status, tiles_status, tile_status}
+pub use Rattle.imgref_c.specs.Status.{code, is_image as passes, IsImage, image_status, place_status, window_status, copy_status, move_status, pair_status, mosaic_status, is_pixel_image, IsPixelImage, in_cells, pixel_window_status, pixel_mosaic_status, tiles_status, tile_status}
 pub use Rattle.imgref_c.specs.Numbering.{Numbered}
 pub use Rattle.imgref_c.specs.Calls.{seen, Writes, Packs, Finds, Gives}

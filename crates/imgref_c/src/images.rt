@@ -30,6 +30,15 @@ impl ClaimedShape {
         }
     }
 
+    /// The same with another width.
+    pub(crate) fn with_width(self, width: usize) -> ClaimedShape
+        ensures width { result.width ≡ width }
+        ensures height { result.height ≡ self.height }
+        ensures stride { result.stride ≡ self.stride }
+    {
+        ClaimedShape { width, ..self }
+    }
+
     /// Whether so many cells are an image of this size and stride.
     #[tactic(auto, using(crate::proofs::Tests::is_image_decides))]
     pub(crate) fn is_image(self, len: usize) -> bool

@@ -12,6 +12,7 @@
 mod images;
 mod packing;
 mod pairs;
+mod pixels;
 mod places;
 mod status;
 mod tiles;

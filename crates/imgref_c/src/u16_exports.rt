@@ -1,10 +1,10 @@
 //! Made from `u8_exports.rt` by `make exports`: the same exports, for cells of type `u16`.
 
-ghost use Rattle.std.specs.Prelude.{◌≡◌, ◌==◌, ◌↔◌, IsTrue, length, Some};
-ghost use Rattle.imgref_c.specs.Words.{as_window, code, copy_status, grid_of, image_status, layout, mosaic_of, mosaic_status, move_status, pair_status, place_status, seen, uniform, window_status, Agree, Gives, Packs, Writes};
+ghost use Rattle.std.specs.Prelude.{◌≡◌, ◌*◌, ◌==◌, ◌↔◌, IsTrue, length, Some};
+ghost use Rattle.imgref_c.specs.Words.{as_window, code, copy_status, grid_of, image_status, in_cells, layout, mosaic_by, mosaic_of, mosaic_status, move_status, pair_status, pixel_mosaic_status, pixel_window_status, place_status, repeated, seen, uniform, window_status, Agree, Gives, Packs, Writes};
 
 use crate::images::ClaimedShape;
-use crate::{packing, pairs, places, windows};
+use crate::{packing, pairs, pixels, places, windows};
 use image_shape::Window;
 
 /// Writes the pixel in column `x` of row `y` to `pixel`.
@@ -81,6 +81,51 @@ pub extern "C" fn imgref_u16_mosaic(
 {
     let claimed = ClaimedShape::new(width, height, stride);
     windows::mosaic(cells, claimed, window, tile_width, tile_height).code()
+}
+
+/// Every pixel of the window becomes `pixel`, which has 1 to 4 cells, next to one another in a row.
+/// Sizes and windows are counted in pixels, and the stride in cells.
+#[unsafe(no_mangle)]
+pub extern "C" fn imgref_u16_fill_pixels(
+    cells: &mut [u16],
+    width: usize,
+    height: usize,
+    stride: usize,
+    window: Window,
+    pixel: &[u16],
+) -> u32
+    ensures status { result ≡ code (pixel_window_status (length pixel.now) (length cells.old) width
+        height stride (as_window window)) }
+    ensures writes { Writes result (length pixel.now * width) height stride cells.old cells.new
+        (length pixel.now * window.left) window.top
+        (repeated (length pixel.now * window.width) window.height pixel.now) }
+{
+    let claimed = ClaimedShape::new(width, height, stride);
+    pixels::fill_pixels(cells, claimed, window, pixel).code()
+}
+
+/// Each tile of the window, from its corner on, gets the old pixel at the tile's corner. A pixel has
+/// 1 to 4 cells, next to one another in a row. Sizes, windows and tiles are counted in pixels, and
+/// the stride in cells.
+#[unsafe(no_mangle)]
+pub extern "C" fn imgref_u16_mosaic_pixels(
+    cells: &mut [u16],
+    width: usize,
+    height: usize,
+    stride: usize,
+    channels: usize,
+    window: Window,
+    tile_width: usize,
+    tile_height: usize,
+) -> u32
+    ensures status { result ≡ code (pixel_mosaic_status channels (length cells.old) width height
+        stride (as_window window) tile_width tile_height) }
+    ensures writes { Writes result (channels * width) height stride cells.old cells.new
+        (channels * window.left) window.top (mosaic_by channels tile_width tile_height
+        (seen (channels * width) height stride cells.old (in_cells channels (as_window window)))) }
+{
+    let claimed = ClaimedShape::new(width, height, stride);
+    pixels::mosaic_pixels(cells, claimed, channels, window, tile_width, tile_height).code()
 }
 
 /// The window `to` gets the pixels that the window `from` had; the two may overlap.
