@@ -7,7 +7,7 @@
 #
 # make frames              proves and builds the program for video and pictures: crates/imgref_frames/out/imgref_frames
 # make c                   proves and builds the library for C: out/c/libimgref.a, libimgref.so, imgref.pc
-# make python              builds the package for Python over it, with cffi: out/python/imgref-..whl
+# make python              builds the package for Python over it: out/python/imgref-..whl
 # make install PREFIX=..   builds it, and installs it with its header
 # make web                 proves and builds the page that covers parts of a picture: out/web/index.html
 # make web-serve [PORT=..] the same, and serves it on this machine alone

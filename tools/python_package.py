@@ -3,9 +3,9 @@
 
     python_package.py build    proves and builds the library where one of its sources has changed, and builds the wheel
 
-It needs cffi (Debian: python3-cffi) and a C compiler, which CC names (cc). The wheel is for the
-Python that runs this; PYTHON names another one. `pip install --no-index out/python/imgref-..whl`
-installs it.
+It needs the headers of Python (Debian: python3-dev) and a C compiler, which CC names (cc). The wheel
+is for the Python that runs this; PYTHON names another one. It depends on no other package, so
+`pip install --no-index out/python/imgref-..whl` installs it.
 """
 import os
 import shutil

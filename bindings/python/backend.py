@@ -1,4 +1,4 @@
-"""Builds the package for pip and for `make python` (PEP 517), with cffi and a C compiler alone.
+"""Builds the package for pip and for `make python` (PEP 517), with a C compiler alone.
 
 The header and the archive of the library are found so: in the folders that IMGREF_INCLUDE and
 IMGREF_LIB name, else in the repository that this folder is in, after `make c`, else where
@@ -23,15 +23,17 @@ HERE = pathlib.Path(__file__).resolve().parent
 NAME, VERSION = "imgref", "0.1.0"
 # What goes into the package as it is.
 PARTS = ("*.py", "*.pyi", "py.typed")
-SOURCES = ("pyproject.toml", "backend.py", "native.py", "native.h")
+SOURCES = ("pyproject.toml", "backend.py", "native.c", "native.h", "README.md", "LICENSE")
 METADATA = f"""Metadata-Version: 2.1
 Name: {NAME}
 Version: {VERSION}
 Summary: Strided 2-D images over proved calls: windows are views, not copies
 License: Apache-2.0
+License-File: LICENSE
 Requires-Python: >=3.10
-Requires-Dist: cffi>=1.15
-"""
+Description-Content-Type: text/markdown
+
+{(HERE / "README.md").read_text(encoding="utf-8")}"""
 # A wheel has the date of no build: the same sources make the same wheel.
 DATE = (1980, 1, 1, 0, 0, 0)
 
@@ -57,17 +59,14 @@ def library():
 
 def compile_native(room):
     """The compiled module, in a folder."""
-    try:
-        import native
-    except ImportError as why:
-        raise Failure(f"cffi isn't installed: apt-get install python3-cffi, or pip install cffi ({why})") from why
+    headers = [pathlib.Path(sysconfig.get_path(it)) for it in ("include", "platinclude")]
+    if not (headers[0] / "Python.h").is_file():
+        raise Failure(f"the headers of Python aren't installed in {headers[0]}: apt-get install python3-dev")
     include, archive = library()
-    source, made = room / "_native.c", room / f"_native{sysconfig.get_config_var('EXT_SUFFIX')}"
-    native.emit(source)
+    made = room / f"_native{sysconfig.get_config_var('EXT_SUFFIX')}"
     words = [
-        *shlex.split(os.environ.get("CC", "cc")), "-O2", "-fPIC", "-shared", "-D_CFFI_NO_LIMITED_API", f"-I{HERE}", f"-I{include}",
-        f"-I{sysconfig.get_path('include')}", f"-I{sysconfig.get_path('platinclude')}", "-o", made, source, archive,
-        "-Wl,-z,noexecstack", "-Wl,--exclude-libs,ALL", "-Wl,-s",
+        *shlex.split(os.environ.get("CC", "cc")), "-std=c11", "-O2", "-Wall", "-fPIC", "-shared", f"-I{include}", *(f"-I{it}" for it in headers),
+        "-o", made, HERE / "native.c", archive, "-Wl,-z,noexecstack", "-Wl,--exclude-libs,ALL", "-Wl,-s",
     ]
     ran = subprocess.run([str(it) for it in words], capture_output=True, text=True)
     if ran.returncode:
@@ -85,7 +84,7 @@ def tag():
 def info(folder):
     """The name of the folder with what describes a wheel, and its files."""
     wheel = f"Wheel-Version: 1.0\nGenerator: imgref backend\nRoot-Is-Purelib: false\nTag: {tag()}\n"
-    return f"{NAME}-{VERSION}.dist-info", {"METADATA": METADATA, "WHEEL": wheel, "top_level.txt": f"{NAME}\n"}
+    return f"{NAME}-{VERSION}.dist-info", {"METADATA": METADATA, "WHEEL": wheel, "top_level.txt": f"{NAME}\n", "LICENSE": (HERE / "LICENSE").read_text(encoding="utf-8")}
 
 
 def build_wheel(wheel_directory, config_settings=None, metadata_directory=None):

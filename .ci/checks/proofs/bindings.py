@@ -5,6 +5,7 @@ the crate for Rust.
 It builds over what the proofs left, and works in a folder of its own. What isn't on the machine is
 named as skipped, and counts as neither.
 """
+import json
 import os
 import pathlib
 import re
@@ -19,7 +20,9 @@ from library import RUST_COUNT, counted, installed, run, say_skipped, skipped
 
 PYTHON = ROOT / "bindings/python"
 # The tests of the package, each a program that counts.
-TESTS = ("calls", "formats", "shapes", "colours", "speed")
+TESTS = ("calls", "formats", "shapes", "colours", "buffers", "reentry", "speed")
+# Freed memory is overwritten, so that a read or a write of it shows.
+DEBUGGED = {"PYTHONMALLOC": "debug", "MALLOC_PERTURB_": "165"}
 DOCTEST = "import doctest, sys; failed, tried = doctest.testfile(sys.argv[1], module_relative=False); print(f'{tried - failed} passed, {failed} failed')"
 
 # A project of cargo's that adds the crate.
@@ -37,27 +40,46 @@ fn main() -> Result<(), imgref_proved::Refused> {
 
 def check_python(cases, room):
     """The wheel that `make python` builds, as pip installs it with no index, its tests, and the
-    examples of its page."""
-    if run([sys.executable, "-c", "import cffi"])[0]:
-        skipped("Python's package (cffi)")
-        return
+    examples of its pages."""
     status, _, said = run(["make", "-s", "python"], cwd=ROOT)
     wheels = [*(ROOT / "out/python").glob("imgref-*.whl")]
     cases.count("make python", status == 0 and len(wheels) == 1, said)
-    if status or run([sys.executable, "-m", "venv", "--system-site-packages", room / "venv"])[0]:
+    if status or run([sys.executable, "-m", "venv", room / "fresh"])[0]:
         skipped("Python's package installed by pip (venv)")
         return
-    python, quiet = room / "venv/bin/python", os.environ | {"PYTHONDONTWRITEBYTECODE": "1"}
-    status, _, said = run([python, "-m", "pip", "install", "--no-index", wheels[0]], env=quiet)
-    cases.count("pip install --no-index", status == 0, said)
-    for it in TESTS:
-        status, _, said = run([python, f"{it}.py"], cwd=PYTHON / "tests", env=quiet)
+    quiet = os.environ | {"PYTHONDONTWRITEBYTECODE": "1"}
+    fresh = check_install(cases, room / "fresh", wheels[0], quiet)
+    status, _, said = run([fresh, "calls.py"], cwd=PYTHON / "tests", env=quiet)
+    counted(cases, "Python, with nothing else installed: calls", said, status)
+    check_wheel(cases, fresh, quiet)
+    # (here are NumPy and PIL, where the machine has them)
+    run([sys.executable, "-m", "venv", "--system-site-packages", room / "venv"])
+    python = check_install(cases, room / "venv", wheels[0], quiet)
+    for it, more in [*((it, {}) for it in TESTS), ("reentry", DEBUGGED)]:
+        status, _, said = run([python, f"{it}.py"], cwd=PYTHON / "tests", env=quiet | more)
         say_skipped(said)
-        counted(cases, f"Python: {it}", said, status)
-    status, _, said = run([python, "-c", DOCTEST, ROOT / "docs/PYTHON.md"], cwd=room, env=quiet)
-    counted(cases, "docs/PYTHON.md", said, status)
+        counted(cases, f"Python: {it}{', under a debug allocator' if more else ''}", said, status)
+    for page in ("docs/PYTHON.md", "bindings/python/README.md"):
+        status, _, said = run([python, "-c", DOCTEST, ROOT / page], cwd=room, env=quiet)
+        counted(cases, page, said, status)
     check_sources(cases, room, python, quiet)
     check_hints(cases, room, python)
+
+
+def check_install(cases, venv, wheel, quiet):
+    """The command of docs/PYTHON.md in a virtual environment, whose Python is returned."""
+    python = venv / "bin/python"
+    status, _, said = run([python, "-m", "pip", "install", "--no-index", wheel], env=quiet)
+    cases.count(f"pip install --no-index, {venv.name}", status == 0, said)
+    return python
+
+
+def check_wheel(cases, python, quiet):
+    """The package has the licence, the text of its README and no dependency."""
+    shows = "import importlib.metadata as m, json; it = m.metadata('imgref'); licence = [f.read_text() for f in m.files('imgref') if f.name == it['License-File']]; print(json.dumps([it.get_payload(), licence, m.requires('imgref')]))"
+    status, wrote, said = run([python, "-c", shows], env=quiet)
+    wanted = [(PYTHON / "README.md").read_text(), [(ROOT / "LICENSE").read_text()], None]
+    cases.count("the wheel has README and licence, and needs no package", status == 0 and json.loads(wrote) == wanted, said)
 
 
 def check_sources(cases, room, python, quiet):
@@ -82,6 +104,8 @@ def check_hints(cases, room, python):
         "is_equal: bool = frame == frame.window((0, 0, 3, 2))": True,
         "frame.fill(imgref.Window(0, 0, 1, 1), 0.5)": True,
         "frame.fill((0, 0, 1, 1), (1, 2, 3))": True,
+        "frame.copy_from(frame.copy()); height: int = frame.shape[0]; text: str = frame.dtype": True,
+        "pixels: bytes = bytes(frame); planes: list[imgref.Image] = imgref.Image.planes_of(frame)": True,
         'frame.put("0", 0, 1)': False,
         "frame.window((0, 0, 1))": False,
         "frame.width = 3": False,

@@ -43,6 +43,11 @@ class Cell:
         self.format, self.size, self.encode, self.decode = format, size, encode, decode
 
     @property
+    def code(self) -> str:
+        """The format as a buffer has it, which `memoryview` reads in the processor's own order."""
+        return self.format[-1] if self.size == 1 or self.format[0] == OWN_ORDER else self.format
+
+    @property
     def typestr(self) -> str:
         """The format as the array interface has it."""
         kind = next(it for it, letters in KINDS.items() if self.format[-1] in letters)

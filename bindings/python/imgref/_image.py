@@ -4,19 +4,13 @@ from __future__ import annotations
 from operator import index
 from typing import Any, Iterator
 
-from ._layout import IMAGE, Layout, done as _done, too_large as _too_large
+from . import _native
+from ._layout import Layout
 from ._memory import known, memory_of, shaped, sized
-from ._native import ffi, lib
-from ._types import Buffer, Corners, Pixel, Refused, Window
+from ._types import Buffer, Corners, Pixel, Window
 
-_new = ffi.new
-_bits, _place, _put, _fill = lib.image_bits, lib.image_place, lib.image_put, lib.image_fill
-_copy, _move, _equal, _window = lib.image_copy, lib.image_move, lib.image_equal, lib.image_window
-_WINDOW_OUTSIDE, _SHARED = 2, 100
-
-
-def _read_only() -> TypeError:
-    return TypeError("the memory is read only")
+_get, _put, _fill, _copy = _native.get, _native.put, _native.fill, _native.copy
+_move, _mosaic, _equal, _window, _hold = _native.move, _native.mosaic, _native.equal, _native.window, _native.hold
 
 
 class Image(Layout):
@@ -56,6 +50,7 @@ class Image(Layout):
         else:
             sizes = sized(memory, width, height, stride, channels)
         self._over(memory, *sizes)
+        self._is_part = width is None and not memory.view.c_contiguous
 
     @classmethod
     def copy_of(cls, buffer: Buffer) -> Image:
@@ -73,181 +68,105 @@ class Image(Layout):
         made._over(owned, width, height, max(width, 1) * known(channels), owned.bytes // memory.cell.size, channels)
         return made
 
+    @classmethod
+    def planes_of(cls, buffer: Buffer) -> list[Image]:
+        """An image over each plane of a buffer of three dimensions: planes, rows and columns."""
+        memory, planes = memory_of(buffer), []
+        if len(memory.shape) != 3:
+            raise TypeError("planes go with a buffer of three dimensions")
+        if memory.strides[0] < 0:
+            raise ValueError("no images: the planes go backwards (copy_of copies such pixels)")
+        plane = memory._replace(shape=memory.shape[1:], strides=memory.strides[1:])
+        for at in range(memory.shape[0]):
+            made = cls.__new__(cls)
+            made._over(memory, *shaped(plane), at * memory.strides[0])
+            made._is_part = not memory.view.c_contiguous
+            planes.append(made)
+        return planes
+
     def get(self, x: int, y: int) -> Any:
         """The pixel in column `x` of row `y`: a number, or a tuple of a colour image's."""
-        x, y, pixels = index(x), index(y), self._pixels
-        try:
-            if pixels.is_plain:
-                # (a refusal gives 0, and so does a pixel of 0)
-                cell = _bits(self._image, x, y)
-                if not cell:
-                    _done(_place(self._image, x, y))
-                return pixels.of_cell(cell)
-            return pixels.decode(self._bits_at(x, y))
-        except OverflowError as why:
-            raise _too_large(why) from why
-
-    def _bits_at(self, x: int, y: int) -> list[int]:
-        """The cells of a pixel."""
-        image, left = self._image, x * self._step
-        _done(_place(image, left, y))
-        return [_bits(image, left + at, y) for at in range(self._step)]
+        return self._pixels.decode(_get(self._cells, x, y))
 
     def put(self, x: int, y: int, value: Pixel) -> None:
         """The pixel in column `x` of row `y` becomes `value`."""
-        if not self._writable:
-            raise _read_only()
-        image, pixels = self._image, self._pixels
-        try:
-            if pixels.is_plain:
-                _done(_put(image, index(x), index(y), pixels.to_cell(value)))  # type: ignore[arg-type]
-                return
-            left, y = index(x) * self._step, index(y)
-            for at, it in enumerate(pixels.encode(value)):
-                _done(_put(image, left + at, y, it))
-        except OverflowError as why:
-            raise _too_large(why) from why
+        _put(self._cells, x, y, self._pixels.encode(value))
 
     def fill(self, window: Corners, value: Pixel) -> None:
         """Every pixel of the window becomes `value`."""
-        if not self._writable:
-            raise _read_only()
-        image, pixels, step = self._image, self._pixels, self._step
-        left, top, width, height = map(index, window)
-        try:
-            if pixels.is_plain:
-                _done(_fill(image, left, top, width, height, pixels.to_cell(value)))  # type: ignore[arg-type]
-                return
-            cells = pixels.encode(value)
-            if cells.count(cells[0]) == step:
-                _done(_fill(image, left * step, top, width * step, height, cells[0]))
-            else:
-                self._fill_apart(image, left, top, width, height, cells)
-        except OverflowError as why:
-            raise _too_large(why) from why
+        left, top, width, height = window
+        _fill(self._cells, left, top, width, height, self._pixels.encode(value))
 
-    def _fill_apart(self, image: Any, left: int, top: int, width: int, height: int, cells: list[int]) -> None:
-        """Fills by a pixel of several cells: the first pixel is put, and then what is done is
-        copied to as much again."""
-        step = self._step
-        if not lib.image_has_window(image, left * step, top, width * step, height):
-            raise Refused(_WINDOW_OUTSIDE)
-        if not width or not height:
-            return
-        for at, it in enumerate(cells):
-            _done(_put(image, left * step + at, top, it))
-        done = 1
-        while done < width:
-            more = min(done, width - done)
-            _done(_move(image, left * step, top, more * step, 1, (left + done) * step, top, more * step, 1))
-            done += more
-        done = 1
-        while done < height:
-            more = min(done, height - done)
-            _done(_move(image, left * step, top, width * step, more, left * step, top + done, width * step, more))
-            done += more
+    def copy_window(self, window: Corners, source: Image | Buffer) -> None:
+        """The window gets the pixels of `source`, an image or a buffer of two or three dimensions.
+        It has the window's size and this image's format, and is over other memory."""
+        if not isinstance(source, Image):
+            source = _image_of(source)
+        if self._pixels is not source._pixels and not self._is_alike(source):
+            raise TypeError(f"no image with pixels of {self.channels} numbers of format {self.format!r}: {source!r}")
+        left, top, width, height = window
+        _copy(self._cells, left, top, width, height, source._cells)
 
-    def copy_window(self, window: Corners, source: Image) -> None:
-        """The window gets the pixels of `source`, an image of its size and format over other
-        memory."""
-        if not self._writable:
-            raise _read_only()
-        image, other, step = self._alike(source)
-        left, top, width, height = map(index, window)
-        try:
-            status = _copy(image, left * step, top, width * step, height, other)
-        except OverflowError as why:
-            raise _too_large(why) from why
-        if status == _SHARED:
-            raise ValueError("the images share memory: move_window goes within one")
-        _done(status)
-
-    def copy_from(self, source: Image) -> None:
-        """Every pixel becomes that of `source`."""
+    def copy_from(self, source: Image | Buffer) -> None:
+        """Every pixel becomes that of `source`, an image or a buffer, as in `copy_window`."""
         self.copy_window((0, 0, self._width, self._height), source)
 
     def copy(self) -> Image:
         """A copy in joined rows and memory of its own."""
-        made, numbers = Image.__new__(Image), self._width * self._height * self._pixels.channels
-        owned = memory_of(bytearray(numbers * self._pixels.cell.size))._replace(cell=self._pixels.cell)
-        made._over(owned, self._width, self._height, max(self._width, 1) * self._pixels.channels, numbers, self._pixels.channels)
+        cell, channels = self._pixels.cell, self._pixels.channels
+        made, numbers = Image.__new__(Image), self._width * self._height * channels
+        owned = memory_of(_native.room(numbers * cell.size))._replace(cell=cell)
+        made._over(owned, self._width, self._height, max(self._width, 1) * channels, numbers, channels)
         made.copy_from(self)
         return made
 
     def tobytes(self) -> bytes:
-        """The bytes of all pixels, in joined rows."""
-        return self.copy()._memory.view.tobytes()
+        """The bytes of all pixels, in joined rows. `bytes(image)` is the same."""
+        return _native.joined(self._cells)
+
+    __bytes__ = tobytes
 
     def move_window(self, source: Corners, target: Corners) -> None:
         """The window `target` gets the pixels that the window `source` had; they may overlap."""
-        if not self._writable:
-            raise _read_only()
-        image, step = self._image, self._step
-        left, top, width, height = map(index, source)
-        x, y, wide, high = map(index, target)
-        try:
-            _done(_move(image, left * step, top, width * step, height, x * step, y, wide * step, high))
-        except OverflowError as why:
-            raise _too_large(why) from why
+        left, top, width, height = source
+        x, y, wide, high = target
+        _move(self._cells, left, top, width, height, x, y, wide, high)
 
     def mosaic(self, window: Corners, tile_width: int, tile_height: int) -> None:
         """Each tile of the window, from its corner on, gets the pixel that was at the tile's
         corner."""
-        if not self._writable:
-            raise _read_only()
-        image, step = self._image, self._step
-        left, top, width, height = map(index, window)
-        tile_width, tile_height = index(tile_width), index(tile_height)
-        try:
-            if step == 1:
-                _done(lib.image_mosaic(image, left, top, width, height, tile_width, tile_height))
-                return
-            inner = self.window((left, top, width, height))
-            for tile in inner.tiles(tile_width, tile_height):
-                inner._fill_apart(inner._image, *tile, inner._bits_at(tile.left, tile.top))
-        except OverflowError as why:
-            raise _too_large(why) from why
+        left, top, width, height = window
+        _mosaic(self._cells, left, top, width, height, tile_width, tile_height)
 
     def pack(self) -> None:
-        """The rows are joined at the front of the memory: the stride is that of joined rows from
-        now on."""
-        if not self._writable:
-            raise _read_only()
-        _done(lib.image_pack(self._image))
+        """Joins the rows at the front of the memory. The stride is that of joined rows from then
+        on.
+
+        A window and a part of an array are refused: the memory between their rows is another
+        image's.
+        """
+        if self._is_part:
+            raise ValueError("pack on a window or a part of an array would write over pixels beside it: copy() joins the rows")
+        _native.pack(self._cells)
 
     def window(self, window: Corners) -> Image:
         """The window as an image over the same memory."""
         left, top, width, height = map(index, window)
-        made, step = Image.__new__(Image), self._step
-        made._image = image = _new(IMAGE)
-        try:
-            _done(_window(self._image, left * step, top, width * step, height, image))
-        except OverflowError as why:
-            raise _too_large(why) from why
-        made._memory, made._pixels, made._step = self._memory, self._pixels, step
-        made._width, made._height, made._writable = width, height, self._writable
+        made = Image.__new__(Image)
+        _hold(made, _window(self._cells, left, top, width, height))
+        made._pixels, made._width, made._height, made._is_part = self._pixels, width, height, True
         return made
 
     def tiles(self, tile_width: int, tile_height: int) -> Iterator[Window]:
         """The windows of the tiles, line by line."""
         sizes = (self._width, self._height, index(tile_width), index(tile_height))
-        count, tile = _new("size_t *"), _new("imgref_rect *")
-        try:
-            _done(lib.imgref_tile_count(*sizes, count))
-        except OverflowError as why:
-            raise _too_large(why) from why
-        for number in range(count[0]):
-            _done(lib.imgref_tile(*sizes, number, tile))
-            yield Window(tile.left, tile.top, tile.width, tile.height)
+        for number in range(_native.tile_count(*sizes)):
+            yield Window(*_native.tile(*sizes, number))
 
     def __eq__(self, other: object) -> bool:
         if not isinstance(other, Image) or self._pixels is not other._pixels and not self._is_alike(other):
             return False
-        image, second, _ = self._alike(other)
-        equal = _equal(image, second)
-        if equal < 0:
-            raise Refused(-equal)
-        return bool(equal)
+        return _equal(self._cells, other._cells)
 
     __hash__ = None  # type: ignore[assignment]
 
@@ -260,3 +179,11 @@ class Image(Layout):
     def __repr__(self) -> str:
         colours = f", {self._pixels.channels} channels" if self._pixels.channels > 1 else ""
         return f"<imgref.Image of {self._width} by {self._height} pixels{colours}, stride {self.stride}, format {self.format!r}>"
+
+
+def _image_of(source: Buffer) -> Image:
+    """An image over the pixels of a buffer, or over a copy where its strides are no image's."""
+    try:
+        return Image(source)
+    except ValueError:
+        return Image.copy_of(source)

@@ -5,7 +5,7 @@ from operator import index
 from typing import Any, NamedTuple
 
 from ._cells import KINDS, Cell, cell_of, size_of
-from ._native import lib
+from ._native import address
 from ._types import Buffer
 
 # A colour image has at most so many numbers in a pixel.
@@ -42,7 +42,7 @@ def memory_of(owner: Buffer) -> Memory:
     shape, cell = view.shape or (), cell_of(view.format, view.itemsize)
     # (contiguous items may come without strides, as from ctypes)
     strides = view.strides or packed_strides(shape, cell.size)
-    return Memory(view, lib.memory_of(id(view)), view.nbytes, cell, shape, strides, not view.readonly)
+    return Memory(view, address(view), view.nbytes, cell, shape, strides, not view.readonly)
 
 
 def _by_interface(told: dict[str, Any]) -> Memory:
@@ -67,7 +67,7 @@ def _by_interface(told: dict[str, Any]) -> Memory:
         count *= it
     if min(numbers, default=0) < 0 or not view.c_contiguous or view.nbytes != count:
         raise TypeError("the array interface gives another number of bytes than its shape has")
-    return Memory(view, lib.memory_of(id(view)), count, cell, numbers, strides, False)
+    return Memory(view, address(view), count, cell, numbers, strides, False)
 
 
 def packed_strides(shape: tuple[int, ...], size: int) -> tuple[int, ...]:

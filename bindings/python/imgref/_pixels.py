@@ -3,10 +3,10 @@ from __future__ import annotations
 
 import functools
 import sys
-from typing import Any
+from typing import Any, Callable
 
 from ._cells import Cell
-from ._types import Pixel
+from ._types import Number, Pixel
 
 _GROUPS = (1, 2, 4, 8)
 
@@ -15,38 +15,46 @@ class Pixels:
     """Pixels of `channels` numbers, each of which is `step` cells: one for all of its numbers, or
     one for each.
 
-    `is_plain` says that a pixel is one number: `to_cell` gives its cell then, and `of_cell` is the
-    inverse.
+    `encode` gives the bits of a pixel as the calls take them: one number, or a list with one for
+    each cell. `decode` is its inverse.
     """
 
-    __slots__ = ("cell", "channels", "step", "is_plain", "to_cell", "of_cell")
+    __slots__ = ("cell", "channels", "step", "encode", "decode")
+    encode: Callable[[Any], int | list[int]]
+    decode: Callable[[Any], Any]
 
     def __init__(self, cell: Cell, channels: int, step: int):
         self.cell, self.channels, self.step = cell, channels, step
-        self.is_plain, self.to_cell, self.of_cell = channels == 1, cell.encode, cell.decode
+        if channels == 1:
+            self.encode, self.decode = cell.encode, cell.decode
+        elif step > 1:
+            self.encode, self.decode = self._numbers, self._of_numbers
+        else:
+            self.encode, self.decode = self._joined, self._of_joined
 
-    def encode(self, value: Pixel) -> list[int]:
-        """The cells of a pixel, from its numbers."""
+    def _numbers(self, value: Pixel) -> list[int]:
+        """The bits of each number of a colour. One number stands for all of them."""
         encode = self.cell.encode
-        if self.channels == 1:
-            return [encode(value)]  # type: ignore[arg-type]
-        numbers = [encode(it) for it in value]  # type: ignore[union-attr]
+        try:
+            values = iter(value)  # type: ignore[arg-type]
+        except TypeError:
+            return [encode(value)] * self.channels  # type: ignore[arg-type]
+        numbers = [encode(it) for it in values]
         if len(numbers) != self.channels:
             raise ValueError(f"a pixel of {self.channels} numbers: {value!r}")
-        if self.step > 1:
-            return numbers
-        size, own = self.cell.size, sys.byteorder
-        return [int.from_bytes(b"".join(it.to_bytes(size, own) for it in numbers), own)]
+        return numbers
 
-    def decode(self, cells: list[int]) -> Any:
-        """The number of a pixel, or a tuple of them, from its cells."""
-        decode = self.cell.decode
-        if self.channels == 1:
-            return decode(cells[0])
-        if self.step > 1:
-            return tuple(map(decode, cells))
+    def _of_numbers(self, bits: list[int]) -> tuple[Number, ...]:
+        return tuple(map(self.cell.decode, bits))
+
+    def _joined(self, value: Pixel) -> int:
+        """The bits of the one cell that a colour is."""
         size, own = self.cell.size, sys.byteorder
-        data = cells[0].to_bytes(size * self.channels, own)
+        return int.from_bytes(b"".join(it.to_bytes(size, own) for it in self._numbers(value)), own)
+
+    def _of_joined(self, bits: int) -> tuple[Number, ...]:
+        size, own, decode = self.cell.size, sys.byteorder, self.cell.decode
+        data = bits.to_bytes(size * self.channels, own)
         return tuple(decode(int.from_bytes(data[at : at + size], own)) for at in range(0, len(data), size))
 
 

@@ -97,7 +97,7 @@ def of_three_dimensions():
     image.fill(Window(1, 1, 2, 1), (200, 201, 202))
     check("fill", frame[15:21] == bytes([200, 201, 202] * 2) and frame[:15] == bytes(range(15)) and frame[21:] == bytes(range(21, 48)))
     before = bytes(frame)
-    for bad in (7, (1, 2), (1, 2, 3, 4), (1, 2, 256), (1, 2, "3"), (1, 2, 3.0), None):
+    for bad in ((), (1, 2), (1, 2, 3, 4), (1, 2, 256), (1, 2, "3"), (1, 2, 3.0), None):
         check(f"no pixel: {bad!r}", raises((ValueError, TypeError), image.fill, image.whole, bad) and raises((ValueError, TypeError), image.put, 0, 0, bad))
     for call, words in ((image.fill, (Window(3, 0, 2, 1), (1, 2, 3))), (image.mosaic, (Window(0, 3, 1, 2), 2, 2)), (image.mosaic, (image.whole, 0, 2)), (image.put, (4, 0, (1, 2, 3)))):
         check(f"refused: {call.__name__} {words}", raises(Refused, call, *words))
@@ -111,7 +111,7 @@ def of_three_dimensions():
     bgra = Image(memoryview(frame).cast("B", (3, 4, 4)))
     lying = Image(memoryview(frame)[1:33], 2, 4, channels=4)
     bgra.window((0, 0, 2, 1)).copy_from(Image(bytes([9] * 8), 2, 1, channels=4))
-    check("four bytes are one cell where they are aligned", (bgra._step, lying._step) == (1, 4) and frame[:9] == bytes([9] * 8) + before[8:9])
+    check("four bytes are one cell where they are aligned", (bgra._pixels.step, lying._pixels.step) == (1, 4) and frame[:9] == bytes([9] * 8) + before[8:9])
     check("images of other formats differ", bgra != Image(array.array("I", [0] * 12), 4, 3) and raises(TypeError, bgra.copy_from, Image(array.array("I", [0] * 12), 4, 3)))
 
 

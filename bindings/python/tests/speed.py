@@ -1,12 +1,12 @@
-"""The fixed cost of a call: the least time on images of one pixel. Prints 'N passed, M failed'
-last.
+"""The fixed cost of a call: the least time on images of one pixel. And large images beside NumPy, in
+one run. Prints 'N passed, M failed' last.
 
     speed.py [MICROSECONDS]    the most that a call may take (2)
 """
 import sys
 import timeit
 
-from counting import check, end
+from counting import check, end, numpy_or_none
 from imgref import Image, Window
 
 # The least time of many rounds counts, since the machine may be busy. Where it is too long, more
@@ -22,6 +22,46 @@ def least(call, most):
         if taken <= most:
             break
     return taken
+
+
+# The calls of both are timed by turns, until the package's least time is at most NumPy's. A busy
+# machine may slow one of them down: only more than twice NumPy's least time is a failure.
+TURNS, FACTOR = 60, 2
+
+
+def beside_numpy(numpy):
+    """Calls on an image of 12 million pixels beside what one writes with NumPy."""
+    for label, shape in (("grey", (3000, 4000)), ("RGB", (3000, 4000, 3))):
+        array = numpy.random.default_rng(7).integers(0, 256, shape, dtype=numpy.uint8)
+        image, other, inner = Image(array.copy()), array.copy(), Image(array)
+        colour = (1, 2, 3) if len(shape) == 3 else 7
+
+        def mosaic():
+            other[:] = other[::8, ::8].repeat(8, 0).repeat(8, 1)
+
+        pairs = {
+            "mosaic of 8 by 8": (lambda: image.mosaic(image.whole, 8, 8), mosaic),
+            "fill": (lambda: image.fill(image.whole, colour), lambda: other.__setitem__(..., colour)),
+            "tobytes": (inner.tobytes, array.tobytes),
+            "copy": (inner.copy, array.copy),
+            "copy_from": (lambda: image.copy_from(inner), lambda: numpy.copyto(other, array)),
+            "==": (lambda: image == inner, lambda: numpy.array_equal(other, array)),
+        }
+        for name, calls in pairs.items():
+            own, numpys = by_turns(*calls)
+            check(f"{name}, {label}: {own:.2f} ms, NumPy {numpys:.2f}", own <= FACTOR * numpys)
+        check(f"both give the same, {label}", (numpy.asarray(image) == other).all())
+
+
+def by_turns(*calls):
+    """The least times of two calls, in milliseconds."""
+    least_of = [float("inf"), float("inf")]
+    for _ in range(TURNS):
+        for at, call in enumerate(calls):
+            least_of[at] = min(least_of[at], 1e3 * timeit.timeit(call, number=1))
+        if least_of[0] <= least_of[1]:
+            break
+    return least_of
 
 
 def main(most):
@@ -43,6 +83,8 @@ def main(most):
     for name, call in calls.items():
         taken = least(call, most)
         check(f"{name}: {taken:.2f} microseconds, at most {most:g}", taken <= most)
+    if (numpy := numpy_or_none()) is not None:
+        beside_numpy(numpy)
     end()
 
 
