@@ -6,8 +6,7 @@
 
 The kind of a crate is in crates.txt, where imgref_c is a static library. So it is built as `wasm64`
 in a room (workspace.py) that has another line for it. page.js is the modules of web/ in one file,
-each after those that it imports. Comments, indents, spaces beside operators and most line ends are
-left out of what a browser loads.
+each after those that it imports. Comments and indents are left out of what a browser loads.
 """
 import contextlib
 import functools
@@ -28,16 +27,6 @@ PORT = 8000
 COMMENTS = ("//", "/**", "/* ", "<!--")
 # What a style sheet means is the same without white space at these marks.
 SPACE = re.compile(r"\s*([{};,]|:(?=\s))\s*")
-# A text of a script. No text holds a template that has another one in it; a regular expression writes \s for a space.
-TEXT = re.compile(r""""(?:\\.|[^"\\\n])*"|'(?:\\.|[^'\\\n])*'|`(?:\\.|[^`\\])*`""")
-# What a script means is the same without spaces at these marks. Two signs in a row are not brought together.
-MARK = re.compile(r" *[=*/%<>&|^!?:;,.(){}\[\]] *|(?<![+ ]) *\+ *(?![+ ])|(?<![- ]) *- *(?![- ])")
-# And without the end of a line after these marks, or before those. No line ends with a comment.
-LINE = re.compile(r"(?<=[;{,(\[])\n|\n(?=[}\])])")
-# A statement at the end of a block needs no semicolon. No block ends with an empty statement.
-LAST = re.compile(r";(?=})")
-# A name that is never assigned again doesn't have to say so.
-CONSTANT = re.compile(r"\bconst\b")
 
 
 class Failure(Exception):
@@ -60,22 +49,6 @@ def slim(text):
     return "".join(
         f"{it}\n" for it in map(str.strip, text.splitlines()) if it and not it.startswith(COMMENTS)
     )
-
-
-def tight(script):
-    """The script without spaces beside operators and brackets, and without line ends and semicolons that no statement needs.
-    Its texts stay as they are."""
-    kept, at = [], 0
-    for it in TEXT.finditer(script):
-        kept += [tightened(script[at : it.start()]), it.group()]
-        at = it.end()
-    return "".join([*kept, tightened(script[at:])])
-
-
-def tightened(code):
-    """The same of a part of a script that has no text."""
-    code = LINE.sub("", MARK.sub(lambda it: it.group().strip(), code))
-    return CONSTANT.sub("let", LAST.sub("", code))
 
 
 def number_at(data, at):
@@ -120,9 +93,9 @@ def build():
     with held(OUT):
         if not is_fresh(OUT / MODULE, NAME):
             make_module()
-    (OUT / FIRST).write_text(tight(slim(bundled(FIRST, set()))))
+    (OUT / FIRST).write_text(slim(bundled(FIRST, set())))
     (OUT / "index.html").write_text(slim((SOURCES / "index.html").read_text()))
-    (OUT / "style.css").write_text(LAST.sub("", SPACE.sub(r"\1", slim((SOURCES / "style.css").read_text()))))
+    (OUT / "style.css").write_text(SPACE.sub(r"\1", slim((SOURCES / "style.css").read_text())))
     size = sum(it.stat().st_size for it in OUT.iterdir())
     say(f"{OUT.relative_to(ROOT)}/index.html, {size // 1000} KB with the files beside it")
 

@@ -21,7 +21,7 @@ from checking import ROOT, Cases
 
 OUT = ROOT / "out/web"
 FILES = {"index.html", "page.js", "style.css", "imgref.wasm"}
-MOST_BYTES = 100_000
+MOST_BYTES = 200_000
 # The sections of a WebAssembly file with names of other modules, and those without code and data.
 IMPORTS, CUSTOM = 2, 0
 PROGRAM = ROOT / "crates/imgref_frames/out/imgref_frames"
