@@ -1,7 +1,7 @@
 // The controls of the tab 'Picture': buttons, fields, keys, and files that are dropped or pasted.
 
 import { find } from "./common.js";
-import { PictureTab } from "./picture.js";
+import { FIELDS, PictureTab, colourOf } from "./picture.js";
 
 /** Starts the tab over a library. */
 export function startPicture(library) {
@@ -21,8 +21,8 @@ export function startPicture(library) {
   on("remove", "click", () => tab.remove(tab.selected));
   on("apply", "click", () => tab.applyText());
   on("copy", "click", () => tab.copyText());
-  on("tools", "change", () => tab.retool());
-  on("selected", "change", () => tab.change(tab.selected, rectangleOfFields()));
+  on("tools", "change", () => tab.render());
+  on("selected", "change", ({ target }) => changeField(tab, target));
   document.addEventListener("keydown", (event) => keys(tab, event));
   document.addEventListener("paste", (event) => {
     const file = [...event.clipboardData.files][0];
@@ -41,16 +41,26 @@ export function startPicture(library) {
   tab.render();
 }
 
-function rectangleOfFields() {
-  const values = ["left", "top", "width", "height"].map(
-    (it) => [it, Math.max(Math.floor(find(it).valueAsNumber) || 0, 0)]
-  );
-  return Object.fromEntries(values);
+/** A field of the selected edit has another value. */
+function changeField(tab, field) {
+  if (field.id === "own-colour") {
+    return tab.change(tab.selected, { colour: colourOf(field.id) });
+  }
+  const name = Object.keys(FIELDS).find((it) => FIELDS[it] === field.id);
+  const value = field.valueAsNumber, own = name.startsWith("tile") ? { isOwn: true } : {};
+  if (!Number.isSafeInteger(value) || value < 0) {
+    tab.say(`The ${field.dataset.name ?? name} is no whole number from 0 on. Nothing has changed.`, true);
+    return tab.render();
+  }
+  return tab.change(tab.selected, { [name]: value, ...own });
 }
 
 function keys(tab, event) {
   const isText = event.target.matches("textarea, input:not([type=radio], [type=checkbox])");
   const key = event.key.toLowerCase();
+  if (key === "escape" && !isText) {
+    return tab.stage.drag ? tab.stage.cancel() : tab.select(-1);
+  }
   if (isText || !tab.pixels || !(event.ctrlKey || event.metaKey) || (key !== "z" && key !== "y")) {
     return;
   }

@@ -1,6 +1,7 @@
 // Edits and their text, in the words of docs/FRAMES.md.
 
 import { isNumber } from "./common.js";
+import { hidesNothing } from "./tile.js";
 
 const RANGE = /^[0-9]*\.\.[0-9]*$/;
 const WORDS = {
@@ -27,6 +28,15 @@ export function resizes(edit) {
 /** Whether an edit covers what was there. */
 export function covers(edit) {
   return edit.word === "fill" || edit.word === "mosaic";
+}
+
+/** Why a cover would hide nothing at all, or nothing. */
+export function futility(edit) {
+  const zero = covers(edit) && ["width", "height"].find((it) => Number(edit[it]) === 0);
+  if (zero) {
+    return `The ${zero} is 0: nothing would be covered. It is at least 1.`;
+  }
+  return hidesNothing(edit) ? "A mosaic with tiles of 1 by 1 hides nothing." : "";
 }
 
 /** An edit as a line. */
@@ -77,6 +87,10 @@ function editOf(line, number) {
   const edit = lists.every(Boolean) && made(word, lists);
   if (!edit) {
     throw new BadEdit(number, `'${line}' is not of the form ${form}.`);
+  }
+  const why = futility(edit);
+  if (why) {
+    throw new BadEdit(number, why);
   }
   return edit;
 }

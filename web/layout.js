@@ -2,6 +2,7 @@
 
 import { addDrawn, find } from "./common.js";
 import { FAULT_WORDS, outputOf, readScript, runScript, windowsAlong } from "./script.js";
+import { plural } from "./words.js";
 
 // The size of a cell on the screen, the room for the measures, and what is drawn at most.
 const SIDE = 44, ROOM = 36, MOST_COLUMNS = 64, MOST_CELLS = 1024;
@@ -170,10 +171,6 @@ function boxOf({ left, top, width, height }, inset) {
     x: x + inset, y: y + inset, width: Math.max(wide - 2 * inset, 0),
     height: Math.max(high - 2 * inset, 0)
   };
-}
-
-function plural(count, word) {
-  return `${count} ${word}${count === 1 ? "" : "s"}`;
 }
 
 /** Starts the tab over a library. */

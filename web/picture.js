@@ -2,8 +2,11 @@
 
 import { find } from "./common.js";
 import { Pixels } from "./pixels.js";
-import { BadEdit, covers, editsOf, resizes, textOf } from "./edits.js";
+import { BadEdit, covers, editsOf, futility, resizes, textOf } from "./edits.js";
+import { inspect } from "./metadata.js";
 import { Stage, isOnStage } from "./stage.js";
+import { tileSide, weakness } from "./tile.js";
+import { coversInWords, listed, wordsOf } from "./words.js";
 
 // What a canvas takes in each browser that has 64-bit memories.
 const MOST_SIDE = 32767, MOST_PIXELS = 100e6;
@@ -13,8 +16,15 @@ const LATE =
   "Note: a move comes before a fill or a mosaic. It may carry pixels out of what is covered.";
 const HINTS = {
   fill: "Leaves nothing of what it covers.",
-  mosaic: "Keeps one pixel of each tile, so a text can be guessed. Use a fill for secrets.",
+  mosaic: "Keeps one pixel of each tile, so a text can be guessed. Use a fill for secrets. "
+    + "Without numbers, tiles are an eighth of the rectangle, and at least a fortieth of the picture.",
   crop: "Only what is inside is saved.",
+};
+
+/** The field of each number of the selected edit. */
+export const FIELDS = {
+  left: "left", top: "top", width: "width", height: "height",
+  tileWidth: "own-tile-width", tileHeight: "own-tile-height",
 };
 
 /** What a person sees and does in the tab. */
@@ -44,8 +54,9 @@ export class PictureTab {
   async open(file) {
     const turn = (this.turn = {});
     this.say(`Opening ${file.name} …`);
-    let bitmap;
+    let bitmap, found;
     try {
+      found = inspect(new Uint8Array(await file.arrayBuffer()));
       bitmap = await createImageBitmap(file);
     } catch {
       return turn === this.turn && this.say(
@@ -60,21 +71,21 @@ export class PictureTab {
         `${file.name} has ${width} by ${height} pixels, which is too large for this page.`, true
       );
     } else if (turn === this.turn) {
-      this.take(file.name, bitmap);
+      this.take(file.name, bitmap, found);
     }
     bitmap.close();
   }
 
-  /** Takes a decoded picture into the module's memory. */
-  take(name, bitmap) {
+  /** Takes a decoded picture into the module's memory, with what its file holds besides. */
+  take(name, bitmap, found) {
     this.forget();
     const { top } = this.library;
     try {
       const pixels = new Pixels(this.library, bitmap.width, bitmap.height);
       pixels.bytes().set(this.stage.read(bitmap));
-      Object.assign(this, { pixels, name });
+      Object.assign(this, { pixels, name, found });
       const size = `${pixels.width} by ${pixels.height} pixels`;
-      this.say(`${name}: ${size}. Draw a rectangle over what you want to cover.`);
+      this.say([`${name}: ${size}.`, ...found.lost, "Draw over what you want to cover."].join(" "));
     } catch (why) {
       this.library.release(top);
       this.say(why.message, true);
@@ -125,23 +136,39 @@ export class PictureTab {
     }
   }
 
-  /** The edit that the tools say, at a rectangle. */
-  made(rectangle) {
-    const word = document.querySelector("[name=tool]:checked").value;
+  /** The edit that a tool makes at a rectangle, by the fields of the tools. */
+  made(rectangle, word = toolOf()) {
     const { left, top, width, height } = rectangle, edit = { word, left, top, width, height };
-    const colour = find("colour").value.match(/\w\w/g).map((it) => parseInt(it, 16));
-    const [tileWidth, tileHeight] = ["tile-width", "tile-height"].map(
-      (it) => Math.floor(find(it).valueAsNumber) || 0
-    );
-    return { ...edit, ...{ fill: { colour }, mosaic: { tileWidth, tileHeight } }[word] };
+    switch (word) {
+      case "fill":
+        return { ...edit, colour: colourOf("colour") };
+      case "mosaic": {
+        const side = tileSide(rectangle, this.pixels);
+        const [tileWidth, tileHeight] = ["tile-width", "tile-height"].map(
+          (it) => (find(it).value === "" ? side : Math.floor(find(it).valueAsNumber) || 0)
+        );
+        // (a tile that nobody typed follows its rectangle)
+        const isOwn = find("tile-width").value + find("tile-height").value !== "";
+        return { ...edit, tileWidth, tileHeight, isOwn };
+      }
+      default:
+        return edit;
+    }
   }
 
   add(rectangle) {
-    const edit = this.made(rectangle), last = this.edits.at(-1);
+    const edit = this.made(rectangle), last = this.edits.at(-1), why = futility(edit);
+    if (why) {
+      return this.say(why, true);
+    }
     const kept = last && resizes(last) ? this.edits.slice(0, -1) : this.edits;
     const end = last && resizes(last) && !resizes(edit) ? [last] : [];
     if (this.commit([...kept, edit, ...end])) {
       this.select(kept.length);
+      const weak = weakness(edit, this.pixels);
+      if (weak) {
+        this.say(weak, true);
+      }
     }
   }
 
@@ -153,10 +180,15 @@ export class PictureTab {
     this.stage.focus(this.selected);
   }
 
-  /** Gives an edit another rectangle. */
-  change(index, { left, top, width, height }, by) {
-    const edit = { ...this.edits[index], left, top, width, height };
-    if (textOf(edit) !== textOf(this.edits[index])) {
+  /** Gives an edit another rectangle, colour or tile. */
+  change(index, values, by) {
+    const edit = { ...this.edits[index], ...values }, why = futility(edit);
+    if (edit.word === "mosaic" && edit.isOwn === false) {
+      edit.tileWidth = edit.tileHeight = tileSide(edit, this.pixels);
+    }
+    if (why) {
+      this.say(why, true);
+    } else if (textOf(edit) !== textOf(this.edits[index])) {
       this.commit(this.edits.with(index, edit), by);
     }
     this.render();
@@ -169,29 +201,20 @@ export class PictureTab {
 
   select(index) {
     this.selected = this.edits[index] ? index : -1;
-    const edit = this.edits[this.selected];
-    if (edit && isOnStage(edit)) {
-      document.querySelector(`[name=tool][value=${edit.word}]`).checked = true;
-      const colour = edit.colour?.map((it) => it.toString(16).padStart(2, "0")).join("");
-      find("colour").value = colour ? `#${colour}` : find("colour").value;
-      find("tile-width").value = edit.tileWidth ?? find("tile-width").value;
-      find("tile-height").value = edit.tileHeight ?? find("tile-height").value;
-    }
     this.render();
   }
 
-  /** The tools have changed: so does the selected rectangle. */
-  retool() {
-    const old = this.edits[this.selected];
-    const edit = old && isOnStage(old) && this.made(old);
-    if (edit && textOf(edit) !== textOf(old)) {
-      const others = this.edits.toSpliced(this.selected, 1).filter(
-        (it) => !resizes(edit) || !resizes(it)
-      );
-      const at = resizes(edit) ? others.length : Math.min(this.selected, others.length);
-      if (this.commit(others.toSpliced(at, 0, edit))) {
-        this.selected = at;
-      }
+  /** Makes the selected rectangle a cover or a crop of another kind. */
+  turnInto(word) {
+    const edit = this.made(this.edits[this.selected], word), why = futility(edit);
+    const others = this.edits.toSpliced(this.selected, 1).filter(
+      (it) => !resizes(edit) || !resizes(it)
+    );
+    const at = resizes(edit) ? others.length : Math.min(this.selected, others.length);
+    if (why) {
+      this.say(why, true);
+    } else if (this.commit(others.toSpliced(at, 0, edit))) {
+      this.selected = at;
     }
     this.render();
   }
@@ -221,8 +244,9 @@ export class PictureTab {
   }
 
   async save() {
-    const name = `${this.name.replace(/\.[^.]*$/, "") || "picture"}-covered.png`;
-    const canvas = document.createElement("canvas"), count = this.edits.length;
+    const old = find("keep-name").checked ? `${this.name.replace(/\.[^.]*$/, "") || "picture"}-` : "";
+    const name = `${old}covered.png`, { edits, found } = this;
+    const canvas = document.createElement("canvas");
     this.pixels.output((bytes, width, height) => {
       [canvas.width, canvas.height] = [width, height];
       canvas.getContext("2d").putImageData(new ImageData(bytes, width), 0, 0);
@@ -237,10 +261,8 @@ export class PictureTab {
     );
     link.click();
     setTimeout(() => URL.revokeObjectURL(link.href), 60000);
-    const edits = `${count} ${count === 1 ? "edit" : "edits"}`;
-    const what = count ? `with ${edits}` : "and nothing is covered";
     const size = `${canvas.width} by ${canvas.height} pixels`;
-    this.say(`Saved ${name}: ${size}, ${what}. All else in the file was dropped.`);
+    this.say(`Saved ${name}: ${size}. ${coversInWords(edits)} ${droppedInWords(found)}`);
   }
 
   render() {
@@ -251,31 +273,82 @@ export class PictureTab {
     for (const it of ["save", "add", "apply", "copy"]) {
       find(it).disabled = !hasPicture;
     }
-    find("edits").replaceChildren(
-      ...edits.map((it, index) => this.item(it, index === selected, index))
-    );
-    find("no-edits").hidden = edits.length > 0;
-    find("selected").disabled = !edit;
-    for (const it of ["left", "top", "width", "height"]) {
-      find(it).value = edit?.[it] ?? "";
-    }
+    this.renderList();
+    this.renderSelected(edit);
+    find("covers").textContent = hasPicture ? coversInWords(edits) : "";
     find("text").value = edits.map((it) => `${textOf(it)}\n`).join("");
-    const tool = document.querySelector("[name=tool]:checked").value;
+    const tool = toolOf();
     find("hint").textContent = HINTS[tool];
     document.querySelectorAll("[data-for]").forEach(
       (it) => { it.hidden = it.dataset.for !== tool; }
     );
   }
 
+  /** The list of edits. Its lines stay the same elements, so that the keys stay with one. */
+  renderList() {
+    const { edits, selected } = this, list = find("edits");
+    while (list.children.length > edits.length) {
+      list.lastChild.remove();
+    }
+    while (list.children.length < edits.length) {
+      list.append(this.item(list.children.length));
+    }
+    edits.forEach((edit, index) => {
+      const button = list.children[index].firstChild, [words, text] = button.children;
+      [words.textContent, text.textContent] = [wordsOf(edit), textOf(edit)];
+      button.setAttribute("aria-pressed", index === selected);
+    });
+    find("no-edits").hidden = edits.length > 0;
+  }
+
   /** A line of the list of edits, which selects its edit. */
-  item(edit, isSelected, index) {
+  item(index) {
     const line = document.createElement("li"), button = document.createElement("button");
-    button.textContent = textOf(edit);
-    button.setAttribute("aria-pressed", isSelected);
+    button.append(document.createElement("span"), document.createElement("small"));
     button.addEventListener("click", () => this.select(index));
     line.append(button);
     return line;
   }
+
+  /** The fields of the selected edit, and what it can be changed to. */
+  renderSelected(edit) {
+    find("selected").disabled = !edit;
+    for (const it of ["left", "top", "width", "height", "tileWidth", "tileHeight"]) {
+      find(FIELDS[it]).value = edit?.[it] ?? "";
+    }
+    document.querySelectorAll("[data-of]").forEach((it) => { it.hidden = it.dataset.of !== edit?.word; });
+    if (edit?.word === "fill") {
+      find("own-colour").value = `#${edit.colour.map((it) => it.toString(16).padStart(2, "0")).join("")}`;
+    }
+    const weak = edit ? weakness(edit, this.pixels) : "";
+    [find("weak").textContent, find("weak").hidden] = [weak, !weak];
+    const others = edit && isOnStage(edit) ? Object.keys(HINTS).filter((it) => it !== edit.word) : [];
+    find("changes").replaceChildren(...others.map((word) => {
+      const button = document.createElement("button");
+      button.textContent = `Change '${wordsOf(edit)}' to a ${word}`;
+      button.dataset.word = word;
+      button.addEventListener("click", () => this.turnInto(word));
+      return button;
+    }));
+  }
+}
+
+/** The tool for what is drawn next. */
+function toolOf() {
+  return document.querySelector("[name=tool]:checked").value;
+}
+
+/** The colour of a field. */
+export function colourOf(id) {
+  return find(id).value.match(/\w\w/g).map((it) => parseInt(it, 16));
+}
+
+/** What of a file isn't saved. */
+function droppedInWords({ names, isKnown }) {
+  if (!isKnown) {
+    return "All else in the file was dropped.";
+  }
+  return names.length ? `Dropped from the file: ${listed(names)}.` : "The file held nothing else.";
 }
 
 function sizeOf({ width, height }) {

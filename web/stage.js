@@ -1,7 +1,8 @@
 // The picture on the screen, with its rectangles: drawn, moved and resized by pointer or by keys.
 
 import { addDrawn, find, setAll } from "./common.js";
-import { textOf } from "./edits.js";
+import { covers } from "./edits.js";
+import { wordsOf } from "./words.js";
 
 const CORNERS = ["left top", "right top", "left bottom", "right bottom"];
 // How far a pointer goes before it draws, and the most that a small picture is enlarged.
@@ -79,7 +80,7 @@ export class Stage {
       const isShown = isOnStage(edit);
       group.style.display = isShown ? "" : "none";
       group.setAttribute("class", `${edit.word}${index === selected ? " selected" : ""}`);
-      group.setAttribute("aria-label", `${textOf(edit)}, rectangle ${index + 1}`);
+      group.setAttribute("aria-label", `${wordsOf(edit)}, rectangle ${index + 1}`);
       if (isShown) {
         this.place(group, edit);
       }
@@ -88,7 +89,7 @@ export class Stage {
 
   place(group, rectangle) {
     const { left, top, width, height } = rectangle;
-    const [under, over, dim, ...handles] = group.children;
+    const [under, over, dim, , ...handles] = group.children;
     for (const it of [under, over]) {
       setAll(it, { x: left, y: top, width, height });
     }
@@ -107,14 +108,24 @@ export class Stage {
     });
   }
 
-  /** Where a pointer is, in pixels of the picture. */
+  /** Where a pointer is, in pixels of the picture. It may be outside. */
   at(event) {
     const box = this.canvas.getBoundingClientRect();
-    const within = (value, most) => Math.min(Math.max(value, 0), most);
     return [
-      within(((event.clientX - box.left) / box.width) * this.canvas.width, this.canvas.width),
-      within(((event.clientY - box.top) / box.height) * this.canvas.height, this.canvas.height),
+      ((event.clientX - box.left) / box.width) * this.canvas.width,
+      ((event.clientY - box.top) / box.height) * this.canvas.height,
     ];
+  }
+
+  /** The pixels from one place of a pointer to another: each that is under a pixel of the screen which it touched. */
+  touched(from, to) {
+    const most = [this.canvas.width, this.canvas.height];
+    const inside = (value, axis) => Math.min(Math.max(value, 0), most[axis]);
+    const begin = from.map((it, axis) => Math.min(inside(Math.floor(Math.min(it, to[axis])), axis), most[axis] - 1));
+    const end = from.map(
+      (it, axis) => Math.max(inside(Math.ceil(Math.max(it, to[axis]) + 1 / this.scale), axis), begin[axis] + 1)
+    );
+    return between(begin, end);
   }
 
   press(event) {
@@ -123,16 +134,14 @@ export class Stage {
     }
     event.preventDefault();
     this.overlay.setPointerCapture(event.pointerId);
-    const group = event.target.closest("g"), index = group ? indexOf(group) : -1;
+    const target = event.target.closest("g"), index = target ? indexOf(target) : -1;
     const corner = event.target.dataset.corner;
-    this.drag = {
-      group, index, corner, from: this.at(event), screen: [event.clientX, event.clientY]
-    };
-    this.drag.old = group && this.edits[index];
-    if (group) {
-      group.focus();
-    } else {
-      this.acts.select(-1);
+    this.drag = { target, index, corner, from: this.at(event), screen: [event.clientX, event.clientY] };
+    // (only the rectangle that is selected already is moved: elsewhere a drag draws)
+    if (target && index === this.selected) {
+      target.focus();
+      this.drag.group = target;
+      this.drag.old = this.edits[index];
     }
   }
 
@@ -148,21 +157,24 @@ export class Stage {
     }
     drag.now = this.dragged(drag, this.at(event));
     this.place(drag.group, drag.now);
+    if (drag.old && covers(drag.old)) {
+      drag.group.querySelector(".uncovers").setAttribute("d", outlineWithout(drag.old, drag.now));
+    }
   }
 
   /** The rectangle that a drag makes. */
   dragged({ old, corner, from }, to) {
     const { width, height } = this.canvas;
     if (!old) {
-      return between(from.map((it, axis) => Math.min(it, to[axis])).map(Math.floor),
-        from.map((it, axis) => Math.max(it, to[axis])).map(Math.ceil));
+      return this.touched(from, to);
     }
     if (!corner) {
       return shifted(old, Math.round(to[0] - from[0]), Math.round(to[1] - from[1]), width, height);
     }
     const fixed = [corner.includes("left") ? old.left + old.width : old.left,
       corner.includes("top") ? old.top + old.height : old.top];
-    const other = to.map(Math.round);
+    const other = to.map((it, axis) => Math.min(Math.max(Math.round(it), 0), [width, height][axis]))
+      .map((it, axis) => (it === fixed[axis] ? awayFrom(it, [width, height][axis]) : it));
     return between(fixed.map((it, axis) => Math.min(it, other[axis])),
       fixed.map((it, axis) => Math.max(it, other[axis])));
   }
@@ -174,6 +186,10 @@ export class Stage {
       this.acts.change(drag.index, drag.now);
     } else if (drag?.now) {
       this.acts.draw(drag.now);
+    } else if (drag?.target) {
+      drag.target.focus();
+    } else if (drag) {
+      this.acts.select(-1);
     }
   }
 
@@ -184,6 +200,7 @@ export class Stage {
     if (drag && !drag.old) {
       drag.group?.remove();
     }
+    drag?.group?.querySelector(".uncovers")?.setAttribute("d", "");
     this.render(this.edits, this.selected);
     return drag;
   }
@@ -195,9 +212,11 @@ export class Stage {
     }
     if (event.key === "Delete" || event.key === "Backspace") {
       this.acts.remove(index);
+      // (or the keys would be with the next rectangle)
+      this.stage.focus();
     } else if (event.key === "Escape") {
-      this.acts.select(-1);
       event.target.blur();
+      return;
     } else if (arrow) {
       const [dx, dy] = arrow.map((it) => it * (event.ctrlKey || event.metaKey ? 10 : 1));
       const { width, height } = this.canvas;
@@ -220,6 +239,7 @@ function newGroup(overlay, index) {
   addDrawn(group, "rect", { class: "under" });
   addDrawn(group, "rect", { class: "over" });
   addDrawn(group, "path", { class: "dim", "fill-rule": "evenodd" });
+  addDrawn(group, "path", { class: "uncovers" });
   CORNERS.forEach((it) => addDrawn(group, "rect", { class: "handle", "data-corner": it }));
   return group;
 }
@@ -230,6 +250,24 @@ function indexOf(element) {
 
 function between([left, top], [right, bottom]) {
   return { left, top, width: right - left, height: bottom - top };
+}
+
+/** An edge beside another one, so that a rectangle keeps a pixel. */
+function awayFrom(edge, most) {
+  return edge < most ? edge + 1 : edge - 1;
+}
+
+/** The parts of a rectangle that another one leaves, as a path of rectangles. */
+function outlineWithout(old, now) {
+  const [right, bottom] = [old.left + old.width, old.top + old.height];
+  const left = Math.max(old.left, now.left), end = Math.min(right, now.left + now.width);
+  const top = Math.max(old.top, now.top), low = Math.min(bottom, now.top + now.height);
+  const box = (x, y, xEnd, yEnd) => (xEnd > x && yEnd > y ? `M${x} ${y}H${xEnd}V${yEnd}H${x}Z` : "");
+  if (end <= left || low <= top) {
+    return box(old.left, old.top, right, bottom);
+  }
+  return box(old.left, old.top, right, top) + box(old.left, low, right, bottom)
+    + box(old.left, top, left, low) + box(end, top, right, low);
 }
 
 /** A rectangle moved by so much, and kept inside a picture of this size. */

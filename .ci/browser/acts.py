@@ -37,7 +37,7 @@ def check_keys(page):
     page.browser.press("Enter")
     page.count("a rectangle is added in the middle", page.list() == "fill 22,15,15,10 0\n")
     name = page.browser.run("return document.activeElement.getAttribute('aria-label')")
-    page.count("it has the keys", name == "fill 22,15,15,10 0, rectangle 1", name)
+    page.count("it has the keys", name == "Black, 15 by 10 at 22, 15, rectangle 1", name)
     earlier = []
     for keys, text in KEYS:
         earlier.append(page.list())
@@ -66,7 +66,7 @@ def check_keys(page):
         order.append(page.browser.run(name))
     # (a browser may stop at the panel itself)
     tools = [it for it in order if it != "picture"][:5]
-    well = tools == ["open", "undo", "save", "actual", "fill"]
+    well = tools == ["open", "undo", "save", "keep-name", "actual"]
     page.count("Tab goes through the tools", well, order)
 
 

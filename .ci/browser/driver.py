@@ -36,6 +36,14 @@ FLAGS = (
 )
 
 
+# What a pointer does.
+DOWN, UP = {"type": "pointerDown", "button": 0}, {"type": "pointerUp", "button": 0}
+
+
+def move_to(place):
+    return {"type": "pointerMove", "duration": 0, "x": round(place[0]), "y": round(place[1])}
+
+
 def found(names):
     """The first of these programs that is on this machine."""
     return next(filter(None, map(shutil.which, names)), None)
@@ -123,15 +131,13 @@ class Browser:
         acts += [{"type": "keyUp", "value": it} for it in (key, *reversed(held))]
         self.ask("POST", "/actions", {"actions": [{"type": "key", "id": "keys", "actions": acts}]})
 
-    def drag(self, *places, kind="mouse"):
+    def drag(self, *places, kind="mouse", ends=True):
         """Presses at the first place of the window, goes to the others, and lets go."""
-        moves = [
-            {"type": "pointerMove", "duration": 0, "x": round(x), "y": round(y)} for x, y in places
-        ]
-        acts = [
-            moves[0], {"type": "pointerDown", "button": 0}, *moves[1:],
-            {"type": "pointerUp", "button": 0}
-        ]
+        moves = [move_to(it) for it in places]
+        self.act([moves[0], DOWN, *moves[1:], *([UP] if ends else [])], kind)
+
+    def act(self, acts, kind="mouse"):
+        """What one pointer does."""
         pointer = {
             "type": "pointer", "id": kind, "parameters": {"pointerType": kind}, "actions": acts
         }

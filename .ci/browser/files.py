@@ -23,7 +23,7 @@ LARGE_EDITS = (
 # Small pictures, each with an edit.
 SMALL = (
     (1, 1, "fill 0,0,1,1 1,2,3"),
-    (1, 1, "mosaic 0,0,1,1 1,1"),
+    (1, 1, "mosaic 0,0,1,1 2,2"),
     (1, 1, "move 0,0,1,1 0,0"),
     (1, 1, "crop 0,0,1,1"),
     (1, 1, "pad 1,1,1,1 9"),
@@ -100,7 +100,7 @@ def check_given(page):
         said = until(lambda: page.status() if not page.status().startswith("Opening") else "")
         well = said.startswith(f"{kind}.png: 60 by 40 pixels.")
         page.count(f"a {kind} opens a picture", well, said)
-        same = png.ppm_of(page.save(kind)) == png.ppm(picture.WIDTH, picture.HEIGHT, picture.PIXELS)
+        same = png.ppm_of(page.save()) == png.ppm(picture.WIDTH, picture.HEIGHT, picture.PIXELS)
         page.count(f"a {kind} gives its pixels", same)
     page.browser.click("#actual")
     page.choose("fill")
@@ -108,7 +108,7 @@ def check_given(page):
     size = page.browser.run("return document.getElementById('frame').style.width")
     # (the browser rounds the places of a pointer)
     drawn = zip(map(int, page.list().split()[1].split(",")), (3, 4, 20, 10))
-    well = size == "60px" and all(abs(it - wanted) <= 1 for it, wanted in drawn)
+    well = size == "60px" and all(abs(it - wanted) <= 2 for it, wanted in drawn)
     page.count("at its actual size it is drawn on", well, size)
     page.browser.click("#actual")
     page.browser.run("document.getElementById('copy').click()")
@@ -134,16 +134,12 @@ def check_dropped(page):
         "PNG: the pixels are",
         png.ppm_of(saved) == png.ppm(picture.WIDTH, picture.HEIGHT, picture.PIXELS)
     )
-    page.count(
-        "PNG: the page says that all else is dropped",
-        "All else in the file was dropped." in page.status()
-    )
     plain = in_browser(page, "jpeg")
     for orientation, size, corners in HELD:
         data = plain[:2] + exif(orientation) + plain[2:]
         page.browser.run("document.getElementById('status').textContent = 'Opening'")
         page.give(f"held{orientation}.jpg", data)
-        saved = page.save(f"held{orientation}")
+        saved = page.save()
         width, height, pixels = png.read(saved)
         seen = tuple("blue" if it[2] > 128 > it[0] else "white" for it in (pixels[:4], pixels[-4:]))
         page.count(
@@ -156,7 +152,7 @@ def check_dropped(page):
         )
     page.browser.run("document.getElementById('status').textContent = 'Opening'")
     page.give("small.webp", in_browser(page, "webp"))
-    page.count("WebP is opened", png.size_of(page.save("small")) == (32, 16))
+    page.count("WebP is opened", png.size_of(page.save()) == (32, 16))
 
 
 def check_small(page):
@@ -209,7 +205,7 @@ def check_large(page):
         busy["opening"].append(max(page.browser.script("pauses"), default=0))
         page.apply("mosaic 0,0,4000,3000 64,64\nfill 100,200,1000,1000 1,2,3")
         page.browser.script("pauses")
-        saved = page.save("large")
+        saved = page.save()
         busy["saving"].append(max(page.browser.script("pauses"), default=0))
     page.count("12 megapixels are opened", f"{width} by {height}" in said, said)
     for label, found in busy.items():
@@ -225,7 +221,7 @@ def check_large(page):
     check_large_edits(page)
     page.apply("crop 1,2,30,20")
     cropped = picture.by_model("crop 1,2,30,20".split(), large_row() * 40, width, 40)
-    page.count("a crop of 12 megapixels", png.ppm_of(page.save("large")) == cropped)
+    page.count("a crop of 12 megapixels", png.ppm_of(page.save()) == cropped)
     page.open()
     same = png.ppm_of(page.save()) == png.ppm(picture.WIDTH, picture.HEIGHT, picture.PIXELS)
     page.count("a small picture after a large one", same)

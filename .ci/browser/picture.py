@@ -9,8 +9,8 @@ WIDTH, HEIGHT = 60, 40
 # Lists of edits, each for one picture: the model, imgref_frames and the page have to agree.
 LISTS = (
     "fill 10,8,20,12 0", "fill 10,8,20,12 200,30,7", "fill 0,0,60,40 255", "fill 59,39,1,1 9",
-    "fill 60,40,0,0 1", "fill 5,5,0,9 1", "mosaic 4,4,30,20 8,8", "mosaic 1,2,57,37 7,5",
-    "mosaic 0,0,60,40 1000,1000", "mosaic 3,3,9,9 1,1", "mosaic 0,0,60,40 18446744073709551615,3",
+    "mosaic 4,4,30,20 8,8", "mosaic 1,2,57,37 7,5",
+    "mosaic 0,0,60,40 1000,1000", "mosaic 3,3,9,9 2,1", "mosaic 0,0,60,40 18446744073709551615,3",
     "move 0,0,20,20 30,15", "move 0,0,30,20 5,4", "move 5,4,30,20 0,0", "move 0,0,60,40 0,0",
     "crop 7,9,30,20", "crop 0,0,60,40", "crop 59,0,1,40", "pad 1,2,3,4 16", "pad 0,0,0,0 9",
     "pad 0,5,0,0 255", "fill 10,8,20,12 0\nmosaic 20,10,30,20 8,8",
@@ -37,7 +37,11 @@ BAD = {
     "fill 50,8,20,12 1": "Line 1: The rectangle reaches outside the picture.",
     "fill 0,30,20,12 1": "Line 1: The rectangle reaches outside the picture.",
     "fill 18446744073709551615,0,2,2 1": "Line 1: The rectangle reaches outside the picture.",
-    "fill 9007199254740993,0,0,0 1": "reaches outside",
+    "fill 9007199254740993,0,1,1 1": "reaches outside",
+    "fill 5,5,0,9 1": "Line 1: The width is 0: nothing would be covered.",
+    "fill 60,40,9,0 1": "Line 1: The height is 0: nothing would be covered.",
+    "mosaic 5,5,0,0 4,4": "The width is 0",
+    "fill 0,0,1,1 1\nmosaic 3,3,9,9 1,1": "Line 2: A mosaic with tiles of 1 by 1 hides nothing.",
     "fill 0,0,1,1 1\n\nmosaic 0,0,9,9 0,3": "Line 3: A tile needs at least one column and one row.",
     "mosaic 0,0,9,9 3,0": "A tile needs", "move 0,0,20,20 50,0": "reaches outside",
     "crop 0,0,0,5": "reaches outside", "crop 0,0,61,5": "reaches outside",
@@ -67,9 +71,21 @@ class Page:
         self.browser.type("#file", str(path))
         return until(lambda: self.status() if not self.status().startswith("Opening") else "")
 
-    def open(self, pixels=PIXELS, width=WIDTH, height=HEIGHT, name="page.png"):
+    def fresh(self, name, data):
+        """The same, where an earlier word of the page doesn't count."""
         self.browser.run("document.getElementById('status').textContent = 'Opening'")
-        return self.give(name, png.png(width, height, pixels))
+        return self.give(name, data)
+
+    def open(self, pixels=PIXELS, width=WIDTH, height=HEIGHT, name="page.png"):
+        return self.fresh(name, png.png(width, height, pixels))
+
+    def actual(self, is_actual):
+        """Shows the picture at its actual size, or as it fits."""
+        self.browser.run("const it = document.getElementById('actual'); it.checked !== arguments[0] && it.click()", is_actual)
+
+    def scale(self):
+        """How many pixels of the screen a pixel of the picture has."""
+        return self.browser.run("const it = document.getElementById('canvas'); return it.getBoundingClientRect().width / it.width")
 
     def status(self):
         return self.browser.text("#status")
@@ -87,8 +103,8 @@ class Page:
     def list(self):
         return self.browser.run("return document.getElementById('text').value")
 
-    def save(self, name="page"):
-        data = self.browser.saved(f"{name}-covered.png", "#save")
+    def save(self, name="covered.png"):
+        data = self.browser.saved(name, "#save")
         until(lambda: self.status().startswith("Saved"))
         return data
 
@@ -153,7 +169,7 @@ def check_bad_lists(page):
     page.count(
         "the list is as before",
         page.browser.run(
-            "const lines = [...document.querySelectorAll('#edits button')];"
+            "const lines = [...document.querySelectorAll('#edits small')];"
             "return lines.map((it) => it.textContent + '\\n').join('')"
         ) == before[0]
     )
@@ -178,9 +194,10 @@ def check_pointer(page):
     page.drag((42, 32), (20, 20), (-0.7, -0.7))
     page.count("a rectangle stays inside the picture", page.list() == "fill 0,0,5,5 0\n")
     page.choose("mosaic")
-    page.count("a tool changes the selected rectangle", page.list() == "mosaic 0,0,5,5 16,16\n")
     page.browser.change("tile-width", "2")
-    page.count("so does the size of a tile", page.list() == "mosaic 0,0,5,5 2,16\n")
+    page.browser.change("tile-height", "16")
+    page.browser.click("#changes [data-word=mosaic]")
+    page.count("a rectangle becomes a mosaic", page.list() == "mosaic 0,0,5,5 2,16\n")
     page.drag((30, 30), (30.01, 30.01))
     page.count("a click draws nothing", page.list() == "mosaic 0,0,5,5 2,16\n")
     page.drag((49.5, 29.5), (30, 20), (20.5, 10.5), kind="touch")
@@ -188,7 +205,7 @@ def check_pointer(page):
         "a finger draws a mosaic, from right to left",
         page.list() == "mosaic 0,0,5,5 2,16\nmosaic 20,10,30,20 2,16\n"
     )
-    page.choose("crop")
+    page.browser.click("#changes [data-word=crop]")
     page.count(
         "a rectangle becomes a crop", page.list() == "mosaic 0,0,5,5 2,16\ncrop 20,10,30,20\n"
     )

@@ -12,11 +12,11 @@ def chunk(kind, data):
     return struct.pack(">I", len(data)) + kind + data + struct.pack(">I", zlib.crc32(kind + data))
 
 
-def png(width, height, pixels, more=(), kind=2):
+def png(width, height, pixels, more=(), kind=2, depth=8):
     """A picture of these bytes, with more chunks in front of its pixels."""
-    row = width * CHANNELS[kind]
+    row = width * CHANNELS[kind] * depth // 8
     lines = b"".join(b"\0" + pixels[at:at + row] for at in range(0, row * height, row))
-    head = struct.pack(">IIBBBBB", width, height, 8, kind, 0, 0, 0)
+    head = struct.pack(">IIBBBBB", width, height, depth, kind, 0, 0, 0)
     chunks = [
         chunk(b"IHDR", head), *(chunk(*it) for it in more), chunk(b"IDAT", zlib.compress(lines, 1)),
         chunk(b"IEND", b"")

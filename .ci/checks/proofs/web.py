@@ -15,7 +15,7 @@ import sys
 import urllib.request
 
 sys.path.insert(0, str(pathlib.Path(__file__).resolve().parents[2]))
-from browser import acts, files, layout, looks, picture, shots
+from browser import acts, covers, files, layout, looks, picture, shots
 from browser.driver import browser, served
 from checking import ROOT, Cases
 
@@ -129,6 +129,8 @@ def check_page(cases, program):
         picture.check_lists(page, program)
         picture.check_bad_lists(page)
         picture.check_pointer(page)
+        for check in (covers.check_next_tool, covers.check_tiles, covers.check_edges, covers.check_moves, covers.check_said):
+            check(page)
         acts.check_keys(page)
         acts.check_undo(page)
         acts.check_hidden(page)

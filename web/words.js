@@ -1,0 +1,52 @@
+// Edits in words, as a person reads them in the list and on buttons.
+
+const COLOURS = {
+  "0,0,0": "Black", "255,255,255": "White", "255,0,0": "Red", "0,255,0": "Green", "0,0,255": "Blue",
+  "255,255,0": "Yellow",
+};
+
+/** An edit in words, such as 'Black, 604 by 560 at 10, 20'. */
+export function wordsOf(edit) {
+  const { word, left, top, width, height } = edit, place = `${width} by ${height} at ${left}, ${top}`;
+  switch (word) {
+    case "fill":
+      return `${colourName(edit.colour)}, ${place}`;
+    case "mosaic":
+      return `Mosaic of ${edit.tileWidth} by ${edit.tileHeight}, ${place}`;
+    case "move":
+      return `Move of ${width} by ${height} from ${left}, ${top} to ${edit.x}, ${edit.y}`;
+    case "pad": {
+      const sides = `${left} left, ${top} above, ${edit.right} right, ${edit.bottom} below`;
+      return `Border: ${colourName(edit.colour)}, ${sides}`;
+    }
+    default:
+      return `Crop to ${place}`;
+  }
+}
+
+function colourName(colour) {
+  const [red, green, blue] = colour;
+  const grey = red === green && green === blue && `Grey ${red}`;
+  return COLOURS[colour] ?? (grey || `Red ${red} green ${green} blue ${blue}`);
+}
+
+/** A number of things. */
+export function plural(count, word) {
+  return `${count} ${word}${count === 1 ? "" : "s"}`;
+}
+
+/** What the covers of a list hide, before it is saved: mosaics are named by their number in the list. */
+export function coversInWords(edits) {
+  const numbers = edits.flatMap((it, index) => (it.word === "mosaic" ? [index + 1] : []));
+  const count = edits.filter((it) => it.word === "fill").length + numbers.length;
+  if (count === 0) {
+    return "Nothing is covered.";
+  }
+  const unsure = numbers.length === 1 ? `mosaic ${numbers[0]}` : `mosaics ${numbers.join(", ")}`;
+  return `${plural(count, "cover")}. ${numbers.length ? `Not hidden for sure: ${unsure}.` : "All are fills."}`;
+}
+
+/** Names with commas, and 'and' before the last. */
+export function listed(names) {
+  return names.length < 2 ? names.join() : `${names.slice(0, -1).join(", ")} and ${names.at(-1)}`;
+}
