@@ -1,15 +1,20 @@
 #!/usr/bin/env python3
-"""The page for a browser: out/web/ with index.html, page.js, style.css and imgref.wasm.
+"""The pages for a browser: out/web/ with index.html, layout.html, and the module that both hold.
 
     web.py build          proves imgref_c for WebAssembly where it has changed, and builds the page
     web.py serve [PORT]   the same, and serves it on this machine alone: http://127.0.0.1:8000/
 
 The kind of a crate is in crates.txt, where imgref_c is a static library. So it is built as `wasm64`
-in a room (workspace.py) that has another line for it. page.js is the modules of web/ in one file,
-each after those that it imports. Comments and indents are left out of what a browser loads.
+in a room (workspace.py) that has another line for it. A page is one file, so that a browser asks
+for nothing else: web/frame.html with a page of web/ in its frame, and in that its styles, its
+modules, each after those that it imports, and the module for WebAssembly. Its policy allows these
+scripts and styles alone, by their sums. Comments and indents are left out.
 """
+import base64
 import contextlib
 import functools
+import hashlib
+import html
 import http.server
 import re
 import sys
@@ -20,7 +25,20 @@ from workspace import ROOT, crates, held, is_fresh, room
 
 NAME, KIND = "imgref_c", "wasm64"
 SOURCES, OUT = ROOT / "web", ROOT / "out/web"
-FIRST, MODULE = "page.js", "imgref.wasm"
+MODULE = "imgref.wasm"
+# Each page: its part in web/, the page that it leads to, and the words of that link.
+PAGES = {
+    "index.html": ("picture.html", "layout.html", "Layouts"),
+    "layout.html": ("layout.html", "index.html", "Pictures"),
+}
+CLAIM = "The page has no code that sends, and asks your browser to refuse it."
+# What a page may do, besides the scripts and styles that it holds.
+POLICY = (
+    "default-src 'none'; script-src {scripts} 'wasm-unsafe-eval'; style-src {styles}; connect-src 'none'; "
+    "worker-src blob:; img-src data:; frame-src 'none'; base-uri 'none'; form-action 'none'; webrtc 'block'"
+)
+SCRIPT = re.compile(r'<script type="module" src="([\w.]+)"></script>')
+STYLE = re.compile(r'<link rel="stylesheet" href="([\w.]+)">')
 IMPORT = re.compile(r'^import \{[^}]*\} from "\./([\w.]+)";\n', re.MULTILINE)
 PORT = 8000
 # How a line begins that is only a comment.
@@ -38,6 +56,8 @@ def bundled(name, done):
     if name in done:
         return ""
     done.add(name)
+    if name == "module.js":
+        return f'const MODULE = "{base64.b64encode((OUT / MODULE).read_bytes()).decode()}";\n\n'
     text = (SOURCES / name).read_text()
     before = "".join(bundled(it, done) for it in IMPORT.findall(text))
     own = re.sub(r"(?m)^export ", "", IMPORT.sub("", text)).strip()
@@ -87,17 +107,52 @@ def make_module():
         (OUT / MODULE).write_bytes(without_names((folder / "out" / f"{NAME}.wasm").read_bytes()))
 
 
+def sheet(name):
+    """A style sheet of web/."""
+    return SPACE.sub(r"\1", slim((SOURCES / name).read_text()))
+
+
+def sum_of(text):
+    """A script or a style as a policy names it."""
+    return f"'sha256-{base64.b64encode(hashlib.sha256(text.encode()).digest()).decode()}'"
+
+
+def inner(name):
+    """A page of web/ with its script and styles in it, and these texts."""
+    text = slim((SOURCES / name).read_text())
+    script = slim(bundled(SCRIPT.search(text)[1], set()))
+    if re.search(r"</script|<!--", script):
+        raise Failure(f"the script of {name} has a mark of HTML")
+    styles = "".join(map(sheet, STYLE.findall(text)))
+    text = SCRIPT.sub(lambda _: f'<script type="module">{script}</script>', text)
+    text = STYLE.sub("", text).replace("</title>", f"</title>\n<style>{styles}</style>", 1)
+    return text, script, styles
+
+
+def page(name, other, goes):
+    """A page as a browser loads it."""
+    text, script, styles = inner(name)
+    frame, around = slim((SOURCES / "frame.html").read_text()), sheet("frame.css")
+    own = re.search(r"<script>(.*)</script>", frame)[1]
+    policy = POLICY.format(
+        scripts=f"{sum_of(script)} {sum_of(own)}", styles=f"{sum_of(styles)} {sum_of(around)}"
+    )
+    values = {
+        "TITLE": re.search("<title>(.*)</title>", text)[1], "CLAIM": CLAIM, "POLICY": policy,
+        "STYLE": around, "OTHER": other, "GOES": goes, "PAGE": html.escape(text).replace("&#x27;", "'"),
+    }
+    return re.sub(r"\b[A-Z]{4,}\b", lambda it: values.get(it[0], it[0]), frame)
+
+
 def build():
     """Builds what has changed."""
     OUT.mkdir(parents=True, exist_ok=True)
     with held(OUT):
         if not is_fresh(OUT / MODULE, NAME):
             make_module()
-    (OUT / FIRST).write_text(slim(bundled(FIRST, set())))
-    (OUT / "index.html").write_text(slim((SOURCES / "index.html").read_text()))
-    (OUT / "style.css").write_text(SPACE.sub(r"\1", slim((SOURCES / "style.css").read_text())))
-    size = sum(it.stat().st_size for it in OUT.iterdir())
-    say(f"{OUT.relative_to(ROOT)}/index.html, {size // 1000} KB with the files beside it")
+    for name, its in PAGES.items():
+        (OUT / name).write_text(page(*its))
+        say(f"{(OUT / name).relative_to(ROOT)}, {(OUT / name).stat().st_size // 1000} KB")
 
 
 def serve(port):

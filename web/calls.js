@@ -3,6 +3,8 @@
 // An image is where its cells begin in that memory, their number, a width, a height and a stride. A
 // window is its corner and its size. All numbers go to the module as BigInt of 64 bits.
 
+import { MODULE } from "./module.js";
+
 /** What each status says to a person, in the order of include/imgref.h. */
 export const STATUS_WORDS = [
   "Done.",
@@ -31,21 +33,16 @@ export class Refused extends Error {
 /** The browser has no 64-bit WebAssembly memories. */
 export class NoMemory64 extends Error {}
 
-/** Loads the module, and makes so many libraries of it, each with a memory of its own. */
-export async function loadLibraries(url, count) {
-  const answer = await fetch(url);
-  if (!answer.ok) {
-    throw new Error(`The file ${url} is not on this server.`);
-  }
+/** A library with a memory of its own, from the module that the page holds. */
+export async function makeLibrary() {
   let module;
   try {
-    module = await WebAssembly.compile(await answer.arrayBuffer());
+    module = await WebAssembly.compile(Uint8Array.from(atob(MODULE), (it) => it.charCodeAt(0)));
   } catch (why) {
     throw new NoMemory64(why.message);
   }
   // (the module imports nothing)
-  const made = Array.from({ length: count }, () => WebAssembly.instantiate(module, {}));
-  return (await Promise.all(made)).map((it) => new Library(it.exports));
+  return new Library((await WebAssembly.instantiate(module, {})).exports);
 }
 
 export class Library {

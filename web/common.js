@@ -1,4 +1,4 @@
-// What both tabs use: elements of the page, and numbers of a text.
+// What both pages use: elements of the page, and numbers of a text.
 
 const NUMBER = /^(?:0|[1-9][0-9]*)$/;
 const SVG = "http://www.w3.org/2000/svg";

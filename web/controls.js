@@ -1,70 +1,92 @@
-// The controls of the tab 'Picture': buttons, fields, keys, and files that are dropped or pasted.
+// The controls of the page: buttons, fields, keys, and files that are dropped or pasted.
 
 import { find } from "./common.js";
-import { FIELDS, PictureTab, colourOf } from "./picture.js";
+import { FIELDS } from "./list.js";
+import { PicturePage } from "./picture.js";
+import { colourOf } from "./tools.js";
 
-/** Starts the tab over a library. */
+/** Starts the page over a library. */
 export function startPicture(library) {
-  const tab = new PictureTab(library);
+  const page = new PicturePage(library), { view } = page.stage;
   const on = (id, name, act) => find(id).addEventListener(name, act);
   on("open", "click", () => find("file").click());
-  on("file", "change", ({ target }) => {
-    if (target.files[0]) {
-      tab.open(target.files[0]);
-      target.value = "";
-    }
+  on("file", "change", async ({ target }) => {
+    const files = [...target.files];
+    target.value = "";
+    await page.opener.openAll(files);
   });
-  on("undo", "click", () => tab.step(tab.past, tab.future));
-  on("redo", "click", () => tab.step(tab.future, tab.past));
-  on("save", "click", () => tab.save());
-  on("add", "click", () => tab.addInMiddle());
-  on("remove", "click", () => tab.remove(tab.selected));
-  on("apply", "click", () => tab.applyText());
-  on("copy", "click", () => tab.copyText());
-  on("tools", "change", () => tab.render());
-  on("selected", "change", ({ target }) => changeField(tab, target));
-  document.addEventListener("keydown", (event) => keys(tab, event));
-  document.addEventListener("paste", (event) => {
-    const file = [...event.clipboardData.files][0];
-    return file && tab.open(file);
-  });
+  on("next-picture", "click", () => page.opener.next());
+  on("undo", "click", () => page.undo());
+  on("redo", "click", () => page.redo());
+  on("save", "click", () => page.saver.save());
+  on("copy-picture", "click", () => page.saver.copy());
+  on("format", "change", ({ target }) => { find("of-jpeg").hidden = target.value !== "jpeg"; });
+  on("add", "click", () => page.addInMiddle());
+  on("remove", "click", () => page.remove(page.selected));
+  on("apply", "click", () => page.applyText());
+  on("copy", "click", () => page.copyText());
+  on("tools", "change", () => page.render());
+  on("selected", "change", ({ target }) => changeField(page, target));
+  on("smaller", "click", () => view.step(-1));
+  on("larger", "click", () => view.step(1));
+  on("fit", "click", () => view.fit());
+  on("actual", "click", () => view.zoomTo(1));
+  for (const it of ["keep", "discard"]) {
+    on(it, "click", () => find("ask").close(it));
+  }
+  takeFiles(page);
+  document.addEventListener("keydown", (event) => keys(page, event));
+  window.addEventListener("beforeunload", (event) => page.isUnsaved && event.preventDefault());
+  page.render();
+}
+
+/** Files that are dropped or pasted are opened. */
+function takeFiles(page) {
+  document.addEventListener("paste", (event) => page.opener.openAll([...event.clipboardData.files]));
   for (const name of ["dragover", "drop"]) {
     document.addEventListener(name, (event) => {
       // (a text that is dragged goes where it always goes)
       if (event.dataTransfer.types.includes("Files")) {
         event.preventDefault();
-        const file = event.dataTransfer.files[0];
-        return name === "drop" && file && tab.open(file);
+        return name === "drop" && page.opener.openAll([...event.dataTransfer.files]);
       }
     });
   }
-  tab.render();
 }
 
 /** A field of the selected edit has another value. */
-function changeField(tab, field) {
+function changeField(page, field) {
   if (field.id === "own-colour") {
-    return tab.change(tab.selected, { colour: colourOf(field.id) });
+    return page.change(page.selected, { colour: colourOf(field.id) });
   }
   const name = Object.keys(FIELDS).find((it) => FIELDS[it] === field.id);
   const value = field.valueAsNumber, own = name.startsWith("tile") ? { isOwn: true } : {};
   if (!Number.isSafeInteger(value) || value < 0) {
-    tab.say(`The ${field.dataset.name ?? name} is no whole number from 0 on. Nothing has changed.`, true);
-    return tab.render();
+    page.say(`The ${field.dataset.name ?? name} is no whole number from 0 on. Nothing has changed.`, true);
+    return page.render();
   }
-  return tab.change(tab.selected, { [name]: value, ...own });
+  return page.change(page.selected, { [name]: value, ...own });
 }
 
-function keys(tab, event) {
-  const isText = event.target.matches("textarea, input:not([type=radio], [type=checkbox])");
-  const key = event.key.toLowerCase();
-  if (key === "escape" && !isText) {
-    return tab.stage.drag ? tab.stage.cancel() : tab.select(-1);
+/** What each key does: with Ctrl, and alone. */
+function keys(page, event) {
+  const { view } = page.stage, key = event.key.toLowerCase();
+  const isText = event.target.matches("textarea, select, input:not([type=radio], [type=checkbox])");
+  const withControl = {
+    o: () => find("file").click(),
+    s: () => page.saver.save(),
+    z: isText ? null : () => (event.shiftKey ? page.redo() : page.undo()),
+    y: isText ? null : () => page.redo(),
+  };
+  const alone = {
+    "+": () => view.step(1), "=": () => view.step(1), "-": () => view.step(-1),
+    "0": () => view.fit(), "1": () => view.zoomTo(1),
+    escape: () => (page.stage.drag ? page.stage.cancel() : page.select(-1)),
+  };
+  const isControl = event.ctrlKey || event.metaKey, isOpen = find("ask").open;
+  const act = isControl ? withControl[key] : isText || event.altKey ? null : alone[key];
+  if (act && !isOpen && (page.pixels || key === "o")) {
+    event.preventDefault();
+    act();
   }
-  if (isText || !tab.pixels || !(event.ctrlKey || event.metaKey) || (key !== "z" && key !== "y")) {
-    return;
-  }
-  event.preventDefault();
-  const isUndo = key === "z" && !event.shiftKey;
-  tab.step(...(isUndo ? [tab.past, tab.future] : [tab.future, tab.past]));
 }

@@ -27,7 +27,7 @@ export function resizes(edit) {
 
 /** Whether an edit covers what was there. */
 export function covers(edit) {
-  return edit.word === "fill" || edit.word === "mosaic";
+  return ["fill", "brush", "mosaic"].includes(edit.word);
 }
 
 /** Why a cover would hide nothing at all, or nothing. */
@@ -39,9 +39,12 @@ export function futility(edit) {
   return hidesNothing(edit) ? "A mosaic with tiles of 1 by 1 hides nothing." : "";
 }
 
-/** An edit as a line. */
+/** An edit as a line, or a stroke of the brush as lines: fills of its parts. */
 export function textOf(edit) {
   const { word, left, top, width, height } = edit;
+  if (word === "brush") {
+    return edit.parts.map((it) => textOf({ ...it, word: "fill", colour: edit.colour })).join("\n");
+  }
   if (word === "pad") {
     return `pad ${left},${top},${edit.right},${edit.bottom} ${edit.colour[0]}`;
   }
@@ -56,18 +59,30 @@ export function textOf(edit) {
   ].join(" ");
 }
 
+// (an earlier list's edits with which the text begins stay: so a stroke of the brush stays one edit)
+
 /** The edits of a text with one edit on each line; empty lines are ignored. */
-export function editsOf(text) {
+export function editsOf(text, earlier = []) {
   const edits = [];
-  text.split("\n").forEach((line, index) => {
+  let rest = text;
+  for (const it of earlier) {
+    const lines = `${textOf(it)}\n`;
+    if (!rest.startsWith(lines)) {
+      break;
+    }
+    edits.push(it);
+    rest = rest.slice(lines.length);
+  }
+  const before = text.slice(0, text.length - rest.length).split("\n").length;
+  rest.split("\n").forEach((line, index) => {
     if (line === "") {
       return;
     }
-    const edit = editOf(line, index + 1);
+    const number = before + index, edit = editOf(line, number);
     if (edits.some(resizes)) {
-      throw new BadEdit(index + 1, "at most one crop or pad is allowed, and it must come last.");
+      throw new BadEdit(number, "at most one crop or pad is allowed, and it must come last.");
     }
-    edits.push({ ...edit, line: index + 1 });
+    edits.push({ ...edit, line: number });
   });
   return edits;
 }

@@ -1,4 +1,4 @@
-// The tab 'Layout': a script beside its images, drawn as cells, step by step.
+// The page of layouts: a script beside its images, drawn as cells, step by step.
 
 import { addDrawn, find } from "./common.js";
 import { FAULT_WORDS, outputOf, readScript, runScript, windowsAlong } from "./script.js";
@@ -19,7 +19,7 @@ const EXAMPLES = {
     "put 1 - 1 1 8", "same 0 - 1 -", "blit 1 - 0 -"],
 };
 
-class LayoutTab {
+class LayoutPage {
   constructor(library) {
     this.library = library;
   }
@@ -173,19 +173,19 @@ function boxOf({ left, top, width, height }, inset) {
   };
 }
 
-/** Starts the tab over a library. */
+/** Starts the page over a library. */
 export function startLayout(library) {
-  const tab = new LayoutTab(library);
+  const page = new LayoutPage(library);
   find("example").append(...Object.keys(EXAMPLES).map((it) => new Option(it)));
   const choose = () => {
     find("script").value = EXAMPLES[find("example").value].map((it) => `${it}\n`).join("");
-    tab.read();
+    page.read();
   };
   find("example").addEventListener("change", choose);
-  find("script").addEventListener("input", () => tab.read());
-  find("first").addEventListener("click", () => tab.step(0));
-  find("back").addEventListener("click", () => tab.step(tab.at - 1));
-  find("next").addEventListener("click", () => tab.step(tab.at + 1));
-  find("last").addEventListener("click", () => tab.step(Infinity));
+  find("script").addEventListener("input", () => page.read());
+  find("first").addEventListener("click", () => page.step(0));
+  find("back").addEventListener("click", () => page.step(page.at - 1));
+  find("next").addEventListener("click", () => page.step(page.at + 1));
+  find("last").addEventListener("click", () => page.step(Infinity));
   choose();
 }

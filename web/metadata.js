@@ -139,13 +139,17 @@ function readSegment(marker, data, found) {
   }
 }
 
-/** Where the pixels of a JPEG file end. A later scan has segments of its own. */
-function endOfJpeg(file, at) {
-  while (file.u16(at) !== 0xffd9) {
-    const next = file.bytes.indexOf(0xff, at + 1);
-    at = next < 0 ? file.length : next;
+/** Where a JPEG file ends whose first scan begins here. A later scan has segments before it. */
+function endOfJpeg(file, begin) {
+  let at = begin;
+  for (;;) {
+    const next = file.bytes.indexOf(0xff, at), marker = file.u8(next < 0 ? file.length : next + 1);
+    if (marker === 0xd9) {
+      return next + 2;
+    }
+    const isInside = marker === 0 || (marker >= 0xd0 && marker <= 0xd7);
+    at = next + (marker === 0xff ? 1 : isInside ? 2 : 2 + file.u16(next + 2));
   }
-  return at + 2;
 }
 
 /** A table of EXIF: what it says of the place, the camera and the time, and whether it has a thumbnail. */

@@ -1,34 +1,23 @@
-// The tab 'Picture': open, cover, undo, and save as PNG.
+// The picture with its edits: added, changed, taken back, and shown.
 
 import { find } from "./common.js";
-import { Pixels } from "./pixels.js";
 import { BadEdit, covers, editsOf, futility, resizes, textOf } from "./edits.js";
-import { inspect } from "./metadata.js";
-import { Stage, isOnStage } from "./stage.js";
+import { Opener } from "./open.js";
+import { Saver } from "./save.js";
+import { renderList, renderSelected } from "./list.js";
+import { Stage } from "./stage.js";
 import { tileSide, weakness } from "./tile.js";
-import { coversInWords, listed, wordsOf } from "./words.js";
+import { colourOf, renderTools, toolOf } from "./tools.js";
+import { coversInWords } from "./words.js";
 
-// What a canvas takes in each browser that has 64-bit memories.
-const MOST_SIDE = 32767, MOST_PIXELS = 100e6;
 // Changes by keys within this time are undone together, in milliseconds.
 const TOGETHER = 1000;
 const LATE =
   "Note: a move comes before a fill or a mosaic. It may carry pixels out of what is covered.";
-const HINTS = {
-  fill: "Leaves nothing of what it covers.",
-  mosaic: "Keeps one pixel of each tile, so a text can be guessed. Use a fill for secrets. "
-    + "Without numbers, tiles are an eighth of the rectangle, and at least a fortieth of the picture.",
-  crop: "Only what is inside is saved.",
-};
+const FOR_A_PICTURE = ["save", "add", "apply", "copy", "copy-picture", "smaller", "larger", "fit", "actual"];
 
-/** The field of each number of the selected edit. */
-export const FIELDS = {
-  left: "left", top: "top", width: "width", height: "height",
-  tileWidth: "own-tile-width", tileHeight: "own-tile-height",
-};
-
-/** What a person sees and does in the tab. */
-export class PictureTab {
+/** What a person sees and does on the page. */
+export class PicturePage {
   constructor(library) {
     this.library = library;
     this.forget();
@@ -37,13 +26,15 @@ export class PictureTab {
       change: (index, it, by) => this.change(index, it, by),
       select: (index) => this.select(index),
       remove: (index) => this.remove(index),
-    });
+    }, toolOf);
+    this.opener = new Opener(this);
+    this.saver = new Saver(this);
   }
 
   /** No picture, and no edits. */
   forget() {
     this.pixels?.end();
-    Object.assign(this, { pixels: null, edits: [], past: [], future: [], selected: -1, byKeys: 0 });
+    Object.assign(this, { pixels: null, edits: [], past: [], future: [], selected: -1, byKeys: -Infinity, kept: "" });
   }
 
   say(text, isProblem = false) {
@@ -51,46 +42,14 @@ export class PictureTab {
     find("status").classList.toggle("problem", isProblem);
   }
 
-  async open(file) {
-    const turn = (this.turn = {});
-    this.say(`Opening ${file.name} …`);
-    let bitmap, found;
-    try {
-      found = inspect(new Uint8Array(await file.arrayBuffer()));
-      bitmap = await createImageBitmap(file);
-    } catch {
-      return turn === this.turn && this.say(
-        `This browser can't read ${file.name} as a picture. Nothing has changed.`, true
-      );
-    }
-    const { width, height } = bitmap;
-    if (
-      turn === this.turn && (Math.max(width, height) > MOST_SIDE || width * height > MOST_PIXELS)
-    ) {
-      this.say(
-        `${file.name} has ${width} by ${height} pixels, which is too large for this page.`, true
-      );
-    } else if (turn === this.turn) {
-      this.take(file.name, bitmap, found);
-    }
-    bitmap.close();
+  /** Whether edits would be lost with the page. */
+  get isUnsaved() {
+    return this.edits.length > 0 && this.kept !== this.text;
   }
 
-  /** Takes a decoded picture into the module's memory, with what its file holds besides. */
-  take(name, bitmap, found) {
-    this.forget();
-    const { top } = this.library;
-    try {
-      const pixels = new Pixels(this.library, bitmap.width, bitmap.height);
-      pixels.bytes().set(this.stage.read(bitmap));
-      Object.assign(this, { pixels, name, found });
-      const size = `${pixels.width} by ${pixels.height} pixels`;
-      this.say([`${name}: ${size}.`, ...found.lost, "Draw over what you want to cover."].join(" "));
-    } catch (why) {
-      this.library.release(top);
-      this.say(why.message, true);
-    }
-    this.render();
+  /** The edits as text. */
+  get text() {
+    return this.edits.map((it) => `${textOf(it)}\n`).join("");
   }
 
   /** Shows other edits, and keeps the old ones for undo. Whether they can be carried out. */
@@ -100,7 +59,7 @@ export class PictureTab {
       return false;
     }
     const isTogether = by === "keys" && began - this.byKeys < TOGETHER;
-    this.byKeys = by === "keys" ? began : 0;
+    this.byKeys = by === "keys" ? began : -Infinity;
     if (!isTogether) {
       this.past.push(this.edits);
     }
@@ -116,7 +75,8 @@ export class PictureTab {
       const changed = this.pixels.show(edits);
       this.stage.put(this.pixels.bytes(), changed);
     } catch (why) {
-      this.stage.put(this.pixels.bytes(), [{ left: 0, top: 0, ...sizeOf(this.pixels) }]);
+      const { width, height } = this.pixels;
+      this.stage.put(this.pixels.bytes(), [{ left: 0, top: 0, width, height }]);
       this.say(why.message, true);
       return false;
     }
@@ -130,20 +90,30 @@ export class PictureTab {
     if (from.length > 0 && this.show(from.at(-1))) {
       to.push(this.edits);
       this.edits = from.pop();
-      [this.selected, this.byKeys] = [-1, 0];
+      [this.selected, this.byKeys] = [-1, -Infinity];
       this.render();
       this.say(from === this.past ? "Undone." : "Redone.");
     }
   }
 
-  /** The edit that a tool makes at a rectangle, by the fields of the tools. */
-  made(rectangle, word = toolOf()) {
-    const { left, top, width, height } = rectangle, edit = { word, left, top, width, height };
+  undo() {
+    this.step(this.past, this.future);
+  }
+
+  redo() {
+    this.step(this.future, this.past);
+  }
+
+  /** The edit that a tool makes at a rectangle or along a stroke, by the fields of the tools. */
+  made(shape, word = toolOf()) {
+    const { left, top, width, height } = shape, edit = { word, left, top, width, height };
     switch (word) {
       case "fill":
         return { ...edit, colour: colourOf("colour") };
+      case "brush":
+        return { ...edit, colour: colourOf("colour"), parts: shape.parts };
       case "mosaic": {
-        const side = tileSide(rectangle, this.pixels);
+        const side = tileSide(shape, this.pixels);
         const [tileWidth, tileHeight] = ["tile-width", "tile-height"].map(
           (it) => (find(it).value === "" ? side : Math.floor(find(it).valueAsNumber) || 0)
         );
@@ -156,8 +126,9 @@ export class PictureTab {
     }
   }
 
-  add(rectangle) {
-    const edit = this.made(rectangle), last = this.edits.at(-1), why = futility(edit);
+  /** Adds what was drawn. A crop stays the last edit, and the only one. */
+  add(shape, word) {
+    const edit = this.made(shape, word), last = this.edits.at(-1), why = futility(edit);
     if (why) {
       return this.say(why, true);
     }
@@ -174,9 +145,10 @@ export class PictureTab {
 
   /** Adds a rectangle in the middle, and gives the keys to it. */
   addInMiddle() {
-    const { width, height } = sizeOf(this.pixels);
+    const { width, height } = this.pixels;
     const [wide, high] = [Math.ceil(width / 4), Math.ceil(height / 4)];
-    this.add({ left: (width - wide) >> 1, top: (height - high) >> 1, width: wide, height: high });
+    const word = toolOf() === "brush" ? "fill" : toolOf();
+    this.add({ left: (width - wide) >> 1, top: (height - high) >> 1, width: wide, height: high }, word);
     this.stage.focus(this.selected);
   }
 
@@ -191,16 +163,6 @@ export class PictureTab {
     } else if (textOf(edit) !== textOf(this.edits[index])) {
       this.commit(this.edits.with(index, edit), by);
     }
-    this.render();
-  }
-
-  remove(index) {
-    this.selected = -1;
-    this.commit(this.edits.toSpliced(index, 1));
-  }
-
-  select(index) {
-    this.selected = this.edits[index] ? index : -1;
     this.render();
   }
 
@@ -219,10 +181,20 @@ export class PictureTab {
     this.render();
   }
 
+  remove(index) {
+    this.selected = -1;
+    this.commit(this.edits.toSpliced(index, 1));
+  }
+
+  select(index) {
+    this.selected = this.edits[index] ? index : -1;
+    this.render();
+  }
+
   /** The edits of the text in the place of the present ones. */
   applyText() {
     try {
-      const edits = editsOf(find("text").value);
+      const edits = editsOf(find("text").value, this.edits);
       this.selected = -1;
       this.commit(edits);
     } catch (why) {
@@ -243,114 +215,18 @@ export class PictureTab {
     }
   }
 
-  async save() {
-    const old = find("keep-name").checked ? `${this.name.replace(/\.[^.]*$/, "") || "picture"}-` : "";
-    const name = `${old}covered.png`, { edits, found } = this;
-    const canvas = document.createElement("canvas");
-    this.pixels.output((bytes, width, height) => {
-      [canvas.width, canvas.height] = [width, height];
-      canvas.getContext("2d").putImageData(new ImageData(bytes, width), 0, 0);
-    });
-    this.say(`Saving ${name} …`);
-    const blob = await new Promise((done) => canvas.toBlob(done, "image/png"));
-    if (!blob) {
-      return this.say("This browser can't save a picture of this size.", true);
-    }
-    const link = Object.assign(
-      document.createElement("a"), { href: URL.createObjectURL(blob), download: name }
-    );
-    link.click();
-    setTimeout(() => URL.revokeObjectURL(link.href), 60000);
-    const size = `${canvas.width} by ${canvas.height} pixels`;
-    this.say(`Saved ${name}: ${size}. ${coversInWords(edits)} ${droppedInWords(found)}`);
-  }
-
   render() {
-    const { edits, selected } = this, edit = edits[selected], hasPicture = Boolean(this.pixels);
+    const { edits, selected, pixels } = this;
     this.stage.render(edits, selected);
     find("undo").disabled = this.past.length === 0;
     find("redo").disabled = this.future.length === 0;
-    for (const it of ["save", "add", "apply", "copy"]) {
-      find(it).disabled = !hasPicture;
+    for (const it of FOR_A_PICTURE) {
+      find(it).disabled = !pixels;
     }
-    this.renderList();
-    this.renderSelected(edit);
-    find("covers").textContent = hasPicture ? coversInWords(edits) : "";
-    find("text").value = edits.map((it) => `${textOf(it)}\n`).join("");
-    const tool = toolOf();
-    find("hint").textContent = HINTS[tool];
-    document.querySelectorAll("[data-for]").forEach(
-      (it) => { it.hidden = it.dataset.for !== tool; }
-    );
+    renderTools();
+    renderList(edits, selected, (index) => this.select(index));
+    renderSelected(edits[selected], pixels, (word) => this.turnInto(word));
+    find("covers").textContent = pixels ? coversInWords(edits) : "";
+    find("text").value = this.text;
   }
-
-  /** The list of edits. Its lines stay the same elements, so that the keys stay with one. */
-  renderList() {
-    const { edits, selected } = this, list = find("edits");
-    while (list.children.length > edits.length) {
-      list.lastChild.remove();
-    }
-    while (list.children.length < edits.length) {
-      list.append(this.item(list.children.length));
-    }
-    edits.forEach((edit, index) => {
-      const button = list.children[index].firstChild, [words, text] = button.children;
-      [words.textContent, text.textContent] = [wordsOf(edit), textOf(edit)];
-      button.setAttribute("aria-pressed", index === selected);
-    });
-    find("no-edits").hidden = edits.length > 0;
-  }
-
-  /** A line of the list of edits, which selects its edit. */
-  item(index) {
-    const line = document.createElement("li"), button = document.createElement("button");
-    button.append(document.createElement("span"), document.createElement("small"));
-    button.addEventListener("click", () => this.select(index));
-    line.append(button);
-    return line;
-  }
-
-  /** The fields of the selected edit, and what it can be changed to. */
-  renderSelected(edit) {
-    find("selected").disabled = !edit;
-    for (const it of ["left", "top", "width", "height", "tileWidth", "tileHeight"]) {
-      find(FIELDS[it]).value = edit?.[it] ?? "";
-    }
-    document.querySelectorAll("[data-of]").forEach((it) => { it.hidden = it.dataset.of !== edit?.word; });
-    if (edit?.word === "fill") {
-      find("own-colour").value = `#${edit.colour.map((it) => it.toString(16).padStart(2, "0")).join("")}`;
-    }
-    const weak = edit ? weakness(edit, this.pixels) : "";
-    [find("weak").textContent, find("weak").hidden] = [weak, !weak];
-    const others = edit && isOnStage(edit) ? Object.keys(HINTS).filter((it) => it !== edit.word) : [];
-    find("changes").replaceChildren(...others.map((word) => {
-      const button = document.createElement("button");
-      button.textContent = `Change '${wordsOf(edit)}' to a ${word}`;
-      button.dataset.word = word;
-      button.addEventListener("click", () => this.turnInto(word));
-      return button;
-    }));
-  }
-}
-
-/** The tool for what is drawn next. */
-function toolOf() {
-  return document.querySelector("[name=tool]:checked").value;
-}
-
-/** The colour of a field. */
-export function colourOf(id) {
-  return find(id).value.match(/\w\w/g).map((it) => parseInt(it, 16));
-}
-
-/** What of a file isn't saved. */
-function droppedInWords({ names, isKnown }) {
-  if (!isKnown) {
-    return "All else in the file was dropped.";
-  }
-  return names.length ? `Dropped from the file: ${listed(names)}.` : "The file held nothing else.";
-}
-
-function sizeOf({ width, height }) {
-  return { width, height };
 }

@@ -82,6 +82,8 @@ export class Pixels {
     switch (edit.word) {
       case "fill":
         return this.library.fill(this.image, edit, cellOf(edit.colour));
+      case "brush":
+        return edit.parts.forEach((it) => this.library.fill(this.image, it, cellOf(edit.colour)));
       case "mosaic":
         return this.library.mosaic(this.image, edit, edit.tileWidth, edit.tileHeight);
       default:

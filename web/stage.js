@@ -1,12 +1,15 @@
 // The picture on the screen, with its rectangles: drawn, moved and resized by pointer or by keys.
 
+import { around, strokeOf } from "./brush.js";
 import { addDrawn, find, setAll } from "./common.js";
 import { covers } from "./edits.js";
+import { Pointers } from "./pointers.js";
+import { View } from "./view.js";
 import { wordsOf } from "./words.js";
 
 const CORNERS = ["left top", "right top", "left bottom", "right bottom"];
-// How far a pointer goes before it draws, and the most that a small picture is enlarged.
-const SLACK = 4, MOST_SCALE = 32;
+// How far a pointer goes before it draws, and how wide a brush is on the screen.
+const SLACK = 4, BRUSH = 24;
 const ARROWS = { ArrowLeft: [-1, 0], ArrowRight: [1, 0], ArrowUp: [0, -1], ArrowDown: [0, 1] };
 
 /** Whether an edit has a rectangle that can be moved on the picture. */
@@ -15,22 +18,24 @@ export function isOnStage(edit) {
 }
 
 export class Stage {
-  /** The `acts` are called with what a person does: `draw`, `change`, `select` and `remove`. */
-  constructor(acts) {
-    this.acts = acts;
-    this.drag = null;
-    for (const it of ["stage", "frame", "canvas", "overlay", "actual", "drop"]) {
+  /** The `acts` are called with what a person does: `draw`, `change`, `select` and `remove`. `tool` gives the tool. */
+  constructor(acts, tool) {
+    Object.assign(this, { acts, tool, drag: null, edits: [], selected: -1 });
+    for (const it of ["stage", "frame", "canvas", "overlay", "drop"]) {
       this[it] = find(it);
     }
     this.context = this.canvas.getContext("2d", { willReadFrequently: true });
-    this.overlay.addEventListener("pointerdown", (event) => this.press(event));
-    this.overlay.addEventListener("pointermove", (event) => this.pull(event));
-    this.overlay.addEventListener("pointerup", (event) => this.release(event));
-    this.overlay.addEventListener("pointercancel", () => this.cancel());
+    this.view = new View(() => this.render(this.edits, this.selected));
+    this.pointers = new Pointers(this.overlay, this.view, {
+      begin: (event) => this.press(event), move: (event) => this.pull(event),
+      end: (event) => this.release(event), cancel: () => this.cancel(),
+    });
     this.overlay.addEventListener("keydown", (event) => this.key(event));
     this.overlay.addEventListener("focusin", (event) => this.acts.select(indexOf(event.target)));
-    window.addEventListener("resize", () => this.fit());
-    this.actual.addEventListener("change", () => this.fit());
+  }
+
+  get scale() {
+    return this.view.scale;
   }
 
   /** Shows a picture that the browser decoded, and returns its bytes. */
@@ -41,7 +46,7 @@ export class Stage {
     this.overlay.setAttribute("viewBox", `0 0 ${canvas.width} ${canvas.height}`);
     this.frame.hidden = false;
     this.drop.hidden = true;
-    this.fit();
+    this.view.fit();
     return context.getImageData(0, 0, canvas.width, canvas.height).data;
   }
 
@@ -53,31 +58,14 @@ export class Stage {
     }
   }
 
-  /** Chooses the size on the screen. */
-  fit() {
-    const { width, height } = this.canvas;
-    if (this.stage.clientWidth === 0) {
-      // (the other tab is shown)
-      return;
-    }
-    const below = innerHeight - this.stage.getBoundingClientRect().top - scrollY - 16;
-    const high = Math.max(below, 0.6 * innerHeight) / height;
-    const fitting = Math.min((this.stage.clientWidth - 4) / width, high, MOST_SCALE);
-    this.scale = this.actual.checked ? 1 : fitting;
-    this.frame.style.width = `${width * this.scale}px`;
-    this.frame.style.height = `${height * this.scale}px`;
-    this.overlay.style.setProperty("--unit", 1 / this.scale);
-    this.render(this.edits ?? [], this.selected);
-  }
-
   /** Draws the rectangles of these edits, one of them as the selected one. */
   render(edits, selected) {
     [this.edits, this.selected] = [edits, selected];
-    const groups = [...this.overlay.querySelectorAll("g")];
+    const groups = [...this.overlay.querySelectorAll("g:not(.draft)")];
     groups.slice(edits.length).forEach((it) => it.remove());
     edits.forEach((edit, index) => {
       const group = groups[index] ?? newGroup(this.overlay, index);
-      const isShown = isOnStage(edit);
+      const isShown = isOnStage(edit) || (edit.word === "brush" && index === selected);
       group.style.display = isShown ? "" : "none";
       group.setAttribute("class", `${edit.word}${index === selected ? " selected" : ""}`);
       group.setAttribute("aria-label", `${wordsOf(edit)}, rectangle ${index + 1}`);
@@ -111,10 +99,7 @@ export class Stage {
   /** Where a pointer is, in pixels of the picture. It may be outside. */
   at(event) {
     const box = this.canvas.getBoundingClientRect();
-    return [
-      ((event.clientX - box.left) / box.width) * this.canvas.width,
-      ((event.clientY - box.top) / box.height) * this.canvas.height,
-    ];
+    return [(event.clientX - box.left) / this.scale, (event.clientY - box.top) / this.scale];
   }
 
   /** The pixels from one place of a pointer to another: each that is under a pixel of the screen which it touched. */
@@ -129,16 +114,12 @@ export class Stage {
   }
 
   press(event) {
-    if (event.button !== 0 || this.drag) {
-      return;
-    }
-    event.preventDefault();
-    this.overlay.setPointerCapture(event.pointerId);
     const target = event.target.closest("g"), index = target ? indexOf(target) : -1;
-    const corner = event.target.dataset.corner;
-    this.drag = { target, index, corner, from: this.at(event), screen: [event.clientX, event.clientY] };
+    const corner = event.target.dataset.corner, from = this.at(event);
+    this.drag = { target, index, corner, from, places: [from], screen: [event.clientX, event.clientY] };
     // (only the rectangle that is selected already is moved: elsewhere a drag draws)
-    if (target && index === this.selected) {
+    this.overlay.classList.add("drawing");
+    if (target && index === this.selected && (corner || this.tool() !== "brush")) {
       target.focus();
       this.drag.group = target;
       this.drag.old = this.edits[index];
@@ -155,11 +136,29 @@ export class Stage {
       drag.group = newGroup(this.overlay, -1);
       drag.group.setAttribute("class", "draft");
     }
+    if (!drag.old && this.tool() === "brush") {
+      this.paint(drag, event);
+      return;
+    }
     drag.now = this.dragged(drag, this.at(event));
     this.place(drag.group, drag.now);
     if (drag.old && covers(drag.old)) {
       drag.group.querySelector(".uncovers").setAttribute("d", outlineWithout(drag.old, drag.now));
     }
+  }
+
+  /** A brush goes on. */
+  paint(drag, event) {
+    drag.stroke ??= addDrawn(drag.group, "path", { class: "stroke", "stroke-width": this.brushWidth() });
+    const events = event.getCoalescedEvents?.() ?? [];
+    drag.places.push(...(events.length ? events : [event]).map((it) => this.at(it)));
+    drag.now = drag.places;
+    drag.stroke.setAttribute("d", `M${drag.places.map((it) => it.join(" ")).join("L")}`);
+  }
+
+  /** How wide a brush is, in pixels of the picture. */
+  brushWidth() {
+    return Math.max(find("brush-width").valueAsNumber || Math.ceil(BRUSH / this.scale), 1);
   }
 
   /** The rectangle that a drag makes. */
@@ -181,9 +180,19 @@ export class Stage {
 
   release(event) {
     this.pull(event);
+    if (this.drag && !this.drag.now && !this.drag.target && this.tool() === "brush") {
+      this.drag.group = newGroup(this.overlay, -1);
+      this.paint(this.drag, event);
+    }
     const drag = this.cancel();
     if (drag?.now && drag.old) {
       this.acts.change(drag.index, drag.now);
+    } else if (drag?.stroke) {
+      const { width, height } = this.canvas;
+      const parts = strokeOf(drag.places, this.brushWidth(), width, height);
+      if (parts.length > 0) {
+        this.acts.draw({ ...around(parts), parts });
+      }
     } else if (drag?.now) {
       this.acts.draw(drag.now);
     } else if (drag?.target) {
@@ -197,6 +206,7 @@ export class Stage {
   cancel() {
     const { drag } = this;
     this.drag = null;
+    this.overlay.classList.remove("drawing");
     if (drag && !drag.old) {
       drag.group?.remove();
     }
@@ -230,7 +240,7 @@ export class Stage {
 
   /** Gives the keys to a rectangle. */
   focus(index) {
-    this.overlay.querySelectorAll("g")[index]?.focus();
+    this.overlay.querySelectorAll("g:not(.draft)")[index]?.focus();
   }
 }
 

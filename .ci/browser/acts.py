@@ -56,17 +56,14 @@ def check_keys(page):
     page.browser.press("Control", "Shift", "z")
     page.count("and Ctrl+Shift+Z removes it again", page.list() == "")
     order = []
-    page.browser.run(
-        "document.activeElement.blur(); window.scrollTo(0, 0);"
-        "document.getElementById('picture-tab').focus()"
-    )
+    page.browser.run("document.getElementById('stage').focus()")
     for _ in range(8):
         page.browser.press("Tab")
         name = "const it = document.activeElement; return it.id || it.value"
         order.append(page.browser.run(name))
-    # (a browser may stop at the panel itself)
-    tools = [it for it in order if it != "picture"][:5]
-    well = tools == ["open", "undo", "save", "keep-name", "actual"]
+    # (a browser may stop at what scrolls)
+    tools = [it for it in order if it not in ("side", "overlay")][:5]
+    well = tools == ["open", "save", "undo", "fill", "colour"]
     page.count("Tab goes through the tools", well, order)
 
 

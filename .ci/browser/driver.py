@@ -33,15 +33,19 @@ KEYS = {
 FLAGS = (
     "--headless=new", "--no-sandbox", "--disable-gpu", "--window-size=1280,1200",
     "--hide-scrollbars", "--force-device-scale-factor=1", "--disable-background-networking",
+    # (the frame of the page in the process of its page, so that what the driver emulates holds in it)
+    "--disable-features=IsolateSandboxedIframes",
 )
 
 
+# How long a finger holds still, in milliseconds.
+HOLD = 400
 # What a pointer does.
 DOWN, UP = {"type": "pointerDown", "button": 0}, {"type": "pointerUp", "button": 0}
 
 
 def move_to(place):
-    return {"type": "pointerMove", "duration": 0, "x": round(place[0]), "y": round(place[1])}
+    return {"type": "pointerMove", "duration": 0, "x": place[0], "y": place[1]}
 
 
 def found(names):
@@ -54,6 +58,7 @@ class Browser:
 
     def __init__(self, driver, program, folder):
         self.port_file, self.folder, self.next_save = folder / "driver.log", folder, 0
+        self.is_inside = False
         self.log = open(self.port_file, "w", encoding="utf-8")
         self.process = subprocess.Popen(
             [driver, "--port=0"], stdin=subprocess.DEVNULL, stdout=self.log, stderr=self.log
@@ -97,6 +102,21 @@ class Browser:
 
     def open(self, url):
         self.ask("POST", "/url", {"url": url})
+        self.is_inside = False
+
+    def enter(self, number=0):
+        """From here on scripts and places are those of a frame, or of the page with None."""
+        self.ask("POST", "/frame", {"id": number})
+        self.is_inside = number is not None
+
+    def corner(self):
+        """Where the frame begins in the window: places of the driver are in the window."""
+        if not self.is_inside:
+            return 0, 0
+        self.enter(None)
+        box = self.run("const it = document.querySelector('iframe').getBoundingClientRect(); return [it.left, it.top]")
+        self.enter()
+        return box
 
     def run(self, script, *values):
         """Runs a script in the page, and returns what it returns."""
@@ -134,10 +154,16 @@ class Browser:
     def drag(self, *places, kind="mouse", ends=True):
         """Presses at the first place of the window, goes to the others, and lets go."""
         moves = [move_to(it) for it in places]
-        self.act([moves[0], DOWN, *moves[1:], *([UP] if ends else [])], kind)
+        # (a finger holds still before it draws)
+        holds = [{"type": "pause", "duration": HOLD}] if kind == "touch" else []
+        self.act([moves[0], DOWN, *holds, *moves[1:], *([UP] if ends else [])], kind)
 
     def act(self, acts, kind="mouse"):
         """What one pointer does."""
+        left, top = self.corner()
+        for it in acts:
+            if it["type"] == "pointerMove":
+                it.update(x=round(it["x"] + left), y=round(it["y"] + top))
         pointer = {
             "type": "pointer", "id": kind, "parameters": {"pointerType": kind}, "actions": acts
         }
@@ -210,17 +236,32 @@ def browser():
             made.end()
 
 
+class Server(http.server.ThreadingHTTPServer):
+    """A server that notes each connection, also one that asks for nothing."""
+
+    def get_request(self):
+        found = super().get_request()
+        self.asked.joined += 1
+        return found
+
+
+class Asked(list):
+    """The paths that were asked for, and how many connections there were."""
+    joined = 0
+
+
 @contextlib.contextmanager
 def served(folder):
-    """The address at which a folder is served, and the list of the paths that were asked for."""
-    asked = []
+    """The address at which a folder is served, and the paths that were asked for."""
+    asked = Asked()
 
     class Handler(http.server.SimpleHTTPRequestHandler):
         def log_message(self, *_):
             asked.append(self.path)
 
     handler = functools.partial(Handler, directory=os.fspath(folder))
-    with http.server.ThreadingHTTPServer(("127.0.0.1", 0), handler) as server:
+    with Server(("127.0.0.1", 0), handler) as server:
+        server.asked = asked
         thread = threading.Thread(target=server.serve_forever, daemon=True)
         thread.start()
         try:

@@ -44,6 +44,13 @@ PIXEL = """const context = document.getElementById('canvas').getContext('2d');
 return [...context.getImageData(...arguments, 1, 1).data].slice(0, 3)"""
 
 
+# What the page says of pictures that it doesn't take.
+LIMIT = "This page takes up to 32,767 pixels on a side, and 100 million in all."
+TOO_LARGE = {
+    "wide.png": f"has 32768 by 1 pixels. {LIMIT}", "high.png": f"has 1 by 40000 pixels. {LIMIT}",
+}
+
+
 def exif(orientation):
     """A segment of EXIF with how the camera was held, and a description."""
     entries = [
@@ -77,11 +84,12 @@ def check_wrong_files(page):
         "zip.png": b"PK\x03\x04" + bytes(100),
         "huge.png": png.png(0x7FFFFFFF, 0, b""),
         "wide.png": png.png(32768, 1, bytes(3 * 32768)),
+        "high.png": png.png(1, 40000, bytes(3 * 40000)),
     }
     for name, data in wrong.items():
         page.browser.run("document.getElementById('status').textContent = 'Opening'")
         said = page.give(name, data)
-        why = "32768 by 1 pixels, which is too large" if name == "wide.png" else "can't read"
+        why = TOO_LARGE.get(name, "can't read")
         page.count(f"{name} is refused in words", name in said and why in said, said)
         page.count(f"{name} changes nothing", (page.list(), page.shown()) == before)
     page.count("the page goes on", page.apply("fill 2,2,9,9 3") == "Done.")

@@ -1,4 +1,4 @@
-"""The tab 'Layout' in a browser: the output of worked scripts, and what is drawn of images."""
+"""The page of layouts in a browser: the output of worked scripts, and what is drawn of images."""
 import json
 import random
 
@@ -56,7 +56,7 @@ def is_text(data):
 
 def check_output(page):
     """The worked scripts, those that every word is in, bad lines, and scripts by chance."""
-    page.browser.click("#layout-tab")
+    page.start("layout.html")
     scripts = [
         *sorted((ROOT / "cases").glob("*.script")), *sorted((ROOT / "examples").glob("*.script"))
     ]
@@ -147,3 +147,4 @@ def check_steps(page):
         page.browser.run("return document.getElementById('script').value.split('\\n')[1]"),
         "blit 0 0,0,2,2 0 1,1,2,2"
     )
+    page.start()

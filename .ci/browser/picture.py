@@ -49,8 +49,7 @@ BAD = {
 }
 IS_PROBLEM = "return document.getElementById('status').classList.contains('problem')"
 # Whether the page has started, or has said why not.
-STARTED = """return document.documentElement.dataset.ready === 'yes'
-|| !document.getElementById('problem').hidden"""
+STARTED = "return document.documentElement?.dataset.ready"
 PIXELS = png.by_chance(WIDTH, HEIGHT, "page")
 
 
@@ -60,8 +59,9 @@ class Page:
     def __init__(self, browser, url, cases):
         self.browser, self.url, self.cases = browser, url, cases
 
-    def start(self):
-        self.browser.open(self.url)
+    def start(self, path="index.html"):
+        self.browser.open(f"{self.url}{path}")
+        self.browser.enter()
         until(lambda: self.browser.run(STARTED))
 
     def give(self, name, data):
@@ -69,6 +69,8 @@ class Page:
         path = self.browser.folder / name
         path.write_bytes(data)
         self.browser.type("#file", str(path))
+        if self.browser.run("return document.getElementById('ask').open"):
+            self.browser.run("document.getElementById('discard').click()")
         return until(lambda: self.status() if not self.status().startswith("Opening") else "")
 
     def fresh(self, name, data):
@@ -81,7 +83,8 @@ class Page:
 
     def actual(self, is_actual):
         """Shows the picture at its actual size, or as it fits."""
-        self.browser.run("const it = document.getElementById('actual'); it.checked !== arguments[0] && it.click()", is_actual)
+        self.browser.run("document.getElementById(arguments[0]).click()", "actual" if is_actual else "fit")
+        self.browser.run("document.getElementById('stage').scrollTo(0, 0)")
 
     def scale(self):
         """How many pixels of the screen a pixel of the picture has."""
@@ -123,6 +126,10 @@ class Page:
 
     def drag(self, *places, **how):
         self.browser.drag(*self.on_screen(*places), **how)
+
+    def is_off(self, name):
+        """Whether a button can't be pressed."""
+        return self.browser.run("return document.getElementById(arguments[0]).disabled", name)
 
     def choose(self, tool):
         self.browser.click(f"[name=tool][value={tool}]")
@@ -191,7 +198,7 @@ def check_pointer(page):
     page.count("the mouse resizes it at a corner", page.list() == "fill 13,13,27,17 0\n")
     page.drag((13, 13), (40, 30), (45, 35))
     page.count("a corner goes past the opposite one", page.list() == "fill 40,30,5,5 0\n")
-    page.drag((42, 32), (20, 20), (-0.7, -0.7))
+    page.drag((42, 32), (20, 20), (0.1, 0.1))
     page.count("a rectangle stays inside the picture", page.list() == "fill 0,0,5,5 0\n")
     page.choose("mosaic")
     page.browser.change("tile-width", "2")

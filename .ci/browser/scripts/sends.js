@@ -1,44 +1,89 @@
-// Ways in which a page could send something away, to an address: what came of each.
-const done = arguments[arguments.length - 1], to = arguments[0], found = {};
-const wait = (it) => Promise.race([it, new Promise((end) => setTimeout(end, 3000, "silence"))]);
-const ends = (it, end) => {
-  [it.onload, it.onerror] = [() => end("LOADED"), () => end("blocked")];
-  return it;
+// One way in which a script of the page could reach another computer, by its name: what came of it.
+const [name, to, done] = arguments;
+const wait = (it) => Promise.race([it, new Promise((end) => setTimeout(end, 1500, "silence"))]);
+const made = (kind, values) => Object.assign(document.createElement(kind), values);
+const added = (kind, values) => wait(new Promise((end) => {
+  document.body.append(made(kind, { ...values, onload: () => end("LOADED"), onerror: () => end("blocked") }));
+}));
+const linked = (rel, more = {}) => added("link", { rel, href: to, ...more });
+const opened = (it) => wait(new Promise((end) => {
+  it.onopen = () => end("LOADED");
+  it.onerror = () => end("blocked");
+}));
+// (what leaves the page comes after the answer)
+const later = (act) => {
+  setTimeout(act, 100);
+  return "tried";
 };
-const loaded = (it, key) => wait(new Promise((end) => {
-  ends(it, end)[key] = to;
-  document.body.append(it);
-}));
-const asked = () => wait(new Promise((end) => {
-  const it = ends(new XMLHttpRequest(), end);
-  it.open("POST", to);
-  it.send("pixels");
-}));
-const framed = () => wait(new Promise((end) => {
-  document.body.append(Object.assign(document.createElement("iframe"), { src: to }));
-  setTimeout(end, 500, "blocked");
-}));
-const spoken = () => wait(new Promise((end) => {
-  try {
-    const it = new WebSocket(to.replace("http", "ws"));
-    [it.onopen, it.onerror] = [() => end("LOADED"), () => end("blocked")];
-  } catch {
-    end("blocked");
+const clicked = (values) => {
+  const link = made("a", { href: to, ...values });
+  document.body.append(link);
+  return later(() => link.click());
+};
+const spoken = (maker) => {
+  if (!maker) {
+    return "blocked";
   }
-}));
-(async () => {
-  found.fetch = await wait(fetch(to).then(() => "LOADED", () => "blocked"));
-  found.own = await wait(fetch("index.html").then(() => "LOADED", () => "blocked"));
-  found.request = await asked();
-  found.image = await loaded(new Image(), "src");
-  found.script = await loaded(document.createElement("script"), "src");
-  const style = Object.assign(document.createElement("link"), { rel: "stylesheet" });
-  found.style = await loaded(style, "href");
-  found.frame = await framed();
-  found.socket = await spoken();
-  navigator.sendBeacon(to, "pixels");
-  const form = Object.assign(document.createElement("form"), { action: to, method: "post" });
-  document.body.append(form);
-  form.submit();
-  setTimeout(done, 500, found);
-})();
+  const { host } = new URL(to);
+  const peer = new maker({ iceServers: [{ urls: `turn:${host}?transport=tcp`, username: "a", credential: "b" }] });
+  peer.createDataChannel("pixels");
+  return wait(peer.createOffer().then((it) => peer.setLocalDescription(it)).then(() => "silence"));
+};
+const tries = {
+  fetch: () => wait(fetch(to).then(() => "LOADED", () => "blocked")),
+  "fetch from its own server": () => wait(fetch("index.html").then(() => "LOADED", () => "blocked")),
+  request: () => wait(new Promise((end) => {
+    const it = Object.assign(new XMLHttpRequest(), { onload: () => end("LOADED"), onerror: () => end("blocked") });
+    it.open("POST", to);
+    it.send("pixels");
+  })),
+  beacon: () => (navigator.sendBeacon(to, "pixels"), "tried"),
+  image: () => added("img", { src: to }),
+  script: () => added("script", { src: to }),
+  style: () => linked("stylesheet"),
+  video: () => added("video", { src: to }),
+  object: () => added("object", { data: to }),
+  preload: () => linked("preload", { as: "image" }),
+  prefetch: () => linked("prefetch"),
+  socket: () => opened(new WebSocket(to.replace("http", "ws"))),
+  events: () => opened(new EventSource(to)),
+  worker: () => opened(new Worker(URL.createObjectURL(new Blob([`fetch("${to}")`])))),
+  ping: () => clicked({ href: "#here", ping: to }),
+  form: () => {
+    const it = made("form", { action: to, method: "post" });
+    document.body.append(it);
+    return later(() => it.submit());
+  },
+  RTCPeerConnection: () => spoken(globalThis.RTCPeerConnection),
+  "RTCPeerConnection of a frame": () => {
+    const it = made("iframe", {});
+    document.body.append(it);
+    try {
+      return spoken(it.contentWindow.RTCPeerConnection);
+    } catch {
+      return "blocked";
+    }
+  },
+  "window.open": () => (window.open(to) ? "LOADED" : "blocked"),
+  "a link to a new window": () => clicked({ target: "_blank" }),
+  "a link to the whole window": () => clicked({ target: "_top" }),
+  "location of the whole window": () => {
+    try {
+      top.location = to;
+      return "tried";
+    } catch {
+      return "blocked";
+    }
+  },
+  "a frame": () => added("iframe", { src: to }).then((it) => (it === "LOADED" ? "silence" : it)),
+  "a link": () => clicked({}),
+  "a link with download": () => clicked({ download: "it" }),
+  location: () => later(() => { location = to; }),
+  "a refresh": () => later(() => document.head.append(made("meta", { httpEquiv: "refresh", content: `0;url=${to}` }))),
+  preconnect: () => linked("preconnect"),
+};
+if (name === undefined || name === null) {
+  done(Object.keys(tries));
+} else {
+  Promise.resolve().then(tries[name]).catch((why) => `blocked: ${why.message}`).then((it) => setTimeout(done, 100, it));
+}

@@ -7,6 +7,7 @@ what a person does: opens pictures, covers, undoes and saves. Saved files are co
 scripts (.ci/model.py). Where Chromium or its driver isn't on the machine, what needs them is named
 as skipped. With the word --screenshots it writes those of the documents, and checks nothing.
 """
+import base64
 import pathlib
 import re
 import signal
@@ -20,7 +21,10 @@ from browser.driver import browser, served
 from checking import ROOT, Cases
 
 OUT = ROOT / "out/web"
-FILES = {"index.html", "page.js", "style.css", "imgref.wasm"}
+PAGES = ("index.html", "layout.html")
+# What is loaded of a page besides the module that it holds.
+FILES = {*PAGES, "imgref.wasm"}
+SUM = r"'sha256-[\w+/=]{44}'"
 MOST_BYTES = 200_000
 # The sections of a WebAssembly file with names of other modules, and those without code and data.
 IMPORTS, CUSTOM = 2, 0
@@ -56,11 +60,9 @@ def sections(data):
 
 
 def check_files(cases):
-    """The page is four small files, which name no other server, and a module that needs nothing."""
+    """Each page is one file, which names no other server, and holds a module that needs nothing."""
     found = {it.name: it.read_bytes() for it in OUT.iterdir()}
-    cases.count("the page is four files", set(found) == FILES, sorted(found))
-    size = sum(map(len, found.values()))
-    cases.count(f"they have under {MOST_BYTES} bytes", size < MOST_BYTES, size)
+    cases.count("the pages are one file each", FILES <= set(found), sorted(found))
     module = found["imgref.wasm"]
     cases.count(
         "the module imports nothing",
@@ -68,28 +70,30 @@ def check_files(cases):
             module
         )
     )
-    texts = {name: it.decode() for name, it in found.items() if name != "imgref.wasm"}
-    addresses = {it for text in texts.values() for it in re.findall(r"\w+://[^\s\"'`]+", text)}
-    cases.count("they name no server", addresses == {"http://www.w3.org/2000/svg"}, addresses)
-    policy = re.search(
-        r'http-equiv="Content-Security-Policy" content="([^"]*)"', texts["index.html"]
+    for name in PAGES:
+        check_text(cases, name, found[name].decode(), base64.b64encode(module).decode())
+
+
+def check_text(cases, name, text, module):
+    """A page holds the module, and no code that sends. Its policy allows its own scripts and styles alone."""
+    cases.count(f"{name} has at most {MOST_BYTES} bytes", len(text.encode()) <= MOST_BYTES, len(text))
+    cases.count(f"{name} holds the module", text.count(module) == 1)
+    # (the first is a name of SVG, and the second begins a part of a file)
+    names = {"http://www.w3.org/2000/svg", "http://ns.adobe.com/"}
+    addresses = set(re.findall(r"\w+://[^\s\"'`&]+", text.replace(module, "")))
+    cases.count(f"{name} names no server", addresses <= names, addresses - names)
+    policy = re.search(r'http-equiv="Content-Security-Policy" content="([^"]*)"', text)[1]
+    wanted = (
+        f"default-src 'none'; script-src {SUM} {SUM} 'wasm-unsafe-eval'; style-src {SUM} {SUM}; connect-src 'none'; "
+        "worker-src blob:; img-src data:; frame-src 'none'; base-uri 'none'; form-action 'none'; webrtc 'block'"
     )
-    allowed = policy and [tuple(it.split(" ", 1)) for it in policy[1].split("; ")]
-    wanted = [
-        ("default-src", "'none'"), ("script-src", "'self' 'wasm-unsafe-eval'"),
-        ("style-src", "'self'"), ("connect-src", "'self'"), ("img-src", "data:"),
-        ("base-uri", "'none'"), ("form-action", "'none'")
-    ]
-    cases.count("the policy allows the page's own files alone", allowed == wanted, allowed)
-    cases.count(
-        "the page asks for one file by itself",
-        len(
-            re.findall(
-                r"\bfetch\(|XMLHttpRequest|sendBeacon|WebSocket|importScripts|import\(",
-                texts["page.js"]
-            )
-        ) == 1
+    cases.count(f"{name}: the policy allows its own parts alone", re.fullmatch(wanted, policy), policy)
+    flags = re.findall(r'<iframe [^>]* sandbox="([^"]*)"', text)
+    cases.count(f"{name}: its frame can't leave", flags == ["allow-scripts allow-downloads allow-modals"], flags)
+    senders = re.findall(
+        r"\bfetch\(|XMLHttpRequest|sendBeacon|WebSocket|EventSource|importScripts|import\(|new RTC", text
     )
+    cases.count(f"{name} has no code that sends", not senders, senders)
 
 
 def check_served(cases):
@@ -144,7 +148,8 @@ def check_page(cases, program):
         layout.check_output(page)
         layout.check_steps(page)
         looks.check_phone(page)
-        looks.check_silence(page, asked, other, other_asked)
+        looks.check_silence(page, asked)
+        looks.check_sends(page, asked, other, other_asked)
         looks.check_old(page)
 
 

@@ -1,0 +1,72 @@
+// The list of edits, and the fields of the one that is selected.
+
+import { find } from "./common.js";
+import { textOf } from "./edits.js";
+import { isOnStage } from "./stage.js";
+import { weakness } from "./tile.js";
+import { wordsOf } from "./words.js";
+
+/** The field of each number of an edit. */
+export const FIELDS = {
+  left: "left", top: "top", width: "width", height: "height",
+  tileWidth: "own-tile-width", tileHeight: "own-tile-height",
+};
+// What a rectangle can be changed to.
+const KINDS = ["fill", "mosaic", "crop"];
+// What is shown of a long text.
+const MOST_LETTERS = 60;
+
+/** Shows the edits. Their lines stay the same elements, so that the keys stay with one. */
+export function renderList(edits, selected, select) {
+  const list = find("edits");
+  while (list.children.length > edits.length) {
+    list.lastChild.remove();
+  }
+  while (list.children.length < edits.length) {
+    list.append(lineOf(list.children.length, select));
+  }
+  edits.forEach((edit, index) => {
+    const button = list.children[index].firstChild, [words, text] = button.children;
+    words.textContent = wordsOf(edit);
+    text.textContent = shortened(textOf(edit));
+    button.setAttribute("aria-pressed", index === selected);
+  });
+  find("no-edits").hidden = edits.length > 0;
+}
+
+function lineOf(index, select) {
+  const line = document.createElement("li"), button = document.createElement("button");
+  button.append(document.createElement("span"), document.createElement("small"));
+  button.addEventListener("click", () => select(index));
+  line.append(button);
+  return line;
+}
+
+function shortened(text) {
+  const [first] = text.split("\n"), count = text.split("\n").length - 1;
+  return first.slice(0, MOST_LETTERS) + (count ? ` and ${count} more` : "");
+}
+
+/** Shows the fields of an edit, its warning, and what it can be changed to. */
+export function renderSelected(edit, picture, turnInto) {
+  const canChange = edit && isOnStage(edit);
+  find("selected").disabled = !edit;
+  for (const [name, id] of Object.entries(FIELDS)) {
+    find(id).value = edit?.[name] ?? "";
+    find(id).disabled = !canChange;
+  }
+  document.querySelectorAll("[data-of]").forEach((it) => { it.hidden = it.dataset.of !== edit?.word; });
+  if (edit?.word === "fill") {
+    find("own-colour").value = `#${edit.colour.map((it) => it.toString(16).padStart(2, "0")).join("")}`;
+  }
+  const weak = edit ? weakness(edit, picture) : "";
+  [find("weak").textContent, find("weak").hidden] = [weak, !weak];
+  const kinds = canChange ? KINDS.filter((it) => it !== edit.word) : [];
+  find("changes").replaceChildren(...kinds.map((word) => {
+    const button = document.createElement("button");
+    button.textContent = `Change '${wordsOf(edit)}' to a ${word}`;
+    button.dataset.word = word;
+    button.addEventListener("click", () => turnInto(word));
+    return button;
+  }));
+}

@@ -1,0 +1,30 @@
+// The tool for what is drawn next, with its fields.
+
+import { find } from "./common.js";
+
+const HINTS = {
+  fill: "Leaves nothing of what it covers.",
+  brush: "Fills along a path. Leaves nothing of what it covers.",
+  mosaic: "Keeps one pixel of each tile, so a text can be guessed. Use a fill for secrets. "
+    + "Without numbers, tiles are an eighth of the rectangle, and at least a fortieth of the picture.",
+  crop: "Only what is inside is saved.",
+};
+
+/** The name of the tool. */
+export function toolOf() {
+  return document.querySelector("[name=tool]:checked").value;
+}
+
+/** The colour of a field: red, green and blue. */
+export function colourOf(id) {
+  return find(id).value.match(/\w\w/g).map((it) => parseInt(it, 16));
+}
+
+/** Shows the fields of the tool, and what it hides. */
+export function renderTools() {
+  const tool = toolOf();
+  find("hint").textContent = HINTS[tool];
+  document.querySelectorAll("[data-for]").forEach(
+    (it) => { it.hidden = !it.dataset.for.split(" ").includes(tool); }
+  );
+}
