@@ -27,7 +27,7 @@ PATIENCE = 60
 PACE = 0.12
 ELEMENT = "element-6066-11e4-a52e-4f735466cecf"
 KEYS = {
-    "Tab": "\ue004", "Shift": "\ue008", "Control": "\ue009", "Escape": "\ue00c", "Delete": "\ue017",
+    "Tab": "\ue004", "Backspace": "\ue003", "Shift": "\ue008", "Control": "\ue009", "Escape": "\ue00c", "Delete": "\ue017",
     "Left": "\ue012", "Up": "\ue013", "Right": "\ue014", "Down": "\ue015", "Enter": "\ue007",
 }
 FLAGS = (
@@ -160,14 +160,17 @@ class Browser:
 
     def act(self, acts, kind="mouse"):
         """What one pointer does."""
+        self.act_all({kind: acts}, kind)
+
+    def act_all(self, acts, kind):
+        """What pointers of one kind do at the same time, by their names."""
         left, top = self.corner()
-        for it in acts:
-            if it["type"] == "pointerMove":
-                it.update(x=round(it["x"] + left), y=round(it["y"] + top))
-        pointer = {
-            "type": "pointer", "id": kind, "parameters": {"pointerType": kind}, "actions": acts
-        }
-        self.ask("POST", "/actions", {"actions": [pointer]})
+        place = lambda it: {"x": round(it["x"] + left), "y": round(it["y"] + top)}
+        pointers = [{
+            "type": "pointer", "id": name, "parameters": {"pointerType": kind},
+            "actions": [it | place(it) if it["type"] == "pointerMove" else it for it in them]
+        } for name, them in acts.items()]
+        self.ask("POST", "/actions", {"actions": pointers})
 
     def text(self, selector):
         return self.run("return document.querySelector(arguments[0]).textContent", selector)

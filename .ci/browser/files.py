@@ -193,25 +193,21 @@ def check_clear(page):
     )
 
 
-def large_row():
-    """A row of the large picture; all its rows are the same."""
-    return bytes((x * it) & 255 for x in range(LARGE[0]) for it in (1, 3, 7))
-
-
 def is_quick(tries, most):
     """Whether one of some tries took less than so many milliseconds."""
     return min(tries, default=most) < most
 
 
 def check_large(page):
-    """12 megapixels: opened, covered and saved, without a pause that a person notices."""
+    """12 megapixels of noise: opened, covered and saved, without a pause that a person notices."""
     width, height = LARGE
-    pixels, busy = large_row() * height, {"opening": [], "saving": []}
+    pixels, busy = png.by_chance(width, height, "large"), {"opening": [], "saving": []}
+    at = lambda x, y: list(pixels[3 * (y * width + x):][:3])
     page.browser.script("pauses")
     while len(busy["saving"]) < TRIES and any(not is_quick(it, MOST_BUSY) for it in busy.values()):
         said = page.open(pixels, width, height, "large.png")
         busy["opening"].append(max(page.browser.script("pauses"), default=0))
-        page.apply("mosaic 0,0,4000,3000 64,64\nfill 100,200,1000,1000 1,2,3")
+        page.apply("mosaic 0,0,1000,1000 64,64\nfill 100,200,1000,1000 1,2,3")
         page.browser.script("pauses")
         saved = page.save()
         busy["saving"].append(max(page.browser.script("pauses"), default=0))
@@ -222,17 +218,34 @@ def check_large(page):
         print(f"  {label}: {found} ms")
     places = ((63, 63), (64, 70), (100, 200), (1100, 200))
     seen = [page.browser.run(PIXEL, *it) for it in places]
-    wanted = [[0, 0, 0], [64, 192, 192], [1, 2, 3], [(1088 * it) & 255 for it in (1, 3, 7)]]
+    wanted = [at(0, 0), at(64, 64), [1, 2, 3], at(1100, 200)]
     page.count("12 megapixels: a mosaic and a fill are shown", seen == wanted, (seen, wanted))
     is_whole = png.size_of(saved) == LARGE and saved.endswith(png.chunk(b"IEND", b""))
     page.count("12 megapixels are saved", is_whole)
     check_large_edits(page)
+    check_jpeg(page, len(pixels) // 3)
     page.apply("crop 1,2,30,20")
-    cropped = picture.by_model("crop 1,2,30,20".split(), large_row() * 40, width, 40)
+    cropped = picture.by_model("crop 1,2,30,20".split(), pixels[:3 * width * 40], width, 40)
     page.count("a crop of 12 megapixels", png.ppm_of(page.save()) == cropped)
     page.open()
     same = png.ppm_of(page.save()) == png.ppm(picture.WIDTH, picture.HEIGHT, picture.PIXELS)
     page.count("a small picture after a large one", same)
+
+
+def check_jpeg(page, most):
+    """A JPEG is smaller, and by its quality."""
+    page.browser.change("format", "jpeg")
+    sizes = []
+    for quality in (90, 30):
+        page.browser.change("quality", str(quality))
+        page.browser.script("pauses")
+        data = page.save("covered.jpg")
+        busy = max(page.browser.script("pauses"), default=0)
+        page.count(f"JPEG of quality {quality}: the page is busy for under {MOST_BUSY} ms", busy < MOST_BUSY, busy)
+        page.count(f"JPEG of quality {quality}: it is one", data[:2] == b"\xff\xd8" and data[-2:] == b"\xff\xd9")
+        sizes.append(len(data))
+    page.count("a lower quality gives fewer bytes", sizes[1] < sizes[0] < most, sizes)
+    page.browser.change("format", "png")
 
 
 def check_large_edits(page):

@@ -118,7 +118,7 @@ class Page:
     def on_screen(self, *places):
         """Places of the picture as places of the window."""
         box = self.browser.run(
-            "const it = document.getElementById('canvas'); it.scrollIntoView({ block: 'nearest' });"
+            "const it = document.getElementById('canvas');"
             "const box = it.getBoundingClientRect();"
             "return [box.left, box.top, box.width / it.width, box.height / it.height]"
         )

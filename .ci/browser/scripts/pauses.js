@@ -1,8 +1,19 @@
-// How long the page was busy at a time, in milliseconds, since the last call: pauses over 50.
+// How long the page was busy at a time, in milliseconds, since the last call: the longest time between two of its frames.
 window.pauses ??= (() => {
-  const found = [];
-  const note = (list) => found.push(...list.getEntries().map((it) => Math.round(it.duration)));
-  new PerformanceObserver(note).observe({ entryTypes: ["longtask"] });
+  const found = { last: performance.now(), most: 0 };
+  found.tick = () => {
+    const now = performance.now();
+    found.most = Math.max(found.most, now - found.last);
+    found.last = now;
+  };
+  const next = () => {
+    found.tick();
+    requestAnimationFrame(next);
+  };
+  next();
   return found;
 })();
-return window.pauses.splice(0);
+window.pauses.tick();
+const { most } = window.pauses;
+window.pauses.most = 0;
+return [Math.round(most)];

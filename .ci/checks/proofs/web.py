@@ -16,7 +16,7 @@ import sys
 import urllib.request
 
 sys.path.insert(0, str(pathlib.Path(__file__).resolve().parents[2]))
-from browser import acts, covers, files, layout, looks, picture, shots
+from browser import acts, covers, files, hands, layout, looks, picture, shots, views
 from browser.driver import browser, served
 from checking import ROOT, Cases
 
@@ -144,6 +144,9 @@ def check_page(cases, program):
         files.check_small(page)
         files.check_clear(page)
         files.check_large(page)
+        for check in (views.check_sizes, views.check_zoom, views.check_brush, views.check_kept, views.check_copied,
+                      views.check_shortcuts, hands.check_fingers, hands.check_keys_alone):
+            check(page)
         looks.check_names(page)
         layout.check_output(page)
         layout.check_steps(page)
@@ -151,6 +154,7 @@ def check_page(cases, program):
         looks.check_silence(page, asked)
         looks.check_sends(page, asked, other, other_asked)
         looks.check_old(page)
+        hands.check_disk(page, OUT)
 
 
 def main(words):
