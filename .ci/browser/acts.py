@@ -1,4 +1,4 @@
-"""The tab 'Picture' in a browser: keys, undo, and files that reveal nothing of what is covered."""
+"""The page in a browser: keys, undo, and files that reveal nothing of what is covered."""
 import frames
 from browser import png
 from browser.picture import HEIGHT, PIXELS, WIDTH, by_model

@@ -1,4 +1,4 @@
-"""The tab 'Picture' in a browser: all kinds of files, what is dropped, and large pictures."""
+"""The page in a browser: all kinds of files, what is dropped, and large pictures."""
 import base64
 import struct
 

@@ -22,8 +22,9 @@ OLD = {
         "WebAssembly.instantiate = () => Promise.reject(new Error('no module'))", "The page can't start. no module",
     ),
 }
-# A part of the policy that this browser doesn't know yet.
-UNKNOWN = "Unrecognized Content-Security-Policy directive 'webrtc'"
+# What the console says of a part of the policy that this browser doesn't know yet, and of a page that the driver
+# leaves although edits aren't saved.
+EXPECTED = ("Unrecognized Content-Security-Policy directive 'webrtc'", "attempt to show a 'beforeunload'")
 # Ways by which the browser connects to another server before it refuses, and then asks for nothing.
 JOINS = ("preconnect", "a frame", "a link", "a link with download", "location", "a refresh")
 # How long a request may take to arrive, in seconds.
@@ -91,7 +92,7 @@ def check_silence(page, asked):
     page.cases.count("the browser asked for the pages alone", found == own, sorted(found - own))
     wanted = {"/index.html", "/layout.html"}
     page.cases.count("the server was asked for these alone", set(asked) == wanted, sorted(set(asked)))
-    faults = [it for it in page.browser.faults() if UNKNOWN not in it]
+    faults = [it for it in page.browser.faults() if not any(known in it for known in EXPECTED)]
     page.cases.count("the browser's console has no error", not faults, "\n".join(faults[:5]))
 
 

@@ -1,4 +1,4 @@
-"""The tab 'Picture' in a browser: what it saves, by a model and by imgref_frames, and pointers."""
+"""The page in a browser: what it saves, by a model and by imgref_frames, and pointers."""
 import subprocess
 
 import frames
@@ -248,3 +248,5 @@ def check_pointer(page):
     page.count("its line is told as it is now", page.status().startswith("Line 2: "))
     page.browser.click("#remove")
     page.count("it is removed", page.list() == "mosaic 0,0,5,5 2,16\ncrop 20,10,30,20\n")
+    for it in ("tile-width", "tile-height"):
+        page.browser.change(it, "")
