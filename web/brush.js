@@ -34,7 +34,9 @@ function stamp(spans, x, y, half, band, wide, high) {
     const reach = Math.sqrt(Math.max(half * half - nearest * nearest, 0));
     const left = Math.max(Math.floor(x - reach), 0), right = Math.min(Math.ceil(x + reach), wide);
     if (right > left) {
-      spans.set(at, [...(spans.get(at) ?? []), [left, right]]);
+      const others = spans.get(at) ?? [];
+      others.push([left, right]);
+      spans.set(at, others);
     }
   }
 }

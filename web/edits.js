@@ -30,11 +30,12 @@ export function covers(edit) {
   return ["fill", "brush", "mosaic"].includes(edit.word);
 }
 
-/** Why a cover would hide nothing at all, or nothing. */
+/** Why a cover would hide nothing at all, or a crop leave nothing: else no words. */
 export function futility(edit) {
-  const zero = covers(edit) && ["width", "height"].find((it) => Number(edit[it]) === 0);
+  const isCrop = edit.word === "crop";
+  const zero = (isCrop || covers(edit)) && ["width", "height"].find((it) => Number(edit[it]) === 0);
   if (zero) {
-    return `The ${zero} is 0: nothing would be covered. It is at least 1.`;
+    return `The ${zero} is 0: nothing would be ${isCrop ? "left" : "covered"}. It is at least 1.`;
   }
   return hidesNothing(edit) ? "A mosaic with tiles of 1 by 1 hides nothing." : "";
 }

@@ -17,7 +17,7 @@ const KINDS = ["fill", "mosaic", "crop"];
 const MOST_LETTERS = 60;
 
 /** Shows the edits. Their lines stay the same elements, so that the keys stay with one. */
-export function renderList(edits, selected, select) {
+export function renderList(edits, selected, picture, select) {
   const list = find("edits");
   while (list.children.length > edits.length) {
     list.lastChild.remove();
@@ -26,8 +26,9 @@ export function renderList(edits, selected, select) {
     list.append(lineOf(list.children.length, select));
   }
   edits.forEach((edit, index) => {
-    const button = list.children[index].firstChild, [words, text] = button.children;
+    const button = list.children[index].firstChild, [words, weak, text] = button.children;
     words.textContent = wordsOf(edit);
+    weak.textContent = weakness(edit, picture) ? "Small tiles: may be read" : "";
     text.textContent = shortened(textOf(edit));
     button.setAttribute("aria-pressed", index === selected);
   });
@@ -36,7 +37,7 @@ export function renderList(edits, selected, select) {
 
 function lineOf(index, select) {
   const line = document.createElement("li"), button = document.createElement("button");
-  button.append(document.createElement("span"), document.createElement("small"));
+  button.append(...["span", "strong", "small"].map((it) => document.createElement(it)));
   button.addEventListener("click", () => select(index));
   line.append(button);
   return line;

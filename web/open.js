@@ -32,8 +32,8 @@ export class Opener {
   /** Whether the edits are saved, or a person gives them up. */
   mayLose(name) {
     const { page } = this, dialog = find("ask");
-    if (!page.isUnsaved) {
-      return true;
+    if (!page.isUnsaved || dialog.open) {
+      return !dialog.open;
     }
     find("question").textContent = `${plural(page.edits.length, "edit")} of ${page.name} `
       + `${page.edits.length === 1 ? "isn't" : "aren't"} saved. Open ${name} all the same?`;

@@ -14,6 +14,8 @@ import { coversInWords } from "./words.js";
 const TOGETHER = 1000;
 const LATE =
   "Note: a move comes before a fill or a mosaic. It may carry pixels out of what is covered.";
+const SEEN_AGAIN = "Done. What this cover hid before, and doesn't now, may be seen again.";
+const HOLD_STILL = "Hold a finger still for a moment, then draw. Two fingers zoom.";
 const FOR_A_PICTURE = ["save", "add", "apply", "copy", "copy-picture", "smaller", "larger", "fit", "actual"];
 
 /** What a person sees and does on the page. */
@@ -26,6 +28,7 @@ export class PicturePage {
       change: (index, it, by) => this.change(index, it, by),
       select: (index) => this.select(index),
       remove: (index) => this.remove(index),
+      swipe: () => this.say(HOLD_STILL),
     }, toolOf);
     this.opener = new Opener(this);
     this.saver = new Saver(this);
@@ -161,7 +164,10 @@ export class PicturePage {
     if (why) {
       this.say(why, true);
     } else if (textOf(edit) !== textOf(this.edits[index])) {
-      this.commit(this.edits.with(index, edit), by);
+      const old = this.edits[index];
+      if (this.commit(this.edits.with(index, edit), by) && covers(old) && !contains(edit, old)) {
+        this.say(SEEN_AGAIN);
+      }
     }
     this.render();
   }
@@ -223,10 +229,16 @@ export class PicturePage {
     for (const it of FOR_A_PICTURE) {
       find(it).disabled = !pixels;
     }
-    renderTools();
-    renderList(edits, selected, (index) => this.select(index));
+    renderTools(pixels);
+    renderList(edits, selected, pixels, (index) => this.select(index));
     renderSelected(edits[selected], pixels, (word) => this.turnInto(word));
     find("covers").textContent = pixels ? coversInWords(edits) : "";
     find("text").value = this.text;
   }
+}
+
+/** Whether a rectangle has all pixels of another one. */
+function contains(outer, inner) {
+  return outer.left <= inner.left && outer.left + outer.width >= inner.left + inner.width
+    && outer.top <= inner.top && outer.top + outer.height >= inner.top + inner.height;
 }

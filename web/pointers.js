@@ -7,7 +7,7 @@ import { find } from "./common.js";
 const HOLD = 250, STILL = 6;
 
 export class Pointers {
-  /** The `acts` are called in a drag: `begin`, `move`, `end` and `cancel`. */
+  /** The `acts` are called in a drag: `begin`, `move`, `end` and `cancel`; `swipe` where a finger scrolls all of it. */
   constructor(surface, view, acts) {
     Object.assign(this, { surface, view, acts, fingers: new Map(), mode: "", timer: 0 });
     surface.addEventListener("pointerdown", (event) => this.down(event));
@@ -73,6 +73,10 @@ export class Pointers {
     } else if (this.mode === "wait" && Math.hypot(now[0] - this.last[0], now[1] - this.last[1]) > STILL) {
       clearTimeout(this.timer);
       this.mode = "scroll";
+      if (this.view.isFitting) {
+        // (there is nothing to scroll, so the person meant to draw)
+        this.acts.swipe();
+      }
     }
     if (this.mode === "scroll") {
       this.view.scroll(this.last[0] - now[0], this.last[1] - now[1]);

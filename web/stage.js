@@ -18,7 +18,7 @@ export function isOnStage(edit) {
 }
 
 export class Stage {
-  /** The `acts` are called with what a person does: `draw`, `change`, `select` and `remove`. `tool` gives the tool. */
+  /** The `acts` are called with what a person does: `draw`, `change`, `select`, `remove`, `swipe`. `tool` gives the tool. */
   constructor(acts, tool) {
     Object.assign(this, { acts, tool, drag: null, edits: [], selected: -1 });
     for (const it of ["stage", "frame", "canvas", "overlay", "drop"]) {
@@ -28,7 +28,7 @@ export class Stage {
     this.view = new View(() => this.render(this.edits, this.selected));
     this.pointers = new Pointers(this.overlay, this.view, {
       begin: (event) => this.press(event), move: (event) => this.pull(event),
-      end: (event) => this.release(event), cancel: () => this.cancel(),
+      end: (event) => this.release(event), cancel: () => this.cancel(), swipe: () => acts.swipe(),
     });
     this.overlay.addEventListener("keydown", (event) => this.key(event));
     this.overlay.addEventListener("focusin", (event) => this.acts.select(indexOf(event.target)));

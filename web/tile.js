@@ -18,7 +18,8 @@ export function weakness({ word, tileWidth, tileHeight, ...rectangle }, picture)
   if (tileWidth >= side && tileHeight >= side || side === 0) {
     return "";
   }
-  return `Tiles of ${tileWidth} by ${tileHeight} are small: what is below may be read. `
+  const [wide, high] = [tileWidth, tileHeight].map((it) => (it === Infinity ? "any" : it));
+  return `Tiles of ${wide} by ${high} are small: what is below may be read. `
     + `Use at least ${side} by ${side}, or a fill.`;
 }
 

@@ -1,6 +1,7 @@
 // The tool for what is drawn next, with its fields.
 
 import { find } from "./common.js";
+import { weakness } from "./tile.js";
 
 const HINTS = {
   fill: "Leaves nothing of what it covers.",
@@ -20,9 +21,13 @@ export function colourOf(id) {
   return find(id).value.match(/\w\w/g).map((it) => parseInt(it, 16));
 }
 
-/** Shows the fields of the tool, and what it hides. */
-export function renderTools() {
-  const tool = toolOf();
+/** Shows the fields of the tool, what it hides, and whether its tiles are too small for a picture. */
+export function renderTools(picture) {
+  const tool = toolOf(), [tileWidth, tileHeight] = ["tile-width", "tile-height"].map(
+    (it) => find(it).valueAsNumber || Infinity
+  );
+  const weak = picture && weakness({ word: tool, width: 0, height: 0, tileWidth, tileHeight }, picture);
+  [find("small-tiles").textContent, find("small-tiles").hidden] = [weak || "", !weak];
   find("hint").textContent = HINTS[tool];
   document.querySelectorAll("[data-for]").forEach(
     (it) => { it.hidden = !it.dataset.for.split(" ").includes(tool); }

@@ -11,6 +11,7 @@ SECRET = "fill 20,10,20,12 0"
 FIELD = "return document.getElementById(arguments[0]).value"
 OUTLINED = "return document.querySelector('#overlay .selected .uncovers').getAttribute('d')"
 CHANGES = "return [...document.querySelectorAll('#changes button')].map((it) => it.textContent)"
+WEAK = "return [...document.querySelectorAll('#edits strong')].map((it) => it.textContent)"
 WARNING = "const it = document.getElementById('weak'); return it.hidden ? '' : it.textContent"
 # Two frames of one pixel.
 FRAME = bytes.fromhex("2c000000000100010000 02024401 00".replace(" ", ""))
@@ -75,6 +76,7 @@ def check_tiles(page):
     page.count("these get no warning", page.browser.run(WARNING) == "", page.browser.run(WARNING))
     page.browser.change("own-tile-width", "16")
     page.count("smaller ones get a warning", "may be read. Use at least 23 by 23" in page.browser.run(WARNING), page.browser.run(WARNING))
+    page.count("also its line in the list", page.browser.run(WEAK) == ["", "Small tiles: may be read"], page.browser.run(WEAK))
     page.browser.change("own-tile-width", "1")
     page.browser.change("own-tile-height", "1")
     page.count("1 by 1 is refused", "tiles of 1 by 1 hides nothing" in page.status() and page.list().split()[-1] == "1,23")
@@ -85,6 +87,8 @@ def check_tiles(page):
     page.count("1 by 1 isn't drawn", "tiles of 1 by 1 hides nothing" in page.status() and page.list() == before)
     page.browser.change("tile-width", "8")
     page.browser.change("tile-height", "8")
+    said = page.browser.text("#small-tiles")
+    page.count("the tool warns of small tiles", said.startswith("Tiles of 8 by 8 are small"), said)
     page.drag((800, 100), (900, 150), (1000, 200))
     page.count("small typed tiles are drawn with a warning", "8,8\n" in page.list() and "may be read" in page.status())
     page.browser.change("tile-width", "")
@@ -131,6 +135,12 @@ def check_moves(page):
     page.browser.act([UP])
     path = page.browser.run(OUTLINED)
     page.count("until the pointer is up", path == "" and page.list() == "fill 25,10,20,12 0\n", path)
+    page.count("and said after it", "may be seen again" in page.status())
+    page.browser.run("document.querySelector('#overlay g').focus()")
+    page.browser.press("Right")
+    page.count("a move by keys says so too", page.list() == "fill 26,10,20,12 0\n" and "may be seen again" in page.status())
+    page.browser.press("Shift", "Right")
+    page.count("a larger cover shows nothing again", page.list() == "fill 26,10,21,12 0\n" and page.status() == "Done.")
 
 
 def segments():

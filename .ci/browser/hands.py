@@ -16,7 +16,7 @@ def check_fingers(page):
     page.open(png.by_chance(*SIZE, "hands"), *SIZE)
     steps = [move_to(it) | {"duration": 20} for it in page.on_screen((150, 300), (160, 260), (170, 200), (180, 100))]
     page.browser.act([steps[0], DOWN, *steps[1:], UP], "touch")
-    page.count("a swipe draws nothing", page.list() == "")
+    page.count("a swipe draws nothing, and the page says how to draw", page.list() == "" and "Hold a finger still" in page.status())
     page.drag((100.5, 100.5), (120, 120), (160.5, 170.5), kind="touch")
     page.count("a finger that holds still draws", page.list().count("\n") == 1 and page.list().startswith("fill 100,100,"))
     page.browser.run("document.getElementById('undo').click()")

@@ -16,7 +16,7 @@ TITLES = {"index": "Cover parts of a picture", "layout": "How pixels lie in memo
 OLD = {
     "no 64-bit memories": (
         "WebAssembly.compile = () => Promise.reject(new WebAssembly.CompileError('memory'))",
-        "no 64-bit WebAssembly memories",
+        "no 64-bit WebAssembly memories. Safari and every browser on an iPhone have none.",
     ),
     "no module": (
         "WebAssembly.instantiate = () => Promise.reject(new Error('no module'))", "The page can't start. no module",
@@ -108,6 +108,11 @@ def check_sends(page, asked, other, other_asked):
         well = "LOADED" not in came and not other_asked and asked[before:] == []
         page.cases.count(f"sending by {name} is refused", well, (came, other_asked, asked[before:]))
         joined += [name] if other_asked.joined > before_joined else []
+    page.start()
+    page.browser.enter(None)
+    inside = page.browser.run("return [document.querySelector('iframe').contentDocument, typeof RTCPeerConnection]")
+    page.cases.count("the page round the frame can't read it", inside == [None, "undefined"], inside)
+    page.browser.enter()
     print(f"  connections without a request: {', '.join(joined)}")
     page.cases.count("a connection is made by no other way", set(joined) <= set(JOINS), joined)
 

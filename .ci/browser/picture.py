@@ -44,7 +44,7 @@ BAD = {
     "fill 0,0,1,1 1\nmosaic 3,3,9,9 1,1": "Line 2: A mosaic with tiles of 1 by 1 hides nothing.",
     "fill 0,0,1,1 1\n\nmosaic 0,0,9,9 0,3": "Line 3: A tile needs at least one column and one row.",
     "mosaic 0,0,9,9 3,0": "A tile needs", "move 0,0,20,20 50,0": "reaches outside",
-    "crop 0,0,0,5": "reaches outside", "crop 0,0,61,5": "reaches outside",
+    "crop 0,0,0,5": "The width is 0: nothing would be left.", "crop 0,0,61,5": "reaches outside",
     "pad 0,0,4294967295,0 1": "reaches outside",
 }
 IS_PROBLEM = "return document.getElementById('status').classList.contains('problem')"
