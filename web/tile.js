@@ -18,9 +18,7 @@ export function weakness({ word, tileWidth, tileHeight, ...rectangle }, picture)
   if (tileWidth >= side && tileHeight >= side || side === 0) {
     return "";
   }
-  const [wide, high] = [tileWidth, tileHeight].map((it) => (it === Infinity ? "any" : it));
-  return `Tiles of ${wide} by ${high} are small: what is below may be read. `
-    + `Use at least ${side} by ${side}, or a fill.`;
+  return `Small tiles: what is below may be read. Use at least ${side} by ${side}, or a fill.`;
 }
 
 /** Whether a mosaic of these tiles shows each pixel as it was. */

@@ -88,7 +88,7 @@ def check_tiles(page):
     page.browser.change("tile-width", "8")
     page.browser.change("tile-height", "8")
     said = page.browser.text("#small-tiles")
-    page.count("the tool warns of small tiles", said.startswith("Tiles of 8 by 8 are small"), said)
+    page.count("the tool warns of small tiles", said.startswith("Small tiles: what is below may be read."), said)
     page.drag((800, 100), (900, 150), (1000, 200))
     page.count("small typed tiles are drawn with a warning", "8,8\n" in page.list() and "may be read" in page.status())
     page.browser.change("tile-width", "")
