@@ -170,7 +170,7 @@ function readExif(data, found) {
       [tags.has(0x132) || tags.has(0x8769), "the time and settings"],
       [tags.has(0x10e) || tags.has(0x13b) || tags.has(0x9286), "words about the picture"],
     ].filter(([isThere]) => isThere).map(([, it]) => it);
-    name += parts.length ? ` with ${parts.join(", ")}` : "";
+    name += parts.length ? ` with ${parts.join(" and ")}` : "";
     found.names.add(name);
   }
 }

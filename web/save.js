@@ -22,14 +22,15 @@ export class Saver {
   }
 
   async save() {
-    const { page } = this, { edits, found, text } = page, format = find("format").value;
+    const { page } = this, { edits, found, pixels, text } = page, format = find("format").value;
     const name = this.name(format);
     page.say(`Saving ${name} …`);
     const quality = Math.min(Math.max(find("quality").valueAsNumber || 90, 1), 100) / 100;
     try {
       const { file, size } = await this.made(`image/${format}`, quality);
       download(file, name);
-      page.kept = text;
+      // (unless another picture is there meanwhile)
+      page.kept = page.pixels === pixels ? text : page.kept;
       page.say(`Saved ${name}: ${size.join(" by ")} pixels. ${coversInWords(edits)} ${droppedInWords(found)}`);
     } catch (why) {
       page.say(`This browser can't save the picture: ${why.message}.`, true);

@@ -223,7 +223,7 @@ def check_large(page):
     is_whole = png.size_of(saved) == LARGE and saved.endswith(png.chunk(b"IEND", b""))
     page.count("12 megapixels are saved", is_whole)
     check_large_edits(page)
-    check_jpeg(page, len(pixels) // 3)
+    check_jpeg(page, len(saved) // 3)
     page.apply("crop 1,2,30,20")
     cropped = picture.by_model("crop 1,2,30,20".split(), pixels[:3 * width * 40], width, 40)
     page.count("a crop of 12 megapixels", png.ppm_of(page.save()) == cropped)
@@ -244,7 +244,7 @@ def check_jpeg(page, most):
         page.count(f"JPEG of quality {quality}: the page is busy for under {MOST_BUSY} ms", busy < MOST_BUSY, busy)
         page.count(f"JPEG of quality {quality}: it is one", data[:2] == b"\xff\xd8" and data[-2:] == b"\xff\xd9")
         sizes.append(len(data))
-    page.count("a lower quality gives fewer bytes", sizes[1] < sizes[0] < most, sizes)
+    page.count("they are less than a third of the PNG, and the lower quality is smaller", sizes[1] < sizes[0] < most, sizes)
     page.browser.change("format", "png")
 
 
