@@ -25,7 +25,8 @@ export function startPicture(library) {
   on("remove", "click", () => page.remove(page.selected));
   on("apply", "click", () => page.applyText());
   on("copy", "click", () => page.copyText());
-  on("tools", "change", () => page.render());
+  // (a tool is for what is drawn next: no drag moves an earlier rectangle then)
+  on("tools", "change", ({ target }) => (target.name === "tool" ? page.select(-1) : page.render()));
   on("selected", "change", ({ target }) => changeField(page, target));
   on("smaller", "click", () => view.step(-1));
   on("larger", "click", () => view.step(1));

@@ -1,10 +1,12 @@
 """Fingers on a phone, and keys alone."""
 from browser import looks, png
-from browser.driver import DOWN, HOLD, UP, move_to
+from browser.driver import DOWN, HOLD, UP, move_to, until
 
 SIZE = 300, 400
 FOCUSED = "const it = document.activeElement; return it.closest('li') ? [...document.querySelectorAll('#edits li')].indexOf(it.closest('li')) : it.id"
 PAUSE = {"type": "pause", "duration": HOLD}
+# A swipe over the tools: the heights of its places, and what else the finger does.
+SWIPE = ((640, None), (0, DOWN), (600, None), (540, None), (480, None), (0, UP))
 DRAFTS = "return document.querySelectorAll('#overlay .draft').length"
 
 
@@ -17,6 +19,9 @@ def check_fingers(page):
     steps = [move_to(it) | {"duration": 20} for it in page.on_screen((150, 300), (160, 260), (170, 200), (180, 100))]
     page.browser.act([steps[0], DOWN, *steps[1:], UP], "touch")
     page.count("a swipe draws nothing, and the page says how to draw", page.list() == "" and "Hold a finger still" in page.status())
+    page.browser.act([move_to((340, place)) | {"duration": 20} if place else it for place, it in SWIPE], "touch")
+    until(lambda: page.browser.run("return document.getElementById('side').scrollTop") > 0)
+    page.count("a swipe on the tools scrolls them", page.list() == "")
     page.drag((100.5, 100.5), (120, 120), (160.5, 170.5), kind="touch")
     page.count("a finger that holds still draws", page.list().count("\n") == 1 and page.list().startswith("fill 100,100,"))
     page.browser.run("document.getElementById('undo').click()")

@@ -203,6 +203,7 @@ def check_pointer(page):
     page.choose("mosaic")
     page.browser.change("tile-width", "2")
     page.browser.change("tile-height", "16")
+    page.browser.click("#edits button")
     page.browser.click("#changes [data-word=mosaic]")
     page.count("a rectangle becomes a mosaic", page.list() == "mosaic 0,0,5,5 2,16\n")
     page.drag((30, 30), (30.01, 30.01))
