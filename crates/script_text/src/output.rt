@@ -219,15 +219,14 @@ fn number_len(number: usize) -> usize {
         .map_or(2, |power| power as usize + 2)
 }
 
-// How many pixels are counted at once: three registers.
-const COUNTED: usize = 48;
+// How many pixels are counted at once: seven registers, whose count is a byte.
+const COUNTED: usize = 112;
 
-// How many bytes the texts of at most so many pixels take, with a space before each. The sum is a
-// byte: so the compiler adds up 16 in one register.
+// How many digits the texts of at most so many pixels have beside the first of each.
 #[inline(always)]
-fn few_len(pixels: &[u8]) -> u8 {
+fn further_digits(pixels: &[u8]) -> u8 {
     pixels.iter().fold(0u8, |sum, pixel| {
-        sum.wrapping_add(2 + (*pixel > 9) as u8 + (*pixel > 99) as u8)
+        sum.wrapping_add((*pixel > 9) as u8 + (*pixel > 99) as u8)
     })
 }
 
@@ -237,12 +236,15 @@ fn line_len(image: &ImgVec<u8>) -> usize {
     let sizes = numbers.iter().fold(b"image\n".len(), |sum, number| {
         sum.saturating_add(number_len(*number))
     });
-    let (blocks, rest) = image.buf().as_chunks::<COUNTED>();
-    blocks
-        .iter()
-        .fold(sizes.saturating_add(few_len(rest) as usize), |sum, block| {
-            sum.saturating_add(few_len(block) as usize)
-        })
+    // A space and a digit for each cell, and the further digits.
+    let cells = image.buf();
+    let (blocks, rest) = cells.as_chunks::<COUNTED>();
+    let least = sizes
+        .saturating_add(cells.len().saturating_mul(2))
+        .saturating_add(further_digits(rest) as usize);
+    blocks.iter().fold(least, |sum, block| {
+        sum.saturating_add(further_digits(block) as usize)
+    })
 }
 
 // Exactly the room of all lines, or 0 where most images have few cells: to count it would then take
