@@ -97,6 +97,23 @@ static bool is_known(const image *i, size_t channels) {
            i->size * i->step % channels == 0;
 }
 
+/* The bytes from the first item of a buffer up to the end of its last one in memory. */
+static size_t reach(const Py_buffer *held) {
+    if (!held->strides) return held->len;
+    size_t end = held->itemsize;
+    for (int k = 0; k < held->ndim; k++) {
+        if (!held->shape[k]) return 0;
+        if (held->strides[k] > 0) end += (held->shape[k] - 1) * held->strides[k];
+    }
+    return end;
+}
+
+/* Whether the memory that is held has these cells from byte `at` on. */
+static bool has_cells(const Py_buffer *held, const image *i, size_t at) {
+    const size_t bytes = reach(held);
+    return !held->suboffsets && i->cells % i->size == 0 && at <= bytes && i->len <= (bytes - at) / i->size;
+}
+
 /* Cells(view, at, (len, width, height, stride, size, step, channels), format, is_readonly): the cells from byte `at` of a
  * memoryview on. */
 static PyObject *cells_new(PyTypeObject *type, PyObject *args, PyObject *named) {
@@ -121,6 +138,8 @@ static PyObject *cells_new(PyTypeObject *type, PyObject *args, PyObject *named) 
     self->is_readonly = is_readonly || self->held.readonly;
     if (!is_known(&self->shown, self->channels))
         PyErr_SetString(PyExc_TypeError, "no cells");
+    else if (!has_cells(&self->held, &self->shown, start))
+        PyErr_SetString(PyExc_ValueError, "the memory has no such cells");
     else if (!image_is_valid(&self->shown))
         refused(IMGREF_NOT_AN_IMAGE);
     else

@@ -85,7 +85,7 @@ def check_wheel(cases, python, quiet):
 def check_sources(cases, room, python, quiet):
     """pip builds the same package from its sources, over the library that is installed."""
     again = room / "again"
-    words = ["-m", "pip", "wheel", "--no-index", "--no-deps", "--no-build-isolation", "--wheel-dir", again, shutil.copytree(PYTHON, room / "sources")]
+    words = ["-m", "pip", "wheel", "--no-index", "--no-deps", "--wheel-dir", again, shutil.copytree(PYTHON, room / "sources")]
     found = {"IMGREF_INCLUDE": str(room / "prefix/include"), "IMGREF_LIB": str(room / "prefix/lib")}
     status, _, said = run([python, *words], env=quiet | found)
     cases.count("pip wheel from the sources", status == 0 and [it.name for it in again.glob("*")] == [it.name for it in (ROOT / "out/python").glob("*")], said)

@@ -11,6 +11,7 @@ import weakref
 
 from counting import check, end, numpy_or_none, raises
 from imgref import Image, Window
+from imgref._native import Cells
 
 # Small memory is used again at once after it is freed, and large memory is given back to the system.
 SIDES = (16, 512)
@@ -162,6 +163,9 @@ def of_once():
     check("no second __init__", raises(TypeError, image.__init__, bytearray(6), 3, 2) and raises(TypeError, image.__init__, bytes(6), 3, 2) and image.get(2, 1) == 5)
     check("nothing is resized", raises(BufferError, frame.append, 1) and raises(BufferError, frame.clear))
     check("no memory is put in place", raises(AttributeError, setattr, image, "_cells", image.copy()._cells) and raises(AttributeError, delattr, image, "_cells"))
+    outside = [(0, (7, 7, 1, 7, 1, 1, 1)), (1, (6, 6, 1, 6, 1, 1, 1)), (7, (0, 0, 1, 1, 1, 1, 1)), (1, (2, 2, 1, 2, 2, 1, 1)), (0, (1 << 63, 3, 2, 3, 2, 1, 1)), ((1 << 64) - 1, (1, 1, 1, 1, 1, 1, 1))]
+    check("no cells outside of memory", all(raises(ValueError, Cells, memoryview(bytearray(6)), at, sizes, "B", False) for at, sizes in outside))
+    check("cells inside of memory", raises(TypeError, Cells, memoryview(bytearray(6)), 0, (6, 6, 1, 6, 3, 1, 1), "B", False) and Cells(memoryview(bytearray(6))[::2], 1, (4, 4, 1, 4, 1, 1, 1), "B", False).stride == 4)
     part = Image(bytearray(b"\1" * 4096), 64, 64).window((8, 8, 48, 48))
     taken = [bytearray(4096) for _ in range(8)]
     check("a window holds the memory", part.tobytes() == b"\1" * 2304 and part.window((1, 1, 2, 2)).get(1, 1) == 1 and taken)
