@@ -68,6 +68,20 @@ module _ {T : Type 0} (quarter : Quarter) (g : Grid T) (left top count lines col
       line_alone Right height x v y = refl
       line_alone Left height x v y = refl
 
+-- rows of the image show columns of the source, from its first row to its last
+module _ {T : Type 0} (quarter : Quarter) (g : Grid T) (top count lines column height : ℕ) (high : top + lines ≤ g.width) (all : count ≡ g.height) (is_height : height ≡ g.height)
+    (is_column : column ≡ first_column quarter g.width top lines) where
+  whole_rows : (quarter : Quarter) (height : ℕ) → 0 ≡ first_row quarter height 0 height
+  whole_rows Across height = refl
+  whole_rows Right height = omega arith
+  whole_rows Left height = refl
+
+  pub band_quartered : quartered quarter (view g column 0 lines height) ≡ view (quartered quarter g) 0 top count lines
+  band_quartered =
+      let same : height ≡ count = is_height ∙ sym all in
+      (λ i. quartered quarter (view g column 0 lines (same i)))
+      ∙ view_quartered quarter g 0 top count lines column 0 (omega (arith, all)) high is_column (whole_rows quarter g.height ∙ ap (first_row quarter g.height 0) (sym all))
+
 -- ---- blocks one after the other
 
 -- the rows before this one show the grid, the sixteen from it on show it in the columns before that one, and the padding is as before
@@ -138,6 +152,36 @@ module _ {T : Type 0} (q : Grid T) (s : Shape) where
       outside = so.outside;
       each = λ x y in_x in_y done. so.each x y in_x in_y (elim done [ inl upto ↦ inr (upto, omega (arith, in_x, all)) | inr none ↦ absurd (omega (arith, none.1)) ]);
     }
+
+    -- rows that are written as a whole, up to row `upto`
+    module _ (first : left ≡ 0) (new : List T) (line lines upto : ℕ) (order : line ≤ top) (reach : min upto s.height ≤ line + lines) (there : line + lines ≤ s.height)
+        (shown : shaped_grid new s ≡ patch (shaped_grid now s) 0 line (view q 0 line s.width lines)) (stays : SameOutside (shaped now s) (shaped new s)) where
+      in_band : (x y : ℕ) → x < s.width → y < s.height → line ≤ y → y < line + lines → (shaped_grid new s).pixel x y ≡ q.pixel x y
+      unfolding view
+      in_band x y in_x in_y from upto_line =
+          let same_x : 0 + (x - 0) ≡ x = omega arith in
+          let same_y : line + (y - line) ≡ y = omega (arith, from) in
+          ap (λ g. g.pixel x y) shown
+          ∙ in_patch (shaped now s) 0 line (view q 0 line s.width lines) x y in_x in_y (omega arith) from (omega (arith, in_x)) upto_line
+          ∙ in_view q 0 line s.width lines (x - 0) (y - line) (omega (arith, in_x)) (omega (arith, from, upto_line))
+          ∙ (λ i. q.pixel (same_x i) (same_y i))
+
+      above_band : (x y : ℕ) → y < line → (shaped_grid new s).pixel x y ≡ (shaped_grid now s).pixel x y
+      unfolding view
+      above_band x y above = ap (λ g. g.pixel x y) shown ∙ beside_patch (shaped now s) 0 line (view q 0 line s.width lines) x y (inr (inl above))
+
+      pub one_band_more : BlocksDone q old new s 0 upto
+      one_band_more = record {
+        outside = outside_trans (shaped old s) (shaped now s) (shaped new s) so.outside stays;
+        each = λ x y in_x in_y done.
+            elim (cases_lt y line) [
+              | inl above ↦ above_band x y above ∙ so.each x y in_x in_y (inl (omega (arith, above, order)))
+              | inr from ↦ in_band x y in_x in_y from (omega (arith, in_y, reach, rows_upto x y done))
+            ];
+      }
+        where
+          rows_upto : (x y : ℕ) → (y < upto) ⊎ ((y < upto + 16) × (x < 0)) → y < upto
+          rows_upto x y done = elim done [ inl above ↦ above | inr none ↦ absurd (omega (arith, none.1)) ]
 
     -- all rows
     pub all_blocks : s.height ≤ top → (f : ℕ → ℕ → Option T) → q ≡ grid s.width s.height f → shaped_grid now s ≡ q

@@ -6,6 +6,7 @@
 //! [`RowMover`](row_mover::RowMover) move pixels in place.
 #![tactic(auto)]
 
+mod bands;
 mod blocks;
 mod clones;
 mod copy;
@@ -19,6 +20,7 @@ mod making;
 mod map;
 mod mosaic;
 mod moving;
+mod near;
 mod packing;
 mod pairs;
 mod places;

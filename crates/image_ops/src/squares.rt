@@ -10,32 +10,39 @@ ghost use Rattle.image_ops.specs.Turned.{turned, turned_width};
 
 use crate::blocks::{block_shape, read_rows, transpose_block};
 use crate::flipping::{flip_columns, flip_rows, swap_cells};
+use crate::near::rows_near;
 use crate::turning::Turn;
 use crate::windows::{exact_part, padded_part};
 use image_shape::{Shape, Window};
 use std::mem::{size_of, size_of_val};
 
-// How many bytes of an image are crossed at once: these are near anyway.
+// How many bytes of an image are crossed at once: these are near anyway. The nearest cache has so
+// many at any stride.
 const NEAR: usize = 524_288;
+
+const NEAREST: usize = 28_672;
+
+// How many columns are crossed at a time, at most.
+const STRIP: usize = 64;
 
 // How many columns are crossed at a time. Their pixels come from so many rows, a pixel of each at a
 // time. So the lines of these rows have to stay in the nearest cache until the pixels beside them are
-// taken. At a stride of 4096 bytes it keeps eight of them, and more at others.
+// taken. Little else is read meanwhile: so there are a third more rows than `rows_near` says.
 fn strip_width<T>(cells: &[T], side: usize, stride: usize) -> usize
     ensures { 0 < result }
 {
     let Some(cell) = cells.first() else {
         return 1;
     };
-    if cells.len() * size_of::<T>() <= NEAR {
+    let bytes = cells.len() * size_of::<T>();
+    if bytes <= NEAREST {
         return side.max(1);
     }
-    match stride.wrapping_mul(size_of_val(cell)).trailing_zeros() {
-        0..=9 => 64,
-        10 => 32,
-        11 => 16,
-        _ => 8,
+    let near = rows_near(stride.wrapping_mul(size_of_val(cell)), STRIP);
+    if near == STRIP && bytes <= NEAR {
+        return side.max(1);
     }
+    STRIP.min(near.saturating_add(near / 3))
 }
 
 // The block becomes the 16 by 16 pixels from column `left` of row `top` on, transposed.

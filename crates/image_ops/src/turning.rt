@@ -11,16 +11,20 @@ ghost use Rattle.image_ops.specs.Gathered.{AreGathered};
 ghost use Rattle.image_ops.specs.Quarters.{quartered, first_column, first_row, reads_back, writes_back};
 ghost use Rattle.image_ops.specs.Turned.{turned, turned_width, turned_height};
 
+use crate::bands::{copied_columns, quarter_copied};
 use crate::blocks::{block_shape, read_rows, transpose_block};
+use crate::near::rows_near;
 use crate::windows::{exact_part, padded_part};
 use image_rows::row;
 use image_shape::{Shape, Window};
 use std::mem::{size_of, size_of_val};
 
-// The least number of columns that are written at a time. A column of the target has the cells of a
+// The most and the fewest columns that are written at a time. A column of the target has the cells of a
 // row of the source, and a row of the target takes one cell from each of these rows. So their cells
 // are still in the nearest cache when the next row takes the cells beside them.
-const STRIP: usize = 64;
+const STRIP: usize = 256;
+
+const NARROW: usize = 48;
 
 // A source of so many bytes stays in the nearest cache, and needs no strips.
 const NEAR: usize = 28_672;
@@ -75,7 +79,7 @@ pub enum Turn {
 
 // How columns become rows.
 #[derive(Clone, Copy)]
-enum Quarter {
+pub(crate) enum Quarter {
     // The first column becomes the first row: the image is transposed.
     Across,
     // The first row becomes the last column.
@@ -86,7 +90,8 @@ enum Quarter {
 
 // Every pixel of `shape` in `cells` becomes the pixel of the source whose columns are rows, row by
 // row.
-fn quarter_rows<T: Copy>(
+#[inline(always)]
+pub(crate) fn quarter_rows<T: Copy>(
     cells: &mut [T],
     shape: Shape,
     source: &[T],
@@ -130,7 +135,7 @@ fn first_row(quarter: Quarter, height: usize, left: usize, width: usize) -> usiz
 }
 
 // The first of the `height` columns of a source of `width` columns that the rows from `top` on get.
-fn first_column(quarter: Quarter, width: usize, top: usize, height: usize) -> usize
+pub(crate) fn first_column(quarter: Quarter, width: usize, top: usize, height: usize) -> usize
     requires there { top + height ≤ width }
     ensures { result ≡ first_column quarter width top height }
 {
@@ -226,7 +231,7 @@ fn quarter_at<T: Copy>(
 // by block. Where a last block would be cut off, it begins earlier: what is written twice is the
 // same. It isn't inlined, so that rows of other images take no longer than without it.
 #[inline(never)]
-fn quarter_blocks<T: Copy>(
+pub(crate) fn quarter_blocks<T: Copy>(
     cells: &mut [T],
     shape: Shape,
     source: &[T],
@@ -259,7 +264,7 @@ fn quarter_blocks<T: Copy>(
 
 // Whether blocks pay. Cells of two bytes gain nothing by them, and of wider ones the compiler makes
 // no vector code. In small sizes too many pixels would be written twice.
-fn blocks_pay<T>(source: &[T], shape: Shape) -> bool
+pub(crate) fn blocks_pay<T>(source: &[T], shape: Shape) -> bool
     ensures wide { IsTrue result → 16 ≤ shape_width shape }
     ensures high { IsTrue result → 16 ≤ shape_height shape }
 {
@@ -279,7 +284,7 @@ fn blocks_pay<T>(source: &[T], shape: Shape) -> bool
 // Every pixel of `shape` in `cells` becomes the pixel of the source whose columns are rows, by
 // blocks or row by row.
 #[inline(always)]
-fn quarter_strip<T: Copy>(
+pub(crate) fn quarter_strip<T: Copy>(
     cells: &mut [T],
     shape: Shape,
     source: &[T],
@@ -301,6 +306,31 @@ fn quarter_strip<T: Copy>(
     }
 }
 
+// Every pixel of `shape` in `cells` becomes the pixel of the source whose columns are rows, through
+// copies of the source or not.
+fn quarter_part<T: Copy>(
+    cells: &mut [T],
+    shape: Shape,
+    source: &[T],
+    source_shape: Shape,
+    quarter: Quarter,
+    is_copied: bool,
+)
+    requires fits { Fits (shaped cells.old shape) }
+    requires source_fits { Fits (shaped source.now source_shape) }
+    requires columns { shape_width shape ≡ shape_height source_shape }
+    requires lines { shape_height shape ≡ shape_width source_shape }
+    ensures grid { shaped_grid cells.new shape
+        ≡ quartered quarter (shaped_grid source.now source_shape) }
+    ensures outside { SameOutside (shaped cells.old shape) (shaped cells.new shape) }
+{
+    if is_copied {
+        quarter_copied(cells, shape, source, source_shape, quarter);
+    } else {
+        quarter_strip(cells, shape, source, source_shape, quarter);
+    }
+}
+
 // The window gets the pixels of the source whose columns are rows; every other cell stays.
 fn quarter_window<T: Copy>(
     cells: &mut [T],
@@ -309,6 +339,7 @@ fn quarter_window<T: Copy>(
     source: &[T],
     source_shape: Shape,
     quarter: Quarter,
+    is_copied: bool,
 )
     requires fits { Fits (shaped cells.old shape) }
     requires inside { IsInside (shape_width shape) (shape_height shape) (as_window window) }
@@ -320,36 +351,54 @@ fn quarter_window<T: Copy>(
     ensures outside { SameOutside (shaped cells.old shape) (shaped cells.new shape) }
 {
     let (part, inner) = exact_part(cells.len(), shape, window);
-    quarter_strip(&mut cells[part], inner, source, source_shape, quarter);
+    quarter_part(
+        &mut cells[part],
+        inner,
+        source,
+        source_shape,
+        quarter,
+        is_copied,
+    );
 }
 
-// How many columns are at least written at a time. Where few rows share the lines of the cache, the
-// start of a strip takes as long as many of its pixels, and one row shares none.
-fn least_columns(height: usize) -> usize
+// How many columns are written at a time in an image of few rows, which share the lines of the cache.
+// Here the start of a strip takes as long as many of its pixels, and one row shares none.
+fn columns_of_few(height: usize) -> usize
     ensures { 0 < result }
 {
     match height {
         0..=1 => usize::MAX,
         2..=3 => 512,
-        4..=15 => 256,
         _ => STRIP,
     }
 }
 
-// How many columns are written at a time. The lines of the cache that have their pixels stay in the
-// nearest one at the stride of the source, or nearly so.
-fn strip_columns<T>(source: &[T], stride: usize, height: usize) -> usize
-    ensures { 0 < result }
+// Whether 16 rows at this stride of bytes are too many for the nearest cache, where blocks of bytes
+// are written.
+fn blocks_clash(size: usize, stride: usize) -> bool {
+    size == 1 && rows_near(stride, 16) < 16
+}
+
+// How many columns are written at a time, and whether the source's cells are copied first. As many
+// rows of the source are read at once, and the lines of the cache that have their pixels stay in the
+// nearest one. Where too few do, a copy of their cells does.
+fn strip_columns<T>(source: &[T], stride: usize, shape: Shape) -> (usize, bool)
+    ensures { 0 < result.0 }
 {
-    let least = least_columns(height);
+    let few = columns_of_few(shape.height());
     let Some(cell) = source.first() else {
-        return least;
+        return (few, false);
     };
-    match stride.wrapping_mul(size_of_val(cell)).trailing_zeros() {
-        0..=7 => least.max(256),
-        8 => least.max(128),
-        _ => least,
+    let size = size_of_val(cell);
+    let copied = copied_columns(size);
+    if shape.height() < 16 || copied == 0 {
+        return (few, false);
     }
+    let near = rows_near(stride.wrapping_mul(size), STRIP);
+    if near < NARROW || blocks_clash(size, shape.stride().wrapping_mul(size)) {
+        return (copied, true);
+    }
+    (near / 16 * 16, false)
 }
 
 // How many columns have a pixel: 0 where there is no row.
@@ -382,11 +431,11 @@ fn quarter_strips<T: Copy>(
         ≡ quartered quarter (shaped_grid source.now source_shape) }
     ensures outside { SameOutside (shaped cells.old shape) (shaped cells.new shape) }
 {
-    let most = strip_columns(source, source_shape.stride(), shape.height());
-    if shape.width() <= most {
+    if source.len() * size_of::<T>() <= NEAR {
         quarter_strip(cells, shape, source, source_shape, quarter);
         return;
     }
+    let (most, is_copied) = strip_columns(source, source_shape.stride(), shape);
     let (columns, lines) = (column_count(shape), shape.height());
     let (source_width, source_height) = (source_shape.width(), source_shape.height());
     let mut left = 0;
@@ -396,7 +445,7 @@ fn quarter_strips<T: Copy>(
         let rows = Window::new(0, top, source_width, width);
         let (part, part_shape) = padded_part(source, source_shape, rows);
         let strip = Window::new(left, 0, width, lines);
-        quarter_window(cells, shape, strip, part, part_shape, quarter);
+        quarter_window(cells, shape, strip, part, part_shape, quarter, is_copied);
         left += width;
     }
 }

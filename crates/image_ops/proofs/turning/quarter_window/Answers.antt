@@ -8,8 +8,8 @@ use Rattle.image_ops.proofs.turning.quarter_window.Goals as goal
 pub returns-clause-grid : goal.returns-clause-grid
 returns-clause-grid g c =
     let a = c.args in
-    part_grid _ _ _ _ _ _ c.exact_part.ensures.part c.quarter_strip.new.cells c.quarter_strip.ensures.outside
-    ∙ ap (patch (grid_of (shaped a.cells.now a.shape)) a.window.left a.window.top) c.quarter_strip.ensures.grid
+    part_grid _ _ _ _ _ _ c.exact_part.ensures.part c.quarter_part.new.cells c.quarter_part.ensures.outside
+    ∙ ap (patch (grid_of (shaped a.cells.now a.shape)) a.window.left a.window.top) c.quarter_part.ensures.grid
 
 pub returns-clause-outside : goal.returns-clause-outside
-returns-clause-outside g c = part_outside _ _ _ _ _ _ c.exact_part.ensures.part c.quarter_strip.new.cells c.quarter_strip.ensures.outside
+returns-clause-outside g c = part_outside _ _ _ _ _ _ c.exact_part.ensures.part c.quarter_part.new.cells c.quarter_part.ensures.outside
