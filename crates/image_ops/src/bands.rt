@@ -208,9 +208,9 @@ pub(crate) fn copied_columns(size: usize) -> usize {
     }
 }
 
-/// Every pixel of `shape` in `cells` becomes the pixel of the source whose columns are rows, through
-/// copies of up to 24 KiB of its cells. Where there are more columns than `copied_columns` says, no
-/// cells are copied.
+/// Every pixel of `shape` in `cells` becomes the pixel of the source whose columns are rows. Up to
+/// 24 KiB of its cells are copied at a time. Where there are more columns than `copied_columns` says,
+/// none are copied.
 pub(crate) fn quarter_copied<T: Copy>(
     cells: &mut [T],
     shape: Shape,

@@ -6,9 +6,9 @@ ghost use Rattle.std.specs.Prelude.{◌<◌};
 // and two are left for what is written.
 const LINES: u8 = 6;
 
-/// How many rows that begin `stride` bytes apart stay in the nearest cache while a pixel of each is
-/// read at a time, at most `most`. Each takes a line, and the set of a line is told by the last 12
-/// bits of its place. So at a stride near a multiple of 4096 few rows stay.
+/// How many rows of at most `most` stay in the nearest cache while a pixel of each is read at a time.
+/// They begin `stride` bytes apart. Each takes a line, whose set follows from the last 12 bits of its
+/// place. So at a stride near a multiple of 4096 few rows stay.
 pub(crate) fn rows_near(stride: usize, most: usize) -> usize
     ensures { 0 < result }
 {
