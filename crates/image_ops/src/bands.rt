@@ -1,8 +1,8 @@
 //! Images whose columns become rows, by bands of rows that are read from a copy of their cells.
 //!
-//! Where the rows of the source share few sets of the nearest cache, its lines are gone before the
-//! pixels beside those that were read are taken. So whole pieces of these rows are copied to a block
-//! first, and no stride matters. A block has a stride that the compiler knows.
+//! Where the rows of the source share few sets of the nearest cache, their lines are gone before their
+//! next pixels are taken. So whole pieces of these rows are copied to a block first, and no stride
+//! matters. A block has a stride that the compiler knows.
 
 ghost use Rattle.std.specs.Prelude.{◌≡◌, ◌+◌, ◌*◌, ◌<◌, ◌≤◌, length};
 ghost use Rattle.image_model.specs.Layout.{Fits, SameOutside};
