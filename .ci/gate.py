@@ -31,8 +31,9 @@ from processes import end_on_signals, started, workers
 
 # The checks. Those in `built` run programs, and those in `proofs` go over cached proofs.
 CHECKS = ROOT / ".ci/checks"
-# These need the proofs of tests or of the benchmark, or prove crates again with a change: they run in the gate alone.
-GATE_ALONE = ("always_memory.py", "refused_growths.py", "instructions.py", "layers.py", "row_mover_privacy.py")
+# These need the proofs of tests or a program that is only measured, or prove crates again with a change: they run in the gate
+# alone.
+GATE_ALONE = ("always_memory.py", "refused_growths.py", "instructions.py", "strides.py", "layers.py", "row_mover_privacy.py")
 # These time calls, so they come last, with nothing beside them.
 TIMED = ("bindings.py",)
 # The crates that `test` proves, with those below them: the programs and the library for C.

@@ -1,0 +1,64 @@
+#!/usr/bin/env python3
+"""Counts the misses in the nearest cache while squares are turned and transposed, at friendly strides and others.
+
+At a stride near a multiple of 4096 bytes, or of a large part of it, rows share few sets of a cache. No turn may then have many
+more misses than at a stride of 4160. Each is done by the program bench_strides in valgrind's model of a cache of 32 KiB with
+eight lines in a set: so each count is the same on every machine. Without valgrind the cases are left out, and a line says 'skipped'.
+"""
+import concurrent.futures
+import os
+import pathlib
+import re
+import shutil
+import subprocess
+import sys
+
+sys.path.insert(0, str(pathlib.Path(__file__).resolve().parents[2]))
+from checking import Cases, built
+
+# The side of the square for pixels of so many bytes, so that a row has less than 2048.
+SIDES = {1: 500, 2: 500, 3: 250, 4: 300, 8: 200, 16: 125}
+STRIDES, FRIENDLY = (1365, 2048, 4032, 4088, 4092, 4096, 4097, 4100, 4104, 8192), 4160
+# What is done, for pixels of so many bytes, and the most misses beside those at the friendly stride. In place a line that is
+# gone is read again to be written: at 4096 bytes eight lines can stay, and a line has more pixels than that. Pixels of one and two
+# bytes change places there in blocks of 16 by 16, whose order doesn't depend on the stride.
+ACTIONS = {"right": (SIDES, 1.4), "left": (SIDES, 1.4), "across": (SIDES, 1.4), "right-in-place": ((3, 4, 8, 16), 1.9), "across-in-place": ((3, 4, 8, 16), 2.7)}
+MODEL = ["valgrind", "--tool=cachegrind", "--cache-sim=yes", "--D1=32768,8,64", "--cachegrind-out-file=/dev/null"]
+MISSES = re.compile(r"D1 +misses: +([\d,]+)")
+
+
+def misses(program, action, pixel, stride):
+    """The misses of one run."""
+    words = [*MODEL, program, action, str(pixel), str(SIDES[pixel]), str(stride)]
+    said = subprocess.run(words, check=True, capture_output=True, text=True).stderr
+    return int(MISSES.search(said)[1].replace(",", ""))
+
+
+def of_pixels(cases, pool, program, pixel):
+    """The actions on pixels of so many bytes. What it takes to make the images is subtracted."""
+    actions = {it: most for it, (pixels, most) in ACTIONS.items() if pixel in pixels}
+    strides = [it // pixel * pixel for it in (*STRIDES, FRIENDLY) if it // pixel >= SIDES[pixel]]
+    runs = {(it, stride): pool.submit(misses, program, it, pixel, stride) for stride in strides for it in ("make", *actions)}
+    for action, most in actions.items():
+        counts = {stride: runs[action, stride].result() - runs["make", stride].result() for stride in strides}
+        friendly = counts.pop(FRIENDLY // pixel * pixel)
+        worst = max(counts, key=counts.get)
+        cases.count(f"{action}, pixels of {pixel} bytes: {counts[worst] / friendly:.2f} of the misses at a stride of {worst}", counts[worst] <= most * friendly, f"at most {most}, beside {friendly} misses at a stride of {FRIENDLY}: {counts}")
+
+
+def main():
+    cases = Cases()
+    programs = built("bench_strides", ("",))
+    cases.count("the build of bench_strides is there", programs, "crates/bench_strides/out lacks it, or it is older than its sources")
+    if not shutil.which("valgrind"):
+        print("skipped: there is no valgrind", flush=True)
+        return cases.end()
+    with concurrent.futures.ThreadPoolExecutor(len(os.sched_getaffinity(0))) as pool:
+        for program in programs:
+            for pixel in SIDES:
+                of_pixels(cases, pool, program, pixel)
+    return cases.end()
+
+
+if __name__ == "__main__":
+    sys.exit(main())
