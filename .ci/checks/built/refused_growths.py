@@ -4,8 +4,8 @@
 No clause can say that memory is found, and every contract allows the result out of memory. So the script program is run on each
 example, and the one for video on a small stream with each kind of edits, with the first growth refused, then with the second,
 until a run has none to refuse. Each time but the last it must say `fault memory` alone, on the stream for faults, and end with
-status 3: so all memory is taken before the first byte is written. Where the room for all images is refused, the script program
-may print its whole output all the same, since the text then grows line by line. The one for video says how many pictures it has written, and
+status 3: so all memory is taken before the first byte is written. One growth is spared: where the room for the lines of a large
+image is refused, the text grows line by line, and all is printed. The one for video says how many pictures it has written, and
 wrote exactly those. Each test is run so too, and must pass or return the refusal as its result: an assertion that fails shows an
 result that changed in the place of the error.
 """
@@ -24,6 +24,8 @@ from checking import ROOT, Cases, both_builds, built, crates, says
 
 REFUSES = pathlib.Path(__file__).resolve().with_name("refused_growth.c")
 SCRIPTS = sorted((ROOT / "examples").glob("*.script"))
+# A script of an image for whose line room is asked in advance.
+LARGE = b"image 100 9 101" + b" 7" * 908 + b"\n"
 # A video of two frames of 4 by 2 pixels, and words of edits: a list of two, and each that changes the size.
 VIDEO = b"YUV4MPEG2 W4 H2 C420 F25:1\n" + b"FRAME\n0123456789AB" * 2
 EDITS = ("fill 0,0,2,2 16 1..2 move 0,0,2,2 2,0", "mosaic 0,0,4,2 2,2 crop 0,0,2,2", "pad 2,2,2,2 16")
@@ -62,7 +64,7 @@ def runs(library, command, given=b""):
 def of_program(library, command, given, told, ends, spared):
     """How many refused growths were reported on this input, and what is wrong. `told` is what a refusal must leave, one of some outputs,
     each with what it says then, and a status, and `ends` what a run must that has none: its output, and its status. So many
-    refusals may be spared: the run then ends as if there were none."""
+    refusals are spared: these runs end as if there were none."""
     bad = []
     for number, (ran, was_refused) in enumerate(runs(library, command, given), 1):
         printed = ran.stdout + ran.stderr
@@ -73,6 +75,8 @@ def of_program(library, command, given, told, ends, spared):
         says_so = (outputs.get(ran.stdout) or b"fault memory") in printed
         if says_so != was_refused or ran.stdout not in outputs or ran.returncode != status:
             bad.append(f"growth {number}: it printed {ran.stdout!r}, said {ran.stderr!r} and ended with status {ran.returncode}")
+    if spared:
+        bad.append(f"{spared} refusals that are spared were not seen")
     return number - 1, bad
 
 
@@ -97,20 +101,21 @@ def main():
     resource.setrlimit(resource.RLIMIT_CORE, (0, 0))
     with tempfile.TemporaryDirectory(prefix="growths-") as room, concurrent.futures.ThreadPoolExecutor(4) as pool:
         library = made(room)
-        tries = [("imgref_run", [], script.name, script.read_bytes(), ({b"fault memory\n": b"fault memory\n"}, 3), model.answer(script.read_bytes())) for script in SCRIPTS]
+        scripts = [*((it.name, it.read_bytes(), 0) for it in SCRIPTS), ("a large image", LARGE, 1)]
+        tries = [("imgref_run", [], label, script, ({b"fault memory\n": b"fault memory\n"}, 3), model.answer(script), spared) for label, script, spared in scripts]
         listed = pathlib.Path(room, "edits")
         listed.write_text(f"# a border\n{EDITS[-1]}\n")
         video = pathlib.Path(room, "video")
         video.write_bytes(VIDEO)
         for label, words, edits in [*((it, it.split(), it) for it in EDITS), ("a file of edits", ["--edits", listed], EDITS[-1]), ("an input by its name", ["-i", video, *EDITS[0].split()], EDITS[0])]:
-            tries.append(("imgref_frames", words, label, VIDEO, ({b"": b"fault memory 0\n"}, 3), (frames.answer(VIDEO, frames.edits_of(edits.split())), 0)))
+            tries.append(("imgref_frames", words, label, VIDEO, ({b"": b"fault memory 0\n"}, 3), (frames.answer(VIDEO, frames.edits_of(edits.split())), 0), 0))
         for words in PICTURE_EDITS:
             first, both = (frames.answer(it, frames.edits_of(words.split())) for it in (PICTURES[0], b"".join(PICTURES)))
-            tries.append(("imgref_frames", words.split(), f"pictures, {words}", b"".join(PICTURES), ({b"": b"fault memory 0\n", first: b"fault memory 1\n"}, 3), (both, 0)))
+            tries.append(("imgref_frames", words.split(), f"pictures, {words}", b"".join(PICTURES), ({b"": b"fault memory 0\n", first: b"fault memory 1\n"}, 3), (both, 0), 0))
         for name in ("imgref_run", "imgref_frames"):
             for program in both_builds(cases, name):
-                for _, words, label, given, told, ends in (it for it in tries if it[0] == name):
-                    growths, bad = of_program(library, [program, *words], given, told, ends, spared=int(name == "imgref_run"))
+                for _, words, label, given, told, ends, spared in (it for it in tries if it[0] == name):
+                    growths, bad = of_program(library, [program, *words], given, told, ends, spared)
                     cases.count(f"{program.name}, {label}: {growths} refused growths are reported, and nothing else is written", growths > 0 and not bad, "\n".join(bad[:3]))
         for crate in (it for it in crates() if says(it, "#[test]")):
             for program in built(crate, ("_tests",)) or [None]:
