@@ -1,7 +1,7 @@
 #!/usr/bin/env python3
 """The snippets of the documents are true.
 
-A snippet is a run of lines that are indented by four spaces. Those of docs/CALLERS.md, and each function in README.md, are
+A snippet is a run of lines that are indented by four spaces. Those of docs/CALLERS.md, and the code in README.md, are
 in a file of the crates, which the gate proves: the lines are there in that order, however far they are indented. A
 script in README.md or docs/SCRIPT.md gives what the page says, as the model tells (.ci/model.py). Each file that a document
 links to or names by its folders is there, and each definition that docs/GLOSSARY.md names is in its file. README.md counts
@@ -52,7 +52,7 @@ def snippets(page):
 def quoted(cases, name, texts):
     """Each snippet of code is in the crates."""
     for snippet, _ in snippets((ROOT / name).read_text()):
-        if name != "README.md" or re.match(r" *(?:pub )?fn ", snippet):
+        if name != "README.md" or re.match(r" *(?:use|fn|pub fn) ", snippet):
             stands = any(as_lines(snippet) in text for text in texts)
             cases.count(f"{name}: {snippet.strip().splitlines()[0]}", stands, f"is in no file of the crates:\n{snippet}")
 
