@@ -6,10 +6,10 @@
 First it proves and builds what has changed: the script program, the library for C, and the crate bench_exports. The runs of
 what is compared are interleaved, and the least time of each counts. The calls are timed in several builds that differ only in
 where their code lies in memory: a difference smaller than the spread over these builds tells nothing. The video program is timed where it is built
-(`make frames`); --video builds it. So does --write, which also puts the tables into docs/PERFORMANCE.md and the plot into
-docs/speed.svg: use it on an idle machine. CC names the C compiler (cc). With a rustc the loops in Rust are timed too, and,
-with a FOLDER that has the sources of the Rust crate, its calls. PROGRAM is another script program, for example one that was
-built from an earlier state: its runs are interleaved with those of this one.
+(`make frames`); --video builds it. So does --write, which also puts the tables into docs/PERFORMANCE.md and bench/tables.md,
+and the plot into docs/speed.svg: use it on an idle machine. CC names the C compiler (cc). With a rustc the loops in Rust are
+timed too, and, with a FOLDER that has the sources of the Rust crate, its calls. PROGRAM is another script program, for
+example one that was built from an earlier state: its runs are interleaved with those of this one.
 """
 import argparse
 import os
@@ -28,11 +28,11 @@ import c_library
 from c_library import Failure, command, compiler, toolchain
 from processes import end_on_signals, end_on_signals_too, started, unbroken
 from program import built, say
-from speed_tables import Call, call_tables, frames_table, plot, script_table
+from speed_tables import SHOWN, Call, call_tables, calls_shown, frames_table, plot, script_table
 from workspace import ROOT, is_proved, product
 
 OUT = ROOT / "out/bench"
-PAGE, PLOT = ROOT / "docs/PERFORMANCE.md", ROOT / "docs/speed.svg"
+PAGE, TABLES, PLOT = ROOT / "docs/PERFORMANCE.md", ROOT / "bench/tables.md", ROOT / "docs/speed.svg"
 BEGIN, END = "<!-- table of make bench -->", "<!-- end of the table -->"
 # The processor that rt builds for, which rustc is told too.
 RUST = ["rustc", "--edition", "2021", "-C", "opt-level=3", "-C", "target-cpu=x86-64-v2", "-C", "panic=abort", "-C", "codegen-units=1"]
@@ -260,15 +260,28 @@ def conditions(rounds):
 
 
 def report(asked, sides, numbers, with_video):
-    """Times all that was built: the text for docs/PERFORMANCE.md and the plot."""
+    """Times all that was built: the calls, what the figures depend on, and the tables of the programs."""
     before = conditions(asked.rounds)
     rows = calls(OUT / "speed", asked.rounds, sides)
-    tables = [call_tables(rows, sides), script_table([*scripts(numbers, asked.beside, asked)], bool(asked.beside))]
+    programs = [script_table([*scripts(numbers, asked.beside, asked)], bool(asked.beside))]
     if with_video:
-        tables.append(frames_table([*frames_rows(asked.frames)]))
+        programs.append(frames_table([*frames_rows(asked.frames)]))
     else:
         say("the video program isn't built: `make frames` or --video times it too")
-    return "\n\n".join([f"{before}, after it: {os.getloadavg()[0]:.2f}.", *tables]), plot(rows, sides)
+    return rows, f"{before}, after it: {os.getloadavg()[0]:.2f}.", programs
+
+
+def with_tables(page, text):
+    """A page with this text in the place of the one between its marks."""
+    return re.sub(f"{BEGIN}.*{END}", lambda _: f"{BEGIN}\n{text}\n{END}", page, flags=re.DOTALL)
+
+
+def write(rows, sides, measured, programs):
+    """Puts what was timed into the documents."""
+    PAGE.write_text(with_tables(PAGE.read_text(), "\n\n".join([measured, calls_shown(rows), *programs])))
+    TABLES.write_text(with_tables(TABLES.read_text(), "\n\n".join([measured, call_tables(rows, sides)])))
+    PLOT.write_text(plot(rows, sides))
+    say(f"written: {', '.join(str(it.relative_to(ROOT)) for it in (PAGE, TABLES, PLOT))}")
 
 
 def main():
@@ -284,20 +297,19 @@ def main():
     options.add_argument("--write", action="store_true")
     asked = options.parse_args()
     sides = [int(it) for it in asked.sides.split(",")]
+    if asked.write and not {*SHOWN} <= {*sides}:
+        options.error(f"--write needs the sides {SHOWN}")
     began = time.time()
     with_video = asked.video or asked.write or is_proved("imgref_frames")
     speed, numbers = OUT / "speed", OUT / "numbers"
     apart("the programs to time can't be built", lambda: make(asked.crate, speed, numbers, with_video))
     began_timing = time.time()
-    found, drawn = report(asked, sides, numbers, with_video)
-    print(found)
-    (OUT / "speed.svg").write_text(drawn)
+    rows, measured, programs = report(asked, sides, numbers, with_video)
+    print("\n\n".join([measured, call_tables(rows, sides), *programs]))
+    (OUT / "speed.svg").write_text(plot(rows, sides))
     say(f"{time.time() - began:.0f} s in all, {time.time() - began_timing:.0f} s of it timing; the plot is {(OUT / 'speed.svg').relative_to(ROOT)}")
     if asked.write:
-        page = PAGE.read_text()
-        PAGE.write_text(re.sub(f"{BEGIN}.*{END}", lambda _: f"{BEGIN}\n{found}\n{END}", page, flags=re.DOTALL))
-        shutil.copy2(OUT / "speed.svg", PLOT)
-        say("written: docs/PERFORMANCE.md and docs/speed.svg")
+        write(rows, sides, measured, programs)
 
 
 if __name__ == "__main__":

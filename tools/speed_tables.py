@@ -1,10 +1,16 @@
-"""The tables of docs/PERFORMANCE.md and its plot, from what `make bench` measured (bench.py)."""
+"""The tables of docs/PERFORMANCE.md and of bench/tables.md, and the plot, from what `make bench` measured (bench.py)."""
 import dataclasses
 import math
 import statistics
 
 # The heads of the columns that compare a call: with what, in the order of the times that the C side writes.
-COMPARED = ("vs. loop in C", "vs. plain C call", "vs. loop in Rust", "vs. Rust crate")
+COMPARED = ("vs. loop in C", "vs. plain C call", "vs. loop in Rust", "vs. original crate")
+# Those that do the same work as the call. (The plain call in C has no rows.)
+SAME_WORK = {0: "loop in C", 2: "loop in Rust", 3: "original crate"}
+# The sides of the images in docs/PERFORMANCE.md: of a small one and of a large one. All sides are in bench/tables.md.
+SHOWN = (64, 2048)
+# A call is faster than a comparison below the first quotient, and slower above the second.
+FASTER, SLOWER = 0.95, 1.05
 
 
 @dataclasses.dataclass
@@ -38,18 +44,52 @@ def markdown(head, rows):
 
 
 def slowness(call):
-    """How slow a call is in its slowest build beside what does the same work: the loops in C and in Rust, and the Rust crate's call."""
-    loop, _, rust, crate = call.quotients
-    return max((max(it) for it in (loop, rust, crate) if it), default=0)
+    """How slow a call is in its slowest build beside what does the same work."""
+    return max((max(call.quotients[k]) for k in SAME_WORK if call.quotients[k]), default=0)
+
+
+def middles(rows, side, k):
+    """The middle quotients of the calls on images of a side, to one comparison. Those on smaller cells come first."""
+    ordered = sorted((it for it in rows if it.side == side and it.quotients[k]), key=lambda it: int(it.cell[1:]))
+    return [statistics.median(it.quotients[k]) for it in ordered]
+
+
+def summary_table(rows):
+    """How many calls are faster and slower than each comparison, in Markdown."""
+    cells = []
+    for k, name in SAME_WORK.items():
+        for side in SHOWN:
+            found = middles(rows, side, k)
+            faster, slower = sum(it < FASTER for it in found), sum(it > SLOWER for it in found)
+            cells.append([name, f"{side} by {side}", *map(str, (faster, len(found) - faster - slower, slower))])
+    return markdown(["Beside", "Pixels", "Faster", "The same", "Slower"], cells)
+
+
+def quotient_table(rows):
+    """A row for each call in Markdown, with its middle quotients on the sides of SHOWN. The row with the greatest one comes first."""
+    cells = []
+    for name in dict.fromkeys(it.name for it in rows):
+        of_call = [it for it in rows if it.name == name]
+        found = [middles(of_call, side, k) for side in SHOWN for k in SAME_WORK]
+        texts = [" · ".join(f"{quotient:.2f}" for quotient in it) or "–" for it in found]
+        cells.append((max((quotient for it in found for quotient in it), default=0), [name, *texts]))
+    heads = [f"{side}: {name}" for side in SHOWN for name in SAME_WORK.values()]
+    return markdown(["Call", *heads], [row for _, row in sorted(cells, key=lambda it: it[0], reverse=True)])
+
+
+def calls_shown(rows):
+    """The calls for docs/PERFORMANCE.md: how many are faster and slower, the plot, and the quotients of each."""
+    plotted = "## The calls\n\n![Time of each call, divided by the time of a loop in C](speed.svg)"
+    return "\n\n".join([summary_table(rows), plotted, quotient_table(rows)])
 
 
 def call_tables(rows, sides):
-    """The calls in Markdown: a table for each side. What is slower than one of its comparisons comes first."""
+    """The calls in Markdown: a table for each side. The call that is slowest beside one of its comparisons comes first."""
     parts = []
     for side in sides:
         ordered = sorted((it for it in rows if it.side == side), key=slowness, reverse=True)
         cells = [[it.name, f"`{it.cell}`", f"{it.time:.0f} ns", *map(spread, it.quotients)] for it in ordered]
-        parts.append(f"### Images of {side} by {side} pixels\n\n" + markdown(["Call", "Cell", "Time", *COMPARED], cells))
+        parts.append(f"## Images of {side} by {side} pixels\n\n" + markdown(["Call", "Cell", "Time", *COMPARED], cells))
     return "\n\n".join(parts)
 
 

@@ -17,6 +17,7 @@ from workspace import with_those_below
 # The pages with figures, and the crates that are timed there, with those below them.
 PAGES = {
     "docs/PERFORMANCE.md": ("bench_exports", "imgref_c", "imgref_run", "imgref_frames"),
+    "bench/tables.md": ("bench_exports", "imgref_c"),
     "docs/PERF.md": ("bench_jobs",),
     "docs/C.md": ("imgref_c",),
 }
