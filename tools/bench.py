@@ -8,7 +8,7 @@ what is compared are interleaved, and the least time of each counts. The calls a
 where their code lies in memory: a difference smaller than the spread over these builds tells nothing. The video program is timed where it is built
 (`make frames`); --video builds it. So does --write, which also puts the tables into docs/PERFORMANCE.md and bench/tables.md,
 and the plot into docs/speed.svg: use it on an idle machine. CC names the C compiler (cc). With a rustc the loops in Rust are
-timed too, and, with a FOLDER that has the sources of the Rust crate, its calls. PROGRAM is another script program, for
+timed too, and, with a FOLDER that has the sources of the original crate, its calls. PROGRAM is another script program, for
 example one that was built from an earlier state: its runs are interleaved with those of this one.
 """
 import argparse
