@@ -11,7 +11,7 @@
 # make install PREFIX=..   builds it, and installs it with its header
 # make web                 proves and builds the page that covers parts of a picture: out/web/index.html
 # make web-serve [PORT=..] the same, and serves it on this machine alone
-# make docs                writes docs/API.md and docs/INNER.md: every public call with its contract
+# make docs                writes docs/API.md and out/INNER.md: every public call with its contract
 # make exports             writes the exports for cells of 2, 4 and 8 bytes from those for one byte
 # make bench [BENCH=..]    times the calls and the program beside plain loops; BENCH: options of tools/bench.py
 #

@@ -1,11 +1,12 @@
 #!/usr/bin/env python3
-"""Writes docs/API.md and docs/INNER.md: the public calls of the library crates, each with its contract.
+"""Writes docs/API.md and out/INNER.md: the public calls of the library crates, each with its contract.
 
     api_page.py            writes both pages (`make docs`)
 
-A page has an index by name, and then each crate: its types with their calls, its traits and its functions, as rustdoc groups
-them. A call has its signature, its `///` lines and all its clauses. Each word of a clause is a link to the line of its
-definition. `.ci/checks/api_page.py` tells whether the pages are fresh.
+docs/API.md has the calls for users, and is kept in the repository. out/INNER.md has all others, and isn't kept. A page has an
+index by name, and then each crate: its types with their calls, its traits and its functions, as rustdoc groups them. A call has
+its signature, its `///` lines and all its clauses. Each word of a clause is a link to the line of its definition.
+`.ci/checks/api_page.py` tells whether docs/API.md is fresh, and whether each public call is on one of the pages.
 """
 import collections
 import dataclasses
@@ -20,18 +21,25 @@ from items import Item, read, words_of
 from workspace import ROOT, crates
 
 # The crates of each page, what it is called, and how it begins.
+API, INNER = "docs/API.md", "out/INNER.md"
 PAGES = {
-    "docs/API.md": (
+    API: (
         "Calls and contracts",
-        ["imgref", "image_tiles", "imgref_replay", "image_shape", "image_planes"],
-        "Every public call for users, with its contract. [CALLERS.md](CALLERS.md) shows how to use them, and [INNER.md](INNER.md) has the calls of the crates below.",
+        ["imgref", "image_tiles", "imgref_replay"],
+        "Every public call for users, with its contract. [CALLERS.md](CALLERS.md) shows how to use them. `make docs` writes this page, and `out/INNER.md` with the calls that users don't need.",
     ),
-    "docs/INNER.md": (
-        "Calls and contracts of the inner crates",
-        ["row_mover", "image_rows", "image_pixels", "image_ops", "texts", "devices", "frame_formats", "imgref_run", "imgref_frames"],
-        "The public calls of the crates that users don't need to know. [API.md](API.md) has the calls for users.",
+    INNER: (
+        "Inner calls and contracts",
+        ["imgref", "image_tiles", "image_shape", "row_mover", "image_rows", "image_pixels", "image_ops", "image_planes"]
+        + ["texts", "devices", "frame_formats", "imgref_run", "imgref_frames"],
+        "The public calls that users don't need. [API.md](../docs/API.md) has the calls for users.",
     ),
 }
+# What the crates for users offer and users don't need: docs/API.md leaves it out. Users get iterators from calls of an image.
+NOT_FOR_USERS = {"Stretch", "tile_at", "tiles_along"}
+NOT_FOR_USERS |= {"PixelsIter::new", "PixelsIterMut::new", "PixelsRefIter::new", "RowsIter::new", "RowsIterMut::new"}
+NOT_FOR_USERS |= {"BandsMut::split_first", "Img::exact_pixels_mut", "Img::from_stretch", "RowsIterMut::split_end"}
+NOT_FOR_USERS |= {f"Shape::{it}" for it in "any_row cell cells_of_rows packed padding reach row row_above row_count stretch whole_rows".split()}
 HOW_TO_READ = """## How to read a contract
 
 A `requires` is what the caller has to prove, and an `ensures` is what it may rely on. An `ensures*` says what the lender has once a borrow ends. A parameter `x` stands for its value. Where it is a reference, `x.now` is what it points to. At a `&mut` parameter `x.old` is that before the call, and `x.new` after it. `x.entry` is the parameter as it was passed.
@@ -208,9 +216,17 @@ def fields(item):
 def definition(item):
     """A type as its code says it, without what is private."""
     if item.kind in ("struct", "enum") and item.head[-1].endswith("{"):
-        inner = fields(item) or ["    // private fields"]
-        return "\n".join([*item.head, *inner, "}"])
+        inner = fields(item)
+        return "\n".join([*item.head, *inner, "}"] if inner else [*item.head[:-1], f"{item.head[-1]} /* private fields */ }}"])
     return "\n".join(item.head)
+
+
+def members_of(entry):
+    """The members of all blocks of a type, those in its own file first."""
+    all_of_them = crate_of(entry.crate).entries
+    aliases = [it.item.name for it in all_of_them if it.item.kind == "type" and not it.block and f"= {entry.item.name}<" in it.item.head[0]]
+    inside = [it for it in all_of_them if it.block and it.block.kind == "impl" and subject(it.block)[0] in (entry.item.name, *aliases)]
+    return sorted(inside, key=lambda it: it.path != entry.path)
 
 
 # ---- a page
@@ -220,11 +236,13 @@ class Page:
     """One page: what it shows, and the links of its clauses."""
 
     def __init__(self, path):
-        self.path = ROOT / path
+        self.path, self.is_for_users = ROOT / path, path == API
         self.title, self.crates, self.intro = PAGES[path]
+        # The crates of which the page has only the calls that the page for users leaves out.
+        self.shared = [] if self.is_for_users else PAGES[API][1]
         # The names of the index with their anchors; what the words of clauses lead to; and those that are a trait's own.
         self.names, self.targets, self.of_traits = [], {}, {}
-        said = [it for name in self.crates for it in crate_of(name).entries if it.block and it.block.kind == "trait" and it.block.is_public]
+        said = [it for name in self.crates if name not in self.shared for it in crate_of(name).entries if it.block and it.block.kind == "trait" and it.block.is_public]
         self.traits_words = {it.item.name: f"{it.crate}.{it.block.name}" for it in said if it.item.kind == "ghost" and it.item.clauses}
 
     def link(self, path, line):
@@ -259,50 +277,65 @@ class Page:
         self.names = []
         return [line for it in self.crates for line in self.crate(crate_of(it))]
 
-    def anchor(self, crate, name):
-        """A place to link to, and the name in the index."""
+    def heading(self, level, crate, name, shown=None):
+        """A heading that is a place to link to, with its name in the index."""
         anchor = f"{crate}.{name}".replace("::", ".").replace(" ", "-")
-        if (name, anchor) in self.names:
-            return ""
-        self.names.append((name, anchor))
-        return f'<a id="{anchor}"></a>'
+        is_known = (name, anchor) in self.names
+        if not is_known:
+            self.names.append((name, anchor))
+        place = "" if is_known else f'<a id="{anchor}"></a>'
+        return f"{level} {place}`{shown or name}`"
 
     def crate(self, crate):
+        if crate.name in self.shared:
+            yield from self.left_out(crate)
+            return
         yield from [f"## {crate.name}", "", *paragraphs(crate.told), ""]
-        inlined = [name for name, module in crate.others().items() if home(name, module) not in self.all_crates(crate.name)]
+        inlined = [name for name in crate.others() if self.shows(name) and self.shown_at(name, crate) == crate.name]
         yield from self.offered(crate, inlined)
-        names = [*crate.own(), *inlined]
-        found = {name: home(name, crate.name) for name in names}
+        names = [it for it in [*crate.own(), *inlined] if self.shows(it)]
         for kinds in (("struct", "enum"), ("trait",), ("type",), ("fn", "const")):
             for name in names:
-                for entry in crate_of(found[name]).entries:
+                for entry in crate_of(home(name, crate.name)).entries:
                     if entry.item.name == name and entry.item.kind in kinds and entry.block is None and entry.item.is_public:
                         yield from self.top(entry)
 
-    def all_crates(self, name):
-        """The crates of all pages; of a page for users those alone that it shows."""
-        return self.crates if name in self.crates and self.path.name == "API.md" else [it for _, names, _ in PAGES.values() for it in names]
+    def left_out(self, crate):
+        """The calls of a crate for users that the page for users leaves out."""
+        yield from [f"## {crate.name}", "", f"These are the calls that [API.md](../docs/API.md#{crate.name}) leaves out.", ""]
+        for name in crate.own():
+            yield from (line for it in crate.entries if it.item.name == name and it.block is None for line in self.own_calls(it))
+
+    def shows(self, name):
+        """Whether the page has an item or a call of a type: docs/API.md only what is for users."""
+        return not self.is_for_users or name not in NOT_FOR_USERS
+
+    def shown_at(self, name, crate):
+        """The crate under which a page has an item of another crate: its own, or else the first one that offers it."""
+        of = home(name, crate.name)
+        known = self.crates if self.is_for_users else [it for _, names, _ in PAGES.values() for it in names]
+        return of if of in known else next(it for it in known if name in crate_of(it).others())
 
     def offered(self, crate, inlined):
         """The items of other crates that this one offers and that are elsewhere on the pages."""
         links = []
-        for name in (it for it in crate.others() if it not in inlined):
-            of = home(name, crate.name)
-            page = next(path for path, (_, names, _) in PAGES.items() if of in names)
-            links.append(f"[`{name}`]({'' if ROOT / page == self.path else pathlib.Path(page).name}#{of}.{name})")
+        for name in (it for it in crate.others() if it not in inlined and self.shows(it)):
+            page = ROOT / API if self.shown_at(name, crate) in self.shared else self.path
+            links.append(f"[`{name}`]({'' if page == self.path else os.path.relpath(page, self.path.parent)}#{home(name, crate.name)}.{name})")
         if links:
             yield from [f"It also offers {', '.join(links)}.", ""]
 
     def top(self, entry):
         """A type with its calls, a trait, or a function."""
         item = entry.item
-        yield from [self.anchor(entry.crate, item.name), "", f"### `{item.name}`", ""]
+        yield self.heading("###", entry.crate, item.name)
         if item.kind == "trait":
             yield from self.trait(entry)
             return
         yield from self.block([definition(item) if item.kind != "fn" else code(item.head)], entry)
         if item.kind in ("struct", "enum"):
-            yield from self.calls(entry)
+            yield from self.own_calls(entry)
+            yield from self.traits_of(entry)
 
     def block(self, code_lines, entry):
         """A signature, its `///` lines, and its clauses."""
@@ -314,18 +347,23 @@ class Page:
         if clauses:
             yield from [*clauses, ""]
 
-    def calls(self, entry):
-        """The calls of a type: those of its own blocks by name, and then its traits."""
-        all_of_them = crate_of(entry.crate).entries
-        aliases = [it.item.name for it in all_of_them if it.item.kind == "type" and not it.block and f"= {entry.item.name}<" in it.item.head[0]]
-        inside = [it for it in all_of_them if it.block and it.block.kind == "impl" and subject(it.block)[0] in (entry.item.name, *aliases)]
-        inside.sort(key=lambda it: it.path != entry.path)
-        own = [it for it in inside if it.item.kind == "fn" and it.item.is_public and not subject(it.block)[1]]
+    def own_calls(self, entry):
+        """The calls of a type's own blocks, by name."""
+        own = [it for it in members_of(entry) if it.item.kind == "fn" and it.item.is_public and not subject(it.block)[1]]
         for name in dict.fromkeys(it.item.name for it in own):
             full = f"{entry.item.name}::{name}"
-            yield from [self.anchor(entry.crate, full), "", f"#### `{full}`", ""]
-            for it in (it for it in own if it.item.name == name):
-                yield from self.block([code(it.block.head), code(it.item.head)], it)
+            if self.has_call(entry.crate, full):
+                yield self.heading("####", entry.crate, full)
+                for it in (it for it in own if it.item.name == name):
+                    yield from self.block([code(it.block.head), code(it.item.head)], it)
+
+    def has_call(self, crate, name):
+        """Whether the page has a call. The inner page has those of a crate for users that the page for users leaves out."""
+        return name in NOT_FOR_USERS if crate in self.shared else self.shows(name)
+
+    def traits_of(self, entry):
+        """The traits of a type."""
+        inside = members_of(entry)
         blocks = {id(it.block): it.block for it in inside if subject(it.block)[1]}
         yield from (line for block in blocks.values() for line in self.traits(entry.crate, [it for it in inside if it.block is block], block))
 
@@ -335,7 +373,7 @@ class Page:
         if not said and not block.told:
             return
         of, trait = subject(block)
-        yield from [self.anchor(crate, f"{trait} for {of}"), "", f"#### `{code([' '.join(it.strip() for it in block.head)])}`", ""]
+        yield from [self.heading("####", crate, f"{trait} for {of}", code([" ".join(it.strip() for it in block.head)])), ""]
         if told := paragraphs(block.told):
             yield from [*told, ""]
         equations = [line for it in said if it.item.kind == "ghost" for line in self.clauses(it)]
@@ -352,7 +390,7 @@ class Page:
         for it in inside:
             name = f"{entry.item.name}::{it.item.name}"
             if it.item.kind == "fn":
-                yield from [self.anchor(entry.crate, name), "", f"#### `{name}`", ""]
+                yield self.heading("####", entry.crate, name)
                 yield from self.block([code(it.item.head)], it)
         said = [line for it in inside if it.item.kind == "ghost" for line in self.clauses(it)]
         if said:
@@ -407,15 +445,17 @@ def escaped(text):
 
 
 def paragraphs(told):
-    """The `///` lines as text: a heading is bold, and a name in brackets is a name."""
+    """The `///` lines as text, a paragraph on a line: a heading is bold, and a name in brackets is a name."""
     text = re.sub(r"\[(`[^`]*`)\]", r"\1", "\n".join(told))
-    return re.sub(r"(?m)^# (.*)\n\n", r"**\1.** ", text).splitlines()
+    text = re.sub(r"(?m)^# (.*)\n\n", r"**\1.** ", text)
+    return re.sub(r"(?<=[^\n])\n(?![\n|]|[-*] |\d+\. |    )", " ", text).splitlines()
 
 
 def main(words):
     if words:
         sys.exit(__doc__)
     for path in PAGES:
+        (ROOT / path).parent.mkdir(exist_ok=True)
         (ROOT / path).write_text(Page(path).text())
         print(path)
 

@@ -1,8 +1,9 @@
 #!/usr/bin/env python3
-"""docs/API.md and docs/INNER.md are what `make docs` writes, and they are whole.
+"""docs/API.md is what `make docs` writes, and it is whole with the page that isn't kept, out/INNER.md.
 
-Each page is compared with what tools/api_page.py makes of the code today. Each public function of its crates is on it, as
-a search of the files by words alone finds them. Each link leads to the line of that definition, or to a place of the page.
+docs/API.md is compared with what tools/api_page.py makes of the code today; the other page is made anew. Each public function of
+the crates is on one of both, as a search of the files by words alone finds them. Each that docs/API.md leaves out is on the
+other page. Each link leads to the line of that definition, or to a place of the page.
 """
 import pathlib
 import re
@@ -42,18 +43,27 @@ def lost_links(path, text):
                 yield f"{label}: {found.strip()}"
 
 
+def missing(crates, text):
+    """The public functions of crates that pages lack."""
+    return [f"  {file}: {it}" for file, it in functions(crates) if not re.search(rf"^(?:pub )?(?:const )?fn {it}\b", text, re.MULTILINE)]
+
+
 def main():
     cases = Cases()
-    for name, (_, crates, _) in api_page.PAGES.items():
-        path = ROOT / name
-        text = path.read_text() if path.exists() else ""
-        cases.count(f"{name} is fresh", text == api_page.Page(name).text(), "it isn't what `make docs` writes today")
-        missing = [f"  {file}: {it}" for file, it in functions(crates) if not re.search(rf"^(?:pub )?(?:const )?fn {it}\b", text, re.MULTILINE)]
-        cases.count(f"{name} has each public function", text and not missing, "\n".join(missing))
-        lost = [f"  {it}" for it in lost_links(path, text)]
-        cases.count(f"{name}: {len(LABEL.findall(text))} words lead to their definitions", text and not lost, "\n".join(lost))
+    texts = {name: api_page.Page(name).text() for name in api_page.PAGES}
+    kept = (ROOT / api_page.API).read_text() if (ROOT / api_page.API).exists() else ""
+    cases.count(f"{api_page.API} is fresh", kept == texts[api_page.API], "it isn't what `make docs` writes today")
+    for name, text in texts.items():
+        lost = [f"  {it}" for it in lost_links(ROOT / name, text)]
+        cases.count(f"{name}: {len(LABEL.findall(text))} words lead to their definitions", not lost, "\n".join(lost))
         inside = set(re.findall(r"\]\(#([^)]+)\)", text)) - set(ANCHOR.findall(text))
-        cases.count(f"{name}: its index leads to each name", text and not inside, str(sorted(inside)))
+        cases.count(f"{name}: its index leads to each name", not inside, str(sorted(inside)))
+    crates = sorted({it for _, names, _ in api_page.PAGES.values() for it in names})
+    lacking = missing(crates, "\n".join(texts.values()))
+    cases.count("both pages have each public function", not lacking, "\n".join(lacking))
+    names = {it.split(".", 1)[1].replace(".", "::") for it in ANCHOR.findall(texts[api_page.INNER])}
+    unknown = api_page.NOT_FOR_USERS - names
+    cases.count(f"{api_page.INNER} has each name that {api_page.API} leaves out", not unknown, str(sorted(unknown)))
     return cases.end()
 
 

@@ -6,7 +6,7 @@ list item, a heading and a cell of a table are read as sentences; blocks of code
 counts as one word. A sentence that is too long is shown with its number of words.
 
 No document, no comment and no text within quotes of a source has a word of TICS: each such line is shown with the better word.
-The pages of WRITTEN are left out, since a tool makes them from the lines of the code.
+The page of WRITTEN is left out, since a tool makes it from the lines of the code.
 """
 import io
 import pathlib
@@ -18,8 +18,8 @@ sys.path.insert(0, str(pathlib.Path(__file__).resolve().parent.parent))
 from checking import ROOT, Cases
 
 MOST_WORDS, README_LINES = 25, 120
-# The pages that `make docs` writes, whose sentences are those of the code.
-WRITTEN = {"API.md", "INNER.md"}
+# The page that `make docs` writes, whose sentences are those of the code.
+WRITTEN = {"API.md"}
 # What is searched for odd words besides the documents: their comments and their texts within quotes.
 SOURCES = ["Makefile", "crates/*/src/**/*.rt", "crates/*/specs/**/*.antt", "crates/*/proofs/**/*.antt", "tools/*.py", ".ci/**/*.py"]
 SOURCES += [".ci/c/*.[ch]", "include/*.h", "bench/*.[cr]*", "examples/**/*.[chpr]*", "include/*.hpp", "bindings/**/*.[hpr]*", "man/*", "web/*.*"]
