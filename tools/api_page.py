@@ -36,9 +36,12 @@ PAGES = {
     ),
 }
 # What the crates for users offer and users don't need: docs/API.md leaves it out. Users get iterators from calls of an image.
-NOT_FOR_USERS = {"Stretch", "tile_at", "tiles_along"}
-NOT_FOR_USERS |= {"PixelsIter::new", "PixelsIterMut::new", "PixelsRefIter::new", "RowsIter::new", "RowsIterMut::new"}
-NOT_FOR_USERS |= {"BandsMut::split_first", "Img::exact_pixels_mut", "Img::from_stretch", "RowsIterMut::split_end"}
+NOT_FOR_USERS = {"PixelsIter::new", "PixelsIterMut::new", "PixelsRefIter::new", "RowsIter::new", "RowsIterMut::new"}
+# Calls whose clauses only a proof by hand can use.
+NOT_FOR_USERS |= {"BandsMut::split_first", "BandsMut::step", "End", "RowsIterMut::split_end", "RowsIterMut::step"}
+NOT_FOR_USERS |= {"Img::exact_pixels_mut", "Img::from_stretch", "Stretch"}
+# Where cells, rows and tiles are.
+NOT_FOR_USERS |= {"tile_at", "tiles_along"}
 NOT_FOR_USERS |= {f"Shape::{it}" for it in "any_row cell cells_of_rows packed padding reach row row_above row_count stretch whole_rows".split()}
 HOW_TO_READ = """## How to read a contract
 
