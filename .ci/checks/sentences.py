@@ -6,7 +6,12 @@ list item, a heading and a cell of a table are read as sentences; blocks of code
 counts as one word. A sentence that is too long is shown with its number of words.
 
 No document, no comment and no text within quotes of a source has a word of TICS: each such line is shown with the better word.
-The page of WRITTEN is left out, since a tool makes it from the lines of the code.
+The pages of WRITTEN are left out, since a tool makes them from the lines of the code.
+
+A sentence is loose where it begins with a word of POINTS after a sentence with two nouns: a reader may not see which one is meant.
+Most are clear all the same, so no single one fails. Their number has a limit, MOST_LOOSE, which may only fall: a list that fails
+nothing would not be read, and with a limit who adds such a sentence reads it again, or names the noun of another one. Above the
+limit all are shown; `sentences.py --loose` shows them at any time.
 """
 import io
 import pathlib
@@ -18,8 +23,10 @@ sys.path.insert(0, str(pathlib.Path(__file__).resolve().parent.parent))
 from checking import ROOT, Cases
 
 MOST_WORDS, README_LINES = 25, 120
-# The page that `make docs` writes, whose sentences are those of the code.
-WRITTEN = {"API.md"}
+# How many sentences of the documents may be loose.
+MOST_LOOSE = 207
+# The pages that `make docs` writes, whose sentences are those of the code.
+WRITTEN = {"API.md", "INNER.md"}
 # What is searched for odd words besides the documents: their comments and their texts within quotes.
 SOURCES = ["Makefile", "crates/*/src/**/*.rt", "crates/*/specs/**/*.antt", "crates/*/proofs/**/*.antt", "tools/*.py", ".ci/**/*.py"]
 SOURCES += [".ci/c/*.[ch]", "include/*.h", "bench/*.[cr]*", "examples/**/*.[chpr]*", "include/*.hpp", "bindings/**/*.[hpr]*", "man/*", "web/*.*"]
@@ -62,6 +69,9 @@ TIC = [(re.compile(rf"\b(?:{it})\b", re.IGNORECASE), better) for it, better in T
 CODE = re.compile(r"``.+?``|`[^`]+`")
 LINK = re.compile(r"!?\[([^\]]*)\]\([^)]*\)")
 ENDS = re.compile(r"(?<=[.!?])[)*'\"]*\s+")
+# The words that point to a noun before, and what comes with a noun.
+POINTS = re.compile(r"(?:It|That|These|This|So|They)\b")
+WITH_NOUN = re.compile(r"\b(?:code|(?:an?|the|each|every|no|its|their|both|all|two|three)\s+\w+)\b", re.IGNORECASE)
 BEGINS = re.compile(r"\s*(?:[-*] |\d+\. |#+ |\|)")
 # Comments and texts within quotes, by the ending of a file; those of Python are found by its own tokens.
 SAID = {".antt": re.compile(r"--.*"), "": re.compile(r"#.*"), ".html": re.compile(r".+"), ".1": re.compile(r".+"), ".3": re.compile(r".+")}
@@ -87,10 +97,24 @@ def paragraphs(text):
     return [" ".join(it.split("\n")) for it in re.split(r"\n{2,}", "\n".join(kept)) if it.strip()]
 
 
-def sentences(text):
+def sentences_by_paragraph(text):
+    """The sentences of each paragraph, with code and links as plain words."""
     for it in paragraphs(text):
         plain = CODE.sub("code", LINK.sub(r"\1", it))
-        yield from ENDS.split(re.sub(r"^\s*(?:[-*]|\d+\.|#+) ", "", plain))
+        yield ENDS.split(re.sub(r"^\s*(?:[-*]|\d+\.|#+) ", "", plain))
+
+
+def sentences(text):
+    for it in sentences_by_paragraph(text):
+        yield from it
+
+
+def loose(path):
+    """Each loose sentence of a page, after the one before it."""
+    for found in sentences_by_paragraph(path.read_text()):
+        for before, it in zip(found, found[1:]):
+            if POINTS.match(it) and len(WITH_NOUN.findall(before)) > 1:
+                yield f"  {path.relative_to(ROOT)}: {before.strip()} / {it.strip()}"
 
 
 def words(sentence):
@@ -130,9 +154,12 @@ def long_in_code(path):
         yield from too_long(re.sub(r"(?m)^ *//[/!] ?", "", block), f"{path.relative_to(ROOT)}: ")
 
 
-def main():
+def main(words):
     cases = Cases()
     documents = [it for it in (*sorted(ROOT.glob("*.md")), *sorted((ROOT / "docs").glob("*.md"))) if it.name not in WRITTEN]
+    if "--loose" in words:
+        print("\n".join(line for it in documents for line in loose(it)))
+        return 0
     sources = [it for pattern in SOURCES for it in sorted(ROOT.glob(pattern)) if it != pathlib.Path(__file__).resolve()]
     for label, paths in (("the documents", documents), ("the sources", sources)):
         found = [line for it in paths for line in odd(it)]
@@ -142,10 +169,12 @@ def main():
         cases.count(f"{path.relative_to(ROOT)}: no sentence of more than {MOST_WORDS} words", not long, "\n".join(long))
     long = [line for it in sources if it.suffix == ".rt" for line in long_in_code(it)]
     cases.count(f"doc lines of the crates: no sentence of more than {MOST_WORDS} words", not long, "\n".join(long))
+    found = [line for it in documents for line in loose(it)]
+    cases.count(f"the documents: {len(found)} loose sentences of at most {MOST_LOOSE}", len(found) <= MOST_LOOSE, "\n".join(found))
     lines = len((ROOT / "README.md").read_text().splitlines())
     cases.count(f"README.md: at most {README_LINES} lines", lines <= README_LINES, f"  {lines} lines")
     return cases.end()
 
 
 if __name__ == "__main__":
-    sys.exit(main())
+    sys.exit(main(sys.argv[1:]))

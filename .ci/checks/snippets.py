@@ -4,9 +4,8 @@
 A snippet is a run of lines that are indented by four spaces. Those of docs/CALLERS.md, and the code in README.md, are
 in a file of the crates, which the gate proves: the lines are there in that order, however far they are indented. A
 script in README.md or docs/SCRIPT.md gives what the page says, as the model tells (.ci/model.py). Each file that a document
-links to or names by its folders is there, and each definition that docs/GLOSSARY.md names is in its file. README.md counts
-the tests and the planted bugs that there are, and docs/CALLERS.md lists the calls of an image that don't
-require a fit, and docs/DIFFERENCES.md names those that only the port has.
+names by its folders is there, and each definition that docs/GLOSSARY.md names is in its file. docs/CALLERS.md lists the calls of
+an image that don't require a fit, and docs/DIFFERENCES.md names those that only the port has.
 docs/DECISIONS.md lists each function that is proved by hand. Each name in docs/PROMISES.md and docs/ARCHITECTURE.md is in a
 source.
 """
@@ -22,7 +21,6 @@ import api_page
 
 SNIPPET = re.compile(r"(?:^    .*\n)+", re.MULTILINE)
 SPAN = re.compile(r"`([^`]+)`")
-LINK = re.compile(r"\]\(([^)#:]+)(?:#[^)]*)?\)")
 DEFINED = re.compile(r"`([\w/]+\.antt)`: (`\w+`(?:, `\w+`)*)")
 # The types and traits whose calls are those of an image.
 OF_IMAGES = ("Img", "ImgVec", "ImgRef", "ImgRefMut", "ImgExt", "ImgExtMut")
@@ -71,18 +69,9 @@ def tried(cases, name):
         cases.count(f"{name}: {lines[0]}", given[: len(due)] == due if within else given == due, f"the page says {due}, the model {given}")
 
 
-def counted(cases):
-    """README.md counts the tests and the planted bugs that there are. (The gate prints how many functions are proved.)"""
-    tests = sum(len(re.findall(r"^ *#\[test\]$", it.read_text(), re.MULTILINE)) for it in (ROOT / "crates").glob("*/src/**/*.rt"))
-    line = f"{tests} tests · {len([*(ROOT / 'crates').glob('*/must-fail/*.edit')])} planted bugs refused"
-    cases.count(f"README.md: {line}", line in (ROOT / "README.md").read_text())
-
-
 def missing_files(path):
-    """What a document links to or names that isn't there. A name in capitals means any, and what is below `out` is built."""
-    text = path.read_text()
-    yield from (it for it in LINK.findall(text) if not (path.parent / it).exists())
-    for name in filter(FILE.fullmatch, SPAN.findall(text)):
+    """What a document names that isn't there. A name in capitals means any, and what is below `out` is built."""
+    for name in filter(FILE.fullmatch, SPAN.findall(path.read_text())):
         top = name.split("/")[0]
         tops = [it for it in (ROOT, ROOT / "crates") if top != "out" and (it / top).exists()]
         if tops and not re.search(r"\b[A-Z]{2,}\b", name) and not any((it / name).exists() or any(it.glob(f"{name}.*")) for it in tops):
@@ -162,7 +151,6 @@ def main():
         quoted(cases, name, texts)
     for name in ("README.md", "docs/SCRIPT.md"):
         tried(cases, name)
-    counted(cases)
     return cases.end()
 
 
