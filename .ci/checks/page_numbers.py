@@ -6,7 +6,7 @@ Each such number in these pages is compared, and one of the pages says it. How m
 the gate. So README.md says 'More than N', and N is no more than the functions with a contract that the sources have: the gate
 proves each of them. A page says of a command how many minutes it takes, and what `.ci/gate.py` prints for it lies within. In a
 table of examples, a proof file has as many lines as the page says. docs/ARCHITECTURE.md names each crate, each one above those
-that it depends on.
+that it depends on. (A script named `numbers` would hide a module of Python.)
 """
 import pathlib
 import re
