@@ -4,7 +4,7 @@
 The pages are the documents at the top, those of docs/, and the one of the Python package. A link to another site isn't followed.
 An anchor is made from a heading by GitHub's rules. Marks of Markdown and all signs are dropped, except hyphens and underscores,
 and blanks become hyphens. The second heading of the same name ends in `-1`. The names of `<a id=..>` are anchors too. In a file
-that isn't a page an anchor is the number of a line, as `#L7`, and the file has that line. What is below out/ is built, so no page
+that isn't a page an anchor is `#L` and the number of a line, and the file has that line. What is below out/ is built, so no page
 may link to it. Every run also shows that dead files, anchors and lines are found.
 """
 import functools
@@ -28,9 +28,9 @@ ELSEWHERE = re.compile(r"[a-z][a-z0-9+.-]*:|//")
 TRIED = """# One `call`, twice
 ## Why?
 ## Why?
-[1](#one-call-twice), [2](#why), [3](#why-1), [4](#why-2), [5](gone.md), `[6](#gone)`, [7](README.md#gone), [8](Makefile#L1),
-[9](Makefile#L9999), [10](https://example.org/#gone)
-"""
+[1](#one-call-twice), [2](#why), [3](#why-1), [4](#why-2), [5](gone.md), `[6](#gone)`, [7](README.md#gone), [8](Makefile#L{}),
+[9](Makefile#L{}), [10](https://example.org/#gone)
+""".format(1, 9999)
 
 
 def anchor(heading):
