@@ -1,12 +1,12 @@
 #!/usr/bin/env python3
 """The documents are in plain English: short sentences, and no odd words.
 
-A sentence has at most 25 words, also in the `///` and `//!` lines of crates, and README.md has at most 120 lines. A paragraph, a
-list item, a heading and a cell of a table are read as sentences; blocks of code are left out. A piece of code within a line
-counts as one word. A sentence that is too long is shown with its number of words.
+A sentence has at most 25 words, also in the `///` and `//!` lines of crates. README.md has at most 80 lines, and all documents
+together have at most 2,000. A paragraph, a list item, a heading and a cell of a table are read as sentences; blocks of code
+are left out. A piece of code within a line counts as one word. A sentence that is too long is shown with its number of words.
 
 No document, no comment and no text within quotes of a source has a word of TICS: each such line is shown with the better word.
-The pages of WRITTEN are left out, since a tool makes them from the lines of the code.
+The page of WRITTEN is left out, since a tool makes it from the lines of the code.
 
 A sentence is loose where it begins with a word of POINTS after a sentence with two nouns: a reader may not see which one is meant.
 Most are clear all the same, so no single one fails. Their number has a limit, MOST_LOOSE, which may only fall: a list that fails
@@ -22,11 +22,11 @@ import tokenize
 sys.path.insert(0, str(pathlib.Path(__file__).resolve().parent.parent))
 from checking import ROOT, Cases
 
-MOST_WORDS, README_LINES = 25, 120
+MOST_WORDS, README_LINES, ALL_LINES = 25, 80, 2000
 # How many sentences of the documents may be loose.
-MOST_LOOSE = 84
-# The pages that `make docs` writes, whose sentences are those of the code.
-WRITTEN = {"API.md", "INNER.md"}
+MOST_LOOSE = 14
+# The page that `make docs` writes, whose sentences are those of the code.
+WRITTEN = {"API.md"}
 # What is searched for odd words besides the documents: their comments and their texts within quotes.
 SOURCES = ["Makefile", "crates/*/src/**/*.rt", "crates/*/specs/**/*.antt", "crates/*/proofs/**/*.antt", "tools/*.py", ".ci/**/*.py"]
 SOURCES += [".ci/c/*.[ch]", "include/*.h", "bench/*.[cr]*", "examples/**/*.[chpr]*", "include/*.hpp", "bindings/**/*.[hpr]*", "man/*", "web/*.*"]
@@ -171,8 +171,9 @@ def main(words):
     cases.count(f"doc lines of the crates: no sentence of more than {MOST_WORDS} words", not long, "\n".join(long))
     found = [line for it in documents for line in loose(it)]
     cases.count(f"the documents: {len(found)} loose sentences of at most {MOST_LOOSE}", len(found) <= MOST_LOOSE, "\n".join(found))
-    lines = len((ROOT / "README.md").read_text().splitlines())
-    cases.count(f"README.md: at most {README_LINES} lines", lines <= README_LINES, f"  {lines} lines")
+    lines = {it.name: len(it.read_text().splitlines()) for it in documents}
+    for label, found, most in (("README.md", lines["README.md"], README_LINES), ("the documents", sum(lines.values()), ALL_LINES)):
+        cases.count(f"{label}: at most {most} lines", found <= most, f"  {found} lines")
     return cases.end()
 
 
