@@ -34,8 +34,8 @@ CHECKS = ROOT / ".ci/checks"
 # These need the proofs of tests or a program that is only measured, or prove crates again with a change: they run in the gate
 # alone.
 GATE_ALONE = ("always_memory.py", "refused_growths.py", "instructions.py", "strides.py", "layers.py", "row_mover_privacy.py")
-# These time calls, so they come last, with nothing beside them.
-TIMED = ("bindings.py",)
+# These time calls or the page, so they come last, with nothing beside them.
+TIMED = ("bindings.py", "web.py")
 # The crates that `test` proves, with those below them: the programs and the library for C.
 PRODUCT = ("imgref_run", "imgref_frames", "imgref_c")
 # What each takes from nothing on four processors, in minutes.
