@@ -53,6 +53,8 @@ def least(program, text):
     """The least limit within which the program prints this text, in bytes."""
     with tempfile.TemporaryFile() as given:
         given.write(text)
+        if not prints(program, given, MOST):
+            sys.exit(f"{program} doesn't print {text[:20]!r}.. within {MOST} bytes")
         low, high = 0, MOST // PAGE
         while low + 1 < high:
             middle = (low + high) // 2

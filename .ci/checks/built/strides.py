@@ -16,6 +16,7 @@ import sys
 
 sys.path.insert(0, str(pathlib.Path(__file__).resolve().parents[2]))
 from checking import Cases, built
+from library import skipped
 
 # The side of the square for pixels of so many bytes, so that a row has less than 2048.
 SIDES = {1: 500, 2: 500, 3: 250, 4: 300, 8: 200, 16: 125}
@@ -51,7 +52,7 @@ def main():
     programs = built("bench_strides", ("",))
     cases.count("the build of bench_strides is there", programs, "crates/bench_strides/out lacks it, or it is older than its sources")
     if not shutil.which("valgrind"):
-        print("skipped: there is no valgrind", flush=True)
+        skipped("the misses of turns (valgrind)")
         return cases.end()
     with concurrent.futures.ThreadPoolExecutor(len(os.sched_getaffinity(0))) as pool:
         for program in programs:
