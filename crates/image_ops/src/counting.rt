@@ -77,8 +77,8 @@ fn count_in_row<T, F: Fn(&T) -> bool>(row: &[T], f: &F) -> usize
     }
 }
 
-/// The number of pixels of `shape` in `cells` for which `f` returns true. It is called row by row and
-/// from left to right. The cells fit (`Shape::fits`).
+/// The number of pixels of `shape` in `cells` for which `f` returns true. `f` is called row by row
+/// and from left to right. The cells must fit; `Shape::fits` tests it.
 pub fn count_pixels<T, F: Fn(&T) -> bool>(cells: &[T], shape: Shape, f: &F) -> usize
     requires fits { Fits (shaped cells.now shape) }
     requires callable { F.IsAlwaysCallable f.now }

@@ -16,10 +16,10 @@ use crate::windows::{exact_part, padded_part};
 use image_shape::{Shape, Window};
 use std::mem::{size_of, size_of_val};
 
-// How many bytes of an image are crossed at once: these are near anyway. The nearest cache has so
-// many at any stride.
+// How many bytes of an image are crossed at once where its rows don't clash: these are near anyway.
 const NEAR: usize = 524_288;
 
+// How many bytes are in the nearest cache at any stride.
 const NEAREST: usize = 28_672;
 
 // How many columns are crossed at a time, at most.
@@ -27,7 +27,7 @@ const STRIP: usize = 64;
 
 // How many columns are crossed at a time. Their pixels come from so many rows, a pixel of each at a
 // time. So the lines of these rows have to stay in the nearest cache until the pixels beside them are
-// taken. Little else is read meanwhile: so there are a third more rows than `rows_near` says.
+// taken. Little else is read meanwhile, so a strip has a third more rows than `rows_near` returns.
 fn strip_width<T>(cells: &[T], side: usize, stride: usize) -> usize
     ensures { 0 < result }
 {

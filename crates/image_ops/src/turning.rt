@@ -19,11 +19,12 @@ use image_rows::row;
 use image_shape::{Shape, Window};
 use std::mem::{size_of, size_of_val};
 
-// The most columns that are written at a time, and the fewest without a copy. A column of the target
-// has the cells of a row of the source, and a row of the target takes one cell from each of these
-// rows. So their cells are still in the nearest cache when the next row takes the cells beside them.
+// The most columns that are written at a time. A column of the target has the cells of a row of the
+// source, and a row of the target takes one cell from each of these rows. So their cells are still in
+// the nearest cache when the next row takes the cells beside them.
 const STRIP: usize = 256;
 
+// The fewest columns that are written at a time without a copy of the source's cells.
 const NARROW: usize = 48;
 
 // A source of so many bytes stays in the nearest cache, and needs no strips.
