@@ -4,7 +4,7 @@ use Rattle.std.specs.Option.{option_map, option_zip}
 use Rattle.image_model.specs.Layout.{Layout, Fits, SameOutside, pixel}
 use Rattle.image_model.specs.Grid.{grid, grid_of}
 use Rattle.image_model.specs.Tables.{table}
-use Rattle.image_model.specs.ByPlace.{mapped_places, zipped, HasPlaceAnswers, HasZipAnswers, IsMappedByPlace, IsZipped, from_places, IsFromPlaces}
+use Rattle.image_model.specs.ByPlace.{mapped_places, zipped, HasPlaceAnswers, HasZipAnswers, IsMappedByPlace, IsZipped, from_places, scaled, IsFromPlaces}
 use Rattle.image_model.proofs.Places.{outside_fits}
 use Rattle.image_model.proofs.Grids.{pixel_at, same_grids}
 use Rattle.image_model.proofs.Mapped.{has_pixel}
@@ -44,3 +44,9 @@ unfolding grid_of table from_places
 is_from_places answers new fits has f gives = same_grids new.width new.height (pixel new) _ (λ x y column line.
     let here = has_pixel new fits x y column line in
     here.1 ∙ ap Some (gives x y here.0 column line (has x y here.0 column line here.1)))
+
+-- ---- by a place of another size
+
+-- a number below one size is scaled to one below the other
+pub scaled_below : (k from to : ℕ) → k < to → 0 < from → scaled k from to < from
+scaled_below k from to below some = grind arith

@@ -28,3 +28,6 @@ pub mod Turns
 pub mod TurnExamples
 pub mod Boxes
 pub mod Folds
+pub mod Puts
+pub mod Connected
+pub mod Laws

@@ -1,5 +1,5 @@
 -- Loops that read places: what a pixel that was read says of the grid.
-use Rattle.std.proofs.Common.{◌≡◌, ◌≢◌, ℕ, ◌<◌, Some, None, sym, ◌∙◌, ⊎_elim}
+use Rattle.std.proofs.Common.{◌≡◌, ◌≢◌, ℕ, ◌<◌, Some, None, refl, sym, ◌∙◌, ⊎_elim}
 use Rattle.std.proofs.lemmas.Bool.{cond-false, cases_Bool}
 use Rattle.image_model.specs.Layout.{Layout, pixel}
 use Rattle.image_model.specs.Grid.{grid_of, is_place}
@@ -23,5 +23,14 @@ pixel_read l x y p column line there = pixel_at l x y column line ∙ there
 pub other_pixel : {T : Type 0} (l : Layout T) (x y : ℕ) (p value : T) → x < l.width → y < l.height → pixel l x y ≡ Some p → p ≢ value → (grid_of l).pixel x y ≢ Some value
 other_pixel l x y p value column line there other = λ e. let same = sym there ∙ sym (pixel_at l x y column line) ∙ e in other (cc same)
 
+-- the grid of a layout has its size
+pub grid_width : {T : Type 0} (l : Layout T) → (grid_of l).width ≡ l.width
+unfolding grid_of
+grid_width l = refl
+
+pub grid_height : {T : Type 0} (l : Layout T) → (grid_of l).height ≡ l.height
+unfolding grid_of
+grid_height l = refl
+
 -- these laws, for a caller's `using`
-pub ruleset reading = (cell_within, is_a_place, pixel_read, other_pixel)
+pub ruleset reading = (cell_within, is_a_place, pixel_at, pixel_read, other_pixel, grid_width, grid_height)

@@ -1,5 +1,5 @@
 -- Images whose pixels a closure makes from their places, or from the pixels of two images.
-use Rattle.std.specs.Prelude.{◌≡◌, ℕ, ◌<◌, Some}
+use Rattle.std.specs.Prelude.{◌≡◌, ℕ, ◌*◌, ◌/◌, ◌<◌, Some}
 use Rattle.std.specs.Option.{option_map, option_zip}
 use Rattle.image_model.specs.Layout.{Layout, pixel}
 use Rattle.image_model.specs.Grid.{Grid, grid, grid_of}
@@ -54,3 +54,9 @@ from_places width height f = table width height (λ x y. Some (f x y))
 -- for every function that gives the results for the places of a size, the grid shows it
 abbrev pub IsFromPlaces : {T : Type 0} → (ℕ → ℕ → T → Type 0) → ℕ → ℕ → Layout T → Type 0
 IsFromPlaces {T} answers width height new = (f : ℕ → ℕ → T) → ((x y : ℕ) (q : T) → x < width → y < height → answers x y q → q ≡ f x y) → grid_of new ≡ from_places width height f
+
+-- ---- by a place of another size
+
+-- the number that is as far in one size as k is in another one, rounded down
+abbrev pub scaled : ℕ → ℕ → ℕ → ℕ
+scaled k from to = k * from / to

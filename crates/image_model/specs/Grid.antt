@@ -1,5 +1,5 @@
 -- Grids: what an image shows at each place, with no cells, stride or padding.
-use Rattle.std.specs.Prelude.{◌≡◌, ℕ, ◌+◌, ◌-◌, Bool, ◌&&◌, nat_lt, nat_le, if◌then◌else◌, Option, Some, None, IsTrue, List, length, slice_get}
+use Rattle.std.specs.Prelude.{◌≡◌, ℕ, ◌+◌, ◌-◌, Bool, ◌&&◌, nat_lt, nat_le, if◌then◌else◌, Option, Some, None, IsTrue, List, length, slice_get, unwrap_or}
 use Rattle.image_model.specs.Layout.{Layout, pixel as pixel_of}
 
 -- a width, a height, and the content of each place: a pixel, or nothing outside the size
@@ -19,6 +19,10 @@ grid width height pixels = record { width = width; height = height; pixel = λ x
 -- the grid of a layout: each place has its pixel
 unfoldable pub grid_of : {T : Type 0} → Layout T → Grid T
 grid_of l = grid l.width l.height (pixel_of l)
+
+-- the pixel at column x of row y, or 0 where there is no such place
+abbrev pub shown : Grid ℕ → ℕ → ℕ → ℕ
+shown g x y = unwrap_or (g.pixel x y) 0
 
 -- the view through a window: each of its places has the pixel at the window's corner plus that place
 unfoldable pub view : {T : Type 0} → Grid T → ℕ → ℕ → ℕ → ℕ → Grid T

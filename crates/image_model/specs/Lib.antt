@@ -16,3 +16,4 @@ pub mod Turns
 pub mod Boxes
 pub mod Counts
 pub mod Folds
+pub mod Connected

@@ -1,6 +1,6 @@
 -- The words of contracts over images, for a caller to import from one place.
 pub use Rattle.image_model.specs.Layout.{Fits, SameOutside}
-pub use Rattle.image_model.specs.Grid.{grid_of, view, patch, uniform, one_row}
+pub use Rattle.image_model.specs.Grid.{grid_of, shown, view, patch, uniform, one_row}
 pub use Rattle.image_model.specs.Rows.{row, grid_pixels, grid_rows}
 pub use Rattle.image_model.specs.Windows.{window, window_view, IsInside}
 pub use Rattle.image_model.specs.Tiles.{tiles, are_inside}
@@ -8,10 +8,11 @@ pub use Rattle.image_model.specs.Mapped.{mapped}
 pub use Rattle.image_model.specs.Swaps.{rows_swapped}
 pub use Rattle.image_model.specs.Flips.{flipped, flipped_upto}
 pub use Rattle.image_model.specs.Tables.{table, table_upto, is_before}
-pub use Rattle.image_model.specs.ByPlace.{mapped_places, zipped, from_places}
+pub use Rattle.image_model.specs.ByPlace.{mapped_places, zipped, from_places, scaled}
 pub use Rattle.image_model.specs.Boxes.{IsNowhere, IsBoundingBox, sides, sides_upto}
 pub use Rattle.image_model.specs.Folds.{fold_upto}
-pub use Rattle.image_model.specs.Counts.{histogram_of, counted}
+pub use Rattle.image_model.specs.Counts.{histogram_of, counted, places_with}
+pub use Rattle.image_model.specs.Connected.{beside, IsConnected, AreFilled, AllFilled, Flooding}
 pub use Rattle.image_model.specs.Turns.{columns_swapped, mirrored, transposed, turned_right, turned_half, turned_left}
 pub use Rattle.image_ops.specs.Counting.{Decides, IsCount}
 pub use Rattle.image_ops.specs.Turned.{turned, turned_width, turned_height}

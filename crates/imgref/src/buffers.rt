@@ -29,7 +29,7 @@ impl<C: AsSlice> Img<C> {
         Img::from_parts(callback(buf), shape)
     }
 
-    /// The same as `map_buf`, with a callback that may fail. (The Rust crate has only `map_buf`.)
+    /// The same as `map_buf`, with a callback that may fail. (The original crate has only `map_buf`.)
     ///
     /// # Requires
     ///

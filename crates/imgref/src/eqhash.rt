@@ -38,7 +38,8 @@ where
 
     ghost laws = { equal_per C.cells C.Item.laws };
 
-    /// Whether both are one picture: as the clause `places` says it, without a row or a list.
+    /// Whether the images have the same size and equal pixels at each place. An image that doesn't
+    /// fit equals only one of its size that doesn't fit either.
     fn eq(&self, other: &Self) -> bool
         ensures value { result ≡ equal_by C.cells C.Item.eq self.now other.now }
         ensures places { IsTrue result

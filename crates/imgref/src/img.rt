@@ -59,7 +59,7 @@ impl<Container> Img<Container> {
     /// # Requires
     ///
     /// The stride is at least 1 and at least the width, and width and height are at most
-    /// `u32::MAX`: compare the numbers. (The Rust crate panics otherwise.)
+    /// `u32::MAX`: compare the numbers. (The original crate panics otherwise.)
     pub fn new_stride(buf: Container, width: usize, height: usize, stride: usize) -> Self
         requires stride_positive { 1 ≤ stride }
         requires holds_width { width ≤ stride }
@@ -97,7 +97,7 @@ impl<Container> Img<Container> {
     }
 
     /// The image of these cells in this shape. There is no condition: where there are too few
-    /// cells, `is_valid` is false. (The Rust crate has no such call.)
+    /// cells, `is_valid` is false. (The original crate has no such call.)
     pub fn from_parts(buf: Container, shape: Shape) -> Self
         ensures buf { buf_of result ≡ buf }
         ensures shape { shape_of result ≡ shape }
@@ -182,8 +182,8 @@ impl<Container> Img<Container> {
     }
 
     /// Whether the window of `width` by `height` pixels with its corner at column `left` of row
-    /// `top` is inside the image. Empty windows at the right and the lower edge are. (The Rust
-    /// crate's calls test it themselves, and panic.)
+    /// `top` is inside the image. A window with no pixel may begin at the right or the lower edge.
+    /// (The original crate's calls test it themselves, and panic.)
     pub fn has_window(&self, left: usize, top: usize, width: usize, height: usize) -> bool
         ensures { IsTrue result
             ↔ IsInside (width_of self.now) (height_of self.now) (window left top width height) }
@@ -196,8 +196,8 @@ impl<Container> Img<Container> {
 impl<Container: AsSlice> Img<Container> {
     ghost use Rattle.imgref.specs.Image.{layout_by};
 
-    /// Whether the image fits: its cells reach its last pixel, or it has no pixel at all. (The Rust
-    /// crate's calls test it themselves, and panic.)
+    /// Whether the image fits: its cells reach its last pixel, or it has no pixel at all. (The
+    /// original crate's calls test it themselves, and panic.)
     pub fn is_valid(&self) -> bool
         ensures { IsTrue result ↔ Fits (layout_by Container.cells self.now) }
     {

@@ -68,7 +68,7 @@ where
 }
 
 impl<C: AsMutSlice> Img<C> {
-    /// Every pixel becomes `value`; the padding stays. (The Rust crate has no such call.)
+    /// Every pixel becomes `value`; the padding stays. (The original crate has no such call.)
     ///
     /// # Requires
     ///
@@ -156,7 +156,7 @@ impl<C: AsMutSlice> Img<C> {
 
     /// The cursor of `pixels_mut`, with the clause of the final cells: those that the cursor and
     /// its items left. A caller that is proved by hand cites this clause, together with `hands_on`
-    /// of the cursor's `next` and `leaves_as` of its drop. (The Rust crate has no such call.)
+    /// of the cursor's `next` and `leaves_as` of its drop. (The original crate has no such call.)
     ///
     /// # Requires
     ///

@@ -1,7 +1,7 @@
 //! Pixels by their places. Calls read the pixel at a place, or write one value at a place, in a row
 //! or in a window. One makes a mosaic of a window.
 
-ghost use Rattle.std.specs.Prelude.{◌≡◌, ◌<◌};
+ghost use Rattle.std.specs.Prelude.{◌≡◌, ◌<◌, IsSome};
 ghost use Rattle.image_model.specs.Layout.{Fits, SameOutside};
 ghost use Rattle.image_model.specs.Grid.{grid_of, patch, uniform};
 ghost use Rattle.image_model.specs.Windows.{IsInside, window, window_view};
@@ -25,7 +25,8 @@ impl<C: AsSlice> Img<C> {
     where
         C::Item: Copy,
         requires fits { Fits (layout_by C.cells self.now) }
-        ensures { result ≡ (grid_by C.cells self.now).pixel x y }
+        ensures pixel { result ≡ (grid_by C.cells self.now).pixel x y }
+        ensures inside { x < width_of self.now → y < height_of self.now → IsSome result }
     {
         if x < self.width() && y < self.height() {
             Some(self[(x, y)])

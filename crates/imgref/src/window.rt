@@ -67,7 +67,7 @@ fn end_of(stretch: Stretch) -> usize
 impl<'s, T> Img<&'s mut [T]> {
     /// The image that a stretch of these cells makes in this shape. Once the borrow ends, the cells
     /// are as they were, except that the stretch is as the image left it. The image need not fit.
-    /// (The Rust crate has no such call.)
+    /// (The original crate has no such call.)
     ///
     /// # Requires
     ///
@@ -260,9 +260,9 @@ impl<C: AsMutSlice> Img<C> {
     /// The cells and the shape of the window that `window_mut` returns; `from_parts` makes the
     /// window from them.
     ///
-    /// This is for a caller that is itself proved and specifies what its writes leave: all others
-    /// use `window_mut`. Pass the cells to a function that makes the image from them. A generated
-    /// proof follows that borrow, and not the one of a returned image.
+    /// Use it where a proof has to know what is written through the window; otherwise use
+    /// `window_mut`. Pass the cells to a function that makes the image from them: a generated proof
+    /// follows the borrow of cells, and not the one of a returned image.
     ///
     /// # Requires
     ///

@@ -6,7 +6,7 @@ ghost use Rattle.imgref.specs.Words.{Fits, SameOutside, patch, uniform, width_of
 use imgref::ImgVec;
 
 /// Puts a pixel and fills the row below it. The result is the pixel as it was put.
-#[tactic(auto, using(image_model::proofs::Patches::at_places))]
+#[tactic(auto, using(image_model::proofs::Laws::reads))]
 pub fn put_above_fill(image: &mut ImgVec<u8>, x: usize, y: usize, value: u8) -> Option<u8>
     requires fits { Fits (vec_layout image.old) }
     requires column { x < width_of image.old }

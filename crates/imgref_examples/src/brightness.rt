@@ -16,7 +16,7 @@ pub fn brighten(image: &mut ImgVec<u8>, by: u8)
 }
 
 /// The same, place by place: every pixel is brighter, and the padding stays.
-#[tactic(auto, using(image_model::proofs::Sweeps::map_sweeps))]
+#[tactic(auto, using(image_model::proofs::Laws::loops))]
 pub fn brighten_places(image: &mut ImgVec<u8>, by: u8)
     requires { Fits (vec_layout image.old) }
     ensures grid { vec_grid image.new ≡ brightened by (vec_grid image.old) }
@@ -53,7 +53,7 @@ fn brighten_line(image: &mut ImgVec<u8>, y: usize, by: u8)
 }
 
 /// The same, row by row: every pixel is brighter, and the padding stays.
-#[tactic(auto, using(image_model::proofs::MappedRows::mapped_rows))]
+#[tactic(auto, using(image_model::proofs::Laws::loops))]
 pub fn brighten_rows(image: &mut ImgVec<u8>, by: u8)
     requires fits { Fits (vec_layout image.old) }
     ensures grid { vec_grid image.new ≡ brightened by (vec_grid image.old) }

@@ -56,7 +56,7 @@ pub fn stripes(image: &mut ImgVec<u8>)
 }
 
 /// The result is the pixel that was put, and nothing else has changed.
-#[tactic(auto, using(image_model::proofs::Patches::patches))]
+#[tactic(auto, using(image_model::proofs::Laws::writes))]
 pub fn put_then_get(image: &mut ImgVec<u8>, x: usize, y: usize, value: u8) -> Option<u8>
     requires fits { Fits (vec_layout image.old) }
     requires column { x < width_of image.old }

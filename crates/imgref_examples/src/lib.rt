@@ -1,6 +1,6 @@
 //! Frames of video: code as a user of `imgref` writes it, with contracts by the grid. Sums,
-//! brightness, crops, blurs, rectangles, luma planes, and drawings by places. docs/CALLERS.md
-//! explains them.
+//! brightness, crops, blurs, rectangles, luma planes, scaled images, sprites with masks, flood fills,
+//! and drawings by places. docs/CALLERS.md explains them.
 //!
 //! Other callers show what a contract says to another crate. They write through nested windows, and
 //! copy and move windows. They fill rows by number, or through an iterator that ends early. They
@@ -19,9 +19,14 @@ mod crop;
 mod drawing;
 #[cfg(test)]
 mod figures;
+#[cfg(test)]
+mod fills;
+mod floods;
 mod halves;
 mod lent_turns;
+mod literals;
 mod luma;
+mod masks;
 mod nested;
 #[cfg(test)]
 mod outcomes;
@@ -30,6 +35,7 @@ mod pixels;
 mod points;
 mod rect;
 mod rows;
+mod scaling;
 mod scenes;
 mod sums;
 #[cfg(test)]
@@ -53,15 +59,19 @@ pub use conditions::{
 pub use counts::{count_above, histogram};
 pub use crop::{crop_copy, crop_packed};
 pub use drawing::{dot, put_then_get, stripes, three_by_index, three_places};
+pub use floods::flood_fill;
 pub use halves::halve;
 pub use lent_turns::{turn_into_window, turn_lent};
+pub use literals::half_ramp;
 pub use luma::{FrameError, luma_plane};
+pub use masks::blend_masked;
 pub use nested::greatest_in;
 pub use paste::{paste_at, paste_sprite};
 pub use pixels::{invert_lent, invert_owner, write_first};
 pub use points::{invert, threshold};
 pub use rect::draw_rect;
 pub use rows::{fill_last_row, fill_row_at};
+pub use scaling::resize_nearest;
 pub use scenes::{blend, exchange_and_mirror, fill_disc, ramp, turn_right};
 pub use sums::{checksum, checksum_by_rows, exact_checksum, greatest, window_sum};
 pub use tiles::{darken_lent_tiles, darken_tiles};

@@ -7,7 +7,7 @@ ghost use Rattle.imgref_examples.specs.Signed.{start, skipped};
 use imgref::{ImgRef, ImgVec};
 
 /// Writes a sprite at a place of the image; its part past the right and the lower edge is cut.
-#[tactic(auto, using(image_model::proofs::Patches::patches))]
+#[tactic(auto, using(image_model::proofs::Laws::writes))]
 pub fn paste_sprite(image: &mut ImgVec<u8>, sprite: ImgRef<'_, u8>, x: usize, y: usize)
     requires fits { Fits (vec_layout image.old) }
     requires sprite_fits { Fits (ref_layout sprite) }
@@ -35,7 +35,7 @@ fn split(at: i32) -> (usize, usize)
 }
 
 /// The same, at a position that may be to the left of the image or above it.
-#[tactic(auto, using(image_model::proofs::Patches::patches))]
+#[tactic(auto, using(image_model::proofs::Laws::writes))]
 pub fn paste_at(image: &mut ImgVec<u8>, sprite: ImgRef<'_, u8>, x: i32, y: i32)
     requires fits { Fits (vec_layout image.old) }
     requires sprite_fits { Fits (ref_layout sprite) }

@@ -37,7 +37,7 @@ fn invert_line(image: &mut ImgVec<u8>, y: usize)
 }
 
 /// Every pixel `p` becomes `255 - p`, row by row; the padding stays.
-#[tactic(auto, using(image_model::proofs::MappedRows::mapped_rows))]
+#[tactic(auto, using(image_model::proofs::Laws::loops))]
 pub fn invert_owner(image: &mut ImgVec<u8>)
     requires fits { Fits (vec_layout image.old) }
     ensures grid { vec_grid image.new ≡ mapped (λ p. 255 - p) (vec_grid image.old) }
@@ -49,7 +49,7 @@ pub fn invert_owner(image: &mut ImgVec<u8>)
 }
 
 /// The same for a borrowed image, place by place.
-#[tactic(auto, using(image_model::proofs::Sweeps::map_sweeps))]
+#[tactic(auto, using(image_model::proofs::Laws::loops))]
 pub fn invert_lent(image: &mut ImgRefMut<'_, u8>)
     requires fits { Fits (mut_layout image.old) }
     ensures grid { mut_grid image.new ≡ mapped (λ p. 255 - p) (mut_grid image.old) }

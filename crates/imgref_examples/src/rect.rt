@@ -6,7 +6,7 @@ ghost use Rattle.imgref.specs.Words.{Fits, SameOutside, patch, uniform, vec_grid
 use imgref::ImgVec;
 
 /// Writes `value` at each place of the rectangle that is in the image.
-#[tactic(auto, using(image_model::proofs::Patches::patches))]
+#[tactic(auto, using(image_model::proofs::Laws::writes))]
 pub fn draw_rect(image: &mut ImgVec<u8>, x: usize, y: usize, width: usize, height: usize, value: u8)
     requires { Fits (vec_layout image.old) }
     ensures grid { vec_grid image.new

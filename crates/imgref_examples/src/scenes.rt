@@ -8,7 +8,7 @@ use imgref::{ImgRef, ImgVec, Turn};
 use std::alloc::{AllocError, Global};
 
 // `alpha` parts of 255 of `q`, and the rest of `p`.
-fn mix(alpha: u8, p: u8, q: u8) -> u8
+pub(crate) fn mix(alpha: u8, p: u8, q: u8) -> u8
     ensures { result ≡ mix_of alpha p q }
 {
     let sum = u32::from(q) * u32::from(alpha) + u32::from(p) * u32::from(255 - alpha);

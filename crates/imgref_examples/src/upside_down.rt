@@ -6,7 +6,7 @@ ghost use Rattle.imgref.specs.Words.{Fits, SameOutside, flipped, vec_grid, vec_l
 use imgref::ImgVec;
 
 /// The first row becomes the last one, and so on.
-#[tactic(auto, using(image_model::proofs::Flips::flips))]
+#[tactic(auto, using(image_model::proofs::Laws::loops))]
 pub fn flip(image: &mut ImgVec<u8>)
     requires fits { Fits (vec_layout image.old) }
     ensures grid { vec_grid image.new ≡ flipped (vec_grid image.old) }
