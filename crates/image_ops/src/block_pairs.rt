@@ -64,13 +64,7 @@ fn write_across<T: Copy>(
     ensures outside { SameOutside (shaped cells.old shape) (shaped cells.new shape) }
 {
     let (part, inner) = exact_part(cells.len(), shape, window);
-    quarter_rows(
-        &mut cells[part],
-        inner,
-        block,
-        block_shape,
-        Quarter::Across,
-    );
+    quarter_rows(&mut cells[part], inner, block, block_shape, Quarter::Across);
 }
 
 // The pixels of the window change places with those across the diagonal. Both are copied before one

@@ -28,7 +28,7 @@ const STRIP: usize = 64;
 
 // How many columns are crossed at a time. Their pixels come from so many rows, a pixel of each at a
 // time. So the lines of these rows have to stay in the nearest cache until the pixels beside them are
-// taken. Little else is read meanwhile, so a strip has a third more rows than `rows_near` returns.
+// taken.
 fn strip_width<T>(cells: &[T], side: usize, stride: usize) -> usize
     ensures { 0 < result }
 {
@@ -43,7 +43,7 @@ fn strip_width<T>(cells: &[T], side: usize, stride: usize) -> usize
     if near == STRIP && bytes <= NEAR {
         return side.max(1);
     }
-    STRIP.min(near.saturating_add(near / 3))
+    near
 }
 
 // The block becomes the 16 by 16 pixels from column `left` of row `top` on, transposed.
@@ -151,14 +151,14 @@ fn block_count<T>(cells: &[T], side: usize) -> usize
     }
 }
 
-// From how many columns on blocks or strips may pay. A smaller square is near, and has no block that
-// pays.
+// From how many columns on blocks or strips may pay. A smaller square has no block that pays, and few
+// rows that clash.
 fn least_side<T>(cells: &[T]) -> usize
-    ensures { result ≤ 128 }
+    ensures { result ≤ 64 }
 {
     match cells.first() {
-        Some(cell) => 16 * size_of_val(cell).min(8),
-        None => 128,
+        Some(cell) => 16 * size_of_val(cell).min(4),
+        None => 64,
     }
 }
 
