@@ -22,6 +22,8 @@ pub mod CellByCell
 pub mod Touching
 pub mod Shuffles
 pub mod QuarterBlocks
+pub mod PlacesCrossed
 pub mod SquareBlocks
+pub mod BlockPairs
 pub mod BlockSpreading
 pub mod CountedUpto

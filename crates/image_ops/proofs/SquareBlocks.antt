@@ -11,51 +11,12 @@ use Rattle.image_model.proofs.Places.{outside_trans}
 use Rattle.image_shape.specs.Shape.{shaped, shaped_grid}
 use Rattle.image_shape.specs.declared.shape.Shape.{Shape}
 use Rattle.image_ops.specs.Blocks.{read_over, is_across, crossed_at, corner_crossed, is_in_strip, strip_crossed}
+use Rattle.image_ops.proofs.PlacesCrossed.{PlacesCrossed, crossed_pixel, both_false, no_place_crossed, same_places, blocks_crossed}
 use Rattle.image_ops.proofs.Diagonals.{strip_cases, strip_true, strip_past, strip_before}
-
--- ---- two blocks that change places
 
 -- rows that are read in their order
 pub read_plain : {T : Type 0} (w h : ℕ) (f : ℕ → ℕ → Option T) → read_over false (grid w h f) ≡ grid w h f
 read_plain w h f = same_grids w h _ f (λ x y column line. at_place w h f x y column line)
-
-module _ {T : Type 0} (w h : ℕ) (f : ℕ → ℕ → Option T) (left top : ℕ) where
-  abbrev g : Grid T
-  g = grid w h f
-
-  abbrev first : ℕ → ℕ → Option T
-  first x y = if covers top left 16 16 x y then g.pixel y x else g.pixel x y
-
-  -- a place of a block has the pixel across the diagonal
-  in_transposed : (a b x y : ℕ) → covers a b 16 16 x y ≡ true → g.pixel y x ≡ (transposed (view g b a 16 16)).pixel (x - a) (y - b)
-  unfolding transposed view
-  in_transposed a b x y hit =
-      let c = (covers_decides a b 16 16 x y).0 hit in
-      let same_x : a + (x - a) ≡ x = omega (arith, c.0) in
-      let same_y : b + (y - b) ≡ y = omega (arith, c.1) in
-      let in_x : x - a < 16 = omega (arith, c.0, c.2) in
-      let in_y : y - b < 16 = omega (arith, c.1, c.3) in
-      (λ i. g.pixel (sym same_y i) (sym same_x i))
-      ∙ sym (at_place 16 16 (λ m n. g.pixel (b + m) (a + n)) (y - b) (x - a) in_y in_x)
-      ∙ sym (at_place 16 16 (λ u v. (view g b a 16 16).pixel v u) (x - a) (y - b) in_x in_y)
-
-  first_patch : grid w h first ≡ patch g top left (transposed (view g left top 16 16))
-  unfolding transposed view
-  first_patch =
-      is_patch g top left (transposed (view g left top 16 16)) first
-      (λ x y column line hit. cond-true (covers top left 16 16 x y) _ _ hit ∙ in_transposed top left x y hit)
-      (λ x y column line miss. cond-false (covers top left 16 16 x y) _ _ miss)
-
-  second_patch : crossed_at left top g ≡ patch (grid w h first) left top (transposed (view g top left 16 16))
-  unfolding transposed view
-  second_patch =
-      is_patch (grid w h first) left top (transposed (view g top left 16 16)) (λ x y. if is_across left top x y then g.pixel y x else g.pixel x y)
-      (λ x y column line hit. ap (λ b. if b || covers top left 16 16 x y then g.pixel y x else g.pixel x y) hit ∙ in_transposed left top x y hit)
-      (λ x y column line miss. ap (λ b. if b || covers top left 16 16 x y then g.pixel y x else g.pixel x y) miss ∙ sym (at_place w h first x y column line))
-
-  -- both are read, transposed, before one is written
-  pub both_crossed : patch (patch g top left (transposed (view g left top 16 16))) left top (transposed (view g top left 16 16)) ≡ crossed_at left top g
-  both_crossed = ap (λ p. patch p left top (transposed (view g top left 16 16))) (sym first_patch) ∙ sym second_patch
 
 -- ---- pairs of blocks one after the other
 
@@ -67,15 +28,9 @@ is_done from upto x y a b = nat_lt a from || (nat_lt a upto && is_before x y a b
 abbrev pub block_done : ℕ → ℕ → ℕ → ℕ → ℕ → ℕ → Bool
 block_done from upto x y u v = is_done from upto x y (max (u / 16) (v / 16)) (min (u / 16) (v / 16))
 
--- the pixel at a place, or across the diagonal
-abbrev pub crossed_pixel : {T : Type 0} → Bool → Grid T → ℕ → ℕ → Option T
-crossed_pixel true g u v = g.pixel v u
-crossed_pixel false g u v = g.pixel u v
-
 -- these pairs of blocks have changed places, and the padding stays
-pub record BlocksCrossed {T : Type 0} (from upto x y : ℕ) (old new : List T) (s : Shape) : Type 0 where
-  pub outside : SameOutside (shaped old s) (shaped new s)
-  pub each : (u v : ℕ) → u < s.width → v < s.height → (shaped_grid new s).pixel u v ≡ crossed_pixel (block_done from upto x y u v) (shaped_grid old s) u v
+abbrev pub BlocksCrossed : {T : Type 0} → ℕ → ℕ → ℕ → ℕ → List T → List T → Shape → Type 0
+BlocksCrossed from upto x y old new s = PlacesCrossed (block_done from upto x y) old new s
 
 -- the other points of the loops, for a column that is not before the row
 at_row_start : (from upto y a b : ℕ) → b ≤ a → is_done from upto 0 y a b ≡ is_done from upto (max from y) y a b
@@ -122,7 +77,7 @@ block_upto : (x u : ℕ) → u / 16 ≡ x → u < 16 * x + 16
 block_upto x u same = omega (arith, same)
 
 -- a place is in the block or across from it where their pair is this one
-pair_of : (x y u v : ℕ) → y ≤ x → is_across (16 * x) (16 * y) u v ≡ true → (max (u / 16) (v / 16) ≡ x) × (min (u / 16) (v / 16) ≡ y)
+pair_of : (x y u v : ℕ) → y ≤ x → is_across (16 * x) (16 * y) 16 16 u v ≡ true → (max (u / 16) (v / 16) ≡ x) × (min (u / 16) (v / 16) ≡ y)
 pair_of x y u v below hit =
     elim (cases_Bool (covers (16 * x) (16 * y) 16 16 u v)) [
       | inl upper ↦
@@ -137,14 +92,10 @@ pair_of x y u v below hit =
           (omega (arith, in_u, in_v, below), omega (arith, in_u, in_v, below))
     ]
 
-both_false : (a b : Bool) → a || b ≡ false → (a ≡ false) × (b ≡ false)
-both_false true b e = absurd (true≢false e)
-both_false false b e = (refl, e)
-
 block_covers : (x y u v : ℕ) → u / 16 ≡ x → v / 16 ≡ y → covers (16 * x) (16 * y) 16 16 u v ≡ true
 block_covers x y u v column line = (covers_decides (16 * x) (16 * y) 16 16 u v).1 (block_from x u column, block_from y v line, block_upto x u column, block_upto y v line)
 
-not_pair : (x y u v : ℕ) → is_across (16 * x) (16 * y) u v ≡ false → (max (u / 16) (v / 16) ≡ x) × (min (u / 16) (v / 16) ≡ y) → ⊥
+not_pair : (x y u v : ℕ) → is_across (16 * x) (16 * y) 16 16 u v ≡ false → (max (u / 16) (v / 16) ≡ x) × (min (u / 16) (v / 16) ≡ y) → ⊥
 not_pair x y u v miss same =
     let none = both_false (covers (16 * x) (16 * y) 16 16 u v) (covers (16 * y) (16 * x) 16 16 u v) miss in
     elim (cases_lt (u / 16) (v / 16)) [
@@ -155,20 +106,14 @@ not_pair x y u v miss same =
 module _ {T : Type 0} (s : Shape) where
   -- no pair yet
   pub none_crossed : (cells : List T) → BlocksCrossed 0 0 0 0 cells cells s
-  none_crossed cells = record {
-    outside = record { width_stays = refl; height_stays = refl; stride_stays = refl; length_stays = refl; padding_stays = λ k padding. refl };
-    each = λ u v column line. ap (λ b. crossed_pixel b (shaped_grid cells s) u v) (sym (none_done (max (u / 16) (v / 16)) (min (u / 16) (v / 16))));
-  }
+  none_crossed cells = no_place_crossed s (block_done 0 0 0 0) (λ u v. none_done (max (u / 16) (v / 16)) (min (u / 16) (v / 16))) cells
 
   module _ (old now : List T) (from upto x y : ℕ) (so : BlocksCrossed from upto x y old now s) where
     -- the same pairs, said by another point of the loops
     same_pairs : (j k m n : ℕ) → ((a b : ℕ) → b ≤ a → is_done from upto x y a b ≡ is_done j k m n a b) → BlocksCrossed j k m n old now s
-    same_pairs j k m n alike = record {
-      outside = so.outside;
-      each = λ u v column line.
-          so.each u v column line
-          ∙ ap (λ b. crossed_pixel b (shaped_grid old s) u v) (alike (max (u / 16) (v / 16)) (min (u / 16) (v / 16)) (min_max (u / 16) (v / 16)));
-    }
+    same_pairs j k m n alike =
+        same_places s (block_done from upto x y) old now so (block_done j k m n)
+        (λ u v column line. alike (max (u / 16) (v / 16)) (min (u / 16) (v / 16)) (min_max (u / 16) (v / 16)))
 
     -- a strip of blocks begins after those before it
     pub strip_begins : (right : ℕ) → from ≡ upto → x ≡ 0 → y ≡ 0 → BlocksCrossed from right 0 0 old now s
@@ -187,40 +132,16 @@ module _ {T : Type 0} (s : Shape) where
     strip_done high later = same_pairs upto upto 0 0 (λ a b below. at_strip_end from upto x y a b below high later)
 
     -- one pair more
-    module _ (square : s.width ≡ s.height) (right : y ≤ x) (after : from ≤ x) (here : x < upto) (new : List T) (shown : shaped_grid new s ≡ crossed_at (16 * x) (16 * y) (shaped_grid now s)) (stays : SameOutside (shaped now s) (shaped new s)) where
-      shown_at : (u v : ℕ) → u < s.width → v < s.height → (shaped_grid new s).pixel u v ≡ (if is_across (16 * x) (16 * y) u v then (shaped_grid now s).pixel v u else (shaped_grid now s).pixel u v)
-      unfolding grid_of
-      shown_at u v column line =
-          ap (λ g. g.pixel u v) shown
-          ∙ at_place s.width s.height (λ m n. if is_across (16 * x) (16 * y) m n then (shaped_grid now s).pixel n m else (shaped_grid now s).pixel m n) u v column line
-
+    module _ (square : s.width ≡ s.height) (right : y ≤ x) (after : from ≤ x) (here : x < upto) (new : List T) (shown : shaped_grid new s ≡ crossed_at (16 * x) (16 * y) 16 16 (shaped_grid now s)) (stays : SameOutside (shaped now s) (shaped new s)) where
       same_done : (u v : ℕ) → block_done from upto x y u v ≡ block_done from upto x y v u
       same_done u v = (λ i. is_done from upto x y (max_comm (u / 16) (v / 16) i) (min_comm (u / 16) (v / 16) i))
 
-      crossed_more : (u v : ℕ) → u < s.width → v < s.height → (shaped_grid new s).pixel u v ≡ crossed_pixel (block_done from upto (x + 1) y u v) (shaped_grid old s) u v
-      crossed_more u v column line =
-          elim (cases_Bool (is_across (16 * x) (16 * y) u v)) [
-            | inl hit ↦
-                let pair = pair_of x y u v right hit in
-                let was : block_done from upto x y v u ≡ false = sym (same_done u v) ∙ (λ i. is_done from upto x y (pair.0 i) (pair.1 i)) ∙ this_before from upto x y after in
-                let is : block_done from upto (x + 1) y u v ≡ true = (λ i. is_done from upto (x + 1) y (pair.0 i) (pair.1 i)) ∙ this_after from upto x y here in
-                shown_at u v column line
-                ∙ cond-true (is_across (16 * x) (16 * y) u v) _ _ hit
-                ∙ so.each v u (omega (arith, line, square)) (omega (arith, column, square))
-                ∙ ap (λ b. crossed_pixel b (shaped_grid old s) v u) was
-                ∙ ap (λ b. crossed_pixel b (shaped_grid old s) u v) (sym is)
-            | inr miss ↦
-                shown_at u v column line
-                ∙ cond-false (is_across (16 * x) (16 * y) u v) _ _ miss
-                ∙ so.each u v column line
-                ∙ ap (λ b. crossed_pixel b (shaped_grid old s) u v) (other_same from upto x y (max (u / 16) (v / 16)) (min (u / 16) (v / 16)) (not_pair x y u v miss))
-          ]
-
       pub one_pair_more : BlocksCrossed from upto (x + 1) y old new s
-      one_pair_more = record {
-        outside = outside_trans (shaped old s) (shaped now s) (shaped new s) so.outside stays;
-        each = crossed_more;
-      }
+      one_pair_more =
+          blocks_crossed s (block_done from upto x y) old now so (block_done from upto (x + 1) y) square (16 * x) (16 * y) 16 16 new shown stays
+          (λ u v hit. let pair = pair_of x y u v right hit in sym (same_done u v) ∙ (λ i. is_done from upto x y (pair.0 i) (pair.1 i)) ∙ this_before from upto x y after)
+          (λ u v hit. let pair = pair_of x y u v right hit in (λ i. is_done from upto (x + 1) y (pair.0 i) (pair.1 i)) ∙ this_after from upto x y here)
+          (λ u v miss. other_same from upto x y (max (u / 16) (v / 16)) (min (u / 16) (v / 16)) (not_pair x y u v miss))
 
 -- ---- all pairs of blocks
 

@@ -19,13 +19,13 @@ line_read false height y = y
 abbrev pub read_over : {T : Type 0} → Bool → Grid T → Grid T
 read_over back g = grid g.width g.height (λ x y. g.pixel x (line_read back g.height y))
 
--- whether a place is in the block of 16 by 16 places at a corner, or in the one across the diagonal
-abbrev pub is_across : ℕ → ℕ → ℕ → ℕ → Bool
-is_across left top x y = covers left top 16 16 x y || covers top left 16 16 x y
+-- whether a place is in the block of this size at a corner, or in the one across the diagonal
+abbrev pub is_across : ℕ → ℕ → ℕ → ℕ → ℕ → ℕ → Bool
+is_across left top width height x y = covers left top width height x y || covers top left height width x y
 
 -- the places of both blocks have changed places with those across the diagonal
-abbrev pub crossed_at : {T : Type 0} → ℕ → ℕ → Grid T → Grid T
-crossed_at left top g = grid g.width g.height (λ x y. if is_across left top x y then g.pixel y x else g.pixel x y)
+abbrev pub crossed_at : {T : Type 0} → ℕ → ℕ → ℕ → ℕ → Grid T → Grid T
+crossed_at left top width height g = grid g.width g.height (λ x y. if is_across left top width height x y then g.pixel y x else g.pixel x y)
 
 -- so have the places of the first so many columns and rows
 abbrev pub corner_crossed : {T : Type 0} → ℕ → Grid T → Grid T

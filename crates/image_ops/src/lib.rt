@@ -7,6 +7,7 @@
 #![tactic(auto)]
 
 mod bands;
+mod block_pairs;
 mod blocks;
 mod clones;
 mod copy;

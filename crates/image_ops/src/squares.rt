@@ -8,6 +8,7 @@ ghost use Rattle.image_shape.specs.Shape.{shape_width, shape_height, shape_strid
 ghost use Rattle.image_ops.specs.Blocks.{crossed_at, corner_crossed, strip_crossed};
 ghost use Rattle.image_ops.specs.Turned.{turned, turned_width};
 
+use crate::block_pairs::cross_pairs;
 use crate::blocks::{block_shape, read_rows, transpose_block};
 use crate::flipping::{flip_columns, flip_rows, swap_cells};
 use crate::near::rows_near;
@@ -27,7 +28,7 @@ const STRIP: usize = 64;
 
 // How many columns are crossed at a time. Their pixels come from so many rows, a pixel of each at a
 // time. So the lines of these rows have to stay in the nearest cache until the pixels beside them are
-// taken. Little else is read meanwhile, so a strip has a third more rows than `rows_near` returns.
+// taken.
 fn strip_width<T>(cells: &[T], side: usize, stride: usize) -> usize
     ensures { 0 < result }
 {
@@ -42,7 +43,7 @@ fn strip_width<T>(cells: &[T], side: usize, stride: usize) -> usize
     if near == STRIP && bytes <= NEAR {
         return side.max(1);
     }
-    STRIP.min(near.saturating_add(near / 3))
+    near
 }
 
 // The block becomes the 16 by 16 pixels from column `left` of row `top` on, transposed.
@@ -104,7 +105,7 @@ fn cross_at<T: Copy>(cells: &mut [T], shape: Shape, left: usize, top: usize)
     requires square { shape_width shape ≡ shape_height shape }
     requires column { left + 16 ≤ shape_width shape }
     requires line { top + 16 ≤ shape_width shape }
-    ensures grid { shaped_grid cells.new shape ≡ crossed_at left top (shaped_grid cells.old shape) }
+    ensures grid { shaped_grid cells.new shape ≡ crossed_at left top 16 16 (shaped_grid cells.old shape) }
     ensures outside { SameOutside (shaped cells.old shape) (shaped cells.new shape) }
 {
     let square = block_shape();
@@ -150,14 +151,14 @@ fn block_count<T>(cells: &[T], side: usize) -> usize
     }
 }
 
-// From how many columns on blocks or strips may pay. A smaller square is near, and has no block that
-// pays.
+// From how many columns on blocks or strips may pay. A smaller square has no block that pays, and few
+// rows that clash.
 fn least_side<T>(cells: &[T]) -> usize
-    ensures { result ≤ 128 }
+    ensures { result ≤ 64 }
 {
     match cells.first() {
-        Some(cell) => 16 * size_of_val(cell).min(8),
-        None => 128,
+        Some(cell) => 16 * size_of_val(cell).min(4),
+        None => 64,
     }
 }
 
@@ -180,8 +181,29 @@ fn cross_strip<T: Copy>(cells: &mut [T], shape: Shape, left: usize, right: usize
     }
 }
 
-// Columns become rows, and rows columns, by blocks and by strips. It isn't inlined, so that small
-// squares take no longer than without it.
+// Columns become rows, and rows columns, by blocks and by strips of `width` columns.
+fn cross_strips<T: Copy>(cells: &mut [T], shape: Shape, width: usize)
+    requires fits { Fits (shaped cells.old shape) }
+    requires square { shape_width shape ≡ shape_height shape }
+    requires some { 0 < width }
+    ensures grid { shaped_grid cells.new shape ≡ transposed (shaped_grid cells.old shape) }
+    ensures outside { SameOutside (shaped cells.old shape) (shaped cells.new shape) }
+{
+    let side = shape.height();
+    let blocks = block_count(cells, side);
+    cross_blocks(cells, shape, blocks);
+    let mut left = 16 * blocks;
+    while left < side {
+        let right = left + width.min(side - left);
+        cross_strip(cells, shape, left, right);
+        left = right;
+    }
+}
+
+// Columns become rows, and rows columns. Where strips would be needed, pixels of three or four bytes
+// go by pairs of blocks: up to twice as fast, with fewer misses at any stride. Blocks of wider pixels
+// take as long as strips, and for bytes and pixels of two the compiler makes vector code. It isn't
+// inlined, so that small squares take no longer than without it.
 #[inline(never)]
 fn cross_square<T: Copy>(cells: &mut [T], shape: Shape)
     requires fits { Fits (shaped cells.old shape) }
@@ -191,13 +213,13 @@ fn cross_square<T: Copy>(cells: &mut [T], shape: Shape)
 {
     let side = shape.height();
     let width = strip_width(cells, side, shape.stride());
-    let blocks = block_count(cells, side);
-    cross_blocks(cells, shape, blocks);
-    let mut left = 16 * blocks;
-    while left < side {
-        let right = left + width.min(side - left);
-        cross_strip(cells, shape, left, right);
-        left = right;
+    match cells.first() {
+        Some(cell) if width < side && (3..=4).contains(&size_of_val(cell)) => {
+            let (mut upper, mut lower) = ([*cell; 1024], [*cell; 1024]);
+            let (upper, lower) = (upper.as_mut_slice(), lower.as_mut_slice());
+            cross_pairs::<T, 32>(cells, shape, upper, lower);
+        }
+        _ => cross_strips(cells, shape, width),
     }
 }
 

@@ -1,7 +1,7 @@
 use Rattle.std.proofs.Common.{◌-◌, ◌≤◌}
 use Rattle.image_shape.specs.Shape.{shape_height}
 use Rattle.image_ops.proofs.SquareBlocks.{CornerCrossed}
-use Rattle.image_ops.proofs.squares.cross_square.Given as goal
+use Rattle.image_ops.proofs.squares.cross_strips.Given as goal
 
 abbrev pub invariant-loop-left : goal.invariant-loop-left
 invariant-loop-left g l = CornerCrossed l.left l.fn.cells l.cells l.shape × (l.left ≤ shape_height l.shape)

@@ -1,7 +1,7 @@
 -- The pairs of blocks, one strip more, and all strips.
 use Rattle.std.proofs.Common.{arith}
 use Rattle.image_ops.proofs.SquareBlocks.{one_strip_more, all_strips}
-use Rattle.image_ops.proofs.squares.cross_square.Goals as goal
+use Rattle.image_ops.proofs.squares.cross_strips.Goals as goal
 
 pub loop-left-init : goal.loop-left-init
 loop-left-init g c = (record { shown = c.cross_blocks.ensures.grid; outside = c.cross_blocks.ensures.outside }, omega arith)

@@ -1,0 +1,131 @@
+//! Squares that are transposed in place by pairs of blocks, which are copied first.
+//!
+//! A block and the one across the diagonal are read whole, row after row: so the processor waits for
+//! many lines of the cache at once, and none is read again for its other pixels. Then each is written
+//! from the copy of the other. A copy has a stride that the compiler knows.
+
+ghost use Rattle.std.specs.Prelude.{◌≡◌, ◌*◌, ◌<◌, ◌≤◌, length};
+ghost use Rattle.image_model.specs.Grid.{patch};
+ghost use Rattle.image_model.specs.Layout.{Fits, SameOutside};
+ghost use Rattle.image_model.specs.Turns.{transposed};
+ghost use Rattle.image_model.specs.Windows.{window_view, IsInside};
+ghost use Rattle.image_shape.specs.Shape.{shape_width, shape_height, shape_stride, shaped_grid, shaped};
+ghost use Rattle.image_shape.specs.Window.{as_window};
+ghost use Rattle.image_ops.specs.Blocks.{crossed_at};
+
+use crate::blocks::read_rows;
+use crate::turning::{Quarter, quarter_rows};
+use crate::windows::{exact_part, padded_part};
+use image_shape::{Shape, Window};
+
+// The block becomes the pixels of the window, in the shape that is returned.
+#[inline(always)]
+fn copy_block<T: Copy, const SIDE: usize>(
+    block: &mut [T],
+    cells: &[T],
+    shape: Shape,
+    window: Window,
+) -> Shape
+    requires fits { Fits (shaped cells.now shape) }
+    requires inside { IsInside (shape_width shape) (shape_height shape) (as_window window) }
+    requires some { 0 < SIDE }
+    requires narrow { window.width ≤ SIDE }
+    requires low { window.height ≤ SIDE }
+    requires room { SIDE * SIDE ≤ length block.old }
+    ensures width { shape_width result ≡ window.width }
+    ensures height { shape_height result ≡ window.height }
+    ensures fits { Fits (shaped block.new result) }
+    ensures grid { shaped_grid block.new result
+        ≡ window_view (shaped_grid cells.now shape) (as_window window) }
+    ensures as_many { length block.new ≡ length block.old }
+{
+    let (part, part_shape) = padded_part(cells, shape, window);
+    let near = Shape::new(window.width, window.height, SIDE);
+    read_rows(block, near, part, part_shape, false);
+    near
+}
+
+// The window gets the pixels of the block, transposed; every other cell stays.
+#[inline(always)]
+fn write_across<T: Copy>(
+    cells: &mut [T],
+    shape: Shape,
+    window: Window,
+    block: &[T],
+    block_shape: Shape,
+)
+    requires fits { Fits (shaped cells.old shape) }
+    requires inside { IsInside (shape_width shape) (shape_height shape) (as_window window) }
+    requires block_fits { Fits (shaped block.now block_shape) }
+    requires columns { window.width ≡ shape_height block_shape }
+    requires lines { window.height ≡ shape_width block_shape }
+    ensures grid { shaped_grid cells.new shape ≡ patch (shaped_grid cells.old shape)
+        window.left window.top (transposed (shaped_grid block.now block_shape)) }
+    ensures outside { SameOutside (shaped cells.old shape) (shaped cells.new shape) }
+{
+    let (part, inner) = exact_part(cells.len(), shape, window);
+    quarter_rows(&mut cells[part], inner, block, block_shape, Quarter::Across);
+}
+
+// The pixels of the window change places with those across the diagonal. Both are copied before one
+// is written: so they may be the same. What is in the blocks doesn't matter.
+#[inline(always)]
+fn cross_pair<T: Copy, const SIDE: usize>(
+    cells: &mut [T],
+    shape: Shape,
+    window: Window,
+    upper: &mut [T],
+    lower: &mut [T],
+)
+    requires fits { Fits (shaped cells.old shape) }
+    requires square { shape_width shape ≡ shape_height shape }
+    requires inside { IsInside (shape_width shape) (shape_height shape) (as_window window) }
+    requires some { 0 < SIDE }
+    requires narrow { window.width ≤ SIDE }
+    requires low { window.height ≤ SIDE }
+    requires room { SIDE * SIDE ≤ length upper.old }
+    requires lower_room { SIDE * SIDE ≤ length lower.old }
+    ensures grid { shaped_grid cells.new shape
+        ≡ crossed_at window.left window.top window.width window.height
+        (shaped_grid cells.old shape) }
+    ensures outside { SameOutside (shaped cells.old shape) (shaped cells.new shape) }
+    ensures as_many { length upper.new ≡ length upper.old }
+    ensures as_many_lower { length lower.new ≡ length lower.old }
+{
+    let across = Window::new(window.top, window.left, window.height, window.width);
+    let upper_shape = copy_block::<T, SIDE>(upper, cells, shape, window);
+    let lower_shape = copy_block::<T, SIDE>(lower, cells, shape, across);
+    write_across(cells, shape, across, upper, upper_shape);
+    write_across(cells, shape, window, lower, lower_shape);
+}
+
+/// Columns become rows, and rows columns, `SIDE` by `SIDE` pixels at a time. What is in the blocks
+/// doesn't matter.
+pub(crate) fn cross_pairs<T: Copy, const SIDE: usize>(
+    cells: &mut [T],
+    shape: Shape,
+    upper: &mut [T],
+    lower: &mut [T],
+)
+    requires fits { Fits (shaped cells.old shape) }
+    requires square { shape_width shape ≡ shape_height shape }
+    requires some { 0 < SIDE }
+    requires room { SIDE * SIDE ≤ length upper.old }
+    requires lower_room { SIDE * SIDE ≤ length lower.old }
+    ensures grid { shaped_grid cells.new shape ≡ transposed (shaped_grid cells.old shape) }
+    ensures outside { SameOutside (shaped cells.old shape) (shaped cells.new shape) }
+{
+    let side = shape.height();
+    let mut top = 0;
+    while top < side {
+        let height = SIDE.min(side - top);
+        let mut left = top;
+        while left < side {
+            let width = SIDE.min(side - left);
+            let window = Window::new(left, top, width, height);
+            cross_pair::<T, SIDE>(cells, shape, window, upper, lower);
+            left += width;
+        }
+        top += height;
+    }
+}
