@@ -5,8 +5,8 @@
  * below 2^32, and the cells reach the last pixel: imgref_is_image tells. An image with no pixel may have no cell.
  *
  * A cell has 1, 2, 4 or 8 bytes: each call on cells is here for uint8_t, uint16_t, uint32_t and uint64_t. A pixel of
- * three bytes is three cells of one byte. fill_pixels and mosaic_pixels take such pixels. For the other calls its window has
- * three times the columns.
+ * three bytes is three cells of one byte. Calls with `channels` take such pixels. For the other calls its window has three
+ * times the columns.
  *
  * Units     Widths, columns and left are counted in pixels, and so are heights, rows and top. Strides and lengths are
  *           counted in cells.
@@ -49,6 +49,14 @@ typedef uint32_t imgref_status;
 #define IMGREF_SIZES_DIFFER ((imgref_status)3)   /* a window differs in size from what comes into it */
 #define IMGREF_PLACE_OUTSIDE ((imgref_status)4)  /* there is no pixel in that column and row */
 #define IMGREF_NO_TILE ((imgref_status)5)        /* there is no tile of that number, or a tile would have no pixel */
+#define IMGREF_NO_TURN ((imgref_status)6)        /* there is no turn of that number */
+
+/* A turn: how many quarters, clockwise. After IMGREF_RIGHT the first row is the last column, and after IMGREF_LEFT it is the
+ * first column, from the bottom. */
+typedef uint32_t imgref_turn;
+#define IMGREF_RIGHT ((imgref_turn)1)
+#define IMGREF_HALF ((imgref_turn)2)
+#define IMGREF_LEFT ((imgref_turn)3)
 
 /* A window of an image: the column and the row of its corner, and its size. It is inside where left + width is at most the
  * image's width and top + height at most its height, so an empty one at the edge is. No such sum overflows.
@@ -96,6 +104,16 @@ imgref_status imgref_tile(size_t width, size_t height, size_t tile_width, size_t
  * mosaic       Each tile of the window, from the window's corner on, gets the pixel that was at the tile's corner.
  *              NOT_AN_IMAGE, WINDOW_OUTSIDE, NO_TILE (a tile of no pixel).
  * mosaic_pixels  The same for pixels of `channels` cells, as fill_pixels has them. NOT_AN_IMAGE, WINDOW_OUTSIDE, NO_TILE.
+ * turn_into    Every pixel becomes that of `source`, turned clockwise: IMGREF_RIGHT, IMGREF_HALF or IMGREF_LEFT. `source` is an
+ *              image with a stride of its own, and the image has the size of the turned one. Both have pixels of `channels`
+ *              cells, as fill_pixels has them. NO_TURN (tested first), NOT_AN_IMAGE (of either), SIZES_DIFFER.
+ * transpose_into  Every pixel becomes that of `source` whose column is its row: columns become rows. Pixels and sizes are as in
+ *              turn_into. NOT_AN_IMAGE (of either), SIZES_DIFFER.
+ * flip_rows    The first row of the window changes places with its last, and so on. Pixels have `channels` cells.
+ *              NOT_AN_IMAGE, WINDOW_OUTSIDE.
+ * flip_columns In each row of the window the first pixel changes places with the last, and so on. Pixels have `channels`
+ *              cells. NOT_AN_IMAGE, WINDOW_OUTSIDE.
+ * swap_rows    Rows y and z change places. Pixels have `channels` cells. NOT_AN_IMAGE, PLACE_OUTSIDE.
  * pack         The rows come one after the other at the front of the cells, with no padding: from then on the stride is the
  *              width, or 1 for width 0, and the pixels are the first width * height cells. The cells after them stay.
  *              NOT_AN_IMAGE.
@@ -121,6 +139,18 @@ imgref_status imgref_tile(size_t width, size_t height, size_t tile_width, size_t
     imgref_status imgref_##NAME##_mosaic_pixels(CELL *cells, size_t len, size_t width, size_t height, size_t stride,          \
                                                 size_t channels, imgref_rect window, size_t tile_width,                       \
                                                 size_t tile_height);                                                          \
+    imgref_status imgref_##NAME##_turn_into(CELL *cells, size_t len, size_t width, size_t height, size_t stride,              \
+                                            size_t channels, const CELL *source, size_t source_len, size_t source_width,      \
+                                            size_t source_height, size_t source_stride, imgref_turn turn);                    \
+    imgref_status imgref_##NAME##_transpose_into(CELL *cells, size_t len, size_t width, size_t height, size_t stride,         \
+                                                 size_t channels, const CELL *source, size_t source_len,                      \
+                                                 size_t source_width, size_t source_height, size_t source_stride);            \
+    imgref_status imgref_##NAME##_flip_rows(CELL *cells, size_t len, size_t width, size_t height, size_t stride,              \
+                                            size_t channels, imgref_rect window);                                             \
+    imgref_status imgref_##NAME##_flip_columns(CELL *cells, size_t len, size_t width, size_t height, size_t stride,           \
+                                               size_t channels, imgref_rect window);                                          \
+    imgref_status imgref_##NAME##_swap_rows(CELL *cells, size_t len, size_t width, size_t height, size_t stride,              \
+                                            size_t channels, size_t y, size_t z);                                             \
     imgref_status imgref_##NAME##_pack(CELL *cells, size_t len, size_t width, size_t height, size_t stride);                  \
     imgref_status imgref_##NAME##_equal(const CELL *cells, size_t len, size_t width, size_t height, size_t stride,            \
                                         const CELL *other, size_t other_len, size_t other_width, size_t other_height,         \

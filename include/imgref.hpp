@@ -59,12 +59,16 @@ private:
         case IMGREF_SIZES_DIFFER: return "sizes differ";
         case IMGREF_PLACE_OUTSIDE: return "the place is outside";
         case IMGREF_NO_TILE: return "no such tile";
+        case IMGREF_NO_TURN: return "no such turn";
         default: return "refused";
         }
     }
 
     imgref_status status_;
 };
+
+// A turn, clockwise: the first row becomes the last column, the last row, or the first column.
+enum class turn : imgref_turn { right = IMGREF_RIGHT, half = IMGREF_HALF, left = IMGREF_LEFT };
 
 namespace detail {
 
@@ -86,6 +90,11 @@ template <std::size_t Size> struct calls;
         static constexpr auto mosaic = imgref_##NAME##_mosaic;                                                               \
         static constexpr auto fill_pixels = imgref_##NAME##_fill_pixels;                                                     \
         static constexpr auto mosaic_pixels = imgref_##NAME##_mosaic_pixels;                                                 \
+        static constexpr auto turn_into = imgref_##NAME##_turn_into;                                                         \
+        static constexpr auto transpose_into = imgref_##NAME##_transpose_into;                                               \
+        static constexpr auto flip_rows = imgref_##NAME##_flip_rows;                                                         \
+        static constexpr auto flip_columns = imgref_##NAME##_flip_columns;                                                   \
+        static constexpr auto swap_rows = imgref_##NAME##_swap_rows;                                                         \
         static constexpr auto pack = imgref_##NAME##_pack;                                                                   \
         static constexpr auto equal = imgref_##NAME##_equal;                                                                 \
     };
@@ -250,9 +259,36 @@ public:
     }
     // Throws refused (IMGREF_NOT_AN_IMAGE) for another number of channels.
     void mosaic_pixels(std::size_t channels, const rect &window, std::size_t tile_width, std::size_t tile_height) const {
-        const std::size_t columns = channels ? width_ / channels : width_;
-        detail::done(calls::mosaic_pixels(written(), len_, columns, height_, stride_, channels, window, tile_width, tile_height));
+        detail::done(calls::mosaic_pixels(written(), len_, pixels_of(width_, channels), height_, stride_, channels, window, tile_width, tile_height));
     }
+
+    // Writes this image, turned or transposed, to `target`, which has the size of the turned one and
+    // shares no memory with this image. With `channels` a pixel is so many elements, 1 to 4, next to
+    // one another in a row.
+    void turn_into(view<value_type> target, turn by, std::size_t channels = 1) const {
+        if (target.shares(*this)) throw std::invalid_argument("the images share memory");
+        detail::done(calls::turn_into(target.written(), target.len_, pixels_of(target.width_, channels), target.height_, target.stride_, channels,
+                                      cells(), len_, pixels_of(width_, channels), height_, stride_, static_cast<imgref_turn>(by)));
+    }
+    void transpose_into(view<value_type> target, std::size_t channels = 1) const {
+        if (target.shares(*this)) throw std::invalid_argument("the images share memory");
+        detail::done(calls::transpose_into(target.written(), target.len_, pixels_of(target.width_, channels), target.height_, target.stride_,
+                                           channels, cells(), len_, pixels_of(width_, channels), height_, stride_));
+    }
+
+    // The first row of the window, or of all, changes places with the last, and so on.
+    void flip_rows(const rect &window) const { detail::done(calls::flip_rows(written(), len_, width_, height_, stride_, 1, window)); }
+    void flip_rows() const { flip_rows(whole()); }
+
+    // In each row of the window, or of all, the first pixel changes places with the last, and so on.
+    // With `channels` a pixel is so many elements, and the window is counted in pixels.
+    void flip_columns(const rect &window, std::size_t channels = 1) const {
+        detail::done(calls::flip_columns(written(), len_, pixels_of(width_, channels), height_, stride_, channels, window));
+    }
+    void flip_columns(std::size_t channels = 1) const { flip_columns({0, 0, pixels_of(width_, channels), height_}, channels); }
+
+    // Rows y and z change places.
+    void swap_rows(std::size_t y, std::size_t z) const { detail::done(calls::swap_rows(written(), len_, width_, height_, stride_, 1, y, z)); }
 
     // The rows are joined at the front of the memory, over what lies between them: after a window
     // that is its parent's pixels. The stride of this view is the width from now on, or 1 for width
@@ -300,6 +336,9 @@ private:
         static_assert(!std::is_const_v<T>, "this view is for reading: a view<T> without const writes");
         return pixels_ ? reinterpret_cast<cell *>(pixels_) : reinterpret_cast<cell *>(&detail::nowhere);
     }
+
+    // The pixels of a row of so many elements.
+    static std::size_t pixels_of(std::size_t width, std::size_t channels) noexcept { return channels ? width / channels : width; }
 
     bool shares(const view<const value_type> &other) const noexcept {
         std::less<const value_type *> before;

@@ -224,6 +224,11 @@ static void by_hand(void) {
     count("by hand: mosaic_pixels", imgref_u8_mosaic_pixels(colours, 8, 2, 1, 8, 3, both, 2, 1) == IMGREF_OK && !memcmp(colours, (uint8_t[]){1, 2, 3, 1, 2, 3, 7, 90}, 8));
     count("by hand: a pixel of five cells", imgref_u8_mosaic_pixels(colours, 8, 1, 1, 8, 5, second, 2, 1) == IMGREF_NOT_AN_IMAGE && colours[3] == 1);
     count("by hand: no width overflows", imgref_u8_fill_pixels(colours, 8, SIZE_MAX / 2 + 2, 1, 8, second, colour, 2) == IMGREF_NOT_AN_IMAGE && colours[3] == 1);
+    const uint8_t turned[8] = {4, 5, 6, 1, 2, 3, 7, 90};
+    uint8_t upright[6] = {0};
+    count("by hand: flip_columns", imgref_u8_flip_columns(memcpy(colours, (uint8_t[]){1, 2, 3, 4, 5, 6, 7, 90}, 8), 8, 2, 1, 8, 3, both) == IMGREF_OK && !memcmp(colours, turned, 8));
+    count("by hand: turn_into", imgref_u8_turn_into(upright, 6, 1, 2, 3, 3, colours, 8, 2, 1, 8, IMGREF_LEFT) == IMGREF_OK && !memcmp(upright, (uint8_t[]){1, 2, 3, 4, 5, 6}, 6));
+    count("by hand: no turn", imgref_u8_turn_into(upright, 6, 1, 2, 3, 3, colours, 8, 2, 1, 8, 4) == IMGREF_NO_TURN && upright[0] == 1);
     count("by hand: no cell", imgref_u8_fill_window(&pixel, 0, 0, 5, 1, (struct imgref_window){0, 2, 0, 3}, 7) == IMGREF_OK && pixel == 6);
 }
 

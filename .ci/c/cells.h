@@ -186,6 +186,84 @@ static imgref_status MINE(one_mosaic_pixels)(struct sizes is) {
     return status;
 }
 
+/* A turn, or with `is_turn` false a transposition: the model says for each place which pixel of the source it shows. */
+static imgref_status MINE(one_oriented)(struct sizes is, bool is_turn) {
+    size_t channels = any_channels();
+    imgref_turn turn = any() % 8 ? (imgref_turn)(1 + any() % 3) : (imgref_turn)any_number();
+    struct MINE(image) it = MINE(made)(is);
+    is.width = in_pixels(is, channels);
+    bool is_across = !is_turn || turn != IMGREF_HALF;
+    size_t wide = is_across ? is.height : is.width, high = is_across ? is.width : is.height;
+    struct sizes other = any() % 4 && wide < 64 && high < 64 ? sized(wide * channels, high) : any_sizes();
+    struct MINE(image) source = MINE(made)(other);
+    other.width = in_pixels(other, channels);
+    CELL *expected = MINE(copy)(&it);
+    imgref_status wanted = is_turn && (turn < 1 || turn > 3)                                       ? IMGREF_NO_TURN
+                           : !is_pixel_image(is, channels) || !is_pixel_image(other, channels)     ? IMGREF_NOT_AN_IMAGE
+                           : is.width != (is_across ? other.height : other.width)                  ? IMGREF_SIZES_DIFFER
+                           : is.height != (is_across ? other.width : other.height)                 ? IMGREF_SIZES_DIFFER
+                                                                                                   : IMGREF_OK;
+    if (wanted == IMGREF_OK && is.width)
+        for (size_t y = 0; y < is.height; y++)
+            for (size_t x = 0; x < is.width; x++) {
+                size_t u = !is_turn || turn == IMGREF_RIGHT ? y : other.width - 1 - (turn == IMGREF_HALF ? x : y);
+                size_t v = !is_turn || turn == IMGREF_LEFT ? x : other.height - 1 - (turn == IMGREF_HALF ? y : x);
+                for (size_t k = 0; k < channels; k++) MINE(set)(expected, &it, x * channels + k, y, MINE(was)(&source, u * channels + k, v));
+            }
+    imgref_status status = is_turn ? OF(turn_into)(it.cells, is.len, is.width, is.height, is.stride, channels, source.cells, other.len, other.width,
+                                                   other.height, other.stride, turn)
+                                   : OF(transpose_into)(it.cells, is.len, is.width, is.height, is.stride, channels, source.cells, other.len,
+                                                        other.width, other.height, other.stride);
+    bool kept = MINE(left)(&source, MINE(copy)(&source), 0, 0);
+    tell(MINE(left)(&it, expected, status, wanted) && kept);
+    MINE(freed)(it);
+    MINE(freed)(source);
+    return status;
+}
+
+static imgref_status MINE(one_turn_into)(struct sizes is) { return MINE(one_oriented)(is, true); }
+static imgref_status MINE(one_transpose_into)(struct sizes is) { return MINE(one_oriented)(is, false); }
+
+static imgref_status MINE(one_flipped)(struct sizes is, bool is_rows) {
+    size_t channels = any_channels();
+    struct MINE(image) it = MINE(made)(is);
+    is.width = in_pixels(is, channels);
+    struct imgref_window w = any_window(is);
+    CELL *expected = MINE(copy)(&it);
+    imgref_status wanted = !is_pixel_image(is, channels) ? IMGREF_NOT_AN_IMAGE : !is_inside(is, w) ? IMGREF_WINDOW_OUTSIDE : IMGREF_OK;
+    if (wanted == IMGREF_OK && w.width)
+        for (size_t y = 0; y < w.height; y++)
+            for (size_t x = 0; x < w.width; x++)
+                for (size_t k = 0; k < channels; k++)
+                    MINE(set)(expected, &it, (w.left + x) * channels + k, w.top + y,
+                              MINE(was)(&it, (w.left + (is_rows ? x : w.width - 1 - x)) * channels + k, w.top + (is_rows ? w.height - 1 - y : y)));
+    imgref_status status = is_rows ? OF(flip_rows)(it.cells, is.len, is.width, is.height, is.stride, channels, w)
+                                   : OF(flip_columns)(it.cells, is.len, is.width, is.height, is.stride, channels, w);
+    tell(MINE(left)(&it, expected, status, wanted));
+    MINE(freed)(it);
+    return status;
+}
+
+static imgref_status MINE(one_flip_rows)(struct sizes is) { return MINE(one_flipped)(is, true); }
+static imgref_status MINE(one_flip_columns)(struct sizes is) { return MINE(one_flipped)(is, false); }
+
+static imgref_status MINE(one_swap_rows)(struct sizes is) {
+    size_t channels = any_channels(), y = near(is.height), z = near(is.height);
+    struct MINE(image) it = MINE(made)(is);
+    is.width = in_pixels(is, channels);
+    CELL *expected = MINE(copy)(&it);
+    imgref_status wanted = !is_pixel_image(is, channels) ? IMGREF_NOT_AN_IMAGE : y < is.height && z < is.height ? IMGREF_OK : IMGREF_PLACE_OUTSIDE;
+    if (wanted == IMGREF_OK)
+        for (size_t x = 0; x < is.width * channels; x++) {
+            MINE(set)(expected, &it, x, y, MINE(was)(&it, x, z));
+            MINE(set)(expected, &it, x, z, MINE(was)(&it, x, y));
+        }
+    imgref_status status = OF(swap_rows)(it.cells, is.len, is.width, is.height, is.stride, channels, y, z);
+    tell(MINE(left)(&it, expected, status, wanted));
+    MINE(freed)(it);
+    return status;
+}
+
 static imgref_status MINE(one_pack)(struct sizes is) {
     struct MINE(image) it = MINE(made)(is);
     CELL *expected = MINE(copy)(&it);
@@ -239,6 +317,12 @@ static void MINE(all_calls)(void) {
     series(TEXT "fill_pixels", MINE(one_fill_pixels), 1u << IMGREF_OK | 1u << IMGREF_NOT_AN_IMAGE | 1u << IMGREF_WINDOW_OUTSIDE);
     series(TEXT "mosaic_pixels", MINE(one_mosaic_pixels),
            1u << IMGREF_OK | 1u << IMGREF_NOT_AN_IMAGE | 1u << IMGREF_WINDOW_OUTSIDE | 1u << IMGREF_NO_TILE);
+    series(TEXT "turn_into", MINE(one_turn_into),
+           1u << IMGREF_OK | 1u << IMGREF_NOT_AN_IMAGE | 1u << IMGREF_SIZES_DIFFER | 1u << IMGREF_NO_TURN);
+    series(TEXT "transpose_into", MINE(one_transpose_into), 1u << IMGREF_OK | 1u << IMGREF_NOT_AN_IMAGE | 1u << IMGREF_SIZES_DIFFER);
+    series(TEXT "flip_rows", MINE(one_flip_rows), 1u << IMGREF_OK | 1u << IMGREF_NOT_AN_IMAGE | 1u << IMGREF_WINDOW_OUTSIDE);
+    series(TEXT "flip_columns", MINE(one_flip_columns), 1u << IMGREF_OK | 1u << IMGREF_NOT_AN_IMAGE | 1u << IMGREF_WINDOW_OUTSIDE);
+    series(TEXT "swap_rows", MINE(one_swap_rows), 1u << IMGREF_OK | 1u << IMGREF_NOT_AN_IMAGE | 1u << IMGREF_PLACE_OUTSIDE);
     series(TEXT "pack", MINE(one_pack), 1u << IMGREF_OK | 1u << IMGREF_NOT_AN_IMAGE);
     series(TEXT "equal", MINE(one_equal), 1u << IMGREF_OK | 1u << IMGREF_NOT_AN_IMAGE);
 }

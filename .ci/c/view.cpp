@@ -118,6 +118,39 @@ static void pixels_of_several() {
                                  is_refused(IMGREF_WINDOW_OUTSIDE, [&] { image.fill_pixels({2, 0, 1, 1}, {1, 2, 3}); }) && is_refused(IMGREF_NO_TILE, [&] { image.mosaic_pixels(3, {0, 0, 1, 1}, 0, 1); }));
 }
 
+// An image of 3 by 2 that is turned, transposed and flipped, and colours of three elements.
+static void turns() {
+    using namespace imgref;
+    std::array<std::uint8_t, 9> pixels{1, 2, 3, 90, 4, 5, 6, 91, 92};
+    std::array<std::uint8_t, 6> room{};
+    view image(pixels, 3, 2, 4);
+    view upright(room, 2, 3), flat(room, 3, 2);
+    view<const std::uint8_t> reading = image;
+    reading.turn_into(upright, turn::right);
+    check("turn_into right", room == std::array<std::uint8_t, 6>{4, 1, 5, 2, 6, 3});
+    image.turn_into(upright, turn::left);
+    check("turn_into left", room == std::array<std::uint8_t, 6>{3, 6, 2, 5, 1, 4});
+    image.turn_into(flat, turn::half);
+    check("turn_into half", room == std::array<std::uint8_t, 6>{6, 5, 4, 3, 2, 1});
+    image.transpose_into(upright);
+    check("transpose_into", room == std::array<std::uint8_t, 6>{1, 4, 2, 5, 3, 6});
+    image.flip_rows();
+    image.flip_columns({1, 0, 2, 2});
+    check("flips", pixels == std::array<std::uint8_t, 9>{4, 6, 5, 90, 1, 3, 2, 91, 92});
+    image.swap_rows(0, 1);
+    image.flip_columns();
+    check("swap_rows", pixels == std::array<std::uint8_t, 9>{2, 3, 1, 90, 5, 6, 4, 91, 92});
+    view colours(room, 6, 1), column(pixels, 3, 2, 4);
+    colours.flip_columns(3);
+    check("colours are flipped whole", room == std::array<std::uint8_t, 6>{5, 3, 6, 1, 4, 2});
+    colours.turn_into(column, turn::right, 3);
+    check("colours are turned whole", pixels == std::array<std::uint8_t, 9>{5, 3, 6, 90, 1, 4, 2, 91, 92});
+    check("no turn", is_refused(IMGREF_SIZES_DIFFER, [&] { image.turn_into(flat, turn::right); }) && is_refused(IMGREF_NO_TURN, [&] { image.turn_into(flat, turn{4}); }) &&
+                         is_refused(IMGREF_SIZES_DIFFER, [&] { image.transpose_into(flat); }) && is_invalid([&] { image.turn_into(image, turn::half); }));
+    check("no flip", is_refused(IMGREF_WINDOW_OUTSIDE, [&] { image.flip_rows({2, 0, 2, 2}); }) && is_refused(IMGREF_WINDOW_OUTSIDE, [&] { image.flip_columns({0, 1, 1, 2}); }) &&
+                         is_refused(IMGREF_PLACE_OUTSIDE, [&] { image.swap_rows(0, 2); }));
+}
+
 // A window's rows are joined over the pixels beside it.
 static void packed_windows() {
     using namespace imgref;
@@ -165,6 +198,7 @@ int main() {
     refusals();
     empty_images();
     pixels_of_several();
+    turns();
     packed_windows();
     tiles();
 #ifdef IMGREF_HAS_MDSPAN

@@ -388,6 +388,46 @@ CALL(call_mosaic) {
     return done(status);
 }
 
+/* The pixels of an image go to another one, turned by so many quarters, or transposed where there are none. */
+CALL(call_turn) {
+    (void)module;
+    size_t quarters;
+    image i, o;
+    Cells *target = first_in(given, count, 3), *it = target ? cells_in(given[1]) : NULL;
+    if (!it || !number_of(given[2], &quarters) || !is_written(target) || !as_alike(target, it, &i, &o)) return NULL;
+    if (images_overlap(&i, &o)) return PyErr_Format(PyExc_ValueError, "the images share memory");
+    UNLOCKED(image_turn(&i, &o, quarters <= IMGREF_LEFT ? (imgref_turn)quarters : UINT32_MAX))
+    return done(status);
+}
+
+CALL(call_flip_rows) {
+    (void)module;
+    size_t n[4];
+    Cells *it = first_in(given, count, 5);
+    if (!it || !numbers_of(given + 1, 4, n) || !is_written(it)) return NULL;
+    const image i = it->shown;
+    UNLOCKED(image_flip_rows(&i, window_of(n)))
+    return done(status);
+}
+
+CALL(call_flip_columns) {
+    (void)module;
+    size_t n[4];
+    Cells *it = first_in(given, count, 5);
+    if (!it || !numbers_of(given + 1, 4, n) || !is_written(it)) return NULL;
+    const image i = it->shown;
+    UNLOCKED(image_flip_columns(&i, window_of(n)))
+    return done(status);
+}
+
+CALL(call_swap_rows) {
+    (void)module;
+    size_t n[2];
+    Cells *it = first_in(given, count, 3);
+    if (!it || !numbers_of(given + 1, 2, n) || !is_written(it)) return NULL;
+    return done(image_swap_rows(&it->shown, n[0], n[1]));
+}
+
 CALL(call_pack) {
     (void)module;
     Cells *it = first_in(given, count, 1);
@@ -506,6 +546,7 @@ CALL(call_tile) {
 static PyMethodDef calls[] = {
     FAST(get),  FAST(put),    FAST(fill),   FAST(copy), FAST(move), FAST(mosaic),     FAST(pack), FAST(equal),
     FAST(hold), FAST(window), FAST(joined), {"room", call_room, METH_O, NULL},        {"address", call_address, METH_O, NULL},
+    FAST(turn), FAST(flip_rows), FAST(flip_columns), FAST(swap_rows),
     FAST(tile), FAST(tile_count), {NULL, NULL, 0, NULL},
 };
 

@@ -119,6 +119,25 @@ static imgref_status image_move(const image *i, imgref_rect from, imgref_rect to
 #define MOSAIC(NAME, TYPE) imgref_##NAME##_mosaic_pixels(PIXELS(TYPE, i), i->step, window, tile_width, tile_height)
 static imgref_status image_mosaic(const image *i, imgref_rect window, size_t tile_width, size_t tile_height) { BY_SIZE(MOSAIC) }
 
+/* The pixels of `o` go to `i`, turned, or transposed where the turn is 0. Both images have cells of one size and as many of them
+ * in a pixel, and share no memory: the caller tests it. */
+#define TURN(NAME, TYPE) imgref_##NAME##_turn_into(PIXELS(TYPE, i), i->step, PIXELS(TYPE, o), turn)
+#define TRANSPOSE(NAME, TYPE) imgref_##NAME##_transpose_into(PIXELS(TYPE, i), i->step, PIXELS(TYPE, o))
+static imgref_status image_transpose(const image *i, const image *o) { BY_SIZE(TRANSPOSE) }
+static imgref_status image_turn(const image *i, const image *o, imgref_turn turn) {
+    if (!turn) return image_transpose(i, o);
+    BY_SIZE(TURN)
+}
+
+#define FLIP_ROWS(NAME, TYPE) imgref_##NAME##_flip_rows(PIXELS(TYPE, i), i->step, window)
+static imgref_status image_flip_rows(const image *i, imgref_rect window) { BY_SIZE(FLIP_ROWS) }
+
+#define FLIP_COLUMNS(NAME, TYPE) imgref_##NAME##_flip_columns(PIXELS(TYPE, i), i->step, window)
+static imgref_status image_flip_columns(const image *i, imgref_rect window) { BY_SIZE(FLIP_COLUMNS) }
+
+#define SWAP_ROWS(NAME, TYPE) imgref_##NAME##_swap_rows(PIXELS(TYPE, i), i->step, y, z)
+static imgref_status image_swap_rows(const image *i, size_t y, size_t z) { BY_SIZE(SWAP_ROWS) }
+
 /* The stride is that of joined rows from then on. */
 #define PACK(NAME, TYPE) imgref_##NAME##_pack(LAYOUT(TYPE, i))
 static imgref_status image_pack(const image *i) { BY_SIZE(PACK) }

@@ -11,6 +11,8 @@ from ._types import Buffer, Corners, Pixel, Window
 
 _get, _put, _fill, _copy = _native.get, _native.put, _native.fill, _native.copy
 _move, _mosaic, _equal, _window, _hold = _native.move, _native.mosaic, _native.equal, _native.window, _native.hold
+# The turns by their names, and how many quarters each is, clockwise.
+_QUARTERS = {"right": 1, "half": 2, "left": 3}
 
 
 class Image(Layout):
@@ -113,12 +115,87 @@ class Image(Layout):
 
     def copy(self) -> Image:
         """A copy in joined rows and memory of its own."""
-        cell, channels = self._pixels.cell, self._pixels.channels
-        made, numbers = Image.__new__(Image), self._width * self._height * channels
-        owned = memory_of(_native.room(numbers * cell.size))._replace(cell=cell)
-        made._over(owned, self._width, self._height, max(self._width, 1) * channels, numbers, channels)
+        made = self._room(self._width, self._height)
         made.copy_from(self)
         return made
+
+    def _room(self, width: int, height: int) -> Image:
+        """An image of another size with pixels as this one has, in joined rows and memory of its
+        own. It has no values yet."""
+        cell, channels = self._pixels.cell, self._pixels.channels
+        made, numbers = Image.__new__(Image), width * height * channels
+        owned = memory_of(_native.room(numbers * cell.size))._replace(cell=cell)
+        made._over(owned, width, height, max(width, 1) * channels, numbers, channels)
+        return made
+
+    def turn_into(self, target: Image, turn: str) -> None:
+        """Writes the pixels to `target`, turned clockwise: `"right"`, `"half"` or `"left"`. It has
+        the size of the turned image and this one's format, and is over other memory."""
+        self._turn_into(target, _quarters(turn))
+
+    def transpose_into(self, target: Image) -> None:
+        """Writes the pixels to `target`, with rows in the place of columns, as `turn_into` does."""
+        self._turn_into(target, 0)
+
+    def _turn_into(self, target: Image, quarters: int) -> None:
+        if not isinstance(target, Image) or self._pixels is not target._pixels and not self._is_alike(target):
+            raise TypeError(f"no image with pixels of {self.channels} numbers of format {self.format!r}: {target!r}")
+        _native.turn(target._cells, self._cells, quarters)
+
+    def turned(self, turn: str) -> Image:
+        """A copy that is turned clockwise: `"right"`, `"half"` or `"left"`.
+
+        >>> list(Image(bytes([1, 2, 3, 4, 5, 6]), 3, 2).turned("right").tobytes())
+        [4, 1, 5, 2, 6, 3]
+        """
+        quarters = _quarters(turn)
+        made = self._room(self._width, self._height) if quarters == 2 else self._room(self._height, self._width)
+        self._turn_into(made, quarters)
+        return made
+
+    def transposed(self) -> Image:
+        """A copy whose rows are the columns.
+
+        >>> list(Image(bytes([1, 2, 3, 4, 5, 6]), 3, 2).transposed().tobytes())
+        [1, 4, 2, 5, 3, 6]
+        """
+        made = self._room(self._height, self._width)
+        self._turn_into(made, 0)
+        return made
+
+    def flip_rows(self, window: Corners | None = None) -> None:
+        """The first row of the window, or of all, changes places with the last, and so on."""
+        left, top, width, height = self.whole if window is None else window
+        _native.flip_rows(self._cells, left, top, width, height)
+
+    def flip_columns(self, window: Corners | None = None) -> None:
+        """The first column of the window, or of all, changes places with the last, and so on."""
+        left, top, width, height = self.whole if window is None else window
+        _native.flip_columns(self._cells, left, top, width, height)
+
+    def flipped_rows(self) -> Image:
+        """A copy upside down.
+
+        >>> list(Image(bytes([1, 2, 3, 4, 5, 6]), 3, 2).flipped_rows().tobytes())
+        [4, 5, 6, 1, 2, 3]
+        """
+        made = self.copy()
+        made.flip_rows()
+        return made
+
+    def flipped_columns(self) -> Image:
+        """A mirrored copy.
+
+        >>> list(Image(bytes([1, 2, 3, 4, 5, 6]), 3, 2).flipped_columns().tobytes())
+        [3, 2, 1, 6, 5, 4]
+        """
+        made = self.copy()
+        made.flip_columns()
+        return made
+
+    def swap_rows(self, y: int, z: int) -> None:
+        """Rows `y` and `z` change places."""
+        _native.swap_rows(self._cells, y, z)
 
     def tobytes(self) -> bytes:
         """The bytes of all pixels, in joined rows. `bytes(image)` is the same."""
@@ -179,6 +256,13 @@ class Image(Layout):
     def __repr__(self) -> str:
         colours = f", {self._pixels.channels} channels" if self._pixels.channels > 1 else ""
         return f"<imgref.Image of {self._width} by {self._height} pixels{colours}, stride {self.stride}, format {self.format!r}>"
+
+
+def _quarters(turn: str) -> int:
+    """How many quarters a turn is, clockwise."""
+    if turn not in _QUARTERS:
+        raise ValueError(f"no turn: {turn!r} is none of {', '.join(map(repr, _QUARTERS))}")
+    return _QUARTERS[turn]
 
 
 def _image_of(source: Buffer) -> Image:

@@ -10,7 +10,7 @@ Pixel = Union[Number, Sequence[Number]]
 # What has the buffer protocol, or `__array_interface__`.
 Buffer = Any
 
-_STATUS = ("done", "not an image", "the window is outside", "sizes differ", "the place is outside", "no such tile")
+_STATUS = ("done", "not an image", "the window is outside", "sizes differ", "the place is outside", "no such tile", "no such turn")
 
 
 class Refused(ValueError):

@@ -32,6 +32,23 @@ class Model:
     def put(self, x, y, value):
         self.rows[y][x] = value
 
+    def flip_rows(self, window):
+        left, top, width, height = window
+        self.move({(x, y): (x, 2 * top + height - 1 - y) for x, y in places(window)})
+
+    def flip_columns(self, window):
+        left, top, width, height = window
+        self.move({(x, y): (2 * left + width - 1 - x, y) for x, y in places(window)})
+
+    def swap_rows(self, y, z):
+        self.rows[y], self.rows[z] = self.rows[z], self.rows[y]
+
+    def move(self, sources):
+        """Each place gets the pixel of another."""
+        taken = {to: self.rows[y][x] for to, (x, y) in sources.items()}
+        for (x, y), it in taken.items():
+            self.rows[y][x] = it
+
     def pack(self):
         pass
 
@@ -53,8 +70,20 @@ def step(chance, image, pixel):
     window, tiles = a_window(chance, image), (chance.randint(1, 4), chance.randint(1, 4))
     target = a_window(chance, image, window.width, window.height)
     place = (chance.randrange(image.width), chance.randrange(image.height))
+    rows = (chance.randrange(image.height), chance.randrange(image.height))
     calls = [("fill", (window, pixel())), ("move_window", (window, target)), ("mosaic", (window, *tiles)), ("put", (*place, pixel())), ("pack", ())]
-    return chance.choices(calls, [4, 4, 3, 3, 1])[0]
+    calls += [("flip_rows", (window,)), ("flip_columns", (window,)), ("swap_rows", rows)]
+    return chance.choices(calls, [4, 4, 3, 3, 1, 2, 2, 2])[0]
+
+
+def turns(image, rows):
+    """Each turned copy of an image, and the rows that it has to show."""
+    yield image.turned("right"), [list(it) for it in zip(*reversed(rows))]
+    yield image.turned("half"), [it[::-1] for it in reversed(rows)]
+    yield image.turned("left"), [list(it) for it in zip(*rows)][::-1]
+    yield image.transposed(), [list(it) for it in zip(*rows)]
+    yield image.flipped_rows(), rows[::-1]
+    yield image.flipped_columns(), [it[::-1] for it in rows]
 
 
 def tried(letter, channels, offset, stride_more):
@@ -76,6 +105,8 @@ def tried(letter, channels, offset, stride_more):
         getattr(model, name)(*words)
         if Model(image).rows != model.rows or padding != (bytes(memory[: 8 + offset * size]), bytes(memory[8 + (offset + length) * size :])):
             return False
+    if not all(Model(made).rows == rows for made, rows in turns(image, model.rows)):
+        return False
     packed = Image(bytearray(width * height * channels * size), width, height, channels=channels) if letter == "B" else image.copy()
     packed.copy_from(image)
     rows = b"".join(form.pack(it) for row in model.rows for pixel in row for it in (pixel if channels > 1 else [pixel]))
@@ -103,7 +134,12 @@ def of_three_dimensions():
         check(f"refused: {call.__name__} {words}", raises(Refused, call, *words))
     for words in ((Window(1 << 63, 0, 1, 1), (1, 2, 3)), (Window(-1, 0, 1, 1), (1, 2, 3))):
         check(f"no number: {words}", raises(ValueError, image.fill, *words))
-    check("nothing is written", frame == before)
+    upright = Image(bytearray(48), 4, 4, channels=3)
+    for call, words in ((image.turn_into, (upright.window((0, 0, 3, 4)), "half")), (image.transpose_into, (upright.window((0, 0, 3, 4)),)), (image.flip_rows, (Window(0, 3, 1, 2),)), (image.flip_columns, (Window(3, 0, 2, 1),)), (image.swap_rows, (0, 4))):
+        check(f"refused: {call.__name__}", raises(Refused, call, *words))
+    for words in ((upright, "up"), (upright, 1), (frame, "half"), (image, "half"), (image.window((0, 0, 4, 4)), "right"), (Image(bytes(48), 4, 4, channels=3), "half"), (Image(bytearray(16), 4, 4), "half")):
+        check(f"no turn: {words}", raises((ValueError, TypeError), image.turn_into, *words))
+    check("nothing is written", frame == before and not any(upright.tobytes()))
     parted = exported("B", 1, frame, (4, 4, 3), (12, 3, -1), start=2)
     apart = exported("B", 1, frame, (4, 3, 3), (12, 4, 1))
     check("no image: colours backwards, and pixels with gaps", raises(ValueError, Image, parted) and raises(ValueError, Image, apart))

@@ -106,6 +106,9 @@ def calls(side, channels, value):
         "copy_window of the other": (lambda i, o, n: i.copy_window(tuple(n), o), [0, 0, side, side]),
         "move_window": (lambda i, o, n: i.move_window(tuple(n[:4]), tuple(n[4:])), [*inner, 1, 2, side - 5, side - 6]),
         "mosaic": (lambda i, o, n: i.mosaic(tuple(n[:4]), *n[4:]), [*inner, 3, 2]),
+        "flip_rows": (lambda i, o, n: i.flip_rows(tuple(n)), [*inner]),
+        "flip_columns": (lambda i, o, n: i.flip_columns(tuple(n)), [*inner]),
+        "swap_rows": (lambda i, o, n: i.swap_rows(*n), [2, 3]),
         "window": (lambda i, o, n: i.window(tuple(n)).tobytes(), [*inner]),
         "tiles": (lambda i, o, n: [*i.tiles(*n)], [5, 4]),
         "Image": (lambda i, o, n: Image(bytearray(24), *n[:3], channels=n[3]).whole, [3, 2, 8, 2]),
@@ -147,6 +150,8 @@ def of_lists():
         "move_window": lambda i, o, upset: i.move_window(listed(small, upset), listed(inner, upset)),
         "mosaic": lambda i, o, upset: i.mosaic(listed(inner, upset), 2, 3),
         "copy_window of a buffer": lambda i, o, upset: i.copy_window(listed(inner, upset), Told(bytes(range(60)), (5, 4, 3), upset)),
+        "flip_rows": lambda i, o, upset: i.flip_rows(listed(inner, upset)),
+        "flip_columns": lambda i, o, upset: i.flip_columns(listed(inner, upset)),
         "window": lambda i, o, upset: i.window(listed(inner, upset)).fill(small, (1, 2, 3)),
     }.items():
         plain, image, other = made("B", 3, 64, 7), made("B", 3, 64, 7), made("B", 3, 64, 40)
@@ -226,13 +231,15 @@ def together(label, work, disturb, image, size):
 
 def of_threads():
     """One thread calls, and another makes the image again, resizes its memory or packs it."""
-    for name in ("fill", "copy_window", "move_window", "mosaic", "tobytes", "==", "copy"):
+    for name in ("fill", "copy_window", "move_window", "mosaic", "turn_into", "flip_columns", "tobytes", "==", "copy"):
         image, source = made("B", 1, 512, 7), made("B", 1, 512, 40)
         work = {
             "fill": lambda: image.fill(image.whole, 7),
             "copy_window": lambda: image.copy_from(source),
             "move_window": lambda: image.move_window((0, 0, 500, 500), (3, 4, 500, 500)),
             "mosaic": lambda: image.mosaic(image.whole, 3, 3),
+            "turn_into": lambda: source.turn_into(image, "right"),
+            "flip_columns": image.flip_columns,
             "tobytes": image.tobytes,
             "==": lambda: image == source,
             "copy": image.copy,

@@ -3,7 +3,7 @@
 use std::ops::Range;
 
 use crate::calls::{imgref_is_image, imgref_tile, imgref_tile_count, imgref_window, Bits, Calls};
-use crate::{done, Buffer, BufferMut, Cell, Refused, Window};
+use crate::{done, Buffer, BufferMut, Cell, Refused, Turn, Window};
 
 /// A buffer with a width and a height in pixels and a stride in cells.
 #[derive(Clone, Copy, Debug)]
@@ -76,6 +76,11 @@ pub(crate) const fn calls_on<Container: Buffer>() -> Calls<<Container::Pixel as 
     <Container::Pixel as Cell>::Bits::CALLS
 }
 
+// How many colours of so many cells two rows have.
+fn columns_of(channels: usize, width: usize, other: usize) -> Result<(usize, usize), Refused> {
+    width.checked_div(channels).zip(other.checked_div(channels)).ok_or(Refused::NotAnImage)
+}
+
 // SAFETY of the calls below: a slice is memory of its length that stays for the call, its pointer
 // is never null, also where it is empty, its cells lie at multiples of their size, and a `&mut`
 // shares nothing with any other parameter.
@@ -116,6 +121,47 @@ impl<Container: Buffer> Img<Container> {
         let (cells, mut bits) = (self.buf.cells(), Default::default());
         done(unsafe { (calls_on::<Container>().get)(cells.as_ptr().cast(), cells.len(), self.width, self.height, self.stride, x, y, &mut bits) })?;
         Ok(Container::Pixel::of_bits(bits))
+    }
+
+    /// Writes the pixels to `target`, turned: it has the size of the turned image.
+    ///
+    /// # Errors
+    ///
+    /// [`Refused::SizesDiffer`].
+    pub fn turn_into<Target: BufferMut<Pixel = Container::Pixel>>(&self, target: &mut Img<Target>, turn: Turn) -> Result<(), Refused> {
+        self.turn_pixels_into(1, target, turn)
+    }
+
+    /// The same for colours of `channels` cells, as [`Img::fill_pixels`] has them.
+    ///
+    /// # Errors
+    ///
+    /// [`Refused::NotAnImage`] for another number of cells, [`Refused::SizesDiffer`].
+    pub fn turn_pixels_into<Target: BufferMut<Pixel = Container::Pixel>>(&self, channels: usize, target: &mut Img<Target>, turn: Turn) -> Result<(), Refused> {
+        let (from, cells) = (self.buf.cells(), target.buf.cells_mut());
+        let (columns, wide) = columns_of(channels, self.width, target.width)?;
+        done(unsafe { (calls_on::<Container>().turn_into)(cells.as_mut_ptr().cast(), cells.len(), wide, target.height, target.stride, channels, from.as_ptr().cast(), from.len(), columns, self.height, self.stride, turn as u32) })
+    }
+
+    /// Writes the pixels to `target` with rows in the place of columns: it is as wide as this image is
+    /// high.
+    ///
+    /// # Errors
+    ///
+    /// [`Refused::SizesDiffer`].
+    pub fn transpose_into<Target: BufferMut<Pixel = Container::Pixel>>(&self, target: &mut Img<Target>) -> Result<(), Refused> {
+        self.transpose_pixels_into(1, target)
+    }
+
+    /// The same for colours of `channels` cells, as [`Img::fill_pixels`] has them.
+    ///
+    /// # Errors
+    ///
+    /// [`Refused::NotAnImage`] for another number of cells, [`Refused::SizesDiffer`].
+    pub fn transpose_pixels_into<Target: BufferMut<Pixel = Container::Pixel>>(&self, channels: usize, target: &mut Img<Target>) -> Result<(), Refused> {
+        let (from, cells) = (self.buf.cells(), target.buf.cells_mut());
+        let (columns, wide) = columns_of(channels, self.width, target.width)?;
+        done(unsafe { (calls_on::<Container>().transpose_into)(cells.as_mut_ptr().cast(), cells.len(), wide, target.height, target.stride, channels, from.as_ptr().cast(), from.len(), columns, self.height, self.stride) })
     }
 
     /// A window as an image over the same cells.
@@ -235,6 +281,47 @@ impl<Container: BufferMut> Img<Container> {
         let cells = self.buf.cells_mut();
         let columns = self.width.checked_div(channels).ok_or(Refused::NotAnImage)?;
         done(unsafe { (calls_on::<Container>().mosaic_pixels)(cells.as_mut_ptr().cast(), cells.len(), columns, self.height, self.stride, channels, window, tile_width, tile_height) })
+    }
+
+    /// The first row changes places with the last, and so on.
+    ///
+    /// # Errors
+    ///
+    /// None for a buffer that gives the same cells on each call.
+    pub fn flip_rows(&mut self) -> Result<(), Refused> {
+        let (window, cells) = (self.whole(), self.buf.cells_mut());
+        done(unsafe { (calls_on::<Container>().flip_rows)(cells.as_mut_ptr().cast(), cells.len(), self.width, self.height, self.stride, 1, window) })
+    }
+
+    /// The first column changes places with the last, and so on.
+    ///
+    /// # Errors
+    ///
+    /// None for a buffer that gives the same cells on each call.
+    pub fn flip_columns(&mut self) -> Result<(), Refused> {
+        self.flip_pixels(1)
+    }
+
+    /// The same for colours of `channels` cells, as [`Img::fill_pixels`] has them.
+    ///
+    /// # Errors
+    ///
+    /// [`Refused::NotAnImage`] for another number of cells.
+    pub fn flip_pixels(&mut self, channels: usize) -> Result<(), Refused> {
+        let cells = self.buf.cells_mut();
+        let columns = self.width.checked_div(channels).ok_or(Refused::NotAnImage)?;
+        let window = Window::new(0, 0, columns, self.height);
+        done(unsafe { (calls_on::<Container>().flip_columns)(cells.as_mut_ptr().cast(), cells.len(), columns, self.height, self.stride, channels, window) })
+    }
+
+    /// Rows `y` and `z` change places.
+    ///
+    /// # Errors
+    ///
+    /// [`Refused::PlaceOutside`].
+    pub fn swap_rows(&mut self, y: usize, z: usize) -> Result<(), Refused> {
+        let cells = self.buf.cells_mut();
+        done(unsafe { (calls_on::<Container>().swap_rows)(cells.as_mut_ptr().cast(), cells.len(), self.width, self.height, self.stride, 1, y, z) })
     }
 
     /// Joins the rows at the front of the buffer, over what lies between them: on a window that is its

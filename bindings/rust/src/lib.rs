@@ -43,6 +43,8 @@ pub enum Refused {
     PlaceOutside,
     /// There is no tile of that number, or a tile would have no pixel.
     NoTile,
+    /// There is no turn of that number.
+    NoTurn,
 }
 
 impl fmt::Display for Refused {
@@ -53,6 +55,7 @@ impl fmt::Display for Refused {
             Self::SizesDiffer => "sizes differ",
             Self::PlaceOutside => "the place is outside",
             Self::NoTile => "no such tile",
+            Self::NoTurn => "no such turn",
         })
     }
 }
@@ -66,8 +69,21 @@ fn done(status: u32) -> Result<(), Refused> {
         2 => Err(Refused::WindowOutside),
         3 => Err(Refused::SizesDiffer),
         4 => Err(Refused::PlaceOutside),
-        _ => Err(Refused::NoTile),
+        5 => Err(Refused::NoTile),
+        _ => Err(Refused::NoTurn),
     }
+}
+
+/// A turn of an image, clockwise.
+#[repr(u32)]
+#[derive(Clone, Copy, Debug, PartialEq, Eq)]
+pub enum Turn {
+    /// By a quarter: the first row becomes the last column.
+    Right = 1,
+    /// By a half: the first row becomes the last one, from right to left.
+    Half,
+    /// By three quarters: the first row becomes the first column, from the bottom.
+    Left,
 }
 
 /// The column and the row of a window's corner, and its size.

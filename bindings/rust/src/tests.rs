@@ -3,7 +3,7 @@
 use std::cell::Cell as Count;
 use std::panic::{catch_unwind, AssertUnwindSafe};
 
-use super::{Buffer, BufferMut, Cell, Img, ImgRef, ImgRefMut, ImgVec, Refused, Window};
+use super::{Buffer, BufferMut, Cell, Img, ImgRef, ImgRefMut, ImgVec, Refused, Turn, Window};
 
 // 3 by 2 at stride 4: the cells 3, 7 and 8 are padding.
 const CELLS: [u8; 9] = [1, 2, 3, 90, 4, 5, 6, 91, 92];
@@ -131,6 +131,39 @@ fn takes_colours_of_several_cells() {
     assert_eq!(image.into_buf(), before);
 }
 
+#[test]
+fn turns_and_flips() {
+    let mut cells = CELLS;
+    let mut image = image(&mut cells);
+    let mut upright = ImgVec::new(vec![0u8; 6], 2, 3).unwrap();
+    let mut flat = ImgVec::new(vec![0u8; 6], 3, 2).unwrap();
+    image.turn_into(&mut upright, Turn::Right).unwrap();
+    assert_eq!(upright.buf()[..], [4, 1, 5, 2, 6, 3]);
+    image.turn_into(&mut upright, Turn::Left).unwrap();
+    assert_eq!(upright.buf()[..], [3, 6, 2, 5, 1, 4]);
+    image.turn_into(&mut flat, Turn::Half).unwrap();
+    assert_eq!(flat.buf()[..], [6, 5, 4, 3, 2, 1]);
+    image.transpose_into(&mut upright).unwrap();
+    assert_eq!(upright.buf()[..], [1, 4, 2, 5, 3, 6]);
+    assert_eq!(image.turn_into(&mut flat, Turn::Left), Err(Refused::SizesDiffer));
+    assert_eq!(image.transpose_into(&mut flat), Err(Refused::SizesDiffer));
+    assert_eq!(image.transpose_pixels_into(0, &mut flat), Err(Refused::NotAnImage));
+    assert_eq!(image.swap_rows(0, 2), Err(Refused::PlaceOutside));
+    image.flip_rows().unwrap();
+    image.flip_columns().unwrap();
+    image.swap_rows(0, 1).unwrap();
+    assert_eq!(cells, [3, 2, 1, 90, 6, 5, 4, 91, 92]);
+    let mut colours = ImgVec::new(vec![1u16, 2, 3, 4, 5, 6], 6, 1).unwrap();
+    let mut column = ImgVec::new(vec![0u16; 6], 3, 2).unwrap();
+    colours.flip_pixels(3).unwrap();
+    assert_eq!(colours.buf()[..], [4, 5, 6, 1, 2, 3]);
+    colours.turn_pixels_into(3, &mut column, Turn::Left).unwrap();
+    assert_eq!(column.buf()[..], [1, 2, 3, 4, 5, 6]);
+    colours.transpose_pixels_into(3, &mut column).unwrap();
+    assert_eq!(column.buf()[..], [4, 5, 6, 1, 2, 3]);
+    assert_eq!(colours.flip_pixels(5), Err(Refused::NotAnImage));
+}
+
 fn calls_on<T: Cell + std::fmt::Debug>(least: T, most: T) {
     let mut image = ImgVec::new_stride(vec![least; 7], 3, 2, 4).unwrap();
     image.fill_window(Window::new(1, 0, 2, 2), most).unwrap();
@@ -198,7 +231,7 @@ impl BufferMut for Shrinking {
 #[test]
 fn trusts_no_buffer_from_call_to_call() {
     type Call = fn(&mut Img<Shrinking>) -> bool;
-    let calls: [(&str, Call); 13] = [
+    let calls: [(&str, Call); 17] = [
         ("get", |it| it.get(7, 7).is_ok()),
         ("put", |it| it.put(7, 7, 99).is_ok()),
         ("fill_window", |it| it.fill_window(it.whole(), 99).is_ok()),
@@ -207,6 +240,10 @@ fn trusts_no_buffer_from_call_to_call() {
         ("mosaic", |it| it.mosaic(it.whole(), 8, 8).is_ok()),
         ("fill_pixels", |it| it.fill_pixels(Window::new(0, 0, 4, 8), &[98, 99]).is_ok()),
         ("mosaic_pixels", |it| it.mosaic_pixels(2, Window::new(0, 0, 4, 8), 4, 8).is_ok()),
+        ("turn_into", |it| ImgRef::new(&[99; 64][..], 8, 8).unwrap().turn_into(it, Turn::Right).is_ok()),
+        ("flip_rows", |it| it.flip_rows().is_ok()),
+        ("flip_columns", |it| it.flip_columns().is_ok()),
+        ("swap_rows", |it| it.swap_rows(0, 7).is_ok()),
         ("as_contiguous_buf", |it| it.as_contiguous_buf().is_ok()),
         ("sub_image_mut", |it| it.sub_image_mut(0, 1, 8, 7).and_then(|mut it| it.fill_window(it.whole(), 99)).is_ok()),
         ("rows_mut", |it| it.rows_mut().map(|row| row.fill(99)).count() == 8),

@@ -12,6 +12,8 @@ pub mod PlaceAnswers
 pub mod WindowWrites
 pub mod Crossing
 pub mod FromPlaces
+pub mod Oriented
+pub mod PixelFlips
 pub mod PixelsMade
 pub mod Diagonals
 pub mod Parts

@@ -8,6 +8,7 @@ pub mod Gathered
 pub mod Joined
 pub mod Made
 pub mod Turned
+pub mod Oriented
 pub mod Repeated
 pub mod Quarters
 pub mod Blocks

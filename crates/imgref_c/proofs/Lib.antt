@@ -1,4 +1,5 @@
 pub mod Tests
+pub mod Whole
 pub mod Packed
 pub mod Numbering
 pub mod Agreeing

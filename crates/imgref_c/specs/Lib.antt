@@ -1,3 +1,4 @@
+pub mod Turns
 pub mod Status
 pub mod Numbering
 pub mod Calls

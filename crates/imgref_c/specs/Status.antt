@@ -4,8 +4,11 @@ use Rattle.image_model.specs.Layout.{Reaches}
 use Rattle.image_model.specs.Grid.{is_place}
 use Rattle.image_model.specs.Windows.{Window, window, is_inside}
 use Rattle.image_model.specs.Tiles.{tiles}
+use Rattle.image_ops.specs.Oriented.{oriented_width, oriented_height}
+use Rattle.image_ops.specs.declared.pixel_turning.Orientation.{Orientation}
+use Rattle.imgref_c.specs.Turns.{is_turn, turn_by}
 use Rattle.imgref_c.specs.declared.status.Status.{Status}
-use Rattle.imgref_c.specs.declared.status.Status.TheVariants.{Done, NotAnImage, WindowOutside, SizesDiffer, PlaceOutside, NoTile}
+use Rattle.imgref_c.specs.declared.status.Status.TheVariants.{Done, NotAnImage, WindowOutside, SizesDiffer, PlaceOutside, NoTile, NoTurn}
 
 -- its number in the header
 abbrev pub code : Status → ℕ
@@ -15,6 +18,7 @@ code WindowOutside = 2
 code SizesDiffer = 3
 code PlaceOutside = 4
 code NoTile = 5
+code NoTurn = 6
 
 -- so many cells are an image of this size and stride
 pub record IsImage (count width height stride : ℕ) : Type 0 where
@@ -101,6 +105,24 @@ pixel_mosaic_status channels count width height stride w tile_width tile_height 
     first (is_pixel_image channels count width height stride) NotAnImage
     (first (is_inside width height w) WindowOutside
     (first (nat_lt 0 tile_width && nat_lt 0 tile_height) NoTile Done))
+
+-- of a call that writes the pixels of one image to another, at other places
+abbrev pub oriented_status : ℕ → Orientation → ℕ → ℕ → ℕ → ℕ → ℕ → ℕ → ℕ → ℕ → Status
+oriented_status channels o count width height stride source_count source_width source_height source_stride =
+    first (is_pixel_image channels count width height stride && is_pixel_image channels source_count source_width source_height source_stride) NotAnImage
+    (first ((width == oriented_width o source_width source_height) && (height == oriented_height o source_width source_height)) SizesDiffer Done)
+
+-- of a turn by so many quarters
+abbrev pub turn_status : ℕ → ℕ → ℕ → ℕ → ℕ → ℕ → ℕ → ℕ → ℕ → ℕ → Status
+turn_status channels quarters count width height stride source_count source_width source_height source_stride =
+    first (is_turn quarters) NoTurn
+    (oriented_status channels (turn_by quarters) count width height stride source_count source_width source_height source_stride)
+
+-- of a call on two rows of an image of such pixels
+abbrev pub rows_status : ℕ → ℕ → ℕ → ℕ → ℕ → ℕ → ℕ → Status
+rows_status channels count width height stride y z =
+    first (is_pixel_image channels count width height stride) NotAnImage
+    (first (nat_lt y height && nat_lt z height) PlaceOutside Done)
 
 -- ---- tiles
 

@@ -1,11 +1,16 @@
 -- The words of the contracts of calls, to import from one place.
 pub use Rattle.image_model.specs.Layout.{layout}
 pub use Rattle.image_model.specs.Grid.{grid_of, uniform, Agree}
+pub use Rattle.image_model.specs.Flips.{flipped}
+pub use Rattle.image_model.specs.Swaps.{rows_swapped}
 pub use Rattle.image_model.specs.Windows.{exact_stretch, IsInside}
 pub use Rattle.image_model.specs.Tiles.{tiles}
 pub use Rattle.image_ops.specs.Mosaic.{mosaic as mosaic_of, mosaic_by}
+pub use Rattle.image_ops.specs.Oriented.{oriented, mirrored_by}
+pub use Rattle.image_ops.specs.declared.pixel_turning.Orientation.TheVariants.{Transposed}
 pub use Rattle.image_ops.specs.Repeated.{repeated}
 pub use Rattle.image_shape.specs.Window.{as_window}
-pub use Rattle.imgref_c.specs.Status.{code, is_image as passes, IsImage, image_status, place_status, window_status, copy_status, move_status, pair_status, mosaic_status, is_pixel_image, IsPixelImage, in_cells, pixel_window_status, pixel_mosaic_status, tiles_status, tile_status}
+pub use Rattle.imgref_c.specs.Turns.{turn_by}
+pub use Rattle.imgref_c.specs.Status.{code, is_image as passes, IsImage, image_status, place_status, window_status, copy_status, move_status, pair_status, mosaic_status, is_pixel_image, IsPixelImage, in_cells, pixel_window_status, pixel_mosaic_status, oriented_status, turn_status, rows_status, tiles_status, tile_status}
 pub use Rattle.imgref_c.specs.Numbering.{Numbered}
 pub use Rattle.imgref_c.specs.Calls.{seen, Writes, Packs, Finds, Gives}

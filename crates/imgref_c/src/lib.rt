@@ -9,6 +9,7 @@
 //! bytes are in the files of those names.
 #![tactic(auto)]
 
+mod flips;
 mod images;
 mod packing;
 mod pairs;
@@ -16,6 +17,7 @@ mod pixels;
 mod places;
 mod status;
 mod tiles;
+mod turns;
 mod u16_exports;
 mod u32_exports;
 mod u64_exports;

@@ -13,7 +13,7 @@ use image_shape::{Shape, Window};
 
 // Whether so many cells are an image of pixels of 1 to 4 cells.
 #[tactic(auto, using(crate::proofs::Tests::is_pixel_image_decides), unfolding(crate::specs::Status::is_pixel_image, crate::specs::Status::is_image))]
-fn are_pixels(len: usize, claimed: ClaimedShape, channels: usize) -> bool
+pub(crate) fn are_pixels(len: usize, claimed: ClaimedShape, channels: usize) -> bool
     ensures value { result
         ≡ is_pixel_image channels len claimed.width claimed.height claimed.stride }
     ensures means { IsTrue result
@@ -29,7 +29,7 @@ fn are_pixels(len: usize, claimed: ClaimedShape, channels: usize) -> bool
 }
 
 // The window of cells that a window of pixels is, inside the shape of the cells.
-fn window_of_cells(shape: Shape, channels: usize, window: Window) -> Window
+pub(crate) fn window_of_cells(shape: Shape, channels: usize, window: Window) -> Window
     requires pixels { channels * (window.left + window.width) ≤ shape_width shape }
     requires rows { window.top + window.height ≤ shape_height shape }
     ensures window { as_window result ≡ in_cells channels (as_window window) }

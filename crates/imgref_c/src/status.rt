@@ -17,6 +17,8 @@ pub(crate) enum Status {
     PlaceOutside,
     /// There is no tile with that number, or a tile would have no pixel.
     NoTile,
+    /// There is no turn of that number.
+    NoTurn,
 }
 
 impl Status {
@@ -33,6 +35,7 @@ impl Status {
             Status::SizesDiffer => 3,
             Status::PlaceOutside => 4,
             Status::NoTile => 5,
+            Status::NoTurn => 6,
         }
     }
 }

@@ -1,10 +1,11 @@
 //! Made from `u8_exports.rt` by `make exports`: the same exports, for cells of type `u16`.
 
 ghost use Rattle.std.specs.Prelude.{◌≡◌, ◌*◌, ◌==◌, ◌↔◌, IsTrue, length, Some};
-ghost use Rattle.imgref_c.specs.Words.{as_window, code, copy_status, grid_of, image_status, in_cells, layout, mosaic_by, mosaic_of, mosaic_status, move_status, pair_status, pixel_mosaic_status, pixel_window_status, place_status, repeated, seen, uniform, window_status, Agree, Gives, Packs, Writes};
+ghost use Rattle.imgref_c.specs.Words.{as_window, code, copy_status, flipped, grid_of, image_status, in_cells, layout, mirrored_by, mosaic_by, mosaic_of, mosaic_status, move_status, oriented, oriented_status, pair_status, pixel_mosaic_status, pixel_window_status, place_status, repeated, rows_status, rows_swapped, seen, turn_by, turn_status, uniform, window_status, Agree, Gives, Packs, Transposed, Writes};
 
 use crate::images::ClaimedShape;
-use crate::{packing, pairs, pixels, places, windows};
+use crate::{flips, packing, pairs, pixels, places, turns, windows};
+use image_ops::Orientation;
 use image_shape::Window;
 
 /// Writes the pixel in column `x` of row `y` to `pixel`.
@@ -168,6 +169,129 @@ pub extern "C" fn imgref_u16_copy_window(
     let claimed = ClaimedShape::new(width, height, stride);
     let claimed_source = ClaimedShape::new(source_width, source_height, source_stride);
     pairs::copy_window(cells, claimed, source, claimed_source, window).code()
+}
+
+/// Every pixel becomes that of `source` turned clockwise by so many quarters, 1 to 3. A pixel has 1 to 4
+/// cells, next to one another in a row. Sizes are counted in pixels, and strides in cells.
+#[unsafe(no_mangle)]
+pub extern "C" fn imgref_u16_turn_into(
+    cells: &mut [u16],
+    width: usize,
+    height: usize,
+    stride: usize,
+    channels: usize,
+    source: &[u16],
+    source_width: usize,
+    source_height: usize,
+    source_stride: usize,
+    quarters: u32,
+) -> u32
+    ensures status { result ≡ code (turn_status channels quarters (length cells.old) width height
+        stride (length source.now) source_width source_height source_stride) }
+    ensures writes { Writes result (channels * width) height stride cells.old cells.new 0 0
+        (oriented channels (turn_by quarters) (grid_of (layout source.now
+        (channels * source_width) source_height source_stride))) }
+{
+    let claimed = ClaimedShape::new(width, height, stride);
+    let claimed_source = ClaimedShape::new(source_width, source_height, source_stride);
+    turns::turn_into(cells, claimed, source, claimed_source, channels, quarters).code()
+}
+
+/// Every pixel becomes the pixel of `source` in whose row it is a column. A pixel has 1 to 4 cells,
+/// next to one another in a row. Sizes are counted in pixels, and strides in cells.
+#[unsafe(no_mangle)]
+pub extern "C" fn imgref_u16_transpose_into(
+    cells: &mut [u16],
+    width: usize,
+    height: usize,
+    stride: usize,
+    channels: usize,
+    source: &[u16],
+    source_width: usize,
+    source_height: usize,
+    source_stride: usize,
+) -> u32
+    ensures status { result ≡ code (oriented_status channels Transposed (length cells.old) width
+        height stride (length source.now) source_width source_height source_stride) }
+    ensures writes { Writes result (channels * width) height stride cells.old cells.new 0 0
+        (oriented channels Transposed (grid_of (layout source.now (channels * source_width)
+        source_height source_stride))) }
+{
+    let claimed = ClaimedShape::new(width, height, stride);
+    let claimed_source = ClaimedShape::new(source_width, source_height, source_stride);
+    let orientation = Orientation::Transposed;
+    turns::orient_into(
+        cells,
+        claimed,
+        source,
+        claimed_source,
+        channels,
+        orientation,
+    )
+    .code()
+}
+
+/// The first row of the window changes places with its last, and so on. A pixel has 1 to 4 cells, next
+/// to one another in a row. Sizes and windows are counted in pixels, and the stride in cells.
+#[unsafe(no_mangle)]
+pub extern "C" fn imgref_u16_flip_rows(
+    cells: &mut [u16],
+    width: usize,
+    height: usize,
+    stride: usize,
+    channels: usize,
+    window: Window,
+) -> u32
+    ensures status { result ≡ code (pixel_window_status channels (length cells.old) width height
+        stride (as_window window)) }
+    ensures writes { Writes result (channels * width) height stride cells.old cells.new
+        (channels * window.left) window.top (flipped (seen (channels * width) height stride
+        cells.old (in_cells channels (as_window window)))) }
+{
+    let claimed = ClaimedShape::new(width, height, stride);
+    flips::flip_rows(cells, claimed, channels, window).code()
+}
+
+/// In each row of the window the first pixel changes places with the last, and so on. A pixel has 1 to 4
+/// cells, next to one another in a row. Sizes and windows are counted in pixels, and the stride in
+/// cells.
+#[unsafe(no_mangle)]
+pub extern "C" fn imgref_u16_flip_columns(
+    cells: &mut [u16],
+    width: usize,
+    height: usize,
+    stride: usize,
+    channels: usize,
+    window: Window,
+) -> u32
+    ensures status { result ≡ code (pixel_window_status channels (length cells.old) width height
+        stride (as_window window)) }
+    ensures writes { Writes result (channels * width) height stride cells.old cells.new
+        (channels * window.left) window.top (mirrored_by channels (seen (channels * width) height
+        stride cells.old (in_cells channels (as_window window)))) }
+{
+    let claimed = ClaimedShape::new(width, height, stride);
+    flips::flip_columns(cells, claimed, channels, window).code()
+}
+
+/// Rows `y` and `z` change places. A pixel has 1 to 4 cells, next to one another in a row. Sizes are
+/// counted in pixels, and the stride in cells.
+#[unsafe(no_mangle)]
+pub extern "C" fn imgref_u16_swap_rows(
+    cells: &mut [u16],
+    width: usize,
+    height: usize,
+    stride: usize,
+    channels: usize,
+    y: usize,
+    z: usize,
+) -> u32
+    ensures status { result ≡ code (rows_status channels (length cells.old) width height stride y z) }
+    ensures writes { Writes result (channels * width) height stride cells.old cells.new 0 0
+        (rows_swapped y z (grid_of (layout cells.old (channels * width) height stride))) }
+{
+    let claimed = ClaimedShape::new(width, height, stride);
+    flips::swap_rows(cells, claimed, channels, y, z).code()
 }
 
 /// Writes to `equal` whether two images have the same size and equal pixels at every place.

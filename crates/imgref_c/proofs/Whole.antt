@@ -1,0 +1,35 @@
+-- Images of which every pixel is written.
+use Rattle.std.proofs.Common.{◌≡◌, ℕ, ◌-◌, ◌*◌, ◌<◌, List, Option, sym, subst, ap, ◌∙◌, arith}
+use Rattle.image_model.specs.Layout.{Layout, layout, SameOutside}
+use Rattle.image_model.specs.Grid.{Grid, grid, grid_of, patch}
+use Rattle.image_model.proofs.Grids.{at_place, covers_decides, is_patch}
+use Rattle.std.proofs.lemmas.Bool.{true≢false}
+use Rattle.image_shape.specs.declared.shape.Shape.{Shape}
+use Rattle.image_shape.specs.Shape.{shaped, shaped_grid}
+use Rattle.imgref_c.specs.Calls.{Writes}
+
+-- a patch of the whole size is all that is left
+patched_whole : {T : Type 0} (l : Layout T) (h : Grid T) (f : ℕ → ℕ → Option T) → h ≡ grid l.width l.height f → h ≡ patch (grid_of l) 0 0 h
+unfolding grid_of
+patched_whole l h f is =
+    is
+    ∙ is_patch (grid_of l) 0 0 (grid l.width l.height f) f
+    (λ x y column line _.
+    let same_x : x ≡ x - 0 = omega arith in
+    let same_y : y ≡ y - 0 = omega arith in
+    (λ i. f (same_x i) (same_y i)) ∙ sym (at_place l.width l.height f (x - 0) (y - 0) (omega (arith, column)) (omega (arith, line))))
+    (λ x y column line beside. absurd (true≢false (sym ((covers_decides 0 0 l.width l.height x y).1 (omega arith, omega arith, omega (arith, column), omega (arith, line))) ∙ beside)))
+    ∙ ap (patch (grid_of l) 0 0) (sym is)
+
+-- the cells of a shape of these numbers
+pub shaped_as : {T : Type 0} (cells : List T) (s : Shape) {width height stride : ℕ} → s.width ≡ width → s.height ≡ height → s.stride ≡ stride → shaped cells s ≡ layout cells width height stride
+shaped_as cells s wide high far = λ i. layout cells (wide i) (high i) (far i)
+
+-- an image that shows a grid of its size, at the same padding
+module _ {T : Type 0} (old new : List T) (s : Shape) {width height stride : ℕ} (wide : s.width ≡ width) (high : s.height ≡ height) (far : s.stride ≡ stride) where
+  pub all_written : (h : Grid T) (f : ℕ → ℕ → Option T) → h ≡ grid width height f → shaped_grid new s ≡ h → SameOutside (shaped old s) (shaped new s) → Writes 0 width height stride old new 0 0 h
+  all_written h f is shown stays = record {
+    shows = λ _. ap (λ (l : Layout T). grid_of l) (sym (shaped_as new s wide high far)) ∙ shown ∙ patched_whole (layout old width height stride) h f is;
+    outside = λ _. subst (λ l. SameOutside l (layout new width height stride)) (shaped_as old s wide high far) (subst (SameOutside (shaped old s)) (shaped_as new s wide high far) stays);
+    unchanged = λ refused. absurd (omega (arith, refused));
+  }

@@ -1,0 +1,102 @@
+//! Images that are turned or transposed into others. A pixel has 1 to 4 cells, next to one another in a
+//! row.
+
+ghost use Rattle.std.specs.Prelude.{◌≡◌, ◌*◌, length};
+ghost use Rattle.image_ops.specs.Oriented.{oriented_width, oriented_height};
+ghost use Rattle.imgref_c.specs.Words.{code, grid_of, layout, oriented, oriented_status, turn_by, turn_status, Writes};
+
+use crate::images::ClaimedShape;
+use crate::pixels::are_pixels;
+use crate::status::Status;
+use image_ops::{Orientation, orient_pixels};
+
+// The turn by so many quarters, clockwise.
+fn turn_by(quarters: u32) -> Orientation
+    ensures { result ≡ turn_by quarters }
+{
+    match quarters {
+        1 => Orientation::Right,
+        2 => Orientation::Half,
+        _ => Orientation::Left,
+    }
+}
+
+// The width and the height that an image gets.
+fn oriented_size(orientation: Orientation, width: usize, height: usize) -> (usize, usize)
+    ensures width { result.0 ≡ oriented_width orientation width height }
+    ensures height { result.1 ≡ oriented_height orientation width height }
+{
+    match orientation {
+        Orientation::Half => (width, height),
+        Orientation::Transposed | Orientation::Right | Orientation::Left => (height, width),
+    }
+}
+
+// Every pixel becomes the pixel of the source that its place gets.
+pub(crate) fn orient_into<T: Copy>(
+    cells: &mut [T],
+    claimed: ClaimedShape,
+    source: &[T],
+    claimed_source: ClaimedShape,
+    channels: usize,
+    orientation: Orientation,
+) -> Status
+    ensures status { result ≡ oriented_status channels orientation (length cells.old)
+        claimed.width claimed.height claimed.stride (length source.now) claimed_source.width
+        claimed_source.height claimed_source.stride }
+    ensures writes { Writes (code result) (channels * claimed.width) claimed.height
+        claimed.stride cells.old cells.new 0 0 (oriented channels orientation (grid_of (layout
+        source.now (channels * claimed_source.width) claimed_source.height claimed_source.stride))) }
+{
+    if !are_pixels(cells.len(), claimed, channels)
+        || !are_pixels(source.len(), claimed_source, channels)
+    {
+        return Status::NotAnImage;
+    }
+    let columns = claimed_source.width;
+    let (width, height) = oriented_size(orientation, columns, claimed_source.height);
+    if claimed.width != width || claimed.height != height {
+        return Status::SizesDiffer;
+    }
+    let shape = claimed.with_width(channels * claimed.width).shape();
+    let source_shape = claimed_source.with_width(channels * columns).shape();
+    orient_pixels(
+        cells,
+        shape,
+        source,
+        source_shape,
+        channels,
+        columns,
+        orientation,
+    );
+    Status::Done
+}
+
+// Every pixel becomes that of the source turned by so many quarters.
+pub(crate) fn turn_into<T: Copy>(
+    cells: &mut [T],
+    claimed: ClaimedShape,
+    source: &[T],
+    claimed_source: ClaimedShape,
+    channels: usize,
+    quarters: u32,
+) -> Status
+    ensures status { result ≡ turn_status channels quarters (length cells.old) claimed.width
+        claimed.height claimed.stride (length source.now) claimed_source.width
+        claimed_source.height claimed_source.stride }
+    ensures writes { Writes (code result) (channels * claimed.width) claimed.height
+        claimed.stride cells.old cells.new 0 0 (oriented channels (turn_by quarters) (grid_of (layout
+        source.now (channels * claimed_source.width) claimed_source.height claimed_source.stride))) }
+{
+    if quarters == 0 || quarters > 3 {
+        return Status::NoTurn;
+    }
+    orient_into(
+        cells,
+        claimed,
+        source,
+        claimed_source,
+        channels,
+        turn_by(quarters),
+    )
+}
