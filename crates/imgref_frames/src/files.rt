@@ -1,5 +1,6 @@
 //! The input and the output of the program: the standard streams, or files by their names.
 
+use devices::Retried;
 use std::fs::File;
 use std::io::{ErrorKind, Read, Stdin, Stdout, Write};
 use std::{fs, io};
@@ -29,7 +30,7 @@ impl Read for Input {
 /// Where the bytes come from, and the first of them.
 #[derive(Drop)]
 pub(crate) struct Source {
-    input: Input,
+    input: Retried<Input>,
     front: [u8; FRONT],
     len: usize,
 }
@@ -42,7 +43,7 @@ impl Source {
             Some(name) => Input::Named(File::open(rt, name)?),
         };
         Ok(Source {
-            input,
+            input: Retried::new(input),
             front: [0; FRONT],
             len: 0,
         })

@@ -16,6 +16,7 @@ mod words;
 
 use beginnings::say_no_head;
 pub use devices::Counted;
+use devices::Retried;
 pub use fault::RunFault;
 use files::{Sink, Source, create_beside, read_whole};
 use frame_formats::Edits;
@@ -105,7 +106,7 @@ impl Call<'_> {
     fn pass(&self, input: BufReader<Source>, output: Sink) -> u8 {
         let mut seen = Seen::Nothing;
         let mut reader = Counted::new(input);
-        let mut writer = Counted::new(output);
+        let mut writer = Counted::new(Retried::new(output));
         let result = run(
             self.rt.alloc(),
             self.options.limit,
@@ -125,7 +126,7 @@ impl Call<'_> {
                 return status;
             }
         };
-        if writer.device().sync().is_err() {
+        if writer.device().device().sync().is_err() {
             return self.fail(RunFault::Output, seen);
         }
         let strict = self.options.strict;
