@@ -15,7 +15,7 @@ import sys
 import tempfile
 
 sys.path.insert(0, str(pathlib.Path(__file__).resolve().parents[2]))
-from checking import Cases, both_builds
+from checking import ROOT, Cases, both_builds
 from c_library import VERSION
 from frames import count_tries, covered, edits_of, ends, exchanged, lines_said, wanted
 
@@ -371,13 +371,33 @@ def by_h264(cases, program):
 
 
 def by_parallel(cases, program):
-    # (a cover needs no whole chroma samples, so it fits each of the videos)
-    words = "cover 4,2,6,4 126"
+    """The commands of docs/FRAMES.md for many videos, with the path of the program in the place of its name."""
+    commands = [it.strip().replace("imgref_frames ", f"{program} ") for it in (ROOT / "docs/FRAMES.md").read_text().split("\n") if it.startswith("    ls in/")]
+    words = "cover 64,48,320,160"
     with tempfile.TemporaryDirectory() as folder:
+        given, made = pathlib.Path(folder, "in"), pathlib.Path(folder, "out")
+        given.mkdir()
+        made.mkdir()
         for name in SAMPLINGS:
-            pathlib.Path(folder, f"{name}.y4m").write_bytes(video(name))
-        subprocess.run(["sh", "-c", f"ls {folder}/*.y4m | parallel --will-cite '{program} {words} < {{}} > {{}}.out'"], check=True, timeout=120)
-        cases.count("a folder of videos goes through parallel", all(pathlib.Path(folder, f"{name}.y4m.out").read_bytes() == wanted(video(name), words.split())[0] for name in SAMPLINGS))
+            (given / f"{name}.y4m").write_bytes(video(name, 100, 80))
+        (made / "mono.y4m").write_bytes(b"made before")
+        subprocess.run(["bash", "-c", commands[1]], cwd=folder, check=True, capture_output=True, timeout=120)
+        cases.count("a folder of videos goes through parallel", all((made / f"{name}.y4m").read_bytes() == wanted(video(name, 100, 80), words.split())[0] for name in SAMPLINGS[1:]))
+        cases.count("and a video that is there is left out", (made / "mono.y4m").read_bytes() == b"made before")
+        if not shutil.which("ffmpeg"):
+            return
+        for number in range(10):
+            source = f"-f lavfi -i testsrc2=size=448x256:rate=25:duration=1 -vf negate=enable={number % 2}"
+            subprocess.run(["ffmpeg", "-v", "error", *source.split(), "-movflags", "+faststart", given / f"{number}.mp4"], check=True, timeout=120)
+        whole = (given / "7.mp4").read_bytes()
+        (given / "7.mp4").write_bytes(whole[: len(whole) // 2])
+        done = subprocess.run(["bash", "-c", commands[0]], cwd=folder, capture_output=True, timeout=300)
+        rows = [it.split("\t") for it in pathlib.Path(folder, "jobs").read_text().split("\n")[1:-1]]
+        failed = [it[8] for it in rows if it[6] != "0"]
+        cases.count("of ten videos through parallel the one that is cut off alone has another status", len(rows) == 10 and done.returncode == 1 and len(failed) == 1 and "in/7.mp4" in failed[0], str(rows))
+        for number in (it for it in range(10) if it != 7):
+            grey = subprocess.run(["ffmpeg", "-v", "error", "-i", made / f"{number}.mp4", "-vf", "crop=300:140:74:58", "-pix_fmt", "gray", "-f", "rawvideo", "-"], capture_output=True, check=True, timeout=120).stdout
+            cases.count(f"video {number} has all its frames, each covered", len(grey) == 25 * 300 * 140 and max(grey) < 40, f"{len(grey)} bytes up to {max(grey, default=0)}")
 
 
 def main():
