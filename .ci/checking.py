@@ -2,6 +2,7 @@
 import contextlib
 import pathlib
 import shutil
+import subprocess
 import sys
 import tempfile
 
@@ -57,3 +58,11 @@ def both_builds(cases, name):
     label = f"the build of {name} is there" if len(endings) == 1 else f"both builds of {name} are there"
     cases.count(label, len(programs) == len(endings), f"crates/{name}/out lacks one, or it is older than its sources")
     return programs
+
+
+def preloaded(source, room):
+    """Compiles a file of C by the toolchain's own clang, and returns the library that it makes: a program loads it by LD_PRELOAD."""
+    kit = pathlib.Path(subprocess.run(["rt", "doc"], check=True, capture_output=True, text=True).stdout.strip()).parent / "toolchain/bin"
+    library = f"{room}/{source.stem}.so"
+    subprocess.run([kit / "clang", "-shared", "-fPIC", "-O1", "-nostdlib", f"--ld-path={kit}/ld.lld", "-o", library, source], check=True)
+    return library

@@ -15,9 +15,9 @@ import sys
 import tempfile
 
 sys.path.insert(0, str(pathlib.Path(__file__).resolve().parents[2]))
-from checking import Cases, both_builds
+from checking import ROOT, Cases, both_builds
 from c_library import VERSION
-from frames import count_tries, edits_of, ends, exchanged, lines_said, wanted
+from frames import count_tries, covered, edits_of, ends, exchanged, lines_said, wanted
 
 SAMPLINGS = ("mono", "420jpeg", "420", "422", "411", "444", "444alpha", "420p10", "422p12", "444p16", "mono9", "mono14")
 EDITS = ("fill 4,2,6,4 126", "mosaic 2,2,10,6 4,2", "mosaic 0,0,12,8 64,64", "move 0,0,6,4 4,2", "move 4,2,6,4 0,0", "crop 4,2,6,4", "fill 0,0,0,0 1", "pad 2,4,6,8 16", "pad 4,0,1,3 200", "pad 1,0,0,0 9", "pad 0,2,0,0 9", "fill 4,2,8,4 126", "mosaic 4,0,8,6 4,2", "move 0,0,8,4 4,2", "crop 4,2,8,4", "pad 4,0,8,2 16")
@@ -128,8 +128,8 @@ def by_words(cases, program):
 # A file of edits, and the status that it gives.
 EDIT_FILES = (
     ("", 1), ("\n\n", 1), (" \n", 1), ("# fill 0,0,2,2 9\n", 1), ("fill 0,0,2,2 # 9\n", 1), ("fill 0,0,2,2\v9", 1), ("fill 0,0,2,2\n9", 1), ("fill 0,0,2,2 9 fill 0,0,2,2 9", 1),
-    ("fill 0,0,2,2 9\n3..3 fill 0,0,2,2 9\n", 1), ("crop 0,0,2,2\nfill 0,0,2,2 9", 1),
-    ("\n\nfill 0,0,2,2 9\n\n", 0), ("crop 0,0,2,2\n", 0), ("fill  0,0,2,2 9", 0), (" \tfill\t0,0,2,2 9 \t\r\n", 0), ("fill 0,0,2,2 9#a face", 0), ("#\r\ncover 0,0,2,2 #16\r\n\t \r\n# end", 0),
+    ("fill 0,0,2,2 9\n3..3 fill 0,0,2,2 9\n", 1), ("crop 0,0,2,2\nfill 0,0,2,2 9", 1), ("fill\r0,0,2,2 9\n", 1), ("\rfill 0,0,2,2 9\n", 1), ("fill 0,0,2,2 9\r\r\n", 1), ("fill 0,0,2,2 9\r#", 1),
+    ("\n\nfill 0,0,2,2 9\n\n", 0), ("crop 0,0,2,2\n", 0), ("fill  0,0,2,2 9", 0), (" \tfill\t0,0,2,2 9 \t\r\n", 0), ("fill 0,0,2,2 9#a face", 0), ("#\r\ncover 0,0,2,2 #16\r\n\t \r\n# end", 0), ("# a\rb\r\nfill 0,0,2,2 9\r", 0),
 )  # fmt: skip
 
 # Words, an input, and a part of a line that is printed after the fault.
@@ -148,7 +148,16 @@ REASONS = (
     ("move 0,0,4,4 10,0", "420", "edit 1: it reaches outside the frame"),
     ("crop 0,0,3,4", "420", "the crop or pad: width 3 is no multiple of 2"),
     ("pad 1,0,0,0 9", "420", "the crop or pad: left side 1 is no multiple of 2"),
-    ("fill 0,0,2,2 9 fil 0,0,2,2 9", "mono", "at word 4 there is no edit"),
+    ("fill 0,0,2,2 9 fil 0,0,2,2 9", "mono", "at word 4: fil isn't one of cover, fill"),
+    ("fill 8,8,16,16", "mono", "at word 1: fill needs a brightness V, or a colour R,G,B after a rectangle L,T,W,H"),
+    ("fill 0,0,1 9", "mono", "at word 1: fill needs a rectangle L,T,W,H, and 0,0,1 isn't one"),
+    ("1.. mosaic 0,0,4,4 3", "mono", "at word 1: mosaic needs the size of its tiles TW,TH, and 3 isn't one"),
+    ("cover 0,0,2,2++1", "mono", "at word 1: cover needs a rectangle L,T,W,H, or one with a margin L,T,W,H+M, and 0,0,2,2++1 isn't one"),
+    ("fill 0,0,2,2 9 move", "mono", "at word 4: move needs a rectangle L,T,W,H"),
+    ("crop 0,0,2,2 fill 0,0,2,2 9", "mono", "at word 3: no edit may come after a crop or a pad"),
+    ("1..2 crop 0,0,2,2", "mono", "at word 1: crop takes no range"),
+    ("1...2 fill 0,0,2,2 9", "mono", "at word 1: 1...2 is no range"),
+    ("fill 0,0,2,2 9 1..2", "mono", "at word 4: no edit comes after the range"),
     ("5..5 fill 0,0,2,2 9", "mono", "edit 1: its range has no frame"),
     ("--edits /nowhere", "mono", "the edits file can't be read"),
     ("--limit 100 fill 0,0,2,2 9", "444", "more than 100 bytes"),
@@ -161,6 +170,9 @@ def by_options(cases, program):
     out = ends(program, ["fill", "0,0,2,2", "9"], video("420"))[0]
     lines = lines_said(program, edits.split(), video("420"))
     cases.count("a range that isn't reached is noted", lines == ["note: edit 2: the input has 3 frames, and ends before its range 3..5", ""], str(lines))
+    lines = lines_said(program, "5.. fill 0,0,2,2 9".split(), video("420"))
+    cases.count("a range without an end is noted as one", lines == ["note: edit 1: the input has 3 frames, and ends before its range 5..", ""], str(lines))
+    cases.count("a range from 0 on is reached by no frame", ends(program, "--strict 0.. fill 0,0,2,2 9".split(), video("420", frames=0))[1:] == ("", 0))
     cases.count("a range that isn't reached is a fault where asked", ends(program, ["--strict", *edits.split()], video("420")) == (out, "fault range", 8))
     cases.count("a range that is reached is no fault", ends(program, ["--strict", *edits.replace("3..", "2..").split()], video("420"))[1:] == ("", 0))
     size = 12 * 8 * 3 // 2
@@ -172,7 +184,7 @@ def by_options(cases, program):
         lines = lines_said(program, words.split(), video(sampling))
         cases.count(f"'{words}' says why", any(reason in it for it in lines[1:]), str(lines[:4]))
     with tempfile.NamedTemporaryFile("w", suffix=".edits") as listed:
-        for text, reason in (("fill 0,0,2,2 9\n\n2..2 fill 0,0,2,2 9\n", "line 3: its range has no frame"), ("# a\r\n\r\nfill 0,0,2,2 9\r\n\t2..2  fill 0,0,2,2 9", "line 4: its range has no frame"), ("fill 0,0,2,2 9 # b\n# c\nfil 0,0,2,2 9\n", "at line 3 there is no edit"), ("#\nfill 0,0,2,2 9\n\nfill 0,0,20,2 9", "line 4: it reaches outside")):
+        for text, reason in (("fill 0,0,2,2 9\n\n2..2 fill 0,0,2,2 9\n", "line 3: its range has no frame"), ("# a\r\n\r\nfill 0,0,2,2 9\r\n\t2..2  fill 0,0,2,2 9", "line 4: its range has no frame"), ("fill 0,0,2,2 9 # b\n# c\nfil 0,0,2,2 9\n", "at line 3: fil isn't one of"), ("\nfill 0,0,2,2 9 9\n", "at line 2: a line has one edit, and 9 comes after it"), ("#\nfill 0,0,2,2 9\n\nfill 0,0,20,2 9", "line 4: it reaches outside")):
             listed.seek(0)
             listed.truncate()
             listed.write(text)
@@ -185,6 +197,40 @@ def by_options(cases, program):
         listed.flush()
         lines = lines_said(program, ["--edits", listed.name], video("mono"))
         cases.count("lines whose ranges aren't reached are noted", [it.split(":")[:2] for it in lines[:-1]] == [["note", " line 2"], ["note", " line 5"]], str(lines))
+
+
+def wholly_outside(words, size, steps):
+    """Whether a cover of these words has no pixel of a frame of this size, by the model."""
+    return 0 in covered(edits_of(words.split())[0], size, steps, 255)[3][2:]
+
+
+def by_covers(cases, program):
+    """Covers that cover nothing: each is noted, and is a fault where asked."""
+    for it in (*COVERS[:10], *(f"cover {it}+{margin}" for it in MARGINS for margin in (0, 3))):
+        data = video("420", 13, 9)
+        out, said, status = ends(program, it.split(), data)
+        wanted_note = "note: edit 1: it covers nothing in frame 0, which has 13 by 9 pixels" if wholly_outside(it, (13, 9), (2, 2)) else ""
+        cases.count(f"'{it}' is noted where it covers nothing", (said, status) == (wanted_note, 0), f"{said}, and not {wanted_note}")
+        strict = ends(program, ["--strict", *it.split()], data)
+        cases.count(f"'{it}' is a fault where it covers nothing and that is asked", strict == ((out, "fault cover", 9) if wanted_note else (out, "", 0)), str(strict[1:]))
+    away = "fill 0,0,2,2 9 2..3 cover 40,0,2,2 0..1 cover 0,0,2,2 5..9 cover 0,40,2,2 1.. cover 0,60,2,2"
+    lines = lines_said(program, away.split(), video("420"))
+    cases.count("each cover that covers nothing is noted", lines[:-1] == ["note: edit 2: it covers nothing in frame 2, which has 12 by 8 pixels", "note: edit 5: it covers nothing in frame 1, which has 12 by 8 pixels", "note: edit 4: the input has 3 frames, and ends before its range 5..9"], str(lines))
+    lines = lines_said(program, ["--strict", *away.split()], video("420"))
+    cases.count("and is a fault where it happens in some frames alone", lines[:3] == ["fault cover", "edit 2: it covers nothing in frame 2, which has 12 by 8 pixels", "edit 5: it covers nothing in frame 1, which has 12 by 8 pixels"], str(lines))
+    small, large = b"P5 4 3 255\n" + bytes(12), b"P6 20 9 255\n" + bytes(540)
+    for words, data, note in (
+        ("cover 9,1,1,1", large + small, "frame 1, which has 4 by 3"), ("cover 9,1,1,1", large * 2 + small + large, "frame 2, which has 4 by 3"), ("0..2 cover 9,1,1,1", large * 2 + small, ""), ("1..2 cover 9,1,1,1", small + large, ""),
+        ("2.. cover 9,1,1,1", small + large + small * 2, "frame 2, which has 4 by 3"), ("cover 30,1,1,1", large + small, "frame 0, which has 20 by 9"), ("cover 9,1,1,1", large, ""),
+    ):  # fmt: skip
+        lines = lines_said(program, words.split(), data)
+        cases.count(f"'{words}' of {len(data)} bytes of pictures is noted where it covers nothing", lines[:-1] == ([f"note: edit 1: it covers nothing in {note} pixels"] if note else []), str(lines))
+        cases.count("and is a fault where asked", ends(program, ["--strict", *words.split()], data)[1:] == (("fault cover", 9) if note else ("", 0)))
+    with tempfile.NamedTemporaryFile("w", suffix=".edits") as listed:
+        listed.write("# a face\n0..1 cover 1,1,2,2\n1..2 cover 50,1,2,2 # lost\n2.. cover 1,1,2,2\n")
+        listed.flush()
+        lines = lines_said(program, ["--edits", listed.name], video("420"))
+        cases.count("the note has the line of a file of edits", lines[:-1] == ["note: line 3: it covers nothing in frame 1, which has 12 by 8 pixels"], str(lines))
 
 
 def by_files(cases, program):
@@ -215,7 +261,7 @@ def by_files(cases, program):
         there = sorted(pathlib.Path(folder).iterdir())
         for name, options, data, fault in (
             ("a cut frame", [], made[:-1], "frame 2"), ("no video", [], b"RIFF", "header"), ("an edit outside", [], video("420", 4, 4), "outside"), ("the limit", ["--limit", "9"], made, "memory 0"),
-            ("an input that isn't there", ["-i", f"{folder}/none"], b"", "input"), ("a range that isn't reached", ["--strict", "9..10"], made, "range"),
+            ("an input that isn't there", ["-i", f"{folder}/none"], b"", "input"), ("a range that isn't reached", ["--strict", "9..10"], made, "range"), ("a cover that covers nothing", ["--strict", "cover", "99,0,2,2"], made, "cover"),
         ):  # fmt: skip
             taken.write_bytes(b"old")
             strict = options[:1] == ["--strict"]
@@ -226,6 +272,27 @@ def by_files(cases, program):
             cases.count(f"{name} leaves no output", said[:2] == (b"", f"fault {fault}") and not taken.exists(), str(said))
         for name in (f"{folder}/none/out", folder, "/dev/null", "/dev/full"):
             cases.count(f"{name if name[:5] == '/dev/' else 'a folder or none'} is no output", ends(program, ["-o", name, *words], made) == (b"", "fault output", 5))
+        said = ends(program, ["-i", "-", "-o", "-", *words], made)
+        cases.count("- is standard input and output", said == (out, "", 0) and not pathlib.Path(folder, "-").exists(), str(said))
+        said = lines_said(program, ["--edits", "-", "-i", "-"], other.read_bytes())
+        cases.count("and can't be the edits too", said[0] == "fault words" and "-i has to name the input" in said[1], str(said[:2]))
+        before = len(os.listdir(folder))
+        for name in ("x" * 250, "x" * 255, "y" + "\u00e4" * 127):
+            long = pathlib.Path(folder, name)
+            said = ends(program, ["-o", long, *words], made)
+            cases.count(f"an output with a name of {len(name.encode())} bytes", said == (b"", "", 0) and long.read_bytes() == out and len(os.listdir(folder)) == before + 1, str(said))
+            long.unlink(missing_ok=True)
+        link, far = pathlib.Path(folder, "link"), pathlib.Path(folder, "far")
+        far.mkdir()
+        pathlib.Path(far, "target").write_bytes(b"old")
+        link.symlink_to("far/target")
+        said = ends(program, ["-o", link, *words], made)
+        cases.count("a symbolic link stays, and its target is replaced", said == (b"", "", 0) and link.is_symlink() and pathlib.Path(far, "target").read_bytes() == out and os.listdir(far) == ["target"], str(said))
+        link.unlink()
+        link.symlink_to("none/target")
+        cases.count("a link to nothing is no output", ends(program, ["-o", link, *words], made) == (b"", "fault output", 5) and link.is_symlink())
+        said = subprocess.run([program, "-o", os.fsencode(folder) + b"/\xff", *words], input=made, capture_output=True, timeout=120)
+        cases.count("a word that isn't UTF-8 is named as such", said.returncode == 1 and said.stderr.startswith(b"fault words\na word isn't UTF-8"), str(said.stderr[:80]))
         taken.write_bytes(b"old")
         with subprocess.Popen([program, "-o", taken, *words], stdin=subprocess.PIPE, stderr=subprocess.DEVNULL) as it:
             it.stdin.write(made[:-1])
@@ -251,6 +318,14 @@ def by_memory(cases, program):
         for words in ("fill 0,0,2,2 9", "crop 0,0,2,2"):
             most, status = most_memory(program, ["--limit", "9000000000", *words.split()], head + bytes(5000000))
             cases.count(f"the head of a {name} with {words} touches little memory", status in (2, 7) and most < 200000, f"{most} KiB, status {status}")
+    with tempfile.NamedTemporaryFile(suffix=".pgm") as pictures:
+        for head, size in ((b"P5 1 20000000 255\n", 20000000), (b"P5 11900 10000 255\n", 119000000)):
+            pictures.write(head)
+            pictures.truncate(pictures.tell() + size)
+            pictures.seek(0, os.SEEK_END)
+        pictures.flush()
+        most, status = most_memory(program, ["-i", pictures.name, "--limit", "240000000", "pad", "0,0,10,0", "1"], b"")
+        cases.count("buffers of a picture before are within the limit", status == 0 and most < 260000, f"{most} KiB, status {status}")
 
 
 def through(program, words, made, command):
@@ -296,13 +371,33 @@ def by_h264(cases, program):
 
 
 def by_parallel(cases, program):
-    # (a cover needs no whole chroma samples, so it fits each of the videos)
-    words = "cover 4,2,6,4 126"
+    """The commands of docs/FRAMES.md for many videos, with the path of the program in the place of its name."""
+    commands = [it.strip().replace("imgref_frames ", f"{program} ") for it in (ROOT / "docs/FRAMES.md").read_text().split("\n") if it.startswith("    ls in/")]
+    words = "cover 64,48,320,160"
     with tempfile.TemporaryDirectory() as folder:
+        given, made = pathlib.Path(folder, "in"), pathlib.Path(folder, "out")
+        given.mkdir()
+        made.mkdir()
         for name in SAMPLINGS:
-            pathlib.Path(folder, f"{name}.y4m").write_bytes(video(name))
-        subprocess.run(["sh", "-c", f"ls {folder}/*.y4m | parallel --will-cite '{program} {words} < {{}} > {{}}.out'"], check=True, timeout=120)
-        cases.count("a folder of videos goes through parallel", all(pathlib.Path(folder, f"{name}.y4m.out").read_bytes() == wanted(video(name), words.split())[0] for name in SAMPLINGS))
+            (given / f"{name}.y4m").write_bytes(video(name, 100, 80))
+        (made / "mono.y4m").write_bytes(b"made before")
+        subprocess.run(["bash", "-c", commands[1]], cwd=folder, check=True, capture_output=True, timeout=120)
+        cases.count("a folder of videos goes through parallel", all((made / f"{name}.y4m").read_bytes() == wanted(video(name, 100, 80), words.split())[0] for name in SAMPLINGS[1:]))
+        cases.count("and a video that is there is left out", (made / "mono.y4m").read_bytes() == b"made before")
+        if not shutil.which("ffmpeg"):
+            return
+        for number in range(10):
+            source = f"-f lavfi -i testsrc2=size=448x256:rate=25:duration=1 -vf negate=enable={number % 2}"
+            subprocess.run(["ffmpeg", "-v", "error", *source.split(), "-movflags", "+faststart", given / f"{number}.mp4"], check=True, timeout=120)
+        whole = (given / "7.mp4").read_bytes()
+        (given / "7.mp4").write_bytes(whole[: len(whole) // 2])
+        done = subprocess.run(["bash", "-c", commands[0]], cwd=folder, capture_output=True, timeout=300)
+        rows = [it.split("\t") for it in pathlib.Path(folder, "jobs").read_text().split("\n")[1:-1]]
+        failed = [it[8] for it in rows if it[6] != "0"]
+        cases.count("of ten videos through parallel the one that is cut off alone has another status", len(rows) == 10 and done.returncode == 1 and len(failed) == 1 and "in/7.mp4" in failed[0], str(rows))
+        for number in (it for it in range(10) if it != 7):
+            grey = subprocess.run(["ffmpeg", "-v", "error", "-i", made / f"{number}.mp4", "-vf", "crop=300:140:74:58", "-pix_fmt", "gray", "-f", "rawvideo", "-"], capture_output=True, check=True, timeout=120).stdout
+            cases.count(f"video {number} has all its frames, each covered", len(grey) == 25 * 300 * 140 and max(grey) < 40, f"{len(grey)} bytes up to {max(grey, default=0)}")
 
 
 def main():
@@ -312,6 +407,7 @@ def main():
         by_model(cases, str(program))
         by_words(cases, str(program))
         by_options(cases, str(program))
+        by_covers(cases, str(program))
         by_files(cases, str(program))
         by_memory(cases, str(program))
         if shutil.which("ffmpeg"):

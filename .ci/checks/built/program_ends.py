@@ -1,16 +1,20 @@
 #!/usr/bin/env python3
 """Shows how the program ends: what it prints and its status, where its script or one of its devices is bad.
 
-No clause speaks of `main`, so its arm for a fault is run: on a bad script, without input, and with devices that fail. Both
+No clause speaks of `main`, so its arm for a fault is run: on a bad script, without input, and with devices that fail. A signal
+that interrupts a call changes nothing, in the program for video and pictures neither. Both
 builds are run that `rt ci` leaves in crates/imgref_run/out: LLVM's, and that of Rattle's own compiler.
 """
+import os
 import pathlib
 import subprocess
 import sys
+import tempfile
 
 sys.path.insert(0, str(pathlib.Path(__file__).resolve().parents[2]))
-from checking import ROOT, Cases, both_builds
+from checking import ROOT, Cases, both_builds, preloaded
 
+INTERRUPTS = pathlib.Path(__file__).resolve().with_name("interrupted.c")
 SCRIPT = (ROOT / "examples/first.script").read_bytes()
 WRITTEN = (ROOT / "crates/imgref_run/stdout").read_bytes()
 BAD = b"image 1 1 1 5\nget 0 - 00 0\n"
@@ -45,8 +49,24 @@ def redirected(given, taken):
     return f'exec "$1" {source} {sink}'
 
 
+def interrupted(cases):
+    """Each second call that reads or writes is interrupted, and the output is the same."""
+    pictures = b"P5 3 1 255\nabc" * 2
+    with tempfile.TemporaryDirectory() as room:
+        env = {**os.environ, "LD_PRELOAD": preloaded(INTERRUPTS, room)}
+        named = pathlib.Path(room, "named")
+        for name, words, given, wanted in (
+            ("imgref_run", [], SCRIPT, WRITTEN), ("imgref_frames", ["fill", "0,0,1,1", "65"], pictures, b"P5\n3 1\n255\nAbc" * 2),
+            ("imgref_frames", ["-o", named, "fill", "0,0,1,1", "65"], pictures, b""), ("imgref_frames", ["-i", named, "fill", "1,0,1,1", "66"], b"", b"P5\n3 1\n255\nABc" * 2),
+        ):  # fmt: skip
+            for program in both_builds(cases, name):
+                ran = subprocess.run([program, *words], input=given, env=env, capture_output=True, timeout=60)
+                cases.count(f"{program.name} {' '.join(map(str, words[:1]))}: interrupted calls are made again", (ran.stdout, ran.returncode) == (wanted, 0), str(ran))
+
+
 def main():
     cases = Cases()
+    interrupted(cases)
     programs = both_builds(cases, "imgref_run")
     for program in programs:
         for label, given, taken, wanted, status in CASES:

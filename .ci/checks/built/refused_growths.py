@@ -20,7 +20,7 @@ import tempfile
 sys.path.insert(0, str(pathlib.Path(__file__).resolve().parents[2]))
 import frames
 import model
-from checking import ROOT, Cases, both_builds, built, crates, says
+from checking import ROOT, Cases, both_builds, built, crates, preloaded, says
 
 REFUSES = pathlib.Path(__file__).resolve().with_name("refused_growth.c")
 SCRIPTS = sorted((ROOT / "examples").glob("*.script"))
@@ -39,14 +39,6 @@ CALLS = [("imgref_replay_tests", "tests::commands::refused_memory_changes_nothin
          ("imgref_hostile_tests", "tests::memory::a_copy_takes_its_room_at_once", "tests::memory::what_needs_no_memory_takes_none", 2)]
 # No test and no program takes more growths than this.
 MOST = 10_000
-
-
-def made(room):
-    """Compiles REFUSES by the toolchain's own clang, and returns the library that it makes."""
-    kit = pathlib.Path(subprocess.run(["rt", "doc"], check=True, capture_output=True, text=True).stdout.strip()).parent / "toolchain/bin"
-    how = ["-shared", "-fPIC", "-O1", "-nostdlib", f"--ld-path={kit}/ld.lld"]
-    subprocess.run([kit / "clang", *how, "-o", f"{room}/refused_growth.so", REFUSES], check=True)
-    return f"{room}/refused_growth.so"
 
 
 def runs(library, command, given=b""):
@@ -100,7 +92,7 @@ def main():
     # A failed assertion aborts, and would leave a core file.
     resource.setrlimit(resource.RLIMIT_CORE, (0, 0))
     with tempfile.TemporaryDirectory(prefix="growths-") as room, concurrent.futures.ThreadPoolExecutor(4) as pool:
-        library = made(room)
+        library = preloaded(REFUSES, room)
         scripts = [*((it.name, it.read_bytes(), 0) for it in SCRIPTS), ("a large image", LARGE, 1)]
         tries = [("imgref_run", [], label, script, ({b"fault memory\n": b"fault memory\n"}, 3), model.answer(script), spared) for label, script, spared in scripts]
         listed = pathlib.Path(room, "edits")

@@ -1,6 +1,7 @@
 -- A device with a count of its failures.
 use Rattle.std.specs.Prelude.{ℕ, ◌==◌, ◌&&◌, nat_lt, if◌then◌else◌, List, length, Result, Ok, Err}
 use Rattle.devices.specs.declared.counted.Counted.{Counted}
+use Rattle.devices.specs.declared.retried.Retried.{Retried}
 
 -- what a `Counted` holds
 abbrev pub device_of : {D : Type 0} → Counted D → D
@@ -19,3 +20,7 @@ errors (Err e) = 1
 abbrev pub misses : {E : Type 0} → Result ℕ E → List ℕ → ℕ
 misses (Ok n) piece = if n == 0 && nat_lt 0 (length piece) then 1 else 0
 misses (Err e) piece = 1
+
+-- what a `Retried` holds
+abbrev pub retried_device : {D : Type 0} → Retried D → D
+retried_device r = r.device

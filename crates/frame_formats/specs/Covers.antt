@@ -1,5 +1,5 @@
 -- What a cover is in a frame: a fill of whole samples, with a margin.
-use Rattle.std.specs.Prelude.{ℕ, ◌+◌, ◌-◌, ◌*◌, ◌%◌, ◌==◌, nat_le, if◌then◌else◌, Option, Some, None, min, max}
+use Rattle.std.specs.Prelude.{ℕ, ◌+◌, ◌-◌, ◌*◌, ◌%◌, ◌==◌, ◌||◌, Bool, false, nat_le, if◌then◌else◌, Option, Some, None, min, max}
 use Rattle.std.specs.Option.{option_map}
 use Rattle.image_shape.specs.declared.window.Window.{Window}
 use Rattle.image_planes.specs.declared.change.Change.{Change}
@@ -75,6 +75,21 @@ abbrev pub settled : Samples → ℕ → ℕ → Change Paint → Change Paint
 settled s width height (Fill w paint) = fill_in s width height w paint
 settled s width height (Mosaic w tile_width tile_height) = Mosaic w tile_width tile_height
 settled s width height (Move w left top) = Move w left top
+
+-- a cover whose window has no pixel: it is outside, or its margin and its size are 0
+abbrev pub has_no_pixel : Window → Bool
+has_no_pixel w = w.width == 0 || w.height == 0
+
+abbrev pub nothing_filled : Samples → ℕ → ℕ → Window → Paint → Bool
+nothing_filled s width height w (Grey value) = false
+nothing_filled s width height w Black = false
+nothing_filled s width height w (Colour red green blue) = false
+nothing_filled s width height w (Around value margin) = has_no_pixel (cover_window s margin width height w)
+
+abbrev pub covers_nothing : Samples → ℕ → ℕ → Change Paint → Bool
+covers_nothing s width height (Fill w paint) = nothing_filled s width height w paint
+covers_nothing s width height (Mosaic w tile_width tile_height) = false
+covers_nothing s width height (Move w left top) = false
 
 -- an edit as a step of a frame of this size, where its range has frames at this rate
 abbrev pub step_in : Samples → Option Rate → ℕ → ℕ → Edit → Option (Step Paint)

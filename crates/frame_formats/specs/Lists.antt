@@ -2,6 +2,7 @@
 use Rattle.std.specs.Prelude.{◌≡◌, ◌==◌, ◌||◌, ℕ, Bool, not, filter, List, [], ◌∷◌, ◌++◌, Option, Some, None, drop, length, if◌then◌else◌}
 use Rattle.std.specs.List.{flat_map, slice_split}
 use Rattle.std.specs.Borrow.{Bor}
+use Rattle.std.specs.Str.Lines.{strip_carriage_return}
 use Rattle.std.specs.Option.{is_none, option_map}
 use Rattle.text_model.specs.Parts.{parts_of}
 use Rattle.text_model.specs.Reading.{◌>>=◌, is_nil}
@@ -41,9 +42,9 @@ edit_of words = edit_at words >>= λ e. if e.count == length words then Some e e
 abbrev pub with_one : Plain → List (List ℕ) → Option Plain
 with_one old words = if is_none old.framing then option_map (λ e. edits (old.steps ++ e.steps) e.framing) (edit_of words) else None
 
--- a space, a tab, or the carriage return that some systems write before a line feed
+-- a space or a tab
 abbrev pub is_white : ℕ → Bool
-is_white b = (b == 32 || b == 9) || b == 13
+is_white b = b == 32 || b == 9
 
 -- what comes before the first #, which begins a comment
 abbrev pub front_of : List (List ℕ) → List ℕ
@@ -53,9 +54,9 @@ front_of (front ∷ others) = front
 abbrev pub uncommented : List ℕ → List ℕ
 uncommented line = front_of (parts_of 35 line)
 
--- the words of a line, with white space between them and around them
+-- the words of a line, with white space between them and around them; some systems end a line with a carriage return
 abbrev pub line_words : List ℕ → List (List ℕ)
-line_words line = filter (λ word. not (is_nil word)) (slice_split is_white (uncommented line))
+line_words line = filter (λ word. not (is_nil word)) (slice_split is_white (uncommented (strip_carriage_return line)))
 
 -- the pieces of what is left of a line
 abbrev pub pieces_left : Option (Bor (List ℕ)) → List (List ℕ)

@@ -3,9 +3,10 @@
 ghost use Rattle.std.specs.Prelude.{◌≡◌, ◌<◌, IfOk, IfErr, Some, None};
 ghost use Rattle.frame_formats.specs.Plan.{Tells};
 ghost use Rattle.frame_formats.specs.Steps.{all_some};
-ghost use Rattle.frame_formats.specs.Covers.{chroma_unit, video_unit, margin_of, cover_start, cover_count, cover_window, fill_in, settled, step_in};
+ghost use Rattle.frame_formats.specs.Covers.{chroma_unit, video_unit, margin_of, cover_start, cover_count, cover_window, covers_nothing, fill_in, one_pixel, settled, step_in};
 
 use crate::header::{Chroma, Format};
+use crate::picture::Picture;
 use crate::plans::PlanFault;
 use crate::ranges::Rate;
 use crate::steps::Paint;
@@ -120,6 +121,40 @@ fn settle(unit: Unit, width: usize, height: usize, change: Change<Paint>) -> Cha
         },
         _ => change,
     }
+}
+
+// Whether a change is a cover that covers no pixel of a frame of this size.
+fn covers_nothing(unit: Unit, width: usize, height: usize, change: Change<Paint>) -> bool
+    requires across { 0 < unit.across }
+    requires down { 0 < unit.down }
+    ensures { result ≡ covers_nothing unit width height change }
+{
+    match change {
+        Change::Fill {
+            window,
+            value: Paint::Around { margin, .. },
+        } => {
+            let window = cover_window(unit, margin, width, height, window);
+            window.width == 0 || window.height == 0
+        }
+        _ => false,
+    }
+}
+
+/// Whether a change is a cover that covers no pixel of a frame of a video. Then it is outside, or its
+/// size and its margin are 0.
+pub fn video_covers_nothing(format: Format, change: Change<Paint>) -> bool
+    ensures { result ≡ covers_nothing (video_unit format) format.width format.height change }
+{
+    covers_nothing(unit_of_video(format), format.width, format.height, change)
+}
+
+/// The same of a picture.
+pub fn picture_covers_nothing(picture: Picture, change: Change<Paint>) -> bool
+    ensures { result ≡ covers_nothing one_pixel picture.width picture.height change }
+{
+    let unit = Unit { across: 1, down: 1 };
+    covers_nothing(unit, picture.width, picture.height, change)
 }
 
 /// The edits as steps of a frame of this size. A cover is the fill that it is there, and a range of

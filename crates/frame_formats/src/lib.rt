@@ -22,12 +22,12 @@ mod samples;
 mod steps;
 mod words;
 
-pub use covers::Unit;
+pub use covers::{Unit, picture_covers_nothing, video_covers_nothing};
 pub use framing::Framing;
 pub use header::{Chroma, Format, read_format, read_size};
 pub use hiding::recipes_hide;
 pub use image_planes::{Change, Window};
-pub use lists::{Edits, WordsFault};
+pub use lists::{Edits, WordsFault, line_words};
 pub use pam::{Fields, Lines, Place, Tuples};
 pub use pam_words::Key;
 pub use picture::{Head, Kind, Picture, Scan, heads_end_themselves};

@@ -2,6 +2,7 @@
 
 ghost use Rattle.std.specs.Prelude.{◌≡◌, ◌<◌, ◌≤◌, map, take as list_take, [], ◌∷◌, position, Some, None, IfOk, IfErr, OnOk, length};
 ghost use Rattle.std.specs.List.{slice_split};
+ghost use Rattle.std.specs.Str.Lines.{strip_carriage_return};
 ghost use Rattle.std.specs.Option.{option_map};
 ghost use Rattle.text_model.specs.Parts.{parts_of};
 ghost use Rattle.frame_formats.specs.Lists.{Adds, AddsNone, is_white, pieces_left, uncommented, line_words, with_one, with_line, with_lines, plain};
@@ -11,6 +12,17 @@ use crate::framing::Framing;
 use crate::words::{Edit, read_framing, read_ranged};
 use std::alloc::{AllocError, Global};
 use texts::Parts;
+
+// A line without the carriage return that it may end with.
+fn before_return(line: &[u8]) -> &[u8]
+    ensures { result.now ≡ strip_carriage_return line.now }
+{
+    let len = line.len();
+    if len > 0 && line[len - 1] == b'\r' {
+        return &line[..len - 1];
+    }
+    line
+}
 
 // A line without its comment.
 fn before_comment(line: &[u8]) -> &[u8]
@@ -25,7 +37,7 @@ fn before_comment(line: &[u8]) -> &[u8]
 fn is_white(byte: u8) -> bool
     ensures { result ≡ is_white byte }
 {
-    byte == b' ' || byte == b'\t' || byte == b'\r'
+    byte == b' ' || byte == b'\t'
 }
 
 // Where the first white space is.
@@ -45,12 +57,12 @@ fn next_piece(line: &[u8]) -> (&[u8], Option<&[u8]>)
     }
 }
 
-// The words of a line.
-fn words_of<'a>(alloc: Global, line: &'a [u8]) -> Result<Vec<&'a [u8]>, AllocError>
+/// The words of a line of edits, without its comment.
+pub fn line_words<'a>(alloc: Global, line: &'a [u8]) -> Result<Vec<&'a [u8]>, AllocError>
     ensures { IfOk result (λ words. map (λ w. w.now) words.items ≡ line_words line.now) }
 {
     let mut words = Vec::new(alloc);
-    let mut rest = Some(before_comment(line));
+    let mut rest = Some(before_comment(before_return(line)));
     while let Some(bytes) = rest {
         let (word, others) = next_piece(bytes);
         if !word.is_empty() {
@@ -191,7 +203,7 @@ impl Edits {
             (λ e. e ≡ WordsFault.NoEdit → with_line (plain self.old) line.now ≡ None) }
         ensures same { IfErr result (λ _. plain self.new ≡ plain self.old) }
     {
-        let Ok(words) = words_of(alloc, line) else {
+        let Ok(words) = line_words(alloc, line) else {
             return Err(WordsFault::Memory);
         };
         if words.is_empty() {
@@ -201,8 +213,8 @@ impl Edits {
     }
 
     /// Adds the edits that the lines of a text name, one on each line. Between words and around them
-    /// there may be spaces and tabs, and a carriage return. A `#` begins a comment, up to the end of
-    /// its line. A line with no word is ignored.
+    /// there may be spaces and tabs. A line may end with a carriage return. A `#` begins a comment,
+    /// up to the end of its line. A line with no word is ignored.
     ///
     /// # Errors
     ///

@@ -5,8 +5,8 @@ use frame_formats::{Fields, Head, Key, Lines, Place, Scan, read_size};
 use std::str;
 use texts::Parts;
 
-// The bytes as a text, where all of them can be printed.
-fn shown(bytes: &[u8]) -> &str {
+/// The bytes as a text, where all of them can be printed.
+pub(crate) fn shown(bytes: &[u8]) -> &str {
     for byte in bytes {
         if *byte < b'!' || *byte > b'~' {
             return "..";
@@ -184,6 +184,10 @@ fn key_name(key: Key) -> &'static str {
 // The byte, of this word, is bad after these lines.
 fn say_no_line(rt: &HostRuntime, lines: Lines, byte: u8, word: &[u8]) {
     let _ = match lines.place {
+        _ if byte == b'\r' => eprintln!(rt;
+            "a line of the head has a carriage return, and must end with a line feed alone"
+        ),
+        Place::Kind => eprintln!(rt; "after P7 there is no line feed"),
         Place::Number(key, Some(_)) if byte == b'\n' => {
             eprintln!(rt; "{} occurs twice in the head", key_name(key))
         }
@@ -193,10 +197,11 @@ fn say_no_line(rt: &HostRuntime, lines: Lines, byte: u8, word: &[u8]) {
                 key_name(key)
             )
         }
-        Place::Word(Key::End, _) => {
-            say_no_picture_in(rt, lines.fields);
+        Place::Word(key, count) if count == key_name(key).len() && byte <= b' ' => {
+            say_no_value(rt, lines.fields, key, byte);
             Ok(())
         }
+        Place::Gap if byte == b'\n' => eprintln!(rt; "TUPLTYPE needs a type on its line"),
         Place::Gap | Place::Letters(..) => {
             eprintln!(rt;
                 "TUPLTYPE {} isn't supported, or occurs twice: only GRAYSCALE, RGB, GRAYSCALE_ALPHA and RGB_ALPHA. pnmdepth 255 makes one of them of black and white, and pamtopnm -assume makes P5 or P6 of others",
@@ -206,6 +211,22 @@ fn say_no_line(rt: &HostRuntime, lines: Lines, byte: u8, word: &[u8]) {
         _ => eprintln!(rt;
             "{} isn't one of WIDTH, HEIGHT, DEPTH, MAXVAL, TUPLTYPE and ENDHDR, alone on a line or with a value",
             shown(word)
+        ),
+    };
+}
+
+// The byte is bad after this word.
+fn say_no_value(rt: &HostRuntime, fields: Fields, key: Key, byte: u8) {
+    let _ = match key {
+        Key::End if byte == b'\n' => {
+            say_no_picture_in(rt, fields);
+            Ok(())
+        }
+        Key::End => eprintln!(rt; "ENDHDR has the byte {byte} after it, and needs a line feed"),
+        Key::Tupltype => eprintln!(rt; "TUPLTYPE needs a type on its line"),
+        _ => eprintln!(rt;
+            "{} needs a number up to 4294967295 on its line",
+            key_name(key)
         ),
     };
 }

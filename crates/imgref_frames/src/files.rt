@@ -1,11 +1,15 @@
 //! The input and the output of the program: the standard streams, or files by their names.
 
+use devices::Retried;
 use std::fs::File;
 use std::io::{ErrorKind, Read, Stdin, Stdout, Write};
 use std::{fs, io};
 
 // So many names beside that of the output are tried.
 const TRIES: u32 = 1000;
+
+// So many bytes of a file's name are kept in those: with `.999.part` it has at most 255.
+const LONGEST: usize = 246;
 
 // So many bytes at the front of the input are kept, to tell why it begins with no frame.
 const FRONT: usize = 1024;
@@ -29,7 +33,7 @@ impl Read for Input {
 /// Where the bytes come from, and the first of them.
 #[derive(Drop)]
 pub(crate) struct Source {
-    input: Input,
+    input: Retried<Input>,
     front: [u8; FRONT],
     len: usize,
 }
@@ -42,7 +46,7 @@ impl Source {
             Some(name) => Input::Named(File::open(rt, name)?),
         };
         Ok(Source {
-            input,
+            input: Retried::new(input),
             front: [0; FRONT],
             len: 0,
         })
@@ -145,12 +149,41 @@ fn create_new(rt: &HostRuntime, name: &str) -> io::Result<Option<File>> {
     }
 }
 
+/// The file that gets the output of this name: that to which a symbolic link leads, or its own.
+pub(crate) fn target_of(rt: &HostRuntime, name: &str) -> io::Result<String> {
+    match fs::symlink_metadata(rt, name) {
+        Ok(found) if found.file_type().is_symlink() => {
+            Ok(fs::canonicalize(rt, name)?.into_string())
+        }
+        _ => Ok(String::from_str(rt.alloc(), name)?),
+    }
+}
+
+// A name with which one of a new file may begin: a file's name has at most 255 bytes.
+fn shortened(name: &str) -> &str {
+    let start = match name.rfind('/') {
+        Some(at) => at + 1,
+        None => 0,
+    };
+    if name.len() - start <= LONGEST {
+        return name;
+    }
+    // A character has at most four bytes.
+    for less in 0..4 {
+        if let Some(front) = name.get(..start + LONGEST - less) {
+            return front;
+        }
+    }
+    name
+}
+
 /// A new file beside the one of this name, with the same permissions, and the name that it has
 /// until it is whole.
 pub(crate) fn create_beside(rt: &HostRuntime, name: &str) -> io::Result<(File, String)> {
     check_name(rt, name)?;
+    let front = shortened(name);
     for number in 0..TRIES {
-        let beside = format!(in rt.alloc(); "{name}.{number}.part")?;
+        let beside = format!(in rt.alloc(); "{front}.{number}.part")?;
         if let Some(file) = create_new(rt, beside.as_str())? {
             match copy_permissions(rt, &file, name) {
                 Ok(()) => return Ok((file, beside)),

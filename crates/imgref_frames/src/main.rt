@@ -1,6 +1,7 @@
 //! Edits frames of raw video or pictures, one by one, from standard input to standard output.
 #![tactic(auto)]
 
+mod bad_edits;
 mod beginnings;
 mod cells;
 mod fault;
@@ -16,15 +17,16 @@ mod words;
 
 use beginnings::say_no_head;
 pub use devices::Counted;
+use devices::Retried;
 pub use fault::RunFault;
-use files::{Sink, Source, create_beside, read_whole};
+use files::{Sink, Source, create_beside, read_whole, target_of};
 use frame_formats::Edits;
 pub use frame_formats::{Change, Edit, Format, Framing, Paint, Picture, Range, Rate, Window};
 use options::{Options, read_options};
 pub use program::run;
-use ranges::say_unreached;
+use ranges::{say_uncovered, say_unreached};
 use reasons::{say_no_words, say_reason};
-pub use request::Seen;
+pub use request::{Seen, Shape, Stretch};
 use std::io::{BufReader, ErrorKind};
 use std::process::ExitCode;
 use std::{fs, io};
@@ -47,11 +49,13 @@ EDIT is one of these. The edits are applied to each frame or picture, in their o
 A..B: only the frames A to B-1, counted from 0; A..: from A on.
       Times of a video, as 00:01:02.5..00:01:04: the frames from one up to the other.
 OPTION:
-       -i FILE           reads the input from a file
-       -o FILE           writes the output to a file, which gets its name once it is whole
+       -i FILE           reads the input from a file; - is standard input
+       -o FILE           writes the output to a file, which gets its name once it is whole;
+                         - is standard output
        --edits FILE      reads the edits from a file: one on each line, # begins a comment
        --edits -         reads them from standard input; only with -i
-       --strict          a range that the input doesn't reach is a fault
+       --strict          a range that the input doesn't reach is a fault, and so is a cover
+                         that covers nothing
        --limit BYTES     how many bytes all buffers may have: 1073741824 without it
        --help, -h        prints this
        --version         prints the version
@@ -62,6 +66,9 @@ const VERSION: &str = "imgref_frames 0.1.0";
 
 // The status where a range was not reached, and that is a fault.
 const RANGE: u8 = 8;
+
+// The status where a cover covers nothing, and that is a fault.
+const COVER: u8 = 9;
 
 // How many bytes are read ahead: as many as a pipe holds.
 const AHEAD: usize = 65536;
@@ -95,17 +102,17 @@ impl Call<'_> {
     // The fault of a file that can't be opened, or of memory for it.
     fn fail_at(&self, error: io::Error, fault: RunFault) -> u8 {
         if error.kind() == ErrorKind::OutOfMemory {
-            self.fail(RunFault::Memory(0), Seen::Nothing)
+            self.fail(RunFault::Memory(0), Seen::nothing())
         } else {
-            self.fail(fault, Seen::Nothing)
+            self.fail(fault, Seen::nothing())
         }
     }
 
     // Runs the edits over the input, and returns the status.
     fn pass(&self, input: BufReader<Source>, output: Sink) -> u8 {
-        let mut seen = Seen::Nothing;
+        let mut seen = Seen::nothing();
         let mut reader = Counted::new(input);
-        let mut writer = Counted::new(output);
+        let mut writer = Counted::new(Retried::new(output));
         let result = run(
             self.rt.alloc(),
             self.options.limit,
@@ -125,12 +132,20 @@ impl Call<'_> {
                 return status;
             }
         };
-        if writer.device().sync().is_err() {
+        if writer.device().device().sync().is_err() {
             return self.fail(RunFault::Output, seen);
         }
+        self.note(seen, count)
+    }
+
+    // Prints which edits did nothing in so many frames, and returns the status.
+    fn note(&self, seen: Seen, count: u64) -> u8 {
+        let (rt, steps, text) = (self.rt, &self.edits.steps, self.text);
         let strict = self.options.strict;
-        let rate = seen.rate();
-        if say_unreached(self.rt, count, rate, &self.edits.steps, self.text, strict) && strict {
+        if say_uncovered(rt, seen.uncovered(count, steps), steps, text, strict) && strict {
+            return COVER;
+        }
+        if say_unreached(rt, count, seen.rate(), steps, text, strict) && strict {
             return RANGE;
         }
         0
@@ -138,17 +153,21 @@ impl Call<'_> {
 
     // The same with an output of this name. On a fault the name stays as it was.
     fn pass_to(&self, input: BufReader<Source>, name: &str) -> u8 {
-        let (file, beside) = match create_beside(self.rt, name) {
+        let target = match target_of(self.rt, name) {
+            Ok(target) => target,
+            Err(error) => return self.fail_at(error, RunFault::Output),
+        };
+        let (file, beside) = match create_beside(self.rt, target.as_str()) {
             Ok(made) => made,
             Err(error) => return self.fail_at(error, RunFault::Output),
         };
         let status = self.pass(input, Sink::Named(file));
-        if status == 0 && fs::rename(self.rt, beside.as_str(), name).is_ok() {
+        if status == 0 && fs::rename(self.rt, beside.as_str(), target.as_str()).is_ok() {
             return 0;
         }
         let _ = fs::remove_file(self.rt, beside.as_str());
         if status == 0 {
-            return self.fail(RunFault::Output, Seen::Nothing);
+            return self.fail(RunFault::Output, Seen::nothing());
         }
         status
     }
@@ -161,7 +180,7 @@ impl Call<'_> {
         };
         let input = match BufReader::with_capacity(self.rt.alloc(), AHEAD, source) {
             Ok(input) => input,
-            Err(_) => return self.fail(RunFault::Memory(0), Seen::Nothing),
+            Err(_) => return self.fail(RunFault::Memory(0), Seen::nothing()),
         };
         match name_at(words, self.options.output) {
             Some(name) => self.pass_to(input, name),

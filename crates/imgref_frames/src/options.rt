@@ -10,7 +10,7 @@ const LIMIT: usize = 1 << 30;
 /// What the words before the edits ask for. A name is told by its place among the words.
 #[derive(Clone, Copy)]
 pub(crate) struct Options {
-    /// Whether a range of frames that the input doesn't reach is a fault.
+    /// Whether a range that the input doesn't reach is a fault, and a cover that covers nothing.
     pub(crate) strict: bool,
     /// How many bytes all buffers may have.
     pub(crate) limit: usize,
@@ -47,6 +47,15 @@ fn option_of(word: &[u8]) -> Option<Followed> {
     }
 }
 
+// The place of a name, or `None` where it stands for a standard stream.
+fn place_of(word: &[u8], at: usize) -> Option<usize> {
+    if word == b"-".as_slice() {
+        None
+    } else {
+        Some(at)
+    }
+}
+
 impl Options {
     // Takes an option with the word at this place. Returns whether it is one.
     fn take(&mut self, option: Followed, at: usize, word: &[u8]) -> bool
@@ -58,8 +67,8 @@ impl Options {
                 None => return false,
             },
             Followed::Edits => self.edits = Some(at),
-            Followed::Input => self.input = Some(at),
-            Followed::Output => self.output = Some(at),
+            Followed::Input => self.input = place_of(word, at),
+            Followed::Output => self.output = place_of(word, at),
         }
         true
     }

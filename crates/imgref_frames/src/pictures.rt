@@ -1,6 +1,6 @@
 //! Pictures, one after the other, read, edited and written one by one.
 
-ghost use Rattle.std.specs.Prelude.{◌≡◌, ◌≢◌, ◌+◌, ◌≤◌, ◌<◌, vec_capacity, None, true, false, IfOk, IfErr, IfSome, OnOk, OnErr};
+ghost use Rattle.std.specs.Prelude.{◌≡◌, ◌≢◌, ◌+◌, ◌≤◌, ◌<◌, max, vec_capacity, None, true, false, IfOk, IfErr, IfSome, OnOk, OnErr};
 ghost use Rattle.devices.specs.Device.{device_of, failures_of};
 ghost use Rattle.frame_formats.specs.Recipe.{picture_recipe};
 ghost use Rattle.imgref_frames.specs.Fault.{reader_failures, writer_failures};
@@ -11,7 +11,7 @@ ghost use Rattle.imgref_frames.specs.Request.{edits_of};
 
 use crate::cells::pass_cells;
 use crate::fault::{RunFault, fault_of_plan};
-use crate::request::{Request, Seen, is_over};
+use crate::request::{Request, Seen, Shape, is_over};
 use devices::{Counted, read_byte};
 use frame_formats::{Picture, Plan, Scan, heads_end_themselves};
 use std::alloc::{AllocError, Global};
@@ -52,14 +52,39 @@ fn read_head<R: Read>(reader: &mut Counted<R>) -> Result<Option<Picture>, RunFau
     Ok(None)
 }
 
-// Makes so much room, where there is less.
-fn make_room(alloc: Global, cells: &mut Vec<u8>, room: usize) -> Result<(), AllocError>
-    ensures room { OnOk result (room ≤ vec_capacity cells.new) }
+// Makes so much room, where there is less. The old buffer is given back before there is a new one.
+fn grow(alloc: Global, buffer: &mut Vec<u8>, room: usize) -> Result<(), AllocError>
+    ensures { OnOk result (vec_capacity buffer.new ≡ max (vec_capacity buffer.old) room) }
 {
-    if cells.capacity() < room {
-        *cells = Vec::with_capacity(alloc, room)?;
+    if buffer.capacity() < room {
+        *buffer = Vec::new(alloc);
+        *buffer = Vec::with_capacity(alloc, room)?;
     }
     Ok(())
+}
+
+// Makes room in both buffers, which have at most so many bytes together. Those of the picture before
+// are given back where they would be more.
+fn make_room(
+    alloc: Global,
+    limit: usize,
+    cells: &mut Vec<u8>,
+    room: usize,
+    other: &mut Vec<u8>,
+    other_room: usize,
+) -> Result<(), AllocError>
+    requires { room + other_room ≤ limit }
+    ensures room { OnOk result (room ≤ vec_capacity cells.new) }
+    ensures other_room { OnOk result (other_room ≤ vec_capacity other.new) }
+    ensures limit { OnOk result (vec_capacity cells.new + vec_capacity other.new ≤ limit) }
+{
+    let larger = cells.capacity().max(room);
+    if larger.saturating_add(other.capacity().max(other_room)) > limit {
+        *cells = Vec::new(alloc);
+        *other = Vec::new(alloc);
+    }
+    grow(alloc, cells, room)?;
+    grow(alloc, other, other_room)
 }
 
 // Whether two pictures have the same size and kind.
@@ -81,6 +106,8 @@ fn make_plan(
     ensures picture { IfOk result (λ k. k.picture ≡ picture) }
     ensures kept { IfOk result
         (IsKept (edits_of request.entry) (vec_capacity cells.new) (vec_capacity other.new)) }
+    ensures limit { OnOk result
+        (vec_capacity cells.new + vec_capacity other.new ≤ request.entry.limit) }
     ensures fault { IfErr result
         (HasNoPlan (picture_recipe (edits_of request.entry) picture ≡ None) number) }
 {
@@ -92,10 +119,8 @@ fn make_plan(
     if is_over(request.limit, &plan) {
         return Err(RunFault::Memory(number));
     }
-    if make_room(alloc, cells, plan.room()).is_err() {
-        return Err(RunFault::Memory(number));
-    }
-    if make_room(alloc, other, plan.other_room()).is_err() {
+    let (room, other_room) = (plan.room(), plan.other_room());
+    if make_room(alloc, request.limit, cells, room, other, other_room).is_err() {
         return Err(RunFault::Memory(number));
     }
     Ok(Kept { picture, plan })
@@ -169,7 +194,7 @@ fn pass_picture<R: Read, W: Write>(
         }
         return Err(RunFault::Frame(number));
     };
-    *seen = Seen::Picture(picture);
+    seen.see(number, Shape::Picture(picture), request.steps);
     let made = plan_for(request, number, kept, picture, cells, other)?;
     let head = made.plan.head();
     pass_cells(reader, writer, &made.plan, number, head, cells, other)?;

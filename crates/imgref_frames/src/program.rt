@@ -12,7 +12,7 @@ ghost use Rattle.imgref_frames.specs.Program.{Follows, Writes, begins_picture};
 use crate::fault::{RunFault, fault_of_plan};
 use crate::frames::pass_frames;
 use crate::pictures::pass_pictures;
-use crate::request::{Request, Seen, is_over};
+use crate::request::{Request, Seen, Shape, is_over};
 use devices::{Counted, LineFault, read_byte, read_line, write_all};
 use frame_formats::{
     Edit, Framing, Plan, heads_end_themselves, read_format, read_rate, recipes_hide,
@@ -50,7 +50,7 @@ fn run_video<R: Read, W: Write>(
     let Some(format) = read_format(line) else {
         return Err(RunFault::Header);
     };
-    *seen = Seen::Video(format, read_rate(line));
+    seen.see(0, Shape::Video(format, read_rate(line)), request.steps);
     let plan = match Plan::for_video(alloc, line, format, request.steps, request.framing) {
         Ok(plan) => plan,
         Err(fault) => return Err(fault_of_plan(0, fault)),

@@ -1,6 +1,8 @@
-//! Ranges of frames that the input didn't reach, and ranges of times that have no frame.
+//! Edits that did nothing: ranges that the input didn't reach, ranges of times that have no frame, and
+//! covers that cover nothing.
 
-use crate::reasons::{line_of, say_edit};
+use crate::reasons::{line_of, say_edit, size_of};
+use crate::request::Stretch;
 use crate::words::Lines;
 use frame_formats::{Edit, Rate};
 
@@ -39,12 +41,57 @@ pub(crate) fn say_unreached(
                 None => None,
             };
             say_edit(rt, number, line);
-            let _ = eprintln!(rt;
-                "the input has {count} frames, and ends before its range {first}..{end}"
-            );
+            let _ = if end < u64::MAX {
+                eprintln!(rt;
+                    "the input has {count} frames, and ends before its range {first}..{end}"
+                )
+            } else {
+                eprintln!(rt; "the input has {count} frames, and ends before its range {first}..")
+            };
         }
     }
     found
+}
+
+/// Prints each cover that covers nothing in a frame of these, and returns whether there is one.
+pub(crate) fn say_uncovered(
+    rt: &HostRuntime,
+    stretch: Option<Stretch>,
+    steps: &[Edit],
+    text: Option<&[u8]>,
+    strict: bool,
+) -> bool {
+    let Some(stretch) = stretch else {
+        return false;
+    };
+    if strict {
+        let _ = eprintln!(rt; "fault cover");
+    }
+    let (width, height) = size_of(stretch.shape);
+    // The numbers only grow, so all lines are read once.
+    let mut lines = match text {
+        Some(text) => Some(Lines::new(rt.alloc(), text)),
+        None => None,
+    };
+    for number in 0..steps.len() {
+        let Some(frame) = stretch.uncovered(&steps[number]) else {
+            continue;
+        };
+        let _ = if strict {
+            Ok(())
+        } else {
+            eprint!(rt; "note: ")
+        };
+        let line = match &mut lines {
+            Some(lines) => lines.find(Some(number)),
+            None => None,
+        };
+        say_edit(rt, number, line);
+        let _ = eprintln!(rt;
+            "it covers nothing in frame {frame}, which has {width} by {height} pixels"
+        );
+    }
+    true
 }
 
 /// Prints the first range of times that has no frame, and why. Returns whether there is one.

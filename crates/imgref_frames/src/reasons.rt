@@ -1,9 +1,10 @@
 //! Why a run ended, in words for standard error. Nothing here changes what is written or the status.
 
+use crate::bad_edits::{say_bad_line, say_bad_word};
 use crate::fault::RunFault;
 use crate::ranges::say_no_frames;
-use crate::request::Seen;
-use crate::words::{Lines, Refusal, find_bad_word};
+use crate::request::{Seen, Shape};
+use crate::words::{Lines, Refusal};
 use frame_formats::{Change, Chroma, Edits, Format, Framing, Kind, Paint, Window};
 
 // A frame: its size, how many columns and rows of pixels share a chroma sample, and the greatest
@@ -36,10 +37,10 @@ impl Frame {
         }
     }
 
-    fn of(seen: Seen) -> Option<Frame> {
-        match seen {
-            Seen::Video(format, _) => Some(Frame::of_video(format)),
-            Seen::Picture(picture) => Some(Frame {
+    fn of(shape: Shape) -> Frame {
+        match shape {
+            Shape::Video(format, _) => Frame::of_video(format),
+            Shape::Picture(picture) => Frame {
                 width: picture.width,
                 height: picture.height,
                 across: 1,
@@ -49,10 +50,15 @@ impl Frame {
                     Kind::Pam(tuples) => tuples.colour,
                 },
                 greatest: picture.greatest as usize,
-            }),
-            Seen::Nothing => None,
+            },
         }
     }
+}
+
+/// The width and the height of such frames.
+pub(crate) fn size_of(shape: Shape) -> (usize, usize) {
+    let frame = Frame::of(shape);
+    (frame.width, frame.height)
 }
 
 // What is wrong with numbers in one direction.
@@ -230,15 +236,16 @@ pub(crate) fn say_reason(
     let _ = match fault {
         RunFault::Outside => {
             if !say_no_frames(rt, seen.rate(), &edits.steps, text) {
-                if let Some(frame) = Frame::of(seen) {
-                    say_outside(rt, frame, edits, text);
+                if let Some(shape) = seen.shape() {
+                    say_outside(rt, Frame::of(shape), edits, text);
                 }
             }
             Ok(())
         }
         RunFault::Memory(_) => {
-            if let Some(frame) = Frame::of(seen) {
-                let _ = eprintln!(rt; "the frame has {} by {} pixels", frame.width, frame.height);
+            if let Some(shape) = seen.shape() {
+                let (width, height) = size_of(shape);
+                let _ = eprintln!(rt; "the frame has {width} by {height} pixels");
             }
             eprintln!(rt;
                 "the buffers would have more than {limit} bytes (--limit), or there is no memory for them"
@@ -279,20 +286,14 @@ pub(crate) fn say_no_words(
             say_edit(rt, number, line_of(rt, text, number));
             let _ = eprintln!(rt; "its range has no frame: the second number must be greater");
         }
-        Refusal::NoEdits => {
-            let (name, found) = match text {
-                Some(text) => ("line", Lines::new(rt.alloc(), text).find(None)),
-                None => match find_bad_word(rt.alloc(), words) {
-                    Some(at) => ("word", Some(at.saturating_add(1))),
-                    None => ("word", None),
-                },
-            };
-            let _ = match found {
-                Some(at) => eprintln!(rt;
-                    "at {name} {at} there is no edit: cover, fill, mosaic, move, crop or pad, and none after a crop or a pad"
-                ),
-                None => eprintln!(rt; "these are no edits"),
-            };
+        Refusal::NoText => {
+            let _ = eprintln!(rt;
+                "a word isn't UTF-8. Of a file with such a name the shell makes the input or the output: < or >"
+            );
         }
+        Refusal::NoEdits => match text {
+            Some(text) => say_bad_line(rt, text),
+            None => say_bad_word(rt, words),
+        },
     }
 }

@@ -17,6 +17,8 @@ use texts::Parts;
 pub(crate) enum Refusal {
     /// They are no edits.
     NoEdits,
+    /// One of them isn't UTF-8.
+    NoText,
     /// There is no edit.
     Empty,
     /// The range of the edit of this number, counted from 0, has no frame.
@@ -51,7 +53,7 @@ fn refusal_of(fault: WordsFault) -> Refusal {
 pub(crate) fn words_of(rt: &HostRuntime) -> Result<Vec<String>, Refusal> {
     let words = match env::args(rt) {
         Ok(words) => words,
-        Err(error) => return Err(fault_of(error, Refusal::NoEdits)),
+        Err(error) => return Err(fault_of(error, Refusal::NoText)),
     };
     // One by one: `collect` asks for less where it is refused the room for all.
     let mut all = Vec::new(rt.alloc());

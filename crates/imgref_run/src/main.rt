@@ -11,6 +11,7 @@ mod output;
 mod program;
 
 pub use devices::Counted;
+use devices::Retried;
 pub use fault::RunFault;
 pub use program::run;
 use std::process::ExitCode;
@@ -18,8 +19,8 @@ use std::process::ExitCode;
 /// Runs the script on standard input, and writes its output to standard output. Where the run ends
 /// with a fault, the program prints the fault and exits with its status.
 fn main(rt: HostRuntime) -> ExitCode {
-    let mut reader = Counted::new(rt.stdin());
-    let mut writer = Counted::new(rt.stdout());
+    let mut reader = Counted::new(Retried::new(rt.stdin()));
+    let mut writer = Counted::new(Retried::new(rt.stdout()));
     match run(rt.alloc(), &mut reader, &mut writer) {
         Ok(()) => ExitCode::SUCCESS,
         Err(fault) => {

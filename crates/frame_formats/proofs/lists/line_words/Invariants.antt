@@ -1,7 +1,7 @@
 use Rattle.std.proofs.Common.{◌≡◌, ◌++◌, map, filter, not, length}
 use Rattle.text_model.specs.Reading.{is_nil}
 use Rattle.frame_formats.specs.Lists.{line_words, pieces_left}
-use Rattle.frame_formats.proofs.lists.words_of.Given as goal
+use Rattle.frame_formats.proofs.lists.line_words.Given as goal
 
 -- the words so far, and those among the pieces that are left
 abbrev pub invariant-loop-rest : goal.invariant-loop-rest
