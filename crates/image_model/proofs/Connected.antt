@@ -28,7 +28,7 @@ all_beside x y u v step = ⊎_elim
     column.1)
     step
 
--- and no other one, but for the place itself
+-- and no other one except the place itself
 pub only_beside : (x y u v : ℕ) → Contains (beside x y) (u, v) → Beside x y u v ⊎ ((u ≡ x) × (v ≡ y))
 only_beside x y u v (zero, _, e) = inl (inl (ap (λ p. p.1) e, inl (sym (ap (λ p. p.0) e))))
 only_beside x y u v (suc zero, _, e) = inl (inr (ap (λ p. p.0) e, inl (sym (ap (λ p. p.1) e))))

@@ -261,7 +261,7 @@ impl<C: AsMutSlice> Img<C> {
     /// window from them.
     ///
     /// Use it where a proof has to know what is written through the window; otherwise use
-    /// `window_mut`. Pass the cells to a function that makes the image from them: a generated proof
+    /// `window_mut`. Pass the cells to a function that makes the image from them. A generated proof
     /// follows the borrow of cells, and not the one of a returned image.
     ///
     /// # Requires

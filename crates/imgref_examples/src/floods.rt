@@ -45,8 +45,9 @@ fn fill_one(
     Ok(())
 }
 
-/// Gives `value` to column `x` of row `y` and to each place that is connected with it: by sides,
-/// over places that show the same pixel. Out of memory, only some of them may have the value.
+/// Gives `value` to column `x` of row `y`, and to each place that is connected with it. A path leads
+/// there over sides, and over places that show the same pixel. Out of memory, only some of these
+/// places may have the value.
 #[tactic(auto, using(image_model::proofs::Laws::reads))]
 pub fn flood_fill(
     alloc: Global,
