@@ -2,6 +2,7 @@
 """Times the calls and the script program and compares them with plain loops and calls, and the video program with `cat`.
 
     bench.py [--rounds N] [--sides N,..] [--pixels N] [--commands N] [--frames N] [--beside PROGRAM] [--crate FOLDER] [--video] [--write]
+    bench.py --others [--write]    only the package for Python beside OpenCV and NumPy
 
 First it proves and builds what has changed: the script program, the library for C, and the crate bench_exports. The runs of
 what is compared are interleaved, and the least time of each counts. The calls are timed in several builds that differ only in
@@ -9,7 +10,8 @@ where their code lies in memory: a difference smaller than the spread over these
 (`make frames`); --video builds it. So does --write, which also puts the tables into docs/PERFORMANCE.md and bench/tables.md,
 and the plot into docs/speed.svg: use it on an idle machine. CC names the C compiler (cc). With a rustc the loops in Rust are
 timed too, and, with a FOLDER that has the sources of the original crate, its calls. PROGRAM is another script program, for
-example one that was built from an earlier state: its runs are interleaved with those of this one.
+example one that was built from an earlier state: its runs are interleaved with those of this one. The package for Python is timed
+beside OpenCV and NumPy where they are there.
 """
 import argparse
 import os
@@ -23,17 +25,20 @@ import sys
 import tempfile
 import time
 import traceback
+import zipfile
 
 import c_library
+import python_package
 from c_library import Failure, command, compiler, toolchain
-from processes import end_on_signals, end_on_signals_too, started, unbroken
+from processes import end_on_signals, end_on_signals_too, run_to_end, started, unbroken
 from program import built, say
-from speed_tables import SHOWN, Call, call_tables, calls_shown, frames_table, plot, script_table
+from speed_tables import SHOWN, Call, call_tables, calls_shown, frames_table, others_table, plot, script_table
 from workspace import ROOT, is_proved, product
 
 OUT = ROOT / "out/bench"
 PAGE, TABLES, PLOT = ROOT / "docs/PERFORMANCE.md", ROOT / "bench/tables.md", ROOT / "docs/speed.svg"
 BEGIN, END = "<!-- table of make bench -->", "<!-- end of the table -->"
+OTHERS, OTHERS_END = "<!-- table beside OpenCV and NumPy -->", "<!-- end of that table -->"
 # The processor that rt builds for, which rustc is told too.
 RUST = ["rustc", "--edition", "2021", "-C", "opt-level=3", "-C", "target-cpu=x86-64-v2", "-C", "panic=abort", "-C", "codegen-units=1"]
 # How often each program runs on each script and each video.
@@ -236,6 +241,34 @@ def frames_rows(count):
             yield name, edit, count / least[edit], *(least[it] / least[edit] if it else None for it in ("cat", "dd", filters.get(edit)))
 
 
+def python_of_others():
+    """A Python that has OpenCV and NumPy, or nothing."""
+    for python in (sys.executable, "/usr/bin/python3"):
+        if shutil.which(python) and subprocess.run([python, "-c", "import cv2, numpy"], capture_output=True).returncode == 0:
+            return python
+    return None
+
+
+def others():
+    """The package for Python beside OpenCV and NumPy: the tables of some sides and of all. Nothing where a Python lacks them."""
+    python = python_of_others()
+    if not python:
+        say("no Python with OpenCV and NumPy: their table is left out")
+        return None
+    os.environ["PYTHON"] = python
+    shutil.rmtree(OUT / "package", ignore_errors=True)
+    with zipfile.ZipFile(python_package.build()) as wheel:
+        wheel.extractall(OUT / "package")
+    before = os.getloadavg()[0]
+    ran = run_to_end([python, "-B", ROOT / "bench/beside.py"], env=os.environ | {"PYTHONPATH": str(OUT / "package")})
+    if ran.returncode:
+        raise Failure(f"bench/beside.py failed:\n{ran.stdout}{ran.stderr}")
+    first, *lines = (it.split("\t") for it in ran.stdout.splitlines())
+    measured = f"Measured on {commit()}, {time.strftime('%Y-%m-%d')}, beside {' '.join(first)}. Load average over a minute before the timing: {before:.2f}, after it: {os.getloadavg()[0]:.2f}."
+    rows = [(name, int(channels), int(side), time, quotient) for name, channels, side, time, quotient in lines]
+    return [f"{measured} {others_table(rows, sides)}" for sides in ((512, 2048), sorted({it[2] for it in rows}))]
+
+
 def first_line(*words):
     """The first line that a command prints, or that it isn't there."""
     return command(*words).splitlines()[0] if shutil.which(words[0]) else f"no {words[0]}"
@@ -271,9 +304,18 @@ def report(asked, sides, numbers, with_video):
     return rows, f"{before}, after it: {os.getloadavg()[0]:.2f}.", programs
 
 
-def with_tables(page, text):
+def with_tables(page, text, begin=BEGIN, end=END):
     """A page with this text in the place of the one between its marks."""
-    return re.sub(f"{BEGIN}.*{END}", lambda _: f"{BEGIN}\n{text}\n{END}", page, flags=re.DOTALL)
+    return re.sub(f"{begin}.*{end}", lambda _: f"{begin}\n{text}\n{end}", page, flags=re.DOTALL)
+
+
+def beside_others(writes):
+    """Times the package beside the others, and puts the tables into the documents where that is wanted."""
+    tables = others()
+    if tables:
+        print(tables[1])
+        for page, table in zip((PAGE, TABLES), tables) if writes else ():
+            page.write_text(with_tables(page.read_text(), table, OTHERS, OTHERS_END))
 
 
 def write(rows, sides, measured, programs):
@@ -294,11 +336,15 @@ def main():
     options.add_argument("--beside", metavar="PROGRAM")
     options.add_argument("--crate", metavar="FOLDER", type=pathlib.Path)
     options.add_argument("--video", action="store_true")
+    options.add_argument("--others", action="store_true")
     options.add_argument("--write", action="store_true")
     asked = options.parse_args()
     sides = [int(it) for it in asked.sides.split(",")]
     if asked.write and not {*SHOWN} <= {*sides}:
         options.error(f"--write needs the sides {SHOWN}")
+    if asked.others:
+        OUT.mkdir(parents=True, exist_ok=True)
+        return beside_others(asked.write)
     began = time.time()
     with_video = asked.video or asked.write or is_proved("imgref_frames")
     speed, numbers = OUT / "speed", OUT / "numbers"
@@ -310,6 +356,7 @@ def main():
     say(f"{time.time() - began:.0f} s in all, {time.time() - began_timing:.0f} s of it timing; the plot is {(OUT / 'speed.svg').relative_to(ROOT)}")
     if asked.write:
         write(rows, sides, measured, programs)
+    beside_others(asked.write)
 
 
 if __name__ == "__main__":

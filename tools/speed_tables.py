@@ -9,6 +9,8 @@ COMPARED = ("vs. loop in C", "vs. plain C call", "vs. loop in Rust", "vs. origin
 SAME_WORK = {0: "loop in C", 2: "loop in Rust", 3: "original crate"}
 # The sides of the images in docs/PERFORMANCE.md: of a small one and of a large one. All sides are in bench/tables.md.
 SHOWN = (64, 2048)
+# What the table beside other libraries has.
+OTHERS = "Each on one thread, from Python, on square images of these sides. First come the nanoseconds a pixel here. After the dot is this time divided by that of the faster one of the two."
 # A call is faster than a comparison below the first quotient, and slower above the second.
 FASTER, SLOWER = 0.95, 1.05
 
@@ -136,3 +138,13 @@ def plot(rows, sides):
                 drawn.append(f'<circle cx="{at(math.log2(to_loop(it))):.1f}" cy="{y}" r="4" fill="{colours[sides.index(it.side) % 6]}"/>')
     drawn.append(f'<text x="{left + wide // 2}" y="{bottom + 26}" text-anchor="middle">quotient of the times, logarithmic: left of 1 the call is faster than the loop in C, right of 1 slower</text>')
     return "\n".join([*drawn, "</svg>", ""])
+
+
+def others_table(rows, sides):
+    """The package for Python beside other libraries: a row for each call, a column for each side and size of a pixel."""
+    names = {name: None for name, *_ in rows}
+    found = {tuple(it[:3]): f"{it[3]} · {it[4]}" for it in rows}
+    columns = [(channels, side) for side in sides for channels in sorted({it[1] for it in rows})]
+    head = ["Call", *(f"{side}: {channels} byte{'s' * (channels != 1)}" for channels, side in columns)]
+    lines = [[name, *(found.get((name, *it), "–") for it in columns)] for name in names]
+    return f"{OTHERS}\n\n{markdown(head, lines)}"
