@@ -1,6 +1,6 @@
 //! Squares that are transposed in place by pairs of blocks, which are copied first.
 //!
-//! A block and the one across the diagonal are read whole, row after row: so the processor waits for
+//! A block and the one across the diagonal are read whole, row after row. So the processor waits for
 //! many lines of the cache at once, and none is read again for its other pixels. Then each is written
 //! from the copy of the other. A copy has a stride that the compiler knows.
 

@@ -201,9 +201,9 @@ fn cross_strips<T: Copy>(cells: &mut [T], shape: Shape, width: usize)
 }
 
 // Columns become rows, and rows columns. Where strips would be needed, pixels of three or four bytes
-// go by pairs of blocks: up to twice as fast, with fewer misses at any stride. Blocks of wider pixels
-// take as long as strips, and for bytes and pixels of two the compiler makes vector code. It isn't
-// inlined, so that small squares take no longer than without it.
+// go by pairs of blocks, which takes down to half the time. Wider pixels would take longer so, and
+// narrower ones have vector code. It isn't inlined, so that small squares take no longer than without
+// it.
 #[inline(never)]
 fn cross_square<T: Copy>(cells: &mut [T], shape: Shape)
     requires fits { Fits (shaped cells.old shape) }

@@ -62,9 +62,8 @@ fn copy_pair<T: Copy>(cells: &mut [T], start: usize, len: usize, target: usize)
     cells[target + len - 1] = last;
 }
 
-/// Copies at most 16 cells. Not inlined: the compiler would write it once for each length into
-/// each loop over rows.
-#[inline(never)]
+/// Copies at most 16 cells.
+#[inline(always)]
 pub(crate) fn copy_few<T: Copy>(cells: &mut [T], start: usize, len: usize, target: usize)
     requires few { len ≤ 16 }
     requires source { start + len ≤ length cells.old }
