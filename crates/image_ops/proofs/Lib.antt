@@ -29,3 +29,4 @@ pub mod SquareBlocks
 pub mod BlockPairs
 pub mod BlockSpreading
 pub mod CountedUpto
+pub mod Windowed

@@ -5,7 +5,8 @@ ghost use Rattle.std.specs.Cmp.Lexicographic.{pointwise};
 ghost use Rattle.image_model.specs.Layout.{Fits};
 ghost use Rattle.image_model.specs.Rows.{rows as rows_of};
 ghost use Rattle.image_model.specs.Alike.{is_alike};
-ghost use Rattle.image_shape.specs.Shape.{shape_width, shape_height, shaped};
+ghost use Rattle.image_shape.specs.Shape.{shaped};
+ghost use Rattle.image_ops.specs.Written.{HaveSameSize};
 
 use crate::joining::fewest_rows;
 use image_rows::row;
@@ -18,10 +19,7 @@ fn have_equal_rows<T: PartialEq>(
     second: &[T],
     second_shape: Shape,
 ) -> bool
-    requires first_fits { Fits (shaped first.now first_shape) }
-    requires second_fits { Fits (shaped second.now second_shape) }
-    requires same_width { shape_width first_shape ≡ shape_width second_shape }
-    requires same_height { shape_height first_shape ≡ shape_height second_shape }
+    requires { HaveSameSize first.now first_shape second.now second_shape }
     ensures { result ≡ pointwise (pointwise T.eq) (rows_of (shaped first.now first_shape))
         (rows_of (shaped second.now second_shape)) }
 {
@@ -40,10 +38,7 @@ fn have_equal_pixels<T: PartialEq>(
     second: &[T],
     second_shape: Shape,
 ) -> bool
-    requires first_fits { Fits (shaped first.now first_shape) }
-    requires second_fits { Fits (shaped second.now second_shape) }
-    requires same_width { shape_width first_shape ≡ shape_width second_shape }
-    requires same_height { shape_height first_shape ≡ shape_height second_shape }
+    requires { HaveSameSize first.now first_shape second.now second_shape }
     ensures { result ≡ pointwise (pointwise T.eq) (rows_of (shaped first.now first_shape))
         (rows_of (shaped second.now second_shape)) }
 {

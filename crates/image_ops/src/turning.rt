@@ -10,6 +10,7 @@ ghost use Rattle.image_shape.specs.Window.{as_window};
 ghost use Rattle.image_ops.specs.Gathered.{AreGathered};
 ghost use Rattle.image_ops.specs.Quarters.{quartered, first_column, first_row, reads_back, writes_back};
 ghost use Rattle.image_ops.specs.Turned.{turned, turned_width, turned_height};
+ghost use Rattle.image_ops.specs.Written.{AreCrosswise, Becomes, HaveSameSize};
 
 use crate::bands::{copied_columns, quarter_copied};
 use crate::blocks::{block_shape, read_rows, transpose_block};
@@ -99,13 +100,9 @@ pub(crate) fn quarter_rows<T: Copy>(
     source_shape: Shape,
     quarter: Quarter,
 )
-    requires fits { Fits (shaped cells.old shape) }
-    requires source_fits { Fits (shaped source.now source_shape) }
-    requires columns { shape_width shape ≡ shape_height source_shape }
-    requires lines { shape_height shape ≡ shape_width source_shape }
-    ensures grid { shaped_grid cells.new shape
-        ≡ quartered quarter (shaped_grid source.now source_shape) }
-    ensures outside { SameOutside (shaped cells.old shape) (shaped cells.new shape) }
+    requires { AreCrosswise cells.old shape source.now source_shape }
+    ensures { Becomes shape cells.old cells.new
+        (quartered quarter (shaped_grid source.now source_shape)) }
 {
     for y in 0..shape.row_count() {
         let place = shape.row(cells.len(), y);
@@ -176,15 +173,11 @@ fn quarter_block<T: Copy>(
     source_shape: Shape,
     quarter: Quarter,
 )
-    requires fits { Fits (shaped cells.old shape) }
+    requires sizes { AreCrosswise cells.old shape source.now source_shape }
     requires width { shape_width shape ≡ 16 }
     requires height { shape_height shape ≡ 16 }
-    requires source_fits { Fits (shaped source.now source_shape) }
-    requires columns { shape_height source_shape ≡ 16 }
-    requires lines { shape_width source_shape ≡ 16 }
-    ensures grid { shaped_grid cells.new shape
-        ≡ quartered quarter (shaped_grid source.now source_shape) }
-    ensures outside { SameOutside (shaped cells.old shape) (shaped cells.new shape) }
+    ensures { Becomes shape cells.old cells.new
+        (quartered quarter (shaped_grid source.now source_shape)) }
 {
     let square = block_shape();
     let mut block = [source[0]; 256];
@@ -210,15 +203,11 @@ fn quarter_at<T: Copy>(
     source_shape: Shape,
     quarter: Quarter,
 )
-    requires fits { Fits (shaped cells.old shape) }
-    requires source_fits { Fits (shaped source.now source_shape) }
-    requires columns { shape_width shape ≡ shape_height source_shape }
-    requires lines { shape_height shape ≡ shape_width source_shape }
+    requires sizes { AreCrosswise cells.old shape source.now source_shape }
     requires wide { left + 16 ≤ shape_width shape }
     requires high { top + 16 ≤ shape_height shape }
-    ensures grid { shaped_grid cells.new shape ≡ patch (shaped_grid cells.old shape) left top
-        (view (quartered quarter (shaped_grid source.now source_shape)) left top 16 16) }
-    ensures outside { SameOutside (shaped cells.old shape) (shaped cells.new shape) }
+    ensures { Becomes shape cells.old cells.new (patch (shaped_grid cells.old shape) left top
+        (view (quartered quarter (shaped_grid source.now source_shape)) left top 16 16)) }
 {
     let column = first_column(quarter, source_shape.width(), top, 16);
     let line = first_row(quarter, source_shape.height(), left, 16);
@@ -239,15 +228,11 @@ pub(crate) fn quarter_blocks<T: Copy>(
     source_shape: Shape,
     quarter: Quarter,
 )
-    requires fits { Fits (shaped cells.old shape) }
-    requires source_fits { Fits (shaped source.now source_shape) }
-    requires columns { shape_width shape ≡ shape_height source_shape }
-    requires lines { shape_height shape ≡ shape_width source_shape }
+    requires sizes { AreCrosswise cells.old shape source.now source_shape }
     requires wide { 16 ≤ shape_width shape }
     requires high { 16 ≤ shape_height shape }
-    ensures grid { shaped_grid cells.new shape
-        ≡ quartered quarter (shaped_grid source.now source_shape) }
-    ensures outside { SameOutside (shaped cells.old shape) (shaped cells.new shape) }
+    ensures { Becomes shape cells.old cells.new
+        (quartered quarter (shaped_grid source.now source_shape)) }
 {
     let (width, height) = (shape.width(), shape.height());
     let mut top = 0;
@@ -292,13 +277,9 @@ pub(crate) fn quarter_strip<T: Copy>(
     source_shape: Shape,
     quarter: Quarter,
 )
-    requires fits { Fits (shaped cells.old shape) }
-    requires source_fits { Fits (shaped source.now source_shape) }
-    requires columns { shape_width shape ≡ shape_height source_shape }
-    requires lines { shape_height shape ≡ shape_width source_shape }
-    ensures grid { shaped_grid cells.new shape
-        ≡ quartered quarter (shaped_grid source.now source_shape) }
-    ensures outside { SameOutside (shaped cells.old shape) (shaped cells.new shape) }
+    requires { AreCrosswise cells.old shape source.now source_shape }
+    ensures { Becomes shape cells.old cells.new
+        (quartered quarter (shaped_grid source.now source_shape)) }
 {
     if blocks_pay(source, shape) {
         quarter_blocks(cells, shape, source, source_shape, quarter);
@@ -317,13 +298,9 @@ fn quarter_part<T: Copy>(
     quarter: Quarter,
     is_copied: bool,
 )
-    requires fits { Fits (shaped cells.old shape) }
-    requires source_fits { Fits (shaped source.now source_shape) }
-    requires columns { shape_width shape ≡ shape_height source_shape }
-    requires lines { shape_height shape ≡ shape_width source_shape }
-    ensures grid { shaped_grid cells.new shape
-        ≡ quartered quarter (shaped_grid source.now source_shape) }
-    ensures outside { SameOutside (shaped cells.old shape) (shaped cells.new shape) }
+    requires { AreCrosswise cells.old shape source.now source_shape }
+    ensures { Becomes shape cells.old cells.new
+        (quartered quarter (shaped_grid source.now source_shape)) }
 {
     if is_copied {
         quarter_copied(cells, shape, source, source_shape, quarter);
@@ -347,9 +324,8 @@ fn quarter_window<T: Copy>(
     requires source_fits { Fits (shaped source.now source_shape) }
     requires columns { window.width ≡ shape_height source_shape }
     requires lines { window.height ≡ shape_width source_shape }
-    ensures grid { shaped_grid cells.new shape ≡ patch (shaped_grid cells.old shape)
-        window.left window.top (quartered quarter (shaped_grid source.now source_shape)) }
-    ensures outside { SameOutside (shaped cells.old shape) (shaped cells.new shape) }
+    ensures { Becomes shape cells.old cells.new (patch (shaped_grid cells.old shape)
+        window.left window.top (quartered quarter (shaped_grid source.now source_shape))) }
 {
     let (part, inner) = exact_part(cells.len(), shape, window);
     quarter_part(
@@ -424,13 +400,9 @@ fn quarter_strips<T: Copy>(
     source_shape: Shape,
     quarter: Quarter,
 )
-    requires fits { Fits (shaped cells.old shape) }
-    requires source_fits { Fits (shaped source.now source_shape) }
-    requires columns { shape_width shape ≡ shape_height source_shape }
-    requires lines { shape_height shape ≡ shape_width source_shape }
-    ensures grid { shaped_grid cells.new shape
-        ≡ quartered quarter (shaped_grid source.now source_shape) }
-    ensures outside { SameOutside (shaped cells.old shape) (shaped cells.new shape) }
+    requires { AreCrosswise cells.old shape source.now source_shape }
+    ensures { Becomes shape cells.old cells.new
+        (quartered quarter (shaped_grid source.now source_shape)) }
 {
     if source.len() * size_of::<T>() <= NEAR {
         quarter_strip(cells, shape, source, source_shape, quarter);
@@ -461,13 +433,9 @@ fn quarter_pixels<T: Copy>(
     source_shape: Shape,
     quarter: Quarter,
 )
-    requires fits { Fits (shaped cells.old shape) }
-    requires source_fits { Fits (shaped source.now source_shape) }
-    requires columns { shape_width shape ≡ shape_height source_shape }
-    requires lines { shape_height shape ≡ shape_width source_shape }
-    ensures grid { shaped_grid cells.new shape
-        ≡ quartered quarter (shaped_grid source.now source_shape) }
-    ensures outside { SameOutside (shaped cells.old shape) (shaped cells.new shape) }
+    requires { AreCrosswise cells.old shape source.now source_shape }
+    ensures { Becomes shape cells.old cells.new
+        (quartered quarter (shaped_grid source.now source_shape)) }
 {
     if source.len() * size_of::<T>() <= NEAR && !blocks_pay(source, shape) {
         quarter_rows(cells, shape, source, source_shape, quarter);
@@ -532,12 +500,8 @@ fn copy_row_back<T: Copy>(cells: &mut [T], source: &[T])
 // Every pixel of `shape` in `cells` becomes the pixel of the source turned by a half; the padding
 // stays.
 fn half_pixels<T: Copy>(cells: &mut [T], shape: Shape, source: &[T], source_shape: Shape)
-    requires fits { Fits (shaped cells.old shape) }
-    requires source_fits { Fits (shaped source.now source_shape) }
-    requires columns { shape_width shape ≡ shape_width source_shape }
-    requires lines { shape_height shape ≡ shape_height source_shape }
-    ensures grid { shaped_grid cells.new shape ≡ turned_half (shaped_grid source.now source_shape) }
-    ensures outside { SameOutside (shaped cells.old shape) (shaped cells.new shape) }
+    requires { HaveSameSize cells.old shape source.now source_shape }
+    ensures { Becomes shape cells.old cells.new (turned_half (shaped_grid source.now source_shape)) }
 {
     for y in 0..shape.row_count() {
         let place = shape.row(cells.len(), y);

@@ -10,14 +10,14 @@ have_equal_rows-requires g c =
     let r = c.requires in
     let so = c.fewest_rows.ensures in
     record {
-      first_fits = first_fits s t _ _ r.same_width r.same_height so c.args.first.now r.first_fits;
-      second_fits = second_fits s t _ _ r.same_width r.same_height so c.args.second.now r.second_fits;
-      same_width = same_widths s t _ _ r.same_width r.same_height so;
-      same_height = same_heights s t _ _ r.same_width r.same_height so;
+      fits = first_fits s t _ _ r.width r.height so c.args.first.now r.fits;
+      source_fits = second_fits s t _ _ r.width r.height so c.args.second.now r.source_fits;
+      width = same_widths s t _ _ r.width r.height so;
+      height = same_heights s t _ _ r.width r.height so;
     }
 
 pub returns : goal.returns
 returns g c =
     let r = c.requires in
     c.have_equal_rows.ensures
-    ∙ same_result c.args.first_shape c.args.second_shape _ _ r.same_width r.same_height c.fewest_rows.ensures g.T.PartialEq.eq c.args.first.now c.args.second.now r.first_fits r.second_fits
+    ∙ same_result c.args.first_shape c.args.second_shape _ _ r.width r.height c.fewest_rows.ensures g.T.PartialEq.eq c.args.first.now c.args.second.now r.fits r.source_fits

@@ -1,15 +1,6 @@
--- The image shows at the window what was written there.
-use Rattle.std.proofs.Common.{ap, ◌∙◌}
-use Rattle.image_model.specs.Grid.{grid_of, patch}
-use Rattle.image_shape.specs.Shape.{shaped}
-use Rattle.image_ops.proofs.WindowWrites.{part_grid, part_outside}
+-- The window becomes what is written there.
+use Rattle.image_ops.proofs.WindowWrites.{part_becomes}
 use Rattle.image_ops.proofs.turning.quarter_window.Goals as goal
 
-pub returns-clause-grid : goal.returns-clause-grid
-returns-clause-grid g c =
-    let a = c.args in
-    part_grid _ _ _ _ _ _ c.exact_part.ensures.part c.quarter_part.new.cells c.quarter_part.ensures.outside
-    ∙ ap (patch (grid_of (shaped a.cells.now a.shape)) a.window.left a.window.top) c.quarter_part.ensures.grid
-
-pub returns-clause-outside : goal.returns-clause-outside
-returns-clause-outside g c = part_outside _ _ _ _ _ _ c.exact_part.ensures.part c.quarter_part.new.cells c.quarter_part.ensures.outside
+pub returns : goal.returns
+returns g c = part_becomes _ _ _ _ _ _ c.exact_part.ensures.part _ _ c.quarter_part.ensures
