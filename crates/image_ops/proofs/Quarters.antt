@@ -1,12 +1,14 @@
 -- Images whose columns are rows: the places of the source that they show, and the strips and blocks that are written one after the other.
-use Rattle.std.proofs.Common.{◌≡◌, refl, sym, List, Option, ℕ, ◌+◌, ◌-◌, ◌<◌, ◌≤◌, ◌⊎◌, arith, inl, inr, min}
+use Rattle.std.proofs.Common.{◌≡◌, true, false, refl, sym, List, Option, ℕ, ◌*◌, ◌+◌, ◌-◌, ◌<◌, ◌≤◌, ◌⊎◌, arith, inl, inr, min}
+use Rattle.std.proofs.lemmas.Bool.{true≢false}
 use Rattle.image_model.specs.Grid.{grid, grid_of}
 use Rattle.image_shape.specs.Shape.{shaped_grid}
 use Rattle.image_shape.specs.declared.shape.Shape.{Shape}
-use Rattle.image_ops.specs.Quarters.{source_column, source_row, quartered, first_column}
+use Rattle.image_ops.specs.Quarters.{source_column, source_row, quartered, first_column, reads_back}
 use Rattle.image_ops.specs.Written.{Becomes}
 use Rattle.image_ops.specs.declared.turning.Quarter.{Quarter}
 use Rattle.image_ops.specs.declared.turning.Quarter.TheVariants.{Across, Right, Left}
+use Rattle.image_ops.proofs.FromPlaces.{rows_back}
 use Rattle.image_ops.proofs.Windowed.{IsBeside, ShowsWhere, shows_all}
 
 -- the source has the place that is shown
@@ -14,6 +16,20 @@ pub source_place : (quarter : Quarter) (width height x y : ℕ) → x < height �
 source_place Across width height x y column line = (line, column)
 source_place Right width height x y column line = (line, omega (arith, column))
 source_place Left width height x y column line = (omega (arith, line), column)
+
+-- the number of the cell that column x of row y shows, counted from the first row that is read
+pub read_forth : (quarter : Quarter) (width height stride x y : ℕ) → reads_back quarter ≡ false
+    → first_column quarter width y 1 + x * stride ≡ source_row quarter height x y * stride + source_column quarter width x y
+read_forth Across width height stride x y forth = omega arith
+read_forth Right width height stride x y forth = absurd (true≢false forth)
+read_forth Left width height stride x y forth = omega arith
+
+-- and back from the last one
+pub read_back : (quarter : Quarter) (width height stride x y : ℕ) → reads_back quarter ≡ true → x < height
+    → (height - 1) * stride + first_column quarter width y 1 - x * stride ≡ source_row quarter height x y * stride + source_column quarter width x y
+read_back Across width height stride x y back below = absurd (true≢false (sym back))
+read_back Right width height stride x y back below = rows_back height stride y x below
+read_back Left width height stride x y back below = absurd (true≢false (sym back))
 
 -- all columns begin with the first
 pub whole_column : (quarter : Quarter) (width : ℕ) → 0 ≡ first_column quarter width 0 width

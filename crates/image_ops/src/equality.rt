@@ -31,22 +31,8 @@ fn have_equal_rows<T: PartialEq>(
     true
 }
 
-// Whether two images of one size have equal pixels.
-fn have_equal_pixels<T: PartialEq>(
-    first: &[T],
-    first_shape: Shape,
-    second: &[T],
-    second_shape: Shape,
-) -> bool
-    requires { HaveSameSize first.now first_shape second.now second_shape }
-    ensures { result ≡ pointwise (pointwise T.eq) (rows_of (shaped first.now first_shape))
-        (rows_of (shaped second.now second_shape)) }
-{
-    let (one, other) = fewest_rows(first_shape, second_shape);
-    have_equal_rows(first, one, second, other)
-}
-
 /// Whether two images that fit are equal: they have the same size and equal pixels.
+#[tactic(auto, using(crate::proofs::Touching::same_sizes))]
 pub fn are_equal_fitting<T: PartialEq>(
     first: &[T],
     first_shape: Shape,
@@ -58,9 +44,13 @@ pub fn are_equal_fitting<T: PartialEq>(
     ensures { result
         ≡ is_alike T.eq (shaped first.now first_shape) (shaped second.now second_shape) }
 {
-    first_shape.width() == second_shape.width()
-        && first_shape.height() == second_shape.height()
-        && have_equal_pixels(first, first_shape, second, second_shape)
+    if first_shape.width() != second_shape.width()
+        || first_shape.height() != second_shape.height()
+    {
+        return false;
+    }
+    let (one, other) = fewest_rows(first_shape, second_shape);
+    have_equal_rows(first, one, second, other)
 }
 
 /// Whether two images are equal: they have the same size, and either both fit and their rows are
@@ -74,15 +64,12 @@ pub fn are_equal<T: PartialEq>(
     ensures { result
         ≡ is_alike T.eq (shaped first.now first_shape) (shaped second.now second_shape) }
 {
-    if first_shape.width() != second_shape.width()
-        || first_shape.height() != second_shape.height()
-    {
-        return false;
-    }
-    if first_shape.fits(first.len()) {
-        second_shape.fits(second.len())
-            && have_equal_pixels(first, first_shape, second, second_shape)
-    } else {
-        !second_shape.fits(second.len())
+    match (first_shape.fits(first.len()), second_shape.fits(second.len())) {
+        (true, true) => are_equal_fitting(first, first_shape, second, second_shape),
+        (false, false) => {
+            first_shape.width() == second_shape.width()
+                && first_shape.height() == second_shape.height()
+        }
+        _ => false,
     }
 }

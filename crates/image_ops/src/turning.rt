@@ -107,16 +107,12 @@ pub(crate) fn quarter_rows<T: Copy>(
     for y in 0..shape.row_count() {
         let place = shape.row(cells.len(), y);
         let target = &mut cells[place.range()];
-        match quarter {
-            Quarter::Across => gather(target, source, y, source_shape.stride()),
-            Quarter::Right => {
-                let last = source_shape.row(source.len(), source_shape.height() - 1);
-                gather_back(target, source, last.start + y, source_shape.stride());
-            }
-            Quarter::Left => {
-                let column = source_shape.width() - 1 - y;
-                gather(target, source, column, source_shape.stride());
-            }
+        let column = first_column(quarter, source_shape.width(), y, 1);
+        if reads_back(quarter) {
+            let last = source_shape.row(source.len(), source_shape.height() - 1);
+            gather_back(target, source, last.start + column, source_shape.stride());
+        } else {
+            gather(target, source, column, source_shape.stride());
         }
     }
 }
@@ -309,35 +305,6 @@ fn quarter_part<T: Copy>(
     }
 }
 
-// The window gets the pixels of the source whose columns are rows; every other cell stays.
-fn quarter_window<T: Copy>(
-    cells: &mut [T],
-    shape: Shape,
-    window: Window,
-    source: &[T],
-    source_shape: Shape,
-    quarter: Quarter,
-    is_copied: bool,
-)
-    requires fits { Fits (shaped cells.old shape) }
-    requires inside { IsInside (shape_width shape) (shape_height shape) (as_window window) }
-    requires source_fits { Fits (shaped source.now source_shape) }
-    requires columns { window.width ≡ shape_height source_shape }
-    requires lines { window.height ≡ shape_width source_shape }
-    ensures { Becomes shape cells.old cells.new (patch (shaped_grid cells.old shape)
-        window.left window.top (quartered quarter (shaped_grid source.now source_shape))) }
-{
-    let (part, inner) = exact_part(cells.len(), shape, window);
-    quarter_part(
-        &mut cells[part],
-        inner,
-        source,
-        source_shape,
-        quarter,
-        is_copied,
-    );
-}
-
 // How many columns are written at a time in an image of few rows, which share the lines of the cache.
 // Here the start of a strip takes as long as many of its pixels, and one row shares none.
 fn columns_of_few(height: usize) -> usize
@@ -378,17 +345,6 @@ fn strip_columns<T>(source: &[T], stride: usize, shape: Shape) -> (usize, bool)
     (near / 16 * 16, false)
 }
 
-// How many columns have a pixel: 0 where there is no row.
-fn column_count(shape: Shape) -> usize
-    ensures rows { 0 < shape_height shape → result ≡ shape_width shape }
-    ensures within { result ≤ shape_width shape }
-{
-    match shape.height() {
-        0 => 0,
-        _ => shape.width(),
-    }
-}
-
 // Every pixel of `shape` in `cells` becomes the pixel of the source whose columns are rows, some
 // columns at a time; the padding stays. It isn't inlined, so that small images take no longer than
 // without it.
@@ -409,7 +365,7 @@ fn quarter_strips<T: Copy>(
         return;
     }
     let (most, is_copied) = strip_columns(source, source_shape.stride(), shape);
-    let (columns, lines) = (column_count(shape), shape.height());
+    let (columns, lines) = (shape.width(), shape.height());
     let (source_width, source_height) = (source_shape.width(), source_shape.height());
     let mut left = 0;
     while left < columns {
@@ -418,7 +374,9 @@ fn quarter_strips<T: Copy>(
         let rows = Window::new(0, top, source_width, width);
         let (part, part_shape) = padded_part(source, source_shape, rows);
         let strip = Window::new(left, 0, width, lines);
-        quarter_window(cells, shape, strip, part, part_shape, quarter, is_copied);
+        let (cut, inner) = exact_part(cells.len(), shape, strip);
+        let target = &mut cells[cut];
+        quarter_part(target, inner, part, part_shape, quarter, is_copied);
         left += width;
     }
 }
@@ -472,9 +430,7 @@ fn copy_long_back<T: Copy>(cells: &mut [T], source: &[T])
 
 // Whether a call pays for a row. In a short one it takes longer than the cells, and of cells of other
 // sizes the compiler makes no vector code.
-fn call_pays<T>(cells: &[T]) -> bool
-    ensures long { IsTrue result → 8 ≤ length cells.now }
-{
+fn call_pays<T>(cells: &[T]) -> bool {
     let Some(cell) = cells.first() else {
         return false;
     };

@@ -6,6 +6,7 @@ use Rattle.image_ops.specs.Quarters.{quartered, first_row}
 use Rattle.image_shape.specs.Shape.{shaped_grid}
 use Rattle.image_ops.proofs.Quarters.{InStrips, before_strip, whole_column, becomes_quartered}
 use Rattle.image_ops.proofs.QuarterBlocks.{view_quartered}
+use Rattle.image_ops.proofs.WindowWrites.{part_becomes}
 use Rattle.image_ops.proofs.Windowed.{shows_more, window_becomes}
 use Rattle.image_ops.proofs.turning.quarter_strips.Goals as goal
 
@@ -20,13 +21,13 @@ loop-left-preserved g c =
     let from : Grid g.row.T.Denot = shaped_grid a.source.now a.source_shape in
     let is_top = c.first_row-top.ensures ∙ ap (λ n. first_row a.quarter n left count) c.height-source_height.ensures.value in
     let seen = c.padded_part.ensures.view ∙ ap (window_view from) (c.new-rows.ensures ∙ ap (λ n. window 0 c.first_row-top.result n count) c.width-source_width.ensures.value) in
-    let there : left + count ≤ from.height = omega (arith, c.min-width.ensures, c.loop-left-test.true, c.column_count-columns.ensures.within, c.requires.columns) in
+    let there : left + count ≤ from.height = omega (arith, c.min-width.ensures, c.loop-left-test.true, c.width-columns.ensures.value, c.requires.columns) in
     let shown = ap (quartered a.quarter) seen ∙ view_quartered a.quarter from left 0 count from.width 0 c.first_row-top.result there (omega arith) (whole_column a.quarter from.width) is_top in
     let is_strip = c.new-strip.ensures ∙ ap (window left 0 count) c.height-lines.ensures.value in
     shows_more q s a.cells.now c.loop-left.cells _ left 0 count s.height
     (window_becomes q s c.loop-left.cells _ _ left 0 count s.height is_strip _
     (shown ∙ ap (λ n. view q left 0 count n) (sym c.requires.lines) ∙ sym (ap (window_view q) is_strip))
-    c.quarter_window.ensures)
+    (part_becomes _ _ _ _ _ _ c.exact_part.ensures.part _ _ c.quarter_part.ensures))
     (InStrips left) (InStrips (left + count)) c.loop-left.invariant
     (λ x y column line. before_strip left count s.height x y line)
 
@@ -34,4 +35,4 @@ pub returns : goal.returns
 returns g c =
     let a = c.args in
     becomes_quartered a.quarter a.source.now a.source_shape a.shape c.requires.columns c.requires.lines (InStrips c.loop-left.left) a.cells.now c.loop-left.cells c.loop-left.invariant
-    (λ x y column line. omega (arith, column, c.loop-left-test.false, c.column_count-columns.ensures.rows (omega (arith, line))))
+    (λ x y column line. omega (arith, column, c.loop-left-test.false, c.width-columns.ensures.value))
