@@ -30,3 +30,4 @@ pub mod SquareBlocks
 pub mod BlockPairs
 pub mod BlockSpreading
 pub mod CountedUpto
+pub mod Windowed

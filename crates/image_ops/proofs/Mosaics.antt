@@ -1,5 +1,5 @@
 -- An image that becomes its mosaic row by row.
-use Rattle.std.proofs.Common.{◌≡◌, ℕ, ◌+◌, ◌-◌, ◌*◌, ◌%◌, ◌<◌, List, ◌++◌, take, drop, Option, sym, ap, ◌∙◌, arith, ap₂}
+use Rattle.std.proofs.Common.{◌≡◌, ℕ, ◌+◌, ◌-◌, ◌*◌, ◌%◌, ◌<◌, List, ◌++◌, take, drop, Option, sym, ap, subst, ◌∙◌, arith, ap₂}
 use Rattle.image_model.specs.Layout.{Fits, pixel}
 use Rattle.image_model.specs.Grid.{Grid, grid, grid_of}
 use Rattle.image_model.specs.Rows.{row_count}
@@ -9,8 +9,9 @@ use Rattle.image_shape.specs.Shape.{shaped, shaped_grid}
 use Rattle.image_shape.specs.declared.shape.Shape.{Shape}
 use Rattle.image_shape.specs.declared.window.Stretch as part
 use Rattle.image_model.proofs.Grids.{same_grids, at_place, pixel_at}
-use Rattle.image_ops.proofs.RowsWritten.{RowsDone, RowRange, cell_of_row, row_written, row_copied, shows_table}
+use Rattle.image_ops.proofs.RowsWritten.{RowsDone, RowRange, cell_of_row, row_written, row_copied, becomes_table}
 use Rattle.image_ops.specs.Mosaic.{mosaic, mosaic_by, shown_column, IsSpreadBy}
+use Rattle.image_ops.specs.Written.{Becomes}
 use Rattle.image_ops.proofs.Corners.{own_start, start_before}
 use Rattle.image_ops.proofs.Parts.{of_one_cell, of_one_pixel, shown_before}
 
@@ -55,8 +56,9 @@ module _ {T : Type 0} (old : List T) (s : Shape) (size tw th : ℕ) where
         row_copied corner_of old now s y so fits below above row (omega (arith, later)) (λ x. ap (in_row x) (start_before th y high later)) at count from
 
   -- all rows show it
-  pub mosaic_shown : (new : List T) (y : ℕ) → Shown new y → y ≡ row_count s.width s.height → shaped_grid new s ≡ mosaic_by size tw th (shaped_grid old s)
+  pub mosaic_becomes : (new : List T) (y : ℕ) → Shown new y → y ≡ row_count s.width s.height → Becomes s old new (mosaic_by size tw th (shaped_grid old s))
   unfolding grid_of
-  mosaic_shown new y so all =
-      shows_table corner_of old new s y so all
-      ∙ same_grids s.width s.height corner_of _ (λ x j column line. sym (pixel_at (shaped old s) (shown_column size tw x) (tile_start th j) (omega (arith, column, shown_before size tw x)) (omega (arith, line))))
+  mosaic_becomes new y so all =
+      subst (Becomes s old new)
+      (same_grids s.width s.height corner_of _ (λ x j column line. sym (pixel_at (shaped old s) (shown_column size tw x) (tile_start th j) (omega (arith, column, shown_before size tw x)) (omega (arith, line)))))
+      (becomes_table corner_of old new s y so all)

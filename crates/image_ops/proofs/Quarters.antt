@@ -1,17 +1,15 @@
--- Images whose columns are rows: the places of the source that they show, and strips of columns that are written one after the other.
-use Rattle.std.proofs.Common.{◌≡◌, ℕ, ◌+◌, ◌-◌, ◌<◌, ◌≤◌, List, refl, ap, sym, ◌∙◌, arith, inl, inr}
-use Rattle.std.proofs.lemmas.Bool.{cases_lt}
-use Rattle.image_model.specs.Layout.{Layout, SameOutside, pixel}
-use Rattle.image_model.specs.Grid.{Grid, grid, grid_of, patch, view}
-use Rattle.image_model.specs.Windows.{window, window_view}
-use Rattle.image_model.proofs.Grids.{at_place, pixel_at, same_grids}
-use Rattle.image_model.proofs.Patches.{in_patch, beside_patch}
-use Rattle.image_model.proofs.Places.{outside_trans}
-use Rattle.image_shape.specs.Shape.{shaped, shaped_grid}
+-- Images whose columns are rows: the places of the source that they show, and the strips and blocks that are written one after the other.
+use Rattle.std.proofs.Common.{◌≡◌, true, false, refl, sym, List, Option, ℕ, ◌*◌, ◌+◌, ◌-◌, ◌<◌, ◌≤◌, ◌⊎◌, arith, inl, inr, min}
+use Rattle.std.proofs.lemmas.Bool.{true≢false}
+use Rattle.image_model.specs.Grid.{grid, grid_of}
+use Rattle.image_shape.specs.Shape.{shaped_grid}
 use Rattle.image_shape.specs.declared.shape.Shape.{Shape}
-use Rattle.image_ops.specs.Quarters.{source_column, source_row, quartered, first_row}
+use Rattle.image_ops.specs.Quarters.{source_column, source_row, quartered, first_column, reads_back}
+use Rattle.image_ops.specs.Written.{Becomes}
 use Rattle.image_ops.specs.declared.turning.Quarter.{Quarter}
 use Rattle.image_ops.specs.declared.turning.Quarter.TheVariants.{Across, Right, Left}
+use Rattle.image_ops.proofs.FromPlaces.{rows_back}
+use Rattle.image_ops.proofs.Windowed.{IsBeside, ShowsWhere, shows_all}
 
 -- the source has the place that is shown
 pub source_place : (quarter : Quarter) (width height x y : ℕ) → x < height → y < width → (source_column quarter width x y < width) × (source_row quarter height x y < height)
@@ -19,76 +17,74 @@ source_place Across width height x y column line = (line, column)
 source_place Right width height x y column line = (line, omega (arith, column))
 source_place Left width height x y column line = (omega (arith, line), column)
 
--- which column is shown depends on the row alone
-same_column : (quarter : Quarter) (width u x y : ℕ) → source_column quarter width u y ≡ source_column quarter width x y
-same_column Across width u x y = refl
-same_column Right width u x y = refl
-same_column Left width u x y = refl
+-- the number of the cell that column x of row y shows, counted from the first row that is read
+pub read_forth : (quarter : Quarter) (width height stride x y : ℕ) → reads_back quarter ≡ false
+    → first_column quarter width y 1 + x * stride ≡ source_row quarter height x y * stride + source_column quarter width x y
+read_forth Across width height stride x y forth = omega arith
+read_forth Right width height stride x y forth = absurd (true≢false forth)
+read_forth Left width height stride x y forth = omega arith
 
--- a column shows the same row, counted in the rows of its strip
-same_row : (quarter : Quarter) (height left count x y : ℕ) → left ≤ x → x < left + count → left + count ≤ height
-    → first_row quarter height left count + source_row quarter count (x - left) y ≡ source_row quarter height x y
-same_row Across height left count x y from upto there = omega (arith, from)
-same_row Right height left count x y from upto there = omega (arith, from, upto, there)
-same_row Left height left count x y from upto there = omega (arith, from)
+-- and back from the last one
+pub read_back : (quarter : Quarter) (width height stride x y : ℕ) → reads_back quarter ≡ true → x < height
+    → (height - 1) * stride + first_column quarter width y 1 - x * stride ≡ source_row quarter height x y * stride + source_column quarter width x y
+read_back Across width height stride x y back below = absurd (true≢false (sym back))
+read_back Right width height stride x y back below = rows_back height stride y x below
+read_back Left width height stride x y back below = absurd (true≢false (sym back))
 
--- the columns before this one show the source, and the padding is as before
-pub record StripsDone {T : Type 0} (quarter : Quarter) (l : Layout T) (old new : List T) (s : Shape) (left : ℕ) : Type 0 where
-  pub outside : SameOutside (shaped old s) (shaped new s)
-  pub each : (x y : ℕ) → x < left → x < s.width → y < s.height → (shaped_grid new s).pixel x y ≡ (quartered quarter (grid_of l)).pixel x y
+-- all columns begin with the first
+pub whole_column : (quarter : Quarter) (width : ℕ) → 0 ≡ first_column quarter width 0 width
+whole_column Across width = refl
+whole_column Right width = refl
+whole_column Left width = omega arith
 
-module _ {T : Type 0} (quarter : Quarter) (l : Layout T) (s : Shape) where
-  -- no column yet
-  pub no_strip : (cells : List T) → StripsDone quarter l cells cells s 0
-  no_strip cells = record {
-    outside = record { width_stays = refl; height_stays = refl; stride_stays = refl; length_stays = refl; padding_stays = λ k padding. refl };
-    each = λ x y before column line. absurd (omega (arith, before));
-  }
+-- the columns before this one
+abbrev pub InStrips : ℕ → ℕ → ℕ → Type 0
+InStrips left x y = x < left
 
-  module _ (old now : List T) (left : ℕ) (so : StripsDone quarter l old now s left) (wide : s.width ≡ l.height) (high : s.height ≡ l.width) where
-    -- one strip more
-    module _ (new : List T) (count top : ℕ) (there : left + count ≤ l.height) (is_top : top ≡ first_row quarter l.height left count) (part : Layout T) (seen : grid_of part ≡ window_view (grid_of l) (window 0 top l.width count))
-        (shown : shaped_grid new s ≡ patch (shaped_grid now s) left 0 (quartered quarter (grid_of part))) (stays : SameOutside (shaped now s) (shaped new s)) where
-      abbrev seen_part : Grid T
-      seen_part = window_view (grid_of l) (window 0 top l.width count)
+-- of one strip more, of all rows, those beside it come before
+pub before_strip : (left count height x y : ℕ) → y < height → InStrips (left + count) x y → IsBeside left 0 count height x y → InStrips left x y
+before_strip left count height x y line next beside =
+    elim beside [ inl before ↦ before | inr rest ↦ elim rest [ inl above ↦ absurd (omega (arith, above)) | inr rest ↦ elim rest [ inl after ↦ absurd (omega (arith, after, next)) | inr below ↦ absurd (omega (arith, below, line)) ] ] ]
 
-      in_strip : (x y : ℕ) → left ≤ x → x < left + count → x < s.width → y < s.height → (shaped_grid new s).pixel x y ≡ (quartered quarter (grid_of l)).pixel x y
-      unfolding grid_of view
-      in_strip x y from upto column line =
-          let place = source_place quarter l.width count (x - left) (y - 0) (omega (arith, from, upto)) (omega (arith, line, high)) in
-          let u : ℕ = source_column quarter l.width (x - left) (y - 0) in
-          let v : ℕ = source_row quarter count (x - left) (y - 0) in
-          let same_v : top + v ≡ source_row quarter l.height x (y - 0) = ap (λ n. n + v) is_top ∙ same_row quarter l.height left count x (y - 0) from upto there in
-          let same_y : y - 0 ≡ y = omega arith in
-          ap (λ g. g.pixel x y) (shown ∙ ap (λ g. patch (shaped_grid now s) left 0 (quartered quarter g)) seen)
-          ∙ in_patch (shaped now s) left 0 (quartered quarter seen_part) x y column line from (omega arith) upto (omega (arith, line, high))
-          ∙ at_place count l.width (λ m n. seen_part.pixel (source_column quarter l.width m n) (source_row quarter count m n)) (x - left) (y - 0) (omega (arith, from, upto)) (omega (arith, line, high))
-          ∙ at_place l.width count (λ m n. (grid_of l).pixel (0 + m) (top + n)) u v place.0 place.1
-          ∙ ap (λ n. (grid_of l).pixel n (top + v)) (let same_u : 0 + u ≡ u = omega arith in same_u ∙ same_column quarter l.width (x - left) x (y - 0))
-          ∙ ap (λ n. (grid_of l).pixel (source_column quarter l.width x (y - 0)) n) same_v
-          ∙ ap (λ n. (grid_of l).pixel (source_column quarter l.width x n) (source_row quarter l.height x n)) same_y
-          ∙ sym (at_place l.height l.width (λ m n. (grid_of l).pixel (source_column quarter l.width m n) (source_row quarter l.height m n)) x y (omega (arith, column, wide)) (omega (arith, line, high)))
+-- the rows before this one, and of sixteen rows the columns before that one
+abbrev pub InBlocks : ℕ → ℕ → ℕ → ℕ → Type 0
+InBlocks left top x y = (y < top) ⊎ ((y < top + 16) × (x < left))
 
-      before_strip : (x y : ℕ) → x < left → (shaped_grid new s).pixel x y ≡ (shaped_grid now s).pixel x y
-      before_strip x y before = ap (λ g. g.pixel x y) shown ∙ beside_patch (shaped now s) left 0 (quartered quarter (grid_of part)) x y (inl before)
+-- of one block more, which may begin earlier, those beside it come before
+pub before_block : (width height left top x y : ℕ) → x < width → y < height → 16 ≤ width → 16 ≤ height → InBlocks (left + 16) top x y → IsBeside (min left (width - 16)) (min top (height - 16)) 16 16 x y → InBlocks left top x y
+before_block width height left top x y column line wide high next beside =
+    elim next [
+      | inl above ↦ inl above
+      | inr here ↦
+          let upto : y < top + 16 = here.0 in
+          let within : x < left + 16 = here.1 in
+          elim beside [
+            | inl before ↦ inr (upto, omega (arith, before))
+            | inr rest ↦
+                elim rest [
+                  | inl above ↦ inl (omega (arith, above))
+                  | inr rest ↦ elim rest [ inl after ↦ absurd (omega (arith, after, column, within, wide)) | inr below ↦ absurd (omega (arith, below, line, upto, high)) ]
+                ]
+          ]
+    ]
 
-      pub one_strip_more : StripsDone quarter l old new s (left + count)
-      one_strip_more = record {
-        outside = outside_trans (shaped old s) (shaped now s) (shaped new s) so.outside stays;
-        each = λ x y before column line.
-            elim (cases_lt x left) [
-              | inl earlier ↦ before_strip x y earlier ∙ so.each x y earlier column line
-              | inr here ↦ in_strip x y here before column line
-            ];
-      }
+-- the rows before this one
+abbrev pub InRows : ℕ → ℕ → ℕ → Type 0
+InRows top x y = y < top
 
-    -- all columns
-    pub all_strips : (columns : ℕ) → columns ≤ left → (0 < s.height → columns ≡ s.width) → shaped_grid now s ≡ quartered quarter (grid_of l)
-    unfolding grid_of
-    all_strips columns done all =
-        same_grids s.width s.height (pixel (shaped now s)) (λ x y. (grid_of l).pixel (source_column quarter l.width x y) (source_row quarter l.height x y))
-        (λ x y column line.
-        sym (pixel_at (shaped now s) x y column line)
-        ∙ so.each x y (omega (arith, column, done, all (omega (arith, line)))) column line
-        ∙ at_place l.height l.width (λ m n. (grid_of l).pixel (source_column quarter l.width m n) (source_row quarter l.height m n)) x y (omega (arith, column, wide)) (omega (arith, line, high)))
-        ∙ (λ i. grid (wide i) (high i) (λ x y. (grid_of l).pixel (source_column quarter l.width x y) (source_row quarter l.height x y)))
+-- of the rows before another one, those beside some rows come before them
+pub before_rows : (width height top line lines upto x y : ℕ) → x < width → y < height → line ≤ top → min upto height ≤ line + lines → InRows upto x y → IsBeside 0 line width lines x y → InRows top x y
+before_rows width height top line lines upto x y column below order reach next beside =
+    elim beside [
+      | inl before ↦ absurd (omega (arith, before))
+      | inr rest ↦ elim rest [ inl above ↦ omega (arith, above, order) | inr rest ↦ elim rest [ inl after ↦ absurd (omega (arith, after, column)) | inr under ↦ absurd (omega (arith, under, below, reach, next)) ] ]
+    ]
+
+-- once all places show the source, whose columns are rows, the image becomes that
+module _ {T : Type 0} (quarter : Quarter) (source : List T) (t s : Shape) (columns : s.width ≡ t.height) (lines : s.height ≡ t.width) where
+  pub becomes_quartered : (Done : ℕ → ℕ → Type 0) (old now : List T) → ShowsWhere Done (quartered quarter (shaped_grid source t)) old now s → ((x y : ℕ) → x < s.width → y < s.height → Done x y)
+      → Becomes s old now (quartered quarter (shaped_grid source t))
+  unfolding grid_of
+  becomes_quartered Done old now so all =
+      let shown : ℕ → ℕ → Option T = λ x y. (shaped_grid source t).pixel (source_column quarter t.width x y) (source_row quarter t.height x y) in
+      shows_all (quartered quarter (shaped_grid source t)) s Done old now so all shown (λ i. grid (sym columns i) (sym lines i) shown)

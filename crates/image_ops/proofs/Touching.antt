@@ -10,6 +10,7 @@ use Rattle.image_model.proofs.Grids.{same_grids}
 use Rattle.image_shape.specs.declared.shape.Shape.{Shape}
 use Rattle.image_shape.specs.Shape.{shape_width, shape_height, shaped}
 use Rattle.image_ops.specs.Joined.{IsOneRow, AreFewestRows}
+use Rattle.image_ops.specs.Written.{HaveSameSize}
 use Rattle.image_ops.proofs.FirstRows.{one_row_fits, as_one_row}
 
 module _ (w h : ℕ) where
@@ -70,19 +71,21 @@ module _ {T : Type 0} (s one : Shape) (j : IsOneRow s one) where
       (outside_at_once s.width s.height olds news (subst (λ l. SameOutside l (layout news (s.width * s.height) 1 (s.width * s.height))) (row_is olds) (subst (SameOutside (shaped olds one)) (row_is news) o))))
 
 module _ (s t u v : Shape) (wide : shape_width s ≡ shape_width t) (high : shape_height s ≡ shape_height t) (so : AreFewestRows s t u v) where
-  -- the sizes are those of one image
-  pub same_widths : shape_width u ≡ shape_width v
-  same_widths = elim so [ inl same ↦ ap shape_width same.0 ∙ wide ∙ sym (ap shape_width same.1) | inr one ↦ one.0.width ∙ (λ i. wide i * high i) ∙ sym one.1.width ]
-
-  pub same_heights : shape_height u ≡ shape_height v
-  same_heights = elim so [ inl same ↦ ap shape_height same.0 ∙ high ∙ sym (ap shape_height same.1) | inr one ↦ one.0.height ∙ sym one.1.height ]
-
   module _ {T : Type 0} where
     pub first_fits : (cells : List T) → Fits (shaped cells s) → Fits (shaped cells u)
     first_fits cells fits = elim so [ inl same ↦ subst (λ r. Fits (shaped cells r)) (sym same.0) fits | inr one ↦ joined_fits s u one.0 cells fits ]
 
-    pub second_fits : (cells : List T) → Fits (shaped cells t) → Fits (shaped cells v)
+    second_fits : (cells : List T) → Fits (shaped cells t) → Fits (shaped cells v)
     second_fits cells fits = elim so [ inl same ↦ subst (λ r. Fits (shaped cells r)) (sym same.1) fits | inr one ↦ joined_fits t v one.1 cells fits ]
+
+    -- the sizes are those of one image
+    pub same_sizes : (cells source : List T) → Fits (shaped cells s) → Fits (shaped source t) → HaveSameSize cells u source v
+    same_sizes cells source fits source_fits = record {
+      fits = first_fits cells fits;
+      source_fits = second_fits source source_fits;
+      width = elim so [ inl same ↦ ap shape_width same.0 ∙ wide ∙ sym (ap shape_width same.1) | inr one ↦ one.0.width ∙ (λ i. wide i * high i) ∙ sym one.1.width ];
+      height = elim so [ inl same ↦ ap shape_height same.0 ∙ high ∙ sym (ap shape_height same.1) | inr one ↦ one.0.height ∙ sym one.1.height ];
+    }
 
     pub stays_outside : (olds news : List T) → SameOutside (shaped olds u) (shaped news u) → SameOutside (shaped olds s) (shaped news s)
     stays_outside olds news o = elim so [ inl same ↦ subst (λ r. SameOutside (shaped olds r) (shaped news r)) same.0 o | inr one ↦ joined_outside s u one.0 olds news o ]

@@ -14,3 +14,4 @@ pub mod Repeated
 pub mod Quarters
 pub mod Blocks
 pub mod Counting
+pub mod Written

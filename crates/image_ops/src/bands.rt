@@ -5,10 +5,10 @@
 //! matters. A block has a stride that the compiler knows.
 
 ghost use Rattle.std.specs.Prelude.{◌≡◌, ◌+◌, ◌*◌, ◌<◌, ◌≤◌, length};
-ghost use Rattle.image_model.specs.Layout.{Fits, SameOutside};
 ghost use Rattle.image_model.specs.Grid.{patch, view};
-ghost use Rattle.image_shape.specs.Shape.{shape_width, shape_height, shape_stride, shaped_grid, shaped};
+ghost use Rattle.image_shape.specs.Shape.{shape_width, shape_height, shape_stride, shaped_grid};
 ghost use Rattle.image_ops.specs.Quarters.{quartered};
+ghost use Rattle.image_ops.specs.Written.{AreCrosswise, Becomes};
 
 use crate::blocks::read_rows;
 use crate::turning::{
@@ -30,18 +30,14 @@ fn quarter_line<T: Copy>(
     quarter: Quarter,
     lines: &mut [T],
 )
-    requires fits { Fits (shaped cells.old shape) }
-    requires source_fits { Fits (shaped source.now source_shape) }
-    requires columns { shape_width shape ≡ shape_height source_shape }
-    requires lines { shape_height shape ≡ shape_width source_shape }
+    requires sizes { AreCrosswise cells.old shape source.now source_shape }
     requires wide { 16 ≤ shape_width shape }
     requires there { line + 16 ≤ shape_height shape }
     requires narrow { shape_width shape ≤ shape_stride source_shape }
     requires room { 16 * shape_stride source_shape ≤ length lines.old }
-    ensures grid { shaped_grid cells.new shape ≡ patch (shaped_grid cells.old shape) 0 line
+    ensures becomes { Becomes shape cells.old cells.new (patch (shaped_grid cells.old shape) 0 line
         (view (quartered quarter (shaped_grid source.now source_shape)) 0 line
-        (shape_width shape) 16) }
-    ensures outside { SameOutside (shaped cells.old shape) (shaped cells.new shape) }
+        (shape_width shape) 16)) }
     ensures as_many { length lines.new ≡ length lines.old }
 {
     let column = first_column(quarter, source_shape.width(), line, 16);
@@ -65,17 +61,13 @@ fn quarter_lines<T: Copy>(
     quarter: Quarter,
     lines: &mut [T],
 )
-    requires fits { Fits (shaped cells.old shape) }
-    requires source_fits { Fits (shaped source.now source_shape) }
-    requires columns { shape_width shape ≡ shape_height source_shape }
-    requires lines { shape_height shape ≡ shape_width source_shape }
+    requires sizes { AreCrosswise cells.old shape source.now source_shape }
     requires wide { 16 ≤ shape_width shape }
     requires high { 16 ≤ shape_height shape }
     requires narrow { shape_width shape ≤ shape_stride source_shape }
     requires room { 16 * shape_stride source_shape ≤ length lines.old }
-    ensures grid { shaped_grid cells.new shape
-        ≡ quartered quarter (shaped_grid source.now source_shape) }
-    ensures outside { SameOutside (shaped cells.old shape) (shaped cells.new shape) }
+    ensures becomes { Becomes shape cells.old cells.new
+        (quartered quarter (shaped_grid source.now source_shape)) }
     ensures as_many { length lines.new ≡ length lines.old }
 {
     let height = shape.height();
@@ -97,14 +89,10 @@ fn quarter_copy<T: Copy>(
     quarter: Quarter,
     lines: &mut [T],
 )
-    requires fits { Fits (shaped cells.old shape) }
-    requires source_fits { Fits (shaped source.now source_shape) }
-    requires columns { shape_width shape ≡ shape_height source_shape }
-    requires lines { shape_height shape ≡ shape_width source_shape }
+    requires sizes { AreCrosswise cells.old shape source.now source_shape }
     requires narrow { shape_width shape ≤ shape_stride source_shape }
-    ensures grid { shaped_grid cells.new shape
-        ≡ quartered quarter (shaped_grid source.now source_shape) }
-    ensures outside { SameOutside (shaped cells.old shape) (shaped cells.new shape) }
+    ensures becomes { Becomes shape cells.old cells.new
+        (quartered quarter (shaped_grid source.now source_shape)) }
     ensures as_many { length lines.new ≡ length lines.old }
 {
     if lines.len() / 16 >= source_shape.stride() && blocks_pay(source, shape) {
@@ -128,19 +116,15 @@ fn quarter_band<T: Copy, const SIDE: usize>(
     copy: &mut [T],
     lines: &mut [T],
 )
-    requires fits { Fits (shaped cells.old shape) }
-    requires source_fits { Fits (shaped source.now source_shape) }
-    requires columns { shape_width shape ≡ shape_height source_shape }
-    requires lines { shape_height shape ≡ shape_width source_shape }
+    requires sizes { AreCrosswise cells.old shape source.now source_shape }
     requires some { 0 < SIDE }
     requires narrow { shape_width shape ≤ SIDE }
     requires low { height ≤ SIDE }
     requires there { top + height ≤ shape_height shape }
     requires room { SIDE * SIDE ≤ length copy.old }
-    ensures grid { shaped_grid cells.new shape ≡ patch (shaped_grid cells.old shape) 0 top
+    ensures becomes { Becomes shape cells.old cells.new (patch (shaped_grid cells.old shape) 0 top
         (view (quartered quarter (shaped_grid source.now source_shape)) 0 top
-        (shape_width shape) height) }
-    ensures outside { SameOutside (shaped cells.old shape) (shaped cells.new shape) }
+        (shape_width shape) height)) }
     ensures as_many { length copy.new ≡ length copy.old }
     ensures as_many_lines { length lines.new ≡ length lines.old }
 {
@@ -165,16 +149,12 @@ fn quarter_bands<T: Copy, const SIDE: usize>(
     copy: &mut [T],
     lines: &mut [T],
 )
-    requires fits { Fits (shaped cells.old shape) }
-    requires source_fits { Fits (shaped source.now source_shape) }
-    requires columns { shape_width shape ≡ shape_height source_shape }
-    requires lines { shape_height shape ≡ shape_width source_shape }
+    requires sizes { AreCrosswise cells.old shape source.now source_shape }
     requires some { 0 < SIDE }
     requires narrow { shape_width shape ≤ SIDE }
     requires room { SIDE * SIDE ≤ length copy.old }
-    ensures grid { shaped_grid cells.new shape
-        ≡ quartered quarter (shaped_grid source.now source_shape) }
-    ensures outside { SameOutside (shaped cells.old shape) (shaped cells.new shape) }
+    ensures { Becomes shape cells.old cells.new
+        (quartered quarter (shaped_grid source.now source_shape)) }
 {
     let height = shape.height();
     let mut top = 0;
@@ -218,13 +198,9 @@ pub(crate) fn quarter_copied<T: Copy>(
     source_shape: Shape,
     quarter: Quarter,
 )
-    requires fits { Fits (shaped cells.old shape) }
-    requires source_fits { Fits (shaped source.now source_shape) }
-    requires columns { shape_width shape ≡ shape_height source_shape }
-    requires lines { shape_height shape ≡ shape_width source_shape }
-    ensures grid { shaped_grid cells.new shape
-        ≡ quartered quarter (shaped_grid source.now source_shape) }
-    ensures outside { SameOutside (shaped cells.old shape) (shaped cells.new shape) }
+    requires { AreCrosswise cells.old shape source.now source_shape }
+    ensures { Becomes shape cells.old cells.new
+        (quartered quarter (shaped_grid source.now source_shape)) }
 {
     let (from, width) = (source_shape, shape.width());
     let Some(cell) = source.first() else {

@@ -5,7 +5,8 @@ ghost use Rattle.std.specs.Cmp.Lexicographic.{pointwise};
 ghost use Rattle.image_model.specs.Layout.{Fits};
 ghost use Rattle.image_model.specs.Rows.{rows as rows_of};
 ghost use Rattle.image_model.specs.Alike.{is_alike};
-ghost use Rattle.image_shape.specs.Shape.{shape_width, shape_height, shaped};
+ghost use Rattle.image_shape.specs.Shape.{shaped};
+ghost use Rattle.image_ops.specs.Written.{HaveSameSize};
 
 use crate::joining::fewest_rows;
 use image_rows::row;
@@ -18,10 +19,7 @@ fn have_equal_rows<T: PartialEq>(
     second: &[T],
     second_shape: Shape,
 ) -> bool
-    requires first_fits { Fits (shaped first.now first_shape) }
-    requires second_fits { Fits (shaped second.now second_shape) }
-    requires same_width { shape_width first_shape ≡ shape_width second_shape }
-    requires same_height { shape_height first_shape ≡ shape_height second_shape }
+    requires { HaveSameSize first.now first_shape second.now second_shape }
     ensures { result ≡ pointwise (pointwise T.eq) (rows_of (shaped first.now first_shape))
         (rows_of (shaped second.now second_shape)) }
 {
@@ -33,25 +31,8 @@ fn have_equal_rows<T: PartialEq>(
     true
 }
 
-// Whether two images of one size have equal pixels.
-fn have_equal_pixels<T: PartialEq>(
-    first: &[T],
-    first_shape: Shape,
-    second: &[T],
-    second_shape: Shape,
-) -> bool
-    requires first_fits { Fits (shaped first.now first_shape) }
-    requires second_fits { Fits (shaped second.now second_shape) }
-    requires same_width { shape_width first_shape ≡ shape_width second_shape }
-    requires same_height { shape_height first_shape ≡ shape_height second_shape }
-    ensures { result ≡ pointwise (pointwise T.eq) (rows_of (shaped first.now first_shape))
-        (rows_of (shaped second.now second_shape)) }
-{
-    let (one, other) = fewest_rows(first_shape, second_shape);
-    have_equal_rows(first, one, second, other)
-}
-
 /// Whether two images that fit are equal: they have the same size and equal pixels.
+#[tactic(auto, using(crate::proofs::Touching::same_sizes))]
 pub fn are_equal_fitting<T: PartialEq>(
     first: &[T],
     first_shape: Shape,
@@ -63,9 +44,13 @@ pub fn are_equal_fitting<T: PartialEq>(
     ensures { result
         ≡ is_alike T.eq (shaped first.now first_shape) (shaped second.now second_shape) }
 {
-    first_shape.width() == second_shape.width()
-        && first_shape.height() == second_shape.height()
-        && have_equal_pixels(first, first_shape, second, second_shape)
+    if first_shape.width() != second_shape.width()
+        || first_shape.height() != second_shape.height()
+    {
+        return false;
+    }
+    let (one, other) = fewest_rows(first_shape, second_shape);
+    have_equal_rows(first, one, second, other)
 }
 
 /// Whether two images are equal: they have the same size, and either both fit and their rows are
@@ -79,15 +64,12 @@ pub fn are_equal<T: PartialEq>(
     ensures { result
         ≡ is_alike T.eq (shaped first.now first_shape) (shaped second.now second_shape) }
 {
-    if first_shape.width() != second_shape.width()
-        || first_shape.height() != second_shape.height()
-    {
-        return false;
-    }
-    if first_shape.fits(first.len()) {
-        second_shape.fits(second.len())
-            && have_equal_pixels(first, first_shape, second, second_shape)
-    } else {
-        !second_shape.fits(second.len())
+    match (first_shape.fits(first.len()), second_shape.fits(second.len())) {
+        (true, true) => are_equal_fitting(first, first_shape, second, second_shape),
+        (false, false) => {
+            first_shape.width() == second_shape.width()
+                && first_shape.height() == second_shape.height()
+        }
+        _ => false,
     }
 }

@@ -4,6 +4,7 @@ ghost use Rattle.std.specs.Prelude.{◌≡◌, length, replicate};
 ghost use Rattle.image_model.specs.Layout.{Fits, SameOutside};
 ghost use Rattle.image_model.specs.Grid.{uniform};
 ghost use Rattle.image_shape.specs.Shape.{shape_width, shape_height, shaped_grid, shaped};
+ghost use Rattle.image_ops.specs.Written.{Becomes};
 
 use crate::joining::fewest_rows;
 use image_shape::Shape;
@@ -20,9 +21,8 @@ pub fn fill_cells<T: Copy>(cells: &mut [T], value: T)
 // Every pixel of `shape` in `cells` becomes `value`, by one fill for each row.
 fn fill_rows<T: Copy>(cells: &mut [T], shape: Shape, value: T)
     requires fits { Fits (shaped cells.old shape) }
-    ensures grid { shaped_grid cells.new shape
-        ≡ uniform (shape_width shape) (shape_height shape) value }
-    ensures outside { SameOutside (shaped cells.old shape) (shaped cells.new shape) }
+    ensures { Becomes shape cells.old cells.new
+        (uniform (shape_width shape) (shape_height shape) value) }
 {
     for y in 0..shape.row_count() {
         let row = shape.row(cells.len(), y);

@@ -6,6 +6,7 @@ ghost use Rattle.image_model.specs.Layout.{Fits, SameOutside};
 ghost use Rattle.image_model.specs.Turns.{swapped_column, columns_swapped, mirrored};
 ghost use Rattle.image_shape.specs.Shape.{shape_width, shaped_grid, shaped};
 ghost use Rattle.image_ops.specs.Gathered.{AreGathered, mirrored_place};
+ghost use Rattle.image_ops.specs.Written.{Becomes};
 
 use crate::swapping::swap_rows;
 use crate::turning::copy_back;
@@ -99,8 +100,7 @@ fn reverse_row<T: Copy, const FEW: bool>(row: &mut [T])
 #[inline(never)]
 fn reverse_rows<T: Copy, const FEW: bool>(cells: &mut [T], shape: Shape)
     requires fits { Fits (shaped cells.old shape) }
-    ensures grid { shaped_grid cells.new shape ≡ mirrored (shaped_grid cells.old shape) }
-    ensures outside { SameOutside (shaped cells.old shape) (shaped cells.new shape) }
+    ensures { Becomes shape cells.old cells.new (mirrored (shaped_grid cells.old shape)) }
 {
     for y in 0..shape.row_count() {
         let row = shape.row(cells.len(), y);

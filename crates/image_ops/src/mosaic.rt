@@ -4,8 +4,9 @@ ghost use Rattle.std.specs.Prelude.{◌≡◌, ◌<◌, ◌≤◌, ◌+◌, ◌%
 ghost use Rattle.image_model.specs.Layout.{Fits, SameOutside};
 ghost use Rattle.image_model.specs.Grid.{grid_of};
 ghost use Rattle.image_model.specs.Shifts.{shifted};
-ghost use Rattle.image_shape.specs.Shape.{shaped};
+ghost use Rattle.image_shape.specs.Shape.{shaped, shaped_grid};
 ghost use Rattle.image_ops.specs.Mosaic.{mosaic_by, IsSpread, IsSpreadBy};
+ghost use Rattle.image_ops.specs.Written.{Becomes};
 
 use crate::fill::fill_cells;
 use image_shape::{Shape, Stretch};
@@ -252,9 +253,8 @@ fn mosaic_rows<T: Copy>(
     requires size { 0 < size }
     requires tile_width { 0 < tile_width }
     requires tile_height { 0 < tile_height }
-    ensures grid { grid_of (shaped cells.new shape)
-        ≡ mosaic_by size tile_width tile_height (grid_of (shaped cells.old shape)) }
-    ensures outside { SameOutside (shaped cells.old shape) (shaped cells.new shape) }
+    ensures { Becomes shape cells.old cells.new
+        (mosaic_by size tile_width tile_height (shaped_grid cells.old shape)) }
 {
     let mut line = 0;
     for y in 0..shape.row_count() {

@@ -6,6 +6,7 @@ ghost use Rattle.image_model.specs.Grid.{patch};
 ghost use Rattle.image_model.specs.Windows.{IsInside, window_view};
 ghost use Rattle.image_shape.specs.Shape.{shape_width, shape_height, shaped_grid, shaped};
 ghost use Rattle.image_shape.specs.Window.{as_window};
+ghost use Rattle.image_ops.specs.Written.{Becomes};
 
 use image_shape::{Shape, Window};
 use row_mover::RowMover;
@@ -24,9 +25,8 @@ fn with_moved_window<T: Copy>(
     requires same_width { source.width ≡ target.width }
     requires same_height { source.height ≡ target.height }
     ensures same { result.ghost_name ≡ cells.entry.ghost_name }
-    ensures grid { shaped_grid result.now shape ≡ patch (shaped_grid cells.old shape)
-        target.left target.top (window_view (shaped_grid cells.old shape) (as_window source)) }
-    ensures outside { SameOutside (shaped cells.old shape) (shaped result.now shape) }
+    ensures moved { Becomes shape cells.old result.now (patch (shaped_grid cells.old shape)
+        target.left target.top (window_view (shaped_grid cells.old shape) (as_window source))) }
 {
     let from = shape.stretch(false, cells.len(), source).start;
     let to = shape.stretch(false, cells.len(), target).start;

@@ -4,6 +4,7 @@ ghost use Rattle.std.specs.Prelude.{◌≡◌, ◌+◌, ◌<◌, ◌≤◌, leng
 ghost use Rattle.image_model.specs.Layout.{Fits, SameOutside};
 ghost use Rattle.image_model.specs.Swaps.{StretchesSwapped, rows_swapped};
 ghost use Rattle.image_shape.specs.Shape.{shape_height, shaped_grid, shaped};
+ghost use Rattle.image_ops.specs.Written.{Becomes};
 
 use image_shape::{Shape, Stretch};
 
@@ -23,9 +24,8 @@ fn swap_apart<T>(cells: &mut [T], shape: Shape, upper: usize, lower: usize)
     requires fits { Fits (shaped cells.old shape) }
     requires order { upper < lower }
     requires below { lower < shape_height shape }
-    ensures grid { shaped_grid cells.new shape
-        ≡ rows_swapped upper lower (shaped_grid cells.old shape) }
-    ensures outside { SameOutside (shaped cells.old shape) (shaped cells.new shape) }
+    ensures { Becomes shape cells.old cells.new
+        (rows_swapped upper lower (shaped_grid cells.old shape)) }
 {
     // Without a column there is nothing to swap.
     if lower >= shape.row_count() {

@@ -10,6 +10,7 @@ ghost use Rattle.image_shape.specs.Window.{as_window};
 ghost use Rattle.image_ops.specs.Gathered.{AreGathered};
 ghost use Rattle.image_ops.specs.Quarters.{quartered, first_column, first_row, reads_back, writes_back};
 ghost use Rattle.image_ops.specs.Turned.{turned, turned_width, turned_height};
+ghost use Rattle.image_ops.specs.Written.{AreCrosswise, Becomes, HaveSameSize};
 
 use crate::bands::{copied_columns, quarter_copied};
 use crate::blocks::{block_shape, read_rows, transpose_block};
@@ -99,27 +100,19 @@ pub(crate) fn quarter_rows<T: Copy>(
     source_shape: Shape,
     quarter: Quarter,
 )
-    requires fits { Fits (shaped cells.old shape) }
-    requires source_fits { Fits (shaped source.now source_shape) }
-    requires columns { shape_width shape ≡ shape_height source_shape }
-    requires lines { shape_height shape ≡ shape_width source_shape }
-    ensures grid { shaped_grid cells.new shape
-        ≡ quartered quarter (shaped_grid source.now source_shape) }
-    ensures outside { SameOutside (shaped cells.old shape) (shaped cells.new shape) }
+    requires { AreCrosswise cells.old shape source.now source_shape }
+    ensures { Becomes shape cells.old cells.new
+        (quartered quarter (shaped_grid source.now source_shape)) }
 {
     for y in 0..shape.row_count() {
         let place = shape.row(cells.len(), y);
         let target = &mut cells[place.range()];
-        match quarter {
-            Quarter::Across => gather(target, source, y, source_shape.stride()),
-            Quarter::Right => {
-                let last = source_shape.row(source.len(), source_shape.height() - 1);
-                gather_back(target, source, last.start + y, source_shape.stride());
-            }
-            Quarter::Left => {
-                let column = source_shape.width() - 1 - y;
-                gather(target, source, column, source_shape.stride());
-            }
+        let column = first_column(quarter, source_shape.width(), y, 1);
+        if reads_back(quarter) {
+            let last = source_shape.row(source.len(), source_shape.height() - 1);
+            gather_back(target, source, last.start + column, source_shape.stride());
+        } else {
+            gather(target, source, column, source_shape.stride());
         }
     }
 }
@@ -176,15 +169,11 @@ fn quarter_block<T: Copy>(
     source_shape: Shape,
     quarter: Quarter,
 )
-    requires fits { Fits (shaped cells.old shape) }
+    requires sizes { AreCrosswise cells.old shape source.now source_shape }
     requires width { shape_width shape ≡ 16 }
     requires height { shape_height shape ≡ 16 }
-    requires source_fits { Fits (shaped source.now source_shape) }
-    requires columns { shape_height source_shape ≡ 16 }
-    requires lines { shape_width source_shape ≡ 16 }
-    ensures grid { shaped_grid cells.new shape
-        ≡ quartered quarter (shaped_grid source.now source_shape) }
-    ensures outside { SameOutside (shaped cells.old shape) (shaped cells.new shape) }
+    ensures { Becomes shape cells.old cells.new
+        (quartered quarter (shaped_grid source.now source_shape)) }
 {
     let square = block_shape();
     let mut block = [source[0]; 256];
@@ -210,15 +199,11 @@ fn quarter_at<T: Copy>(
     source_shape: Shape,
     quarter: Quarter,
 )
-    requires fits { Fits (shaped cells.old shape) }
-    requires source_fits { Fits (shaped source.now source_shape) }
-    requires columns { shape_width shape ≡ shape_height source_shape }
-    requires lines { shape_height shape ≡ shape_width source_shape }
+    requires sizes { AreCrosswise cells.old shape source.now source_shape }
     requires wide { left + 16 ≤ shape_width shape }
     requires high { top + 16 ≤ shape_height shape }
-    ensures grid { shaped_grid cells.new shape ≡ patch (shaped_grid cells.old shape) left top
-        (view (quartered quarter (shaped_grid source.now source_shape)) left top 16 16) }
-    ensures outside { SameOutside (shaped cells.old shape) (shaped cells.new shape) }
+    ensures { Becomes shape cells.old cells.new (patch (shaped_grid cells.old shape) left top
+        (view (quartered quarter (shaped_grid source.now source_shape)) left top 16 16)) }
 {
     let column = first_column(quarter, source_shape.width(), top, 16);
     let line = first_row(quarter, source_shape.height(), left, 16);
@@ -239,15 +224,11 @@ pub(crate) fn quarter_blocks<T: Copy>(
     source_shape: Shape,
     quarter: Quarter,
 )
-    requires fits { Fits (shaped cells.old shape) }
-    requires source_fits { Fits (shaped source.now source_shape) }
-    requires columns { shape_width shape ≡ shape_height source_shape }
-    requires lines { shape_height shape ≡ shape_width source_shape }
+    requires sizes { AreCrosswise cells.old shape source.now source_shape }
     requires wide { 16 ≤ shape_width shape }
     requires high { 16 ≤ shape_height shape }
-    ensures grid { shaped_grid cells.new shape
-        ≡ quartered quarter (shaped_grid source.now source_shape) }
-    ensures outside { SameOutside (shaped cells.old shape) (shaped cells.new shape) }
+    ensures { Becomes shape cells.old cells.new
+        (quartered quarter (shaped_grid source.now source_shape)) }
 {
     let (width, height) = (shape.width(), shape.height());
     let mut top = 0;
@@ -292,13 +273,9 @@ pub(crate) fn quarter_strip<T: Copy>(
     source_shape: Shape,
     quarter: Quarter,
 )
-    requires fits { Fits (shaped cells.old shape) }
-    requires source_fits { Fits (shaped source.now source_shape) }
-    requires columns { shape_width shape ≡ shape_height source_shape }
-    requires lines { shape_height shape ≡ shape_width source_shape }
-    ensures grid { shaped_grid cells.new shape
-        ≡ quartered quarter (shaped_grid source.now source_shape) }
-    ensures outside { SameOutside (shaped cells.old shape) (shaped cells.new shape) }
+    requires { AreCrosswise cells.old shape source.now source_shape }
+    ensures { Becomes shape cells.old cells.new
+        (quartered quarter (shaped_grid source.now source_shape)) }
 {
     if blocks_pay(source, shape) {
         quarter_blocks(cells, shape, source, source_shape, quarter);
@@ -317,49 +294,15 @@ fn quarter_part<T: Copy>(
     quarter: Quarter,
     is_copied: bool,
 )
-    requires fits { Fits (shaped cells.old shape) }
-    requires source_fits { Fits (shaped source.now source_shape) }
-    requires columns { shape_width shape ≡ shape_height source_shape }
-    requires lines { shape_height shape ≡ shape_width source_shape }
-    ensures grid { shaped_grid cells.new shape
-        ≡ quartered quarter (shaped_grid source.now source_shape) }
-    ensures outside { SameOutside (shaped cells.old shape) (shaped cells.new shape) }
+    requires { AreCrosswise cells.old shape source.now source_shape }
+    ensures { Becomes shape cells.old cells.new
+        (quartered quarter (shaped_grid source.now source_shape)) }
 {
     if is_copied {
         quarter_copied(cells, shape, source, source_shape, quarter);
     } else {
         quarter_strip(cells, shape, source, source_shape, quarter);
     }
-}
-
-// The window gets the pixels of the source whose columns are rows; every other cell stays.
-fn quarter_window<T: Copy>(
-    cells: &mut [T],
-    shape: Shape,
-    window: Window,
-    source: &[T],
-    source_shape: Shape,
-    quarter: Quarter,
-    is_copied: bool,
-)
-    requires fits { Fits (shaped cells.old shape) }
-    requires inside { IsInside (shape_width shape) (shape_height shape) (as_window window) }
-    requires source_fits { Fits (shaped source.now source_shape) }
-    requires columns { window.width ≡ shape_height source_shape }
-    requires lines { window.height ≡ shape_width source_shape }
-    ensures grid { shaped_grid cells.new shape ≡ patch (shaped_grid cells.old shape)
-        window.left window.top (quartered quarter (shaped_grid source.now source_shape)) }
-    ensures outside { SameOutside (shaped cells.old shape) (shaped cells.new shape) }
-{
-    let (part, inner) = exact_part(cells.len(), shape, window);
-    quarter_part(
-        &mut cells[part],
-        inner,
-        source,
-        source_shape,
-        quarter,
-        is_copied,
-    );
 }
 
 // How many columns are written at a time in an image of few rows, which share the lines of the cache.
@@ -402,17 +345,6 @@ fn strip_columns<T>(source: &[T], stride: usize, shape: Shape) -> (usize, bool)
     (near / 16 * 16, false)
 }
 
-// How many columns have a pixel: 0 where there is no row.
-fn column_count(shape: Shape) -> usize
-    ensures rows { 0 < shape_height shape → result ≡ shape_width shape }
-    ensures within { result ≤ shape_width shape }
-{
-    match shape.height() {
-        0 => 0,
-        _ => shape.width(),
-    }
-}
-
 // Every pixel of `shape` in `cells` becomes the pixel of the source whose columns are rows, some
 // columns at a time; the padding stays. It isn't inlined, so that small images take no longer than
 // without it.
@@ -424,20 +356,16 @@ fn quarter_strips<T: Copy>(
     source_shape: Shape,
     quarter: Quarter,
 )
-    requires fits { Fits (shaped cells.old shape) }
-    requires source_fits { Fits (shaped source.now source_shape) }
-    requires columns { shape_width shape ≡ shape_height source_shape }
-    requires lines { shape_height shape ≡ shape_width source_shape }
-    ensures grid { shaped_grid cells.new shape
-        ≡ quartered quarter (shaped_grid source.now source_shape) }
-    ensures outside { SameOutside (shaped cells.old shape) (shaped cells.new shape) }
+    requires { AreCrosswise cells.old shape source.now source_shape }
+    ensures { Becomes shape cells.old cells.new
+        (quartered quarter (shaped_grid source.now source_shape)) }
 {
     if source.len() * size_of::<T>() <= NEAR {
         quarter_strip(cells, shape, source, source_shape, quarter);
         return;
     }
     let (most, is_copied) = strip_columns(source, source_shape.stride(), shape);
-    let (columns, lines) = (column_count(shape), shape.height());
+    let (columns, lines) = (shape.width(), shape.height());
     let (source_width, source_height) = (source_shape.width(), source_shape.height());
     let mut left = 0;
     while left < columns {
@@ -446,7 +374,9 @@ fn quarter_strips<T: Copy>(
         let rows = Window::new(0, top, source_width, width);
         let (part, part_shape) = padded_part(source, source_shape, rows);
         let strip = Window::new(left, 0, width, lines);
-        quarter_window(cells, shape, strip, part, part_shape, quarter, is_copied);
+        let (cut, inner) = exact_part(cells.len(), shape, strip);
+        let target = &mut cells[cut];
+        quarter_part(target, inner, part, part_shape, quarter, is_copied);
         left += width;
     }
 }
@@ -461,13 +391,9 @@ fn quarter_pixels<T: Copy>(
     source_shape: Shape,
     quarter: Quarter,
 )
-    requires fits { Fits (shaped cells.old shape) }
-    requires source_fits { Fits (shaped source.now source_shape) }
-    requires columns { shape_width shape ≡ shape_height source_shape }
-    requires lines { shape_height shape ≡ shape_width source_shape }
-    ensures grid { shaped_grid cells.new shape
-        ≡ quartered quarter (shaped_grid source.now source_shape) }
-    ensures outside { SameOutside (shaped cells.old shape) (shaped cells.new shape) }
+    requires { AreCrosswise cells.old shape source.now source_shape }
+    ensures { Becomes shape cells.old cells.new
+        (quartered quarter (shaped_grid source.now source_shape)) }
 {
     if source.len() * size_of::<T>() <= NEAR && !blocks_pay(source, shape) {
         quarter_rows(cells, shape, source, source_shape, quarter);
@@ -504,9 +430,7 @@ fn copy_long_back<T: Copy>(cells: &mut [T], source: &[T])
 
 // Whether a call pays for a row. In a short one it takes longer than the cells, and of cells of other
 // sizes the compiler makes no vector code.
-fn call_pays<T>(cells: &[T]) -> bool
-    ensures long { IsTrue result → 8 ≤ length cells.now }
-{
+fn call_pays<T>(cells: &[T]) -> bool {
     let Some(cell) = cells.first() else {
         return false;
     };
@@ -532,12 +456,8 @@ fn copy_row_back<T: Copy>(cells: &mut [T], source: &[T])
 // Every pixel of `shape` in `cells` becomes the pixel of the source turned by a half; the padding
 // stays.
 fn half_pixels<T: Copy>(cells: &mut [T], shape: Shape, source: &[T], source_shape: Shape)
-    requires fits { Fits (shaped cells.old shape) }
-    requires source_fits { Fits (shaped source.now source_shape) }
-    requires columns { shape_width shape ≡ shape_width source_shape }
-    requires lines { shape_height shape ≡ shape_height source_shape }
-    ensures grid { shaped_grid cells.new shape ≡ turned_half (shaped_grid source.now source_shape) }
-    ensures outside { SameOutside (shaped cells.old shape) (shaped cells.new shape) }
+    requires { HaveSameSize cells.old shape source.now source_shape }
+    ensures { Becomes shape cells.old cells.new (turned_half (shaped_grid source.now source_shape)) }
 {
     for y in 0..shape.row_count() {
         let place = shape.row(cells.len(), y);

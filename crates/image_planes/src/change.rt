@@ -2,11 +2,12 @@
 //! another in a row, so a window of pixels is a window of bytes.
 
 ghost use Rattle.std.specs.Prelude.{◌≡◌, ◌<◌, ◌/◌};
-ghost use Rattle.image_model.specs.Layout.{Fits, SameOutside};
+ghost use Rattle.image_model.specs.Layout.{Fits};
 ghost use Rattle.image_model.specs.Grid.{grid_of};
 ghost use Rattle.image_model.specs.Windows.{IsInside};
 ghost use Rattle.imgref.specs.Shape.{shaped, shape_width, shape_height};
 ghost use Rattle.imgref.specs.Window.{as_window};
+ghost use Rattle.image_ops.specs.Written.{Becomes};
 ghost use Rattle.image_planes.specs.Changes.{IsChangeOf, changed, in_bytes};
 
 use image_ops::{mosaic_window_by, move_pixels, repeat_window};
@@ -72,9 +73,8 @@ pub(crate) fn change_cells(cells: &mut [u8], shape: Shape, size: usize, change: 
     requires some { 0 < size }
     requires few { size < 9 }
     requires inside { IsChangeOf (shape_width shape / size) (shape_height shape) change }
-    ensures grid { grid_of (shaped cells.new shape)
-        ≡ changed size change (grid_of (shaped cells.old shape)) }
-    ensures outside { SameOutside (shaped cells.old shape) (shaped cells.new shape) }
+    ensures { Becomes shape cells.old cells.new
+        (changed size change (grid_of (shaped cells.old shape))) }
 {
     match change {
         Change::Fill { window, value } => {

@@ -1,9 +1,10 @@
 //! Blocks of steps, and the frames that each names, so that a frame passes over the blocks of others.
 
 ghost use Rattle.std.specs.Prelude.{◌≡◌, ◌<◌, ◌/◌, IfOk, IsTrue};
-ghost use Rattle.image_model.specs.Layout.{Fits, SameOutside};
+ghost use Rattle.image_model.specs.Layout.{Fits};
 ghost use Rattle.image_model.specs.Grid.{grid_of};
 ghost use Rattle.imgref.specs.Shape.{shaped, shape_width, shape_height};
+ghost use Rattle.image_ops.specs.Written.{Becomes};
 ghost use Rattle.image_planes.specs.Changes.{are_inside, stepped};
 ghost use Rattle.image_planes.specs.Spans.{has, has_all, are_spans};
 
@@ -78,9 +79,8 @@ pub(crate) fn do_blocks(
     requires inside { IsTrue
         (are_inside (shape_width shape / size) (shape_height shape) steps.now) }
     requires spans { IsTrue (are_spans spans.now steps.now) }
-    ensures grid { grid_of (shaped cells.new shape)
-        ≡ stepped size number steps.now (grid_of (shaped cells.old shape)) }
-    ensures outside { SameOutside (shaped cells.old shape) (shaped cells.new shape) }
+    ensures { Becomes shape cells.old cells.new
+        (stepped size number steps.now (grid_of (shaped cells.old shape))) }
 {
     let mut left = steps;
     for span in spans {

@@ -1,9 +1,10 @@
 //! Changes that are applied one after the other, each to some frames of a video.
 
 ghost use Rattle.std.specs.Prelude.{◌≡◌, ◌<◌, ◌/◌, IsTrue};
-ghost use Rattle.image_model.specs.Layout.{Fits, SameOutside};
+ghost use Rattle.image_model.specs.Layout.{Fits};
 ghost use Rattle.image_model.specs.Grid.{grid_of};
 ghost use Rattle.imgref.specs.Shape.{shaped, shape_width, shape_height};
+ghost use Rattle.image_ops.specs.Written.{Becomes};
 ghost use Rattle.image_planes.specs.Changes.{are_inside, stepped};
 
 use crate::change::{Step, Value, change_cells};
@@ -33,9 +34,8 @@ pub(crate) fn do_steps(
     requires few { size < 9 }
     requires inside { IsTrue
         (are_inside (shape_width shape / size) (shape_height shape) steps.now) }
-    ensures grid { grid_of (shaped cells.new shape)
-        ≡ stepped size number steps.now (grid_of (shaped cells.old shape)) }
-    ensures outside { SameOutside (shaped cells.old shape) (shaped cells.new shape) }
+    ensures { Becomes shape cells.old cells.new
+        (stepped size number steps.now (grid_of (shaped cells.old shape))) }
 {
     for step in steps {
         if step.first <= number && number < step.end {

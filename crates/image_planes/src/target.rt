@@ -2,9 +2,10 @@
 
 ghost use Rattle.std.specs.Prelude.{◌≡◌, ◌<◌, ◌^◌, ◌+◌, ◌*◌, ◌%◌, length, IsTrue};
 ghost use Rattle.std.specs.Option.{option_map};
-ghost use Rattle.image_model.specs.Layout.{Fits, SameOutside};
+ghost use Rattle.image_model.specs.Layout.{Fits};
 ghost use Rattle.image_model.specs.Grid.{grid_of, patch};
 ghost use Rattle.image_ops.specs.Repeated.{repeated};
+ghost use Rattle.image_ops.specs.Written.{Becomes};
 ghost use Rattle.image_model.specs.Rows.{grid_pixels};
 ghost use Rattle.image_model.specs.Windows.{IsInside, is_inside, window_view};
 ghost use Rattle.imgref.specs.Image.{ref_layout, width_of, height_of};
@@ -53,8 +54,7 @@ fn copy_cells(cells: &mut [u8], shape: Shape, source: ImgRef<'_, u8>)
     requires source_fits { Fits (ref_layout source) }
     requires same_width { width_of source ≡ shape_width shape }
     requires same_height { height_of source ≡ shape_height shape }
-    ensures grid { grid_of (shaped cells.new shape) ≡ grid_of (ref_layout source.entry) }
-    ensures outside { SameOutside (shaped cells.old shape) (shaped cells.new shape) }
+    ensures { Becomes shape cells.old cells.new (grid_of (ref_layout source.entry)) }
 {
     let mut image = ImgRefMut::from_parts(cells, shape);
     image.copy_from(source);
@@ -67,9 +67,8 @@ fn put_image(cells: &mut [u8], shape: Shape, window: Window, source: ImgRef<'_, 
     requires source_fits { Fits (ref_layout source) }
     requires same_width { width_of source ≡ window.width }
     requires same_height { height_of source ≡ window.height }
-    ensures grid { grid_of (shaped cells.new shape) ≡ patch (grid_of (shaped cells.old shape))
-        window.left window.top (grid_of (ref_layout source.entry)) }
-    ensures outside { SameOutside (shaped cells.old shape) (shaped cells.new shape) }
+    ensures { Becomes shape cells.old cells.new (patch (grid_of (shaped cells.old shape))
+        window.left window.top (grid_of (ref_layout source.entry))) }
 {
     let mut image = ImgRefMut::from_parts(cells, shape);
     image.copy_window(window.left, window.top, source);
@@ -102,9 +101,8 @@ fn fill_border(cells: &mut [u8], shape: Shape, place: Window, pattern: &[u8])
     requires fits { Fits (shaped cells.old shape) }
     requires inside { IsInside (shape_width shape) (shape_height shape) (as_window place) }
     requires some { 0 < length pattern.now }
-    ensures grid { grid_of (shaped cells.new shape) ≡ bordered (grid_of (shaped cells.old shape))
-        place.left place.top place.width place.height pattern.now }
-    ensures outside { SameOutside (shaped cells.old shape) (shaped cells.new shape) }
+    ensures { Becomes shape cells.old cells.new (bordered (grid_of (shaped cells.old shape))
+        place.left place.top place.width place.height pattern.now) }
 {
     let (width, height) = (shape.width(), shape.height());
     let (right, bottom) = place.place(place.width, place.height);

@@ -1,26 +1,26 @@
 -- Sixteen rows more, and all rows.
-use Rattle.std.proofs.Common.{◌+◌, ◌-◌, refl, sym, ap, ◌∙◌, arith, min}
-use Rattle.image_model.specs.Grid.{Grid, grid, grid_of}
+use Rattle.std.proofs.Common.{◌+◌, ◌-◌, ap, ◌∙◌, arith, min}
+use Rattle.image_model.specs.Grid.{Grid}
 use Rattle.image_shape.specs.Shape.{shaped_grid}
-use Rattle.image_ops.specs.Quarters.{source_column, source_row, quartered}
-use Rattle.image_ops.proofs.QuarterBlocks.{one_band_more, all_blocks}
+use Rattle.image_ops.specs.Quarters.{quartered}
+use Rattle.image_ops.proofs.Quarters.{InRows, before_rows, becomes_quartered}
+use Rattle.image_ops.proofs.Windowed.{shows_more}
 use Rattle.image_ops.proofs.bands.quarter_lines.Goals as goal
 
 pub loop-top-preserved : goal.loop-top-preserved
 loop-top-preserved g c =
     let a = c.args in
-    let is_line = c.min-line.ensures ∙ ap (λ n. min c.loop-top.top (n - 16)) c.height-height.ensures.value in (
-      one_band_more (quartered a.quarter (shaped_grid a.source.now a.source_shape)) a.shape a.cells.now c.loop-top.cells 0 c.loop-top.top c.loop-top.invariant.0 refl
-          c.quarter_line.new.cells c.min-line.result 16 (c.loop-top.top + 16) (omega (arith, is_line)) (omega (arith, is_line, c.requires.high)) (omega (arith, is_line, c.requires.high))
-          c.quarter_line.ensures.grid c.quarter_line.ensures.outside,
+    let s = a.shape in
+    let q : Grid g.row.T.Denot = quartered a.quarter (shaped_grid a.source.now a.source_shape) in
+    let top = c.loop-top.top in
+    let is_line = c.min-line.ensures ∙ ap (λ n. min top (n - 16)) c.height-height.ensures.value in (
+      shows_more q s a.cells.now c.loop-top.cells _ 0 c.min-line.result s.width 16 c.quarter_line.ensures.becomes (InRows top) (InRows (top + 16)) c.loop-top.invariant.0
+          (λ x y column line. before_rows s.width s.height top c.min-line.result 16 (top + 16) x y column line (omega (arith, is_line)) (omega (arith, is_line, c.requires.high))),
       c.quarter_line.ensures.as_many ∙ c.loop-top.invariant.1,
     )
 
-pub returns-clause-grid : goal.returns-clause-grid
-unfolding grid_of
-returns-clause-grid g c =
+pub returns-clause-becomes : goal.returns-clause-becomes
+returns-clause-becomes g c =
     let a = c.args in
-    let from : Grid g.row.T.Denot = shaped_grid a.source.now a.source_shape in
-    all_blocks (quartered a.quarter from) a.shape a.cells.now c.loop-top.cells 0 c.loop-top.top c.loop-top.invariant.0 (omega (arith, c.loop-top-test.false, c.height-height.ensures.value))
-    (λ x y. from.pixel (source_column a.quarter from.width x y) (source_row a.quarter from.height x y))
-    (λ i. grid (sym c.requires.columns i) (sym c.requires.lines i) (λ x y. from.pixel (source_column a.quarter from.width x y) (source_row a.quarter from.height x y)))
+    becomes_quartered a.quarter a.source.now a.source_shape a.shape c.requires.sizes.columns c.requires.sizes.lines (InRows c.loop-top.top) a.cells.now c.loop-top.cells c.loop-top.invariant.0
+    (λ x y column line. omega (arith, line, c.loop-top-test.false, c.height-height.ensures.value))

@@ -1,11 +1,12 @@
 use Rattle.std.proofs.Common.{◌-◌, ◌≡◌, length}
 use Rattle.image_shape.specs.Shape.{shaped_grid}
 use Rattle.image_ops.specs.Quarters.{quartered}
-use Rattle.image_ops.proofs.QuarterBlocks.{BlocksDone}
+use Rattle.image_ops.proofs.Quarters.{InRows}
+use Rattle.image_ops.proofs.Windowed.{ShowsWhere}
 use Rattle.image_ops.proofs.bands.quarter_lines.Given as goal
 
 abbrev pub invariant-loop-top : goal.invariant-loop-top
-invariant-loop-top g l = BlocksDone (quartered l.quarter (shaped_grid l.source l.source_shape)) l.initial.cells l.cells l.shape 0 l.top × (length l.lines ≡ length l.initial.lines)
+invariant-loop-top g l = ShowsWhere (InRows l.top) (quartered l.quarter (shaped_grid l.source l.source_shape)) l.initial.cells l.cells l.shape × (length l.lines ≡ length l.initial.lines)
 
 abbrev pub decreases-loop-top : goal.decreases-loop-top
 decreases-loop-top g l = l.height - l.top

@@ -12,7 +12,7 @@ returns-then-ne g c =
     let b = shaped c.args.second.now c.args.second_shape in
     let below : c.loop-y.y < row_count a.width a.height = omega (arith, c.row_count-y-end.ensures.value) in
     let d : pointwise g.T.PartialEq.eq (row a c.loop-y.y) (row b c.loop-y.y) ≡ false = rw (← c.row.ensures.value, ← c.row-in-loop-y.ensures.value) (grind arith) in
-    sym (one_differs g.T.PartialEq.eq a b c.requires.same_width c.requires.same_height c.loop-y.y below d)
+    sym (one_differs g.T.PartialEq.eq a b c.requires.width c.requires.height c.loop-y.y below d)
 
 pub loop-y-preserved : goal.loop-y-preserved
 loop-y-preserved g c =
@@ -26,4 +26,4 @@ returns g c =
     let a = shaped c.args.first.now c.args.first_shape in
     let b = shaped c.args.second.now c.args.second_shape in
     let all : row_count a.width a.height ≡ c.loop-y.y = omega (arith, c.row_count-y-end.ensures.value) in
-    sym (all_equal g.T.PartialEq.eq a b c.requires.same_width c.requires.same_height ∙ ap (equal_upto g.T.PartialEq.eq a b) all ∙ c.loop-y.invariant)
+    sym (all_equal g.T.PartialEq.eq a b c.requires.width c.requires.height ∙ ap (equal_upto g.T.PartialEq.eq a b) all ∙ c.loop-y.invariant)

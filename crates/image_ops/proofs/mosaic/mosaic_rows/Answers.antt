@@ -3,7 +3,7 @@ use Rattle.std.proofs.Common.{◌≡◌, ◌+◌, ◌<◌, ◌%◌, arith, ap, �
 use Rattle.std.proofs.Math.Nat.{mod-lt, mod-add-mod}
 use Rattle.image_model.specs.Rows.{row_count}
 use Rattle.image_ops.proofs.RowsWritten.{row_range}
-use Rattle.image_ops.proofs.Mosaics.{row_spread, row_repeated, mosaic_shown}
+use Rattle.image_ops.proofs.Mosaics.{row_spread, row_repeated, mosaic_becomes}
 use Rattle.image_ops.proofs.mosaic.mosaic_rows.Goals as goal
 
 pub next_line-line-requires : goal.next_line-line-requires
@@ -32,6 +32,6 @@ loop-y-preserved g c =
       line = c.next_line-line.ensures ∙ ap (λ k. (k + 1) % th) so.line ∙ mod-add-mod y th 1;
     }
 
-pub returns-clause-grid : goal.returns-clause-grid
-returns-clause-grid g c =
-    mosaic_shown c.args.cells.now c.args.shape c.args.size c.args.tile_width c.args.tile_height c.loop-y.cells c.loop-y.y c.loop-y.invariant.shown (omega (arith, c.row_count-y-end.ensures.value))
+pub returns : goal.returns
+returns g c =
+    mosaic_becomes c.args.cells.now c.args.shape c.args.size c.args.tile_width c.args.tile_height c.loop-y.cells c.loop-y.y c.loop-y.invariant.shown (omega (arith, c.row_count-y-end.ensures.value))

@@ -1,30 +1,38 @@
--- The columns so far show the source.
-use Rattle.std.proofs.Common.{◌+◌, ◌≤◌, ap, ◌∙◌, arith}
-use Rattle.image_model.specs.Grid.{grid_of, patch}
-use Rattle.image_model.specs.Layout.{Layout}
+-- One strip more, and all columns.
+use Rattle.std.proofs.Common.{◌+◌, ◌≤◌, sym, ap, ◌∙◌, arith}
+use Rattle.image_model.specs.Grid.{Grid, grid_of, view}
 use Rattle.image_model.specs.Windows.{window, window_view}
-use Rattle.image_shape.specs.Shape.{shaped, shaped_grid}
 use Rattle.image_ops.specs.Quarters.{quartered, first_row}
-use Rattle.image_ops.proofs.Quarters.{one_strip_more, all_strips}
+use Rattle.image_shape.specs.Shape.{shaped_grid}
+use Rattle.image_ops.proofs.Quarters.{InStrips, before_strip, whole_column, becomes_quartered}
+use Rattle.image_ops.proofs.QuarterBlocks.{view_quartered}
+use Rattle.image_ops.proofs.WindowWrites.{part_becomes}
+use Rattle.image_ops.proofs.Windowed.{shows_more, window_becomes}
 use Rattle.image_ops.proofs.turning.quarter_strips.Goals as goal
 
 pub loop-left-preserved : goal.loop-left-preserved
+unfolding grid_of
 loop-left-preserved g c =
     let a = c.args in
-    let from : Layout g.row.T.Denot = shaped a.source.now a.source_shape in
-    let part : Layout g.row.T.Denot = shaped c.padded_part.result.0.now c.padded_part.result.1 in
+    let s = a.shape in
+    let q : Grid g.row.T.Denot = quartered a.quarter (shaped_grid a.source.now a.source_shape) in
     let left = c.loop-left.left in
     let count = c.min-width.result in
-    let top = c.first_row-top.result in
-    let there : left + count ≤ from.height = omega (arith, c.min-width.ensures, c.loop-left-test.true, c.column_count-columns.ensures.within, c.requires.columns) in
+    let from : Grid g.row.T.Denot = shaped_grid a.source.now a.source_shape in
     let is_top = c.first_row-top.ensures ∙ ap (λ n. first_row a.quarter n left count) c.height-source_height.ensures.value in
-    let seen = c.padded_part.ensures.view ∙ ap (window_view (grid_of from)) (c.new-rows.ensures ∙ ap (λ n. window 0 top n count) c.width-source_width.ensures.value) in
-    let shown = c.quarter_window.ensures.grid ∙ ap (λ w. patch (shaped_grid c.loop-left.cells a.shape) w.left w.top (quartered a.quarter (grid_of part))) c.new-strip.ensures in
-    one_strip_more a.quarter from a.shape a.cells.now c.loop-left.cells left c.loop-left.invariant c.requires.columns c.requires.lines
-    c.quarter_window.new.cells count top there is_top part seen shown c.quarter_window.ensures.outside
+    let seen = c.padded_part.ensures.view ∙ ap (window_view from) (c.new-rows.ensures ∙ ap (λ n. window 0 c.first_row-top.result n count) c.width-source_width.ensures.value) in
+    let there : left + count ≤ from.height = omega (arith, c.min-width.ensures, c.loop-left-test.true, c.width-columns.ensures.value, c.requires.columns) in
+    let shown = ap (quartered a.quarter) seen ∙ view_quartered a.quarter from left 0 count from.width 0 c.first_row-top.result there (omega arith) (whole_column a.quarter from.width) is_top in
+    let is_strip = c.new-strip.ensures ∙ ap (window left 0 count) c.height-lines.ensures.value in
+    shows_more q s a.cells.now c.loop-left.cells _ left 0 count s.height
+    (window_becomes q s c.loop-left.cells _ _ left 0 count s.height is_strip _
+    (shown ∙ ap (λ n. view q left 0 count n) (sym c.requires.lines) ∙ sym (ap (window_view q) is_strip))
+    (part_becomes _ _ _ _ _ _ c.exact_part.ensures.part _ _ c.quarter_part.ensures))
+    (InStrips left) (InStrips (left + count)) c.loop-left.invariant
+    (λ x y column line. before_strip left count s.height x y line)
 
-pub returns-clause-grid : goal.returns-clause-grid
-returns-clause-grid g c =
+pub returns : goal.returns
+returns g c =
     let a = c.args in
-    all_strips a.quarter (shaped a.source.now a.source_shape) a.shape a.cells.now c.loop-left.cells c.loop-left.left c.loop-left.invariant c.requires.columns c.requires.lines
-    c.column_count-columns.result (omega (arith, c.loop-left-test.false)) c.column_count-columns.ensures.rows
+    becomes_quartered a.quarter a.source.now a.source_shape a.shape c.requires.columns c.requires.lines (InStrips c.loop-left.left) a.cells.now c.loop-left.cells c.loop-left.invariant
+    (λ x y column line. omega (arith, column, c.loop-left-test.false, c.width-columns.ensures.value))
