@@ -29,3 +29,5 @@ pub mod SquareBlocks
 pub mod BlockPairs
 pub mod BlockSpreading
 pub mod CountedUpto
+pub mod Rounding
+pub mod MeanTiles

@@ -13,3 +13,4 @@ pub mod Repeated
 pub mod Quarters
 pub mod Blocks
 pub mod Counting
+pub mod Means
