@@ -11,6 +11,7 @@
 
 mod flips;
 mod images;
+mod means;
 mod packing;
 mod pairs;
 mod pixels;
