@@ -19,7 +19,7 @@ use Rattle.image_shape.specs.declared.shape.Shape.{Shape}
 use Rattle.image_ops.specs.Mosaic.{mosaic_by, shown_column}
 use Rattle.image_ops.specs.Means.{sum_upto, mean_of, tile_columns, tile_mean, mean_mosaic_by, number_in, PutsMeans, BeginsWithMeans}
 use Rattle.image_ops.proofs.Corners.{first_start, next_start, start_of, start_starts}
-use Rattle.image_ops.proofs.Rounding.{sum_same, mean_same}
+use Rattle.image_ops.proofs.Rounding.{sum_same, sum_within, mean_same}
 use Rattle.image_ops.proofs.Parts.{shown_before, shows_itself}
 use Rattle.image_ops.proofs.RowsWritten.{RowsDone, all_right}
 
@@ -40,6 +40,13 @@ line_sum number cells size from line stride start len some at inside =
     let within : i * size < len = tile_begins size len i some below in
     let there : start + i * size ≡ from + (line * stride + i * size) = omega (arith, at) in
     ap (λ p. option_map_or number p 0) (slice_get-take (start + len - start) (drop start cells) (i * size) (omega (arith, within)) ∙ slice_get-drop start cells (i * size) ∙ ap (slice_get cells) there))
+
+-- the sum of the lines so far with that of one line more
+pub line_added : {T : Type 0} (cells : List T) (size len start line lines greatest before more : ℕ) → 0 < lines → line < lines → start + len ≤ length cells
+    → before ≤ line * (tile_count size len * greatest) → more ≤ tile_count size (length (take (start + len - start) (drop start cells))) * greatest
+    → (before + more ≤ (line + 1) * (tile_count size len * greatest)) × (before + more ≤ tile_count size len * lines * greatest)
+line_added cells size len start line lines greatest before more some below inside so here =
+    sum_within lines some line (tile_count size len) greatest before more below so (subst (λ n. more ≤ tile_count size n * greatest) (line_length cells start len inside) here)
 
 -- ---- in one row
 
