@@ -116,6 +116,9 @@ imgref_status imgref_tile(size_t width, size_t height, size_t tile_width, size_t
  * flip_columns In each row of the window the first pixel changes places with the last, and so on. Pixels have `channels`
  *              cells. NOT_AN_IMAGE, WINDOW_OUTSIDE.
  * swap_rows    Rows y and z change places. Pixels have `channels` cells. NOT_AN_IMAGE, PLACE_OUTSIDE.
+ * mosaic_means Each tile of the window gets the mean of its pixels, rounded to the nearest number: a half goes up. Each of the
+ *              `channels` cells of a pixel is a mean of its own. A tile that the window's edge cuts has the pixels that are
+ *              left of it. Only of u8 and u16. NOT_AN_IMAGE, WINDOW_OUTSIDE, NO_TILE.
  * pack         The rows come one after the other at the front of the cells, with no padding: from then on the stride is the
  *              width, or 1 for width 0, and the pixels are the first width * height cells. The cells after them stay.
  *              NOT_AN_IMAGE.
@@ -165,6 +168,14 @@ IMGREF_CALLS(u16, uint16_t)
 IMGREF_CALLS(u32, uint32_t)
 IMGREF_CALLS(u64, uint64_t)
 #undef IMGREF_CALLS
+
+#define IMGREF_MEANS(NAME, CELL)                                                                                             \
+    imgref_status imgref_##NAME##_mosaic_means(CELL *cells, size_t len, size_t width, size_t height, size_t stride,           \
+                                               size_t channels, imgref_rect window, size_t tile_width, size_t tile_height);
+
+IMGREF_MEANS(u8, uint8_t)
+IMGREF_MEANS(u16, uint16_t)
+#undef IMGREF_MEANS
 
 #ifdef __cplusplus
 }

@@ -105,6 +105,10 @@ IMGREF_CALLS_OF(4, u32, std::uint32_t)
 IMGREF_CALLS_OF(8, u64, std::uint64_t)
 #undef IMGREF_CALLS_OF
 
+// The call that only cells of one and of two bytes have.
+template <std::size_t Size> inline constexpr auto mosaic_means = imgref_u8_mosaic_means;
+template <> inline constexpr auto mosaic_means<2> = imgref_u16_mosaic_means;
+
 // What a view of no pixel may point to, since no pointer may be null.
 inline std::uint64_t nowhere = 0;
 
@@ -274,6 +278,13 @@ public:
         for (std::size_t k = 0; k < N; ++k) made[k] = bits(value[k]);
         detail::done(calls::count(cells(), len_, width_ / N, height_, stride_, window, made, N, &found));
         return found;
+    }
+
+    // Each tile of the window gets the mean of its colours, which have that number of channels. It is
+    // rounded to the nearest number. Only for unsigned elements of one and of two bytes.
+    void mosaic_means(std::size_t channels, const rect &window, std::size_t tile_width, std::size_t tile_height) const {
+        static_assert(std::is_same_v<value_type, std::uint8_t> || std::is_same_v<value_type, std::uint16_t>, "no mean is taken of these");
+        detail::done(detail::mosaic_means<sizeof(cell)>(written(), len_, pixels_of(width_, channels), height_, stride_, channels, window, tile_width, tile_height));
     }
 
     // Writes this image, turned or transposed, to `target`, which has the size of the turned one and

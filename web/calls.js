@@ -132,6 +132,15 @@ export class Library {
     this.run(`imgref_u${image.bits}_mosaic`, ...cells(image), this.windowAt(FROM, window), ...tile);
   }
 
+  /** Each tile gets the mean of its pixels, byte by byte. */
+  means(image, window, tileWidth, tileHeight) {
+    const channels = image.bits / 8, tile = numbers(tileWidth, tileHeight);
+    const bytes = { ...image, count: channels * image.count, stride: channels * image.stride };
+    this.run(
+      "imgref_u8_mosaic_means", ...cells(bytes), BigInt(channels), this.windowAt(FROM, window), ...tile
+    );
+  }
+
   move(image, from, to) {
     const windows = [this.windowAt(FROM, from), this.windowAt(TO, to)];
     this.run(`imgref_u${image.bits}_move_window`, ...cells(image), ...windows);

@@ -1,11 +1,16 @@
 // Edits and their text, in the words of docs/FRAMES.md.
 
 import { isNumber } from "./common.js";
-import { hidesNothing } from "./tile.js";
+import { hidesNothing, isMosaic } from "./tile.js";
 
 const RANGE = /^[0-9]*\.\.[0-9]*$/;
+const COMMENT = /#.*/, GAPS = /[ \t]+/;
+// What a cover is larger by on each side, in pixels, and its brightness: where the line has no such number.
+const MARGIN = 2, BLACK = 16;
 const WORDS = {
+  cover: "cover L,T,W,H, with or without +M and V",
   fill: "fill L,T,W,H V or fill L,T,W,H R,G,B",
+  means: "means L,T,W,H TW,TH",
   mosaic: "mosaic L,T,W,H TW,TH",
   move: "move L,T,W,H X,Y",
   crop: "crop L,T,W,H",
@@ -27,7 +32,7 @@ export function resizes(edit) {
 
 /** Whether an edit covers what was there. */
 export function covers(edit) {
-  return ["fill", "brush", "mosaic"].includes(edit.word);
+  return ["fill", "brush"].includes(edit.word) || isMosaic(edit);
 }
 
 /** Why a cover would hide nothing at all, or a crop leave nothing: else no words. */
@@ -52,6 +57,7 @@ export function textOf(edit) {
   const [red, green, blue] = edit.colour ?? [];
   const last = {
     fill: red === green && green === blue ? `${red}` : `${red},${green},${blue}`,
+    means: `${edit.tileWidth},${edit.tileHeight}`,
     mosaic: `${edit.tileWidth},${edit.tileHeight}`,
     move: `${edit.x},${edit.y}`,
   }[word];
@@ -62,8 +68,8 @@ export function textOf(edit) {
 
 // (an earlier list's edits with which the text begins stay: so a stroke of the brush stays one edit)
 
-/** The edits of a text with one edit on each line; empty lines are ignored. */
-export function editsOf(text, earlier = []) {
+/** The edits of a text with one edit on each line, for a picture of this size. Comments and empty lines are ignored. */
+export function editsOf(text, size, earlier = []) {
   const edits = [];
   let rest = text;
   for (const it of earlier) {
@@ -76,10 +82,11 @@ export function editsOf(text, earlier = []) {
   }
   const before = text.slice(0, text.length - rest.length).split("\n").length;
   rest.split("\n").forEach((line, index) => {
-    if (line === "") {
+    const words = line.replace(COMMENT, "").split(GAPS).filter(Boolean);
+    if (words.length === 0) {
       return;
     }
-    const number = before + index, edit = editOf(line, number);
+    const number = before + index, edit = editOf(words, number, size);
     if (edits.some(resizes)) {
       throw new BadEdit(number, "at most one crop or pad is allowed, and it must come last.");
     }
@@ -88,8 +95,7 @@ export function editsOf(text, earlier = []) {
   return edits;
 }
 
-function editOf(line, number) {
-  const [word, ...fields] = line.split(" ");
+function editOf([word, ...fields], number, size) {
   if (RANGE.test(word)) {
     throw new BadEdit(number, `a picture has one frame, so leave out the range ${word}.`);
   }
@@ -99,16 +105,51 @@ function editOf(line, number) {
       number, `an edit begins with ${Object.keys(WORDS).join(", ")}, and not with '${word}'.`
     );
   }
-  const lists = fields.map(numbersOf);
-  const edit = lists.every(Boolean) && made(word, lists);
+  const edit = word === "cover" ? cover(fields) : plain(word, fields);
   if (!edit) {
-    throw new BadEdit(number, `'${line}' is not of the form ${form}.`);
+    throw new BadEdit(number, `'${[word, ...fields].join(" ")}' is not of the form ${form}.`);
+  }
+  if (word === "cover") {
+    const fill = filled(edit, size);
+    if (!fill) {
+      throw new BadEdit(number, "the cover has no pixel in the picture.");
+    }
+    return fill;
   }
   const why = futility(edit);
   if (why) {
     throw new BadEdit(number, why);
   }
   return edit;
+}
+
+/** The edit of a line that is no cover, or null. */
+function plain(word, fields) {
+  const lists = fields.map(numbersOf);
+  return lists.every(Boolean) && made(word, lists);
+}
+
+/** A cover, with its margin and its colour, or null. */
+function cover([place = "", value = `${BLACK}`, ...more]) {
+  const [window, margin = `${MARGIN}`, ...rest] = place.split("+");
+  const [edges, margins] = [window, margin].map(numbersOf);
+  const isOne = margins?.length === 1 && rest.length + more.length === 0;
+  const edit = isOne && value.split(",").length === 1 && plain("fill", [window, value]);
+  return edit && edges ? { ...edit, margin: margins[0] } : null;
+}
+
+/** A cover as the fill that it is in a picture of this size, or null where it is outside. */
+function filled({ margin, ...edit }, size) {
+  const [left, width] = along(edit.left, edit.width, margin, size.width);
+  const [top, height] = along(edit.top, edit.height, margin, size.height);
+  return width > 0 && height > 0 ? { ...edit, left, top, width, height } : null;
+}
+
+/** Where a cover begins in one direction, and how many pixels it has, of so many. */
+function along(start, count, margin, pixels) {
+  const [from, length, more, most] = [start, count, margin, pixels].map(BigInt);
+  const begin = from > more ? from - more : 0n, end = from + length + more;
+  return [Number(begin), Number((end < most ? end : most) - begin)];
 }
 
 /** The numbers of a field, or null where it has another form. */
@@ -135,6 +176,7 @@ function made(word, [window, last, ...more]) {
         ...rectangle, colour
       } : null;
     }
+    case "means":
     case "mosaic":
       return isPair ? { ...rectangle, tileWidth: last[0], tileHeight: last[1] } : null;
     case "move":

@@ -3,7 +3,7 @@
 import { find } from "./common.js";
 import { textOf } from "./edits.js";
 import { isOnStage } from "./stage.js";
-import { weakness } from "./tile.js";
+import { isMosaic, weakness } from "./tile.js";
 import { wordsOf } from "./words.js";
 
 /** The field of each number of an edit. */
@@ -50,19 +50,19 @@ function shortened(text) {
 
 /** Shows the fields of an edit, its warning, and what it can be changed to. */
 export function renderSelected(edit, picture, turnInto) {
-  const canChange = edit && isOnStage(edit);
+  const canChange = edit && isOnStage(edit), kind = edit && isMosaic(edit) ? "mosaic" : edit?.word;
   find("selected").disabled = !edit;
   for (const [name, id] of Object.entries(FIELDS)) {
     find(id).value = edit?.[name] ?? "";
     find(id).disabled = !canChange;
   }
-  document.querySelectorAll("[data-of]").forEach((it) => { it.hidden = it.dataset.of !== edit?.word; });
+  document.querySelectorAll("[data-of]").forEach((it) => { it.hidden = it.dataset.of !== kind; });
   if (edit?.word === "fill") {
     find("own-colour").value = `#${edit.colour.map((it) => it.toString(16).padStart(2, "0")).join("")}`;
   }
   const weak = edit ? weakness(edit, picture) : "";
   [find("weak").textContent, find("weak").hidden] = [weak, !weak];
-  const kinds = canChange ? KINDS.filter((it) => it !== edit.word) : [];
+  const kinds = canChange ? KINDS.filter((it) => it !== kind) : [];
   find("changes").replaceChildren(...kinds.map((word) => {
     const button = document.createElement("button");
     button.textContent = `Change '${wordsOf(edit)}' to a ${word}`;

@@ -6,7 +6,7 @@ import { Opener } from "./open.js";
 import { Saver } from "./save.js";
 import { renderList, renderSelected } from "./list.js";
 import { Stage } from "./stage.js";
-import { tileSide, weakness } from "./tile.js";
+import { isMosaic, tileSide, weakness } from "./tile.js";
 import { colourOf, renderTools, toolOf } from "./tools.js";
 import { coversInWords } from "./words.js";
 
@@ -122,7 +122,7 @@ export class PicturePage {
         );
         // (a tile that nobody typed follows its rectangle)
         const isOwn = find("tile-width").value + find("tile-height").value !== "";
-        return { ...edit, tileWidth, tileHeight, isOwn };
+        return { ...edit, word: "means", tileWidth, tileHeight, isOwn };
       }
       default:
         return edit;
@@ -158,7 +158,7 @@ export class PicturePage {
   /** Gives an edit another rectangle, colour or tile. */
   change(index, values, by) {
     const edit = { ...this.edits[index], ...values }, why = futility(edit);
-    if (edit.word === "mosaic" && edit.isOwn === false) {
+    if (isMosaic(edit) && edit.isOwn === false) {
       edit.tileWidth = edit.tileHeight = tileSide(edit, this.pixels);
     }
     if (why) {
@@ -200,7 +200,7 @@ export class PicturePage {
   /** The edits of the text in the place of the present ones. */
   applyText() {
     try {
-      const edits = editsOf(find("text").value, this.edits);
+      const edits = editsOf(find("text").value, this.pixels, this.edits);
       this.selected = -1;
       this.commit(edits);
     } catch (why) {

@@ -84,6 +84,8 @@ export class Pixels {
         return this.library.fill(this.image, edit, cellOf(edit.colour));
       case "brush":
         return edit.parts.forEach((it) => this.library.fill(this.image, it, cellOf(edit.colour)));
+      case "means":
+        return this.library.means(this.image, edit, edit.tileWidth, edit.tileHeight);
       case "mosaic":
         return this.library.mosaic(this.image, edit, edit.tileWidth, edit.tileHeight);
       default:

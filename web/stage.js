@@ -14,7 +14,7 @@ const ARROWS = { ArrowLeft: [-1, 0], ArrowRight: [1, 0], ArrowUp: [0, -1], Arrow
 
 /** Whether an edit has a rectangle that can be moved on the picture. */
 export function isOnStage(edit) {
-  return ["fill", "mosaic", "crop"].includes(edit.word);
+  return ["fill", "means", "mosaic", "crop"].includes(edit.word);
 }
 
 export class Stage {

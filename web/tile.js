@@ -5,6 +5,11 @@ const OF_RECTANGLE = 8, OF_PICTURE = 40;
 // A tile of one pixel changes nothing.
 const LEAST = 2;
 
+/** Whether an edit shows tiles: their means, or the pixels at their corners. */
+export function isMosaic({ word }) {
+  return word === "means" || word === "mosaic";
+}
+
 /** The side of a tile where a person types none. */
 export function tileSide(rectangle, picture) {
   const shorter = ({ width, height }) => Math.min(Number(width), Number(height));
@@ -13,8 +18,8 @@ export function tileSide(rectangle, picture) {
 }
 
 /** Why the tiles of a mosaic are too small, or nothing. */
-export function weakness({ word, tileWidth, tileHeight, ...rectangle }, picture) {
-  const side = word === "mosaic" ? tileSide(rectangle, picture) : 0;
+export function weakness(edit, picture) {
+  const { tileWidth, tileHeight } = edit, side = isMosaic(edit) ? tileSide(edit, picture) : 0;
   if (tileWidth >= side && tileHeight >= side || side === 0) {
     return "";
   }
@@ -22,6 +27,6 @@ export function weakness({ word, tileWidth, tileHeight, ...rectangle }, picture)
 }
 
 /** Whether a mosaic of these tiles shows each pixel as it was. */
-export function hidesNothing({ word, tileWidth, tileHeight }) {
-  return word === "mosaic" && tileWidth === 1 && tileHeight === 1;
+export function hidesNothing(edit) {
+  return isMosaic(edit) && edit.tileWidth === 1 && edit.tileHeight === 1;
 }

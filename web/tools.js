@@ -6,7 +6,7 @@ import { weakness } from "./tile.js";
 const HINTS = {
   fill: "Leaves nothing of what it covers.",
   brush: "Fills along a path. Leaves nothing of what it covers.",
-  mosaic: "Keeps one pixel of each tile, so a text can be guessed. Use a fill for secrets. "
+  mosaic: "Keeps the mean of each tile, so a text can be guessed. Use a fill for secrets. "
     + "Without numbers, tiles are an eighth of the rectangle, and at least a fortieth of the picture.",
   crop: "Only what is inside is saved.",
 };

@@ -1,6 +1,7 @@
 // Edits in words, as a person reads them in the list and on buttons.
 
 import { covers } from "./edits.js";
+import { isMosaic } from "./tile.js";
 
 const COLOURS = {
   "0,0,0": "Black", "255,255,255": "White", "255,0,0": "Red", "0,255,0": "Green", "0,0,255": "Blue",
@@ -15,8 +16,10 @@ export function wordsOf(edit) {
       return `${colourName(edit.colour)}, ${place}`;
     case "brush":
       return `${colourName(edit.colour)} brush, within ${place}`;
-    case "mosaic":
+    case "means":
       return `Mosaic of ${edit.tileWidth} by ${edit.tileHeight}, ${place}`;
+    case "mosaic":
+      return `Mosaic of corners, ${edit.tileWidth} by ${edit.tileHeight}, ${place}`;
     case "move":
       return `Move of ${width} by ${height} from ${left}, ${top} to ${edit.x}, ${edit.y}`;
     case "pad": {
@@ -41,7 +44,7 @@ export function plural(count, word) {
 
 /** What the covers of a list hide, before it is saved: mosaics are named by their number in the list. */
 export function coversInWords(edits) {
-  const numbers = edits.flatMap((it, index) => (it.word === "mosaic" ? [index + 1] : []));
+  const numbers = edits.flatMap((it, index) => (isMosaic(it) ? [index + 1] : []));
   const count = edits.filter(covers).length;
   if (count === 0) {
     return "Nothing is covered.";

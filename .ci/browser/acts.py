@@ -113,6 +113,26 @@ def exchanged(pixels, window):
     return frames.exchanged(pixels, 0, 3 * WIDTH, (3 * left, top, 3 * width, height))
 
 
+def swapped(pixels, one, other):
+    """The pixels at two places in each other's place."""
+    made = bytearray(pixels)
+    for (x, y), (u, v) in ((one, other), (other, one)):
+        at, source = 3 * (y * WIDTH + x), 3 * (v * WIDTH + u)
+        made[at:at + 3] = pixels[source:source + 3]
+    return bytes(made)
+
+
+def check_means(page):
+    """Of a tile of means its sums are seen, and nothing else."""
+    same, other, saved = swapped(PIXELS, (9, 9), (15, 14)), exchanged(PIXELS, (9, 9, 7, 7)), []
+    for pixels in (PIXELS, same, other):
+        page.open(pixels)
+        page.apply("means 8,8,32,16 8,8")
+        saved.append(page.save())
+    page.count("means: pixels of a tile that change places give the same file", same != PIXELS and saved[0] == saved[1])
+    page.count("means: other sums don't", saved[0] != saved[2])
+
+
 def check_hidden(page):
     """Pictures that differ only in what is covered give the same file, and others don't."""
     for text, hidden, seen in HIDDEN:

@@ -32,7 +32,7 @@ def check_next_tool(page):
     page.choose("mosaic")
     page.count("the choice of a mosaic changes no cover", page.list() == f"{SECRET}\n")
     page.drag((5.5, 25.5), (10, 30), (16.5, 37.5))
-    page.count("the next one is the mosaic", page.list() == f"{SECRET}\nmosaic 5,25,12,13 2,2\n")
+    page.count("the next one is the mosaic", page.list() == f"{SECRET}\nmeans 5,25,12,13 2,2\n")
     page.open()
     page.choose("fill")
     page.drag((20.5, 10.5), (30, 15), (39.5, 21.5))
@@ -55,7 +55,7 @@ def check_next_tool(page):
     wanted = [f"Change 'Black, 20 by 12 at 20, 10' to a {it}" for it in ("mosaic", "crop")]
     page.count("buttons say what they change", page.browser.run(CHANGES) == wanted, page.browser.run(CHANGES))
     page.browser.run("document.querySelector('#changes [data-word=mosaic]').click()")
-    page.count("one of them changes the cover", page.list() == "mosaic 20,10,20,12 2,2\n")
+    page.count("one of them changes the cover", page.list() == "means 20,10,20,12 2,2\n")
     page.browser.run("document.querySelector('#changes [data-word=fill]').click()")
     page.browser.change("own-colour", "#ff0000")
     page.count("a field of the cover gives it a colour", page.list() == "fill 20,10,20,12 255,0,0\n")

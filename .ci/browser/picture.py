@@ -11,6 +11,8 @@ LISTS = (
     "fill 10,8,20,12 0", "fill 10,8,20,12 200,30,7", "fill 0,0,60,40 255", "fill 59,39,1,1 9",
     "mosaic 4,4,30,20 8,8", "mosaic 1,2,57,37 7,5",
     "mosaic 0,0,60,40 1000,1000", "mosaic 3,3,9,9 2,1", "mosaic 0,0,60,40 18446744073709551615,3",
+    "means 4,4,30,20 8,8", "means 1,2,57,37 7,5", "means 0,0,60,40 1000,1000", "means 3,3,9,9 2,1",
+    "means 0,0,60,40 18446744073709551615,3", "fill 10,8,20,12 0\nmeans 0,0,60,40 9,7\ncrop 2,2,50,30",
     "move 0,0,20,20 30,15", "move 0,0,30,20 5,4", "move 5,4,30,20 0,0", "move 0,0,60,40 0,0",
     "crop 7,9,30,20", "crop 0,0,60,40", "crop 59,0,1,40", "pad 1,2,3,4 16", "pad 0,0,0,0 9",
     "pad 0,5,0,0 255", "fill 10,8,20,12 0\nmosaic 20,10,30,20 8,8",
@@ -19,16 +21,28 @@ LISTS = (
     "fill 1,1,9,9 1,2,3\nmove 0,0,20,20 30,15\nfill 30,0,20,20 77\npad 2,2,2,2 128",
     "fill 0,0,9,9 5\nfill 3,3,9,9 6\nfill 6,6,9,9 7\nmove 0,0,15,15 3,3",
 )
+# Lines as in a list of the program, and the lines that they become.
+LINES = {
+    "cover 10,8,20,12": "fill 8,6,24,16 16", "cover 10,8,20,12 0": "fill 8,6,24,16 0",
+    "cover 10,8,20,12+0 7": "fill 10,8,20,12 7", "cover 50,30,20,20+5": "fill 45,25,15,15 16",
+    "cover 61,1,18446744073709551615,0 9": "fill 59,0,1,3 9",
+    "# the number plate\n\n\tfill 1,1,9,9  3  # black\n \t\n": "fill 1,1,9,9 3",
+}
 # Lines that are no edits, and edits that can't be carried out, with what the page says.
 BAD = {
     "fill 10,8,20,12": "Line 1: 'fill 10,8,20,12' is not of the form fill L,T,W,H V",
     "fill 10,8,20,12 256": "is not of the form fill",
     "fill 10,8,20,12 1,2": "is not of the form fill", "fill 10,8,20 1": "is not of the form fill",
     "fill 010,8,20,12 1": "is not of the form fill", "fill -1,8,20,12 1": "is not of the form fill",
-    "fill  1,8,20,12 1": "is not of the form fill", "fill 1,8,20,12 1 ": "is not of the form fill",
+    "cover 1,1,9,9+ 1": "is not of the form cover", "cover 1,1,9,9+1+1": "is not of the form cover",
+    "cover 1,1,9,9 1,2,3": "is not of the form cover", "cover 1,1,9 1": "is not of the form cover",
+    "cover 1,1,9,9 256": "is not of the form cover", "cover 1,1,9,9 1 1": "is not of the form cover",
+    "cover 62,0,9,9": "Line 1: the cover has no pixel in the picture.",
+    "means 0,0,9,9 3": "is not of the form means", "means 0,0,9,9 1,1": "tiles of 1 by 1 hides nothing",
+    "means 0,0,9,9 0,3": "A tile needs", "means 50,8,20,12 3,3": "reaches outside",
     "fill 18446744073709551616,0,1,1 1": "is not of the form fill",
     "mosaic 0,0,9,9 3": "is not of the form mosaic",
-    "FILL 0,0,1,1 1": "an edit begins with fill, mosaic, move, crop, pad, and not with 'FILL'",
+    "FILL 0,0,1,1 1": "an edit begins with cover, fill, means, mosaic, move, crop, pad, and not with 'FILL'",
     "toString 0,0,1,1 1": "an edit begins with",
     "0..5 fill 0,0,1,1 1": "a picture has one frame, so leave out the range 0..5.",
     "fill 0,0,1,1 1 fill 0,0,1,1 1": "is not of the form fill",
@@ -138,8 +152,33 @@ class Page:
         self.cases.count(label, is_well, f"{said}\n{self.status()}\n{self.list()}")
 
 
+def by_means(picture, window, tile):
+    """A picture as PPM, in which each tile of a window shows the mean of its pixels."""
+    head, sizes, most, cells = picture.split(b"\n", 3)
+    wide, cells = int(sizes.split()[0]), bytearray(cells)
+    left, top, width, height = window
+    tiles = {}
+    for y in range(height):
+        for x in range(width):
+            tiles.setdefault((x // tile[0], y // tile[1]), []).append(3 * ((top + y) * wide + left + x))
+    for its in tiles.values():
+        for channel in range(3):
+            mean = (2 * sum(cells[at + channel] for at in its) + len(its)) // (2 * len(its))
+            for at in its:
+                cells[at + channel] = mean
+    return b"\n".join((head, sizes, most, bytes(cells)))
+
+
 def by_model(words, pixels=PIXELS, width=WIDTH, height=HEIGHT):
-    return frames.answer(png.ppm(width, height, pixels), frames.edits_of(words))
+    """The picture after these edits, one after the other."""
+    picture, begins = png.ppm(width, height, pixels), [at for at, it in enumerate(words) if it.isalpha()]
+    for begin, end in zip(begins, [*begins[1:], len(words)]):
+        word, *numbers = words[begin:end]
+        if word == "means":
+            picture = by_means(picture, *([int(it) for it in field.split(",")] for field in numbers))
+        else:
+            picture = frames.answer(picture, frames.edits_of(words[begin:end]))
+    return picture
 
 
 def check_lists(page, program):
@@ -152,7 +191,7 @@ def check_lists(page, program):
         is_told = said == "Done." or said.startswith("Note:") and "move" in text
         page.count(f"{label}: carried out", is_told and page.list() == f"{text}\n", said)
         page.count(f"{label}: by the model", saved == by_model(words))
-        if program:
+        if program and "means" not in text:
             ran = subprocess.run(
                 [program, *words], input=png.ppm(WIDTH, HEIGHT, PIXELS), capture_output=True
             )
@@ -160,6 +199,19 @@ def check_lists(page, program):
                 f"{label}: by imgref_frames", ran.returncode == 0 and saved == ran.stdout,
                 ran.stderr
             )
+
+
+def check_lines(page, program):
+    """A cover becomes the fill that it is, and comments and gaps are ignored: the program makes the same picture."""
+    for text, line in LINES.items():
+        page.open()
+        page.apply(text)
+        page.count(f"{text!r} becomes '{line}'", page.list() == f"{line}\n")
+        if program:
+            path = page.browser.folder / "edits.txt"
+            path.write_text(text)
+            ran = subprocess.run([program, "--edits", path], input=png.ppm(WIDTH, HEIGHT, PIXELS), capture_output=True)
+            page.count(f"{text!r}: by imgref_frames", ran.returncode == 0 and png.ppm_of(page.save()) == ran.stdout, ran.stderr)
 
 
 def check_bad_lists(page):
@@ -205,30 +257,30 @@ def check_pointer(page):
     page.browser.change("tile-height", "16")
     page.browser.click("#edits button")
     page.browser.click("#changes [data-word=mosaic]")
-    page.count("a rectangle becomes a mosaic", page.list() == "mosaic 0,0,5,5 2,16\n")
+    page.count("a rectangle becomes a mosaic", page.list() == "means 0,0,5,5 2,16\n")
     page.drag((30, 30), (30.01, 30.01))
-    page.count("a click draws nothing", page.list() == "mosaic 0,0,5,5 2,16\n")
+    page.count("a click draws nothing", page.list() == "means 0,0,5,5 2,16\n")
     page.drag((49.5, 29.5), (30, 20), (20.5, 10.5), kind="touch")
     page.count(
         "a finger draws a mosaic, from right to left",
-        page.list() == "mosaic 0,0,5,5 2,16\nmosaic 20,10,30,20 2,16\n"
+        page.list() == "means 0,0,5,5 2,16\nmeans 20,10,30,20 2,16\n"
     )
     page.browser.click("#changes [data-word=crop]")
     page.count(
-        "a rectangle becomes a crop", page.list() == "mosaic 0,0,5,5 2,16\ncrop 20,10,30,20\n"
+        "a rectangle becomes a crop", page.list() == "means 0,0,5,5 2,16\ncrop 20,10,30,20\n"
     )
     page.drag((35, 10), (35, 12), (35, 14.1))
     page.count(
-        "a crop is moved by its edge", page.list() == "mosaic 0,0,5,5 2,16\ncrop 20,14,30,20\n"
+        "a crop is moved by its edge", page.list() == "means 0,0,5,5 2,16\ncrop 20,14,30,20\n"
     )
     page.browser.press("Escape")
     page.count(
         "Escape deselects it",
         page.browser.run("return document.getElementById('selected').disabled")
     )
-    words = "mosaic 0,0,5,5 2,16\nfill 22,12,6,6 0\ncrop 20,10,30,20\n"
+    words = "means 0,0,5,5 2,16\nfill 22,12,6,6 0\ncrop 20,10,30,20\n"
     page.open()
-    page.apply("mosaic 0,0,5,5 2,16\ncrop 20,10,30,20")
+    page.apply("means 0,0,5,5 2,16\ncrop 20,10,30,20")
     page.choose("fill")
     page.drag((22.2, 12.2), (27.7, 17.7))
     page.count("a fill inside a crop comes before it", page.list() == words)
@@ -248,6 +300,6 @@ def check_pointer(page):
     )
     page.count("its line is told as it is now", page.status().startswith("Line 2: "))
     page.browser.click("#remove")
-    page.count("it is removed", page.list() == "mosaic 0,0,5,5 2,16\ncrop 20,10,30,20\n")
+    page.count("it is removed", page.list() == "means 0,0,5,5 2,16\ncrop 20,10,30,20\n")
     for it in ("tile-width", "tile-height"):
         page.browser.change(it, "")

@@ -9,7 +9,7 @@ compact 0
 """
 
 
-EDITS = "mosaic 160,196,130,130 26,26\nfill 588,446,144,42 0"
+EDITS = "means 160,196,130,130 26,26\nfill 588,446,144,42 0"
 # The windows: their width and height, and how many pixels of the screen one of theirs has.
 WINDOWS = {"web.png": (1280, 720, 1), "web_phone.png": (360, 740, 1), "web_large.png": (640, 360, 2)}
 

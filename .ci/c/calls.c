@@ -184,12 +184,14 @@ static imgref_status one_tile(struct sizes is) {
 #define OF(name) imgref_u8_##name
 #define MINE(name) of_8_##name
 #define TEXT "u8 "
+#define MEANS
 #include "cells.h"
 
 #define CELL uint16_t
 #define OF(name) imgref_u16_##name
 #define MINE(name) of_16_##name
 #define TEXT "u16 "
+#define MEANS
 #include "cells.h"
 
 #define CELL uint32_t
@@ -222,6 +224,10 @@ static void by_hand(void) {
     const struct imgref_window second = {1, 0, 1, 1}, both = {0, 0, 2, 1};
     count("by hand: fill_pixels", imgref_u8_fill_pixels(colours, 8, 2, 1, 8, second, colour, 3) == IMGREF_OK && !memcmp(colours, (uint8_t[]){1, 2, 3, 21, 22, 23, 7, 90}, 8));
     count("by hand: mosaic_pixels", imgref_u8_mosaic_pixels(colours, 8, 2, 1, 8, 3, both, 2, 1) == IMGREF_OK && !memcmp(colours, (uint8_t[]){1, 2, 3, 1, 2, 3, 7, 90}, 8));
+    uint8_t bytes[9] = {1, 2, 90, 4, 8, 90, 10, 21, 90};
+    const struct imgref_window all = {0, 0, 2, 3};
+    /* (two tiles: the mean of 1, 2, 4 and 8 is 3.75, and that of 10 and 21 is 15.5) */
+    count("by hand: mosaic_means", imgref_u8_mosaic_means(bytes, 9, 2, 3, 3, 1, all, 2, 2) == IMGREF_OK && !memcmp(bytes, (uint8_t[]){4, 4, 90, 4, 4, 90, 16, 16, 90}, 9));
     count("by hand: a pixel of five cells", imgref_u8_mosaic_pixels(colours, 8, 1, 1, 8, 5, second, 2, 1) == IMGREF_NOT_AN_IMAGE && colours[3] == 1);
     count("by hand: no width overflows", imgref_u8_fill_pixels(colours, 8, SIZE_MAX / 2 + 2, 1, 8, second, colour, 2) == IMGREF_NOT_AN_IMAGE && colours[3] == 1);
     const uint8_t turned[8] = {4, 5, 6, 1, 2, 3, 7, 90};

@@ -1,5 +1,5 @@
 /* The calls on one type of cell, each beside a model that goes place by place. Included once for each type, with CELL (the
- * type), OF (a call's name) and MINE (a name of this file's for it). */
+ * type), OF (a call's name) and MINE (a name of this file's for it), and MEANS where means are taken of the type. */
 
 /* A random image in a list with a guard on either side, which no call may touch. */
 struct MINE(image) {
@@ -289,6 +289,39 @@ static imgref_status MINE(one_swap_rows)(struct sizes is) {
     return status;
 }
 
+#ifdef MEANS
+static imgref_status MINE(one_mosaic_means)(struct sizes is) {
+    size_t channels = any_channels(), wide = any() % 9 ? any() % 5 : any_number(), high = any() % 9 ? any() % 5 : any_number();
+    struct MINE(image) it = MINE(made)(is);
+    is.width = in_pixels(is, channels);
+    struct imgref_window w = any_window(is);
+    CELL *expected = MINE(copy)(&it);
+    imgref_status wanted = !is_pixel_image(is, channels) ? IMGREF_NOT_AN_IMAGE
+                           : !is_inside(is, w)           ? IMGREF_WINDOW_OUTSIDE
+                           : wide == 0 || high == 0      ? IMGREF_NO_TILE
+                                                         : IMGREF_OK;
+    if (wanted == IMGREF_OK && w.width)
+        for (size_t y = 0; y < w.height; y++)
+            for (size_t x = 0; x < w.width; x++)
+                for (size_t k = 0; k < channels; k++) {
+                    /* (all pixels of the window that lie in the same tile) */
+                    size_t sum = 0, count = 0;
+                    for (size_t v = 0; v < w.height; v++)
+                        for (size_t u = 0; u < w.width; u++)
+                            if (u / wide == x / wide && v / high == y / high) {
+                                sum += MINE(was)(&it, (w.left + u) * channels + k, w.top + v);
+                                count++;
+                            }
+                    size_t rest = sum % count;
+                    MINE(set)(expected, &it, (w.left + x) * channels + k, w.top + y, (CELL)(sum / count + (2 * rest >= count)));
+                }
+    imgref_status status = OF(mosaic_means)(it.cells, is.len, is.width, is.height, is.stride, channels, w, wide, high);
+    tell(MINE(left)(&it, expected, status, wanted));
+    MINE(freed)(it);
+    return status;
+}
+#endif
+
 static imgref_status MINE(one_pack)(struct sizes is) {
     struct MINE(image) it = MINE(made)(is);
     CELL *expected = MINE(copy)(&it);
@@ -349,10 +382,15 @@ static void MINE(all_calls)(void) {
     series(TEXT "flip_rows", MINE(one_flip_rows), 1u << IMGREF_OK | 1u << IMGREF_NOT_AN_IMAGE | 1u << IMGREF_WINDOW_OUTSIDE);
     series(TEXT "flip_columns", MINE(one_flip_columns), 1u << IMGREF_OK | 1u << IMGREF_NOT_AN_IMAGE | 1u << IMGREF_WINDOW_OUTSIDE);
     series(TEXT "swap_rows", MINE(one_swap_rows), 1u << IMGREF_OK | 1u << IMGREF_NOT_AN_IMAGE | 1u << IMGREF_PLACE_OUTSIDE);
+#ifdef MEANS
+    series(TEXT "mosaic_means", MINE(one_mosaic_means),
+           1u << IMGREF_OK | 1u << IMGREF_NOT_AN_IMAGE | 1u << IMGREF_WINDOW_OUTSIDE | 1u << IMGREF_NO_TILE);
+#endif
     series(TEXT "pack", MINE(one_pack), 1u << IMGREF_OK | 1u << IMGREF_NOT_AN_IMAGE);
     series(TEXT "equal", MINE(one_equal), 1u << IMGREF_OK | 1u << IMGREF_NOT_AN_IMAGE);
 }
 
+#undef MEANS
 #undef CELL
 #undef OF
 #undef MINE

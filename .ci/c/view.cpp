@@ -116,6 +116,9 @@ static void pixels_of_several() {
     check("mosaic_pixels", pixels == std::array<std::uint16_t, 14>{1, 2, 3, 1, 2, 3, 90, 1, 2, 3, 1, 2, 3, 91});
     check("count_pixels", image.count_pixels({0, 0, 2, 2}, {1, 2, 3}) == 4 && image.count_pixels({0, 0, 2, 2}, {1, 2, 4}) == 0);
     check("count", image.count(1) == 4 && image.count({0, 0, 3, 1}, 2) == 1 && is_refused(IMGREF_WINDOW_OUTSIDE, [&] { image.count({0, 0, 8, 1}, 2); }));
+    std::array<std::uint8_t, 6> bytes{1, 10, 2, 20, 4, 31};
+    view(bytes, 6, 1).mosaic_means(2, {0, 0, 3, 1}, 2, 1);
+    check("mosaic_means", bytes == std::array<std::uint8_t, 6>{2, 15, 2, 15, 4, 31});
     check("no such colours", is_refused(IMGREF_NOT_AN_IMAGE, [&] { image.mosaic_pixels(0, {0, 0, 1, 1}, 1, 1); }) && is_refused(IMGREF_NOT_AN_IMAGE, [&] { image.mosaic_pixels(5, {0, 0, 1, 1}, 1, 1); }) &&
                                  is_refused(IMGREF_WINDOW_OUTSIDE, [&] { image.fill_pixels({2, 0, 1, 1}, {1, 2, 3}); }) && is_refused(IMGREF_NO_TILE, [&] { image.mosaic_pixels(3, {0, 0, 1, 1}, 0, 1); }));
 }

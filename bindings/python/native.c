@@ -439,6 +439,17 @@ CALL(call_swap_rows) {
     return done(image_swap_rows(&it->shown, n[0], n[1]));
 }
 
+/* A cell of several numbers is taken for so many cells. */
+CALL(call_mosaic_means) {
+    (void)module;
+    size_t n[7];
+    Cells *it = first_in(given, count, 8);
+    if (!it || !numbers_of(given + 1, 7, n) || !is_written(it)) return NULL;
+    const image i = n[6] > it->shown.step ? with_step(it->shown, n[6]) : it->shown;
+    UNLOCKED(image_mosaic_means(&i, window_of(n), n[4], n[5]))
+    return done(status);
+}
+
 CALL(call_pack) {
     (void)module;
     Cells *it = first_in(given, count, 1);
@@ -555,7 +566,7 @@ CALL(call_tile) {
 
 #define FAST(NAME) {#NAME, (PyCFunction)(void (*)(void))call_##NAME, METH_FASTCALL, NULL}
 static PyMethodDef calls[] = {
-    FAST(get),  FAST(put),    FAST(fill),   FAST(copy), FAST(move), FAST(mosaic),     FAST(pack), FAST(equal),
+    FAST(get),  FAST(put),    FAST(fill),   FAST(copy), FAST(move), FAST(mosaic),     FAST(mosaic_means), FAST(pack), FAST(equal),
     FAST(hold), FAST(window), FAST(joined), {"room", call_room, METH_O, NULL},        {"address", call_address, METH_O, NULL},
     FAST(count), FAST(turn), FAST(flip_rows), FAST(flip_columns), FAST(swap_rows),
     FAST(tile), FAST(tile_count), {NULL, NULL, 0, NULL},

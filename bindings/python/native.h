@@ -146,6 +146,15 @@ static imgref_status image_flip_columns(const image *i, imgref_rect window) { BY
 #define SWAP_ROWS(NAME, TYPE) imgref_##NAME##_swap_rows(PIXELS(TYPE, i), i->step, y, z)
 static imgref_status image_swap_rows(const image *i, size_t y, size_t z) { BY_SIZE(SWAP_ROWS) }
 
+/* The cells are numbers of one or of two bytes: the caller tests it. */
+static imgref_status image_mosaic_means(const image *i, imgref_rect window, size_t tile_width, size_t tile_height) {
+    switch (i->size) {
+    case 1: return imgref_u8_mosaic_means(PIXELS(uint8_t, i), i->step, window, tile_width, tile_height);
+    case 2: return imgref_u16_mosaic_means(PIXELS(uint16_t, i), i->step, window, tile_width, tile_height);
+    default: return IMGREF_NOT_AN_IMAGE;
+    }
+}
+
 /* The stride is that of joined rows from then on. */
 #define PACK(NAME, TYPE) imgref_##NAME##_pack(LAYOUT(TYPE, i))
 static imgref_status image_pack(const image *i) { BY_SIZE(PACK) }

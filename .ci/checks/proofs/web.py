@@ -131,6 +131,7 @@ def check_page(cases, program):
             found.text("#problem")
         )
         picture.check_lists(page, program)
+        picture.check_lines(page, program)
         picture.check_bad_lists(page)
         picture.check_pointer(page)
         for check in (covers.check_next_tool, covers.check_tiles, covers.check_edges, covers.check_moves, covers.check_said):
@@ -138,6 +139,7 @@ def check_page(cases, program):
         acts.check_keys(page)
         acts.check_undo(page)
         acts.check_hidden(page)
+        acts.check_means(page)
         files.check_wrong_files(page)
         files.check_given(page)
         files.check_dropped(page)

@@ -225,6 +225,15 @@ class Image(Layout):
         left, top, width, height = window
         _mosaic(self._cells, left, top, width, height, tile_width, tile_height)
 
+    def mosaic_means(self, window: Corners, tile_width: int, tile_height: int) -> None:
+        """Each tile of the window, from its corner on, gets the mean of its pixels, rounded to the
+        nearest number. Each number of a colour is a mean of its own. The numbers are unsigned and
+        have one or two bytes."""
+        if self._pixels.cell.code not in ("B", "H"):
+            raise TypeError(f"no mean is taken of numbers of format {self.format!r}")
+        left, top, width, height = window
+        _native.mosaic_means(self._cells, left, top, width, height, tile_width, tile_height, self.channels)
+
     def pack(self) -> None:
         """Joins the rows at the front of the memory. The stride is that of joined rows from then
         on.

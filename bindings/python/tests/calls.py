@@ -37,6 +37,7 @@ def of_other_buffers():
     image = Image(pixels, 2, 3)
     image.put(1, 2, -2000000000)
     check("signed cells of four bytes", pixels[5] == -2000000000 and image.get(0, 1) == -3)
+    check("no mean of signed cells", raises(TypeError, image.mosaic_means, image.whole, 2, 2) and pixels[0] == -1)
     reals = array.array("d", [0.5] * 4)
     Image(reals, 2, 2).fill(Window(0, 0, 1, 2), -1.25)
     check("floats of eight bytes", reals.tolist() == [-1.25, 0.5, -1.25, 0.5])

@@ -29,6 +29,17 @@ class Model:
         for x, y in places(window):
             self.rows[y][x] = self.rows[y - (y - top) % tile_height][x - (x - left) % tile_width]
 
+    def mosaic_means(self, window, tile_width, tile_height):
+        (left, top), tiles = window[:2], {}
+        for x, y in places(window):
+            tiles.setdefault(((x - left) // tile_width, (y - top) // tile_height), []).append((x, y))
+        for its in tiles.values():
+            pixels = [self.rows[y][x] for x, y in its]
+            numbers = zip(*pixels) if isinstance(pixels[0], tuple) else [pixels]
+            means = tuple((2 * sum(it) + len(it)) // (2 * len(it)) for it in numbers)
+            for x, y in its:
+                self.rows[y][x] = means if isinstance(pixels[0], tuple) else means[0]
+
     def put(self, x, y, value):
         self.rows[y][x] = value
 
@@ -73,7 +84,9 @@ def step(chance, image, pixel):
     rows = (chance.randrange(image.height), chance.randrange(image.height))
     calls = [("fill", (window, pixel())), ("move_window", (window, target)), ("mosaic", (window, *tiles)), ("put", (*place, pixel())), ("pack", ())]
     calls += [("flip_rows", (window,)), ("flip_columns", (window,)), ("swap_rows", rows)]
-    return chance.choices(calls, [4, 4, 3, 3, 1, 2, 2, 2])[0]
+    if image.format[-1] in "BH":
+        calls.append(("mosaic_means", (window, *tiles)))
+    return chance.choices(calls, [4, 4, 3, 3, 1, 2, 2, 2, 3][: len(calls)])[0]
 
 
 def turns(image, rows):
@@ -117,7 +130,7 @@ def tried(letter, channels, offset, stride_more):
 
 
 def of_random_calls():
-    for letter in "BhIQ":
+    for letter in "BhHIQ":
         for channels in (1, 2, 3, 4):
             is_well = all(tried(letter, channels, offset, more) for offset in (0, 1) for more in (0, 1, channels, 2 * channels))
             check(f"calls on pixels of {channels} numbers of format {letter!r}", is_well)

@@ -7,6 +7,8 @@ extern "C" {
     pub(crate) fn imgref_window(len: usize, width: usize, height: usize, stride: usize, window: Window, start: *mut usize, count: *mut usize) -> u32;
     pub(crate) fn imgref_tile_count(width: usize, height: usize, tile_width: usize, tile_height: usize, count: *mut usize) -> u32;
     pub(crate) fn imgref_tile(width: usize, height: usize, tile_width: usize, tile_height: usize, number: usize, window: *mut Window) -> u32;
+    fn imgref_u8_mosaic_means(cells: *mut u8, len: usize, width: usize, height: usize, stride: usize, channels: usize, window: Window, tile_width: usize, tile_height: usize) -> u32;
+    fn imgref_u16_mosaic_means(cells: *mut u16, len: usize, width: usize, height: usize, stride: usize, channels: usize, window: Window, tile_width: usize, tile_height: usize) -> u32;
 }
 
 /// An integer of 1, 2, 4 or 8 bytes: what a pixel may be.
@@ -21,6 +23,26 @@ pub unsafe trait Cell: Copy + Eq + Default {
     fn to_bits(self) -> Self::Bits;
     #[doc(hidden)]
     fn of_bits(bits: Self::Bits) -> Self;
+}
+
+/// A number of one or of two bytes, of which means are taken.
+///
+/// # Safety
+///
+/// The function is that of the library for this very type.
+pub unsafe trait Sample: Cell {
+    #[doc(hidden)]
+    const MOSAIC_MEANS: unsafe extern "C" fn(*mut Self, usize, usize, usize, usize, usize, Window, usize, usize) -> u32;
+}
+
+// SAFETY: the header declares both functions for these types.
+unsafe impl Sample for u8 {
+    const MOSAIC_MEANS: unsafe extern "C" fn(*mut Self, usize, usize, usize, usize, usize, Window, usize, usize) -> u32 = imgref_u8_mosaic_means;
+}
+
+// SAFETY: the same.
+unsafe impl Sample for u16 {
+    const MOSAIC_MEANS: unsafe extern "C" fn(*mut Self, usize, usize, usize, usize, usize, Window, usize, usize) -> u32 = imgref_u16_mosaic_means;
 }
 
 /// A cell as the library has it, with the functions on it.

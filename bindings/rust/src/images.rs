@@ -3,7 +3,7 @@
 use std::ops::Range;
 
 use crate::calls::{imgref_is_image, imgref_tile, imgref_tile_count, imgref_window, Bits, Calls};
-use crate::{done, Buffer, BufferMut, Cell, Refused, Turn, Window};
+use crate::{done, Buffer, BufferMut, Cell, Refused, Sample, Turn, Window};
 
 /// A buffer with a width and a height in pixels and a stride in cells.
 #[derive(Clone, Copy, Debug)]
@@ -343,6 +343,21 @@ impl<Container: BufferMut> Img<Container> {
     pub fn swap_rows(&mut self, y: usize, z: usize) -> Result<(), Refused> {
         let cells = self.buf.cells_mut();
         done(unsafe { (calls_on::<Container>().swap_rows)(cells.as_mut_ptr().cast(), cells.len(), self.width, self.height, self.stride, 1, y, z) })
+    }
+
+    /// Each tile of the window, from its corner on, gets the mean of its colours, which have `channels`
+    /// cells. Each cell is a mean of its own, rounded to the nearest number: a half goes up.
+    ///
+    /// # Errors
+    ///
+    /// Those of [`Img::mosaic_pixels`].
+    pub fn mosaic_means(&mut self, channels: usize, window: Window, tile_width: usize, tile_height: usize) -> Result<(), Refused>
+    where
+        Container::Pixel: Sample,
+    {
+        let cells = self.buf.cells_mut();
+        let columns = self.width.checked_div(channels).ok_or(Refused::NotAnImage)?;
+        done(unsafe { Container::Pixel::MOSAIC_MEANS(cells.as_mut_ptr(), cells.len(), columns, self.height, self.stride, channels, window, tile_width, tile_height) })
     }
 
     /// Joins the rows at the front of the buffer, over what lies between them: on a window that is its

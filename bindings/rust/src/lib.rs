@@ -27,7 +27,7 @@ mod calls;
 mod images;
 mod places;
 pub use buffers::{Buffer, BufferMut};
-pub use calls::Cell;
+pub use calls::{Cell, Sample};
 pub use images::{Img, ImgRef, ImgRefMut, ImgVec};
 
 /// What a call was refused for. Nothing has changed then.

@@ -168,6 +168,20 @@ fn turns_and_flips() {
     assert_eq!(colours.flip_pixels(5), Err(Refused::NotAnImage));
 }
 
+// The means of two colours of two cells, and of one that the edge leaves in its tile.
+#[test]
+fn takes_means_of_colours() {
+    let mut image = ImgVec::new(vec![1u8, 10, 2, 20, 4, 31], 6, 1).unwrap();
+    image.mosaic_means(2, Window::new(0, 0, 3, 1), 2, 1).unwrap();
+    assert_eq!(image.mosaic_means(5, Window::new(0, 0, 1, 1), 1, 1), Err(Refused::NotAnImage));
+    assert_eq!(image.mosaic_means(2, Window::new(2, 0, 2, 1), 1, 1), Err(Refused::WindowOutside));
+    assert_eq!(image.mosaic_means(2, Window::new(0, 0, 1, 1), 1, 0), Err(Refused::NoTile));
+    assert_eq!(image.into_buf(), [2, 15, 2, 15, 4, 31]);
+    let mut long = ImgVec::new(vec![65535u16, 65534, 3, 0], 2, 2).unwrap();
+    long.mosaic_means(1, long.whole(), 2, 1).unwrap();
+    assert_eq!(long.into_buf(), [65535, 65535, 2, 2]);
+}
+
 fn calls_on<T: Cell + std::fmt::Debug>(least: T, most: T) {
     let mut image = ImgVec::new_stride(vec![least; 7], 3, 2, 4).unwrap();
     image.fill_window(Window::new(1, 0, 2, 2), most).unwrap();
@@ -235,7 +249,7 @@ impl BufferMut for Shrinking {
 #[test]
 fn trusts_no_buffer_from_call_to_call() {
     type Call = fn(&mut Img<Shrinking>) -> bool;
-    let calls: [(&str, Call); 17] = [
+    let calls: [(&str, Call); 18] = [
         ("get", |it| it.get(7, 7).is_ok()),
         ("put", |it| it.put(7, 7, 99).is_ok()),
         ("fill_window", |it| it.fill_window(it.whole(), 99).is_ok()),
@@ -248,6 +262,7 @@ fn trusts_no_buffer_from_call_to_call() {
         ("flip_rows", |it| it.flip_rows().is_ok()),
         ("flip_columns", |it| it.flip_columns().is_ok()),
         ("swap_rows", |it| it.swap_rows(0, 7).is_ok()),
+        ("mosaic_means", |it| it.mosaic_means(2, Window::new(0, 0, 4, 8), 4, 8).is_ok()),
         ("as_contiguous_buf", |it| it.as_contiguous_buf().is_ok()),
         ("sub_image_mut", |it| it.sub_image_mut(0, 1, 8, 7).and_then(|mut it| it.fill_window(it.whole(), 99)).is_ok()),
         ("rows_mut", |it| it.rows_mut().map(|row| row.fill(99)).count() == 8),

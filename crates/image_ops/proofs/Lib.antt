@@ -31,3 +31,5 @@ pub mod BlockPairs
 pub mod BlockSpreading
 pub mod CountedUpto
 pub mod Windowed
+pub mod Rounding
+pub mod MeanTiles

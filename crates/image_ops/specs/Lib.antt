@@ -15,3 +15,4 @@ pub mod Quarters
 pub mod Blocks
 pub mod Counting
 pub mod Written
+pub mod Means

@@ -229,7 +229,7 @@ fn copy_down<T: Copy>(cells: &mut [T], row: Stretch, target: usize)
 
 // The line of a tile that comes after a line, from the first one again after the last.
 #[inline(always)]
-fn next_line(line: usize, tile_height: usize) -> usize
+pub(crate) fn next_line(line: usize, tile_height: usize) -> usize
     requires { line < tile_height }
     ensures { result ≡ (line + 1) % tile_height }
 {

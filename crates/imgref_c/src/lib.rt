@@ -12,6 +12,7 @@
 mod counts;
 mod flips;
 mod images;
+mod means;
 mod packing;
 mod pairs;
 mod pixels;
