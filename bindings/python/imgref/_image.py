@@ -7,12 +7,12 @@ from typing import Any, Iterator
 from . import _native
 from ._layout import Layout
 from ._memory import known, memory_of, shaped, sized
-from ._types import Buffer, Corners, Pixel, Window
+from ._types import Buffer, Corners, Pixel, Turn, Window
 
 _get, _put, _fill, _copy = _native.get, _native.put, _native.fill, _native.copy
 _move, _mosaic, _equal, _window, _hold = _native.move, _native.mosaic, _native.equal, _native.window, _native.hold
 # The turns by their names, and how many quarters each is, clockwise.
-_QUARTERS = {"right": 1, "half": 2, "left": 3}
+_QUARTERS: dict[Turn, int] = {"right": 1, "half": 2, "left": 3}
 
 
 class Image(Layout):
@@ -128,7 +128,7 @@ class Image(Layout):
         made._over(owned, width, height, max(width, 1) * channels, numbers, channels)
         return made
 
-    def turn_into(self, target: Image, turn: str) -> None:
+    def turn_into(self, target: Image, turn: Turn) -> None:
         """Writes the pixels to `target`, turned clockwise: `"right"`, `"half"` or `"left"`. It has
         the size of the turned image and this one's format, and is over other memory."""
         self._turn_into(target, _quarters(turn))
@@ -142,7 +142,7 @@ class Image(Layout):
             raise TypeError(f"no image with pixels of {self.channels} numbers of format {self.format!r}: {target!r}")
         _native.turn(target._cells, self._cells, quarters)
 
-    def turned(self, turn: str) -> Image:
+    def turned(self, turn: Turn) -> Image:
         """A copy that is turned clockwise: `"right"`, `"half"` or `"left"`.
 
         >>> list(Image(bytes([1, 2, 3, 4, 5, 6]), 3, 2).turned("right").tobytes())
@@ -258,7 +258,7 @@ class Image(Layout):
         return f"<imgref.Image of {self._width} by {self._height} pixels{colours}, stride {self.stride}, format {self.format!r}>"
 
 
-def _quarters(turn: str) -> int:
+def _quarters(turn: Turn) -> int:
     """How many quarters a turn is, clockwise."""
     if turn not in _QUARTERS:
         raise ValueError(f"no turn: {turn!r} is none of {', '.join(map(repr, _QUARTERS))}")

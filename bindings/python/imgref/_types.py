@@ -1,12 +1,14 @@
 """What the calls take and raise."""
 from __future__ import annotations
 
-from typing import Any, NamedTuple, Sequence, Tuple, Union
+from typing import Any, Literal, NamedTuple, Sequence, Tuple, Union
 
 # A number in Python: a bool is an int.
 Number = Union[int, float]
 # A pixel: a number, or as many as a colour image has.
 Pixel = Union[Number, Sequence[Number]]
+# A turn, clockwise.
+Turn = Literal["right", "half", "left"]
 # What has the buffer protocol, or `__array_interface__`.
 Buffer = Any
 

@@ -130,6 +130,7 @@ fn orient_rows<T: Copy, const N: usize>(
 }
 
 // The columns from `left` on become those of the source's pixels; every other cell stays.
+#[inline(always)]
 fn orient_columns<T: Copy, const N: usize>(
     cells: &mut [T],
     shape: Shape,
@@ -169,13 +170,16 @@ fn orient_columns<T: Copy, const N: usize>(
     );
 }
 
-// How many columns are written at a time, where the rows of the source begin so many cells apart.
-fn strip_columns<T>(source: &[T], stride: usize) -> usize
+// How many columns are written at a time, where the rows of the source begin so many cells apart. A
+// half turn goes along its rows.
+fn strip_columns<T>(source: &[T], stride: usize, orientation: Orientation) -> usize
     ensures { 0 < result }
 {
     match source.first() {
-        Some(cell) => rows_near(stride.wrapping_mul(size_of_val(cell)), STRIP),
-        None => STRIP,
+        Some(cell) if orientation != Orientation::Half => {
+            rows_near(stride.wrapping_mul(size_of_val(cell)), STRIP)
+        }
+        _ => usize::MAX,
     }
 }
 
@@ -195,6 +199,7 @@ fn column_count(orientation: Orientation, columns: usize, rows: usize) -> usize
 
 // Every pixel of `shape` in `cells` becomes the pixel of the source that its place gets, some columns
 // at a time.
+#[inline(always)]
 fn orient_strips<T: Copy, const N: usize>(
     cells: &mut [T],
     shape: Shape,
@@ -215,7 +220,7 @@ fn orient_strips<T: Copy, const N: usize>(
         ≡ oriented N orientation (shaped_grid source.now source_shape) }
     ensures outside { SameOutside (shaped cells.old shape) (shaped cells.new shape) }
 {
-    let most = strip_columns(source, source_shape.stride());
+    let most = strip_columns(source, source_shape.stride(), orientation);
     let width = column_count(orientation, columns, source_shape.height());
     let mut left = 0;
     while left < width {
@@ -231,6 +236,43 @@ fn orient_strips<T: Copy, const N: usize>(
             orientation,
         );
         left += count;
+    }
+}
+
+// The same, with a loop of its own for each orientation: none is asked for at each pixel.
+fn orient_each<T: Copy, const N: usize>(
+    cells: &mut [T],
+    shape: Shape,
+    source: &[T],
+    source_shape: Shape,
+    columns: usize,
+    orientation: Orientation,
+)
+    requires some { 0 < N }
+    requires fits { Fits (shaped cells.old shape) }
+    requires width { shape_width shape
+        ≡ oriented_width orientation columns (shape_height source_shape) * N }
+    requires height { shape_height shape
+        ≡ oriented_height orientation columns (shape_height source_shape) }
+    requires source_fits { Fits (shaped source.now source_shape) }
+    requires source_width { shape_width source_shape ≡ columns * N }
+    ensures grid { shaped_grid cells.new shape
+        ≡ oriented N orientation (shaped_grid source.now source_shape) }
+    ensures outside { SameOutside (shaped cells.old shape) (shaped cells.new shape) }
+{
+    use Orientation::{Half, Left, Right, Transposed};
+    match orientation {
+        Transposed => orient_strips::<T, N>(
+            cells,
+            shape,
+            source,
+            source_shape,
+            columns,
+            Transposed,
+        ),
+        Right => orient_strips::<T, N>(cells, shape, source, source_shape, columns, Right),
+        Half => orient_strips::<T, N>(cells, shape, source, source_shape, columns, Half),
+        Left => orient_strips::<T, N>(cells, shape, source, source_shape, columns, Left),
     }
 }
 
@@ -291,8 +333,8 @@ pub fn orient_pixels<T: Copy>(
 {
     match size {
         1 => orient_cells(cells, shape, source, source_shape, orientation),
-        2 => orient_strips::<T, 2>(cells, shape, source, source_shape, columns, orientation),
-        3 => orient_strips::<T, 3>(cells, shape, source, source_shape, columns, orientation),
-        _ => orient_strips::<T, 4>(cells, shape, source, source_shape, columns, orientation),
+        2 => orient_each::<T, 2>(cells, shape, source, source_shape, columns, orientation),
+        3 => orient_each::<T, 3>(cells, shape, source, source_shape, columns, orientation),
+        _ => orient_each::<T, 4>(cells, shape, source, source_shape, columns, orientation),
     }
 }
