@@ -104,6 +104,8 @@ imgref_status imgref_tile(size_t width, size_t height, size_t tile_width, size_t
  * mosaic       Each tile of the window, from the window's corner on, gets the pixel that was at the tile's corner.
  *              NOT_AN_IMAGE, WINDOW_OUTSIDE, NO_TILE (a tile of no pixel).
  * mosaic_pixels  The same for pixels of `channels` cells, as fill_pixels has them. NOT_AN_IMAGE, WINDOW_OUTSIDE, NO_TILE.
+ * count        How many pixels of the window have the value `value`, of `channels` cells (1 to 4), goes to `count`. Widths and
+ *              columns are as in fill_pixels. NOT_AN_IMAGE (also of pixels with another number of cells), WINDOW_OUTSIDE.
  * turn_into    Every pixel becomes that of `source`, turned clockwise: IMGREF_RIGHT, IMGREF_HALF or IMGREF_LEFT. `source` is an
  *              image with a stride of its own, and the image has the size of the turned one. Both have pixels of `channels`
  *              cells, as fill_pixels has them. NO_TURN (tested first), NOT_AN_IMAGE (of either), SIZES_DIFFER.
@@ -139,6 +141,8 @@ imgref_status imgref_tile(size_t width, size_t height, size_t tile_width, size_t
     imgref_status imgref_##NAME##_mosaic_pixels(CELL *cells, size_t len, size_t width, size_t height, size_t stride,          \
                                                 size_t channels, imgref_rect window, size_t tile_width,                       \
                                                 size_t tile_height);                                                          \
+    imgref_status imgref_##NAME##_count(const CELL *cells, size_t len, size_t width, size_t height, size_t stride,            \
+                                        imgref_rect window, const CELL *value, size_t channels, size_t *count);               \
     imgref_status imgref_##NAME##_turn_into(CELL *cells, size_t len, size_t width, size_t height, size_t stride,              \
                                             size_t channels, const CELL *source, size_t source_len, size_t source_width,      \
                                             size_t source_height, size_t source_stride, imgref_turn turn);                    \

@@ -90,6 +90,7 @@ template <std::size_t Size> struct calls;
         static constexpr auto mosaic = imgref_##NAME##_mosaic;                                                               \
         static constexpr auto fill_pixels = imgref_##NAME##_fill_pixels;                                                     \
         static constexpr auto mosaic_pixels = imgref_##NAME##_mosaic_pixels;                                                 \
+        static constexpr auto count = imgref_##NAME##_count;                                                                 \
         static constexpr auto turn_into = imgref_##NAME##_turn_into;                                                         \
         static constexpr auto transpose_into = imgref_##NAME##_transpose_into;                                               \
         static constexpr auto flip_rows = imgref_##NAME##_flip_rows;                                                         \
@@ -260,6 +261,19 @@ public:
     // Throws refused (IMGREF_NOT_AN_IMAGE) for another number of channels.
     void mosaic_pixels(std::size_t channels, const rect &window, std::size_t tile_width, std::size_t tile_height) const {
         detail::done(calls::mosaic_pixels(written(), len_, pixels_of(width_, channels), height_, stride_, channels, window, tile_width, tile_height));
+    }
+
+    // How many pixels of the window, or of all, have the value.
+    std::size_t count(const rect &window, const value_type &value) const { return count_pixels<1>(window, {value}); }
+    std::size_t count(const value_type &value) const { return count(whole(), value); }
+
+    // The same of colours of N elements, as fill_pixels has them.
+    template <std::size_t N> std::size_t count_pixels(const rect &window, const value_type (&value)[N]) const {
+        cell made[N];
+        std::size_t found = 0;
+        for (std::size_t k = 0; k < N; ++k) made[k] = bits(value[k]);
+        detail::done(calls::count(cells(), len_, width_ / N, height_, stride_, window, made, N, &found));
+        return found;
     }
 
     // Writes this image, turned or transposed, to `target`, which has the size of the turned one and

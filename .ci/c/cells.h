@@ -186,6 +186,31 @@ static imgref_status MINE(one_mosaic_pixels)(struct sizes is) {
     return status;
 }
 
+/* Values of few kinds, so that some pixels have the value that is asked for. */
+static imgref_status MINE(one_count)(struct sizes is) {
+    size_t channels = any_channels(), given = 99, wanted_count = 99;
+    struct MINE(image) it = MINE(made)(is);
+    for (size_t k = 0; k < is.len; k++) it.cells[k] = (CELL)(it.cells[k] % 2);
+    memcpy(it.old, it.list, (is.len + 2 * GUARD) * sizeof(CELL));
+    is.width = in_pixels(is, channels);
+    struct imgref_window w = any_window(is);
+    CELL value[8];
+    for (size_t k = 0; k < 8; k++) value[k] = (CELL)(any() % 2);
+    imgref_status wanted = !is_pixel_image(is, channels) ? IMGREF_NOT_AN_IMAGE : !is_inside(is, w) ? IMGREF_WINDOW_OUTSIDE : IMGREF_OK;
+    if (wanted == IMGREF_OK) wanted_count = 0;
+    if (wanted == IMGREF_OK && w.width)
+        for (size_t y = 0; y < w.height; y++)
+            for (size_t x = 0; x < w.width; x++) {
+                bool is_value = true;
+                for (size_t k = 0; k < channels; k++) is_value = is_value && MINE(was)(&it, (w.left + x) * channels + k, w.top + y) == value[k];
+                wanted_count += is_value;
+            }
+    imgref_status status = OF(count)(it.cells, is.len, is.width, is.height, is.stride, w, value, channels, &given);
+    tell(MINE(left)(&it, MINE(copy)(&it), status, wanted) && given == wanted_count);
+    MINE(freed)(it);
+    return status;
+}
+
 /* A turn, or with `is_turn` false a transposition: the model says for each place which pixel of the source it shows. */
 static imgref_status MINE(one_oriented)(struct sizes is, bool is_turn) {
     size_t channels = any_channels();
@@ -317,6 +342,7 @@ static void MINE(all_calls)(void) {
     series(TEXT "fill_pixels", MINE(one_fill_pixels), 1u << IMGREF_OK | 1u << IMGREF_NOT_AN_IMAGE | 1u << IMGREF_WINDOW_OUTSIDE);
     series(TEXT "mosaic_pixels", MINE(one_mosaic_pixels),
            1u << IMGREF_OK | 1u << IMGREF_NOT_AN_IMAGE | 1u << IMGREF_WINDOW_OUTSIDE | 1u << IMGREF_NO_TILE);
+    series(TEXT "count", MINE(one_count), 1u << IMGREF_OK | 1u << IMGREF_NOT_AN_IMAGE | 1u << IMGREF_WINDOW_OUTSIDE);
     series(TEXT "turn_into", MINE(one_turn_into),
            1u << IMGREF_OK | 1u << IMGREF_NOT_AN_IMAGE | 1u << IMGREF_SIZES_DIFFER | 1u << IMGREF_NO_TURN);
     series(TEXT "transpose_into", MINE(one_transpose_into), 1u << IMGREF_OK | 1u << IMGREF_NOT_AN_IMAGE | 1u << IMGREF_SIZES_DIFFER);

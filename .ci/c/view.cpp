@@ -114,6 +114,8 @@ static void pixels_of_several() {
     check("fill_pixels", pixels == std::array<std::uint16_t, 14>{1, 2, 3, 600, 601, 602, 90, 7, 8, 9, 600, 601, 602, 91});
     image.mosaic_pixels(3, {0, 0, 2, 2}, 2, 2);
     check("mosaic_pixels", pixels == std::array<std::uint16_t, 14>{1, 2, 3, 1, 2, 3, 90, 1, 2, 3, 1, 2, 3, 91});
+    check("count_pixels", image.count_pixels({0, 0, 2, 2}, {1, 2, 3}) == 4 && image.count_pixels({0, 0, 2, 2}, {1, 2, 4}) == 0);
+    check("count", image.count(1) == 4 && image.count({0, 0, 3, 1}, 2) == 1 && is_refused(IMGREF_WINDOW_OUTSIDE, [&] { image.count({0, 0, 8, 1}, 2); }));
     check("no such colours", is_refused(IMGREF_NOT_AN_IMAGE, [&] { image.mosaic_pixels(0, {0, 0, 1, 1}, 1, 1); }) && is_refused(IMGREF_NOT_AN_IMAGE, [&] { image.mosaic_pixels(5, {0, 0, 1, 1}, 1, 1); }) &&
                                  is_refused(IMGREF_WINDOW_OUTSIDE, [&] { image.fill_pixels({2, 0, 1, 1}, {1, 2, 3}); }) && is_refused(IMGREF_NO_TILE, [&] { image.mosaic_pixels(3, {0, 0, 1, 1}, 0, 1); }));
 }

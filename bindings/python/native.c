@@ -344,6 +344,17 @@ CALL(call_fill) {
     return done(status);
 }
 
+CALL(call_count) {
+    (void)module;
+    size_t n[4], found = 0;
+    uint64_t bits[MOST_STEPS];
+    Cells *it = first_in(given, count, 6);
+    if (!it || !numbers_of(given + 1, 4, n) || !bits_of(given[5], it->shown.step, bits)) return NULL;
+    const image i = it->shown;
+    UNLOCKED(image_count(&i, window_of(n), bits, &found))
+    return status == IMGREF_OK ? PyLong_FromSize_t(found) : refused(status);
+}
+
 /* Both images in cells of one size. */
 static bool as_alike(const Cells *it, const Cells *other, image *i, image *o) {
     *i = it->shown;
@@ -546,7 +557,7 @@ CALL(call_tile) {
 static PyMethodDef calls[] = {
     FAST(get),  FAST(put),    FAST(fill),   FAST(copy), FAST(move), FAST(mosaic),     FAST(pack), FAST(equal),
     FAST(hold), FAST(window), FAST(joined), {"room", call_room, METH_O, NULL},        {"address", call_address, METH_O, NULL},
-    FAST(turn), FAST(flip_rows), FAST(flip_columns), FAST(swap_rows),
+    FAST(count), FAST(turn), FAST(flip_rows), FAST(flip_columns), FAST(swap_rows),
     FAST(tile), FAST(tile_count), {NULL, NULL, 0, NULL},
 };
 

@@ -75,6 +75,11 @@ static bool image_is_valid(const image *i) { return imgref_is_image(i->len, i->w
         }                                                                                                                    \
         if (is_one) return imgref_##NAME##_fill_window(LAYOUT(TYPE, i), in_cells(i, window), pixel[0]);                      \
         return imgref_##NAME##_fill_pixels(PIXELS(TYPE, i), window, pixel, i->step);                                         \
+    }                                                                                                                        \
+    static imgref_status count_##NAME(const image *i, imgref_rect window, const uint64_t *bits, size_t *count) {             \
+        TYPE value[MOST_STEPS];                                                                                              \
+        for (size_t k = 0; k < i->step; k++) value[k] = (TYPE)bits[k];                                                       \
+        return imgref_##NAME##_count(PIXELS(TYPE, i), window, value, i->step, count);                                        \
     }
 DEFINE_CALLS(u8, uint8_t)
 DEFINE_CALLS(u16, uint16_t)
@@ -103,6 +108,9 @@ static imgref_status image_put(const image *i, size_t x, size_t y, const uint64_
 
 #define FILL(NAME, TYPE) fill_##NAME(i, window, bits)
 static imgref_status image_fill(const image *i, imgref_rect window, const uint64_t *bits) { BY_SIZE(FILL) }
+
+#define COUNT(NAME, TYPE) count_##NAME(i, window, bits, count)
+static imgref_status image_count(const image *i, imgref_rect window, const uint64_t *bits, size_t *count) { BY_SIZE(COUNT) }
 
 /* Whether the cells of two images share memory. */
 static bool images_overlap(const image *i, const image *o) {

@@ -99,6 +99,16 @@ class Image(Layout):
         left, top, width, height = window
         _fill(self._cells, left, top, width, height, self._pixels.encode(value))
 
+    def count(self, window: Corners, value: Pixel) -> int:
+        """How many pixels of the window have the bits of `value`.
+
+        >>> image = Image(bytes([1, 2, 1, 1]), 2, 2)
+        >>> image.count(image.whole, 1)
+        3
+        """
+        left, top, width, height = window
+        return _native.count(self._cells, left, top, width, height, self._pixels.encode(value))
+
     def copy_window(self, window: Corners, source: Image | Buffer) -> None:
         """The window gets the pixels of `source`, an image or a buffer of two or three dimensions.
         It has the window's size and this image's format, and is over other memory."""

@@ -107,6 +107,9 @@ def tried(letter, channels, offset, stride_more):
             return False
     if not all(Model(made).rows == rows for made, rows in turns(image, model.rows)):
         return False
+    pixels = [it for row in model.rows for it in row]
+    if any(image.count(image.whole, it) != pixels.count(it) for it in pixels[:4]) or image.count(image.window((0, 0, 1, 1)).whole, pixels[0]) != 1:
+        return False
     packed = Image(bytearray(width * height * channels * size), width, height, channels=channels) if letter == "B" else image.copy()
     packed.copy_from(image)
     rows = b"".join(form.pack(it) for row in model.rows for pixel in row for it in (pixel if channels > 1 else [pixel]))
@@ -135,7 +138,8 @@ def of_three_dimensions():
     for words in ((Window(1 << 63, 0, 1, 1), (1, 2, 3)), (Window(-1, 0, 1, 1), (1, 2, 3))):
         check(f"no number: {words}", raises(ValueError, image.fill, *words))
     upright = Image(bytearray(48), 4, 4, channels=3)
-    for call, words in ((image.turn_into, (upright.window((0, 0, 3, 4)), "half")), (image.transpose_into, (upright.window((0, 0, 3, 4)),)), (image.flip_rows, (Window(0, 3, 1, 2),)), (image.flip_columns, (Window(3, 0, 2, 1),)), (image.swap_rows, (0, 4))):
+    check("count", image.count(image.whole, (200, 201, 202)) == 2 and image.count((0, 0, 4, 1), (200, 201, 202)) == 0)
+    for call, words in ((image.count, (Window(3, 0, 2, 1), (1, 2, 3))), (image.turn_into, (upright.window((0, 0, 3, 4)), "half")), (image.transpose_into, (upright.window((0, 0, 3, 4)),)), (image.flip_rows, (Window(0, 3, 1, 2),)), (image.flip_columns, (Window(3, 0, 2, 1),)), (image.swap_rows, (0, 4))):
         check(f"refused: {call.__name__}", raises(Refused, call, *words))
     for words in ((upright, "up"), (upright, 1), (frame, "half"), (image, "half"), (image.window((0, 0, 4, 4)), "right"), (Image(bytes(48), 4, 4, channels=3), "half"), (Image(bytearray(16), 4, 4), "half")):
         check(f"no turn: {words}", raises((ValueError, TypeError), image.turn_into, *words))

@@ -123,6 +123,27 @@ impl<Container: Buffer> Img<Container> {
         Ok(Container::Pixel::of_bits(bits))
     }
 
+    /// How many pixels of the window have the value.
+    ///
+    /// # Errors
+    ///
+    /// [`Refused::WindowOutside`].
+    pub fn count(&self, window: Window, value: Container::Pixel) -> Result<usize, Refused> {
+        self.count_pixels(window, &[value])
+    }
+
+    /// The same of colours, as [`Img::fill_pixels`] has them.
+    ///
+    /// # Errors
+    ///
+    /// [`Refused::NotAnImage`] for a number of cells that isn't 1 to 4, [`Refused::WindowOutside`].
+    pub fn count_pixels(&self, window: Window, value: &[Container::Pixel]) -> Result<usize, Refused> {
+        let (channels, cells, mut count) = (value.len(), self.buf.cells(), 0);
+        let columns = self.width.checked_div(channels).ok_or(Refused::NotAnImage)?;
+        done(unsafe { (calls_on::<Container>().count)(cells.as_ptr().cast(), cells.len(), columns, self.height, self.stride, window, value.as_ptr().cast(), channels, &mut count) })?;
+        Ok(count)
+    }
+
     /// Writes the pixels to `target`, turned: it has the size of the turned image.
     ///
     /// # Errors

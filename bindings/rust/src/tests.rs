@@ -155,6 +155,10 @@ fn turns_and_flips() {
     assert_eq!(cells, [3, 2, 1, 90, 6, 5, 4, 91, 92]);
     let mut colours = ImgVec::new(vec![1u16, 2, 3, 4, 5, 6], 6, 1).unwrap();
     let mut column = ImgVec::new(vec![0u16; 6], 3, 2).unwrap();
+    assert_eq!(colours.count(colours.whole(), 4), Ok(1));
+    assert_eq!(colours.count_pixels(Window::new(0, 0, 2, 1), &[4, 5, 6]), Ok(1));
+    assert_eq!(colours.count_pixels(Window::new(0, 0, 2, 1), &[]), Err(Refused::NotAnImage));
+    assert_eq!(colours.count(Window::new(0, 0, 7, 1), 4), Err(Refused::WindowOutside));
     colours.flip_pixels(3).unwrap();
     assert_eq!(colours.buf()[..], [4, 5, 6, 1, 2, 3]);
     colours.turn_pixels_into(3, &mut column, Turn::Left).unwrap();

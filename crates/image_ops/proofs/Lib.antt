@@ -14,6 +14,7 @@ pub mod Crossing
 pub mod FromPlaces
 pub mod Oriented
 pub mod PixelFlips
+pub mod PixelCounts
 pub mod PixelsMade
 pub mod Diagonals
 pub mod Parts

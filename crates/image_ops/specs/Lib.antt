@@ -9,6 +9,7 @@ pub mod Joined
 pub mod Made
 pub mod Turned
 pub mod Oriented
+pub mod PixelCounts
 pub mod Repeated
 pub mod Quarters
 pub mod Blocks

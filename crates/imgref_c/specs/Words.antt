@@ -8,6 +8,7 @@ pub use Rattle.image_model.specs.Tiles.{tiles}
 pub use Rattle.image_ops.specs.Mosaic.{mosaic as mosaic_of, mosaic_by}
 pub use Rattle.image_ops.specs.Oriented.{oriented, mirrored_by}
 pub use Rattle.image_ops.specs.declared.pixel_turning.Orientation.TheVariants.{Transposed}
+pub use Rattle.image_ops.specs.PixelCounts.{times_shown}
 pub use Rattle.image_ops.specs.Repeated.{repeated}
 pub use Rattle.image_shape.specs.Window.{as_window}
 pub use Rattle.imgref_c.specs.Turns.{turn_by}

@@ -9,6 +9,7 @@
 //! bytes are in the files of those names.
 #![tactic(auto)]
 
+mod counts;
 mod flips;
 mod images;
 mod packing;

@@ -1,10 +1,10 @@
 //! Made from `u8_exports.rt` by `make exports`: the same exports, for cells of type `u16`.
 
 ghost use Rattle.std.specs.Prelude.{◌≡◌, ◌*◌, ◌==◌, ◌↔◌, IsTrue, length, Some};
-ghost use Rattle.imgref_c.specs.Words.{as_window, code, copy_status, flipped, grid_of, image_status, in_cells, layout, mirrored_by, mosaic_by, mosaic_of, mosaic_status, move_status, oriented, oriented_status, pair_status, pixel_mosaic_status, pixel_window_status, place_status, repeated, rows_status, rows_swapped, seen, turn_by, turn_status, uniform, window_status, Agree, Gives, Packs, Transposed, Writes};
+ghost use Rattle.imgref_c.specs.Words.{as_window, code, copy_status, flipped, grid_of, image_status, in_cells, layout, mirrored_by, mosaic_by, mosaic_of, mosaic_status, move_status, oriented, oriented_status, pair_status, pixel_mosaic_status, pixel_window_status, place_status, repeated, rows_status, rows_swapped, seen, times_shown, turn_by, turn_status, uniform, window_status, Agree, Gives, Packs, Transposed, Writes};
 
 use crate::images::ClaimedShape;
-use crate::{flips, packing, pairs, pixels, places, turns, windows};
+use crate::{counts, flips, packing, pairs, pixels, places, turns, windows};
 use image_ops::Orientation;
 use image_shape::Window;
 
@@ -169,6 +169,28 @@ pub extern "C" fn imgref_u16_copy_window(
     let claimed = ClaimedShape::new(width, height, stride);
     let claimed_source = ClaimedShape::new(source_width, source_height, source_stride);
     pairs::copy_window(cells, claimed, source, claimed_source, window).code()
+}
+
+/// Writes to `count` how many pixels of the window have the value, which has 1 to 4 cells, next to one
+/// another in a row. Sizes and windows are counted in pixels, and the stride in cells.
+#[unsafe(no_mangle)]
+pub extern "C" fn imgref_u16_count(
+    cells: &[u16],
+    width: usize,
+    height: usize,
+    stride: usize,
+    window: Window,
+    value: &[u16],
+    count: &mut usize,
+) -> u32
+    ensures status { result ≡ code (pixel_window_status (length value.now) (length cells.now) width
+        height stride (as_window window)) }
+    ensures gives { Gives result count.old count.new (count.new ≡ times_shown ◌==◌ value.now
+        (seen (length value.now * width) height stride cells.now
+        (in_cells (length value.now) (as_window window)))) }
+{
+    let claimed = ClaimedShape::new(width, height, stride);
+    counts::count(cells, claimed, window, value, count).code()
 }
 
 /// Every pixel becomes that of `source` turned clockwise by so many quarters, 1 to 3. A pixel has 1 to 4
