@@ -64,7 +64,10 @@ pub fn are_equal<T: PartialEq>(
     ensures { result
         ≡ is_alike T.eq (shaped first.now first_shape) (shaped second.now second_shape) }
 {
-    match (first_shape.fits(first.len()), second_shape.fits(second.len())) {
+    match (
+        first_shape.fits(first.len()),
+        second_shape.fits(second.len()),
+    ) {
         (true, true) => are_equal_fitting(first, first_shape, second, second_shape),
         (false, false) => {
             first_shape.width() == second_shape.width()
