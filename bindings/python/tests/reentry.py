@@ -136,6 +136,8 @@ def of_numbers():
     for side in SIDES:
         for form, channels in (("B", 1), ("d", 1), ("?", 1), ("B", 3), ("H", 4)):
             for name, (_, numbers) in calls(side, channels, 1).items():
+                if name == "mosaic_means" and form not in "BH":
+                    continue
                 for at in range(len(numbers)):
                     change = lambda n, upset: [*n[:at], Number(n[at], upset), *n[at + 1 :]]
                     label = f"{name}, number {at} ({form!r}, {channels} channels, side {side})"
