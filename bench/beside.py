@@ -15,8 +15,8 @@ from imgref import Image
 
 # The bytes of a pixel, each of which is a number.
 PIXELS = (1, 3, 4)
-# How often the three are timed by turns, and how many pixels they go over each time at least.
-TURNS, AT_ONCE = 15, 2_000_000
+# How often the three are timed by turns (large pictures not so often), and how many pixels they go over each time at least.
+TURNS, FEW_TURNS, AT_ONCE = 15, 5, 2_000_000
 
 
 def picture(side, channels, seed):
@@ -52,8 +52,7 @@ def jobs(side, channels):
     yield "copy a window", inside, lambda: image.copy_window(window, shown), lambda: cv2.copyTo(source[part], None, a[part]), lambda: b.__setitem__(part, source[part])
     yield "move a window", inside, lambda: image.move_window(window, target), None, lambda: b.__setitem__(moved, b[part])
     yield "equality", whole, lambda: given == equal, lambda: cv2.norm(source, same, cv2.NORM_INF) == 0, lambda: numpy.array_equal(source, same)
-    if channels == 1 and hasattr(Image, "count"):
-        yield "count", whole, lambda: given.count(given.whole, 7), lambda: cv2.countNonZero(cv2.compare(source, 7, cv2.CMP_EQ)), lambda: numpy.count_nonzero(source == 7)
+    yield "count", whole, lambda: given.count(given.whole, value), lambda: cv2.countNonZero(cv2.inRange(source, colour, colour)), lambda: numpy.count_nonzero((source == value).reshape(side, side, channels).all(2))
     yield None, 0, ours, a, b
 
 
@@ -61,7 +60,7 @@ def least(calls, pixels):
     """The least time of each call, in nanoseconds a pixel."""
     number = max(1, AT_ONCE // pixels)
     taken = [float("inf")] * len(calls)
-    for _ in range(TURNS):
+    for _ in range(TURNS if pixels <= 2048 * 2048 else FEW_TURNS):
         for at, call in enumerate(calls):
             if call:
                 taken[at] = min(taken[at], 1e9 * timeit.timeit(call, number=number) / number / pixels)
