@@ -341,14 +341,15 @@ class Page:
             yield from self.traits_of(entry)
 
     def block(self, code_lines, entry):
-        """A signature, its `///` lines, and its clauses."""
+        """A signature, its `///` lines, and its clauses. What it requires in words comes first among these."""
         yield from ["```rust", *code_lines, "```", ""]
-        told = paragraphs(entry.item.told)
-        if told:
-            yield from [*told, ""]
-        clauses = list(self.clauses(entry))
-        if clauses:
-            yield from [*clauses, ""]
+        told, clauses = paragraphs(entry.item.told), list(self.clauses(entry))
+        if clauses and told and told[-1].startswith("**Requires.**"):
+            clauses.insert(0, f"- {told[-1]}")
+            told = told[:-2]
+        for lines in (told, clauses):
+            if lines:
+                yield from [*lines, ""]
 
     def own_calls(self, entry):
         """The calls of a type's own blocks, by name."""
