@@ -68,20 +68,23 @@ def summary_table(rows):
 
 
 def quotient_table(rows):
-    """A row for each call in Markdown, with its middle quotients on the sides of SHOWN. The row with the greatest one comes first."""
+    """A row in Markdown for each call that is slower than something, with its middle quotients on the sides of SHOWN. The row with
+    the greatest one comes first."""
     cells = []
     for name in dict.fromkeys(it.name for it in rows):
         of_call = [it for it in rows if it.name == name]
         found = [middles(of_call, side, k) for side in SHOWN for k in SAME_WORK]
         texts = [" · ".join(f"{quotient:.2f}" for quotient in it) or "–" for it in found]
-        cells.append((max((quotient for it in found for quotient in it), default=0), [name, *texts]))
+        most = max((quotient for it in found for quotient in it), default=0)
+        if most > SLOWER:
+            cells.append((most, [name, *texts]))
     heads = [f"{side}: {name}" for side in SHOWN for name in SAME_WORK.values()]
     return markdown(["Call", *heads], [row for _, row in sorted(cells, key=lambda it: it[0], reverse=True)])
 
 
 def calls_shown(rows):
     """The calls for docs/PERFORMANCE.md: how many are faster and slower, the plot, and the quotients of each."""
-    plotted = "## The calls\n\n![Time of each call, divided by the time of a loop in C](speed.svg)"
+    plotted = "## The calls\n\n![Time of each call, divided by the time of a loop in C](speed.svg)\n\nThese calls are slower than something by more than 5 %:"
     return "\n\n".join([summary_table(rows), plotted, quotient_table(rows)])
 
 
