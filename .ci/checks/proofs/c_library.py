@@ -161,7 +161,7 @@ def check_man(cases, prefix):
     header = (prefix / "include/imgref.h").read_text()
     calls = set(re.findall(r"\b(imgref_\w+)\(size_t", header)) | {f"imgref_u8_{it}" for it in re.findall(r"imgref_##NAME##_(\w+)\(", header)}
     lacking = [it for it in [*calls, *re.findall(r"#define (IMGREF_[A-Z_]+) \(", header)] if it not in pages.get("imgref.3", "")]
-    cases.count("imgref.3 names each call and status", len(calls) == 5 + 10 and not lacking, str(lacking))
+    cases.count("imgref.3 names each call and status", len(calls) == 5 + 17 and not lacking, str(lacking))
     words = set(re.findall(r"(?m)^\| `(\w+) I PATH", (ROOT / "docs/SCRIPT.md").read_text())) | {"image", "compact"}
     lacking = [it for it in words if f'.BI "{it} "' not in pages.get("imgref_run.1", "")]
     cases.count("imgref_run.1 names each command", len(words) > 7 and not lacking, str(lacking))
