@@ -34,7 +34,7 @@ CASES = [
     ("image_ops", "packing", "pack", ["layout"], "imgref", "contiguous::ImgVec+T::as_contiguous_buf", []),
     ("imgref", "contiguous", "as_contiguous_buf", ["after", "grid"], "imgref_replay", "step::compact", ["into_contiguous_buf"]),
     ("row_mover", "moves", "move_rows", ["cells"], "image_ops", "moving::with_moved_window", []),
-    ("image_ops", "moving", "with_moved_window", ["grid"], "image_ops", "moving::move_pixels", []),
+    ("image_ops", "moving", "with_moved_window", ["moved"], "image_ops", "moving::move_pixels", []),
     ("image_ops", "moving", "move_pixels", ["grid"], "imgref", "img::Img::move_inside", []),
     ("imgref", "blit", "move_inside", ["grid"], "imgref_replay", "copy::copy_between", ["move_window"]),
     ("imgref", "blit", "copy_window", ["grid"], "imgref_replay", "copy::copy_over", []),
