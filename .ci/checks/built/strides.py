@@ -21,14 +21,14 @@ from library import skipped
 # The side of the square for pixels of so many bytes, so that a row has less than 2048.
 SIDES = {1: 500, 2: 500, 3: 250, 4: 300, 8: 200, 16: 125}
 STRIDES, FRIENDLY = (1365, 2048, 4032, 4088, 4092, 4096, 4097, 4100, 4104, 8192), 4160
-# What is done, and the most misses beside those at the friendly stride, for pixels of so many bytes. A count is the same in each
-# run, so a limit is what was counted, rounded up. docs/PERF.md says why those of bytes and pixels of two in place are so high.
+# What is done, and the most misses beside those at the friendly stride, for pixels of so many bytes. Where a program's memory
+# lies changes a count by a few per cent, so a limit is that much above what was counted. docs/PERF.md says why those of bytes and pixels of two in place are so high.
 LIMITS = {
-    "right": {1: 1.35, 2: 1.5, 3: 1.4, 4: 1.4, 8: 1.3, 16: 1.3},
-    "left": {1: 1.3, 2: 1.5, 3: 1.4, 4: 1.5, 8: 1.3, 16: 1.35},
-    "across": {1: 1.35, 2: 1.5, 3: 1.45, 4: 1.45, 8: 1.3, 16: 1.3},
-    "right-in-place": {1: 3.5, 2: 2.9, 3: 2.1, 4: 2.1, 8: 1.3, 16: 1.2},
-    "across-in-place": {1: 5.1, 2: 4.3, 3: 2.9, 4: 2.8, 8: 1.5, 16: 1.35},
+    "right": {1: 1.4, 2: 1.55, 3: 1.45, 4: 1.45, 8: 1.35, 16: 1.35},
+    "left": {1: 1.35, 2: 1.55, 3: 1.45, 4: 1.5, 8: 1.35, 16: 1.4},
+    "across": {1: 1.4, 2: 1.55, 3: 1.5, 4: 1.5, 8: 1.35, 16: 1.35},
+    "right-in-place": {1: 3.6, 2: 3.05, 3: 2.2, 4: 2.2, 8: 1.3, 16: 1.2},
+    "across-in-place": {1: 5.25, 2: 4.6, 3: 3.05, 4: 2.9, 8: 1.5, 16: 1.4},
 }
 MODEL = ["valgrind", "--tool=cachegrind", "--cache-sim=yes", "--D1=32768,8,64", "--cachegrind-out-file=/dev/null"]
 MISSES = re.compile(r"D1 +misses: +([\d,]+)")
