@@ -13,6 +13,7 @@ scripts and styles alone, by their sums. Comments and indents are left out.
 import base64
 import contextlib
 import functools
+import gzip
 import hashlib
 import html
 import http.server
@@ -57,11 +58,16 @@ def bundled(name, done):
         return ""
     done.add(name)
     if name == "module.js":
-        return f'const MODULE = "{base64.b64encode((OUT / MODULE).read_bytes()).decode()}";\n\n'
+        return f'const MODULE = "{packed((OUT / MODULE).read_bytes())}";\n\n'
     text = (SOURCES / name).read_text()
     before = "".join(bundled(it, done) for it in IMPORT.findall(text))
     own = re.sub(r"(?m)^export ", "", IMPORT.sub("", text)).strip()
     return f"{before}{own}\n\n"
+
+
+def packed(module):
+    """The module as the pages hold it: compressed, and as letters."""
+    return base64.b64encode(gzip.compress(module, 9, mtime=0)).decode()
 
 
 def slim(text):

@@ -37,7 +37,9 @@ export class NoMemory64 extends Error {}
 export async function makeLibrary() {
   let module;
   try {
-    module = await WebAssembly.compile(Uint8Array.from(atob(MODULE), (it) => it.charCodeAt(0)));
+    const packed = Uint8Array.from(atob(MODULE), (it) => it.charCodeAt(0));
+    const whole = new Blob([packed]).stream().pipeThrough(new DecompressionStream("gzip"));
+    module = await WebAssembly.compile(await new Response(whole).arrayBuffer());
   } catch (why) {
     throw new NoMemory64(why.message);
   }

@@ -8,6 +8,7 @@ scripts (.ci/model.py). Where Chromium or its driver isn't on the machine, what 
 as skipped. With the word --screenshots it writes those of the documents, and checks nothing.
 """
 import base64
+import gzip
 import pathlib
 import re
 import signal
@@ -71,7 +72,7 @@ def check_files(cases):
         )
     )
     for name in PAGES:
-        check_text(cases, name, found[name].decode(), base64.b64encode(module).decode())
+        check_text(cases, name, found[name].decode(), base64.b64encode(gzip.compress(module, 9, mtime=0)).decode())
 
 
 def check_text(cases, name, text, module):
