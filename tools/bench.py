@@ -255,9 +255,8 @@ def others():
     if not python:
         say("no Python with OpenCV and NumPy: their table is left out")
         return None
-    os.environ["PYTHON"] = python
     shutil.rmtree(OUT / "package", ignore_errors=True)
-    with zipfile.ZipFile(python_package.build()) as wheel:
+    with zipfile.ZipFile(python_package.build(python)) as wheel:
         wheel.extractall(OUT / "package")
     before = os.getloadavg()[0]
     ran = run_to_end([python, "-B", ROOT / "bench/beside.py"], env=os.environ | {"PYTHONPATH": str(OUT / "package")})

@@ -22,12 +22,11 @@ OUT = ROOT / "out/python"
 HOOK = "import sys; sys.path.insert(0, sys.argv[1]); import backend\ntry: print(backend.build_wheel(sys.argv[2]))\nexcept backend.Failure as why: sys.exit(str(why))"
 
 
-def build():
-    """Builds the wheel, and returns its path."""
+def build(python=os.environ.get("PYTHON") or sys.executable):
+    """Builds the wheel for a Python, and returns its path."""
     c_library.build()
     shutil.rmtree(OUT, ignore_errors=True)
     OUT.mkdir(parents=True)
-    python = os.environ.get("PYTHON") or sys.executable
     ran = run_to_end([python, "-B", "-c", HOOK, SOURCES, OUT], env=os.environ | {"IMGREF_INCLUDE": str(c_library.HEADER.parent), "IMGREF_LIB": str(c_library.OUT)})
     if ran.returncode:
         raise c_library.Failure(f"{ran.stdout}{ran.stderr}".strip())
