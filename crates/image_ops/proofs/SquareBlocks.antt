@@ -2,7 +2,7 @@
 use Rattle.std.proofs.Common.{◌≡◌, ℕ, ◌+◌, ◌-◌, ◌*◌, ◌/◌, ◌<◌, ◌≤◌, ◌⊎◌, Bool, true, false, List, Option, refl, sym, ap, ◌∙◌, arith, inl, inr, nat_lt, if◌then◌else◌, ◌||◌, ◌&&◌, max, min}
 use Rattle.std.proofs.lemmas.Bool.{cases_Bool, cases_lt, cond-true, cond-false, true≢false}
 use Rattle.std.proofs.lemmas.Bool.Decides.{nat_tests}
-use Rattle.image_model.specs.Layout.{SameOutside, pixel}
+use Rattle.image_model.specs.Layout.{pixel}
 use Rattle.image_model.specs.Grid.{Grid, grid, grid_of, covers, patch, view}
 use Rattle.image_model.specs.Tables.{is_before}
 use Rattle.image_model.specs.Turns.{transposed}
@@ -11,6 +11,7 @@ use Rattle.image_model.proofs.Places.{outside_trans}
 use Rattle.image_shape.specs.Shape.{shaped, shaped_grid}
 use Rattle.image_shape.specs.declared.shape.Shape.{Shape}
 use Rattle.image_ops.specs.Blocks.{read_over, is_across, crossed_at, corner_crossed, is_in_strip, strip_crossed}
+use Rattle.image_ops.specs.Written.{Becomes}
 use Rattle.image_ops.proofs.PlacesCrossed.{PlacesCrossed, crossed_pixel, both_false, no_place_crossed, same_places, blocks_crossed}
 use Rattle.image_ops.proofs.Diagonals.{strip_cases, strip_true, strip_past, strip_before}
 
@@ -132,13 +133,13 @@ module _ {T : Type 0} (s : Shape) where
     strip_done high later = same_pairs upto upto 0 0 (λ a b below. at_strip_end from upto x y a b below high later)
 
     -- one pair more
-    module _ (square : s.width ≡ s.height) (right : y ≤ x) (after : from ≤ x) (here : x < upto) (new : List T) (shown : shaped_grid new s ≡ crossed_at (16 * x) (16 * y) 16 16 (shaped_grid now s)) (stays : SameOutside (shaped now s) (shaped new s)) where
+    module _ (square : s.width ≡ s.height) (right : y ≤ x) (after : from ≤ x) (here : x < upto) (new : List T) (made : Becomes s now new (crossed_at (16 * x) (16 * y) 16 16 (shaped_grid now s))) where
       same_done : (u v : ℕ) → block_done from upto x y u v ≡ block_done from upto x y v u
       same_done u v = (λ i. is_done from upto x y (max_comm (u / 16) (v / 16) i) (min_comm (u / 16) (v / 16) i))
 
       pub one_pair_more : BlocksCrossed from upto (x + 1) y old new s
       one_pair_more =
-          blocks_crossed s (block_done from upto x y) old now so (block_done from upto (x + 1) y) square (16 * x) (16 * y) 16 16 new shown stays
+          blocks_crossed s (block_done from upto x y) old now so (block_done from upto (x + 1) y) square (16 * x) (16 * y) 16 16 new made.grid made.outside
           (λ u v hit. let pair = pair_of x y u v right hit in sym (same_done u v) ∙ (λ i. is_done from upto x y (pair.0 i) (pair.1 i)) ∙ this_before from upto x y after)
           (λ u v hit. let pair = pair_of x y u v right hit in (λ i. is_done from upto (x + 1) y (pair.0 i) (pair.1 i)) ∙ this_after from upto x y here)
           (λ u v miss. other_same from upto x y (max (u / 16) (v / 16)) (min (u / 16) (v / 16)) (not_pair x y u v miss))
@@ -243,20 +244,22 @@ module _ {T : Type 0} (w h : ℕ) (f : ℕ → ℕ → Option T) (square : w ≡
       ∙ (λ i. grid (square i) (sym square i) (λ x y. (grid w h f).pixel y x))
 
 -- the first columns and rows have changed places, and the padding stays
-pub record CornerCrossed {T : Type 0} (upto : ℕ) (old new : List T) (s : Shape) : Type 0 where
-  pub shown : shaped_grid new s ≡ corner_crossed upto (shaped_grid old s)
-  pub outside : SameOutside (shaped old s) (shaped new s)
+abbrev pub CornerCrossed : {T : Type 0} → ℕ → List T → List T → Shape → Type 0
+CornerCrossed upto old new s = Becomes s old new (corner_crossed upto (shaped_grid old s))
 
 module _ {T : Type 0} (s : Shape) (old now : List T) (upto : ℕ) (so : CornerCrossed upto old now s) (square : s.width ≡ s.height) where
   -- one strip more
-  pub one_strip_more : (right : ℕ) (new : List T) → upto ≤ right → shaped_grid new s ≡ strip_crossed upto right (shaped_grid now s) → SameOutside (shaped now s) (shaped new s) → CornerCrossed right old new s
+  pub one_strip_more : (right : ℕ) (new : List T) → upto ≤ right → Becomes s now new (strip_crossed upto right (shaped_grid now s)) → CornerCrossed right old new s
   unfolding grid_of
-  one_strip_more right new more shown stays = record {
-    shown = shown ∙ ap (strip_crossed upto right) so.shown ∙ corner_and_strip s.width s.height (pixel (shaped old s)) square upto right more;
-    outside = outside_trans (shaped old s) (shaped now s) (shaped new s) so.outside stays;
+  one_strip_more right new more strip = record {
+    grid = strip.grid ∙ ap (strip_crossed upto right) so.grid ∙ corner_and_strip s.width s.height (pixel (shaped old s)) square upto right more;
+    outside = outside_trans (shaped old s) (shaped now s) (shaped new s) so.outside strip.outside;
   }
 
   -- all strips
-  pub all_strips : s.height ≤ upto → shaped_grid now s ≡ transposed (shaped_grid old s)
+  pub all_strips : s.height ≤ upto → Becomes s old now (transposed (shaped_grid old s))
   unfolding grid_of
-  all_strips all = so.shown ∙ whole_corner s.width s.height (pixel (shaped old s)) square upto (omega (arith, square, all))
+  all_strips all = record {
+    grid = so.grid ∙ whole_corner s.width s.height (pixel (shaped old s)) square upto (omega (arith, square, all));
+    outside = so.outside;
+  }

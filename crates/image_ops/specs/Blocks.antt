@@ -1,6 +1,7 @@
 -- Blocks of 16 by 16 cells, and images that are read row by row.
-use Rattle.std.specs.Prelude.{ℕ, ◌+◌, ◌-◌, ◌*◌, ◌/◌, ◌%◌, Bool, true, false, ◌&&◌, ◌||◌, nat_lt, nat_le, if◌then◌else◌}
-use Rattle.image_model.specs.Grid.{Grid, grid, covers}
+use Rattle.std.specs.Prelude.{ℕ, List, ◌+◌, ◌-◌, ◌*◌, ◌/◌, ◌%◌, Bool, true, false, ◌&&◌, ◌||◌, nat_lt, nat_le, if◌then◌else◌}
+use Rattle.image_model.specs.Grid.{Grid, grid, grid_of, covers}
+use Rattle.image_model.specs.Layout.{layout}
 
 -- where cell k of 256 comes from, once both halves are put together alternately
 abbrev pub shuffled_place : ℕ → ℕ
@@ -9,6 +10,10 @@ shuffled_place k = k % 2 * 128 + k / 2
 -- where it comes from, once columns are rows
 abbrev pub across_place : ℕ → ℕ
 across_place k = k % 16 * 16 + k / 16
+
+-- the cells of a block as a grid
+abbrev pub block_grid : {T : Type 0} → List T → Grid T
+block_grid cells = grid_of (layout cells 16 16 16)
 
 -- which of so many rows is read for row y, from the last one on or not
 abbrev pub line_read : Bool → ℕ → ℕ → ℕ

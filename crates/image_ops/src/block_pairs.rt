@@ -6,12 +6,13 @@
 
 ghost use Rattle.std.specs.Prelude.{◌≡◌, ◌*◌, ◌<◌, ◌≤◌, length};
 ghost use Rattle.image_model.specs.Grid.{patch};
-ghost use Rattle.image_model.specs.Layout.{Fits, SameOutside};
+ghost use Rattle.image_model.specs.Layout.{Fits};
 ghost use Rattle.image_model.specs.Turns.{transposed};
 ghost use Rattle.image_model.specs.Windows.{window_view, IsInside};
 ghost use Rattle.image_shape.specs.Shape.{shape_width, shape_height, shape_stride, shaped_grid, shaped};
 ghost use Rattle.image_shape.specs.Window.{as_window};
 ghost use Rattle.image_ops.specs.Blocks.{crossed_at};
+ghost use Rattle.image_ops.specs.Written.{Becomes, IsSquare};
 
 use crate::blocks::read_rows;
 use crate::turning::{Quarter, quarter_rows};
@@ -59,9 +60,8 @@ fn write_across<T: Copy>(
     requires block_fits { Fits (shaped block.now block_shape) }
     requires columns { window.width ≡ shape_height block_shape }
     requires lines { window.height ≡ shape_width block_shape }
-    ensures grid { shaped_grid cells.new shape ≡ patch (shaped_grid cells.old shape)
-        window.left window.top (transposed (shaped_grid block.now block_shape)) }
-    ensures outside { SameOutside (shaped cells.old shape) (shaped cells.new shape) }
+    ensures { Becomes shape cells.old cells.new (patch (shaped_grid cells.old shape)
+        window.left window.top (transposed (shaped_grid block.now block_shape))) }
 {
     let (part, inner) = exact_part(cells.len(), shape, window);
     quarter_rows(&mut cells[part], inner, block, block_shape, Quarter::Across);
@@ -77,18 +77,16 @@ fn cross_pair<T: Copy, const SIDE: usize>(
     upper: &mut [T],
     lower: &mut [T],
 )
-    requires fits { Fits (shaped cells.old shape) }
-    requires square { shape_width shape ≡ shape_height shape }
+    requires image { IsSquare cells.old shape }
     requires inside { IsInside (shape_width shape) (shape_height shape) (as_window window) }
     requires some { 0 < SIDE }
     requires narrow { window.width ≤ SIDE }
     requires low { window.height ≤ SIDE }
     requires room { SIDE * SIDE ≤ length upper.old }
     requires lower_room { SIDE * SIDE ≤ length lower.old }
-    ensures grid { shaped_grid cells.new shape
-        ≡ crossed_at window.left window.top window.width window.height
-        (shaped_grid cells.old shape) }
-    ensures outside { SameOutside (shaped cells.old shape) (shaped cells.new shape) }
+    ensures crossed { Becomes shape cells.old cells.new
+        (crossed_at window.left window.top window.width window.height
+        (shaped_grid cells.old shape)) }
     ensures as_many { length upper.new ≡ length upper.old }
     ensures as_many_lower { length lower.new ≡ length lower.old }
 {
@@ -107,13 +105,11 @@ pub(crate) fn cross_pairs<T: Copy, const SIDE: usize>(
     upper: &mut [T],
     lower: &mut [T],
 )
-    requires fits { Fits (shaped cells.old shape) }
-    requires square { shape_width shape ≡ shape_height shape }
+    requires image { IsSquare cells.old shape }
     requires some { 0 < SIDE }
     requires room { SIDE * SIDE ≤ length upper.old }
     requires lower_room { SIDE * SIDE ≤ length lower.old }
-    ensures grid { shaped_grid cells.new shape ≡ transposed (shaped_grid cells.old shape) }
-    ensures outside { SameOutside (shaped cells.old shape) (shaped cells.new shape) }
+    ensures { Becomes shape cells.old cells.new (transposed (shaped_grid cells.old shape)) }
 {
     let side = shape.height();
     let mut top = 0;

@@ -4,9 +4,10 @@ ghost use Rattle.std.specs.Prelude.{◌≡◌, ◌+◌, ◌*◌, ◌<◌, ◌≤
 ghost use Rattle.image_model.specs.Grid.{patch, view};
 ghost use Rattle.image_model.specs.Layout.{Fits, SameOutside};
 ghost use Rattle.image_model.specs.Turns.{transposed};
-ghost use Rattle.image_shape.specs.Shape.{shape_width, shape_height, shape_stride, shaped_grid, shaped};
-ghost use Rattle.image_ops.specs.Blocks.{crossed_at, corner_crossed, strip_crossed};
+ghost use Rattle.image_shape.specs.Shape.{shape_width, shape_height, shaped_grid, shaped};
+ghost use Rattle.image_ops.specs.Blocks.{block_grid, crossed_at, corner_crossed, strip_crossed};
 ghost use Rattle.image_ops.specs.Turned.{turned, turned_width};
+ghost use Rattle.image_ops.specs.Written.{Becomes, IsSquare};
 
 use crate::block_pairs::cross_pairs;
 use crate::blocks::{block_shape, read_rows, transpose_block};
@@ -50,26 +51,22 @@ fn strip_width<T>(cells: &[T], side: usize, stride: usize) -> usize
 #[inline(always)]
 fn read_across<T: Copy>(
     block: &mut [T],
-    square: Shape,
     cells: &[T],
     shape: Shape,
     left: usize,
     top: usize,
 )
     requires many { length block.old ≡ 256 }
-    requires width { shape_width square ≡ 16 }
-    requires height { shape_height square ≡ 16 }
-    requires stride { shape_stride square ≡ 16 }
     requires fits { Fits (shaped cells.now shape) }
     requires column { left + 16 ≤ shape_width shape }
     requires line { top + 16 ≤ shape_height shape }
     ensures as_many { length block.new ≡ length block.old }
-    ensures grid { shaped_grid block.new square
+    ensures grid { block_grid block.new
         ≡ transposed (view (shaped_grid cells.now shape) left top 16 16) }
 {
     let (part, part_shape) = padded_part(cells, shape, Window::new(left, top, 16, 16));
-    read_rows(block, square, part, part_shape, false);
-    transpose_block(block, square);
+    read_rows(block, block_shape(), part, part_shape, false);
+    transpose_block(block);
 }
 
 // The 16 by 16 pixels from column `left` of row `top` on become those of the block; every other
@@ -81,52 +78,43 @@ fn write_block<T: Copy>(
     left: usize,
     top: usize,
     block: &[T],
-    square: Shape,
 )
     requires many { length block.now ≡ 256 }
-    requires width { shape_width square ≡ 16 }
-    requires height { shape_height square ≡ 16 }
-    requires stride { shape_stride square ≡ 16 }
     requires fits { Fits (shaped cells.old shape) }
     requires column { left + 16 ≤ shape_width shape }
     requires line { top + 16 ≤ shape_height shape }
-    ensures grid { shaped_grid cells.new shape
-        ≡ patch (shaped_grid cells.old shape) left top (shaped_grid block.now square) }
-    ensures outside { SameOutside (shaped cells.old shape) (shaped cells.new shape) }
+    ensures { Becomes shape cells.old cells.new
+        (patch (shaped_grid cells.old shape) left top (block_grid block.now)) }
 {
     let (part, inner) = exact_part(cells.len(), shape, Window::new(left, top, 16, 16));
-    read_rows(&mut cells[part], inner, block, square, false);
+    read_rows(&mut cells[part], inner, block, block_shape(), false);
 }
 
 // The 16 by 16 pixels from column `left` of row `top` on change places with those across the
 // diagonal. Both blocks are read before one is written: so they may be the same.
 fn cross_at<T: Copy>(cells: &mut [T], shape: Shape, left: usize, top: usize)
-    requires fits { Fits (shaped cells.old shape) }
-    requires square { shape_width shape ≡ shape_height shape }
+    requires image { IsSquare cells.old shape }
     requires column { left + 16 ≤ shape_width shape }
     requires line { top + 16 ≤ shape_width shape }
-    ensures grid { shaped_grid cells.new shape ≡ crossed_at left top 16 16 (shaped_grid cells.old shape) }
-    ensures outside { SameOutside (shaped cells.old shape) (shaped cells.new shape) }
+    ensures { Becomes shape cells.old cells.new
+        (crossed_at left top 16 16 (shaped_grid cells.old shape)) }
 {
-    let square = block_shape();
     let mut upper = [cells[0]; 256];
     let mut lower = [cells[0]; 256];
-    read_across(upper.as_mut_slice(), square, cells, shape, left, top);
-    read_across(lower.as_mut_slice(), square, cells, shape, top, left);
-    write_block(cells, shape, top, left, upper.as_slice(), square);
-    write_block(cells, shape, left, top, lower.as_slice(), square);
+    read_across(upper.as_mut_slice(), cells, shape, left, top);
+    read_across(lower.as_mut_slice(), cells, shape, top, left);
+    write_block(cells, shape, top, left, upper.as_slice());
+    write_block(cells, shape, left, top, lower.as_slice());
 }
 
 // Of the first `blocks` times 16 columns and rows each pixel changes places with the one across the
 // diagonal, by blocks of 16 by 16 pixels. Blocks of 64 columns come one after the other: so the
 // pixels beside those of a block are still near.
 fn cross_blocks<T: Copy>(cells: &mut [T], shape: Shape, blocks: usize)
-    requires fits { Fits (shaped cells.old shape) }
-    requires square { shape_width shape ≡ shape_height shape }
+    requires image { IsSquare cells.old shape }
     requires inside { 16 * blocks ≤ shape_width shape }
-    ensures grid { shaped_grid cells.new shape
-        ≡ corner_crossed (16 * blocks) (shaped_grid cells.old shape) }
-    ensures outside { SameOutside (shaped cells.old shape) (shaped cells.new shape) }
+    ensures { Becomes shape cells.old cells.new
+        (corner_crossed (16 * blocks) (shaped_grid cells.old shape)) }
 {
     let mut from = 0;
     while from < blocks {
@@ -167,12 +155,10 @@ fn least_side<T>(cells: &[T]) -> usize
 #[inline(always)]
 #[tactic(auto, using(crate::proofs::Diagonals::within))]
 fn cross_strip<T: Copy>(cells: &mut [T], shape: Shape, left: usize, right: usize)
-    requires fits { Fits (shaped cells.old shape) }
-    requires square { shape_width shape ≡ shape_height shape }
+    requires image { IsSquare cells.old shape }
     requires inside { right ≤ shape_height shape }
-    ensures grid { shaped_grid cells.new shape
-        ≡ strip_crossed left right (shaped_grid cells.old shape) }
-    ensures outside { SameOutside (shaped cells.old shape) (shaped cells.new shape) }
+    ensures { Becomes shape cells.old cells.new
+        (strip_crossed left right (shaped_grid cells.old shape)) }
 {
     for y in 0..right {
         for x in left.max(y + 1)..right {
@@ -183,11 +169,9 @@ fn cross_strip<T: Copy>(cells: &mut [T], shape: Shape, left: usize, right: usize
 
 // Columns become rows, and rows columns, by blocks and by strips of `width` columns.
 fn cross_strips<T: Copy>(cells: &mut [T], shape: Shape, width: usize)
-    requires fits { Fits (shaped cells.old shape) }
-    requires square { shape_width shape ≡ shape_height shape }
+    requires image { IsSquare cells.old shape }
     requires some { 0 < width }
-    ensures grid { shaped_grid cells.new shape ≡ transposed (shaped_grid cells.old shape) }
-    ensures outside { SameOutside (shaped cells.old shape) (shaped cells.new shape) }
+    ensures { Becomes shape cells.old cells.new (transposed (shaped_grid cells.old shape)) }
 {
     let side = shape.height();
     let blocks = block_count(cells, side);
@@ -206,10 +190,8 @@ fn cross_strips<T: Copy>(cells: &mut [T], shape: Shape, width: usize)
 // it.
 #[inline(never)]
 fn cross_square<T: Copy>(cells: &mut [T], shape: Shape)
-    requires fits { Fits (shaped cells.old shape) }
-    requires square { shape_width shape ≡ shape_height shape }
-    ensures grid { shaped_grid cells.new shape ≡ transposed (shaped_grid cells.old shape) }
-    ensures outside { SameOutside (shaped cells.old shape) (shaped cells.new shape) }
+    requires image { IsSquare cells.old shape }
+    ensures { Becomes shape cells.old cells.new (transposed (shaped_grid cells.old shape)) }
 {
     let side = shape.height();
     let width = strip_width(cells, side, shape.stride());

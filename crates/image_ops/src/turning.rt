@@ -184,7 +184,7 @@ fn quarter_block<T: Copy>(
         source_shape,
         reads_back(quarter),
     );
-    transpose_block(block.as_mut_slice(), square);
+    transpose_block(block.as_mut_slice());
     read_rows(cells, shape, block.as_slice(), square, writes_back(quarter));
 }
 

@@ -18,14 +18,16 @@ loop-left-preserved g c =
       | inr right ↦ inr right
     ] in
     let next : top + height ≤ left + width = elim on [ inl same ↦ omega (arith, same) | inr right ↦ omega (arith, right) ] in
-    let shown = c.cross_pair.ensures.grid ∙ (λ i. crossed_at (c.new-window.ensures i).left (c.new-window.ensures i).top (c.new-window.ensures i).width (c.new-window.ensures i).height (shaped_grid c.loop-left.cells s)) in (
-      one_pair_more s c.args.cells.now c.loop-left.cells top (top + height) left inv.0 c.requires.square width height refl on c.cross_pair.new.cells shown c.cross_pair.ensures.outside,
+    let shown = c.cross_pair.ensures.crossed.grid ∙ (λ i. crossed_at (c.new-window.ensures i).left (c.new-window.ensures i).top (c.new-window.ensures i).width (c.new-window.ensures i).height (shaped_grid c.loop-left.cells s)) in (
+      one_pair_more s c.args.cells.now c.loop-left.cells top (top + height) left inv.0 c.requires.image.square width height refl on c.cross_pair.new.cells shown c.cross_pair.ensures.crossed.outside,
       inr next,
       omega (arith, c.min-width.ensures, c.loop-left-test.true, c.height-side.ensures.value),
       c.cross_pair.ensures.as_many ∙ inv.3,
       c.cross_pair.ensures.as_many_lower ∙ inv.4,
     )
 
-pub returns-clause-grid : goal.returns-clause-grid
-returns-clause-grid g c =
-    all_pairs c.args.shape c.args.cells.now c.loop-top.cells c.loop-top.top c.loop-top.top 0 c.loop-top.invariant.0 c.requires.square refl refl (omega (arith, c.loop-top-test.false, c.height-side.ensures.value))
+pub returns : goal.returns
+returns g c = record {
+  grid = all_pairs c.args.shape c.args.cells.now c.loop-top.cells c.loop-top.top c.loop-top.top 0 c.loop-top.invariant.0 c.requires.image.square refl refl (omega (arith, c.loop-top-test.false, c.height-side.ensures.value));
+  outside = c.loop-top.invariant.0.outside;
+}

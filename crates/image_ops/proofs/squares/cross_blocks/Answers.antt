@@ -7,11 +7,15 @@ use Rattle.image_ops.proofs.squares.cross_blocks.Goals as goal
 
 pub loop-column-preserved : goal.loop-column-preserved
 loop-column-preserved g c =
-    one_pair_more c.args.shape c.args.cells.now c.loop-column.cells c.loop-from.from _ c.loop-column.column c.loop-line.line c.loop-column.invariant c.requires.square
-    (omega (arith, c.max-column.ensures)) (omega (arith, c.max-column.ensures)) (omega arith) c.cross_at.new.cells c.cross_at.ensures.grid c.cross_at.ensures.outside
+    one_pair_more c.args.shape c.args.cells.now c.loop-column.cells c.loop-from.from _ c.loop-column.column c.loop-line.line c.loop-column.invariant c.requires.image.square
+    (omega (arith, c.max-column.ensures)) (omega (arith, c.max-column.ensures)) (omega arith) c.cross_at.new.cells c.cross_at.ensures
 
-pub returns-clause-grid : goal.returns-clause-grid
-returns-clause-grid g c =
+pub returns : goal.returns
+returns g c =
     let all : c.loop-from.from ≡ c.args.blocks = omega (arith, c.loop-from-test.false, c.loop-from.invariant.1) in
-    all_pairs c.args.shape c.args.cells.now c.loop-from.cells c.loop-from.from c.loop-from.invariant.0
-    ∙ ap (λ n. corner_crossed (16 * n) (shaped_grid c.args.cells.now c.args.shape)) all
+    record {
+      grid =
+        all_pairs c.args.shape c.args.cells.now c.loop-from.cells c.loop-from.from c.loop-from.invariant.0
+        ∙ ap (λ n. corner_crossed (16 * n) (shaped_grid c.args.cells.now c.args.shape)) all;
+      outside = c.loop-from.invariant.0.outside;
+    }

@@ -4,11 +4,11 @@ use Rattle.image_ops.proofs.SquareBlocks.{one_strip_more, all_strips}
 use Rattle.image_ops.proofs.squares.cross_strips.Goals as goal
 
 pub loop-left-init : goal.loop-left-init
-loop-left-init g c = (record { shown = c.cross_blocks.ensures.grid; outside = c.cross_blocks.ensures.outside }, omega arith)
+loop-left-init g c = (c.cross_blocks.ensures, omega arith)
 
 pub loop-left-preserved : goal.loop-left-preserved
 loop-left-preserved g c =
-    (one_strip_more c.args.shape c.args.cells.now c.loop-left.cells c.loop-left.left c.loop-left.invariant.0 c.requires.square _ c.cross_strip.new.cells (omega arith) c.cross_strip.ensures.grid c.cross_strip.ensures.outside, omega arith)
+    (one_strip_more c.args.shape c.args.cells.now c.loop-left.cells c.loop-left.left c.loop-left.invariant.0 c.requires.image.square _ c.cross_strip.new.cells (omega arith) c.cross_strip.ensures, omega arith)
 
-pub returns-clause-grid : goal.returns-clause-grid
-returns-clause-grid g c = all_strips c.args.shape c.args.cells.now c.loop-left.cells c.loop-left.left c.loop-left.invariant.0 c.requires.square (omega arith)
+pub returns : goal.returns
+returns g c = all_strips c.args.shape c.args.cells.now c.loop-left.cells c.loop-left.left c.loop-left.invariant.0 c.requires.image.square (omega arith)
