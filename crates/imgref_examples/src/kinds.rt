@@ -28,20 +28,19 @@ pub fn pixel_of_ref(image: ImgRef<'_, u8>, x: usize, y: usize) -> u8
     image[(x, y)]
 }
 
-/// A pixel of an image of pixels that are borrowed for writing, after it was put. It is the pixel as it was
-/// put.
+/// A pixel of an image of pixels that are borrowed for writing, after it was put.
 #[tactic(auto, using(image_model::proofs::Laws::reads))]
-pub fn put_and_read(image: &mut ImgRefMut<'_, u8>, x: usize, y: usize, value: u8) -> u8
+pub fn put_and_read(image: &mut ImgRefMut<'_, u8>, x: usize, y: usize, value: u8) -> Option<u8>
     requires fits { Fits (mut_layout image.old) }
     requires column { x < width_of image.old }
     requires row { y < height_of image.old }
-    ensures value { result ≡ value }
+    ensures value { result ≡ Some value }
     ensures grid { mut_grid image.new ≡ patch (mut_grid image.old) x y (uniform 1 1 value) }
     ensures outside { SameOutside (mut_layout image.old) (mut_layout image.new) }
     ensures same_borrow { SameBorrow image.old image.new }
 {
     image.put(x, y, value);
-    image[(x, y)]
+    image.get(x, y)
 }
 
 /// A pixel of an image in any container.
@@ -102,21 +101,7 @@ pub fn draw_any<C: AsMutSlice<Item = u8>>(
     image.fill_window(x, y, columns, rows, value);
 }
 
-/// Turns an image of borrowed pixels upside down.
-#[tactic(auto, using(image_model::proofs::Laws::loops))]
-pub fn flip_lent(image: &mut ImgRefMut<'_, u8>)
-    requires fits { Fits (mut_layout image.old) }
-    ensures grid { mut_grid image.new ≡ flipped (mut_grid image.old) }
-    ensures outside { SameOutside (mut_layout image.old) (mut_layout image.new) }
-    ensures same_borrow { SameBorrow image.old image.new }
-{
-    let height = image.height();
-    for y in 0..height / 2 {
-        image.swap_rows(y, height - 1 - y);
-    }
-}
-
-/// The same of an image in any container.
+/// Turns an image in any container upside down.
 #[tactic(auto, using(image_model::proofs::Laws::loops))]
 pub fn flip_any<C: AsMutSlice<Item = u8>>(image: &mut Img<C>)
     requires fits { Fits (layout_by C.cells image.old) }

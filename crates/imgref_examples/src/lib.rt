@@ -23,6 +23,7 @@ mod figures;
 mod fills;
 mod floods;
 mod halves;
+mod kinds;
 mod lent_turns;
 mod literals;
 mod luma;
@@ -61,6 +62,9 @@ pub use crop::{crop_copy, crop_packed};
 pub use drawing::{dot, put_then_get, stripes, three_by_index, three_places};
 pub use floods::flood_fill;
 pub use halves::halve;
+pub use kinds::{
+    draw_any, draw_lent, flip_any, pixel_of_any, pixel_of_ref, pixel_of_vec, put_and_read,
+};
 pub use lent_turns::{turn_into_window, turn_lent};
 pub use literals::half_ramp;
 pub use luma::{FrameError, luma_plane};

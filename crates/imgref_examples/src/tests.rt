@@ -4,8 +4,9 @@ ghost use Rattle.std.specs.Prelude.{◌≡◌, IfOk};
 ghost use Rattle.imgref.specs.Image.{width_of, height_of};
 
 use crate::{
-    FrameError, box_blur_3x3, brighten, brighten_places, brighten_rows, crop_copy, dot, draw_rect,
-    luma_plane, put_then_get, stripes, three_by_index, three_places,
+    FrameError, box_blur_3x3, brighten, brighten_places, brighten_rows, crop_copy, dot, draw_any,
+    draw_lent, draw_rect, flip_any, luma_plane, pixel_of_any, pixel_of_ref, pixel_of_vec,
+    put_and_read, put_then_get, stripes, three_by_index, three_places,
 };
 use imgref::{Img, ImgVec, Window};
 use std::alloc::{AllocError, Global};
@@ -122,5 +123,27 @@ fn one_write_comes_after_another(rt: HostRuntime) -> Result<(), Fail> {
     assert!(rt; lent.is_valid());
     dot(&mut lent, 2, 0);
     assert_eq!(rt; cells, [1u8, 2, 7, 100, 4, 5, 250]);
+    Ok(())
+}
+
+#[test]
+fn each_kind_of_image_is_read_and_written(rt: HostRuntime) -> Result<(), Fail> {
+    let mut cells = CELLS;
+    let mut lent = Img::new_stride(cells.as_mut_slice(), 3, 2, 4);
+    assert!(rt; lent.is_valid());
+    assert_eq!(rt; put_and_read(&mut lent, 1, 0, 9), Some(9));
+    draw_lent(&mut lent, 2, 0, 9, 1, 8);
+    assert_eq!(rt; cells, [1u8, 9, 8, 100, 4, 5, 250]);
+    let mut image = padded(rt.alloc())?;
+    assert!(rt; image.is_valid());
+    draw_any(&mut image, 0, 1, 1, 9, 7);
+    assert_eq!(rt; pixel_of_vec(&image, 0, 1), 7);
+    assert_eq!(rt; pixel_of_any(&image, 2, 0), 3);
+    assert_eq!(rt; pixel_of_ref(image.as_ref(), 2, 1), 250);
+    flip_any(&mut image);
+    assert_eq!(rt;
+        image.into_buf().as_slice(),
+        [7u8, 5, 250, 100, 1, 2, 3].as_slice()
+    );
     Ok(())
 }
