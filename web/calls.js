@@ -148,6 +148,17 @@ export class Library {
     this.run(`imgref_u${image.bits}_move_window`, ...cells(image), ...windows);
   }
 
+  /** All pixels of another image, turned clockwise by so many quarters. */
+  turn(image, source, quarters) {
+    this.run(`imgref_u${image.bits}_turn_into`, ...cells(image), 1n, ...cells(source), quarters);
+  }
+
+  /** Mirrors all of an image: its `rows` or its `columns` change places. */
+  flip(image, which) {
+    const whole = this.windowAt(FROM, { left: 0, top: 0, width: image.width, height: image.height });
+    this.run(`imgref_u${image.bits}_flip_${which}`, ...cells(image), 1n, whole);
+  }
+
   copy(image, window, source) {
     const to = this.windowAt(FROM, window);
     this.run(`imgref_u${image.bits}_copy_window`, ...cells(image), to, ...cells(source));

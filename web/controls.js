@@ -32,6 +32,9 @@ export function startPicture(library) {
   on("larger", "click", () => view.step(1));
   on("fit", "click", () => view.fit());
   on("actual", "click", () => view.zoomTo(1));
+  on("turn-left", "click", () => page.orient("turn", "left"));
+  on("turn-right", "click", () => page.orient("turn", "right"));
+  on("mirror", "click", () => page.orient("flip", "columns"));
   for (const it of ["keep", "discard"]) {
     on(it, "click", () => find("ask").close(it));
   }

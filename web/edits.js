@@ -1,8 +1,11 @@
 // Edits and their text, in the words of docs/FRAMES.md.
 
 import { isNumber } from "./common.js";
+import { orients, turnOf } from "./orientation.js";
 import { hidesNothing, isMosaic } from "./tile.js";
 
+const ONE_SIZE = "at most one crop or pad is allowed, and it must come last, or before turns and flips.";
+const TURNS_LAST = "on this page turns and flips must come last.";
 const RANGE = /^[0-9]*\.\.[0-9]*$/;
 const COMMENT = /#.*/, GAPS = /[ \t]+/;
 // What a cover is larger by on each side, in pixels, and its brightness: where the line has no such number.
@@ -15,6 +18,8 @@ const WORDS = {
   move: "move L,T,W,H X,Y",
   crop: "crop L,T,W,H",
   pad: "pad L,T,R,B V",
+  turn: "turn right, turn half or turn left",
+  flip: "flip rows or flip columns",
 };
 
 /** A line that is no edit, or an edit that can't be carried out: its number, from 1, and why. */
@@ -28,6 +33,18 @@ export class BadEdit extends Error {
 /** Whether an edit gives the picture another size. */
 export function resizes(edit) {
   return edit.word === "crop" || edit.word === "pad";
+}
+
+/** A list with one more edit, which is before what has to come later, and its index. A crop or a pad takes the place of another. */
+export function withEdit(edits, edit) {
+  const others = resizes(edit) ? edits.filter((it) => !resizes(it)) : edits;
+  const index = others.filter((it) => rank(it) <= rank(edit)).length;
+  return { edits: others.toSpliced(index, 0, edit), index };
+}
+
+/** What comes last in a list has the highest: turns and flips, and before them a crop or a pad. */
+function rank(edit) {
+  return orients(edit) ? 2 : Number(resizes(edit));
 }
 
 /** Whether an edit covers what was there. */
@@ -48,6 +65,9 @@ export function futility(edit) {
 /** An edit as a line, or a stroke of the brush as lines: fills of its parts. */
 export function textOf(edit) {
   const { word, left, top, width, height } = edit;
+  if (orients(edit)) {
+    return `${word} ${edit.to}`;
+  }
   if (word === "brush") {
     return edit.parts.map((it) => textOf({ ...it, word: "fill", colour: edit.colour })).join("\n");
   }
@@ -86,9 +106,9 @@ export function editsOf(text, size, earlier = []) {
     if (words.length === 0) {
       return;
     }
-    const number = before + index, edit = editOf(words, number, size);
-    if (edits.some(resizes)) {
-      throw new BadEdit(number, "at most one crop or pad is allowed, and it must come last.");
+    const number = before + index, edit = editOf(words, number, size), last = edits.at(-1);
+    if (last && (rank(last) > rank(edit) || (resizes(last) && resizes(edit)))) {
+      throw new BadEdit(number, resizes(last) ? ONE_SIZE : TURNS_LAST);
     }
     edits.push({ ...edit, line: number });
   });
@@ -125,6 +145,9 @@ function editOf([word, ...fields], number, size) {
 
 /** The edit of a line that is no cover, or null. */
 function plain(word, fields) {
+  if (word === "turn" || word === "flip") {
+    return fields.length === 1 ? turnOf(word, fields[0]) : null;
+  }
   const lists = fields.map(numbersOf);
   return lists.every(Boolean) && made(word, lists);
 }

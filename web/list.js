@@ -49,7 +49,7 @@ function shortened(text) {
 }
 
 /** Shows the fields of an edit, its warning, and what it can be changed to. */
-export function renderSelected(edit, picture, turnInto) {
+export function renderSelected(edit, picture, changeKind) {
   const canChange = edit && isOnStage(edit), kind = edit && isMosaic(edit) ? "mosaic" : edit?.word;
   find("selected").disabled = !edit;
   for (const [name, id] of Object.entries(FIELDS)) {
@@ -67,7 +67,7 @@ export function renderSelected(edit, picture, turnInto) {
     const button = document.createElement("button");
     button.textContent = `Change '${wordsOf(edit)}' to a ${word}`;
     button.dataset.word = word;
-    button.addEventListener("click", () => turnInto(word));
+    button.addEventListener("click", () => changeKind(word));
     return button;
   }));
 }

@@ -1,8 +1,9 @@
 // The picture with its edits: added, changed, taken back, and shown.
 
 import { find } from "./common.js";
-import { BadEdit, covers, editsOf, futility, resizes, textOf } from "./edits.js";
+import { BadEdit, covers, editsOf, futility, resizes, textOf, withEdit } from "./edits.js";
 import { Opener } from "./open.js";
+import { orients, shortest, turnOf } from "./orientation.js";
 import { Saver } from "./save.js";
 import { renderList, renderSelected } from "./list.js";
 import { Stage } from "./stage.js";
@@ -16,7 +17,9 @@ const LATE =
   "Note: a move comes before a fill or a mosaic. It may carry pixels out of what is covered.";
 const SEEN_AGAIN = "Done. What this cover hid before, and doesn't now, may be seen again.";
 const HOLD_STILL = "Hold a finger still for a moment, then draw. Two fingers zoom.";
-const FOR_A_PICTURE = ["save", "add", "apply", "copy", "copy-picture", "smaller", "larger", "fit", "actual"];
+const FOR_A_PICTURE = [
+  "save", "add", "apply", "copy", "copy-picture", "smaller", "larger", "fit", "actual", "turn-left", "turn-right", "mirror",
+];
 
 /** What a person sees and does on the page. */
 export class PicturePage {
@@ -129,16 +132,15 @@ export class PicturePage {
     }
   }
 
-  /** Adds what was drawn. A crop stays the last edit, and the only one. */
+  /** Adds what was drawn. */
   add(shape, word) {
-    const edit = this.made(shape, word), last = this.edits.at(-1), why = futility(edit);
+    const edit = this.made(shape, word), why = futility(edit);
     if (why) {
       return this.say(why, true);
     }
-    const kept = last && resizes(last) ? this.edits.slice(0, -1) : this.edits;
-    const end = last && resizes(last) && !resizes(edit) ? [last] : [];
-    if (this.commit([...kept, edit, ...end])) {
-      this.select(kept.length);
+    const { edits, index } = withEdit(this.edits, edit);
+    if (this.commit(edits)) {
+      this.select(index);
       const weak = weakness(edit, this.pixels);
       if (weak) {
         this.say(weak, true);
@@ -172,17 +174,22 @@ export class PicturePage {
     this.render();
   }
 
+  /** Turns or mirrors the whole picture, after all that its list has. */
+  orient(word, to) {
+    const turns = shortest([...this.edits, turnOf(word, to)]);
+    this.commit([...this.edits.filter((it) => !orients(it)), ...turns]);
+  }
+
   /** Makes the selected rectangle a cover or a crop of another kind. */
-  turnInto(word) {
-    const edit = this.made(this.edits[this.selected], word), why = futility(edit);
-    const others = this.edits.toSpliced(this.selected, 1).filter(
-      (it) => !resizes(edit) || !resizes(it)
-    );
-    const at = resizes(edit) ? others.length : Math.min(this.selected, others.length);
+  changeKind(word) {
+    const { selected } = this, old = this.edits[selected], edit = this.made(old, word), why = futility(edit);
+    const others = this.edits.toSpliced(selected, 1);
+    const { edits, index } = resizes(edit) || resizes(old)
+      ? withEdit(others, edit) : { edits: others.toSpliced(selected, 0, edit), index: selected };
     if (why) {
       this.say(why, true);
-    } else if (this.commit(others.toSpliced(at, 0, edit))) {
-      this.selected = at;
+    } else if (this.commit(edits)) {
+      this.selected = index;
     }
     this.render();
   }
@@ -231,7 +238,7 @@ export class PicturePage {
     }
     renderTools(pixels);
     renderList(edits, selected, pixels, (index) => this.select(index));
-    renderSelected(edits[selected], pixels, (word) => this.turnInto(word));
+    renderSelected(edits[selected], pixels, (word) => this.changeKind(word));
     find("covers").textContent = pixels ? coversInWords(edits) : "";
     find("text").value = this.text;
   }

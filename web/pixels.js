@@ -5,8 +5,10 @@
 
 import { Refused, WINDOW_OUTSIDE } from "./calls.js";
 import { BadEdit, resizes, textOf } from "./edits.js";
+import { orients } from "./orientation.js";
 
 const MOST = 2n ** 32n;
+const QUARTERS = { right: 1, half: 2, left: 3 };
 
 /** A picture of so many columns and rows. */
 export class Pixels {
@@ -58,8 +60,10 @@ export class Pixels {
   /** Carries out one edit, and tells which rectangle it changed. */
   apply(edit) {
     const { library, image } = this;
-    if (resizes(edit)) {
-      this.checkSize(edit);
+    if (resizes(edit) || orients(edit)) {
+      if (resizes(edit)) {
+        this.checkSize(edit);
+      }
       this.applied.push({ edit, window: null });
       return empty();
     }
@@ -117,39 +121,56 @@ export class Pixels {
     return changed;
   }
 
-  /** What is saved, after a crop or a pad: calls `use` with its bytes, width and height. */
+  /** What is saved, after a crop or a pad, turns and flips: calls `use` with its bytes, width and height. */
   output(use) {
-    const edit = this.applied.at(-1)?.edit;
-    if (!edit || !resizes(edit)) {
-      return use(this.bytes(), this.width, this.height);
-    }
-    const { library, image } = this, top = library.top;
+    const { library } = this, top = library.top;
     try {
-      const { width, height } = sizeAfter(edit, image);
-      const made = taken(library, Number(width), Number(height));
-      const whole = { left: 0, top: 0, width, height };
-      if (edit.word === "crop") {
-        library.copy(made, whole, library.part(image, edit));
-      } else {
-        library.fill(made, whole, cellOf(edit.colour));
-        library.copy(made, { ...edit, width: this.width, height: this.height }, image);
-      }
+      const made = this.applied.map((it) => it.edit).reduce((image, it) => this.after(it, image), this.image);
       return use(library.bytes(made.at, 4 * made.count), made.width, made.height);
     } finally {
       library.release(top);
     }
   }
+
+  /** An image after an edit of the whole: a new one, at the top of the memory. Any other edit is in the picture already. */
+  after(edit, image) {
+    const { library } = this, { width, height } = image;
+    if (!resizes(edit) && !orients(edit)) {
+      return image;
+    }
+    const size = sizeAfter(edit, image), made = taken(library, Number(size.width), Number(size.height));
+    const whole = { left: 0, top: 0, ...size };
+    switch (edit.word) {
+      case "crop":
+        library.copy(made, whole, library.part(image, edit));
+        break;
+      case "pad":
+        library.fill(made, whole, cellOf(edit.colour));
+        library.copy(made, { ...edit, width, height }, image);
+        break;
+      case "turn":
+        library.turn(made, image, QUARTERS[edit.to]);
+        break;
+      default:
+        library.copy(made, whole, image);
+        library.flip(made, edit.to);
+    }
+    return made;
+  }
 }
 
-/** The size that a crop or a pad leaves. */
-export function sizeAfter(edit, image) {
+/** The size that an edit of the whole leaves. */
+function sizeAfter(edit, image) {
   const sum = (...all) => all.map(BigInt).reduce((total, it) => total + it);
-  return edit.word === "crop"
-    ? { width: BigInt(edit.width), height: BigInt(edit.height) }
-    : {
-      width: sum(edit.left, image.width, edit.right),
-      height: sum(edit.top, image.height, edit.bottom)
-    };
+  const [width, height] = [sum(image.width), sum(image.height)];
+  switch (edit.word) {
+    case "crop":
+      return { width: BigInt(edit.width), height: BigInt(edit.height) };
+    case "pad":
+      return { width: sum(edit.left, width, edit.right), height: sum(edit.top, height, edit.bottom) };
+    default:
+      return edit.word === "flip" || edit.to === "half" ? { width, height } : { width: height, height: width };
+  }
 }
 
 /** Cells of four bytes for a picture of this size, at the top of the memory. */

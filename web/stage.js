@@ -3,6 +3,7 @@
 import { around, strokeOf } from "./brush.js";
 import { addDrawn, find, setAll } from "./common.js";
 import { covers } from "./edits.js";
+import { between, orientationOf } from "./orientation.js";
 import { Pointers } from "./pointers.js";
 import { View } from "./view.js";
 import { wordsOf } from "./words.js";
@@ -61,6 +62,7 @@ export class Stage {
   /** Draws the rectangles of these edits, one of them as the selected one. */
   render(edits, selected) {
     [this.edits, this.selected] = [edits, selected];
+    this.view.orient(orientationOf(edits));
     const groups = [...this.overlay.querySelectorAll("g:not(.draft)")];
     groups.slice(edits.length).forEach((it) => it.remove());
     edits.forEach((edit, index) => {
@@ -99,17 +101,19 @@ export class Stage {
   /** Where a pointer is, in pixels of the picture. It may be outside. */
   at(event) {
     const box = this.canvas.getBoundingClientRect();
-    return [(event.clientX - box.left) / this.scale, (event.clientY - box.top) / this.scale];
+    return this.view.turned.place([(event.clientX - box.left) / this.scale, (event.clientY - box.top) / this.scale]);
   }
 
   /** The pixels from one place of a pointer to another: each that is under a pixel of the screen which it touched. */
   touched(from, to) {
     const most = [this.canvas.width, this.canvas.height];
     const inside = (value, axis) => Math.min(Math.max(value, 0), most[axis]);
-    const begin = from.map((it, axis) => Math.min(inside(Math.floor(Math.min(it, to[axis])), axis), most[axis] - 1));
-    const end = from.map(
-      (it, axis) => Math.max(inside(Math.ceil(Math.max(it, to[axis]) + 1 / this.scale), axis), begin[axis] + 1)
-    );
+    const dot = this.view.turned.step([1 / this.scale, 1 / this.scale]), ends = (axis) => {
+      const both = [from[axis], to[axis]];
+      return [...both, ...both.map((it) => it + dot[axis])];
+    };
+    const begin = most.map((it, axis) => Math.min(inside(Math.floor(Math.min(...ends(axis))), axis), it - 1));
+    const end = most.map((_, axis) => Math.max(inside(Math.ceil(Math.max(...ends(axis))), axis), begin[axis] + 1));
     return between(begin, end);
   }
 
@@ -229,9 +233,9 @@ export class Stage {
       return;
     } else if (arrow) {
       const [dx, dy] = arrow.map((it) => it * (event.ctrlKey || event.metaKey ? 10 : 1));
-      const { width, height } = this.canvas;
-      const moved = event.shiftKey ? resized : shifted;
-      this.acts.change(index, moved(edit, dx, dy, width, height), "keys");
+      const { turned } = this.view, moved = event.shiftKey ? resized : shifted;
+      const now = moved(turned.onScreen(edit), dx, dy, turned.width, turned.height);
+      this.acts.change(index, turned.inPicture(now), "keys");
     } else {
       return;
     }
@@ -256,10 +260,6 @@ function newGroup(overlay, index) {
 
 function indexOf(element) {
   return Number(element.closest("g")?.dataset.index ?? -1);
-}
-
-function between([left, top], [right, bottom]) {
-  return { left, top, width: right - left, height: bottom - top };
 }
 
 /** An edge beside another one, so that a rectangle keeps a pixel. */

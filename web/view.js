@@ -1,6 +1,7 @@
 // How large the picture is on the screen, and which part of it is seen.
 
 import { find } from "./common.js";
+import { Turned, UPRIGHT } from "./orientation.js";
 
 // The most that a picture is enlarged, and how far a key and a turn of the wheel zoom.
 const MOST_SCALE = 32, BY_KEY = 1.25, BY_WHEEL = 0.0015, BY_PINCH_OF_PAD = 0.01;
@@ -12,9 +13,22 @@ export class View {
     for (const it of ["stage", "frame", "canvas", "overlay", "zoom"]) {
       this[it] = find(it);
     }
-    [this.scale, this.isFitting] = [1, true];
+    [this.scale, this.isFitting, this.orientation] = [1, true, UPRIGHT];
     this.stage.addEventListener("wheel", (event) => this.wheel(event), { passive: false });
     window.addEventListener("resize", () => (this.isFitting ? this.fit() : this.resize(this.scale)));
+  }
+
+  /** How the picture is turned on the screen. */
+  get turned() {
+    return new Turned(this.orientation, this.canvas.width, this.canvas.height);
+  }
+
+  /** Shows the picture turned so. */
+  orient(orientation) {
+    if (`${orientation}` !== `${this.orientation}`) {
+      this.orientation = orientation;
+      this.isFitting ? this.fit() : this.resize(this.scale);
+    }
   }
 
   /** Shows the whole picture. */
@@ -26,7 +40,7 @@ export class View {
   }
 
   fitting() {
-    const { width, height } = this.canvas;
+    const { width, height } = this.turned;
     return Math.min(this.stage.clientWidth / width, this.stage.clientHeight / height, MOST_SCALE);
   }
 
@@ -55,14 +69,19 @@ export class View {
   }
 
   resize(scale) {
-    const { width, height } = this.canvas, { stage, frame } = this;
+    const { canvas, frame, overlay, stage, turned } = this, { width, height } = turned;
     [this.scale, this.isFitting] = [scale, false];
     const [wide, high] = [width * scale, height * scale];
     [frame.style.width, frame.style.height] = [`${wide}px`, `${high}px`];
     // (whole pixels, so that a pixel of the screen is one of the picture at its actual size)
     frame.style.marginLeft = `${Math.max(Math.floor((stage.clientWidth - wide) / 2), 0)}px`;
     frame.style.marginTop = `${Math.max(Math.floor((stage.clientHeight - high) / 2), 0)}px`;
-    this.canvas.style.imageRendering = scale < 1 ? "auto" : "pixelated";
+    for (const { style } of [canvas, overlay]) {
+      [style.width, style.height] = [`${canvas.width * scale}px`, `${canvas.height * scale}px`];
+      style.transform = turned.style(scale);
+    }
+    overlay.classList.toggle("swapped", turned.isSwapped);
+    canvas.style.imageRendering = scale < 1 ? "auto" : "pixelated";
     this.zoom.textContent = frame.hidden ? "" : `${Math.max(Math.round(100 * scale), 1)} %`;
     this.changed();
   }

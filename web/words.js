@@ -22,6 +22,10 @@ export function wordsOf(edit) {
       return `Mosaic of corners, ${edit.tileWidth} by ${edit.tileHeight}, ${place}`;
     case "move":
       return `Move of ${width} by ${height} from ${left}, ${top} to ${edit.x}, ${edit.y}`;
+    case "turn":
+      return edit.to === "half" ? "Turned by half" : `Turned ${edit.to}`;
+    case "flip":
+      return edit.to === "rows" ? "Mirrored, top to bottom" : "Mirrored, left to right";
     case "pad": {
       const sides = `${left} left, ${top} above, ${edit.right} right, ${edit.bottom} below`;
       return `Border: ${colourName(edit.colour)}, ${sides}`;

@@ -1,7 +1,7 @@
 """The page in a browser: keys, undo, and files that reveal nothing of what is covered."""
 import frames
 from browser import png
-from browser.picture import HEIGHT, PIXELS, WIDTH, by_model
+from browser.models import HEIGHT, PIXELS, WIDTH, by_model
 
 # Edits, a rectangle of which nothing may be seen, and one of which something is.
 HIDDEN = (

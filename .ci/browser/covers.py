@@ -3,7 +3,7 @@ import struct
 
 from browser import files, png
 from browser.driver import UP, until
-from browser.picture import by_model
+from browser.models import by_model
 
 # A picture in which a cover of the default tile is larger than 16 pixels.
 PHOTO = 1200, 900

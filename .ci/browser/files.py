@@ -2,7 +2,7 @@
 import base64
 import struct
 
-from browser import picture, png
+from browser import models, png
 from browser.driver import until
 
 # What a file may hold besides pixels: it must not be in the saved one.
@@ -74,7 +74,7 @@ def check_wrong_files(page):
     page.open()
     page.apply("fill 1,1,9,9 3")
     before = page.list(), page.shown()
-    whole = png.png(picture.WIDTH, picture.HEIGHT, picture.PIXELS)
+    whole = png.png(models.WIDTH, models.HEIGHT, models.PIXELS)
     wrong = {
         "text.png": b"this is no picture",
         "empty.png": b"",
@@ -94,13 +94,13 @@ def check_wrong_files(page):
         page.count(f"{name} changes nothing", (page.list(), page.shown()) == before)
     page.count("the page goes on", page.apply("fill 2,2,9,9 3") == "Done.")
     page.count(
-        "it still saves", png.ppm_of(page.save()) == picture.by_model("fill 2,2,9,9 3".split())
+        "it still saves", png.ppm_of(page.save()) == models.by_model("fill 2,2,9,9 3".split())
     )
 
 
 def check_given(page):
     """A file that is dropped or pasted is opened, and edited at its actual size."""
-    data = png.png(picture.WIDTH, picture.HEIGHT, picture.PIXELS)
+    data = png.png(models.WIDTH, models.HEIGHT, models.PIXELS)
     for kind in ("drop", "paste"):
         page.open(b"\1\2\3", 1, 1)
         page.browser.run("document.getElementById('status').textContent = 'Opening'")
@@ -108,7 +108,7 @@ def check_given(page):
         said = until(lambda: page.status() if not page.status().startswith("Opening") else "")
         well = said.startswith(f"{kind}.png: 60 by 40 pixels.")
         page.count(f"a {kind} opens a picture", well, said)
-        same = png.ppm_of(page.save()) == png.ppm(picture.WIDTH, picture.HEIGHT, picture.PIXELS)
+        same = png.ppm_of(page.save()) == png.ppm(models.WIDTH, models.HEIGHT, models.PIXELS)
         page.count(f"a {kind} gives its pixels", same)
     page.browser.click("#actual")
     page.choose("fill")
@@ -131,7 +131,7 @@ def check_dropped(page):
         (b"zTXt", b"Author\0\0" + b"x\x9c\x03\0\0\0\0\x01"), (b"pHYs", bytes(9))
     ]
     page.browser.run("document.getElementById('status').textContent = 'Opening'")
-    page.give("page.png", png.png(picture.WIDTH, picture.HEIGHT, picture.PIXELS, extra))
+    page.give("page.png", png.png(models.WIDTH, models.HEIGHT, models.PIXELS, extra))
     saved = page.save()
     page.count(
         "PNG: only pixels are saved",
@@ -140,7 +140,7 @@ def check_dropped(page):
     )
     page.count(
         "PNG: the pixels are",
-        png.ppm_of(saved) == png.ppm(picture.WIDTH, picture.HEIGHT, picture.PIXELS)
+        png.ppm_of(saved) == png.ppm(models.WIDTH, models.HEIGHT, models.PIXELS)
     )
     plain = in_browser(page, "jpeg")
     for orientation, size, corners in HELD:
@@ -169,7 +169,7 @@ def check_small(page):
         pixels = png.by_chance(width, height, "small")
         page.open(pixels, width, height)
         said = page.apply(text)
-        wanted = picture.by_model(text.split(), pixels, width, height)
+        wanted = models.by_model(text.split(), pixels, width, height)
         well = said == "Done." and png.ppm_of(page.save()) == wanted
         page.count(f"{width} by {height}: {text}", well, said)
     page.open(b"\1\2\3", 1, 1)
@@ -226,10 +226,10 @@ def check_large(page):
     check_large_edits(page)
     check_jpeg(page, len(saved) // 3)
     page.apply("crop 1,2,30,20")
-    cropped = picture.by_model("crop 1,2,30,20".split(), pixels[:3 * width * 40], width, 40)
+    cropped = models.by_model("crop 1,2,30,20".split(), pixels[:3 * width * 40], width, 40)
     page.count("a crop of 12 megapixels", png.ppm_of(page.save()) == cropped)
     page.open()
-    same = png.ppm_of(page.save()) == png.ppm(picture.WIDTH, picture.HEIGHT, picture.PIXELS)
+    same = png.ppm_of(page.save()) == png.ppm(models.WIDTH, models.HEIGHT, models.PIXELS)
     page.count("a small picture after a large one", same)
 
 

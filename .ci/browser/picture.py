@@ -1,11 +1,10 @@
 """The page in a browser: what it saves, by a model and by imgref_frames, and pointers."""
 import subprocess
 
-import frames
 from browser import png
 from browser.driver import until
+from browser.models import HEIGHT, PIXELS, WIDTH, by_model
 
-WIDTH, HEIGHT = 60, 40
 # Lists of edits, each for one picture: the model, imgref_frames and the page have to agree.
 LISTS = (
     "fill 10,8,20,12 0", "fill 10,8,20,12 200,30,7", "fill 0,0,60,40 255", "fill 59,39,1,1 9",
@@ -42,7 +41,7 @@ BAD = {
     "means 0,0,9,9 0,3": "A tile needs", "means 50,8,20,12 3,3": "reaches outside",
     "fill 18446744073709551616,0,1,1 1": "is not of the form fill",
     "mosaic 0,0,9,9 3": "is not of the form mosaic",
-    "FILL 0,0,1,1 1": "an edit begins with cover, fill, means, mosaic, move, crop, pad, and not with 'FILL'",
+    "FILL 0,0,1,1 1": "an edit begins with cover, fill, means, mosaic, move, crop, pad, turn, flip, and not with 'FILL'",
     "toString 0,0,1,1 1": "an edit begins with",
     "0..5 fill 0,0,1,1 1": "a picture has one frame, so leave out the range 0..5.",
     "fill 0,0,1,1 1 fill 0,0,1,1 1": "is not of the form fill",
@@ -64,7 +63,6 @@ BAD = {
 IS_PROBLEM = "return document.getElementById('status').classList.contains('problem')"
 # Whether the page has started, or has said why not.
 STARTED = "return document.documentElement?.dataset.ready"
-PIXELS = png.by_chance(WIDTH, HEIGHT, "page")
 
 
 class Page:
@@ -150,35 +148,6 @@ class Page:
 
     def count(self, label, is_well, said=""):
         self.cases.count(label, is_well, f"{said}\n{self.status()}\n{self.list()}")
-
-
-def by_means(picture, window, tile):
-    """A picture as PPM, in which each tile of a window shows the mean of its pixels."""
-    head, sizes, most, cells = picture.split(b"\n", 3)
-    wide, cells = int(sizes.split()[0]), bytearray(cells)
-    left, top, width, height = window
-    tiles = {}
-    for y in range(height):
-        for x in range(width):
-            tiles.setdefault((x // tile[0], y // tile[1]), []).append(3 * ((top + y) * wide + left + x))
-    for its in tiles.values():
-        for channel in range(3):
-            mean = (2 * sum(cells[at + channel] for at in its) + len(its)) // (2 * len(its))
-            for at in its:
-                cells[at + channel] = mean
-    return b"\n".join((head, sizes, most, bytes(cells)))
-
-
-def by_model(words, pixels=PIXELS, width=WIDTH, height=HEIGHT):
-    """The picture after these edits, one after the other."""
-    picture, begins = png.ppm(width, height, pixels), [at for at, it in enumerate(words) if it.isalpha()]
-    for begin, end in zip(begins, [*begins[1:], len(words)]):
-        word, *numbers = words[begin:end]
-        if word == "means":
-            picture = by_means(picture, *([int(it) for it in field.split(",")] for field in numbers))
-        else:
-            picture = frames.answer(picture, frames.edits_of(words[begin:end]))
-    return picture
 
 
 def check_lists(page, program):

@@ -3,7 +3,7 @@ import time
 
 from browser import png
 from browser.driver import until
-from browser.picture import HEIGHT, PIXELS, WIDTH, by_model
+from browser.models import HEIGHT, PIXELS, WIDTH, by_model
 
 # Windows: a laptop's, a phone's, and the laptop's at 200 %, with a picture for each.
 WINDOWS = {

@@ -17,7 +17,7 @@ import sys
 import urllib.request
 
 sys.path.insert(0, str(pathlib.Path(__file__).resolve().parents[2]))
-from browser import acts, covers, files, hands, layout, looks, picture, shots, views
+from browser import acts, covers, files, hands, layout, looks, picture, shots, turns, views
 from browser.driver import browser, served
 from checking import ROOT, Cases
 
@@ -141,6 +141,7 @@ def check_page(cases, program):
         acts.check_undo(page)
         acts.check_hidden(page)
         acts.check_means(page)
+        turns.check(page)
         files.check_wrong_files(page)
         files.check_given(page)
         files.check_dropped(page)
