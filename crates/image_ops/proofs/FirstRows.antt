@@ -30,7 +30,7 @@ and_assoc : (r s t : Bool) → (r && (s && t)) ≡ (r && s && t)
 and_assoc true s t = refl
 and_assoc false s t = refl
 
-pointwise_joins : {A B : Type 0} (E : A → B → Bool) (xs : List A) (ys : List B) (us : List A) (vs : List B) → length xs ≡ length ys
+pub pointwise_joins : {A B : Type 0} (E : A → B → Bool) (xs : List A) (ys : List B) (us : List A) (vs : List B) → length xs ≡ length ys
     → pointwise E (xs ++ us) (ys ++ vs) ≡ (pointwise E xs ys && pointwise E us vs)
 pointwise_joins E [] [] us vs h = refl
 pointwise_joins E [] (w ∷ ys) us vs h = absurd (omega arith)
@@ -39,7 +39,7 @@ pointwise_joins E (v ∷ xs) (w ∷ ys) us vs h =
     let i = pointwise_joins E xs ys us vs (omega arith) in
     rw i (and_assoc (E v w) (pointwise E xs ys) (pointwise E us vs))
 
-pointwise_more : {A B : Type 0} (E : A → B → Bool) (xs : List A) (ys : List B) (x : A) (y : B) → length xs ≡ length ys → pointwise E (xs ++ x ∷ []) (ys ++ y ∷ []) ≡ (pointwise E xs ys && E x y)
+pub pointwise_more : {A B : Type 0} (E : A → B → Bool) (xs : List A) (ys : List B) (x : A) (y : B) → length xs ≡ length ys → pointwise E (xs ++ x ∷ []) (ys ++ y ∷ []) ≡ (pointwise E xs ys && E x y)
 pointwise_more E xs ys x y h = pointwise_joins E xs ys (x ∷ []) (y ∷ []) h ∙ ap (λ s. pointwise E xs ys && s) (and_true (E x y))
 
 module _ {T : Type 0} (E : T → T → Bool) (a b : Layout T) where

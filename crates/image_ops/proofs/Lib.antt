@@ -1,4 +1,5 @@
 pub mod FirstRows
+pub mod ShortRows
 pub mod Elements
 pub mod EqualClones
 pub mod RowsWritten

@@ -1,34 +1,78 @@
 //! Equality: it depends on sizes and pixels, and never on stride or padding.
 
-ghost use Rattle.std.specs.Prelude.{◌≡◌};
+ghost use Rattle.std.specs.Prelude.{◌≡◌, ◌*◌, ◌<◌, ◌≤◌, length};
 ghost use Rattle.std.specs.Cmp.Lexicographic.{pointwise};
 ghost use Rattle.image_model.specs.Layout.{Fits};
 ghost use Rattle.image_model.specs.Rows.{rows as rows_of};
 ghost use Rattle.image_model.specs.Alike.{is_alike};
-ghost use Rattle.image_shape.specs.Shape.{shaped};
+ghost use Rattle.image_shape.specs.Shape.{shape_width, shaped};
 ghost use Rattle.image_ops.specs.Written.{HaveSameSize};
 
 use crate::joining::fewest_rows;
+use crate::short::{have_equal_ends, part_of_small_row};
 use image_rows::row;
 use image_shape::Shape;
 
-// Whether the rows of two images of one size are equal, one by one.
-fn have_equal_rows<T: PartialEq>(
+// Whether the rows of two images of one size are equal, one by one: rows of `N` to `2 * N` cells by
+// their two ends, and at 0 any rows.
+fn have_equal_rows<T: PartialEq, const N: usize>(
     first: &[T],
     first_shape: Shape,
     second: &[T],
     second_shape: Shape,
 ) -> bool
-    requires { HaveSameSize first.now first_shape second.now second_shape }
+    requires enough { N ≤ shape_width first_shape }
+    requires few { 0 < N → shape_width first_shape ≤ 2 * N }
+    requires sizes { HaveSameSize first.now first_shape second.now second_shape }
     ensures { result ≡ pointwise (pointwise T.eq) (rows_of (shaped first.now first_shape))
         (rows_of (shaped second.now second_shape)) }
 {
     for y in 0..first_shape.row_count() {
-        if row(first, first_shape, y) != row(second, second_shape, y) {
+        let line = row(first, first_shape, y);
+        let other = row(second, second_shape, y);
+        if !are_equal_lines::<T, N>(line, other) {
             return false;
         }
     }
     true
+}
+
+// Whether two rows are equal.
+#[inline(always)]
+fn are_equal_lines<T: PartialEq, const N: usize>(line: &[T], other: &[T]) -> bool
+    requires as_many { length line.now ≡ length other.now }
+    requires enough { N ≤ length line.now }
+    requires few { 0 < N → length line.now ≤ 2 * N }
+    ensures { result ≡ pointwise T.eq line.now other.now }
+{
+    if N > 0 {
+        have_equal_ends::<T, N>(line, other)
+    } else {
+        line == other
+    }
+}
+
+// The same by the rows' width, which is looked at once. Cells of 8 bytes and more may hold a
+// pointer, and then what it points to: they are compared in turn, up to the first that differs.
+fn are_equal_by_width<T: PartialEq>(
+    first: &[T],
+    first_shape: Shape,
+    second: &[T],
+    second_shape: Shape,
+) -> bool
+    requires sizes { HaveSameSize first.now first_shape second.now second_shape }
+    ensures { result ≡ pointwise (pointwise T.eq) (rows_of (shaped first.now first_shape))
+        (rows_of (shaped second.now second_shape)) }
+{
+    match part_of_small_row(first, first_shape.width()) {
+        32 => have_equal_rows::<T, 32>(first, first_shape, second, second_shape),
+        16 => have_equal_rows::<T, 16>(first, first_shape, second, second_shape),
+        8 => have_equal_rows::<T, 8>(first, first_shape, second, second_shape),
+        4 => have_equal_rows::<T, 4>(first, first_shape, second, second_shape),
+        2 => have_equal_rows::<T, 2>(first, first_shape, second, second_shape),
+        1 => have_equal_rows::<T, 1>(first, first_shape, second, second_shape),
+        _ => have_equal_rows::<T, 0>(first, first_shape, second, second_shape),
+    }
 }
 
 /// Whether two images that fit are equal: they have the same size and equal pixels.
@@ -50,7 +94,7 @@ pub fn are_equal_fitting<T: PartialEq>(
         return false;
     }
     let (one, other) = fewest_rows(first_shape, second_shape);
-    have_equal_rows(first, one, second, other)
+    are_equal_by_width(first, one, second, other)
 }
 
 /// Whether two images are equal: they have the same size, and either both fit and their rows are

@@ -30,6 +30,7 @@ mod pixel_flips;
 mod pixel_turning;
 mod places;
 mod repeating;
+mod short;
 mod squares;
 mod swapping;
 mod turning;

@@ -62,15 +62,19 @@ fn copy_pair<T: Copy>(cells: &mut [T], start: usize, len: usize, target: usize)
     cells[target + len - 1] = last;
 }
 
-/// Copies at most 16 cells.
+/// Copies at most 64 cells.
 #[inline(always)]
 pub(crate) fn copy_few<T: Copy>(cells: &mut [T], start: usize, len: usize, target: usize)
-    requires few { len ≤ 16 }
+    requires few { len ≤ 64 }
     requires source { start + len ≤ length cells.old }
     requires target { target + len ≤ length cells.old }
     ensures { cells.new ≡ shifted cells.old start len target }
 {
-    if len > 8 {
+    if len > 32 {
+        copy_ends::<T, 32>(cells, start, len, target);
+    } else if len > 16 {
+        copy_ends::<T, 16>(cells, start, len, target);
+    } else if len > 8 {
         copy_ends::<T, 8>(cells, start, len, target);
     } else if len > 4 {
         copy_ends::<T, 4>(cells, start, len, target);

@@ -77,13 +77,13 @@ impl<'a, T: Copy> RowMover<'a, T> {
 }
 
 // The most cells, and the most bytes, of a short stretch.
-const FEW: usize = 16;
+const FEW: usize = 64;
 
 // Whether a stretch of so many cells is so short that the tests of the longer ones, and a call of
 // `memmove`, would take longer than its copy. Cells of three bytes have no register of their size.
 #[inline(always)]
 fn is_short<T>(cells: &[T], len: usize) -> bool
-    ensures { IsTrue result → len ≤ 16 }
+    ensures { IsTrue result → len ≤ 64 }
 {
     let Some(cell) = cells.first() else {
         return false;

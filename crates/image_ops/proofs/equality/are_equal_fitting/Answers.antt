@@ -9,6 +9,6 @@ returns g c =
     let t = c.args.second_shape in
     let wide : s.width ≡ t.width = omega (arith, c.if-width.false, c.width.ensures.value, c.width-2.ensures.value) in
     let high : s.height ≡ t.height = omega (arith, c.if-height.false, c.height.ensures.value, c.height-else-width.ensures.value) in
-    let same = c.have_equal_rows.ensures
+    let same = c.are_equal_by_width.ensures
     ∙ same_result s t _ _ wide high c.fewest_rows.ensures g.T.PartialEq.eq c.args.first.now c.args.second.now c.requires.first_fits c.requires.second_fits in
     search (rules, same)

@@ -1,5 +1,5 @@
 use Rattle.row_mover.proofs.Moving.{IsMovedPart}
-use Rattle.row_mover.proofs.mover.RowMover.move_rows.Given as goal
+use Rattle.row_mover.proofs.mover.RowMover.move_each.Given as goal
 
 abbrev pub invariant-loop-y : goal.invariant-loop-y
 invariant-loop-y g l = IsMovedPart l.initial.self l.self l.stride l.from l.to l.width 0 l.y

@@ -1,0 +1,101 @@
+//! Rows of few bytes: their first and their last cells, which may overlap, are all of them.
+//!
+//! Both parts have a length that the compiler knows. So a row goes by registers, and there is no
+//! call and no test in it. The length is chosen once for an image.
+
+ghost use Rattle.std.specs.Prelude.{◌≡◌, ◌*◌, ◌<◌, ◌≤◌, length};
+ghost use Rattle.std.specs.Cmp.Lexicographic.{pointwise};
+
+use std::mem::size_of_val;
+
+// The most cells, and the most bytes, of a short row.
+const FEW: usize = 64;
+
+/// How many cells each part of a row of `width` cells has, where the row is short. It is 0 where it
+/// isn't, where there is no cell, and for cells that have no register of their size.
+#[inline(always)]
+pub(crate) fn part_of_row<T>(cells: &[T], width: usize) -> usize
+    ensures enough { result ≤ width }
+    ensures few { 0 < result → width ≤ 2 * result }
+{
+    let Some(cell) = cells.first() else {
+        return 0;
+    };
+    let size = size_of_val(cell);
+    if !matches!(size, 1 | 2 | 4 | 8 | 16) || width > FEW || width * size > FEW {
+        return 0;
+    }
+    if width > 32 {
+        32
+    } else if width > 16 {
+        16
+    } else if width > 8 {
+        8
+    } else if width > 4 {
+        4
+    } else if width > 2 {
+        2
+    } else {
+        width.min(1)
+    }
+}
+
+/// The same for cells of at most four bytes. Larger ones may hold a pointer.
+#[inline(always)]
+pub(crate) fn part_of_small_row<T>(cells: &[T], width: usize) -> usize
+    ensures enough { result ≤ width }
+    ensures few { 0 < result → width ≤ 2 * result }
+{
+    match cells.first() {
+        Some(cell) if size_of_val(cell) <= 4 => part_of_row(cells, width),
+        _ => 0,
+    }
+}
+
+/// Copies a row of `N` to `2 * N` cells, as the first and the last `N`. They are read into
+/// registers first: between two lists the compiler would test whether these overlap.
+#[inline(always)]
+pub(crate) fn copy_ends<T: Copy, const N: usize>(cells: &mut [T], source: &[T])
+    requires some { 0 < N }
+    requires as_many { length cells.old ≡ length source.now }
+    requires enough { N ≤ length cells.old }
+    requires few { length cells.old ≤ 2 * N }
+    ensures len { length cells.new ≡ length cells.old }
+    ensures after { cells.new ≡ source.now }
+{
+    let start = cells.len() - N;
+    let mut first = [source[0]; N];
+    let mut last = [source[0]; N];
+    first.as_mut_slice().copy_from_slice(&source[..N]);
+    last.as_mut_slice()
+        .copy_from_slice(&source[start..start + N]);
+    cells[..N].copy_from_slice(first.as_slice());
+    cells[start..start + N].copy_from_slice(last.as_slice());
+}
+
+// Whether `N` cells are equal one by one. No cell ends the loop, so it becomes vectors.
+#[inline(always)]
+fn are_all_equal<T: PartialEq, const N: usize>(first: &[T], second: &[T]) -> bool
+    requires as_many { length first.now ≡ N }
+    requires as_many_too { length second.now ≡ N }
+    ensures { result ≡ pointwise T.eq first.now second.now }
+{
+    let mut same = true;
+    for x in 0..N {
+        same &= first[x] == second[x];
+    }
+    same
+}
+
+/// Whether two rows of `N` to `2 * N` cells are equal: the first and the last `N` are.
+#[inline(always)]
+pub(crate) fn have_equal_ends<T: PartialEq, const N: usize>(first: &[T], second: &[T]) -> bool
+    requires as_many { length first.now ≡ length second.now }
+    requires enough { N ≤ length first.now }
+    requires few { length first.now ≤ 2 * N }
+    ensures { result ≡ pointwise T.eq first.now second.now }
+{
+    let start = first.len() - N;
+    let front = are_all_equal::<T, N>(&first[..N], &second[..N]);
+    front & are_all_equal::<T, N>(&first[start..], &second[start..])
+}
