@@ -24,31 +24,31 @@ abbrev pub PairsCrossed : {T : Type 0} → ℕ → ℕ → ℕ → List T → Li
 PairsCrossed top below left old new s = PlacesCrossed (pair_done top below left) old new s
 
 -- the points of the loops
-none_done : (a b : ℕ) → is_done 0 0 0 a b ≡ false
+pub none_done : (a b : ℕ) → is_done 0 0 0 a b ≡ false
 none_done a b = grind (arith, nat_tests)
 
-at_row_start : (top below a b : ℕ) → b ≤ a → is_done top top 0 a b ≡ is_done top below top a b
+pub at_row_start : (top below a b : ℕ) → b ≤ a → is_done top top 0 a b ≡ is_done top below top a b
 at_row_start top below a b order = grind (arith, nat_tests, order)
 
-at_row_end : (top below left a b : ℕ) → a < left → top ≤ below → is_done top below left a b ≡ is_done below below 0 a b
+pub at_row_end : (top below left a b : ℕ) → a < left → top ≤ below → is_done top below left a b ≡ is_done below below 0 a b
 at_row_end top below left a b wide later = grind (arith, nat_tests, wide, later)
 
-first_done : (top a b : ℕ) → b < top → is_done top top 0 a b ≡ true
+pub first_done : (top a b : ℕ) → b < top → is_done top top 0 a b ≡ true
 first_done top a b here = grind (arith, nat_tests, here)
 
-this_before : (top below left a b : ℕ) → top ≤ b → left ≤ a → is_done top below left a b ≡ false
+pub this_before : (top below left a b : ℕ) → top ≤ b → left ≤ a → is_done top below left a b ≡ false
 this_before top below left a b line column = grind (arith, nat_tests, line, column)
 
-this_after : (top below right a b : ℕ) → b < below → a < right → is_done top below right a b ≡ true
+pub this_after : (top below right a b : ℕ) → b < below → a < right → is_done top below right a b ≡ true
 this_after top below right a b line column = grind (arith, nat_tests, line, column)
 
-other_same : (top below left right a b : ℕ) → left ≤ right → ((top ≤ b) × (b < below) × (left ≤ a) × (a < right) → ⊥) → is_done top below left a b ≡ is_done top below right a b
+pub other_same : (top below left right a b : ℕ) → left ≤ right → ((top ≤ b) × (b < below) × (left ≤ a) × (a < right) → ⊥) → is_done top below left a b ≡ is_done top below right a b
 other_same top below left right a b more other = grind (arith, nat_tests, more, other)
 
 -- a pair of blocks of which the first is on the diagonal, or to the right of it
 module _ (left top width height : ℕ) (on : ((left ≡ top) × (width ≡ height)) ⊎ (top + height ≤ left)) where
   -- a place is in one of them where the pair has such a column and such a row
-  across : (u v : ℕ) → is_across left top width height u v ≡ true → (top ≤ min u v) × (min u v < top + height) × (left ≤ max u v) × (max u v < left + width)
+  pub across : (u v : ℕ) → is_across left top width height u v ≡ true → (top ≤ min u v) × (min u v < top + height) × (left ≤ max u v) × (max u v < left + width)
   across u v hit =
       elim (cases_Bool (covers left top width height u v)) [
         | inl upper ↦
@@ -66,7 +66,7 @@ module _ (left top width height : ℕ) (on : ((left ≡ top) × (width ≡ heigh
       ]
 
   -- and in none where it hasn't
-  beside : (u v : ℕ) → is_across left top width height u v ≡ false → (top ≤ min u v) × (min u v < top + height) × (left ≤ max u v) × (max u v < left + width) → ⊥
+  pub beside : (u v : ℕ) → is_across left top width height u v ≡ false → (top ≤ min u v) × (min u v < top + height) × (left ≤ max u v) × (max u v < left + width) → ⊥
   beside u v miss there =
       let none = both_false (covers left top width height u v) (covers top left height width u v) miss in
       elim (cases_lt u v) [

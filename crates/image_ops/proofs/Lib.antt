@@ -29,6 +29,7 @@ pub mod QuarterBlocks
 pub mod PlacesCrossed
 pub mod SquareBlocks
 pub mod BlockPairs
+pub mod PixelPairs
 pub mod BlockSpreading
 pub mod CountedUpto
 pub mod Windowed

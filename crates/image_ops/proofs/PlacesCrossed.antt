@@ -1,5 +1,5 @@
 -- Squares of which some places have changed places with those across the diagonal: two blocks that do, and blocks one after the other.
-use Rattle.std.proofs.Common.{◌≡◌, ℕ, ◌+◌, ◌-◌, ◌<◌, ◌≤◌, Bool, true, false, List, Option, refl, sym, ap, ◌∙◌, arith, inl, inr, if◌then◌else◌, ◌||◌}
+use Rattle.std.proofs.Common.{◌≡◌, ℕ, ◌+◌, ◌-◌, ◌<◌, Bool, true, false, List, Option, refl, sym, ap, ◌∙◌, arith, inl, inr, if◌then◌else◌, ◌||◌}
 use Rattle.std.proofs.lemmas.Bool.{cases_Bool, cond-true, cond-false, true≢false}
 use Rattle.image_model.specs.Layout.{SameOutside, pixel}
 use Rattle.image_model.specs.Grid.{Grid, grid, grid_of, covers, patch, view}

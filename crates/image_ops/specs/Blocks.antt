@@ -1,4 +1,4 @@
--- Blocks of 16 by 16 cells, and images that are read row by row.
+-- Blocks of cells and of pixels, and images that are read row by row.
 use Rattle.std.specs.Prelude.{ℕ, List, ◌+◌, ◌-◌, ◌*◌, ◌/◌, ◌%◌, Bool, true, false, ◌&&◌, ◌||◌, nat_lt, nat_le, if◌then◌else◌}
 use Rattle.image_model.specs.Grid.{Grid, grid, grid_of, covers}
 use Rattle.image_model.specs.Layout.{layout}
@@ -31,6 +31,10 @@ is_across left top width height x y = covers left top width height x y || covers
 -- the places of both blocks have changed places with those across the diagonal
 abbrev pub crossed_at : {T : Type 0} → ℕ → ℕ → ℕ → ℕ → Grid T → Grid T
 crossed_at left top width height g = grid g.width g.height (λ x y. if is_across left top width height x y then g.pixel y x else g.pixel x y)
+
+-- the pixels of both blocks have, where each has so many cells next to one another in a row
+abbrev pub pixels_crossed_at : {T : Type 0} → ℕ → ℕ → ℕ → ℕ → ℕ → Grid T → Grid T
+pixels_crossed_at size left top width height g = grid g.width g.height (λ x y. if is_across left top width height (x / size) y then g.pixel (y * size + x % size) (x / size) else g.pixel x y)
 
 -- so have the places of the first so many columns and rows
 abbrev pub corner_crossed : {T : Type 0} → ℕ → Grid T → Grid T

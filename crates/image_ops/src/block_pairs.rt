@@ -19,9 +19,10 @@ use crate::turning::{Quarter, quarter_rows};
 use crate::windows::{exact_part, padded_part};
 use image_shape::{Shape, Window};
 
-// The block becomes the pixels of the window, in the shape that is returned.
+// The block becomes the pixels of the window, in the shape that is returned. Its rows have room for
+// `WIDTH` cells, and there are up to `HEIGHT` of them.
 #[inline(always)]
-fn copy_block<T: Copy, const SIDE: usize>(
+pub(crate) fn copy_block<T: Copy, const WIDTH: usize, const HEIGHT: usize>(
     block: &mut [T],
     cells: &[T],
     shape: Shape,
@@ -29,10 +30,10 @@ fn copy_block<T: Copy, const SIDE: usize>(
 ) -> Shape
     requires fits { Fits (shaped cells.now shape) }
     requires inside { IsInside (shape_width shape) (shape_height shape) (as_window window) }
-    requires some { 0 < SIDE }
-    requires narrow { window.width ≤ SIDE }
-    requires low { window.height ≤ SIDE }
-    requires room { SIDE * SIDE ≤ length block.old }
+    requires some { 0 < WIDTH }
+    requires narrow { window.width ≤ WIDTH }
+    requires low { window.height ≤ HEIGHT }
+    requires room { WIDTH * HEIGHT ≤ length block.old }
     ensures width { shape_width result ≡ window.width }
     ensures height { shape_height result ≡ window.height }
     ensures fits { Fits (shaped block.new result) }
@@ -41,7 +42,7 @@ fn copy_block<T: Copy, const SIDE: usize>(
     ensures as_many { length block.new ≡ length block.old }
 {
     let (part, part_shape) = padded_part(cells, shape, window);
-    let near = Shape::new(window.width, window.height, SIDE);
+    let near = Shape::new(window.width, window.height, WIDTH);
     read_rows(block, near, part, part_shape, false);
     near
 }
@@ -91,8 +92,8 @@ fn cross_pair<T: Copy, const SIDE: usize>(
     ensures as_many_lower { length lower.new ≡ length lower.old }
 {
     let across = Window::new(window.top, window.left, window.height, window.width);
-    let upper_shape = copy_block::<T, SIDE>(upper, cells, shape, window);
-    let lower_shape = copy_block::<T, SIDE>(lower, cells, shape, across);
+    let upper_shape = copy_block::<T, SIDE, SIDE>(upper, cells, shape, window);
+    let lower_shape = copy_block::<T, SIDE, SIDE>(lower, cells, shape, across);
     write_across(cells, shape, across, upper, upper_shape);
     write_across(cells, shape, window, lower, lower_shape);
 }

@@ -91,7 +91,7 @@ fn take_pixels<T: Copy, const N: usize>(
 // Every pixel of `shape` in `cells` becomes the pixel of the source that the columns from `left` on
 // get.
 #[inline(always)]
-fn orient_rows<T: Copy, const N: usize>(
+pub(crate) fn orient_rows<T: Copy, const N: usize>(
     cells: &mut [T],
     shape: Shape,
     left: usize,

@@ -3,7 +3,7 @@
 ghost use Rattle.std.specs.Prelude.{◌≡◌, ◌+◌, ◌<◌, ◌≤◌, length};
 ghost use Rattle.image_model.specs.Layout.{Fits, SameOutside};
 ghost use Rattle.image_model.specs.Swaps.{StretchesSwapped, rows_swapped};
-ghost use Rattle.image_shape.specs.Shape.{shape_height, shaped_grid, shaped};
+ghost use Rattle.image_shape.specs.Shape.{shape_width, shape_height, shape_stride, shaped_grid, shaped};
 ghost use Rattle.image_ops.specs.Written.{Becomes};
 
 use image_shape::{Shape, Stretch};
@@ -17,6 +17,46 @@ fn swap_stretches<T>(cells: &mut [T], first: Stretch, second: Stretch)
 {
     let (front, back) = cells.split_at_mut(second.start);
     front[first.range()].swap_with_slice(&mut back[..second.len]);
+}
+
+// The same of stretches of `N` cells. Each is read whole before one is written.
+#[inline(always)]
+fn swap_few<T: Copy, const N: usize>(cells: &mut [T], first: usize, second: usize)
+    requires some { 0 < N }
+    requires apart { first + N ≤ second }
+    requires inside { second + N ≤ length cells.old }
+    ensures { StretchesSwapped cells.old cells.new first second N }
+{
+    let mut front = [cells[first]; N];
+    let mut back = [cells[second]; N];
+    front
+        .as_mut_slice()
+        .copy_from_slice(&cells[first..first + N]);
+    back.as_mut_slice()
+        .copy_from_slice(&cells[second..second + N]);
+    cells[first..first + N].copy_from_slice(back.as_slice());
+    cells[second..second + N].copy_from_slice(front.as_slice());
+}
+
+// Two rows of `N` cells change places, the upper one first. There is no padding.
+#[inline(always)]
+pub(crate) fn swap_pixels<T: Copy, const N: usize>(
+    cells: &mut [T],
+    shape: Shape,
+    upper: usize,
+    lower: usize,
+)
+    requires some { 0 < N }
+    requires width { shape_width shape ≡ N }
+    requires stride { shape_stride shape ≡ N }
+    requires fits { Fits (shaped cells.old shape) }
+    requires order { upper < lower }
+    requires below { lower < shape_height shape }
+    ensures { Becomes shape cells.old cells.new
+        (rows_swapped upper lower (shaped_grid cells.old shape)) }
+{
+    let _reach = shape.row(cells.len(), lower);
+    swap_few::<T, N>(cells, upper * N, lower * N);
 }
 
 // The same of two rows, the upper one first.

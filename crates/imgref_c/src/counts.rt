@@ -5,7 +5,7 @@ ghost use Rattle.std.specs.Prelude.{◌≡◌, ◌*◌, length};
 ghost use Rattle.imgref_c.specs.Words.{as_window, code, in_cells, pixel_window_status, seen, times_shown, Gives};
 
 use crate::images::ClaimedShape;
-use crate::pixels::{are_pixels, window_of_cells};
+use crate::pixels::pixel_window;
 use crate::status::Status;
 use image_ops::{count_value, padded_part};
 use image_shape::Window;
@@ -25,14 +25,11 @@ pub(crate) fn count<T: PartialEq>(
         (in_cells (length value.now) (as_window window)))) }
 {
     let channels = value.len();
-    if !are_pixels(cells.len(), claimed, channels) {
-        return Status::NotAnImage;
-    }
-    if !window.is_inside(claimed.width, claimed.height) {
-        return Status::WindowOutside;
-    }
-    let shape = claimed.with_width(channels * claimed.width).shape();
-    let (part, part_shape) = padded_part(cells, shape, window_of_cells(shape, channels, window));
+    let (shape, part) = match pixel_window(cells.len(), claimed, channels, window) {
+        Ok(parts) => parts,
+        Err(status) => return status,
+    };
+    let (part, part_shape) = padded_part(cells, shape, part);
     *count = count_value(part, part_shape, value);
     Status::Done
 }

@@ -4,7 +4,7 @@ ghost use Rattle.std.specs.Prelude.{◌≡◌, ◌*◌, length};
 ghost use Rattle.imgref_c.specs.Words.{as_window, code, flipped, grid_of, in_cells, layout, mirrored_by, pixel_window_status, rows_status, rows_swapped, seen, Writes};
 
 use crate::images::ClaimedShape;
-use crate::pixels::{are_pixels, window_of_cells};
+use crate::pixels::{are_pixels, pixel_window};
 use crate::status::Status;
 use image_ops::{flip_window_columns, flip_window_rows};
 use image_shape::Window;
@@ -23,14 +23,11 @@ pub(crate) fn flip_rows<T>(
         (flipped (seen (channels * claimed.width) claimed.height claimed.stride cells.old
         (in_cells channels (as_window window)))) }
 {
-    if !are_pixels(cells.len(), claimed, channels) {
-        return Status::NotAnImage;
-    }
-    if !window.is_inside(claimed.width, claimed.height) {
-        return Status::WindowOutside;
-    }
-    let shape = claimed.with_width(channels * claimed.width).shape();
-    flip_window_rows(cells, shape, window_of_cells(shape, channels, window));
+    let (shape, part) = match pixel_window(cells.len(), claimed, channels, window) {
+        Ok(parts) => parts,
+        Err(status) => return status,
+    };
+    flip_window_rows(cells, shape, part);
     Status::Done
 }
 
@@ -48,14 +45,10 @@ pub(crate) fn flip_columns<T: Copy>(
         (mirrored_by channels (seen (channels * claimed.width) claimed.height claimed.stride
         cells.old (in_cells channels (as_window window)))) }
 {
-    if !are_pixels(cells.len(), claimed, channels) {
-        return Status::NotAnImage;
-    }
-    if !window.is_inside(claimed.width, claimed.height) {
-        return Status::WindowOutside;
-    }
-    let shape = claimed.with_width(channels * claimed.width).shape();
-    let part = window_of_cells(shape, channels, window);
+    let (shape, part) = match pixel_window(cells.len(), claimed, channels, window) {
+        Ok(parts) => parts,
+        Err(status) => return status,
+    };
     flip_window_columns(cells, shape, part, channels, window.width);
     Status::Done
 }

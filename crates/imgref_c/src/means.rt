@@ -7,7 +7,7 @@ ghost use Rattle.std.specs.Prelude.{◌≡◌, ◌*◌, ◌<◌, ◌^◌, length
 ghost use Rattle.imgref_c.specs.Words.{as_window, code, in_cells, means_of, means_by, pixel_mosaic_status, seen, Writes};
 
 use crate::images::ClaimedShape;
-use crate::pixels::{are_pixels, window_of_cells};
+use crate::pixels::pixel_window;
 use crate::status::Status;
 use image_ops::{Sample, mean_window};
 use image_shape::Window;
@@ -29,17 +29,13 @@ fn mosaic_means<T: Sample>(
         (means_by T.number T.sample channels tile_width tile_height (seen (channels * claimed.width)
         claimed.height claimed.stride cells.old (in_cells channels (as_window window)))) }
 {
-    if !are_pixels(cells.len(), claimed, channels) {
-        return Status::NotAnImage;
-    }
-    if !window.is_inside(claimed.width, claimed.height) {
-        return Status::WindowOutside;
-    }
+    let (shape, part) = match pixel_window(cells.len(), claimed, channels, window) {
+        Ok(parts) => parts,
+        Err(status) => return status,
+    };
     if tile_width == 0 || tile_height == 0 {
         return Status::NoTile;
     }
-    let shape = claimed.with_width(channels * claimed.width).shape();
-    let part = window_of_cells(shape, channels, window);
     mean_window(cells, shape, part, channels, tile_width, tile_height);
     Status::Done
 }

@@ -2,8 +2,8 @@
 //!
 //! Sizes and windows are counted in pixels, and strides in cells.
 
-ghost use Rattle.std.specs.Prelude.{◌≡◌, ◌+◌, ◌*◌, ◌≤◌, ◌↔◌, IsTrue, length};
-ghost use Rattle.image_shape.specs.Shape.{shape_width, shape_height};
+ghost use Rattle.std.specs.Prelude.{◌≡◌, ◌+◌, ◌*◌, ◌<◌, ◌≤◌, ◌↔◌, IfErr, IfOk, IsTrue, length};
+ghost use Rattle.image_shape.specs.Shape.{shape_width, shape_height, shape_stride};
 ghost use Rattle.imgref_c.specs.Words.{as_window, code, in_cells, is_pixel_image, mosaic_by, pixel_mosaic_status, pixel_window_status, repeated, seen, IsInside, IsPixelImage, Writes};
 
 use crate::images::ClaimedShape;
@@ -29,7 +29,7 @@ pub(crate) fn are_pixels(len: usize, claimed: ClaimedShape, channels: usize) -> 
 }
 
 // The window of cells that a window of pixels is, inside the shape of the cells.
-pub(crate) fn window_of_cells(shape: Shape, channels: usize, window: Window) -> Window
+fn window_of_cells(shape: Shape, channels: usize, window: Window) -> Window
     requires pixels { channels * (window.left + window.width) ≤ shape_width shape }
     requires rows { window.top + window.height ≤ shape_height shape }
     ensures window { as_window result ≡ in_cells channels (as_window window) }
@@ -43,6 +43,38 @@ pub(crate) fn window_of_cells(shape: Shape, channels: usize, window: Window) -> 
         channels * window.width,
         window.height,
     )
+}
+
+// The shape of the cells and the window of cells, or the test of the image or of the window that fails.
+#[inline(always)]
+pub(crate) fn pixel_window(
+    len: usize,
+    claimed: ClaimedShape,
+    channels: usize,
+    window: Window,
+) -> Result<(Shape, Window), Status>
+    ensures done { IfOk result (λ _. pixel_window_status channels len claimed.width claimed.height
+        claimed.stride (as_window window) ≡ Status.Done) }
+    ensures refused { IfErr result (λ status. status ≡ pixel_window_status channels len
+        claimed.width claimed.height claimed.stride (as_window window)) }
+    ensures counted { IfErr result (λ status. 0 < code status) }
+    ensures image { IfOk result (λ _. IsPixelImage channels len claimed.width claimed.height
+        claimed.stride) }
+    ensures width { IfOk result (λ parts. shape_width parts.0 ≡ channels * claimed.width) }
+    ensures height { IfOk result (λ parts. shape_height parts.0 ≡ claimed.height) }
+    ensures stride { IfOk result (λ parts. shape_stride parts.0 ≡ claimed.stride) }
+    ensures window { IfOk result (λ parts. as_window parts.1 ≡ in_cells channels (as_window window)) }
+    ensures inside { IfOk result (λ parts. IsInside (shape_width parts.0) (shape_height parts.0)
+        (as_window parts.1)) }
+{
+    if !are_pixels(len, claimed, channels) {
+        return Err(Status::NotAnImage);
+    }
+    if !window.is_inside(claimed.width, claimed.height) {
+        return Err(Status::WindowOutside);
+    }
+    let shape = claimed.with_width(channels * claimed.width).shape();
+    Ok((shape, window_of_cells(shape, channels, window)))
 }
 
 // Every pixel of the window becomes `pixel`.
@@ -59,14 +91,10 @@ pub(crate) fn fill_pixels<T: Copy>(
         (repeated (length pixel.now * window.width) window.height pixel.now) }
 {
     let channels = pixel.len();
-    if !are_pixels(cells.len(), claimed, channels) {
-        return Status::NotAnImage;
-    }
-    if !window.is_inside(claimed.width, claimed.height) {
-        return Status::WindowOutside;
-    }
-    let shape = claimed.with_width(channels * claimed.width).shape();
-    let part = window_of_cells(shape, channels, window);
+    let (shape, part) = match pixel_window(cells.len(), claimed, channels, window) {
+        Ok(parts) => parts,
+        Err(status) => return status,
+    };
     repeat_window(cells, shape, part, pixel);
     Status::Done
 }
@@ -87,17 +115,13 @@ pub(crate) fn mosaic_pixels<T: Copy>(
         (mosaic_by channels tile_width tile_height (seen (channels * claimed.width) claimed.height
         claimed.stride cells.old (in_cells channels (as_window window)))) }
 {
-    if !are_pixels(cells.len(), claimed, channels) {
-        return Status::NotAnImage;
-    }
-    if !window.is_inside(claimed.width, claimed.height) {
-        return Status::WindowOutside;
-    }
+    let (shape, part) = match pixel_window(cells.len(), claimed, channels, window) {
+        Ok(parts) => parts,
+        Err(status) => return status,
+    };
     if tile_width == 0 || tile_height == 0 {
         return Status::NoTile;
     }
-    let shape = claimed.with_width(channels * claimed.width).shape();
-    let part = window_of_cells(shape, channels, window);
     mosaic_window_by(cells, shape, part, channels, tile_width, tile_height);
     Status::Done
 }

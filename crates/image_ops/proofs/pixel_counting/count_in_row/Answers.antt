@@ -1,9 +1,6 @@
 -- One pixel more, and all pixels.
-use Rattle.std.proofs.Common.{◌≡◌, ℕ, ◌+◌, ◌-◌, ◌*◌, ◌/◌, ◌<◌, Bool, List, length, take, drop, get_or, sym, ap, ◌∙◌, arith, count_by, true, false}
+use Rattle.std.proofs.Common.{◌≡◌, ℕ, ◌+◌, ◌-◌, ◌*◌, ◌/◌, ◌<◌, length, take, drop, sym, ap, ◌∙◌, arith}
 use Rattle.std.specs.Cmp.Lexicographic.{pointwise}
-use Rattle.std.specs.List.{range_with_len}
-use Rattle.std.proofs.lemmas.List.Sums.{count_by_more_yes, count_by_more_no}
-use Rattle.std.proofs.lemmas.List.FromFn.{length-range_with_len, get_or-range_with_len}
 use Rattle.image_ops.specs.PixelCounts.{has_value, times_in_row}
 use Rattle.image_ops.proofs.PixelCounts.{more, fewer, all_counted}
 use Rattle.image_ops.proofs.pixel_counting.count_in_row.Goals as goal

@@ -1,5 +1,5 @@
 -- No row is counted yet.
-use Rattle.std.proofs.Common.{rules, ◌≡◌, ℕ, ◌+◌, ◌<◌, ◌*◌, ◌^◌, ◌∙◌, sym, ap, length, List, sum_by, arith}
+use Rattle.std.proofs.Common.{rules, ◌≡◌, ℕ, ◌+◌, ◌<◌, ◌*◌, ◌^◌, ◌∙◌, ap, length, List, sum_by, arith}
 use Rattle.std.specs.List.{flat_map}
 use Rattle.image_model.specs.Rows.{grid_pixels, grid_rows}
 use Rattle.image_model.proofs.Rows.{grid_joined_rows_of, length-joined_rows}

@@ -3,5 +3,5 @@ use Rattle.std.proofs.Common.{◌∙◌}
 use Rattle.image_ops.proofs.PixelFlips.{mirrored_cells}
 use Rattle.image_ops.proofs.pixel_flips.mirror_pixels.Goals as goal
 
-pub returns-then-size-eq1-clause-grid : goal.returns-then-size-eq1-clause-grid
-returns-then-size-eq1-clause-grid g c = c.flip_columns.ensures.grid ∙ mirrored_cells c.args.size _ c.if-size-eq1.true
+pub returns-in-1-clause-grid : goal.returns-in-1-clause-grid
+returns-in-1-clause-grid g c = c.flip_columns.ensures.grid ∙ mirrored_cells c.args.size _ c.in-1.is

@@ -12,5 +12,5 @@ returns-clause-turned g c =
     let a = c.args in
     let made = c.new.ensures in
     let same : (cells : List g.row.T.Denot) → shaped cells c.new.result ≡ layout cells a.size a.count a.size = λ cells i. layout cells (made.width i) (made.height i) (made.stride i) in
-    row_reversed a.size a.count a.row.now c.flip_rows.new.cells c.requires.some (c.flip_rows.ensures.outside.length_stays ∙ c.requires.many)
-    (ap (λ (l : Layout g.row.T.Denot). grid_of l) (sym (same c.flip_rows.new.cells)) ∙ c.flip_rows.ensures.grid ∙ ap (λ (l : Layout g.row.T.Denot). flipped (grid_of l)) (same a.row.now))
+    row_reversed a.size a.count a.row.now c.flip_sized.new.cells c.requires.some (c.flip_sized.ensures.outside.length_stays ∙ c.requires.many)
+    (ap (λ (l : Layout g.row.T.Denot). grid_of l) (sym (same c.flip_sized.new.cells)) ∙ c.flip_sized.ensures.grid ∙ ap (λ (l : Layout g.row.T.Denot). flipped (grid_of l)) (same a.row.now))

@@ -1,5 +1,5 @@
 -- The rows so far have changed, and nothing else.
-use Rattle.std.proofs.Common.{◌≡◌, ◌+◌, ◌-◌, ◌*◌, ◌/◌, ◌%◌, sym, ap, ◌∙◌, arith}
+use Rattle.std.proofs.Common.{◌+◌, ◌-◌, ◌*◌, ◌/◌, ◌%◌, sym, ap, ◌∙◌, arith}
 use Rattle.image_model.specs.Grid.{grid, grid_of}
 use Rattle.image_shape.specs.Shape.{shaped}
 use Rattle.image_ops.proofs.Crossing.{row_from, from_rows}

@@ -1,5 +1,5 @@
 -- The rows so far come from the source.
-use Rattle.std.proofs.Common.{◌≡◌, ◌+◌, ◌*◌, ◌<◌, refl, ◌∙◌, arith}
+use Rattle.std.proofs.Common.{◌<◌, refl, ◌∙◌, arith}
 use Rattle.image_model.specs.Layout.{Layout}
 use Rattle.image_model.specs.Rows.{row_count}
 use Rattle.image_shape.specs.Shape.{shaped}
