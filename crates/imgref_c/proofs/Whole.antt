@@ -1,11 +1,14 @@
 -- Images of which every pixel is written.
-use Rattle.std.proofs.Common.{◌≡◌, ℕ, ◌-◌, ◌*◌, ◌<◌, List, Option, sym, subst, ap, ◌∙◌, arith}
+use Rattle.std.proofs.Common.{◌≡◌, ℕ, ◌-◌, List, Option, refl, sym, subst, ap, ◌∙◌, arith}
 use Rattle.image_model.specs.Layout.{Layout, layout, SameOutside}
 use Rattle.image_model.specs.Grid.{Grid, grid, grid_of, patch}
 use Rattle.image_model.proofs.Grids.{at_place, covers_decides, is_patch}
 use Rattle.std.proofs.lemmas.Bool.{true≢false}
 use Rattle.image_shape.specs.declared.shape.Shape.{Shape}
 use Rattle.image_shape.specs.Shape.{shaped, shaped_grid}
+use Rattle.image_ops.specs.Oriented.{oriented_width, oriented_height}
+use Rattle.image_ops.specs.declared.pixel_turning.Orientation.{Orientation}
+use Rattle.image_ops.specs.declared.pixel_turning.Orientation.TheVariants.{Transposed, Right, Half, Left}
 use Rattle.imgref_c.specs.Calls.{Writes}
 
 -- a patch of the whole size is all that is left
@@ -33,3 +36,10 @@ module _ {T : Type 0} (old new : List T) (s : Shape) {width height stride : ℕ}
     outside = λ _. subst (λ l. SameOutside l (layout new width height stride)) (shaped_as old s wide high far) (subst (SameOutside (shaped old s)) (shaped_as new s wide high far) stays);
     unchanged = λ refused. absurd (omega (arith, refused));
   }
+
+-- an image that keeps its width keeps its height
+pub height_stays : (o : Orientation) (columns rows : ℕ) → oriented_width o columns rows ≡ columns → oriented_height o columns rows ≡ rows
+height_stays Transposed columns rows same = sym same
+height_stays Right columns rows same = sym same
+height_stays Half columns rows same = refl
+height_stays Left columns rows same = sym same

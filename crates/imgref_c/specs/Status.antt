@@ -112,6 +112,17 @@ oriented_status channels o count width height stride source_count source_width s
     first (is_pixel_image channels count width height stride && is_pixel_image channels source_count source_width source_height source_stride) NotAnImage
     (first ((width == oriented_width o source_width source_height) && (height == oriented_height o source_width source_height)) SizesDiffer Done)
 
+-- of a call that writes the pixels of an image to other places of it
+abbrev pub oriented_in_place_status : ℕ → Orientation → ℕ → ℕ → ℕ → ℕ → Status
+oriented_in_place_status channels o count width height stride =
+    first (is_pixel_image channels count width height stride) NotAnImage
+    (first (width == oriented_width o width height) SizesDiffer Done)
+
+-- of a turn in place by so many quarters
+abbrev pub turn_in_place_status : ℕ → ℕ → ℕ → ℕ → ℕ → ℕ → Status
+turn_in_place_status channels quarters count width height stride =
+    first (is_turn quarters) NoTurn (oriented_in_place_status channels (turn_by quarters) count width height stride)
+
 -- of a turn by so many quarters
 abbrev pub turn_status : ℕ → ℕ → ℕ → ℕ → ℕ → ℕ → ℕ → ℕ → ℕ → ℕ → Status
 turn_status channels quarters count width height stride source_count source_width source_height source_stride =

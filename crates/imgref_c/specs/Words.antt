@@ -12,7 +12,7 @@ pub use Rattle.image_ops.specs.PixelCounts.{times_shown}
 pub use Rattle.image_ops.specs.Means.{mean_mosaic as means_of, mean_mosaic_by as means_by}
 pub use Rattle.image_ops.specs.Repeated.{repeated}
 pub use Rattle.image_shape.specs.Window.{as_window}
-pub use Rattle.imgref_c.specs.Turns.{turn_by}
-pub use Rattle.imgref_c.specs.Status.{code, is_image as passes, IsImage, image_status, place_status, window_status, copy_status, move_status, pair_status, mosaic_status, is_pixel_image, IsPixelImage, in_cells, pixel_window_status, pixel_mosaic_status, oriented_status, turn_status, rows_status, tiles_status, tile_status}
+pub use Rattle.imgref_c.specs.Turns.{is_turn, turn_by}
+pub use Rattle.imgref_c.specs.Status.{code, is_image as passes, IsImage, image_status, place_status, window_status, copy_status, move_status, pair_status, mosaic_status, is_pixel_image, IsPixelImage, in_cells, pixel_window_status, pixel_mosaic_status, oriented_status, oriented_in_place_status, turn_status, turn_in_place_status, rows_status, tiles_status, tile_status}
 pub use Rattle.imgref_c.specs.Numbering.{Numbered}
 pub use Rattle.imgref_c.specs.Calls.{seen, Writes, Packs, Finds, Gives}

@@ -1,14 +1,21 @@
-//! Images that are turned or transposed into others. A pixel has 1 to 4 cells, next to one another in a
-//! row.
+//! Images that are turned or transposed, into others or in place. A pixel has 1 to 4 cells, next to one
+//! another in a row.
 
 ghost use Rattle.std.specs.Prelude.{◌≡◌, ◌*◌, length};
 ghost use Rattle.image_ops.specs.Oriented.{oriented_width, oriented_height};
-ghost use Rattle.imgref_c.specs.Words.{code, grid_of, layout, oriented, oriented_status, turn_by, turn_status, Writes};
+ghost use Rattle.imgref_c.specs.Words.{code, grid_of, is_turn, layout, oriented, oriented_in_place_status, oriented_status, turn_by, turn_in_place_status, turn_status, Writes};
 
 use crate::images::ClaimedShape;
 use crate::pixels::are_pixels;
 use crate::status::Status;
-use image_ops::{Orientation, orient_pixels};
+use image_ops::{Orientation, orient_in_place, orient_pixels};
+
+// Whether there is a turn by so many quarters.
+fn is_turn(quarters: u32) -> bool
+    ensures { result ≡ is_turn quarters }
+{
+    (1..=3).contains(&quarters)
+}
 
 // The turn by so many quarters, clockwise.
 fn turn_by(quarters: u32) -> Orientation
@@ -88,7 +95,7 @@ pub(crate) fn turn_into<T: Copy>(
         claimed.stride cells.old cells.new 0 0 (oriented channels (turn_by quarters) (grid_of (layout
         source.now (channels * claimed_source.width) claimed_source.height claimed_source.stride))) }
 {
-    if quarters == 0 || quarters > 3 {
+    if !is_turn(quarters) {
         return Status::NoTurn;
     }
     orient_into(
@@ -99,4 +106,50 @@ pub(crate) fn turn_into<T: Copy>(
         channels,
         turn_by(quarters),
     )
+}
+
+// Every pixel goes to its place in the same image, which has to be a square unless it is turned by a
+// half.
+pub(crate) fn orient<T: Copy>(
+    cells: &mut [T],
+    claimed: ClaimedShape,
+    channels: usize,
+    orientation: Orientation,
+) -> Status
+    ensures status { result ≡ oriented_in_place_status channels orientation (length cells.old)
+        claimed.width claimed.height claimed.stride }
+    ensures writes { Writes (code result) (channels * claimed.width) claimed.height
+        claimed.stride cells.old cells.new 0 0 (oriented channels orientation (grid_of (layout
+        cells.old (channels * claimed.width) claimed.height claimed.stride))) }
+{
+    if !are_pixels(cells.len(), claimed, channels) {
+        return Status::NotAnImage;
+    }
+    let columns = claimed.width;
+    let (width, _) = oriented_size(orientation, columns, claimed.height);
+    if columns != width {
+        return Status::SizesDiffer;
+    }
+    let shape = claimed.with_width(channels * columns).shape();
+    orient_in_place(cells, shape, channels, columns, orientation);
+    Status::Done
+}
+
+// The image is turned by so many quarters in place.
+pub(crate) fn turn<T: Copy>(
+    cells: &mut [T],
+    claimed: ClaimedShape,
+    channels: usize,
+    quarters: u32,
+) -> Status
+    ensures status { result ≡ turn_in_place_status channels quarters (length cells.old)
+        claimed.width claimed.height claimed.stride }
+    ensures writes { Writes (code result) (channels * claimed.width) claimed.height
+        claimed.stride cells.old cells.new 0 0 (oriented channels (turn_by quarters) (grid_of (layout
+        cells.old (channels * claimed.width) claimed.height claimed.stride))) }
+{
+    if !is_turn(quarters) {
+        return Status::NoTurn;
+    }
+    orient(cells, claimed, channels, turn_by(quarters))
 }

@@ -1,7 +1,7 @@
 //! Made from `u8_exports.rt` by `make exports`: the same exports, for cells of type `u16`.
 
 ghost use Rattle.std.specs.Prelude.{◌≡◌, ◌*◌, ◌==◌, ◌↔◌, IsTrue, length, Some};
-ghost use Rattle.imgref_c.specs.Words.{as_window, code, copy_status, flipped, grid_of, image_status, in_cells, layout, mirrored_by, mosaic_by, mosaic_of, mosaic_status, move_status, oriented, oriented_status, pair_status, pixel_mosaic_status, pixel_window_status, place_status, repeated, rows_status, rows_swapped, seen, times_shown, turn_by, turn_status, uniform, window_status, Agree, Gives, Packs, Transposed, Writes};
+ghost use Rattle.imgref_c.specs.Words.{as_window, code, copy_status, flipped, grid_of, image_status, in_cells, layout, mirrored_by, mosaic_by, mosaic_of, mosaic_status, move_status, oriented, oriented_in_place_status, oriented_status, pair_status, pixel_mosaic_status, pixel_window_status, place_status, repeated, rows_status, rows_swapped, seen, times_shown, turn_by, turn_in_place_status, turn_status, uniform, window_status, Agree, Gives, Packs, Transposed, Writes};
 
 use crate::images::ClaimedShape;
 use crate::{counts, flips, packing, pairs, pixels, places, turns, windows};
@@ -251,6 +251,48 @@ pub extern "C" fn imgref_u16_transpose_into(
         orientation,
     )
     .code()
+}
+
+/// The image is turned clockwise by so many quarters, 1 to 3, in place. It has to be a square unless it
+/// is turned by a half. A pixel has 1 to 4 cells, next to one another in a row. Sizes are counted in
+/// pixels, and the stride in cells.
+#[unsafe(no_mangle)]
+pub extern "C" fn imgref_u16_turn(
+    cells: &mut [u16],
+    width: usize,
+    height: usize,
+    stride: usize,
+    channels: usize,
+    quarters: u32,
+) -> u32
+    ensures status { result ≡ code (turn_in_place_status channels quarters (length cells.old) width
+        height stride) }
+    ensures writes { Writes result (channels * width) height stride cells.old cells.new 0 0
+        (oriented channels (turn_by quarters) (grid_of (layout cells.old (channels * width) height
+        stride))) }
+{
+    let claimed = ClaimedShape::new(width, height, stride);
+    turns::turn(cells, claimed, channels, quarters).code()
+}
+
+/// Columns become rows, and rows columns, in place. The image has to be a square. A pixel has 1 to 4
+/// cells, next to one another in a row. Sizes are counted in pixels, and the stride in cells.
+#[unsafe(no_mangle)]
+pub extern "C" fn imgref_u16_transpose(
+    cells: &mut [u16],
+    width: usize,
+    height: usize,
+    stride: usize,
+    channels: usize,
+) -> u32
+    ensures status { result ≡ code (oriented_in_place_status channels Transposed (length cells.old)
+        width height stride) }
+    ensures writes { Writes result (channels * width) height stride cells.old cells.new 0 0
+        (oriented channels Transposed (grid_of (layout cells.old (channels * width) height
+        stride))) }
+{
+    let claimed = ClaimedShape::new(width, height, stride);
+    turns::orient(cells, claimed, channels, Orientation::Transposed).code()
 }
 
 /// The first row of the window changes places with its last, and so on. A pixel has 1 to 4 cells, next
