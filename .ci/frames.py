@@ -13,6 +13,9 @@ SAMPLINGS = {b"mono": None, b"420jpeg": (2, 2), b"420mpeg2": (2, 2), b"420paldv"
 # The same with samples of two bytes: a word that a number of bits follows.
 DEEP = {b"mono": None, b"420p": (2, 2), b"422p": (2, 1), b"444p": (1, 1)}
 
+# What is in the opposite order after these words.
+FLIPS = {("flip", "rows"): ["rows"], ("flip", "columns"): ["columns"], ("turn", "half"): ["rows", "columns"]}
+
 # The head of a picture: its kind and three numbers with white space or comments between them, and one of these at its end.
 GAP = rb"(?:[ \t-\r]|#[^\n\r]*[\n\r])"
 HEAD = re.compile(rb"P([56])" + (GAP + rb"+(\d+)") * 3 + GAP)
@@ -108,6 +111,8 @@ def windows_of(plane, size, word, window, last):
     """The window in samples of a plane of a frame of this size, and what follows it. Of a pad it is the corner of the plane and
     the size around it."""
     wide, high, *steps = plane
+    if word == "flip":
+        return None, last
     if word == "pad":
         whole = padded(size, window)
         left, top, _, _ = under((*window[:2], *size), whole, steps)
@@ -131,8 +136,11 @@ def windows_of(plane, size, word, window, last):
 def edited(plane, cells, word, window, last):
     """The cells of a plane after the edit."""
     wide, high = plane[:2]
-    left, top, width, height = window
     old = [list(cells[row * wide:(row + 1) * wide]) for row in range(high)]
+    if word == "flip":
+        rows, columns = (-1 if it in last else 1 for it in ("rows", "columns"))
+        return [it for row in old[::rows] for it in row[::columns]]
+    left, top, width, height = window
     if word == "crop":
         return [it for row in old[top:top + height] for it in row[left:left + width]]
     if word == "pad":
@@ -174,7 +182,11 @@ def edits_of(words):
         last = moment(last, None if isinstance(first, Time) else 2**64 - 1)
         if last is not None and (isinstance(first, Time) != isinstance(last, Time) or last <= first):
             raise Fault("words")
-        word, window = words.pop(0), [int(it) for it in re.split("[,+]", words.pop(0))]
+        word, numbers = words.pop(0), words.pop(0)
+        if (word, numbers) in FLIPS:
+            edits.append((first, last, "flip", None, FLIPS[word, numbers]))
+            continue
+        window = [int(it) for it in re.split("[,+]", numbers)]
         if word == "crop":
             more = []
         elif word == "cover":
@@ -323,6 +335,8 @@ def video(data, edits):
     planes = planes_of(width, height, sampling)
     x, y = (sampling or (1, 1))[:2]
     unit = x, 2 * y if is_interlaced(line) else y
+    if is_interlaced(line) and any(edit[2] == "flip" and "rows" in edit[4] for edit in edits):
+        raise Fault("outside")
     steps = [step_of(planes, (width, height), covered(numbered(edit, rate_of(line)), (width, height), unit, 2**bits - 1), video_values(bits), 2**bits - 1) for edit in edits]
     resize = size_after((width, height), edits)
     if resize and resize[1] == 0:

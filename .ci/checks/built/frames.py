@@ -26,6 +26,8 @@ ODD = ("fill 10,6,3,3 7", "mosaic 2,2,11,7 4,2", "move 8,0,5,3 8,6", "move 8,6,5
 FILL = "fill 4,2,6,4 126"
 # Covers inside, at each edge, beyond it, and with no value.
 COVERS = ("cover 5,3,1,1 9", "cover 5,3,1,1", "cover 0,0,2,2 9", "cover 11,7,1,1 9", "cover 11,7,9,9 9", "cover 13,9,1,1 9", "cover 15,11,1,1 9", "cover 14,0,1,1 9", "cover 40,40,2,2 9", "cover 7,0,0,0 9", "1.. cover 3,1,4,3 9 fill 0,0,2,2 7", "cover 18446744073709551615,18446744073709551615,18446744073709551615,18446744073709551615 9", "cover 0,0,18446744073709551615,18446744073709551615 9")
+# Of the whole frame, alone and between other edits.
+FLIPS = ("flip rows", "flip columns", "turn half", "1.. flip columns", "0..2 turn half 1..3 flip rows", "fill 0,0,1,1 9 flip columns cover 0,0,1,1+0 5", "flip rows flip rows flip columns", "turn half crop 0,0,1,1")
 # The same with a margin.
 MARGINS = ("5,3,1,1", "4,2,2,2", "5,2,3,4", "0,0,2,2", "11,7,1,1", "13,9,1,1", "16,12,2,2", "7,0,0,0", "6,4,0,0", "18446744073709551615,0,1,1", "0,0,18446744073709551615,1")
 PARAMETERS = (b"", b" Ip", b" ", b" XLABEL=a b  Ib")
@@ -59,6 +61,8 @@ def by_model(cases, program):
     tries = [(f"cover {it}+{margin} {value}".split(), video(sampling, 13, 9, fields=fields)) for sampling in SAMPLINGS for fields in (b"Ip", b"It") for it in MARGINS for margin in (0, 1, 2, 3, 5, 18446744073709551615) for value in ("", "9")]
     count_tries(cases, "the margin of a cover is the one that is set", program, tries)
     cases.count("a margin of 0 covers the samples of a rectangle", ends(program, ["cover", "4,2,2,2+0", "9"], video("420")) == ends(program, ["fill", "4,2,2,2", "9"], video("420")))
+    flips = [(it.split(), video(sampling, *size, fields=fields)) for sampling in SAMPLINGS for size in ((12, 8), (13, 9), (1, 1), (70, 3)) for fields in (b"Ip", b"It", b"Ib", b"Im") for it in FLIPS]
+    count_tries(cases, "flips and half turns are the model's, and an interlaced video keeps its fields", program, flips)
     lists = [(edits.split(), video(it)) for it in SAMPLINGS for edits in LISTS]
     count_tries(cases, "lists of edits, each to its frames, are the model's", program, lists)
     small = video("420", 4, 2, 2)
@@ -89,7 +93,13 @@ def by_model(cases, program):
     shown = hidden = video("mono")
     for frame in range(3):
         hidden = exchanged(hidden, shown.index(b"\n") + 1 + frame * (6 + 12 * 8) + 6, 12, (4, 2, 6, 4))
-    for after in ("", " move 4,2,6,4 0,0", " mosaic 0,0,12,8 3,3", " move 4,2,6,4 5,1 crop 0,0,8,8"):
+    for before, window in (("flip rows", (4, 2, 6, 4)), ("flip columns", (2, 2, 6, 4)), ("turn half", (2, 2, 6, 4))):
+        other = shown
+        for frame in range(3):
+            other = exchanged(other, shown.index(b"\n") + 1 + frame * (6 + 12 * 8) + 6, 12, window)
+        words = f"{before} {FILL}".split()
+        cases.count(f"the output reveals nothing of what is filled after {before}", other != shown and ends(program, words, other) == ends(program, words, shown))
+    for after in ("", " flip rows", " flip columns move 4,2,6,4 0,0", " turn half", " move 4,2,6,4 0,0", " mosaic 0,0,12,8 3,3", " move 4,2,6,4 5,1 crop 0,0,8,8"):
         words = (FILL + after).split()
         cases.count(f"the output reveals nothing of hidden pixels{after}", hidden != shown and ends(program, words, hidden) == ends(program, words, shown))
 
@@ -98,6 +108,9 @@ def by_words(cases, program):
     for words in ("", "fill", "fill 1,2,3,4", "blur 0,0,1,1 2", "fill 0,0,1,1 1,2", "fill 0,0,1,1 1,2,3,4", "pad 0,0,1,1 1,2,3", "fill 0,0,01,1 2", "fill 0,0,1 2", "mosaic 0,0,1,1 2", "crop 0,0,1,1 2", "crop 0,0,2,2 fill 0,0,2,2 9", "pad 0,0,2,2", "pad 0,0,2,2 9 crop 0,0,2,2", "1..2 pad 0,0,2,2 9", "1..2 crop 0,0,2,2", "1.2 fill 0,0,2,2 9", "cover 0,0,2,2+", "cover 0,0,2,2+ 9", "cover 0,0,2,2+1+1", "cover 0,0,2,2++1", "cover 0,0,2,2+01", "cover 0,0,2,2+-1", "cover 0,0,2,2+18446744073709551616", "cover 0,0,2+1,2", "cover +1", "cover 0,0,2,2 +1", "fill 0,0,2,2+1 9", "mosaic 0,0,2,2+1 2,2", "crop 0,0,2,2+1", "2..1 fill 0,0,4,4 9", "0..0 fill 0,0,4,4 9", "fill 0,0,2,2 9 5..5 move 0,0,2,2 2,2", "--edits /nowhere", "--edits", "--strict", "--limit", "--limit x fill 0,0,2,2 9", "--loud fill 0,0,2,2 9", "--edits /dev/null fill 0,0,2,2 9"):
         said = ends(program, words.split(), video("mono"))
         cases.count(f"words '{words}' are refused", said == (b"", "fault words", 1), str(said))
+    for before in ("flip rows", "flip columns", "turn half"):
+        said = lines_said(program, f"{before} {FILL}".split(), video("mono"))
+        cases.count(f"{before} before a fill is no move", said == [""], str(said))
     with tempfile.NamedTemporaryFile("w", suffix=".edits") as listed:
         listed.write(LISTS[2].replace(" 1..3", "\n1..3").replace(" crop", "\ncrop") + "\n")
         listed.flush()
@@ -146,6 +159,9 @@ REASONS = (
     ("pad 0,0,4,4 512", "mono9", "the crop or pad: value 512 is above 511"),
     ("fill 0,0,4,4 1,2,3", "444", "edit 1: a colour is only for pictures in colour"),
     ("move 0,0,4,4 10,0", "420", "edit 1: it reaches outside the frame"),
+    ("flip 0,0,2,2 9", "420", "at word 1: flip needs rows or columns, and 0,0,2,2 isn't that"),
+    ("flip", "420", "at word 1: flip needs rows or columns"),
+    ("1.. turn right", "420", "at word 1: turn needs half, and right isn't that"),
     ("crop 0,0,3,4", "420", "the crop or pad: width 3 is no multiple of 2"),
     ("pad 1,0,0,0 9", "420", "the crop or pad: left side 1 is no multiple of 2"),
     ("fill 0,0,2,2 9 fil 0,0,2,2 9", "mono", "at word 4: fil isn't one of cover, fill"),
@@ -339,6 +355,8 @@ def by_ffmpeg(cases, program):
         source = ["-f", "lavfi", "-i", "testsrc2=size=128x96:rate=5:duration=1", "-pix_fmt", pixels]
         made = subprocess.run(["ffmpeg", "-v", "error", *source, "-f", "yuv4mpegpipe", "-strict", "-1", "-"], capture_output=True, timeout=120).stdout
         cases.count(f"crop is ffmpeg's on {pixels}", made and through(program, "crop 16,8,64,48", made, "crop=64:48:16:8:exact=1"))
+        for words, command in (("flip rows", "vflip"), ("flip columns", "hflip"), ("turn half", "hflip,vflip")):
+            cases.count(f"{words} is ffmpeg's {command} on {pixels}", through(program, words, made, command))
         # Of more than 8 bits ffmpeg's grey and black have a colour: its chroma is 514 of 1023, and the middle is 512.
         if "gray" not in pixels and "le" not in pixels:
             cases.count(f"fill is ffmpeg's drawbox on {pixels}", through(program, "fill 16,8,64,48 126", made, "drawbox=x=16:y=8:w=64:h=48:color=gray@1:t=fill"))

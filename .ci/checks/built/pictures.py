@@ -16,7 +16,9 @@ sys.path.insert(0, str(pathlib.Path(__file__).resolve().parents[2]))
 from checking import Cases, both_builds
 from frames import count_tries, ends, exchanged, lines_said
 
-EDITS = ("fill 4,2,6,4 126", "fill 1,1,3,3 7", "mosaic 2,2,9,5 4,2", "mosaic 0,0,12,8 64,64", "mosaic 1,0,5,5 1,1", "move 0,0,6,4 4,2", "move 5,3,7,5 0,1", "crop 4,2,6,4", "crop 11,7,1,1", "fill 0,0,0,0 1", "pad 1,2,3,4 16", "pad 0,0,0,0 9")
+# The same by netpbm.
+FLIPS = (("flip rows", "pamflip -topbottom"), ("flip columns", "pamflip -leftright"), ("turn half", "pamflip -rotate180"))
+EDITS = ("fill 4,2,6,4 126", "fill 1,1,3,3 7", "mosaic 2,2,9,5 4,2", "mosaic 0,0,12,8 64,64", "mosaic 1,0,5,5 1,1", "move 0,0,6,4 4,2", "move 5,3,7,5 0,1", "crop 4,2,6,4", "crop 11,7,1,1", "fill 0,0,0,0 1", "pad 1,2,3,4 16", "pad 0,0,0,0 9", "flip rows", "flip columns", "turn half")
 LISTS = (
     "fill 0,0,4,4 9 mosaic 3,2,8,6 4,2",
     "1..2 fill 0,0,4,4 9",
@@ -63,7 +65,7 @@ def tuples(name, width=12, height=8, greatest=255, head=PAM):
 
 def by_tuples(cases, program):
     """PAM pictures by the model."""
-    edits = (*EDITS[2:10], "fill 4,2,6,4 1", "cover 4,2,6,4", "cover 40,2,6,4", "pad 1,2,3,4 1", "pad 1,0,0,0 0", "0..1 fill 1,1,3,3 1,0,1", "move 0,0,6,4 4,2 fill 1,1,4,4 1 crop 1,0,8,8")
+    edits = (*EDITS[2:10], "fill 4,2,6,4 1", "cover 4,2,6,4", "cover 40,2,6,4", "pad 1,2,3,4 1", "pad 1,0,0,0 0", *EDITS[12:], "0..1 fill 1,1,3,3 1,0,1", "move 0,0,6,4 4,2 fill 1,1,4,4 1 crop 1,0,8,8")
     each = [(it.split(), tuples(name, greatest=greatest)) for name in TUPLES for greatest in (255, *GREATEST) for it in edits]
     count_tries(cases, "each edit of PAM pictures is the model's, and leaves opaque pixels", program, each)
     values = [(it.split(), tuples(name, greatest=greatest)) for name in TUPLES for greatest in (1, 255, 256, 65535) for value in (greatest, greatest + 1) for it in (f"fill 1,2,3,4 {value}", f"pad 1,1,0,2 {value}", f"fill 1,2,3,4 0,{value},1")]
@@ -128,6 +130,8 @@ def by_netpbm(cases, program):
         part = said("pamcut -left 4 -top 2 -width 6 -height 4", whole)
         cases.count(f"crop is pamcut in {name}", ours("crop 4,2,6,4", whole) == part)
         cases.count(f"crop of pictures one after the other is pamcut in {name}", ours("crop 4,2,6,4", whole * 3) == said("pamcut -left 4 -top 2 -width 6 -height 4", whole * 3))
+        for words, command in FLIPS:
+            cases.count(f"{words} is {command} in {name}", ours(words, whole) == said(command, whole))
         cases.count(f"pad is pnmpad in {name}", ours("pad 1,2,3,4 0", whole) == said("pnmpad -black -left=1 -top=2 -right=3 -bottom=4", whole))
         for words, file, place in (("move 4,2,6,4 1,3", part, "1 3"), (f"fill 4,2,6,4 {greatest}", said(f"pgmmake -maxval={greatest} 1 6 4", b""), "4 2")):
             with tempfile.NamedTemporaryFile(suffix=".pnm") as front:
@@ -154,6 +158,8 @@ def by_netpbm(cases, program):
         cases.count(f"{command} makes a picture of {given[:40]!r}", refused[1:] == ("fault header", 2) and taken[1:] == ("", 0) and command in reasons[1], str(reasons))
     for name, greatest in ((name, greatest) for name in TUPLES for greatest in (1, 255, 65535)):
         given = tuples(name, greatest=greatest)
+        for words, command in FLIPS:
+            cases.count(f"{words} is {command} of {name} with {greatest}", ours(words, given) == said(command, given))
         cases.count(f"crop is pamcut of {name} with {greatest}", ours("crop 4,2,6,4", given * 2) == said("pamcut -left 4 -top 2 -width 6 -height 4", given * 2))
         for head in PAM_HEADS:
             given = tuples(name, 4, 3, greatest, head)

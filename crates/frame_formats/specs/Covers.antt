@@ -1,9 +1,10 @@
 -- What a cover is in a frame: a fill of whole samples, with a margin.
-use Rattle.std.specs.Prelude.{ℕ, ◌+◌, ◌-◌, ◌*◌, ◌%◌, ◌==◌, ◌||◌, Bool, false, nat_le, if◌then◌else◌, Option, Some, None, min, max}
+use Rattle.std.specs.Prelude.{ℕ, ◌+◌, ◌-◌, ◌*◌, ◌%◌, ◌==◌, ◌||◌, ◌&&◌, Bool, true, false, nat_le, if◌then◌else◌, Option, Some, None, min, max}
 use Rattle.std.specs.Option.{option_map}
 use Rattle.image_shape.specs.declared.window.Window.{Window}
 use Rattle.image_planes.specs.declared.change.Change.{Change}
-use Rattle.image_planes.specs.declared.change.Change.TheVariants.{Fill, Mosaic, Move}
+use Rattle.image_planes.specs.declared.change.Change.TheVariants.{Fill, Mosaic, Move, Flip}
+use Rattle.image_planes.specs.declared.change.Axes.TheVariants.{Rows, Columns, Both}
 use Rattle.image_planes.specs.declared.change.Step.{Step}
 use Rattle.frame_formats.specs.Ranges.{frames_in}
 use Rattle.frame_formats.specs.declared.ranges.Rate.{Rate}
@@ -16,7 +17,7 @@ use Rattle.frame_formats.specs.declared.steps.Paint.{Paint}
 use Rattle.frame_formats.specs.declared.steps.Paint.TheVariants.{Grey, Black, Colour, Around}
 
 abbrev pub unit : ℕ → ℕ → Samples
-unit across down = record { across = across; down = down }
+unit across down = record { across = across; down = down; interlaced = false }
 
 -- how many columns and rows of pixels share a chroma sample
 abbrev pub chroma_unit : Chroma → Samples
@@ -29,7 +30,11 @@ chroma_unit WholeAlpha = unit 1 1
 
 -- the same with the samples of both fields
 abbrev pub video_unit : Format → Samples
-video_unit f = unit (chroma_unit f.chroma).across (if f.interlaced then 2 * (chroma_unit f.chroma).down else (chroma_unit f.chroma).down)
+video_unit f = record {
+  across = (chroma_unit f.chroma).across;
+  down = if f.interlaced then 2 * (chroma_unit f.chroma).down else (chroma_unit f.chroma).down;
+  interlaced = f.interlaced;
+}
 
 -- a pixel of a picture has its colours itself
 abbrev pub one_pixel : Samples
@@ -75,6 +80,16 @@ abbrev pub settled : Samples → ℕ → ℕ → Change Paint → Change Paint
 settled s width height (Fill w paint) = fill_in s width height w paint
 settled s width height (Mosaic w tile_width tile_height) = Mosaic w tile_width tile_height
 settled s width height (Move w left top) = Move w left top
+settled s width height (Flip axes) = Flip axes
+
+-- whether a change puts rows of one field where those of the other were: the last rows come first
+abbrev pub turns_over : Change Paint → Bool
+turns_over (Fill w paint) = false
+turns_over (Mosaic w tile_width tile_height) = false
+turns_over (Move w left top) = false
+turns_over (Flip Rows) = true
+turns_over (Flip Columns) = false
+turns_over (Flip Both) = true
 
 -- a cover whose window has no pixel: it is outside, or its margin and its size are 0
 abbrev pub has_no_pixel : Window → Bool
@@ -90,7 +105,12 @@ abbrev pub covers_nothing : Samples → ℕ → ℕ → Change Paint → Bool
 covers_nothing s width height (Fill w paint) = nothing_filled s width height w paint
 covers_nothing s width height (Mosaic w tile_width tile_height) = false
 covers_nothing s width height (Move w left top) = false
+covers_nothing s width height (Flip axes) = false
 
--- an edit as a step of a frame of this size, where its range has frames at this rate
+-- the frames of an edit: its range has some at this rate, and it doesn't exchange the fields of an interlaced video
+abbrev pub frames_for : Samples → Option Rate → Edit → Option (ℕ × ℕ)
+frames_for s rate e = if s.interlaced && turns_over e.change then None else frames_in rate e.range
+
+-- an edit as a step of a frame of this size, where it has frames
 abbrev pub step_in : Samples → Option Rate → ℕ → ℕ → Edit → Option (Step Paint)
-step_in s rate width height e = option_map (λ span. record { first = span.0; end = span.1; change = settled s width height e.change }) (frames_in rate e.range)
+step_in s rate width height e = option_map (λ span. record { first = span.0; end = span.1; change = settled s width height e.change }) (frames_for s rate e)

@@ -4,7 +4,7 @@ use Rattle.std.specs.Option.{is_none}
 use Rattle.std.specs.Str.{bytes_eq}
 use Rattle.image_shape.specs.declared.window.Window.{Window}
 use Rattle.image_planes.specs.declared.change.Change.{Change}
-use Rattle.image_planes.specs.declared.change.Change.TheVariants.{Fill, Mosaic, Move}
+use Rattle.image_planes.specs.declared.change.Change.TheVariants.{Fill, Mosaic, Move, Flip}
 use Rattle.image_planes.specs.declared.target.Resize.{Resize}
 use Rattle.image_planes.specs.declared.target.Resize.TheVariants.{Crop, Pad}
 use Rattle.text_model.specs.Parts.{parts_of}
@@ -139,6 +139,7 @@ change_under pixel x y width height (Move w left top) = do
   under ← window_under x y width height w
   goal ← window_under x y width height (at_corner w left top)
   Some (Move under goal.left goal.top)
+change_under pixel x y width height (Flip axes) = Some (Flip axes)
 
 -- ---- frames of another size
 

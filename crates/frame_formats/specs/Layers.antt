@@ -4,7 +4,7 @@ use Rattle.image_planes.specs.Changes.{Job, job_for}
 use Rattle.image_planes.specs.Resized.{Resizing, resizing_for}
 use Rattle.std.specs.Option.{option_map}
 use Rattle.image_planes.specs.declared.change.Change.{Change}
-use Rattle.image_planes.specs.declared.change.Change.TheVariants.{Fill, Mosaic, Move}
+use Rattle.image_planes.specs.declared.change.Change.TheVariants.{Fill, Mosaic, Move, Flip}
 use Rattle.image_planes.specs.declared.change.Step.{Step}
 use Rattle.image_planes.specs.declared.target.Resize.{Resize}
 use Rattle.image_planes.specs.declared.target.Resize.TheVariants.{Crop, Pad}
@@ -71,6 +71,7 @@ abbrev pub opaque_change : Pixel → Change (List ℕ) → Change (List ℕ)
 opaque_change pixel (Fill w value) = Fill w (opaque pixel)
 opaque_change pixel (Mosaic w tile_width tile_height) = Mosaic w tile_width tile_height
 opaque_change pixel (Move w left top) = Move w left top
+opaque_change pixel (Flip axes) = Flip axes
 
 abbrev pub opaque_resize : Pixel → Resize → Resize
 opaque_resize pixel (Crop w) = Crop w

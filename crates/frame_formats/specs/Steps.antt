@@ -3,7 +3,7 @@ use Rattle.std.specs.Prelude.{ℕ, ◌+◌, ◌*◌, ◌/◌, ◌%◌, ◌&&◌,
 use Rattle.std.specs.List.{flat_map}
 use Rattle.std.specs.Option.{option_map}
 use Rattle.image_planes.specs.declared.change.Change.{Change}
-use Rattle.image_planes.specs.declared.change.Change.TheVariants.{Fill, Mosaic, Move}
+use Rattle.image_planes.specs.declared.change.Change.TheVariants.{Fill, Mosaic, Move, Flip}
 use Rattle.image_planes.specs.declared.change.Step.{Step}
 use Rattle.text_model.specs.Reading.{◌>>=◌}
 use Rattle.frame_formats.specs.Pam.{tuple, tuple_depth}
@@ -82,3 +82,4 @@ unfoldable pub change_in : Pixel → Change Paint → Option (Change (List ℕ))
 change_in pixel (Fill w paint) = option_map (λ value. Fill w value) (value_in pixel paint)
 change_in pixel (Mosaic w tile_width tile_height) = Some (Mosaic w tile_width tile_height)
 change_in pixel (Move w left top) = Some (Move w left top)
+change_in pixel (Flip axes) = Some (Flip axes)

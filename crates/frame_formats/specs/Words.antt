@@ -1,12 +1,14 @@
 -- The edit that words name.
-use Rattle.std.specs.Prelude.{ℕ, ◌+◌, List, [], ◌∷◌, ◌++◌, Option, Some, None, if◌then◌else◌, codes}
+use Rattle.std.specs.Prelude.{ℕ, ◌+◌, ◌&&◌, List, [], ◌∷◌, ◌++◌, Option, Some, None, if◌then◌else◌, codes}
 use Rattle.std.specs.Option.{option_map}
 use Rattle.std.specs.Str.{bytes_eq}
 use Rattle.image_shape.specs.declared.window.Window.{Window}
 use Rattle.frame_formats.specs.declared.steps.Paint.{Paint}
 use Rattle.frame_formats.specs.declared.steps.Paint.TheVariants.{Grey, Colour, Around}
 use Rattle.image_planes.specs.declared.change.Change.{Change}
-use Rattle.image_planes.specs.declared.change.Change.TheVariants.{Fill, Mosaic, Move}
+use Rattle.image_planes.specs.declared.change.Change.TheVariants.{Fill, Mosaic, Move, Flip}
+use Rattle.image_planes.specs.declared.change.Axes.{Axes}
+use Rattle.image_planes.specs.declared.change.Axes.TheVariants.{Rows, Columns, Both}
 use Rattle.frame_formats.specs.declared.framing.Framing.{Framing}
 use Rattle.frame_formats.specs.declared.framing.Framing.TheVariants.{Crop, Pad}
 use Rattle.text_model.specs.Parts.{parts_of}
@@ -102,11 +104,24 @@ abbrev pub other_at : List ℕ → Window → List (List ℕ) → Option (Change
 other_at word window [] = None
 other_at word window (last ∷ words) = option_map (λ change. (change, 3)) (change_of word window last)
 
+-- what changes places in the whole frame, by two words
+abbrev pub axes_of : List ℕ → List ℕ → Option Axes
+axes_of word which =
+    if bytes_eq word (codes "flip") && bytes_eq which (codes "rows") then Some Rows
+    else if bytes_eq word (codes "flip") && bytes_eq which (codes "columns") then Some Columns
+    else if bytes_eq word (codes "turn") && bytes_eq which (codes "half") then Some Both
+    else None
+
+-- a flip, or else a change by its window
+abbrev pub flip_by : Option Axes → List ℕ → List ℕ → List (List ℕ) → Option (Change Paint × ℕ)
+flip_by (Some axes) word numbers words = Some (Flip axes, 2)
+flip_by None word numbers words = window_of numbers >>= λ window. other_at word window words
+
 -- a change by its word, its numbers and the words after them, and how many words there are: only a cover has a margin
 abbrev pub change_at : List ℕ → List ℕ → List (List ℕ) → Option (Change Paint × ℕ)
 change_at word numbers words =
     if bytes_eq word (codes "cover") then option_map (λ r. cover_at r.0 r.1 words) (rectangle_of numbers)
-    else window_of numbers >>= λ window. other_at word window words
+    else flip_by (axes_of word numbers) word numbers words
 
 -- a change of the frames of a range at the front of words, and how many words there are
 unfoldable pub step_at : Range → List (List ℕ) → Option (Edit × ℕ)

@@ -3,7 +3,7 @@
 ghost use Rattle.std.specs.Prelude.{◌≡◌, ◌<◌, IfOk, IfErr, Some, None};
 ghost use Rattle.frame_formats.specs.Plan.{Tells};
 ghost use Rattle.frame_formats.specs.Steps.{all_some};
-ghost use Rattle.frame_formats.specs.Covers.{chroma_unit, video_unit, margin_of, cover_start, cover_count, cover_window, covers_nothing, fill_in, one_pixel, settled, step_in};
+ghost use Rattle.frame_formats.specs.Covers.{chroma_unit, video_unit, margin_of, cover_start, cover_count, cover_window, covers_nothing, fill_in, frames_for, one_pixel, settled, step_in, turns_over};
 
 use crate::header::{Chroma, Format};
 use crate::picture::Picture;
@@ -11,7 +11,7 @@ use crate::plans::PlanFault;
 use crate::ranges::Rate;
 use crate::steps::Paint;
 use crate::words::Edit;
-use image_planes::{Change, Step, Window};
+use image_planes::{Axes, Change, Step, Window};
 use std::alloc::Global;
 
 /// How many columns and rows of pixels share a sample, of both fields where there are two.
@@ -19,6 +19,8 @@ use std::alloc::Global;
 pub struct Unit {
     pub across: usize,
     pub down: usize,
+    /// Whether there are two fields.
+    pub interlaced: bool,
 }
 
 fn unit_of_chroma(chroma: Chroma) -> Unit
@@ -33,7 +35,11 @@ fn unit_of_chroma(chroma: Chroma) -> Unit
         Chroma::Wide => (2, 1),
         Chroma::Quarter => (4, 1),
     };
-    Unit { across, down }
+    Unit {
+        across,
+        down,
+        interlaced: false,
+    }
 }
 
 /// The unit of a video, in whose whole numbers a cover goes.
@@ -47,6 +53,7 @@ pub(crate) fn unit_of_video(format: Format) -> Unit
         Unit {
             across: unit.across,
             down: 2 * unit.down,
+            interlaced: true,
         }
     } else {
         unit
@@ -123,6 +130,13 @@ fn settle(unit: Unit, width: usize, height: usize, change: Change<Paint>) -> Cha
     }
 }
 
+/// Whether a change puts rows of one field where those of the other were.
+pub fn turns_over(change: Change<Paint>) -> bool
+    ensures { result ≡ turns_over change }
+{
+    matches!(change, Change::Flip(Axes::Rows | Axes::Both))
+}
+
 // Whether a change is a cover that covers no pixel of a frame of this size.
 fn covers_nothing(unit: Unit, width: usize, height: usize, change: Change<Paint>) -> bool
     requires across { 0 < unit.across }
@@ -153,12 +167,27 @@ pub fn video_covers_nothing(format: Format, change: Change<Paint>) -> bool
 pub fn picture_covers_nothing(picture: Picture, change: Change<Paint>) -> bool
     ensures { result ≡ covers_nothing one_pixel picture.width picture.height change }
 {
-    let unit = Unit { across: 1, down: 1 };
+    let unit = Unit {
+        across: 1,
+        down: 1,
+        interlaced: false,
+    };
     covers_nothing(unit, picture.width, picture.height, change)
 }
 
+// The frames of an edit, where it doesn't exchange the fields of an interlaced video.
+fn frames_of(unit: Unit, rate: Option<Rate>, edit: Edit) -> Option<(u64, u64)>
+    ensures { result ≡ frames_for unit rate edit }
+{
+    if unit.interlaced && turns_over(edit.change) {
+        return None;
+    }
+    edit.range.frames(rate)
+}
+
 /// The edits as steps of a frame of this size. A cover is the fill that it is there, and a range of
-/// times has the frames that are in it at this rate.
+/// times has the frames that are in it at this rate. An interlaced video takes no change that
+/// exchanges its fields.
 #[tactic(auto, using(crate::proofs::StepsEach::one_more, crate::proofs::StepsEach::one_stops, crate::proofs::StepsEach::edit_settled, crate::proofs::StepsEach::edit_stops))]
 pub(crate) fn settle_all(
     alloc: Global,
@@ -177,7 +206,7 @@ pub(crate) fn settle_all(
 {
     let mut all = Vec::new(alloc);
     for edit in edits {
-        let (first, end) = edit.range.frames(rate).ok_or(PlanFault::Outside)?;
+        let (first, end) = frames_of(unit, rate, *edit).ok_or(PlanFault::Outside)?;
         all.push(Step {
             first,
             end,

@@ -151,7 +151,11 @@ impl Plan {
     {
         let (pixel, width, height) = (picture_pixel(picture), picture.width, picture.height);
         let layers = picture_layers();
-        let unit = Unit { across: 1, down: 1 };
+        let unit = Unit {
+            across: 1,
+            down: 1,
+            interlaced: false,
+        };
         let settled = settle_all(alloc, unit, None, width, height, steps)?;
         let planes = planes_of(alloc, pixel, layers, width, height, &settled)?;
         let Some(framing) = framing else {

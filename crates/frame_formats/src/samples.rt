@@ -101,6 +101,7 @@ pub(crate) fn change_of_samples(
                 top: goal.top,
             })
         }
+        Change::Flip(axes) => Some(Change::Flip(axes)),
     }
 }
 

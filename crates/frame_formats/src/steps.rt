@@ -196,5 +196,6 @@ pub(crate) fn change_in(pixel: Pixel, change: Change<Paint>) -> Option<Change<Va
             tile_height,
         }),
         Change::Move { window, left, top } => Some(Change::Move { window, left, top }),
+        Change::Flip(axes) => Some(Change::Flip(axes)),
     }
 }

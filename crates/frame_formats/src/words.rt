@@ -3,12 +3,12 @@
 ghost use Rattle.std.specs.Prelude.{◌≡◌, ◌+◌, ◌<◌, ◌≤◌, map, IfSome, length};
 ghost use Rattle.text_model.specs.Parts.{parts_of};
 ghost use Rattle.texts.specs.Parts.{parts_left};
-ghost use Rattle.frame_formats.specs.Words.{pair_of, colour_in, paint_of, change_of, pad_of, framing_at, margin_in, rectangle_of, cover_at, change_at, step_at, ranged_at};
+ghost use Rattle.frame_formats.specs.Words.{pair_of, colour_in, paint_of, axes_of, change_of, pad_of, framing_at, margin_in, rectangle_of, cover_at, change_at, step_at, ranged_at};
 
 use crate::framing::Framing;
 use crate::ranges::{Range, read_range};
 use crate::steps::Paint;
-use image_planes::{Change, Window};
+use image_planes::{Axes, Change, Window};
 use texts::{Field, Parts, next};
 
 /// A change, and the frames that it is for.
@@ -150,6 +150,21 @@ fn read_cover(window: Window, margin: Option<usize>, words: &[&[u8]]) -> (Change
     (Change::Fill { window, value }, count)
 }
 
+// What changes places in the whole frame.
+fn read_axes(word: &[u8], which: &[u8]) -> Option<Axes>
+    ensures { result ≡ axes_of word.now which.now }
+{
+    if word == b"flip".as_slice() && which == b"rows".as_slice() {
+        Some(Axes::Rows)
+    } else if word == b"flip".as_slice() && which == b"columns".as_slice() {
+        Some(Axes::Columns)
+    } else if word == b"turn".as_slice() && which == b"half".as_slice() {
+        Some(Axes::Both)
+    } else {
+        None
+    }
+}
+
 // A change by its word, its numbers and the words after them, and how many words it has.
 fn read_changed(word: &[u8], numbers: &[u8], words: &[&[u8]]) -> Option<(Change<Paint>, usize)>
     ensures change { result ≡ change_at word.now numbers.now (map (λ w. w.now) words.now) }
@@ -159,6 +174,9 @@ fn read_changed(word: &[u8], numbers: &[u8], words: &[&[u8]]) -> Option<(Change<
     if word == b"cover".as_slice() {
         let (window, margin) = read_rectangle(numbers)?;
         return Some(read_cover(window, margin, words));
+    }
+    if let Some(axes) = read_axes(word, numbers) {
+        return Some((Change::Flip(axes), 2));
     }
     let window = Window::read(numbers)?;
     let (last, _) = words.split_first()?;

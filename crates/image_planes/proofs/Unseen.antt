@@ -1,10 +1,11 @@
 -- After the steps nothing shows of the old value of a hidden pixel.
-use Rattle.std.proofs.Common.{◌≡◌, ℕ, suc, ◌+◌, ◌-◌, ◌<◌, ◌≤◌, ◌*◌, ◌/◌, ◌%◌, Bool, true, false, cond, eqb, None, List, [], ◌∷◌, ◌++◌, take, drop, refl, sym, ap, ◌∙◌, arith, inl, inr}
+use Rattle.std.proofs.Common.{◌≡◌, ℕ, suc, ◌+◌, ◌-◌, ◌<◌, ◌≤◌, ◌*◌, ◌/◌, ◌%◌, Bool, true, false, cond, eqb, Option, None, List, [], ◌∷◌, ◌++◌, take, drop, refl, sym, ap, ◌∙◌, arith, inl, inr}
 use Rattle.std.proofs.lemmas.Bool.Decides.{eqb_tells}
 use Rattle.std.proofs.lemmas.Bool.{cases_lt}
 use Rattle.std.proofs.lemmas.Nat.{div-mul-add, div-add-mod', div_below, le-div, mod_below}
 use Rattle.std.proofs.Math.Nat.{mul_comm, mul-add, mul-suc, mul-add-div, mul-div-le, mul-le-mul_left, zero-mul}
-use Rattle.image_model.specs.Grid.{Grid, grid_of, patch, view, covers, is_place}
+use Rattle.image_model.specs.Flips.{flipped}
+use Rattle.image_model.specs.Grid.{Grid, grid, grid_of, patch, view, covers, is_place}
 use Rattle.image_model.specs.Layout.{layout, pixel}
 use Rattle.image_model.specs.Rows.{grid_pixels}
 use Rattle.image_model.specs.Tiles.{tile_start}
@@ -12,12 +13,17 @@ use Rattle.image_model.specs.Windows.{window_view}
 use Rattle.image_model.proofs.Grids.{same_grids, covers_decides}
 use Rattle.image_model.proofs.Tiles.{tile_start-is}
 use Rattle.image_ops.specs.Mosaic.{mosaic_by, shown_column}
+use Rattle.image_ops.specs.Oriented.{mirrored_by}
 use Rattle.image_ops.specs.Repeated.{repeated}
-use Rattle.image_planes.specs.Changes.{Job, job_len, in_bytes, changed, changed_plane, changed_planes, plane_grid, stepped, names}
+use Rattle.image_planes.specs.Changes.{Job, job_len, in_bytes, changed, changed_plane, changed_planes, flipped_by, plane_grid, stepped, names}
 use Rattle.image_planes.specs.Unseen.{PlanesAlike, hidden_by, is_hidden, is_corner}
 use Rattle.image_planes.specs.declared.change.Change.{Change}
-use Rattle.image_planes.specs.declared.change.Change.TheVariants.{Fill, Mosaic, Move}
+use Rattle.image_planes.specs.declared.change.Change.TheVariants.{Fill, Mosaic, Move, Flip}
+use Rattle.image_planes.specs.declared.change.Axes.{Axes}
+use Rattle.image_planes.specs.declared.change.Axes.TheVariants.{Rows, Columns, Both}
 use Rattle.image_planes.specs.declared.change.Step.{Step}
+use Rattle.image_planes.proofs.Flips.{mirror, mirror_pixel}
+use Rattle.image_planes.proofs.Parts.{whole_pixels}
 use Rattle.image_shape.specs.declared.window.Window.{Window as Coded}
 
 other_way : {A : Type 0} (b : Bool) (p q x y : A) → (b ≡ true → p ≡ q) → (b ≡ false → x ≡ y) → cond b p x ≡ cond b q y
@@ -91,11 +97,45 @@ covers_pixels size left top width height x y some =
 all_same : (g h : Grid ℕ) → AlikeBut (λ x y. false) g h → g ≡ h
 all_same g h a = λ i. record { width = a.0 i; height = a.1 i; pixel = λ x y. a.2 x y refl i }
 
+-- what two grids of one size have at a place
+both_have : (width height wide high : ℕ) (f e : ℕ → ℕ → Option ℕ) (x y : ℕ) → width ≡ wide → height ≡ high → (x < width → y < height → f x y ≡ e x y) → (grid width height f).pixel x y ≡ (grid wide high e).pixel x y
+both_have width height wide high f e x y across down same = grind arith
+
+-- rows in the opposite order hide what is hidden where they were
+rows_hide : (later : ℕ → ℕ → Bool) (height : ℕ) (g h : Grid ℕ) → g.height ≡ height → AlikeBut (λ x y. later x (height - 1 - y)) g h → AlikeBut later (flipped g) (flipped h)
+unfolding flipped
+rows_hide later height g h high a = (
+  a.0,
+  a.1,
+  λ x y shown. both_have g.width g.height h.width h.height (λ u v. g.pixel u (g.height - 1 - v)) (λ u v. h.pixel u (h.height - 1 - v)) x y a.0 a.1
+      (λ column line.
+      let back : height - 1 - (g.height - 1 - y) ≡ y = omega (arith, high, line) in
+      a.2 x (g.height - 1 - y) (ap (λ n. later x n) back ∙ shown) ∙ ap (λ n. h.pixel x (n - 1 - y)) a.1),
+)
+
+-- so do pixels of rows
+columns_hide : (size : ℕ) (later : ℕ → ℕ → Bool) (width : ℕ) (g h : Grid ℕ) → 0 < size → g.width ≡ size * width → AlikeBut (λ x y. later (width - 1 - x / size) y) g h
+    → AlikeBut (λ x y. later (x / size) y) (mirrored_by size g) (mirrored_by size h)
+columns_hide size later width g h some wide a =
+    let pixels : g.width / size ≡ width = ap (λ n. n / size) wide ∙ whole_pixels size width some in (
+      a.0,
+      a.1,
+      λ x y shown. both_have g.width g.height h.width h.height (λ u v. g.pixel (mirror size g.width u) v) (λ u v. h.pixel (mirror size h.width u) v) x y a.0 a.1
+          (λ column line.
+          let within : x / size < width = div_below x size width some (omega (arith, column, wide, mul_comm size width)) in
+          let back : width - 1 - mirror size g.width x / size ≡ x / size = omega (arith, mirror_pixel size g.width x some, pixels, within) in
+          a.2 (mirror size g.width x) y (ap (λ n. later n y) back ∙ shown) ∙ ap (λ n. h.pixel (mirror size n x) y) a.0),
+    )
+
 -- ---- one change of pixels of so many bytes
 
-module _ (size : ℕ) (some : 0 < size) (later : ℕ → ℕ → Bool) where
+module _ (size : ℕ) (some : 0 < size) (width height : ℕ) (pixels : ℕ → ℕ → Bool) where
+  -- what is hidden before a change, and what is after it, where `pixels` are
   abbrev hides : Change (List ℕ) → ℕ → ℕ → Bool
-  hides c x y = hidden_by c (x / size) y (later x y)
+  hides c x y = hidden_by width height c pixels (x / size) y
+
+  abbrev later : ℕ → ℕ → Bool
+  later x y = pixels (x / size) y
 
   beside : (w : Coded) (x y : ℕ) → covers (size * w.left) w.top (size * w.width) w.height x y ≡ false → covers w.left w.top w.width w.height (x / size) y ≡ false
   beside w x y miss = sym (covers_pixels size w.left w.top w.width w.height x y some) ∙ miss
@@ -134,18 +174,39 @@ module _ (size : ℕ) (some : 0 < size) (later : ℕ → ℕ → Bool) where
       (mosaic_by size tile_width tile_height (window_view g (in_bytes size w))) (mosaic_by size tile_width tile_height (window_view h (in_bytes size w))) refl refl
       (mosaic_alike w tile_width tile_height g h a) (λ x y miss. let out = beside w x y miss in rw out refl) a
 
-  one_step : (named : Bool) (c : Change (List ℕ)) (g h : Grid ℕ) → AlikeBut (λ x y. cond named (hides c x y) (later x y)) g h
+  flip_hides : (axes : Axes) (g h : Grid ℕ) → g.width ≡ size * width → g.height ≡ height → AlikeBut (hides (Flip axes)) g h → AlikeBut later (flipped_by size axes g) (flipped_by size axes h)
+  flip_hides Rows g h wide high a = rows_hide later height g h high a
+  flip_hides Columns g h wide high a = columns_hide size pixels width g h some wide a
+  flip_hides Both g h wide high a =
+      rows_hide later height (mirrored_by size g) (mirrored_by size h) high (columns_hide size (λ x y. pixels x (height - 1 - y)) width g h some wide a)
+
+  one_step : (named : Bool) (c : Change (List ℕ)) (g h : Grid ℕ) → g.width ≡ size * width → g.height ≡ height → AlikeBut (λ x y. cond named (hides c x y) (later x y)) g h
       → AlikeBut later (cond named (changed size c g) g) (cond named (changed size c h) h)
-  one_step false c g h a = a
-  one_step true (Fill w value) g h a = fill_hides w value g h a
-  one_step true (Mosaic w tile_width tile_height) g h a = mosaic_hides w tile_width tile_height g h a
-  one_step true (Move w left top) g h a = grind (arith, all_same)
+  one_step false c g h wide high a = a
+  one_step true (Fill w value) g h wide high a = fill_hides w value g h a
+  one_step true (Mosaic w tile_width tile_height) g h wide high a = mosaic_hides w tile_width tile_height g h a
+  one_step true (Move w left top) g h wide high a = grind (arith, all_same)
+  one_step true (Flip axes) g h wide high a = flip_hides axes g h wide high a
+
+-- a change leaves the size
+size_kept : (size : ℕ) (named : Bool) (c : Change (List ℕ)) (g : Grid ℕ) → ((cond named (changed size c g) g).width ≡ g.width) × ((cond named (changed size c g) g).height ≡ g.height)
+unfolding patch flipped
+size_kept size false c g = (refl, refl)
+size_kept size true (Fill w value) g = (refl, refl)
+size_kept size true (Mosaic w tile_width tile_height) g = (refl, refl)
+size_kept size true (Move w left top) g = (refl, refl)
+size_kept size true (Flip Rows) g = (refl, refl)
+size_kept size true (Flip Columns) g = (refl, refl)
+size_kept size true (Flip Both) g = (refl, refl)
 
 -- ---- all steps of a plane, and all planes
 
-steps_hide : (size number : ℕ) (steps : List (Step (List ℕ))) (g h : Grid ℕ) → 0 < size → AlikeBut (λ x y. is_hidden number steps (x / size) y) g h → stepped size number steps g ≡ stepped size number steps h
-steps_hide size number [] g h some a = all_same g h a
-steps_hide size number (s ∷ ss) g h some a = steps_hide size number ss _ _ some (one_step size some (λ x y. is_hidden number ss (x / size) y) (names s number) s.change g h a)
+steps_hide : (size width height number : ℕ) (steps : List (Step (List ℕ))) (g h : Grid ℕ) → 0 < size → g.width ≡ size * width → g.height ≡ height
+    → AlikeBut (λ x y. is_hidden width height number steps (x / size) y) g h → stepped size number steps g ≡ stepped size number steps h
+steps_hide size width height number [] g h some wide high a = all_same g h a
+steps_hide size width height number (s ∷ ss) g h some wide high a =
+    let kept = size_kept size (names s number) s.change g in
+    steps_hide size width height number ss _ _ some (kept.0 ∙ wide) (kept.1 ∙ high) (one_step size some width height (is_hidden width height number ss) (names s number) s.change g h wide high a)
 
 -- a plane of no bytes shows nothing
 no_bytes : (j : Job) (p q : List ℕ) → j.size ≡ 0 → plane_grid j p ≡ plane_grid j q
@@ -155,12 +216,13 @@ no_bytes j p q none =
     same_grids (j.size * j.width) j.height (pixel (layout p (j.size * j.width) j.height (j.size * j.width))) (pixel (layout q (j.size * j.width) j.height (j.size * j.width))) (λ x y column line. absurd (omega (arith, column, width)))
 
 pub planes_hide : (number : ℕ) (jobs : List Job) (p q : List ℕ) → PlanesAlike number jobs p q → changed_planes number jobs p ≡ changed_planes number jobs q
+unfolding grid_of
 planes_hide number [] p q alike = alike
 planes_hide number (j ∷ js) p q alike =
     let a = alike.0 in
     let same : stepped j.size number j.steps (plane_grid j (take (job_len j) p)) ≡ stepped j.size number j.steps (plane_grid j (take (job_len j) q)) =
     elim (cases_lt 0 j.size) [
-      | inl some ↦ steps_hide j.size number j.steps _ _ some (a.same_width, a.same_height, a.shown)
+      | inl some ↦ steps_hide j.size j.width j.height number j.steps _ _ some refl refl (a.same_width, a.same_height, a.shown)
       | inr none ↦ ap (stepped j.size number j.steps) (no_bytes j (take (job_len j) p) (take (job_len j) q) (omega (arith, none)))
     ] in
     let first : changed_plane number j (take (job_len j) p) ≡ changed_plane number j (take (job_len j) q) = ap grid_pixels same in

@@ -1,40 +1,53 @@
 -- What changes make of the grid of an image, and of a frame: planes one after the other.
-use Rattle.std.specs.Prelude.{ℕ, ◌+◌, ◌*◌, ◌<◌, ◌^◌, Bool, ◌&&◌, nat_lt, nat_le, if◌then◌else◌, Option, Some, None, List, [], ◌∷◌, ◌++◌, take, drop}
+use Rattle.std.specs.Prelude.{ℕ, ◌+◌, ◌*◌, ◌<◌, ◌^◌, Bool, true, ◌&&◌, nat_lt, nat_le, if◌then◌else◌, Option, Some, None, List, [], ◌∷◌, ◌++◌, take, drop}
 use Rattle.image_model.specs.Layout.{layout}
 use Rattle.image_model.specs.Grid.{Grid, grid_of, patch}
+use Rattle.image_model.specs.Flips.{flipped}
 use Rattle.image_model.specs.Rows.{grid_pixels}
 use Rattle.image_model.specs.Windows.{IsInside, is_inside, window, window_view}
 use Rattle.image_model.specs.Windows as model
 use Rattle.imgref.specs.Window.{as_window}
 use Rattle.image_ops.specs.Mosaic.{mosaic_by}
+use Rattle.image_ops.specs.Oriented.{mirrored_by}
 use Rattle.image_ops.specs.Repeated.{repeated}
 use Rattle.std.specs.List.{list_all}
 use Rattle.image_shape.specs.declared.window.Window.{Window}
+use Rattle.image_planes.specs.declared.change.Axes.{Axes}
+use Rattle.image_planes.specs.declared.change.Axes.TheVariants.{Rows, Columns, Both}
 use Rattle.image_planes.specs.declared.change.Step.{Step}
 use Rattle.image_planes.specs.declared.change.Change.{Change}
-use Rattle.image_planes.specs.declared.change.Change.TheVariants.{Fill, Mosaic, Move}
+use Rattle.image_planes.specs.declared.change.Change.TheVariants.{Fill, Mosaic, Move, Flip}
 
 -- a window of pixels as one of bytes, where so many bytes next to one another are a pixel
 abbrev pub in_bytes : ℕ → Window → model.Window
 in_bytes size w = window (size * w.left) w.top (size * w.width) w.height
+
+-- the grid of bytes whose rows, or the pixels of its rows, are in the opposite order; with both it is turned by a half
+abbrev pub flipped_by : ℕ → Axes → Grid ℕ → Grid ℕ
+flipped_by size Rows g = flipped g
+flipped_by size Columns g = mirrored_by size g
+flipped_by size Both g = flipped (mirrored_by size g)
 
 -- what a change of pixels of so many bytes makes of the grid of the bytes
 abbrev pub changed : ℕ → Change (List ℕ) → Grid ℕ → Grid ℕ
 changed size (Fill w value) g = patch g (size * w.left) w.top (repeated (size * w.width) w.height (take size value))
 changed size (Mosaic w tile_width tile_height) g = patch g (size * w.left) w.top (mosaic_by size tile_width tile_height (window_view g (in_bytes size w)))
 changed size (Move w left top) g = patch g (size * left) top (window_view g (in_bytes size w))
+changed size (Flip axes) g = flipped_by size axes g
 
 -- a change is valid for so many pixels: its windows are inside, and its tiles have a place
 abbrev pub IsChangeOf : ℕ → ℕ → Change (List ℕ) → Type 0
 IsChangeOf width height (Fill w value) = IsInside width height (as_window w)
 IsChangeOf width height (Mosaic w tile_width tile_height) = (0 < tile_width) × (0 < tile_height) × IsInside width height (as_window w)
 IsChangeOf width height (Move w left top) = IsInside width height (as_window w) × IsInside width height (window left top w.width w.height)
+IsChangeOf width height (Flip axes) = Unit {0}
 
 -- the same as a test
 abbrev pub is_change_of : ℕ → ℕ → Change (List ℕ) → Bool
 is_change_of width height (Fill w value) = is_inside width height (as_window w)
 is_change_of width height (Mosaic w tile_width tile_height) = nat_lt 0 tile_width && (nat_lt 0 tile_height && is_inside width height (as_window w))
 is_change_of width height (Move w left top) = is_inside width height (as_window w) && is_inside width height (window left top w.width w.height)
+is_change_of width height (Flip axes) = true
 
 -- whether a step applies to the frame of this number
 abbrev pub names : {V : Type 0} → Step V → ℕ → Bool

@@ -1,20 +1,31 @@
 //! Changes of an image in place, over its bytes in a shape. A pixel is some bytes next to one
 //! another in a row, so a window of pixels is a window of bytes.
 
-ghost use Rattle.std.specs.Prelude.{◌≡◌, ◌<◌, ◌/◌};
+ghost use Rattle.std.specs.Prelude.{◌≡◌, ◌<◌, ◌/◌, ◌*◌};
 ghost use Rattle.image_model.specs.Layout.{Fits};
 ghost use Rattle.image_model.specs.Grid.{grid_of};
 ghost use Rattle.image_model.specs.Windows.{IsInside};
 ghost use Rattle.imgref.specs.Shape.{shaped, shape_width, shape_height};
 ghost use Rattle.imgref.specs.Window.{as_window};
 ghost use Rattle.image_ops.specs.Written.{Becomes};
-ghost use Rattle.image_planes.specs.Changes.{IsChangeOf, changed, in_bytes};
+ghost use Rattle.image_planes.specs.Changes.{IsChangeOf, changed, flipped_by, in_bytes};
 
-use image_ops::{mosaic_window_by, move_pixels, repeat_window};
+use image_ops::{flip_rows, flip_window_columns, mosaic_window_by, move_pixels, repeat_window};
 use imgref::{Shape, Window};
 
 /// The bytes of a pixel. Where a pixel has fewer, the others are ignored.
 pub type Value = [u8; 8];
+
+/// What changes places in an image: the first with the last, and so on.
+#[derive(Clone, Copy, PartialEq, Eq)]
+pub enum Axes {
+    /// The rows.
+    Rows,
+    /// The pixels of each row.
+    Columns,
+    /// The rows, and the pixels of each. That is a half turn.
+    Both,
+}
 
 /// A change of an image. `V` is the type of the values that pixels get.
 #[derive(Clone, Copy, PartialEq, Eq)]
@@ -37,6 +48,8 @@ pub enum Change<V> {
         left: usize,
         top: usize,
     },
+    /// The rows or the columns of the whole image change places.
+    Flip(Axes),
 }
 
 /// A change, and the frames to which it is applied, by their numbers from 0.
@@ -66,12 +79,47 @@ pub(crate) fn in_bytes(shape: Shape, size: usize, window: Window) -> Window
     )
 }
 
+// In each row the first pixel changes places with the last, and so on. A pixel has `size` bytes; the
+// padding stays.
+fn flip_columns(cells: &mut [u8], shape: Shape, size: usize)
+    requires fits { Fits (shaped cells.old shape) }
+    requires some { 0 < size }
+    requires few { size < 9 }
+    requires whole { shape_width shape ≡ shape_width shape / size * size }
+    ensures { Becomes shape cells.old cells.new
+        (flipped_by size Axes.Columns (grid_of (shaped cells.old shape))) }
+{
+    let (width, height) = (shape.width(), shape.height());
+    let window = Window::new(0, 0, width, height);
+    flip_window_columns(cells, shape, window, size, width / size);
+}
+
+// The rows or the columns change places.
+fn flip_cells(cells: &mut [u8], shape: Shape, size: usize, axes: Axes)
+    requires fits { Fits (shaped cells.old shape) }
+    requires some { 0 < size }
+    requires few { size < 9 }
+    requires whole { shape_width shape ≡ shape_width shape / size * size }
+    ensures { Becomes shape cells.old cells.new
+        (flipped_by size axes (grid_of (shaped cells.old shape))) }
+{
+    match axes {
+        Axes::Rows => flip_rows(cells, shape),
+        Axes::Columns => flip_columns(cells, shape, size),
+        Axes::Both => {
+            flip_columns(cells, shape, size);
+            flip_rows(cells, shape);
+        }
+    }
+}
+
 /// Applies the change of pixels of `size` bytes to the image that the bytes make in this shape; the
 /// padding stays.
 pub(crate) fn change_cells(cells: &mut [u8], shape: Shape, size: usize, change: Change<Value>)
     requires fits { Fits (shaped cells.old shape) }
     requires some { 0 < size }
     requires few { size < 9 }
+    requires whole { shape_width shape ≡ shape_width shape / size * size }
     requires inside { IsChangeOf (shape_width shape / size) (shape_height shape) change }
     ensures { Becomes shape cells.old cells.new
         (changed size change (grid_of (shaped cells.old shape))) }
@@ -93,5 +141,6 @@ pub(crate) fn change_cells(cells: &mut [u8], shape: Shape, size: usize, change: 
             let from = in_bytes(shape, size, window);
             move_pixels(cells, shape, from, in_bytes(shape, size, target));
         }
+        Change::Flip(axes) => flip_cells(cells, shape, size, axes),
     }
 }

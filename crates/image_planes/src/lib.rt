@@ -10,7 +10,7 @@ mod spans;
 mod steps;
 mod target;
 
-pub use change::{Change, Step, Value};
+pub use change::{Axes, Change, Step, Value};
 pub use hiding::changes_hide;
 pub use imgref::Window;
 pub use plane::Plane;

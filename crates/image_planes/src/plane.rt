@@ -73,12 +73,14 @@ impl Plane {
     }
 
     // The size of its bytes, without padding.
-    #[tactic(auto, using(crate::proofs::Parts::plane_numbers, crate::proofs::Parts::whole_pixels))]
+    #[tactic(auto, using(crate::proofs::Parts::plane_numbers, crate::proofs::Parts::whole_pixels, crate::proofs::Parts::in_whole_pixels))]
     fn shape(&self) -> Shape
         ensures width { shape_width result ≡ (job_of self.now).size * (job_of self.now).width }
         ensures height { shape_height result ≡ (job_of self.now).height }
         ensures stride { shape_stride result ≡ (job_of self.now).size * (job_of self.now).width }
         ensures pixels { shape_width result / (job_of self.now).size ≡ (job_of self.now).width }
+        ensures whole { shape_width result
+            ≡ shape_width result / (job_of self.now).size * (job_of self.now).size }
         ensures some { 0 < (job_of self.now).size }
         ensures few { (job_of self.now).size < 9 }
     {
@@ -125,5 +127,6 @@ pub(crate) fn is_inside(width: usize, height: usize, change: Change<Value>) -> b
             let target = Window::new(left, top, window.width, window.height);
             window.is_inside(width, height) && target.is_inside(width, height)
         }
+        Change::Flip(_) => true,
     }
 }

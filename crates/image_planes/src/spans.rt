@@ -1,6 +1,6 @@
 //! Blocks of steps, and the frames that each names, so that a frame passes over the blocks of others.
 
-ghost use Rattle.std.specs.Prelude.{◌≡◌, ◌<◌, ◌/◌, IfOk, IsTrue};
+ghost use Rattle.std.specs.Prelude.{◌≡◌, ◌<◌, ◌/◌, ◌*◌, IfOk, IsTrue};
 ghost use Rattle.image_model.specs.Layout.{Fits};
 ghost use Rattle.image_model.specs.Grid.{grid_of};
 ghost use Rattle.imgref.specs.Shape.{shaped, shape_width, shape_height};
@@ -76,6 +76,7 @@ pub(crate) fn do_blocks(
     requires fits { Fits (shaped cells.old shape) }
     requires some { 0 < size }
     requires few { size < 9 }
+    requires whole { shape_width shape ≡ shape_width shape / size * size }
     requires inside { IsTrue
         (are_inside (shape_width shape / size) (shape_height shape) steps.now) }
     requires spans { IsTrue (are_spans spans.now steps.now) }

@@ -1,6 +1,6 @@
 //! Changes that are applied one after the other, each to some frames of a video.
 
-ghost use Rattle.std.specs.Prelude.{◌≡◌, ◌<◌, ◌/◌, IsTrue};
+ghost use Rattle.std.specs.Prelude.{◌≡◌, ◌<◌, ◌/◌, ◌*◌, IsTrue};
 ghost use Rattle.image_model.specs.Layout.{Fits};
 ghost use Rattle.image_model.specs.Grid.{grid_of};
 ghost use Rattle.imgref.specs.Shape.{shaped, shape_width, shape_height};
@@ -32,6 +32,7 @@ pub(crate) fn do_steps(
     requires fits { Fits (shaped cells.old shape) }
     requires some { 0 < size }
     requires few { size < 9 }
+    requires whole { shape_width shape ≡ shape_width shape / size * size }
     requires inside { IsTrue
         (are_inside (shape_width shape / size) (shape_height shape) steps.now) }
     ensures { Becomes shape cells.old cells.new

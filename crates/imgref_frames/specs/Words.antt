@@ -7,7 +7,7 @@ use Rattle.frame_formats.specs.Edits.{Edits}
 use Rattle.frame_formats.specs.Lists.{AreEdits, framing_after}
 use Rattle.frame_formats.specs.Words.{Named}
 use Rattle.image_planes.specs.declared.change.Change.{Change}
-use Rattle.image_planes.specs.declared.change.Change.TheVariants.{Fill, Mosaic, Move}
+use Rattle.image_planes.specs.declared.change.Change.TheVariants.{Fill, Mosaic, Move, Flip}
 use Rattle.frame_formats.specs.declared.ranges.Range.{Range}
 use Rattle.frame_formats.specs.declared.ranges.Range.TheVariants.{Frames, Times}
 use Rattle.frame_formats.specs.declared.steps.Paint.{Paint}
@@ -31,16 +31,18 @@ pub record AreUsable (e : Edits) : Type 0 where
   pub some : is_nil e.steps && is_none e.framing ≡ false
   pub ranges : All (λ s. IsTrue (has_span s.range)) e.steps
 
--- a change that carries pixels away, and one that covers some
+-- a change that carries pixels away from what is covered later, and one that covers some
 abbrev pub moves : Change Paint → Bool
 moves (Fill w paint) = false
 moves (Mosaic w wide high) = false
 moves (Move w left top) = true
+moves (Flip axes) = false
 
 abbrev pub covers : Change Paint → Bool
 covers (Fill w paint) = true
 covers (Mosaic w wide high) = true
 covers (Move w left top) = false
+covers (Flip axes) = false
 
 -- a fill or a mosaic comes after a move
 unfoldable pub covers_late : List Edit → Bool

@@ -16,6 +16,17 @@ struct Form {
     sample: &'static [u8],
 }
 
+impl Form {
+    // What is said of other words in the place of its numbers.
+    fn other(&self) -> &'static str {
+        if self.word == b"flip".as_slice() || self.word == b"turn".as_slice() {
+            "that"
+        } else {
+            "one. A number has no sign and no zero in front"
+        }
+    }
+}
+
 const RECTANGLE: &str = "a rectangle L,T,W,H";
 
 // How an edit with this word is written.
@@ -44,6 +55,18 @@ fn form_of(word: &[u8]) -> Option<Form> {
             numbers: RECTANGLE,
             last: "a place X,Y",
             sample: b"0,0",
+        },
+        Form {
+            word: b"flip",
+            numbers: "rows or columns",
+            last: "",
+            sample: b"0",
+        },
+        Form {
+            word: b"turn",
+            numbers: "half",
+            last: "",
+            sample: b"0",
         },
         Form {
             word: b"crop",
@@ -122,7 +145,7 @@ fn say_no_change(rt: &HostRuntime, words: &[&[u8]], has_range: bool) {
         Some(form) => say_bad_form(rt, form, others, has_range),
         None => {
             let _ = eprintln!(rt;
-                "{} isn't one of cover, fill, mosaic, move, crop and pad",
+                "{} isn't one of cover, fill, mosaic, move, flip, turn, crop and pad",
                 shown(word)
             );
         }
@@ -138,9 +161,10 @@ fn say_bad_form(rt: &HostRuntime, form: Form, words: &[&[u8]], has_range: bool) 
     };
     if !is_edit_of(rt.alloc(), form.word, numbers, form.sample) {
         let _ = eprintln!(rt;
-            "{name} needs {}, and {} isn't one. A number has no sign and no zero in front",
+            "{name} needs {}, and {} isn't {}",
             form.numbers,
-            shown(numbers)
+            shown(numbers),
+            form.other()
         );
         return;
     }

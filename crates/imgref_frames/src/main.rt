@@ -21,7 +21,7 @@ use devices::Retried;
 pub use fault::RunFault;
 use files::{Sink, Source, create_beside, read_whole, target_of};
 use frame_formats::Edits;
-pub use frame_formats::{Change, Edit, Format, Framing, Paint, Picture, Range, Rate, Window};
+pub use frame_formats::{Axes, Change, Edit, Format, Framing, Paint, Picture, Range, Rate, Window};
 use options::{Options, read_options};
 pub use program::run;
 use ranges::{say_uncovered, say_unreached};
@@ -44,6 +44,8 @@ EDIT is one of these. The edits are applied to each frame or picture, in their o
        [A..B] fill L,T,W,H R,G,B      a colour, only for pictures in colour
        [A..B] mosaic L,T,W,H TW,TH    tiles of TW by TH pixels
        [A..B] move L,T,W,H X,Y        to column X, row Y
+       [A..B] flip rows|columns       the whole frame upside down, or mirrored
+       [A..B] turn half               the whole frame by a half turn
        crop L,T,W,H                   only as the last edit
        pad L,T,R,B V                  likewise: a border of brightness V, no colour
 A..B: only the frames A to B-1, counted from 0; A..: from A on.

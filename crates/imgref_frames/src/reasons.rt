@@ -5,7 +5,7 @@ use crate::fault::RunFault;
 use crate::ranges::say_no_frames;
 use crate::request::{Seen, Shape};
 use crate::words::{Lines, Refusal};
-use frame_formats::{Change, Chroma, Edits, Format, Framing, Kind, Paint, Window};
+use frame_formats::{Change, Chroma, Edits, Format, Framing, Kind, Paint, Window, turns_over};
 
 // A frame: its size, how many columns and rows of pixels share a chroma sample, and the greatest
 // value of a sample.
@@ -16,6 +16,7 @@ struct Frame {
     across: usize,
     down: usize,
     has_colours: bool,
+    interlaced: bool,
     greatest: usize,
 }
 
@@ -33,6 +34,7 @@ impl Frame {
             across,
             down,
             has_colours: false,
+            interlaced: format.interlaced,
             greatest: format.pixel.greatest as usize,
         }
     }
@@ -49,6 +51,7 @@ impl Frame {
                     Kind::Plain { colour } => colour,
                     Kind::Pam(tuples) => tuples.colour,
                 },
+                interlaced: false,
                 greatest: picture.greatest as usize,
             },
         }
@@ -68,6 +71,8 @@ enum Wrong {
     NoSize,
     Colour,
     TooLarge,
+    // The rows of one field would be where those of the other were.
+    Fields,
     // This number of these is no multiple of that.
     Uneven(&'static str, usize, usize),
     // This value is above the greatest.
@@ -150,6 +155,7 @@ fn check_change(frame: Frame, change: Change<Paint>) -> Option<Wrong> {
             let goal = Window::new(left, top, window.width, window.height);
             check_window(frame, window).or(check_window(frame, goal))
         }
+        Change::Flip(_) => (frame.interlaced && turns_over(change)).then_some(Wrong::Fields),
     }
 }
 
@@ -180,6 +186,9 @@ fn say_wrong(rt: &HostRuntime, wrong: Wrong) {
         Wrong::Outside => eprintln!(rt; "it reaches outside the frame"),
         Wrong::NoSize => eprintln!(rt; "its size is 0"),
         Wrong::Colour => eprintln!(rt; "a colour is only for pictures in colour"),
+        Wrong::Fields => eprintln!(rt;
+            "the video is interlaced, and this would exchange its two fields. Deinterlace it first"
+        ),
         Wrong::Value(value, greatest) => eprintln!(rt;
             "value {value} is above {greatest}, the greatest of a sample"
         ),

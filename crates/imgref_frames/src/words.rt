@@ -147,7 +147,7 @@ fn is_move(change: Change<Paint>) -> bool
 {
     match change {
         Change::Move { .. } => true,
-        Change::Fill { .. } | Change::Mosaic { .. } => false,
+        Change::Fill { .. } | Change::Mosaic { .. } | Change::Flip(_) => false,
     }
 }
 
@@ -155,7 +155,7 @@ fn is_cover(change: Change<Paint>) -> bool
     ensures { result ≡ covers change }
 {
     match change {
-        Change::Move { .. } => false,
+        Change::Move { .. } | Change::Flip(_) => false,
         Change::Fill { .. } | Change::Mosaic { .. } => true,
     }
 }
