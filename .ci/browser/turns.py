@@ -1,4 +1,6 @@
 """The page in a browser: the whole picture turned and mirrored, with its covers."""
+import subprocess
+
 from browser import png
 from browser.acts import exchanged
 from browser.models import HEIGHT, PIXELS, WIDTH, wanted
@@ -12,6 +14,8 @@ LISTS = (
     "fill 10,8,20,12 0\nturn right", "means 1,2,57,37 7,5\nturn half", "move 0,0,30,20 5,4\nturn left",
     "crop 7,9,30,20\nturn left", "pad 1,2,3,4 16\nflip rows", "fill 1,1,9,9 1,2,3\ncrop 59,0,1,40\nturn right\nflip rows",
 )
+# What only the page takes: a mean, and a turn after another size.
+PAGE_ALONE = ("means", "crop", "pad", "turn right", "turn left")
 # What a person presses, and the list then.
 PRESSES = (
     ((RIGHT,), "turn right\n"), ((RIGHT,) * 2, "turn half\n"), ((RIGHT,) * 3, "turn left\n"), ((RIGHT,) * 4, ""),
@@ -51,14 +55,18 @@ def press(page, line):
     page.browser.run("document.getElementById(arguments[0]).click()", BUTTONS[line])
 
 
-def check_turns(page):
-    """What is saved, by lists and by buttons. Each press is undone."""
+def check_turns(page, program):
+    """What is saved, by lists and by buttons, and what imgref_frames makes of the same list. Each press is undone."""
     for text in LISTS:
         page.open()
         said = page.apply(text)
         label = text.replace("\n", "; ")
         page.count(f"{label}: carried out", page.list() == f"{text}\n" and "Done" in said or "move" in text, said)
-        page.count(f"{label}: by the model", png.ppm_of(page.save()) == wanted(text))
+        saved = png.ppm_of(page.save())
+        page.count(f"{label}: by the model", saved == wanted(text))
+        if program and not any(it in text for it in PAGE_ALONE):
+            ran = subprocess.run([program, *text.split()], input=png.ppm(WIDTH, HEIGHT, PIXELS), capture_output=True)
+            page.count(f"{label}: by imgref_frames", ran.returncode == 0 and saved == ran.stdout, ran.stderr)
     for lines, text in PRESSES:
         page.open()
         page.apply("fill 10,8,20,12 0")
@@ -120,8 +128,8 @@ def check_turned_hides(page):
         page.count(f"{line}: shown pixels exchanged don't", saved[0] != saved[2])
 
 
-def check(page):
-    check_turns(page)
+def check(page, program):
+    check_turns(page, program)
     check_bad(page)
     check_hands(page)
     check_turned_hides(page)

@@ -141,7 +141,7 @@ def check_page(cases, program):
         acts.check_undo(page)
         acts.check_hidden(page)
         acts.check_means(page)
-        turns.check(page)
+        turns.check(page, program)
         files.check_wrong_files(page)
         files.check_given(page)
         files.check_dropped(page)
