@@ -169,20 +169,15 @@ fn check_joined<T: Copy + PartialEq>(rt: &impl Abort, old: &[T], cells: &mut [T]
     }
 }
 
-// The corners from which and to which rows of a width go: within a row, up, down and across.
-fn corners(width: usize) -> [(usize, usize); 5]
-    requires { width < 100 }
-{
-    [(0, 1), (1, 0), (0, width + 1), (width + 1, 0), (2, 5)]
-}
-
+// Rows of each width up to 69 go within themselves, down, up and across.
 fn check_bytes<const N: usize>(rt: &impl Abort) {
+    assert!(rt; N == 500);
     let mut old = [0u8; N];
     for k in 0..N {
         old[k] = (k % 251) as u8;
     }
     for width in 1..70 {
-        for (from, to) in corners(width) {
+        for (from, to) in [(0, 1), (1, 0), (0, width + 1), (width + 1, 0), (2, 5)] {
             let mut cells = old;
             check_move(rt, &old, &mut cells, width, from, to);
         }
@@ -192,12 +187,13 @@ fn check_bytes<const N: usize>(rt: &impl Abort) {
 }
 
 fn check_words<const N: usize>(rt: &impl Abort) {
+    assert!(rt; N == 500);
     let mut old = [0u32; N];
     for k in 0..N {
         old[k] = (k % 251) as u32;
     }
     for width in 1..70 {
-        for (from, to) in corners(width) {
+        for (from, to) in [(0, 1), (1, 0), (0, width + 1), (width + 1, 0), (2, 5)] {
             let mut cells = old;
             check_move(rt, &old, &mut cells, width, from, to);
         }
