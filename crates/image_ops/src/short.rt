@@ -6,13 +6,14 @@
 ghost use Rattle.std.specs.Prelude.{◌≡◌, ◌*◌, ◌<◌, ◌≤◌, length};
 ghost use Rattle.std.specs.Cmp.Lexicographic.{pointwise};
 
+use row_mover::{read_part, write_part};
 use std::mem::size_of_val;
 
 // The most cells, and the most bytes, of a short row.
 const FEW: usize = 64;
 
 /// How many cells each part of a row of `width` cells has, where the row is short. It is 0 where it
-/// isn't, where there is no cell, and for cells that have no register of their size.
+/// isn't, and where there is no cell.
 #[inline(always)]
 pub(crate) fn part_of_row<T>(cells: &[T], width: usize) -> usize
     ensures enough { result ≤ width }
@@ -22,7 +23,7 @@ pub(crate) fn part_of_row<T>(cells: &[T], width: usize) -> usize
         return 0;
     };
     let size = size_of_val(cell);
-    if !matches!(size, 1 | 2 | 4 | 8 | 16) || width > FEW || width * size > FEW {
+    if size > FEW || width > FEW || width * size > FEW {
         return 0;
     }
     if width > 32 {
@@ -52,8 +53,7 @@ pub(crate) fn part_of_small_row<T>(cells: &[T], width: usize) -> usize
     }
 }
 
-/// Copies a row of `N` to `2 * N` cells, as the first and the last `N`. They are read into
-/// registers first: between two lists the compiler would test whether these overlap.
+/// Copies a row of `N` to `2 * N` cells, as the first and the last `N`.
 #[inline(always)]
 pub(crate) fn copy_ends<T: Copy, const N: usize>(cells: &mut [T], source: &[T])
     requires some { 0 < N }
@@ -64,13 +64,10 @@ pub(crate) fn copy_ends<T: Copy, const N: usize>(cells: &mut [T], source: &[T])
     ensures after { cells.new ≡ source.now }
 {
     let start = cells.len() - N;
-    let mut first = [source[0]; N];
-    let mut last = [source[0]; N];
-    first.as_mut_slice().copy_from_slice(&source[..N]);
-    last.as_mut_slice()
-        .copy_from_slice(&source[start..start + N]);
-    cells[..N].copy_from_slice(first.as_slice());
-    cells[start..start + N].copy_from_slice(last.as_slice());
+    let first = read_part::<T, N>(&source[..N]);
+    write_part(&mut cells[..N], first);
+    let last = read_part::<T, N>(&source[start..start + N]);
+    write_part(&mut cells[start..start + N], last);
 }
 
 // Whether `N` cells are equal one by one. No cell ends the loop, so it becomes vectors.

@@ -9,6 +9,8 @@
 ghost use Rattle.std.specs.Prelude.{◌≡◌, ◌+◌, ◌*◌, ◌<◌, ◌≤◌, length};
 ghost use Rattle.image_model.specs.Shifts.{shifted};
 
+use crate::parts::{read_part, write_part};
+
 // Copies `N` cells: all are read before one is written.
 fn copy_block<T: Copy, const N: usize>(cells: &mut [T], start: usize, target: usize)
     requires some { 0 < N }
@@ -17,11 +19,8 @@ fn copy_block<T: Copy, const N: usize>(cells: &mut [T], start: usize, target: us
     ensures { cells.new ≡ shifted cells.old start N target }
 {
     let _count = cells.len();
-    let mut block = [cells[start]; N];
-    block
-        .as_mut_slice()
-        .copy_from_slice(&cells[start..start + N]);
-    cells[target..target + N].copy_from_slice(block.as_slice());
+    let block = read_part::<T, N>(&cells[start..start + N]);
+    write_part(&mut cells[target..target + N], block);
 }
 
 // Copies `N` to `2 * N` cells, as the first and the last `N`: all are read before one is written.
@@ -35,15 +34,10 @@ fn copy_ends<T: Copy, const N: usize>(cells: &mut [T], start: usize, len: usize,
     ensures { cells.new ≡ shifted cells.old start len target }
 {
     let _count = cells.len();
-    let mut first = [cells[start]; N];
-    let mut last = [cells[start]; N];
-    first
-        .as_mut_slice()
-        .copy_from_slice(&cells[start..start + N]);
-    last.as_mut_slice()
-        .copy_from_slice(&cells[start + len - N..start + len]);
-    cells[target..target + N].copy_from_slice(first.as_slice());
-    cells[target + len - N..target + len].copy_from_slice(last.as_slice());
+    let first = read_part::<T, N>(&cells[start..start + N]);
+    let last = read_part::<T, N>(&cells[start + len - N..start + len]);
+    write_part(&mut cells[target..target + N], first);
+    write_part(&mut cells[target + len - N..target + len], last);
 }
 
 // Copies one or two cells: both are read before one is written.

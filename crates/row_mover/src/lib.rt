@@ -8,7 +8,9 @@
 mod blocks;
 mod mover;
 mod moves;
+mod parts;
 #[cfg(test)]
 mod tests;
 
 pub use mover::RowMover;
+pub use parts::{read_part, write_part};

@@ -3,7 +3,7 @@ ghost use Rattle.image_model.specs.Shifts.{shifted};
 
 use crate::blocks::{copy_by_blocks, copy_few};
 use std::marker::Model;
-use std::mem::size_of_val;
+use std::mem::size_of;
 
 /// Shifts cells within one borrowed list, and counts the shifts.
 ///
@@ -79,17 +79,14 @@ impl<'a, T: Copy> RowMover<'a, T> {
 // The most cells, and the most bytes, of a short stretch.
 const FEW: usize = 64;
 
-// Whether a stretch of so many cells is so short that the tests of the longer ones, and a call of
-// `memmove`, would take longer than its copy. Cells of three bytes have no register of their size.
+// Whether a stretch is so short that the tests of the longer ones, and a call of `memmove`, would
+// take longer than its copy. Only its length is looked at: where the compiler knows that in a loop,
+// no test is left there.
 #[inline(always)]
-fn is_short<T>(cells: &[T], len: usize) -> bool
-    ensures { IsTrue result → len ≤ 64 }
+fn is_short<T>(stretch: &[T]) -> bool
+    ensures { IsTrue result → length stretch.now ≤ 64 }
 {
-    let Some(cell) = cells.first() else {
-        return false;
-    };
-    let size = size_of_val(cell);
-    matches!(size, 1 | 2 | 4 | 8 | 16) && len <= FEW && len * size <= FEW
+    stretch.len() <= FEW && stretch.len() * size_of::<T>() <= FEW
 }
 
 // Copies a stretch to a place that it may overlap.
@@ -99,7 +96,7 @@ fn copy_stretch<T: Copy>(cells: &mut [T], start: usize, len: usize, target: usiz
     requires target { target + len ≤ length cells.old }
     ensures { cells.new ≡ shifted cells.old start len target }
 {
-    if is_short(cells, len) {
+    if is_short(&cells[start..start + len]) {
         copy_few(cells, start, len, target);
     } else {
         copy_long(cells, start, len, target);

@@ -126,3 +126,88 @@ fn moves_by_the_greatest_numbers<const N: usize>(rt: &impl Abort) {
     assert_eq!(rt; mover.shifts(), 4);
     assert_eq!(rt; mover.into_cells().len(), N);
 }
+
+// Three rows of a width move from a cell to another, and each cell is compared with what it was.
+fn check_move<T: Copy + PartialEq>(
+    rt: &impl Abort,
+    old: &[T],
+    cells: &mut [T],
+    width: usize,
+    from: usize,
+    to: usize,
+) {
+    assert!(rt; 0 < width && width < 100 && from < 100 && to < 100);
+    assert!(rt; old.len() == 500 && cells.len() == 500);
+    let stride = width + 1;
+    let mut mover = RowMover::new(cells);
+    mover.move_rows(stride, from, to, width, 3);
+    let cells = mover.into_cells();
+    assert!(rt; cells.len() == 500);
+    for k in 0..500 {
+        let is_moved = k >= to && (k - to) / stride < 3 && (k - to) % stride < width;
+        let expected = if is_moved { from + (k - to) } else { k };
+        assert!(rt; expected < 500 && cells[k] == old[expected]);
+    }
+}
+
+// Three rows of a width are joined, and each cell is compared with what it was.
+fn check_joined<T: Copy + PartialEq>(rt: &impl Abort, old: &[T], cells: &mut [T], width: usize) {
+    assert!(rt; 0 < width && width < 100);
+    assert!(rt; old.len() == 500 && cells.len() == 500);
+    let stride = width + 1;
+    let mut mover = RowMover::new(cells);
+    mover.compact_rows(width, 3, stride);
+    let cells = mover.into_cells();
+    assert!(rt; cells.len() == 500);
+    for k in 0..500 {
+        let expected = if k / width < 3 {
+            k / width * stride + k % width
+        } else {
+            k
+        };
+        assert!(rt; expected < 500 && cells[k] == old[expected]);
+    }
+}
+
+// Rows of each width up to 69 go within themselves, down, up and across.
+fn check_bytes<const N: usize>(rt: &impl Abort) {
+    assert!(rt; N == 500);
+    let mut old = [0u8; N];
+    for k in 0..N {
+        old[k] = (k % 251) as u8;
+    }
+    for width in 1..70 {
+        for (from, to) in [(0, 1), (1, 0), (0, width + 1), (width + 1, 0), (2, 5)] {
+            let mut cells = old;
+            check_move(rt, &old, &mut cells, width, from, to);
+        }
+        let mut cells = old;
+        check_joined(rt, &old, &mut cells, width);
+    }
+}
+
+fn check_words<const N: usize>(rt: &impl Abort) {
+    assert!(rt; N == 500);
+    let mut old = [0u32; N];
+    for k in 0..N {
+        old[k] = (k % 251) as u32;
+    }
+    for width in 1..70 {
+        for (from, to) in [(0, 1), (1, 0), (0, width + 1), (width + 1, 0), (2, 5)] {
+            let mut cells = old;
+            check_move(rt, &old, &mut cells, width, from, to);
+        }
+        let mut cells = old;
+        check_joined(rt, &old, &mut cells, width);
+    }
+}
+
+#[test]
+fn moves_and_joins_bytes_of_each_width(rt: HostRuntime) {
+    check_bytes::<500>(&rt);
+}
+
+#[test]
+fn moves_and_joins_words_of_each_width(rt: HostRuntime) {
+    check_words::<500>(&rt);
+}
