@@ -41,18 +41,18 @@ def refused(field):
 
 
 def proved(said):
-    """Whether both functions of `moves` are proved, and the crate with them."""
+    """Whether the functions of `moves` are proved, and the crate with them."""
     lines = said.split("\n")
-    moves = [f"fn row_mover::mover::RowMover::{it}: proved" for it in ("compact_rows", "move_rows")]
+    moves = [f"fn row_mover::mover::RowMover::{it}: proved" for it in ("compact_rows", "join_each", "move_rows", "move_each")]
     return all(it in lines for it in moves) and any(it.startswith("logic=proved ") for it in lines)
 
 
-# what is tried, the file and the function that change, how, and what the check must say
+# what is tried, the file and the function that change (the loops of both calls), how, and what the check must say
 CASES = [
-    (f"{BY_HAND}: compact_rows that writes the count is refused", MOVES, "compact_rows", writes_count, refused("shifts")),
-    (f"{BY_HAND}: compact_rows that writes the list is refused", MOVES, "compact_rows", writes_list, refused("cells")),
-    (f"{BY_HAND}: move_rows that writes the count is refused", MOVES, "move_rows", writes_count, refused("shifts")),
-    (f"{BY_HAND}: move_rows that writes the list is refused", MOVES, "move_rows", writes_list, refused("cells")),
+    (f"{BY_HAND}: compact_rows that writes the count is refused", MOVES, "join_each", writes_count, refused("shifts")),
+    (f"{BY_HAND}: compact_rows that writes the list is refused", MOVES, "join_each", writes_list, refused("cells")),
+    (f"{BY_HAND}: move_rows that writes the count is refused", MOVES, "move_each", writes_count, refused("shifts")),
+    (f"{BY_HAND}: move_rows that writes the list is refused", MOVES, "move_each", writes_list, refused("cells")),
     (f"{BY_HAND}: moves is proved without into_cells", MOVER, "into_cells", lambda text: "", proved),
 ]
 

@@ -22,7 +22,7 @@ and_true : (s : Bool) → (s && true) ≡ s
 and_true true = refl
 and_true false = refl
 
-and_false : (s : Bool) → (s && false) ≡ false
+pub and_false : (s : Bool) → (s && false) ≡ false
 and_false true = refl
 and_false false = refl
 

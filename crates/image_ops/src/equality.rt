@@ -1,6 +1,6 @@
 //! Equality: it depends on sizes and pixels, and never on stride or padding.
 
-ghost use Rattle.std.specs.Prelude.{◌≡◌, ◌*◌, ◌<◌, ◌≤◌, length};
+ghost use Rattle.std.specs.Prelude.{◌≡◌, ◌*◌, ◌<◌, ◌≤◌, length, IsTrue, IsFalse};
 ghost use Rattle.std.specs.Cmp.Lexicographic.{pointwise};
 ghost use Rattle.image_model.specs.Layout.{Fits};
 ghost use Rattle.image_model.specs.Rows.{rows as rows_of};
@@ -9,20 +9,21 @@ ghost use Rattle.image_shape.specs.Shape.{shape_width, shaped};
 ghost use Rattle.image_ops.specs.Written.{HaveSameSize};
 
 use crate::joining::fewest_rows;
-use crate::short::{have_equal_ends, part_of_small_row};
+use crate::short::{block_of_row, have_equal_blocks, have_equal_ends, part_of_small_row};
 use image_rows::row;
 use image_shape::Shape;
 
-// Whether the rows of two images of one size are equal, one by one: rows of `N` to `2 * N` cells by
-// their two ends, and at 0 any rows.
-fn have_equal_rows<T: PartialEq, const N: usize>(
+// Whether the rows of two images of one size are equal, one by one: long rows by blocks of `N`
+// cells, others of `N` to `2 * N` cells by their two ends, and at 0 any rows.
+fn have_equal_rows<T: PartialEq, const N: usize, const IS_LONG: bool>(
     first: &[T],
     first_shape: Shape,
     second: &[T],
     second_shape: Shape,
 ) -> bool
+    requires some { IsTrue IS_LONG → 0 < N }
     requires enough { N ≤ shape_width first_shape }
-    requires few { 0 < N → shape_width first_shape ≤ 2 * N }
+    requires few { IsFalse IS_LONG → 0 < N → shape_width first_shape ≤ 2 * N }
     requires sizes { HaveSameSize first.now first_shape second.now second_shape }
     ensures { result ≡ pointwise (pointwise T.eq) (rows_of (shaped first.now first_shape))
         (rows_of (shaped second.now second_shape)) }
@@ -30,7 +31,7 @@ fn have_equal_rows<T: PartialEq, const N: usize>(
     for y in 0..first_shape.row_count() {
         let line = row(first, first_shape, y);
         let other = row(second, second_shape, y);
-        if !are_equal_lines::<T, N>(line, other) {
+        if !are_equal_lines::<T, N, IS_LONG>(line, other) {
             return false;
         }
     }
@@ -39,13 +40,19 @@ fn have_equal_rows<T: PartialEq, const N: usize>(
 
 // Whether two rows are equal.
 #[inline(always)]
-fn are_equal_lines<T: PartialEq, const N: usize>(line: &[T], other: &[T]) -> bool
+fn are_equal_lines<T: PartialEq, const N: usize, const IS_LONG: bool>(
+    line: &[T],
+    other: &[T],
+) -> bool
     requires as_many { length line.now ≡ length other.now }
+    requires some { IsTrue IS_LONG → 0 < N }
     requires enough { N ≤ length line.now }
-    requires few { 0 < N → length line.now ≤ 2 * N }
+    requires few { IsFalse IS_LONG → 0 < N → length line.now ≤ 2 * N }
     ensures { result ≡ pointwise T.eq line.now other.now }
 {
-    if N > 0 {
+    if IS_LONG {
+        have_equal_blocks::<T, N>(line, other)
+    } else if N > 0 {
         have_equal_ends::<T, N>(line, other)
     } else {
         line == other
@@ -65,13 +72,32 @@ fn are_equal_by_width<T: PartialEq>(
         (rows_of (shaped second.now second_shape)) }
 {
     match part_of_small_row(first, first_shape.width()) {
-        32 => have_equal_rows::<T, 32>(first, first_shape, second, second_shape),
-        16 => have_equal_rows::<T, 16>(first, first_shape, second, second_shape),
-        8 => have_equal_rows::<T, 8>(first, first_shape, second, second_shape),
-        4 => have_equal_rows::<T, 4>(first, first_shape, second, second_shape),
-        2 => have_equal_rows::<T, 2>(first, first_shape, second, second_shape),
-        1 => have_equal_rows::<T, 1>(first, first_shape, second, second_shape),
-        _ => have_equal_rows::<T, 0>(first, first_shape, second, second_shape),
+        32 => have_equal_rows::<T, 32, false>(first, first_shape, second, second_shape),
+        16 => have_equal_rows::<T, 16, false>(first, first_shape, second, second_shape),
+        8 => have_equal_rows::<T, 8, false>(first, first_shape, second, second_shape),
+        4 => have_equal_rows::<T, 4, false>(first, first_shape, second, second_shape),
+        2 => have_equal_rows::<T, 2, false>(first, first_shape, second, second_shape),
+        1 => have_equal_rows::<T, 1, false>(first, first_shape, second, second_shape),
+        _ => are_equal_by_blocks(first, first_shape, second, second_shape),
+    }
+}
+
+// The same of rows that aren't short.
+fn are_equal_by_blocks<T: PartialEq>(
+    first: &[T],
+    first_shape: Shape,
+    second: &[T],
+    second_shape: Shape,
+) -> bool
+    requires sizes { HaveSameSize first.now first_shape second.now second_shape }
+    ensures { result ≡ pointwise (pointwise T.eq) (rows_of (shaped first.now first_shape))
+        (rows_of (shaped second.now second_shape)) }
+{
+    match block_of_row(first, first_shape.width()) {
+        64 => have_equal_rows::<T, 64, true>(first, first_shape, second, second_shape),
+        32 => have_equal_rows::<T, 32, true>(first, first_shape, second, second_shape),
+        16 => have_equal_rows::<T, 16, true>(first, first_shape, second, second_shape),
+        _ => have_equal_rows::<T, 0, false>(first, first_shape, second, second_shape),
     }
 }
 

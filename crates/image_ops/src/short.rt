@@ -26,18 +26,18 @@ pub(crate) fn part_of_row<T>(cells: &[T], width: usize) -> usize
     if size > FEW || width > FEW || width * size > FEW {
         return 0;
     }
-    if width > 32 {
-        32
-    } else if width > 16 {
-        16
-    } else if width > 8 {
-        8
-    } else if width > 4 {
-        4
-    } else if width > 2 {
-        2
-    } else {
+    if width <= 2 {
         width.min(1)
+    } else if width <= 4 {
+        2
+    } else if width <= 8 {
+        4
+    } else if width <= 16 {
+        8
+    } else if width <= 32 {
+        16
+    } else {
+        32
     }
 }
 
@@ -51,6 +51,24 @@ pub(crate) fn part_of_small_row<T>(cells: &[T], width: usize) -> usize
         Some(cell) if size_of_val(cell) <= 4 => part_of_row(cells, width),
         _ => 0,
     }
+}
+
+/// How many cells a block of a row of `width` cells has: 64 bytes of cells of at most four bytes. It
+/// is 0 in a shorter row, and for larger cells.
+#[inline(always)]
+pub(crate) fn block_of_row<T>(cells: &[T], width: usize) -> usize
+    ensures { result ≤ width }
+{
+    let Some(cell) = cells.first() else {
+        return 0;
+    };
+    let block = match size_of_val(cell) {
+        1 => 64,
+        2 => 32,
+        3 | 4 => 16,
+        _ => 0,
+    };
+    if width < block { 0 } else { block }
 }
 
 /// Copies a row of `N` to `2 * N` cells, as the first and the last `N`.
@@ -95,4 +113,25 @@ pub(crate) fn have_equal_ends<T: PartialEq, const N: usize>(first: &[T], second:
     let start = first.len() - N;
     let front = are_all_equal::<T, N>(&first[..N], &second[..N]);
     front & are_all_equal::<T, N>(&first[start..], &second[start..])
+}
+
+/// Whether two rows of at least `N` cells are equal, block by block, up to the first block that
+/// differs. The last block may overlap the one before it.
+#[inline(always)]
+pub(crate) fn have_equal_blocks<T: PartialEq, const N: usize>(first: &[T], second: &[T]) -> bool
+    requires some { 0 < N }
+    requires as_many { length first.now ≡ length second.now }
+    requires enough { N ≤ length first.now }
+    ensures { result ≡ pointwise T.eq first.now second.now }
+{
+    let last = first.len() - N;
+    let mut done = 0;
+    while done < last {
+        let end = done + N;
+        if !are_all_equal::<T, N>(&first[done..end], &second[done..end]) {
+            return false;
+        }
+        done = end;
+    }
+    are_all_equal::<T, N>(&first[last..], &second[last..])
 }

@@ -10,6 +10,7 @@ mod padded;
 mod pixel_writes;
 mod pixels;
 mod places;
+mod row_widths;
 mod row_writes;
 mod rows;
 mod rows_by_number;

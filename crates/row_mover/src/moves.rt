@@ -35,20 +35,20 @@ impl<T: Copy> RowMover<'_, T> {
         if width == 0 || width == stride || height == 0 {
             return;
         }
-        if width > 64 {
-            self.join_each(width, height, stride);
-        } else if width > 32 {
-            self.join_each(within(width, 33, 64), height, stride);
-        } else if width > 16 {
-            self.join_each(within(width, 17, 32), height, stride);
-        } else if width > 8 {
-            self.join_each(within(width, 9, 16), height, stride);
-        } else if width > 4 {
-            self.join_each(within(width, 5, 8), height, stride);
-        } else if width > 2 {
-            self.join_each(within(width, 3, 4), height, stride);
-        } else {
+        if width <= 2 {
             self.join_each(within(width, 1, 2), height, stride);
+        } else if width <= 4 {
+            self.join_each(within(width, 3, 4), height, stride);
+        } else if width <= 8 {
+            self.join_each(within(width, 5, 8), height, stride);
+        } else if width <= 16 {
+            self.join_each(within(width, 9, 16), height, stride);
+        } else if width <= 32 {
+            self.join_each(within(width, 17, 32), height, stride);
+        } else if width <= 64 {
+            self.join_each(within(width, 33, 64), height, stride);
+        } else {
+            self.join_each(width, height, stride);
         }
     }
 
@@ -94,20 +94,20 @@ impl<T: Copy> RowMover<'_, T> {
         if width == 0 || height == 0 {
             return;
         }
-        if width > 64 {
-            self.move_each(stride, from, to, width, height);
-        } else if width > 32 {
-            self.move_each(stride, from, to, within(width, 33, 64), height);
-        } else if width > 16 {
-            self.move_each(stride, from, to, within(width, 17, 32), height);
-        } else if width > 8 {
-            self.move_each(stride, from, to, within(width, 9, 16), height);
-        } else if width > 4 {
-            self.move_each(stride, from, to, within(width, 5, 8), height);
-        } else if width > 2 {
-            self.move_each(stride, from, to, within(width, 3, 4), height);
-        } else {
+        if width <= 2 {
             self.move_each(stride, from, to, within(width, 1, 2), height);
+        } else if width <= 4 {
+            self.move_each(stride, from, to, within(width, 3, 4), height);
+        } else if width <= 8 {
+            self.move_each(stride, from, to, within(width, 5, 8), height);
+        } else if width <= 16 {
+            self.move_each(stride, from, to, within(width, 9, 16), height);
+        } else if width <= 32 {
+            self.move_each(stride, from, to, within(width, 17, 32), height);
+        } else if width <= 64 {
+            self.move_each(stride, from, to, within(width, 33, 64), height);
+        } else {
+            self.move_each(stride, from, to, width, height);
         }
     }
 
