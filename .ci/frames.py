@@ -122,7 +122,7 @@ def windows_of(plane, size, word, window, last):
     left, top, width, height = under(window, size, steps)
     if not (0 < wide < 2**32 and high < 2**32) or left + width > wide or top + height > high or word == "crop" and width == 0:
         raise Fault("outside")
-    if word == "mosaic":
+    if word in ("mosaic", "mean"):
         if 0 in last or any(it % step for it, step in zip(last, steps)):
             raise Fault("outside")
         last = [it // step for it, step in zip(last, steps)]
@@ -153,6 +153,9 @@ def edited(plane, cells, word, window, last):
                 new[top + y][left + x] = last[0]
             elif word == "mosaic":
                 new[top + y][left + x] = old[top + y - y % last[1]][left + x - x % last[0]]
+            elif word == "mean":
+                tile = [it for row in old[top + y - y % last[1]:top + min(height, y - y % last[1] + last[1])] for it in row[left + x - x % last[0]:left + min(width, x - x % last[0] + last[0])]]
+                new[top + y][left + x] = (2 * sum(tile) + len(tile)) // (2 * len(tile))
             else:
                 new[last[1] + y][last[0] + x] = old[top + y][left + x]
     return [it for row in new for it in row]
@@ -227,6 +230,8 @@ def step_of(planes, size, edit, values, greatest=255):
     """An edit as one of each plane, with what is written there: these values of a list of one or three, none of them above the
     greatest; or it isn't an edit here."""
     first, last, word, window, more = edit
+    if word == "mean" and greatest > 255:
+        raise Fault("outside")
     found = [windows_of(plane, size, word, window, more) for plane in planes]
     if word in ("fill", "pad"):
         if len(more) not in values or max(more) > greatest:

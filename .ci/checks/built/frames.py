@@ -28,6 +28,8 @@ FILL = "fill 4,2,6,4 126"
 COVERS = ("cover 5,3,1,1 9", "cover 5,3,1,1", "cover 0,0,2,2 9", "cover 11,7,1,1 9", "cover 11,7,9,9 9", "cover 13,9,1,1 9", "cover 15,11,1,1 9", "cover 14,0,1,1 9", "cover 40,40,2,2 9", "cover 7,0,0,0 9", "1.. cover 3,1,4,3 9 fill 0,0,2,2 7", "cover 18446744073709551615,18446744073709551615,18446744073709551615,18446744073709551615 9", "cover 0,0,18446744073709551615,18446744073709551615 9")
 # Of the whole frame, alone and between other edits.
 FLIPS = ("flip rows", "flip columns", "turn half", "1.. flip columns", "0..2 turn half 1..3 flip rows", "fill 0,0,1,1 9 flip columns cover 0,0,1,1+0 5", "flip rows flip rows flip columns", "turn half crop 0,0,1,1")
+# Tiles of one pixel, tiles that edges cut, and one tile for all.
+MEANS = ("mean 0,0,12,8 4,2", "mean 4,2,8,6 4,4", "mean 0,0,12,8 4,6", "mean 0,0,12,8 64,64", "mean 4,0,4,4 1,1", "mean 8,0,5,9 4,2", "mean 0,0,0,0 4,2", "mean 4,2,4,4 3,2", "mean 4,2,4,4 0,2", "mean 0,0,12,8 18446744073709551612,2", "mean 4,2,8,6 4,2 1.. mean 0,0,8,4 8,4 turn half")
 # The same with a margin.
 MARGINS = ("5,3,1,1", "4,2,2,2", "5,2,3,4", "0,0,2,2", "11,7,1,1", "13,9,1,1", "16,12,2,2", "7,0,0,0", "6,4,0,0", "18446744073709551615,0,1,1", "0,0,18446744073709551615,1")
 PARAMETERS = (b"", b" Ip", b" ", b" XLABEL=a b  Ib")
@@ -63,6 +65,8 @@ def by_model(cases, program):
     cases.count("a margin of 0 covers the samples of a rectangle", ends(program, ["cover", "4,2,2,2+0", "9"], video("420")) == ends(program, ["fill", "4,2,2,2", "9"], video("420")))
     flips = [(it.split(), video(sampling, *size, fields=fields)) for sampling in SAMPLINGS for size in ((12, 8), (13, 9), (1, 1), (70, 3)) for fields in (b"Ip", b"It", b"Ib", b"Im") for it in FLIPS]
     count_tries(cases, "flips and half turns are the model's, and an interlaced video keeps its fields", program, flips)
+    means = [(it.split(), video(sampling, *size)) for sampling in SAMPLINGS for size in ((12, 8), (13, 9)) for it in MEANS]
+    count_tries(cases, "mosaics of means are the model's, of samples of one byte", program, means)
     lists = [(edits.split(), video(it)) for it in SAMPLINGS for edits in LISTS]
     count_tries(cases, "lists of edits, each to its frames, are the model's", program, lists)
     small = video("420", 4, 2, 2)
@@ -99,6 +103,14 @@ def by_model(cases, program):
             other = exchanged(other, shown.index(b"\n") + 1 + frame * (6 + 12 * 8) + 6, 12, window)
         words = f"{before} {FILL}".split()
         cases.count(f"the output reveals nothing of what is filled after {before}", other != shown and ends(program, words, other) == ends(program, words, shown))
+    swapped = bytearray(shown)
+    for frame in range(3):
+        start = shown.index(b"\n") + 1 + frame * (6 + 12 * 8) + 6
+        for y in range(2, 8):
+            row = start + y * 12 + 4
+            swapped[row:row + 6] = shown[row:row + 6][::-1]
+    for words in ("mean 4,2,6,6 6,1", "mean 4,2,6,6 6,4"):
+        cases.count(f"the output of {words} reveals only the means", bytes(swapped) != shown and ends(program, words.split(), bytes(swapped)) == ends(program, words.split(), shown))
     for after in ("", " flip rows", " flip columns move 4,2,6,4 0,0", " turn half", " move 4,2,6,4 0,0", " mosaic 0,0,12,8 3,3", " move 4,2,6,4 5,1 crop 0,0,8,8"):
         words = (FILL + after).split()
         cases.count(f"the output reveals nothing of hidden pixels{after}", hidden != shown and ends(program, words, hidden) == ends(program, words, shown))
@@ -126,6 +138,9 @@ def by_words(cases, program):
             listed.flush()
             said = ends(program, ["--edits", listed.name], video("mono"))
             cases.count(f"a file {text!r} of edits ends with status {status}", said[2] == status and (status == 0 or said[:2] == (b"", "fault words")), str(said))
+    for words, noted in (("mean 0,0,2,2 2,2 fill 0,0,2,2 9", True), ("mean 0,0,2,2 2,2 mosaic 0,0,2,2 1,1", True), ("mean 0,0,2,2 2,2 mean 4,4,2,2 2,2", False), ("cover 0,0,2,2 mean 0,0,2,2 2,2", False), ("move 0,0,2,2 2,2 mean 0,0,2,2 2,2", True)):
+        said = ends(program, words.split(), video("mono"))
+        cases.count(f"'{words}' is{'' if noted else ' not'} noted", said[1].startswith("note: ") == noted and said[2] == 0, str(said[1:]))
     said = ends(program, "move 0,0,2,2 2,2 fill 0,0,2,2 9".split(), video("mono"))
     cases.count("a move before a fill is noted", said[1].startswith("note: ") and said[2] == 0, str(said))
     for word in ("--help", "-h"):
@@ -158,6 +173,9 @@ REASONS = (
     ("fill 0,0,4,4 1024", "420p10", "edit 1: value 1024 is above 1023"),
     ("pad 0,0,4,4 512", "mono9", "the crop or pad: value 512 is above 511"),
     ("fill 0,0,4,4 1,2,3", "444", "edit 1: a colour is only for pictures in colour"),
+    ("mean 0,0,4,4 2,2", "444p10", "edit 1: a mean is only for samples of one byte"),
+    ("mean 0,0,4,4 3,2", "420", "edit 1: tile width 3 is no multiple of 2"),
+    ("mean 0,0,4,4 16", "420", "at word 1: mean needs the size of its tiles TW,TH, and 16 isn't one"),
     ("move 0,0,4,4 10,0", "420", "edit 1: it reaches outside the frame"),
     ("flip 0,0,2,2 9", "420", "at word 1: flip needs rows or columns, and 0,0,2,2 isn't that"),
     ("flip", "420", "at word 1: flip needs rows or columns"),

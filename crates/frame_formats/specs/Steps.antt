@@ -3,7 +3,7 @@ use Rattle.std.specs.Prelude.{ℕ, ◌+◌, ◌*◌, ◌/◌, ◌%◌, ◌&&◌,
 use Rattle.std.specs.List.{flat_map}
 use Rattle.std.specs.Option.{option_map}
 use Rattle.image_planes.specs.declared.change.Change.{Change}
-use Rattle.image_planes.specs.declared.change.Change.TheVariants.{Fill, Mosaic, Move, Flip}
+use Rattle.image_planes.specs.declared.change.Change.TheVariants.{Fill, Mosaic, Mean, Move, Flip}
 use Rattle.image_planes.specs.declared.change.Step.{Step}
 use Rattle.text_model.specs.Reading.{◌>>=◌}
 use Rattle.frame_formats.specs.Pam.{tuple, tuple_depth}
@@ -77,9 +77,10 @@ value_in p (Colour red green blue) = colour_of p red green blue
 value_in p (Around (Some value) margin) = grey_of p value
 value_in p (Around None margin) = grey_of p (black p)
 
--- what a change is to a plane of such pixels
+-- what a change is to a plane of such pixels: a mean is one of samples of a byte
 unfoldable pub change_in : Pixel → Change Paint → Option (Change (List ℕ))
 change_in pixel (Fill w paint) = option_map (λ value. Fill w value) (value_in pixel paint)
 change_in pixel (Mosaic w tile_width tile_height) = Some (Mosaic w tile_width tile_height)
+change_in pixel (Mean w tile_width tile_height) = if nat_lt pixel.greatest 256 then Some (Mean w tile_width tile_height) else None
 change_in pixel (Move w left top) = Some (Move w left top)
 change_in pixel (Flip axes) = Some (Flip axes)

@@ -103,7 +103,7 @@ impl Edits {
 
     /// Adds the edit at the front of the words, and returns the number of its words: `crop
     /// L,T,W,H`, `pad L,T,R,B V`, `cover L,T,W,H`, `cover L,T,W,H V`, `fill L,T,W,H V`, `fill
-    /// L,T,W,H R,G,B`, `mosaic L,T,W,H TW,TH` or `move L,T,W,H X,Y`. Or it is one of the whole
+    /// L,T,W,H R,G,B`, `mosaic L,T,W,H TW,TH`, `mean L,T,W,H TW,TH` or `move L,T,W,H X,Y`. Or it is one of the whole
     /// frame: `flip rows`, `flip columns` or `turn half`. A cover may have a margin after its
     /// rectangle: `cover L,T,W,H+M`. Before every edit except a crop or a pad there may be a range of
     /// frames: `12..80`, or `12..` up to the end. It may also be of times:

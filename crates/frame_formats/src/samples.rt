@@ -91,6 +91,15 @@ pub(crate) fn change_of_samples(
             tile_width: whole_samples(x, tile_width)?,
             tile_height: whole_samples(y, tile_height)?,
         }),
+        Change::Mean {
+            window,
+            tile_width,
+            tile_height,
+        } => Some(Change::Mean {
+            window: window_of_samples(x, y, width, height, window)?,
+            tile_width: whole_samples(x, tile_width)?,
+            tile_height: whole_samples(y, tile_height)?,
+        }),
         Change::Move { window, left, top } => {
             let under = window_of_samples(x, y, width, height, window)?;
             let goal = Window::new(left, top, window.width, window.height);

@@ -175,8 +175,8 @@ fn value_in(pixel: Pixel, paint: Paint) -> Option<Value>
     }
 }
 
-/// What a change is on a plane of such pixels. `None` for a value that they lack, and for a colour
-/// where there is one brightness.
+/// What a change is on a plane of such pixels. `None` for a value that they lack, for a colour where
+/// there is one brightness, and for a mean of samples of two bytes.
 #[tactic(auto, unfolding(crate::specs::Steps::change_in))]
 pub(crate) fn change_in(pixel: Pixel, change: Change<Paint>) -> Option<Change<Value>>
     ensures { result ≡ change_in pixel change }
@@ -195,6 +195,20 @@ pub(crate) fn change_in(pixel: Pixel, change: Change<Paint>) -> Option<Change<Va
             tile_width,
             tile_height,
         }),
+        Change::Mean {
+            window,
+            tile_width,
+            tile_height,
+        } => {
+            if pixel.greatest > 255 {
+                return None;
+            }
+            Some(Change::Mean {
+                window,
+                tile_width,
+                tile_height,
+            })
+        }
         Change::Move { window, left, top } => Some(Change::Move { window, left, top }),
         Change::Flip(axes) => Some(Change::Flip(axes)),
     }

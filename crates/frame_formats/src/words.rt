@@ -68,6 +68,13 @@ fn read_change(word: &[u8], window: Window, last: &[u8]) -> Option<Change<Paint>
             tile_width,
             tile_height,
         })
+    } else if word == b"mean".as_slice() {
+        let (tile_width, tile_height) = read_pair(last)?;
+        Some(Change::Mean {
+            window,
+            tile_width,
+            tile_height,
+        })
     } else if word == b"move".as_slice() {
         let (left, top) = read_pair(last)?;
         Some(Change::Move { window, left, top })

@@ -7,6 +7,7 @@ use Rattle.image_model.specs.Rows.{grid_pixels}
 use Rattle.image_model.specs.Windows.{IsInside, is_inside, window, window_view}
 use Rattle.image_model.specs.Windows as model
 use Rattle.imgref.specs.Window.{as_window}
+use Rattle.image_ops.specs.Means.{mean_mosaic}
 use Rattle.image_ops.specs.Mosaic.{mosaic_by}
 use Rattle.image_ops.specs.Oriented.{mirrored_by}
 use Rattle.image_ops.specs.Repeated.{repeated}
@@ -16,7 +17,7 @@ use Rattle.image_planes.specs.declared.change.Axes.{Axes}
 use Rattle.image_planes.specs.declared.change.Axes.TheVariants.{Rows, Columns, Both}
 use Rattle.image_planes.specs.declared.change.Step.{Step}
 use Rattle.image_planes.specs.declared.change.Change.{Change}
-use Rattle.image_planes.specs.declared.change.Change.TheVariants.{Fill, Mosaic, Move, Flip}
+use Rattle.image_planes.specs.declared.change.Change.TheVariants.{Fill, Mosaic, Mean, Move, Flip}
 
 -- a window of pixels as one of bytes, where so many bytes next to one another are a pixel
 abbrev pub in_bytes : ℕ → Window → model.Window
@@ -32,6 +33,7 @@ flipped_by size Both g = flipped (mirrored_by size g)
 abbrev pub changed : ℕ → Change (List ℕ) → Grid ℕ → Grid ℕ
 changed size (Fill w value) g = patch g (size * w.left) w.top (repeated (size * w.width) w.height (take size value))
 changed size (Mosaic w tile_width tile_height) g = patch g (size * w.left) w.top (mosaic_by size tile_width tile_height (window_view g (in_bytes size w)))
+changed size (Mean w tile_width tile_height) g = patch g (size * w.left) w.top (mean_mosaic size tile_width tile_height (window_view g (in_bytes size w)))
 changed size (Move w left top) g = patch g (size * left) top (window_view g (in_bytes size w))
 changed size (Flip axes) g = flipped_by size axes g
 
@@ -39,6 +41,7 @@ changed size (Flip axes) g = flipped_by size axes g
 abbrev pub IsChangeOf : ℕ → ℕ → Change (List ℕ) → Type 0
 IsChangeOf width height (Fill w value) = IsInside width height (as_window w)
 IsChangeOf width height (Mosaic w tile_width tile_height) = (0 < tile_width) × (0 < tile_height) × IsInside width height (as_window w)
+IsChangeOf width height (Mean w tile_width tile_height) = (0 < tile_width) × (0 < tile_height) × IsInside width height (as_window w)
 IsChangeOf width height (Move w left top) = IsInside width height (as_window w) × IsInside width height (window left top w.width w.height)
 IsChangeOf width height (Flip axes) = Unit {0}
 
@@ -46,6 +49,7 @@ IsChangeOf width height (Flip axes) = Unit {0}
 abbrev pub is_change_of : ℕ → ℕ → Change (List ℕ) → Bool
 is_change_of width height (Fill w value) = is_inside width height (as_window w)
 is_change_of width height (Mosaic w tile_width tile_height) = nat_lt 0 tile_width && (nat_lt 0 tile_height && is_inside width height (as_window w))
+is_change_of width height (Mean w tile_width tile_height) = nat_lt 0 tile_width && (nat_lt 0 tile_height && is_inside width height (as_window w))
 is_change_of width height (Move w left top) = is_inside width height (as_window w) && is_inside width height (window left top w.width w.height)
 is_change_of width height (Flip axes) = true
 

@@ -10,7 +10,9 @@ ghost use Rattle.imgref.specs.Window.{as_window};
 ghost use Rattle.image_ops.specs.Written.{Becomes};
 ghost use Rattle.image_planes.specs.Changes.{IsChangeOf, changed, flipped_by, in_bytes};
 
-use image_ops::{flip_rows, flip_window_columns, mosaic_window_by, move_pixels, repeat_window};
+use image_ops::{
+    flip_rows, flip_window_columns, mean_window, mosaic_window_by, move_pixels, repeat_window,
+};
 use imgref::{Shape, Window};
 
 /// The bytes of a pixel. Where a pixel has fewer, the others are ignored.
@@ -37,6 +39,13 @@ pub enum Change<V> {
     },
     /// Every pixel of the window gets the old value at the corner of its tile.
     Mosaic {
+        window: Window,
+        tile_width: usize,
+        tile_height: usize,
+    },
+    /// Every pixel of the window gets the mean of its tile's pixels, byte by byte, rounded to the
+    /// nearest: a half goes up.
+    Mean {
         window: Window,
         tile_width: usize,
         tile_height: usize,
@@ -135,6 +144,14 @@ pub(crate) fn change_cells(cells: &mut [u8], shape: Shape, size: usize, change: 
         } => {
             let part = in_bytes(shape, size, window);
             mosaic_window_by(cells, shape, part, size, tile_width, tile_height);
+        }
+        Change::Mean {
+            window,
+            tile_width,
+            tile_height,
+        } => {
+            let part = in_bytes(shape, size, window);
+            mean_window(cells, shape, part, size, tile_width, tile_height);
         }
         Change::Move { window, left, top } => {
             let target = Window::new(left, top, window.width, window.height);

@@ -1,15 +1,23 @@
 //! What a frame doesn't reveal after fills and mosaics.
 
 ghost use Rattle.std.specs.Prelude.{◌≡◌, ℕ, List};
-ghost use Rattle.image_planes.specs.Changes.{Job, changed_planes};
-ghost use Rattle.image_planes.specs.Unseen.{PlanesAlike};
+ghost use Rattle.image_model.specs.Grid.{Grid};
+ghost use Rattle.image_planes.specs.Changes.{Job, changed, changed_planes};
+ghost use Rattle.image_planes.specs.declared.change.Change.TheVariants.{Mean};
+ghost use Rattle.image_shape.specs.declared.window.Window.{Window};
+ghost use Rattle.image_planes.specs.Unseen.{MeansAlike, PlanesAlike};
 
 /// A frame reveals nothing of a filled window, and of a mosaic only the corners of its tiles. That
 /// is, frames that differ only at the other places are equal after the steps. A caller calls this
-/// for its clauses, which are the law; it does nothing.
-#[tactic(auto, using(crate::proofs::Unseen::planes_hide))]
+/// for its clauses, which are the law; it does nothing. By `means`, a mosaic of means reveals of its
+/// window only the mean of each tile, byte by byte.
+#[tactic(auto, using(crate::proofs::Unseen::planes_hide, crate::proofs::Unseen::only_means))]
 pub fn changes_hide()
-    ensures { (number : ℕ) (jobs : List Job) (cells others : List ℕ)
+    ensures planes { (number : ℕ) (jobs : List Job) (cells others : List ℕ)
         → PlanesAlike number jobs cells others
         → changed_planes number jobs cells ≡ changed_planes number jobs others }
+    ensures means { (size : ℕ) (window : Window) (tile_width tile_height : ℕ) (g h : Grid ℕ)
+        → MeansAlike size window tile_width tile_height g h
+        → changed size (Mean window tile_width tile_height) g
+        ≡ changed size (Mean window tile_width tile_height) h }
 {}

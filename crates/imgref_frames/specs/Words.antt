@@ -1,5 +1,5 @@
 -- The edits that words or the lines of a file are, and which of them are refused.
-use Rattle.std.specs.Prelude.{◌≡◌, ◌&&◌, ℕ, Bool, true, false, nat_lt, IsTrue, List, [], ◌∷◌, All, Some, None, if◌then◌else◌}
+use Rattle.std.specs.Prelude.{◌≡◌, ◌&&◌, ℕ, Bool, true, false, not, nat_lt, IsTrue, List, [], ◌∷◌, All, Some, None, if◌then◌else◌}
 use Rattle.std.specs.List.{flat_map, list_any}
 use Rattle.std.specs.Option.{is_none}
 use Rattle.text_model.specs.Reading.{is_nil}
@@ -7,7 +7,7 @@ use Rattle.frame_formats.specs.Edits.{Edits}
 use Rattle.frame_formats.specs.Lists.{AreEdits, framing_after}
 use Rattle.frame_formats.specs.Words.{Named}
 use Rattle.image_planes.specs.declared.change.Change.{Change}
-use Rattle.image_planes.specs.declared.change.Change.TheVariants.{Fill, Mosaic, Move, Flip}
+use Rattle.image_planes.specs.declared.change.Change.TheVariants.{Fill, Mosaic, Mean, Move, Flip}
 use Rattle.frame_formats.specs.declared.ranges.Range.{Range}
 use Rattle.frame_formats.specs.declared.ranges.Range.TheVariants.{Frames, Times}
 use Rattle.frame_formats.specs.declared.steps.Paint.{Paint}
@@ -31,20 +31,23 @@ pub record AreUsable (e : Edits) : Type 0 where
   pub some : is_nil e.steps && is_none e.framing ≡ false
   pub ranges : All (λ s. IsTrue (has_span s.range)) e.steps
 
--- a change that carries pixels away from what is covered later, and one that covers some
-abbrev pub moves : Change Paint → Bool
-moves (Fill w paint) = false
-moves (Mosaic w wide high) = false
-moves (Move w left top) = true
-moves (Flip axes) = false
+-- a change that carries pixels away, or with `means` a mosaic of means, each of which shows something of its whole tile
+abbrev pub spreads : Bool → Change Paint → Bool
+spreads means (Fill w paint) = false
+spreads means (Mosaic w wide high) = false
+spreads means (Mean w wide high) = means
+spreads means (Move w left top) = not means
+spreads means (Flip axes) = false
 
-abbrev pub covers : Change Paint → Bool
-covers (Fill w paint) = true
-covers (Mosaic w wide high) = true
-covers (Move w left top) = false
-covers (Flip axes) = false
+-- a change that covers some pixels; means cover those that a move may carry away
+abbrev pub covers : Bool → Change Paint → Bool
+covers means (Fill w paint) = true
+covers means (Mosaic w wide high) = true
+covers means (Mean w wide high) = not means
+covers means (Move w left top) = false
+covers means (Flip axes) = false
 
--- a fill or a mosaic comes after a move
-unfoldable pub covers_late : List Edit → Bool
-covers_late [] = false
-covers_late (s ∷ ss) = if moves s.change then list_any (λ t. covers t.change) ss else covers_late ss
+-- a change that covers comes after one that spreads
+unfoldable pub covers_late : Bool → List Edit → Bool
+covers_late means [] = false
+covers_late means (s ∷ ss) = if spreads means s.change then list_any (λ t. covers means t.change) ss else covers_late means ss

@@ -51,6 +51,12 @@ fn form_of(word: &[u8]) -> Option<Form> {
             sample: b"1,1",
         },
         Form {
+            word: b"mean",
+            numbers: RECTANGLE,
+            last: "the size of its tiles TW,TH",
+            sample: b"1,1",
+        },
+        Form {
             word: b"move",
             numbers: RECTANGLE,
             last: "a place X,Y",
@@ -145,7 +151,7 @@ fn say_no_change(rt: &HostRuntime, words: &[&[u8]], has_range: bool) {
         Some(form) => say_bad_form(rt, form, others, has_range),
         None => {
             let _ = eprintln!(rt;
-                "{} isn't one of cover, fill, mosaic, move, flip, turn, crop and pad",
+                "{} isn't one of cover, fill, mosaic, mean, move, flip, turn, crop and pad",
                 shown(word)
             );
         }

@@ -43,6 +43,7 @@ EDIT is one of these. The edits are applied to each frame or picture, in their o
        [A..B] fill L,T,W,H V          exactly this rectangle: brightness V, no colour
        [A..B] fill L,T,W,H R,G,B      a colour, only for pictures in colour
        [A..B] mosaic L,T,W,H TW,TH    tiles of TW by TH pixels
+       [A..B] mean L,T,W,H TW,TH      the same, each of the mean of its pixels
        [A..B] move L,T,W,H X,Y        to column X, row Y
        [A..B] flip rows|columns       the whole frame upside down, or mirrored
        [A..B] turn half               the whole frame by a half turn
@@ -261,9 +262,14 @@ fn carry(
     edits: &Edits,
     text: Option<&[u8]>,
 ) -> ExitCode {
-    if words::uncovers(&edits.steps) {
+    if words::covers_late(false, &edits.steps) {
         let _ = eprintln!(rt;
             "note: a move comes before a fill or a mosaic, and may carry pixels away"
+        );
+    }
+    if words::covers_late(true, &edits.steps) {
+        let _ = eprintln!(rt;
+            "note: a mean comes before a fill or a mosaic, and may show something of what that hides"
         );
     }
     let call = Call {

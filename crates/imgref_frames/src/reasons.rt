@@ -71,6 +71,8 @@ enum Wrong {
     NoSize,
     Colour,
     TooLarge,
+    // A mean of samples of two bytes.
+    Deep,
     // The rows of one field would be where those of the other were.
     Fields,
     // This number of these is no multiple of that.
@@ -139,7 +141,13 @@ fn check_change(frame: Frame, change: Change<Paint>) -> Option<Wrong> {
                 check_value(frame, value).or(check_window(frame, window))
             }
         },
+        Change::Mean { .. } if frame.greatest > 255 => Some(Wrong::Deep),
         Change::Mosaic {
+            window,
+            tile_width,
+            tile_height,
+        }
+        | Change::Mean {
             window,
             tile_width,
             tile_height,
@@ -186,6 +194,7 @@ fn say_wrong(rt: &HostRuntime, wrong: Wrong) {
         Wrong::Outside => eprintln!(rt; "it reaches outside the frame"),
         Wrong::NoSize => eprintln!(rt; "its size is 0"),
         Wrong::Colour => eprintln!(rt; "a colour is only for pictures in colour"),
+        Wrong::Deep => eprintln!(rt; "a mean is only for samples of one byte"),
         Wrong::Fields => eprintln!(rt;
             "the video is interlaced, and this would exchange its two fields. Deinterlace it first"
         ),

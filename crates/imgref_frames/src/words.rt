@@ -4,7 +4,7 @@
 ghost use Rattle.std.specs.Prelude.{◌≡◌, IsTrue, All, IfOk, OnOk, Some, None, map, []};
 ghost use Rattle.frame_formats.specs.Edits.{edits};
 ghost use Rattle.frame_formats.specs.Lists.{with_lines, plain};
-ghost use Rattle.imgref_frames.specs.Words.{AreWords, AreUsable, has_span, moves, covers, covers_late};
+ghost use Rattle.imgref_frames.specs.Words.{AreWords, AreUsable, has_span, spreads, covers, covers_late};
 ghost use Rattle.text_model.specs.Parts.{parts_of};
 
 use frame_formats::{Change, Edit, Edits, Paint, Range, WordsFault};
@@ -142,35 +142,39 @@ pub(crate) fn edits_of_lines(alloc: Global, text: &[u8]) -> Result<Edits, Refusa
     }
 }
 
-fn is_move(change: Change<Paint>) -> bool
-    ensures { result ≡ moves change }
+// Whether a change carries pixels away, or with `means` shows something of its whole tiles.
+fn spreads(means: bool, change: Change<Paint>) -> bool
+    ensures { result ≡ spreads means change }
 {
     match change {
-        Change::Move { .. } => true,
+        Change::Move { .. } => !means,
+        Change::Mean { .. } => means,
         Change::Fill { .. } | Change::Mosaic { .. } | Change::Flip(_) => false,
     }
 }
 
-fn is_cover(change: Change<Paint>) -> bool
-    ensures { result ≡ covers change }
+fn covers(means: bool, change: Change<Paint>) -> bool
+    ensures { result ≡ covers means change }
 {
     match change {
+        Change::Mean { .. } => !means,
         Change::Move { .. } | Change::Flip(_) => false,
         Change::Fill { .. } | Change::Mosaic { .. } => true,
     }
 }
 
 /// Whether a fill or a mosaic comes after a move, which may have carried away what they would hide.
-pub(crate) fn uncovers(steps: &[Edit]) -> bool
-    ensures { result ≡ covers_late steps.now }
+/// With `means` it is after a mosaic of means, which may show something of it.
+pub(crate) fn covers_late(means: bool, steps: &[Edit]) -> bool
+    ensures { result ≡ covers_late means steps.now }
 {
     let mut moved = false;
     for step in steps {
         if moved {
-            if is_cover(step.change) {
+            if covers(means, step.change) {
                 return true;
             }
-        } else if is_move(step.change) {
+        } else if spreads(means, step.change) {
             moved = true;
         }
     }
