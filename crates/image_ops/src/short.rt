@@ -26,18 +26,18 @@ pub(crate) fn part_of_row<T>(cells: &[T], width: usize) -> usize
     if size > FEW || width > FEW || width * size > FEW {
         return 0;
     }
-    if width <= 2 {
-        width.min(1)
-    } else if width <= 4 {
-        2
-    } else if width <= 8 {
-        4
-    } else if width <= 16 {
-        8
-    } else if width <= 32 {
-        16
-    } else {
+    if width > 32 {
         32
+    } else if width > 16 {
+        16
+    } else if width > 8 {
+        8
+    } else if width > 4 {
+        4
+    } else if width > 2 {
+        2
+    } else {
+        width.min(1)
     }
 }
 

@@ -77,7 +77,7 @@ impl<'a, T: Copy> RowMover<'a, T> {
 }
 
 // The most cells, and the most bytes, of a short stretch.
-const FEW: usize = 64;
+pub(crate) const FEW: usize = 64;
 
 // Whether a stretch is so short that the tests of the longer ones, and a call of `memmove`, would
 // take longer than its copy. Only its length is looked at: where the compiler knows that in a loop,

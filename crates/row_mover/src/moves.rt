@@ -3,7 +3,8 @@ ghost use Rattle.image_model.specs.Layout.{layout, Fits};
 ghost use Rattle.image_model.specs.Rows.{joined_rows};
 ghost use Rattle.image_model.specs.Shifts.{rows_compacted, rows_moved, MovesRows};
 
-use crate::mover::RowMover;
+use crate::mover::{FEW, RowMover};
+use std::mem::size_of;
 
 // The same number. So the compiler knows its bounds, and leaves out tests of it in a loop.
 #[inline(always)]
@@ -35,7 +36,10 @@ impl<T: Copy> RowMover<'_, T> {
         if width == 0 || width == stride || height == 0 {
             return;
         }
-        if width <= 2 {
+        let row = &self.cells()[..width];
+        if row.len() * size_of::<T>() > FEW {
+            self.join_each(width, height, stride);
+        } else if width <= 2 {
             self.join_each(within(width, 1, 2), height, stride);
         } else if width <= 4 {
             self.join_each(within(width, 3, 4), height, stride);
@@ -94,7 +98,10 @@ impl<T: Copy> RowMover<'_, T> {
         if width == 0 || height == 0 {
             return;
         }
-        if width <= 2 {
+        let row = &self.cells()[from..from + width];
+        if row.len() * size_of::<T>() > FEW {
+            self.move_each(stride, from, to, width, height);
+        } else if width <= 2 {
             self.move_each(stride, from, to, within(width, 1, 2), height);
         } else if width <= 4 {
             self.move_each(stride, from, to, within(width, 3, 4), height);
