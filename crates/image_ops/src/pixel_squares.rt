@@ -188,7 +188,7 @@ fn transpose_pixel_square<T: Copy>(cells: &mut [T], shape: Shape, size: usize)
 /// # Requires
 ///
 /// The cells fit (`Shape::fits`). The image has `columns` pixels in a row, and is as wide as it
-/// becomes: so it has to be a square, unless it is turned by a half.
+/// becomes. So it has to be a square, unless it is turned by a half.
 pub fn orient_in_place<T: Copy>(
     cells: &mut [T],
     shape: Shape,
