@@ -46,7 +46,7 @@ typedef uint32_t imgref_status;
 #define IMGREF_OK ((imgref_status)0)             /* it is done */
 #define IMGREF_NOT_AN_IMAGE ((imgref_status)1)   /* a length, width, height and stride that are no image */
 #define IMGREF_WINDOW_OUTSIDE ((imgref_status)2) /* a window isn't inside the image */
-#define IMGREF_SIZES_DIFFER ((imgref_status)3)   /* a window differs in size from what comes into it */
+#define IMGREF_SIZES_DIFFER ((imgref_status)3)   /* a window or an image differs in size from what comes into it */
 #define IMGREF_PLACE_OUTSIDE ((imgref_status)4)  /* there is no pixel in that column and row */
 #define IMGREF_NO_TILE ((imgref_status)5)        /* there is no tile of that number, or a tile would have no pixel */
 #define IMGREF_NO_TURN ((imgref_status)6)        /* there is no turn of that number */
@@ -111,6 +111,10 @@ imgref_status imgref_tile(size_t width, size_t height, size_t tile_width, size_t
  *              cells, as fill_pixels has them. NO_TURN (tested first), NOT_AN_IMAGE (of either), SIZES_DIFFER.
  * transpose_into  Every pixel becomes that of `source` whose column is its row: columns become rows. Pixels and sizes are as in
  *              turn_into. NOT_AN_IMAGE (of either), SIZES_DIFFER.
+ * turn         The image is turned in place: `turn` and pixels are as in turn_into. It has to be a square, unless the turn is
+ *              IMGREF_HALF. NO_TURN (tested first), NOT_AN_IMAGE, SIZES_DIFFER.
+ * transpose    Columns become rows in place: each pixel changes places with the one whose column is its row. The image has to
+ *              be a square of pixels of `channels` cells. NOT_AN_IMAGE, SIZES_DIFFER.
  * flip_rows    The first row of the window changes places with its last, and so on. Pixels have `channels` cells.
  *              NOT_AN_IMAGE, WINDOW_OUTSIDE.
  * flip_columns In each row of the window the first pixel changes places with the last, and so on. Pixels have `channels`
@@ -152,6 +156,10 @@ imgref_status imgref_tile(size_t width, size_t height, size_t tile_width, size_t
     imgref_status imgref_##NAME##_transpose_into(CELL *cells, size_t len, size_t width, size_t height, size_t stride,         \
                                                  size_t channels, const CELL *source, size_t source_len,                      \
                                                  size_t source_width, size_t source_height, size_t source_stride);            \
+    imgref_status imgref_##NAME##_turn(CELL *cells, size_t len, size_t width, size_t height, size_t stride, size_t channels,  \
+                                       imgref_turn turn);                                                                     \
+    imgref_status imgref_##NAME##_transpose(CELL *cells, size_t len, size_t width, size_t height, size_t stride,              \
+                                            size_t channels);                                                                 \
     imgref_status imgref_##NAME##_flip_rows(CELL *cells, size_t len, size_t width, size_t height, size_t stride,              \
                                             size_t channels, imgref_rect window);                                             \
     imgref_status imgref_##NAME##_flip_columns(CELL *cells, size_t len, size_t width, size_t height, size_t stride,           \

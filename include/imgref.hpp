@@ -93,6 +93,8 @@ template <std::size_t Size> struct calls;
         static constexpr auto count = imgref_##NAME##_count;                                                                 \
         static constexpr auto turn_into = imgref_##NAME##_turn_into;                                                         \
         static constexpr auto transpose_into = imgref_##NAME##_transpose_into;                                               \
+        static constexpr auto turn = imgref_##NAME##_turn;                                                                   \
+        static constexpr auto transpose = imgref_##NAME##_transpose;                                                         \
         static constexpr auto flip_rows = imgref_##NAME##_flip_rows;                                                         \
         static constexpr auto flip_columns = imgref_##NAME##_flip_columns;                                                   \
         static constexpr auto swap_rows = imgref_##NAME##_swap_rows;                                                         \
@@ -290,7 +292,7 @@ public:
     // Writes this image, turned or transposed, to `target`, which has the size of the turned one and
     // shares no memory with this image. With `channels` a pixel is so many elements, 1 to 4, next to
     // one another in a row.
-    void turn_into(view<value_type> target, turn by, std::size_t channels = 1) const {
+    void turn_into(view<value_type> target, imgref::turn by, std::size_t channels = 1) const {
         if (target.shares(*this)) throw std::invalid_argument("the images share memory");
         detail::done(calls::turn_into(target.written(), target.len_, pixels_of(target.width_, channels), target.height_, target.stride_, channels,
                                       cells(), len_, pixels_of(width_, channels), height_, stride_, static_cast<imgref_turn>(by)));
@@ -299,6 +301,15 @@ public:
         if (target.shares(*this)) throw std::invalid_argument("the images share memory");
         detail::done(calls::transpose_into(target.written(), target.len_, pixels_of(target.width_, channels), target.height_, target.stride_,
                                            channels, cells(), len_, pixels_of(width_, channels), height_, stride_));
+    }
+
+    // Turns or transposes this image in place. It has to be a square, unless it is turned by a half.
+    // Pixels are as in turn_into.
+    void turn(imgref::turn by, std::size_t channels = 1) const {
+        detail::done(calls::turn(written(), len_, pixels_of(width_, channels), height_, stride_, channels, static_cast<imgref_turn>(by)));
+    }
+    void transpose(std::size_t channels = 1) const {
+        detail::done(calls::transpose(written(), len_, pixels_of(width_, channels), height_, stride_, channels));
     }
 
     // The first row of the window, or of all, changes places with the last, and so on.

@@ -3,13 +3,37 @@
  * says, left exactly the model's cells, and every status that the header gives the function was seen.
  *
  * Ends with the line 'N passed, M failed'. */
+#define _DEFAULT_SOURCE
 #include "imgref.h"
 
 #include <stdio.h>
 #include <stdlib.h>
 #include <string.h>
+#include <sys/mman.h>
+#include <unistd.h>
 
-enum { ROUNDS = 3000, GUARD = 16 };
+/* How many calls there are of a function of each type of cell, and of one that counts, turns or flips. */
+#ifndef MANY
+#define MANY 3000
+#endif
+
+enum { ROUNDS = 3000, GUARD = 16, ROOM = 1 << 20 };
+
+/* ---- memory between two pages that can't be read or written */
+
+/* There are two rooms, since no call takes more than two images. */
+static unsigned char *next_room(void) {
+    static unsigned char *rooms[2];
+    static int turn;
+    turn = !turn;
+    if (!rooms[turn]) {
+        size_t page = (size_t)sysconf(_SC_PAGESIZE);
+        unsigned char *all = mmap(NULL, ROOM + 2 * page, PROT_NONE, MAP_PRIVATE | MAP_ANONYMOUS, -1, 0);
+        if (all == MAP_FAILED || mprotect(all + page, ROOM, PROT_READ | PROT_WRITE)) abort();
+        rooms[turn] = all + page;
+    }
+    return rooms[turn];
+}
 
 /* ---- random numbers, the same in each run */
 
@@ -108,13 +132,16 @@ static void count(const char *name, bool is_well) {
 }
 
 /* Many calls of one function, which have to return each of these statuses at least once. */
-static void series(const char *name, imgref_status (*one)(struct sizes), unsigned wanted) {
+static void rounds(int many, const char *name, imgref_status (*one)(struct sizes), unsigned wanted) {
     unsigned seen = 0;
     well = true;
-    for (int k = 0; k < ROUNDS; k++) seen |= 1u << one(any_sizes());
+    for (int k = 0; k < many; k++) seen |= 1u << one(any_sizes());
     if (seen != wanted) printf("%s: returns %x, wanted %x\n", name, seen, wanted);
     count(name, well && seen == wanted);
 }
+
+static void series(const char *name, imgref_status (*one)(struct sizes), unsigned wanted) { rounds(ROUNDS, name, one, wanted); }
+static void long_series(const char *name, imgref_status (*one)(struct sizes), unsigned wanted) { rounds(MANY, name, one, wanted); }
 
 /* ---- the calls on numbers */
 
@@ -235,6 +262,10 @@ static void by_hand(void) {
     count("by hand: flip_columns", imgref_u8_flip_columns(memcpy(colours, (uint8_t[]){1, 2, 3, 4, 5, 6, 7, 90}, 8), 8, 2, 1, 8, 3, both) == IMGREF_OK && !memcmp(colours, turned, 8));
     count("by hand: turn_into", imgref_u8_turn_into(upright, 6, 1, 2, 3, 3, colours, 8, 2, 1, 8, IMGREF_LEFT) == IMGREF_OK && !memcmp(upright, (uint8_t[]){1, 2, 3, 4, 5, 6}, 6));
     count("by hand: no turn", imgref_u8_turn_into(upright, 6, 1, 2, 3, 3, colours, 8, 2, 1, 8, 4) == IMGREF_NO_TURN && upright[0] == 1);
+    uint8_t square[8] = {1, 2, 3, 4, 90, 5, 6, 7};
+    count("by hand: turn", imgref_u8_turn(square, 8, 1, 2, 5, 2, IMGREF_HALF) == IMGREF_OK && !memcmp(square, (uint8_t[]){5, 6, 3, 4, 90, 1, 2, 7}, 8));
+    count("by hand: transpose", imgref_u8_transpose(square, 8, 2, 2, 3, 1) == IMGREF_OK && !memcmp(square, (uint8_t[]){5, 4, 3, 6, 90, 1, 2, 7}, 8));
+    count("by hand: no square", imgref_u8_turn(square, 8, 1, 2, 5, 2, IMGREF_RIGHT) == IMGREF_SIZES_DIFFER && square[0] == 5);
     count("by hand: no cell", imgref_u8_fill_window(&pixel, 0, 0, 5, 1, (struct imgref_window){0, 2, 0, 3}, 7) == IMGREF_OK && pixel == 6);
 }
 

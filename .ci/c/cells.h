@@ -1,45 +1,48 @@
 /* The calls on one type of cell, each beside a model that goes place by place. Included once for each type, with CELL (the
  * type), OF (a call's name) and MINE (a name of this file's for it), and MEANS where means are taken of the type. */
 
-/* A random image in a list with a guard on either side, which no call may touch. */
+/* A random image in a room. At one end of it are cells that no call may change, and at the other end is a page that no call may
+ * even read. */
 struct MINE(image) {
     CELL *list, *old, *cells;
+    size_t before, all;
     struct sizes is;
 };
 
 static struct MINE(image) MINE(made)(struct sizes is) {
-    struct MINE(image) made = {.is = is};
-    size_t all = is.len + 2 * GUARD;
-    made.list = malloc(all * sizeof(CELL));
-    made.old = malloc(all * sizeof(CELL));
-    if (!made.list || !made.old) abort();
-    for (size_t k = 0; k < all; k++) made.list[k] = (CELL)(any() % 3 ? any() : any() % 4);
-    memcpy(made.old, made.list, all * sizeof(CELL));
-    made.cells = made.list + GUARD;
+    struct MINE(image) made = {.is = is, .all = is.len + GUARD, .before = any() % 2 ? GUARD : 0};
+    if (made.all * sizeof(CELL) > ROOM) abort();
+    CELL *room = (CELL *)next_room();
+    made.list = made.before ? room + ROOM / sizeof(CELL) - made.all : room;
+    made.old = malloc(made.all * sizeof(CELL));
+    if (!made.old) abort();
+    for (size_t k = 0; k < made.all; k++) {
+        size_t bits = any();
+        made.list[k] = (CELL)(bits % 3 ? bits / 3 : bits / 3 % 4);
+    }
+    memcpy(made.old, made.list, made.all * sizeof(CELL));
+    made.cells = made.list + made.before;
     return made;
 }
 
-static void MINE(freed)(struct MINE(image) it) {
-    free(it.list);
-    free(it.old);
-}
+static void MINE(freed)(struct MINE(image) it) { free(it.old); }
 
 /* What the model says that the pixel in column x of row y was. */
-static CELL MINE(was)(const struct MINE(image) *it, size_t x, size_t y) { return it->old[GUARD + y * it->is.stride + x]; }
+static CELL MINE(was)(const struct MINE(image) *it, size_t x, size_t y) { return it->old[it->before + y * it->is.stride + x]; }
 
 static void MINE(set)(CELL *cells, const struct MINE(image) *it, size_t x, size_t y, CELL value) {
-    cells[GUARD + y * it->is.stride + x] = value;
+    cells[it->before + y * it->is.stride + x] = value;
 }
 
 /* Whether the call returned this and left these cells, guards included. Frees the expected list. */
 static bool MINE(left)(const struct MINE(image) *it, CELL *expected, imgref_status status, imgref_status wanted) {
-    bool well = status == wanted && !memcmp(it->list, expected, (it->is.len + 2 * GUARD) * sizeof(CELL));
+    bool well = status == wanted && !memcmp(it->list, expected, it->all * sizeof(CELL));
     free(expected);
     return well;
 }
 
 static CELL *MINE(copy)(const struct MINE(image) *it) {
-    size_t bytes = (it->is.len + 2 * GUARD) * sizeof(CELL);
+    size_t bytes = it->all * sizeof(CELL);
     CELL *copied = malloc(bytes);
     if (!copied) abort();
     return memcpy(copied, it->old, bytes);
@@ -191,7 +194,7 @@ static imgref_status MINE(one_count)(struct sizes is) {
     size_t channels = any_channels(), given = 99, wanted_count = 99;
     struct MINE(image) it = MINE(made)(is);
     for (size_t k = 0; k < is.len; k++) it.cells[k] = (CELL)(it.cells[k] % 2);
-    memcpy(it.old, it.list, (is.len + 2 * GUARD) * sizeof(CELL));
+    memcpy(it.old, it.list, it.all * sizeof(CELL));
     is.width = in_pixels(is, channels);
     struct imgref_window w = any_window(is);
     CELL value[8];
@@ -248,6 +251,39 @@ static imgref_status MINE(one_oriented)(struct sizes is, bool is_turn) {
 
 static imgref_status MINE(one_turn_into)(struct sizes is) { return MINE(one_oriented)(is, true); }
 static imgref_status MINE(one_transpose_into)(struct sizes is) { return MINE(one_oriented)(is, false); }
+
+/* The same in place. */
+static imgref_status MINE(one_oriented_in_place)(struct sizes is, bool is_turn) {
+    size_t channels = any_channels();
+    imgref_turn turn = any() % 8 ? (imgref_turn)(1 + any() % 3) : (imgref_turn)any_number();
+    bool is_across = !is_turn || turn != IMGREF_HALF;
+    if (is_across && any() % 4) {
+        size_t side = any() % 8 ? any() % 12 : any() % 40;
+        is = sized(side * channels, side);
+    }
+    struct MINE(image) it = MINE(made)(is);
+    is.width = in_pixels(is, channels);
+    CELL *expected = MINE(copy)(&it);
+    imgref_status wanted = is_turn && (turn < 1 || turn > 3)       ? IMGREF_NO_TURN
+                           : !is_pixel_image(is, channels)         ? IMGREF_NOT_AN_IMAGE
+                           : is_across && is.width != is.height    ? IMGREF_SIZES_DIFFER
+                                                                   : IMGREF_OK;
+    if (wanted == IMGREF_OK && is.width)
+        for (size_t y = 0; y < is.height; y++)
+            for (size_t x = 0; x < is.width; x++) {
+                size_t u = !is_turn || turn == IMGREF_RIGHT ? y : is.width - 1 - (turn == IMGREF_HALF ? x : y);
+                size_t v = !is_turn || turn == IMGREF_LEFT ? x : is.height - 1 - (turn == IMGREF_HALF ? y : x);
+                for (size_t k = 0; k < channels; k++) MINE(set)(expected, &it, x * channels + k, y, MINE(was)(&it, u * channels + k, v));
+            }
+    imgref_status status = is_turn ? OF(turn)(it.cells, is.len, is.width, is.height, is.stride, channels, turn)
+                                   : OF(transpose)(it.cells, is.len, is.width, is.height, is.stride, channels);
+    tell(MINE(left)(&it, expected, status, wanted));
+    MINE(freed)(it);
+    return status;
+}
+
+static imgref_status MINE(one_turn)(struct sizes is) { return MINE(one_oriented_in_place)(is, true); }
+static imgref_status MINE(one_transpose)(struct sizes is) { return MINE(one_oriented_in_place)(is, false); }
 
 static imgref_status MINE(one_flipped)(struct sizes is, bool is_rows) {
     size_t channels = any_channels();
@@ -326,7 +362,7 @@ static imgref_status MINE(one_pack)(struct sizes is) {
     struct MINE(image) it = MINE(made)(is);
     CELL *expected = MINE(copy)(&it);
     imgref_status wanted = is_image(is) ? IMGREF_OK : IMGREF_NOT_AN_IMAGE;
-    size_t k = GUARD;
+    size_t k = it.before;
     if (wanted == IMGREF_OK && is.width)
         for (size_t y = 0; y < is.height; y++)
             for (size_t x = 0; x < is.width; x++) expected[k++] = MINE(was)(&it, x, y);
@@ -346,7 +382,7 @@ static imgref_status MINE(one_equal)(struct sizes is) {
         for (size_t y = 0; y < is.height; y++)
             for (size_t x = 0; x < is.width; x++) MINE(set)(second.list, &second, x, y, MINE(was)(&it, x, y));
         if (is.height && any() % 2) second.cells[any() % is.height * other.stride + any() % is.width] ^= (CELL)((CELL)1 << any() % (8 * sizeof(CELL)));
-        memcpy(second.old, second.list, (other.len + 2 * GUARD) * sizeof(CELL));
+        memcpy(second.old, second.list, second.all * sizeof(CELL));
     }
     if (wanted == IMGREF_OK) {
         wanted_equal = same_size;
@@ -375,13 +411,15 @@ static void MINE(all_calls)(void) {
     series(TEXT "fill_pixels", MINE(one_fill_pixels), 1u << IMGREF_OK | 1u << IMGREF_NOT_AN_IMAGE | 1u << IMGREF_WINDOW_OUTSIDE);
     series(TEXT "mosaic_pixels", MINE(one_mosaic_pixels),
            1u << IMGREF_OK | 1u << IMGREF_NOT_AN_IMAGE | 1u << IMGREF_WINDOW_OUTSIDE | 1u << IMGREF_NO_TILE);
-    series(TEXT "count", MINE(one_count), 1u << IMGREF_OK | 1u << IMGREF_NOT_AN_IMAGE | 1u << IMGREF_WINDOW_OUTSIDE);
-    series(TEXT "turn_into", MINE(one_turn_into),
-           1u << IMGREF_OK | 1u << IMGREF_NOT_AN_IMAGE | 1u << IMGREF_SIZES_DIFFER | 1u << IMGREF_NO_TURN);
-    series(TEXT "transpose_into", MINE(one_transpose_into), 1u << IMGREF_OK | 1u << IMGREF_NOT_AN_IMAGE | 1u << IMGREF_SIZES_DIFFER);
-    series(TEXT "flip_rows", MINE(one_flip_rows), 1u << IMGREF_OK | 1u << IMGREF_NOT_AN_IMAGE | 1u << IMGREF_WINDOW_OUTSIDE);
-    series(TEXT "flip_columns", MINE(one_flip_columns), 1u << IMGREF_OK | 1u << IMGREF_NOT_AN_IMAGE | 1u << IMGREF_WINDOW_OUTSIDE);
-    series(TEXT "swap_rows", MINE(one_swap_rows), 1u << IMGREF_OK | 1u << IMGREF_NOT_AN_IMAGE | 1u << IMGREF_PLACE_OUTSIDE);
+    long_series(TEXT "count", MINE(one_count), 1u << IMGREF_OK | 1u << IMGREF_NOT_AN_IMAGE | 1u << IMGREF_WINDOW_OUTSIDE);
+    long_series(TEXT "turn_into", MINE(one_turn_into),
+                1u << IMGREF_OK | 1u << IMGREF_NOT_AN_IMAGE | 1u << IMGREF_SIZES_DIFFER | 1u << IMGREF_NO_TURN);
+    long_series(TEXT "transpose_into", MINE(one_transpose_into), 1u << IMGREF_OK | 1u << IMGREF_NOT_AN_IMAGE | 1u << IMGREF_SIZES_DIFFER);
+    long_series(TEXT "turn", MINE(one_turn), 1u << IMGREF_OK | 1u << IMGREF_NOT_AN_IMAGE | 1u << IMGREF_SIZES_DIFFER | 1u << IMGREF_NO_TURN);
+    long_series(TEXT "transpose", MINE(one_transpose), 1u << IMGREF_OK | 1u << IMGREF_NOT_AN_IMAGE | 1u << IMGREF_SIZES_DIFFER);
+    long_series(TEXT "flip_rows", MINE(one_flip_rows), 1u << IMGREF_OK | 1u << IMGREF_NOT_AN_IMAGE | 1u << IMGREF_WINDOW_OUTSIDE);
+    long_series(TEXT "flip_columns", MINE(one_flip_columns), 1u << IMGREF_OK | 1u << IMGREF_NOT_AN_IMAGE | 1u << IMGREF_WINDOW_OUTSIDE);
+    long_series(TEXT "swap_rows", MINE(one_swap_rows), 1u << IMGREF_OK | 1u << IMGREF_NOT_AN_IMAGE | 1u << IMGREF_PLACE_OUTSIDE);
 #ifdef MEANS
     series(TEXT "mosaic_means", MINE(one_mosaic_means),
            1u << IMGREF_OK | 1u << IMGREF_NOT_AN_IMAGE | 1u << IMGREF_WINDOW_OUTSIDE | 1u << IMGREF_NO_TILE);

@@ -150,6 +150,18 @@ static void turns() {
     check("colours are flipped whole", room == std::array<std::uint8_t, 6>{5, 3, 6, 1, 4, 2});
     colours.turn_into(column, turn::right, 3);
     check("colours are turned whole", pixels == std::array<std::uint8_t, 9>{5, 3, 6, 90, 1, 4, 2, 91, 92});
+    view square(pixels, 2, 2, 4);
+    pixels = {1, 2, 90, 91, 3, 4, 92, 93, 94};
+    square.turn(turn::right);
+    check("turn right in place", pixels == std::array<std::uint8_t, 9>{3, 1, 90, 91, 4, 2, 92, 93, 94});
+    square.transpose();
+    check("transpose in place", pixels == std::array<std::uint8_t, 9>{3, 4, 90, 91, 1, 2, 92, 93, 94});
+    view strip(room, 6, 1);
+    room = {1, 2, 3, 4, 5, 6};
+    strip.turn(turn::half, 3);
+    check("colours are turned whole in place", room == std::array<std::uint8_t, 6>{4, 5, 6, 1, 2, 3});
+    check("no turn in place", is_refused(IMGREF_SIZES_DIFFER, [&] { strip.turn(turn::left); }) && is_refused(IMGREF_SIZES_DIFFER, [&] { strip.transpose(3); }) &&
+                                  is_refused(IMGREF_NO_TURN, [&] { square.turn(turn{0}); }) && room[0] == 4 && pixels[0] == 3);
     check("no turn", is_refused(IMGREF_SIZES_DIFFER, [&] { image.turn_into(flat, turn::right); }) && is_refused(IMGREF_NO_TURN, [&] { image.turn_into(flat, turn{4}); }) &&
                          is_refused(IMGREF_SIZES_DIFFER, [&] { image.transpose_into(flat); }) && is_invalid([&] { image.turn_into(image, turn::half); }));
     check("no flip", is_refused(IMGREF_WINDOW_OUTSIDE, [&] { image.flip_rows({2, 0, 2, 2}); }) && is_refused(IMGREF_WINDOW_OUTSIDE, [&] { image.flip_columns({0, 1, 1, 2}); }) &&

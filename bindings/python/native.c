@@ -411,6 +411,17 @@ CALL(call_turn) {
     return done(status);
 }
 
+/* The same in place. */
+CALL(call_turn_in_place) {
+    (void)module;
+    size_t quarters;
+    Cells *it = first_in(given, count, 2);
+    if (!it || !number_of(given[1], &quarters) || !is_written(it)) return NULL;
+    const image i = it->shown;
+    UNLOCKED(image_turn_in_place(&i, quarters <= IMGREF_LEFT ? (imgref_turn)quarters : UINT32_MAX))
+    return done(status);
+}
+
 CALL(call_flip_rows) {
     (void)module;
     size_t n[4];
@@ -568,7 +579,7 @@ CALL(call_tile) {
 static PyMethodDef calls[] = {
     FAST(get),  FAST(put),    FAST(fill),   FAST(copy), FAST(move), FAST(mosaic),     FAST(mosaic_means), FAST(pack), FAST(equal),
     FAST(hold), FAST(window), FAST(joined), {"room", call_room, METH_O, NULL},        {"address", call_address, METH_O, NULL},
-    FAST(count), FAST(turn), FAST(flip_rows), FAST(flip_columns), FAST(swap_rows),
+    FAST(count), FAST(turn), FAST(turn_in_place), FAST(flip_rows), FAST(flip_columns), FAST(swap_rows),
     FAST(tile), FAST(tile_count), {NULL, NULL, 0, NULL},
 };
 

@@ -137,6 +137,15 @@ static imgref_status image_turn(const image *i, const image *o, imgref_turn turn
     BY_SIZE(TURN)
 }
 
+/* The same in place. */
+#define TURN_IN_PLACE(NAME, TYPE) imgref_##NAME##_turn(PIXELS(TYPE, i), i->step, turn)
+#define TRANSPOSE_IN_PLACE(NAME, TYPE) imgref_##NAME##_transpose(PIXELS(TYPE, i), i->step)
+static imgref_status image_transpose_in_place(const image *i) { BY_SIZE(TRANSPOSE_IN_PLACE) }
+static imgref_status image_turn_in_place(const image *i, imgref_turn turn) {
+    if (!turn) return image_transpose_in_place(i);
+    BY_SIZE(TURN_IN_PLACE)
+}
+
 #define FLIP_ROWS(NAME, TYPE) imgref_##NAME##_flip_rows(PIXELS(TYPE, i), i->step, window)
 static imgref_status image_flip_rows(const image *i, imgref_rect window) { BY_SIZE(FLIP_ROWS) }
 

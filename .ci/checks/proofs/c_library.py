@@ -41,7 +41,7 @@ def check_names(cases, compiler, prefix):
     """Both libraries show the header's functions, and no other name."""
     _, wrote, said = run([*compiler, "-E", prefix / "include/imgref.h"])
     declared = set(re.findall(r"\b(imgref_\w+)\s*\(", wrote.decode()))
-    cases.count("the header declares the calls", len(declared) == 5 + 4 * 16 + 2, said)
+    cases.count("the header declares the calls", len(declared) == 5 + 4 * 18 + 2, said)
     shared = names(["-D", prefix / "lib/libimgref.so"])
     cases.count("the shared object shows the header's names alone", shared == declared, str(shared ^ declared))
     static = names(["-g", prefix / "lib/libimgref.a"])
@@ -61,7 +61,9 @@ def check_c(cases, compiler, prefix, room):
         cases.count(f"the header alone, {' '.join(compile_it)}", status == 0, said)
     calls = [*compiler, "-std=c11", "-O1", "-g", "-Wall", "-Wextra", "-Werror", include, source]
     sanitized = ["-fsanitize=address,undefined", "-fno-sanitize-recover=all"]
-    for label, more, after in (("static", sanitized, [prefix / "lib/libimgref.a"]), ("shared", [], [f"-L{prefix / 'lib'}", "-limgref", f"-Wl,-rpath,{prefix / 'lib'}"])):
+    # (so that each function that counts, turns or flips is called 100,000 times)
+    many = ["-O2", "-DMANY=25000"]
+    for label, more, after in (("static", sanitized, [prefix / "lib/libimgref.a"]), ("shared", many, [f"-L{prefix / 'lib'}", "-limgref", f"-Wl,-rpath,{prefix / 'lib'}"])):
         status, _, said = run([*calls, *more, "-o", room / label, *after])
         cases.count(f"calls.c, {label}", status == 0, said)
         if status == 0:
@@ -161,7 +163,7 @@ def check_man(cases, prefix):
     header = (prefix / "include/imgref.h").read_text()
     calls = set(re.findall(r"\b(imgref_\w+)\(size_t", header)) | {f"imgref_u8_{it}" for it in re.findall(r"imgref_##NAME##_(\w+)\(", header)}
     lacking = [it for it in [*calls, *re.findall(r"#define (IMGREF_[A-Z_]+) \(", header)] if it not in pages.get("imgref.3", "")]
-    cases.count("imgref.3 names each call and status", len(calls) == 5 + 17 and not lacking, str(lacking))
+    cases.count("imgref.3 names each call and status", len(calls) == 5 + 19 and not lacking, str(lacking))
     words = set(re.findall(r"(?m)^\| `(\w+) I PATH", (ROOT / "docs/SCRIPT.md").read_text())) | {"image", "compact"}
     lacking = [it for it in words if f'.BI "{it} "' not in pages.get("imgref_run.1", "")]
     cases.count("imgref_run.1 names each command", len(words) > 7 and not lacking, str(lacking))

@@ -173,6 +173,21 @@ class Image(Layout):
         self._turn_into(made, 0)
         return made
 
+    def turn(self, turn: Turn) -> None:
+        """Turns the image clockwise in place: `"right"`, `"half"` or `"left"`. It has to be a square,
+        unless it is turned by a half.
+
+        >>> image = Image(bytearray([1, 2, 3, 4]), 2, 2)
+        >>> image.turn("right")
+        >>> list(image.tobytes())
+        [3, 1, 4, 2]
+        """
+        _native.turn_in_place(self._cells, _quarters(turn))
+
+    def transpose(self) -> None:
+        """Rows become columns in place. The image has to be a square."""
+        _native.turn_in_place(self._cells, 0)
+
     def flip_rows(self, window: Corners | None = None) -> None:
         """The first row of the window, or of all, changes places with the last, and so on."""
         left, top, width, height = self.whole if window is None else window

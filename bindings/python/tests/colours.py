@@ -51,6 +51,15 @@ class Model:
         left, top, width, height = window
         self.move({(x, y): (2 * left + width - 1 - x, y) for x, y in places(window)})
 
+    def turn(self, turn):
+        if turn == "half":
+            self.rows = [it[::-1] for it in reversed(self.rows)]
+        else:
+            self.rows = [list(it) for it in zip(*reversed(self.rows))] if turn == "right" else [list(it) for it in zip(*self.rows)][::-1]
+
+    def transpose(self):
+        self.rows = [list(it) for it in zip(*self.rows)]
+
     def swap_rows(self, y, z):
         self.rows[y], self.rows[z] = self.rows[z], self.rows[y]
 
@@ -99,6 +108,25 @@ def turns(image, rows):
     yield image.flipped_columns(), [it[::-1] for it in rows]
 
 
+def are_in_place(image):
+    """Whether the largest square at the corner of an image, and then all of it, are turned in place as
+    the model's rows are, and nothing beside the square changes."""
+    side = min(image.width, image.height)
+    square = image.window((0, 0, side, side))
+    beside = [it for window in ((side, 0, image.width - side, image.height), (0, side, side, image.height - side)) for it in [image.window(window)]]
+    were = [it.tobytes() for it in beside]
+    for name, words in (("turn", ("right",)), ("transpose", ()), ("turn", ("half",)), ("turn", ("left",))):
+        model = Model(square)
+        getattr(model, name)(*words)
+        getattr(square, name)(*words)
+        if Model(square).rows != model.rows or [it.tobytes() for it in beside] != were:
+            return False
+    model = Model(image)
+    model.turn("half")
+    image.turn("half")
+    return Model(image).rows == model.rows
+
+
 def tried(letter, channels, offset, stride_more):
     """Whether twenty calls on an image change what they change in the model, and no padding."""
     chance, size = random.Random(f"{letter}{channels}{offset}{stride_more}"), struct.calcsize(letter)
@@ -123,6 +151,10 @@ def tried(letter, channels, offset, stride_more):
     pixels = [it for row in model.rows for it in row]
     if any(image.count(image.whole, it) != pixels.count(it) for it in pixels[:4]) or image.count(image.window((0, 0, 1, 1)).whole, pixels[0]) != 1:
         return False
+    before = image.copy()
+    if not are_in_place(image):
+        return False
+    image.copy_from(before)
     packed = Image(bytearray(width * height * channels * size), width, height, channels=channels) if letter == "B" else image.copy()
     packed.copy_from(image)
     rows = b"".join(form.pack(it) for row in model.rows for pixel in row for it in (pixel if channels > 1 else [pixel]))
@@ -152,10 +184,13 @@ def of_three_dimensions():
         check(f"no number: {words}", raises(ValueError, image.fill, *words))
     upright = Image(bytearray(48), 4, 4, channels=3)
     check("count", image.count(image.whole, (200, 201, 202)) == 2 and image.count((0, 0, 4, 1), (200, 201, 202)) == 0)
-    for call, words in ((image.count, (Window(3, 0, 2, 1), (1, 2, 3))), (image.turn_into, (upright.window((0, 0, 3, 4)), "half")), (image.transpose_into, (upright.window((0, 0, 3, 4)),)), (image.flip_rows, (Window(0, 3, 1, 2),)), (image.flip_columns, (Window(3, 0, 2, 1),)), (image.swap_rows, (0, 4))):
+    for call, words in ((image.count, (Window(3, 0, 2, 1), (1, 2, 3))), (image.turn_into, (upright.window((0, 0, 3, 4)), "half")), (image.transpose_into, (upright.window((0, 0, 3, 4)),)), (image.flip_rows, (Window(0, 3, 1, 2),)), (image.flip_columns, (Window(3, 0, 2, 1),)), (image.swap_rows, (0, 4)), (image.window((0, 0, 3, 4)).turn, ("left",)), (image.window((0, 0, 3, 4)).transpose, ())):
         check(f"refused: {call.__name__}", raises(Refused, call, *words))
     for words in ((upright, "up"), (upright, 1), (frame, "half"), (image, "half"), (image.window((0, 0, 4, 4)), "right"), (Image(bytes(48), 4, 4, channels=3), "half"), (Image(bytearray(16), 4, 4), "half")):
         check(f"no turn: {words}", raises((ValueError, TypeError), image.turn_into, *words))
+    reading = Image(bytes(48), 4, 4, channels=3)
+    for call, words in ((image.turn, ("up",)), (image.turn, (1,)), (reading.turn, ("half",)), (reading.transpose, ())):
+        check(f"no turn in place: {words}", raises((ValueError, TypeError), call, *words))
     check("nothing is written", frame == before and not any(upright.tobytes()))
     parted = exported("B", 1, frame, (4, 4, 3), (12, 3, -1), start=2)
     apart = exported("B", 1, frame, (4, 3, 3), (12, 4, 1))

@@ -237,7 +237,7 @@ def together(label, work, disturb, image, size):
 
 def of_threads():
     """One thread calls, and another makes the image again, resizes its memory or packs it."""
-    for name in ("fill", "copy_window", "move_window", "mosaic", "turn_into", "flip_columns", "tobytes", "==", "copy"):
+    for name in ("fill", "copy_window", "move_window", "mosaic", "turn_into", "turn", "flip_columns", "tobytes", "==", "copy"):
         image, source = made("B", 1, 512, 7), made("B", 1, 512, 40)
         work = {
             "fill": lambda: image.fill(image.whole, 7),
@@ -245,6 +245,7 @@ def of_threads():
             "move_window": lambda: image.move_window((0, 0, 500, 500), (3, 4, 500, 500)),
             "mosaic": lambda: image.mosaic(image.whole, 3, 3),
             "turn_into": lambda: source.turn_into(image, "right"),
+            "turn": lambda: image.turn("right"),
             "flip_columns": image.flip_columns,
             "tobytes": image.tobytes,
             "==": lambda: image == source,

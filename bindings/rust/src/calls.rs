@@ -68,6 +68,8 @@ pub struct Calls<T> {
     pub(crate) count: unsafe extern "C" fn(*const T, usize, usize, usize, usize, Window, *const T, usize, *mut usize) -> u32,
     pub(crate) turn_into: unsafe extern "C" fn(*mut T, usize, usize, usize, usize, usize, *const T, usize, usize, usize, usize, u32) -> u32,
     pub(crate) transpose_into: unsafe extern "C" fn(*mut T, usize, usize, usize, usize, usize, *const T, usize, usize, usize, usize) -> u32,
+    pub(crate) turn: unsafe extern "C" fn(*mut T, usize, usize, usize, usize, usize, u32) -> u32,
+    pub(crate) transpose: unsafe extern "C" fn(*mut T, usize, usize, usize, usize, usize) -> u32,
     pub(crate) flip_rows: unsafe extern "C" fn(*mut T, usize, usize, usize, usize, usize, Window) -> u32,
     pub(crate) flip_columns: unsafe extern "C" fn(*mut T, usize, usize, usize, usize, usize, Window) -> u32,
     pub(crate) swap_rows: unsafe extern "C" fn(*mut T, usize, usize, usize, usize, usize, usize, usize) -> u32,
@@ -76,7 +78,7 @@ pub struct Calls<T> {
 }
 
 macro_rules! cells {
-    ($($module:ident $cell:ty, $signed:ty: $get:literal $put:literal $fill_window:literal $copy_window:literal $move_window:literal $mosaic:literal $fill_pixels:literal $mosaic_pixels:literal $count:literal $turn_into:literal $transpose_into:literal $flip_rows:literal $flip_columns:literal $swap_rows:literal $pack:literal $equal:literal;)*) => {$(
+    ($($module:ident $cell:ty, $signed:ty: $get:literal $put:literal $fill_window:literal $copy_window:literal $move_window:literal $mosaic:literal $fill_pixels:literal $mosaic_pixels:literal $count:literal $turn_into:literal $transpose_into:literal $turn:literal $transpose:literal $flip_rows:literal $flip_columns:literal $swap_rows:literal $pack:literal $equal:literal;)*) => {$(
         mod $module {
             use super::{Bits, Calls, Cell, Window};
 
@@ -103,6 +105,10 @@ macro_rules! cells {
                 fn turn_into(cells: *mut $cell, len: usize, width: usize, height: usize, stride: usize, channels: usize, source: *const $cell, source_len: usize, source_width: usize, source_height: usize, source_stride: usize, turn: u32) -> u32;
                 #[link_name = $transpose_into]
                 fn transpose_into(cells: *mut $cell, len: usize, width: usize, height: usize, stride: usize, channels: usize, source: *const $cell, source_len: usize, source_width: usize, source_height: usize, source_stride: usize) -> u32;
+                #[link_name = $turn]
+                fn turn(cells: *mut $cell, len: usize, width: usize, height: usize, stride: usize, channels: usize, turn: u32) -> u32;
+                #[link_name = $transpose]
+                fn transpose(cells: *mut $cell, len: usize, width: usize, height: usize, stride: usize, channels: usize) -> u32;
                 #[link_name = $flip_rows]
                 fn flip_rows(cells: *mut $cell, len: usize, width: usize, height: usize, stride: usize, channels: usize, window: Window) -> u32;
                 #[link_name = $flip_columns]
@@ -117,7 +123,7 @@ macro_rules! cells {
 
             // SAFETY: the header declares these functions for this type.
             unsafe impl Bits for $cell {
-                const CALLS: Calls<Self> = Calls { get, put, fill_window, copy_window, move_window, mosaic, fill_pixels, mosaic_pixels, count, turn_into, transpose_into, flip_rows, flip_columns, swap_rows, pack, equal };
+                const CALLS: Calls<Self> = Calls { get, put, fill_window, copy_window, move_window, mosaic, fill_pixels, mosaic_pixels, count, turn_into, transpose_into, turn, transpose, flip_rows, flip_columns, swap_rows, pack, equal };
             }
 
             // SAFETY: an integer has the size of its bits, and each of them is a value.
@@ -146,8 +152,8 @@ macro_rules! cells {
 }
 
 cells! {
-    of_u8 u8, i8: "imgref_u8_get" "imgref_u8_put" "imgref_u8_fill_window" "imgref_u8_copy_window" "imgref_u8_move_window" "imgref_u8_mosaic" "imgref_u8_fill_pixels" "imgref_u8_mosaic_pixels" "imgref_u8_count" "imgref_u8_turn_into" "imgref_u8_transpose_into" "imgref_u8_flip_rows" "imgref_u8_flip_columns" "imgref_u8_swap_rows" "imgref_u8_pack" "imgref_u8_equal";
-    of_u16 u16, i16: "imgref_u16_get" "imgref_u16_put" "imgref_u16_fill_window" "imgref_u16_copy_window" "imgref_u16_move_window" "imgref_u16_mosaic" "imgref_u16_fill_pixels" "imgref_u16_mosaic_pixels" "imgref_u16_count" "imgref_u16_turn_into" "imgref_u16_transpose_into" "imgref_u16_flip_rows" "imgref_u16_flip_columns" "imgref_u16_swap_rows" "imgref_u16_pack" "imgref_u16_equal";
-    of_u32 u32, i32: "imgref_u32_get" "imgref_u32_put" "imgref_u32_fill_window" "imgref_u32_copy_window" "imgref_u32_move_window" "imgref_u32_mosaic" "imgref_u32_fill_pixels" "imgref_u32_mosaic_pixels" "imgref_u32_count" "imgref_u32_turn_into" "imgref_u32_transpose_into" "imgref_u32_flip_rows" "imgref_u32_flip_columns" "imgref_u32_swap_rows" "imgref_u32_pack" "imgref_u32_equal";
-    of_u64 u64, i64: "imgref_u64_get" "imgref_u64_put" "imgref_u64_fill_window" "imgref_u64_copy_window" "imgref_u64_move_window" "imgref_u64_mosaic" "imgref_u64_fill_pixels" "imgref_u64_mosaic_pixels" "imgref_u64_count" "imgref_u64_turn_into" "imgref_u64_transpose_into" "imgref_u64_flip_rows" "imgref_u64_flip_columns" "imgref_u64_swap_rows" "imgref_u64_pack" "imgref_u64_equal";
+    of_u8 u8, i8: "imgref_u8_get" "imgref_u8_put" "imgref_u8_fill_window" "imgref_u8_copy_window" "imgref_u8_move_window" "imgref_u8_mosaic" "imgref_u8_fill_pixels" "imgref_u8_mosaic_pixels" "imgref_u8_count" "imgref_u8_turn_into" "imgref_u8_transpose_into" "imgref_u8_turn" "imgref_u8_transpose" "imgref_u8_flip_rows" "imgref_u8_flip_columns" "imgref_u8_swap_rows" "imgref_u8_pack" "imgref_u8_equal";
+    of_u16 u16, i16: "imgref_u16_get" "imgref_u16_put" "imgref_u16_fill_window" "imgref_u16_copy_window" "imgref_u16_move_window" "imgref_u16_mosaic" "imgref_u16_fill_pixels" "imgref_u16_mosaic_pixels" "imgref_u16_count" "imgref_u16_turn_into" "imgref_u16_transpose_into" "imgref_u16_turn" "imgref_u16_transpose" "imgref_u16_flip_rows" "imgref_u16_flip_columns" "imgref_u16_swap_rows" "imgref_u16_pack" "imgref_u16_equal";
+    of_u32 u32, i32: "imgref_u32_get" "imgref_u32_put" "imgref_u32_fill_window" "imgref_u32_copy_window" "imgref_u32_move_window" "imgref_u32_mosaic" "imgref_u32_fill_pixels" "imgref_u32_mosaic_pixels" "imgref_u32_count" "imgref_u32_turn_into" "imgref_u32_transpose_into" "imgref_u32_turn" "imgref_u32_transpose" "imgref_u32_flip_rows" "imgref_u32_flip_columns" "imgref_u32_swap_rows" "imgref_u32_pack" "imgref_u32_equal";
+    of_u64 u64, i64: "imgref_u64_get" "imgref_u64_put" "imgref_u64_fill_window" "imgref_u64_copy_window" "imgref_u64_move_window" "imgref_u64_mosaic" "imgref_u64_fill_pixels" "imgref_u64_mosaic_pixels" "imgref_u64_count" "imgref_u64_turn_into" "imgref_u64_transpose_into" "imgref_u64_turn" "imgref_u64_transpose" "imgref_u64_flip_rows" "imgref_u64_flip_columns" "imgref_u64_swap_rows" "imgref_u64_pack" "imgref_u64_equal";
 }

@@ -304,6 +304,46 @@ impl<Container: BufferMut> Img<Container> {
         done(unsafe { (calls_on::<Container>().mosaic_pixels)(cells.as_mut_ptr().cast(), cells.len(), columns, self.height, self.stride, channels, window, tile_width, tile_height) })
     }
 
+    /// Turns the image in place. It has to be a square, unless it is turned by a half.
+    ///
+    /// # Errors
+    ///
+    /// [`Refused::SizesDiffer`].
+    pub fn turn(&mut self, turn: Turn) -> Result<(), Refused> {
+        self.turn_pixels(1, turn)
+    }
+
+    /// The same for colours of `channels` cells, as [`Img::fill_pixels`] has them.
+    ///
+    /// # Errors
+    ///
+    /// [`Refused::NotAnImage`] for another number of cells, [`Refused::SizesDiffer`].
+    pub fn turn_pixels(&mut self, channels: usize, turn: Turn) -> Result<(), Refused> {
+        let cells = self.buf.cells_mut();
+        let columns = self.width.checked_div(channels).ok_or(Refused::NotAnImage)?;
+        done(unsafe { (calls_on::<Container>().turn)(cells.as_mut_ptr().cast(), cells.len(), columns, self.height, self.stride, channels, turn as u32) })
+    }
+
+    /// Rows become columns in place. The image has to be a square.
+    ///
+    /// # Errors
+    ///
+    /// [`Refused::SizesDiffer`].
+    pub fn transpose(&mut self) -> Result<(), Refused> {
+        self.transpose_pixels(1)
+    }
+
+    /// The same for colours of `channels` cells, as [`Img::fill_pixels`] has them.
+    ///
+    /// # Errors
+    ///
+    /// [`Refused::NotAnImage`] for another number of cells, [`Refused::SizesDiffer`].
+    pub fn transpose_pixels(&mut self, channels: usize) -> Result<(), Refused> {
+        let cells = self.buf.cells_mut();
+        let columns = self.width.checked_div(channels).ok_or(Refused::NotAnImage)?;
+        done(unsafe { (calls_on::<Container>().transpose)(cells.as_mut_ptr().cast(), cells.len(), columns, self.height, self.stride, channels) })
+    }
+
     /// The first row changes places with the last, and so on.
     ///
     /// # Errors

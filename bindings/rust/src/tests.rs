@@ -168,6 +168,30 @@ fn turns_and_flips() {
     assert_eq!(colours.flip_pixels(5), Err(Refused::NotAnImage));
 }
 
+#[test]
+fn turns_in_place() {
+    let mut cells = [1u8, 2, 90, 3, 4];
+    let mut square = Img::new_stride(&mut cells[..], 2, 2, 3).unwrap();
+    square.turn(Turn::Right).unwrap();
+    assert_eq!(square.buf()[..], [3, 1, 90, 4, 2]);
+    square.transpose().unwrap();
+    assert_eq!(square.buf()[..], [3, 4, 90, 1, 2]);
+    square.turn(Turn::Left).unwrap();
+    assert_eq!(square.buf()[..], [4, 2, 90, 3, 1]);
+    let mut colours = ImgVec::new(vec![1u16, 2, 3, 4, 5, 6], 6, 1).unwrap();
+    colours.turn_pixels(3, Turn::Half).unwrap();
+    assert_eq!(colours.buf()[..], [4, 5, 6, 1, 2, 3]);
+    colours.turn(Turn::Half).unwrap();
+    assert_eq!(colours.buf()[..], [3, 2, 1, 6, 5, 4]);
+    assert_eq!(colours.turn(Turn::Right), Err(Refused::SizesDiffer));
+    assert_eq!(colours.transpose_pixels(3), Err(Refused::SizesDiffer));
+    assert_eq!(colours.transpose_pixels(5), Err(Refused::NotAnImage));
+    assert_eq!(colours.turn_pixels(0, Turn::Half), Err(Refused::NotAnImage));
+    let mut pairs = ImgVec::new(vec![1u32, 2, 3, 4, 5, 6, 7, 8], 4, 2).unwrap();
+    pairs.transpose_pixels(2).unwrap();
+    assert_eq!(pairs.buf()[..], [1, 2, 5, 6, 3, 4, 7, 8]);
+}
+
 // The means of two colours of two cells, and of one that the edge leaves in its tile.
 #[test]
 fn takes_means_of_colours() {
@@ -249,7 +273,7 @@ impl BufferMut for Shrinking {
 #[test]
 fn trusts_no_buffer_from_call_to_call() {
     type Call = fn(&mut Img<Shrinking>) -> bool;
-    let calls: [(&str, Call); 18] = [
+    let calls: [(&str, Call); 20] = [
         ("get", |it| it.get(7, 7).is_ok()),
         ("put", |it| it.put(7, 7, 99).is_ok()),
         ("fill_window", |it| it.fill_window(it.whole(), 99).is_ok()),
@@ -259,6 +283,8 @@ fn trusts_no_buffer_from_call_to_call() {
         ("fill_pixels", |it| it.fill_pixels(Window::new(0, 0, 4, 8), &[98, 99]).is_ok()),
         ("mosaic_pixels", |it| it.mosaic_pixels(2, Window::new(0, 0, 4, 8), 4, 8).is_ok()),
         ("turn_into", |it| ImgRef::new(&[99; 64][..], 8, 8).unwrap().turn_into(it, Turn::Right).is_ok()),
+        ("turn", |it| it.turn(Turn::Right).is_ok()),
+        ("transpose", |it| it.transpose().is_ok()),
         ("flip_rows", |it| it.flip_rows().is_ok()),
         ("flip_columns", |it| it.flip_columns().is_ok()),
         ("swap_rows", |it| it.swap_rows(0, 7).is_ok()),

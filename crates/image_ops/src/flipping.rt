@@ -20,6 +20,10 @@ pub fn flip_rows<T>(cells: &mut [T], shape: Shape)
     ensures grid { shaped_grid cells.new shape ≡ flipped (shaped_grid cells.old shape) }
     ensures outside { SameOutside (shaped cells.old shape) (shaped cells.new shape) }
 {
+    // Without a column there is nothing to change, however many rows there are.
+    if shape.row_count() == 0 {
+        return;
+    }
     let height = shape.height();
     for y in 0..height / 2 {
         swap_rows(cells, shape, y, height - 1 - y);

@@ -187,8 +187,8 @@ fn transpose_pixel_square<T: Copy>(cells: &mut [T], shape: Shape, size: usize)
 ///
 /// # Requires
 ///
-/// The cells fit (`Shape::fits`), and the image has `columns` pixels in a row. It is as wide as it
-/// becomes, so it has to be a square, unless it is turned by a half.
+/// The cells fit (`Shape::fits`). The image has `columns` pixels in a row, and is as wide as it
+/// becomes. So it has to be a square, unless it is turned by a half.
 pub fn orient_in_place<T: Copy>(
     cells: &mut [T],
     shape: Shape,
