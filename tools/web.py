@@ -40,6 +40,12 @@ POLICY = (
 )
 SCRIPT = re.compile(r'<script type="module" src="([\w.]+)"></script>')
 STYLE = re.compile(r'<link rel="stylesheet" href="([\w.]+)">')
+# A call on cells in a script, and an export in a file of the crate, with its doc lines.
+CALLED = re.compile(r"imgref_u(?:\$\{image\.bits\}|\d+)_(\w+)")
+EXPORT = re.compile(
+    r'(?:^///[^\n]*\n)+#\[unsafe\(no_mangle\)\]\npub extern "C" fn imgref_u\d+_(\w+)\(.*?^\}\n\n?',
+    re.MULTILINE | re.DOTALL,
+)
 IMPORT = re.compile(r'^import \{[^}]*\} from "\./([\w.]+)";\n', re.MULTILINE)
 PORT = 8000
 # How a line begins that is only a comment.
@@ -95,8 +101,13 @@ def without_names(data):
     return kept
 
 
+def called():
+    """The calls on cells that the pages make, without the size of a cell."""
+    return set(CALLED.findall("".join(it.read_text() for it in SOURCES.glob("*.js"))))
+
+
 def make_module():
-    """Proves and builds the crate for WebAssembly."""
+    """Proves and builds the crate for WebAssembly, without the exports that no page calls."""
     below = crates()[NAME]
     if built(*below):
         raise Failure(f"what {NAME} depends on is not proved")
@@ -107,6 +118,9 @@ def make_module():
         if count != 1:
             raise Failure(f"crates.txt has no line '{NAME} staticlib:'")
         listed.write_text(text)
+        names = called()
+        for path in (folder / "src").glob("u*_exports.rt"):
+            path.write_text(EXPORT.sub(lambda it: it[0] if it[1] in names else "", path.read_text()))
         ran = run_to_end(["rt", "lib"], cwd=folder)
         if ran.returncode:
             raise Failure(f"{ran.stdout}{ran.stderr}\n{NAME} is not proved as {KIND}")
@@ -154,7 +168,7 @@ def build():
     """Builds what has changed."""
     OUT.mkdir(parents=True, exist_ok=True)
     with held(OUT):
-        if not is_fresh(OUT / MODULE, NAME):
+        if not is_fresh(OUT / MODULE, NAME) or any(f"imgref_u8_{it}".encode() not in (OUT / MODULE).read_bytes() for it in called()):
             make_module()
     for name, its in PAGES.items():
         (OUT / name).write_text(page(*its))

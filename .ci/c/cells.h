@@ -411,15 +411,15 @@ static void MINE(all_calls)(void) {
     series(TEXT "fill_pixels", MINE(one_fill_pixels), 1u << IMGREF_OK | 1u << IMGREF_NOT_AN_IMAGE | 1u << IMGREF_WINDOW_OUTSIDE);
     series(TEXT "mosaic_pixels", MINE(one_mosaic_pixels),
            1u << IMGREF_OK | 1u << IMGREF_NOT_AN_IMAGE | 1u << IMGREF_WINDOW_OUTSIDE | 1u << IMGREF_NO_TILE);
-    long_series(TEXT "count", MINE(one_count), 1u << IMGREF_OK | 1u << IMGREF_NOT_AN_IMAGE | 1u << IMGREF_WINDOW_OUTSIDE);
-    long_series(TEXT "turn_into", MINE(one_turn_into),
-                1u << IMGREF_OK | 1u << IMGREF_NOT_AN_IMAGE | 1u << IMGREF_SIZES_DIFFER | 1u << IMGREF_NO_TURN);
-    long_series(TEXT "transpose_into", MINE(one_transpose_into), 1u << IMGREF_OK | 1u << IMGREF_NOT_AN_IMAGE | 1u << IMGREF_SIZES_DIFFER);
-    long_series(TEXT "turn", MINE(one_turn), 1u << IMGREF_OK | 1u << IMGREF_NOT_AN_IMAGE | 1u << IMGREF_SIZES_DIFFER | 1u << IMGREF_NO_TURN);
-    long_series(TEXT "transpose", MINE(one_transpose), 1u << IMGREF_OK | 1u << IMGREF_NOT_AN_IMAGE | 1u << IMGREF_SIZES_DIFFER);
-    long_series(TEXT "flip_rows", MINE(one_flip_rows), 1u << IMGREF_OK | 1u << IMGREF_NOT_AN_IMAGE | 1u << IMGREF_WINDOW_OUTSIDE);
-    long_series(TEXT "flip_columns", MINE(one_flip_columns), 1u << IMGREF_OK | 1u << IMGREF_NOT_AN_IMAGE | 1u << IMGREF_WINDOW_OUTSIDE);
-    long_series(TEXT "swap_rows", MINE(one_swap_rows), 1u << IMGREF_OK | 1u << IMGREF_NOT_AN_IMAGE | 1u << IMGREF_PLACE_OUTSIDE);
+    series(TEXT "count", MINE(one_count), 1u << IMGREF_OK | 1u << IMGREF_NOT_AN_IMAGE | 1u << IMGREF_WINDOW_OUTSIDE);
+    series(TEXT "turn_into", MINE(one_turn_into),
+           1u << IMGREF_OK | 1u << IMGREF_NOT_AN_IMAGE | 1u << IMGREF_SIZES_DIFFER | 1u << IMGREF_NO_TURN);
+    series(TEXT "transpose_into", MINE(one_transpose_into), 1u << IMGREF_OK | 1u << IMGREF_NOT_AN_IMAGE | 1u << IMGREF_SIZES_DIFFER);
+    series(TEXT "turn", MINE(one_turn), 1u << IMGREF_OK | 1u << IMGREF_NOT_AN_IMAGE | 1u << IMGREF_SIZES_DIFFER | 1u << IMGREF_NO_TURN);
+    series(TEXT "transpose", MINE(one_transpose), 1u << IMGREF_OK | 1u << IMGREF_NOT_AN_IMAGE | 1u << IMGREF_SIZES_DIFFER);
+    series(TEXT "flip_rows", MINE(one_flip_rows), 1u << IMGREF_OK | 1u << IMGREF_NOT_AN_IMAGE | 1u << IMGREF_WINDOW_OUTSIDE);
+    series(TEXT "flip_columns", MINE(one_flip_columns), 1u << IMGREF_OK | 1u << IMGREF_NOT_AN_IMAGE | 1u << IMGREF_WINDOW_OUTSIDE);
+    series(TEXT "swap_rows", MINE(one_swap_rows), 1u << IMGREF_OK | 1u << IMGREF_NOT_AN_IMAGE | 1u << IMGREF_PLACE_OUTSIDE);
 #ifdef MEANS
     series(TEXT "mosaic_means", MINE(one_mosaic_means),
            1u << IMGREF_OK | 1u << IMGREF_NOT_AN_IMAGE | 1u << IMGREF_WINDOW_OUTSIDE | 1u << IMGREF_NO_TILE);
