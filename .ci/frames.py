@@ -111,7 +111,9 @@ def windows_of(plane, size, word, window, last):
     """The window in samples of a plane of a frame of this size, and what follows it. Of a pad it is the corner of the plane and
     the size around it."""
     wide, high, *steps = plane
-    if word == "flip":
+    if word == "turn" and steps[0] != steps[1]:
+        raise Fault("outside")
+    if word in ("flip", "turn"):
         return None, last
     if word == "pad":
         whole = padded(size, window)
@@ -122,7 +124,7 @@ def windows_of(plane, size, word, window, last):
     left, top, width, height = under(window, size, steps)
     if not (0 < wide < 2**32 and high < 2**32) or left + width > wide or top + height > high or word == "crop" and width == 0:
         raise Fault("outside")
-    if word in ("mosaic", "mean"):
+    if word in ("mosaic", "means"):
         if 0 in last or any(it % step for it, step in zip(last, steps)):
             raise Fault("outside")
         last = [it // step for it, step in zip(last, steps)]
@@ -140,6 +142,8 @@ def edited(plane, cells, word, window, last):
     if word == "flip":
         rows, columns = (-1 if it in last else 1 for it in ("rows", "columns"))
         return [it for row in old[::rows] for it in row[::columns]]
+    if word == "turn":
+        return [old[high - 1 - x][y] if last == ["right"] else old[x][wide - 1 - y] for y in range(wide) for x in range(high)]
     left, top, width, height = window
     if word == "crop":
         return [it for row in old[top:top + height] for it in row[left:left + width]]
@@ -153,7 +157,7 @@ def edited(plane, cells, word, window, last):
                 new[top + y][left + x] = last[0]
             elif word == "mosaic":
                 new[top + y][left + x] = old[top + y - y % last[1]][left + x - x % last[0]]
-            elif word == "mean":
+            elif word == "means":
                 tile = [it for row in old[top + y - y % last[1]:top + min(height, y - y % last[1] + last[1])] for it in row[left + x - x % last[0]:left + min(width, x - x % last[0] + last[0])]]
                 new[top + y][left + x] = (2 * sum(tile) + len(tile)) // (2 * len(tile))
             else:
@@ -188,6 +192,9 @@ def edits_of(words):
         word, numbers = words.pop(0), words.pop(0)
         if (word, numbers) in FLIPS:
             edits.append((first, last, "flip", None, FLIPS[word, numbers]))
+            continue
+        if word == "turn":
+            edits.append((first, last, word, None, [numbers]))
             continue
         window = [int(it) for it in re.split("[,+]", numbers)]
         if word == "crop":
@@ -230,7 +237,7 @@ def step_of(planes, size, edit, values, greatest=255):
     """An edit as one of each plane, with what is written there: these values of a list of one or three, none of them above the
     greatest; or it isn't an edit here."""
     first, last, word, window, more = edit
-    if word == "mean" and greatest > 255:
+    if word == "means" and greatest > 255:
         raise Fault("outside")
     found = [windows_of(plane, size, word, window, more) for plane in planes]
     if word in ("fill", "pad"):
@@ -260,8 +267,9 @@ def after(planes, cells, steps, number):
 
 
 def size_after(size, edits):
-    """The size that a crop or a pad leaves, or none."""
-    return next((edit[3][2:] if edit[2] == "crop" else padded(size, edit[3]) for edit in edits if edit[2] in ("crop", "pad")), None)
+    """The size that a crop, a pad or a quarter turn leaves, or none."""
+    sizes = {"crop": lambda window: window[2:], "pad": lambda sides: padded(size, sides), "turn": lambda _: size[::-1]}
+    return next((sizes[edit[2]](edit[3]) for edit in edits if edit[2] in sizes), None)
 
 
 def answer(data, edits):
@@ -314,12 +322,12 @@ def pictures(data, edits):
         at, size, samples, greatest, new = head
         planes = [(*size, 1, 1)] * samples
         try:
-            if any(edit[2] == "crop" and edit[3][3] == 0 for edit in edits):
+            length = 1 if greatest < 256 else 2
+            if any(edit[2] == "crop" and edit[3][3] == 0 or edit[2] == "turn" and samples * length > 4 for edit in edits):
                 raise Fault("outside")
             steps = [step_of(planes, size, covered(numbered(edit, None), size, (1, 1), greatest), picture_values(samples, greatest), greatest) for edit in edits]
         except Fault as fault:
             raise Fault(fault.name, out) from None
-        length = 1 if greatest < 256 else 2
         end = at + size[0] * size[1] * samples * length
         if len(data) < end:
             raise Fault(f"frame {count}", out)
@@ -340,7 +348,9 @@ def video(data, edits):
     planes = planes_of(width, height, sampling)
     x, y = (sampling or (1, 1))[:2]
     unit = x, 2 * y if is_interlaced(line) else y
-    if is_interlaced(line) and any(edit[2] == "flip" and "rows" in edit[4] for edit in edits):
+    if is_interlaced(line) and any(edit[2] == "turn" or edit[2] == "flip" and "rows" in edit[4] for edit in edits):
+        raise Fault("outside")
+    if any(edit[2] == "turn" for edit in edits) and next((it for it in line.split(b" ")[1:] if it[:1] == b"A"), b"A1:1") not in (b"A1:1", b"A0:0"):
         raise Fault("outside")
     steps = [step_of(planes, (width, height), covered(numbered(edit, rate_of(line)), (width, height), unit, 2**bits - 1), video_values(bits), 2**bits - 1) for edit in edits]
     resize = size_after((width, height), edits)

@@ -156,7 +156,8 @@ export class Library {
   /** Mirrors all of an image: its `rows` or its `columns` change places. */
   flip(image, which) {
     const whole = this.windowAt(FROM, { left: 0, top: 0, width: image.width, height: image.height });
-    this.run(`imgref_u${image.bits}_flip_${which}`, ...cells(image), 1n, whole);
+    const name = which === "rows" ? `imgref_u${image.bits}_flip_rows` : `imgref_u${image.bits}_flip_columns`;
+    this.run(name, ...cells(image), 1n, whole);
   }
 
   copy(image, window, source) {

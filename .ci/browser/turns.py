@@ -3,7 +3,7 @@ import subprocess
 
 from browser import png
 from browser.acts import exchanged
-from browser.models import HEIGHT, PIXELS, WIDTH, wanted
+from browser.models import HEIGHT, PIXELS, WIDTH, by_model
 from browser.picture import IS_PROBLEM
 
 LEFT, RIGHT, MIRROR = "turn left", "turn right", "flip columns"
@@ -14,8 +14,8 @@ LISTS = (
     "fill 10,8,20,12 0\nturn right", "means 1,2,57,37 7,5\nturn half", "move 0,0,30,20 5,4\nturn left",
     "crop 7,9,30,20\nturn left", "pad 1,2,3,4 16\nflip rows", "fill 1,1,9,9 1,2,3\ncrop 59,0,1,40\nturn right\nflip rows",
 )
-# What only the page takes: a mean, and a turn after another size.
-PAGE_ALONE = ("means", "crop", "pad", "turn right", "turn left")
+# What only the page takes: a turn or a flip after another size.
+PAGE_ALONE = ("crop", "pad")
 # What a person presses, and the list then.
 PRESSES = (
     ((RIGHT,), "turn right\n"), ((RIGHT,) * 2, "turn half\n"), ((RIGHT,) * 3, "turn left\n"), ((RIGHT,) * 4, ""),
@@ -63,7 +63,7 @@ def check_turns(page, program):
         label = text.replace("\n", "; ")
         page.count(f"{label}: carried out", page.list() == f"{text}\n" and "Done" in said or "move" in text, said)
         saved = png.ppm_of(page.save())
-        page.count(f"{label}: by the model", saved == wanted(text))
+        page.count(f"{label}: by the model", saved == by_model(text.split()))
         if program and not any(it in text for it in PAGE_ALONE):
             ran = subprocess.run([program, *text.split()], input=png.ppm(WIDTH, HEIGHT, PIXELS), capture_output=True)
             page.count(f"{label}: by imgref_frames", ran.returncode == 0 and saved == ran.stdout, ran.stderr)
@@ -76,7 +76,7 @@ def check_turns(page, program):
             press(page, it)
         label = ", ".join(lines)
         page.count(f"{label} pressed", page.list() == f"fill 10,8,20,12 0\n{text}")
-        page.count(f"{label} saved", png.ppm_of(page.save()) == wanted("fill 10,8,20,12 0\n" + "\n".join(lines)))
+        page.count(f"{label} saved", png.ppm_of(page.save()) == by_model(["fill", "10,8,20,12", "0", *" ".join(lines).split()]))
         for it in reversed(lists):
             page.browser.run("document.getElementById('undo').click()")
             page.count(f"{label} undone", page.list() == it)
@@ -88,7 +88,7 @@ def check_bad(page):
     for text, why in BAD.items():
         said = page.apply(text)
         page.count(f"{text!r} is refused", why in said and page.browser.run(IS_PROBLEM), said)
-    page.count("the last list stays", png.ppm_of(page.save()) == wanted("fill 10,8,20,12 0\nturn left"))
+    page.count("the last list stays", png.ppm_of(page.save()) == by_model("fill 10,8,20,12 0 turn left".split()))
 
 
 def check_hands(page):
@@ -103,7 +103,7 @@ def check_hands(page):
         page.count(f"{line}: the mouse moves it", page.list() == f"fill 13,13,20,12 0\n{line}\n")
         page.browser.drag(*places(page, line, (33, 25), (36, 28), (40.1, 29.9)))
         page.count(f"{line}: the mouse resizes it", page.list() == f"fill 13,13,27,17 0\n{line}\n")
-        page.count(f"{line}: it is saved", png.ppm_of(page.save()) == wanted(f"fill 13,13,27,17 0\n{line}"))
+        page.count(f"{line}: it is saved", png.ppm_of(page.save()) == by_model(f"fill 13,13,27,17 0 {line}".split()))
     page.open()
     page.apply("fill 10,8,20,12 0\nturn right")
     page.browser.run("document.querySelector('#overlay g').focus()")

@@ -28,8 +28,9 @@ FILL = "fill 4,2,6,4 126"
 COVERS = ("cover 5,3,1,1 9", "cover 5,3,1,1", "cover 0,0,2,2 9", "cover 11,7,1,1 9", "cover 11,7,9,9 9", "cover 13,9,1,1 9", "cover 15,11,1,1 9", "cover 14,0,1,1 9", "cover 40,40,2,2 9", "cover 7,0,0,0 9", "1.. cover 3,1,4,3 9 fill 0,0,2,2 7", "cover 18446744073709551615,18446744073709551615,18446744073709551615,18446744073709551615 9", "cover 0,0,18446744073709551615,18446744073709551615 9")
 # Of the whole frame, alone and between other edits.
 FLIPS = ("flip rows", "flip columns", "turn half", "1.. flip columns", "0..2 turn half 1..3 flip rows", "fill 0,0,1,1 9 flip columns cover 0,0,1,1+0 5", "flip rows flip rows flip columns", "turn half crop 0,0,1,1")
+TURNS = ("turn right", "turn left", "flip rows turn right", "fill 0,0,1,1 9 1.. flip columns turn left", "cover 4,2,2,2 5 turn right")
 # Tiles of one pixel, tiles that edges cut, and one tile for all.
-MEANS = ("mean 0,0,12,8 4,2", "mean 4,2,8,6 4,4", "mean 0,0,12,8 4,6", "mean 0,0,12,8 64,64", "mean 4,0,4,4 1,1", "mean 8,0,5,9 4,2", "mean 0,0,0,0 4,2", "mean 4,2,4,4 3,2", "mean 4,2,4,4 0,2", "mean 0,0,12,8 18446744073709551612,2", "mean 4,2,8,6 4,2 1.. mean 0,0,8,4 8,4 turn half")
+MEANS = ("means 0,0,12,8 4,2", "means 4,2,8,6 4,4", "means 0,0,12,8 4,6", "means 0,0,12,8 64,64", "means 4,0,4,4 1,1", "means 8,0,5,9 4,2", "means 0,0,0,0 4,2", "means 4,2,4,4 3,2", "means 4,2,4,4 0,2", "means 0,0,12,8 18446744073709551612,2", "means 4,2,8,6 4,2 1.. means 0,0,8,4 8,4 turn half")
 # The same with a margin.
 MARGINS = ("5,3,1,1", "4,2,2,2", "5,2,3,4", "0,0,2,2", "11,7,1,1", "13,9,1,1", "16,12,2,2", "7,0,0,0", "6,4,0,0", "18446744073709551615,0,1,1", "0,0,18446744073709551615,1")
 PARAMETERS = (b"", b" Ip", b" ", b" XLABEL=a b  Ib")
@@ -67,6 +68,10 @@ def by_model(cases, program):
     count_tries(cases, "flips and half turns are the model's, and an interlaced video keeps its fields", program, flips)
     means = [(it.split(), video(sampling, *size)) for sampling in SAMPLINGS for size in ((12, 8), (13, 9)) for it in MEANS]
     count_tries(cases, "mosaics of means are the model's, of samples of one byte", program, means)
+    turns = [(it.split(), video(sampling, *size, fields=fields)) for sampling in SAMPLINGS for size in ((12, 8), (13, 9), (1, 1), (70, 3), (2, 130)) for fields in (b"Ip", b"It") for it in TURNS]
+    count_tries(cases, "quarter turns are the model's, and are refused where the sampling would change", program, turns)
+    shapes = [("turn left".split(), video("420").replace(b" A1:1 ", it, 1)) for it in (b" ", b" A0:0 ", b" A10:11 ", b" A ", b" A1:1 A2:1 ", b" A2:1 A1:1 ")]
+    count_tries(cases, "a quarter turn needs square pixels", program, shapes)
     lists = [(edits.split(), video(it)) for it in SAMPLINGS for edits in LISTS]
     count_tries(cases, "lists of edits, each to its frames, are the model's", program, lists)
     small = video("420", 4, 2, 2)
@@ -109,9 +114,9 @@ def by_model(cases, program):
         for y in range(2, 8):
             row = start + y * 12 + 4
             swapped[row:row + 6] = shown[row:row + 6][::-1]
-    for words in ("mean 4,2,6,6 6,1", "mean 4,2,6,6 6,4"):
+    for words in ("means 4,2,6,6 6,1", "means 4,2,6,6 6,4"):
         cases.count(f"the output of {words} reveals only the means", bytes(swapped) != shown and ends(program, words.split(), bytes(swapped)) == ends(program, words.split(), shown))
-    for after in ("", " flip rows", " flip columns move 4,2,6,4 0,0", " turn half", " move 4,2,6,4 0,0", " mosaic 0,0,12,8 3,3", " move 4,2,6,4 5,1 crop 0,0,8,8"):
+    for after in ("", " flip rows", " flip columns move 4,2,6,4 0,0", " turn half", " turn left", " move 4,2,6,4 0,0", " mosaic 0,0,12,8 3,3", " move 4,2,6,4 5,1 crop 0,0,8,8"):
         words = (FILL + after).split()
         cases.count(f"the output reveals nothing of hidden pixels{after}", hidden != shown and ends(program, words, hidden) == ends(program, words, shown))
 
@@ -138,7 +143,7 @@ def by_words(cases, program):
             listed.flush()
             said = ends(program, ["--edits", listed.name], video("mono"))
             cases.count(f"a file {text!r} of edits ends with status {status}", said[2] == status and (status == 0 or said[:2] == (b"", "fault words")), str(said))
-    for words, noted in (("mean 0,0,2,2 2,2 fill 0,0,2,2 9", True), ("mean 0,0,2,2 2,2 mosaic 0,0,2,2 1,1", True), ("mean 0,0,2,2 2,2 mean 4,4,2,2 2,2", False), ("cover 0,0,2,2 mean 0,0,2,2 2,2", False), ("move 0,0,2,2 2,2 mean 0,0,2,2 2,2", True)):
+    for words, noted in (("means 0,0,2,2 2,2 fill 0,0,2,2 9", True), ("means 0,0,2,2 2,2 mosaic 0,0,2,2 1,1", True), ("means 0,0,2,2 2,2 means 4,4,2,2 2,2", False), ("cover 0,0,2,2 means 0,0,2,2 2,2", False), ("move 0,0,2,2 2,2 means 0,0,2,2 2,2", True)):
         said = ends(program, words.split(), video("mono"))
         cases.count(f"'{words}' is{'' if noted else ' not'} noted", said[1].startswith("note: ") == noted and said[2] == 0, str(said[1:]))
     said = ends(program, "move 0,0,2,2 2,2 fill 0,0,2,2 9".split(), video("mono"))
@@ -173,13 +178,17 @@ REASONS = (
     ("fill 0,0,4,4 1024", "420p10", "edit 1: value 1024 is above 1023"),
     ("pad 0,0,4,4 512", "mono9", "the crop or pad: value 512 is above 511"),
     ("fill 0,0,4,4 1,2,3", "444", "edit 1: a colour is only for pictures in colour"),
-    ("mean 0,0,4,4 2,2", "444p10", "edit 1: a mean is only for samples of one byte"),
-    ("mean 0,0,4,4 3,2", "420", "edit 1: tile width 3 is no multiple of 2"),
-    ("mean 0,0,4,4 16", "420", "at word 1: mean needs the size of its tiles TW,TH, and 16 isn't one"),
+    ("means 0,0,4,4 2,2", "444p10", "edit 1: means are only for samples of one byte"),
+    ("means 0,0,4,4 3,2", "420", "edit 1: tile width 3 is no multiple of 2"),
+    ("means 0,0,4,4 16", "420", "at word 1: means needs the size of its tiles TW,TH, and 16 isn't one"),
     ("move 0,0,4,4 10,0", "420", "edit 1: it reaches outside the frame"),
     ("flip 0,0,2,2 9", "420", "at word 1: flip needs rows or columns, and 0,0,2,2 isn't that"),
     ("flip", "420", "at word 1: flip needs rows or columns"),
-    ("1.. turn right", "420", "at word 1: turn needs half, and right isn't that"),
+    ("turn back", "420", "at word 1: turn needs right, half or left, and back isn't that"),
+    ("1.. turn right", "420", "at word 1: turn right and turn left take no range"),
+    ("turn left flip rows", "420", "at word 3: no edit may come after a crop or a pad, nor after a quarter turn"),
+    ("turn right", "422", "the turn: 2 by 1 pixels share a chroma sample, and 1 by 2 would after the turn"),
+    ("turn left", "411", "the turn: 4 by 1 pixels share a chroma sample"),
     ("crop 0,0,3,4", "420", "the crop or pad: width 3 is no multiple of 2"),
     ("pad 1,0,0,0 9", "420", "the crop or pad: left side 1 is no multiple of 2"),
     ("fill 0,0,2,2 9 fil 0,0,2,2 9", "mono", "at word 4: fil isn't one of cover, fill"),
@@ -375,6 +384,9 @@ def by_ffmpeg(cases, program):
         cases.count(f"crop is ffmpeg's on {pixels}", made and through(program, "crop 16,8,64,48", made, "crop=64:48:16:8:exact=1"))
         for words, command in (("flip rows", "vflip"), ("flip columns", "hflip"), ("turn half", "hflip,vflip")):
             cases.count(f"{words} is ffmpeg's {command} on {pixels}", through(program, words, made, command))
+        for words, command in (("turn right", "transpose=clock"), ("turn left", "transpose=cclock")):
+            if "422" not in pixels and "411" not in pixels:
+                cases.count(f"{words} is ffmpeg's {command} on {pixels}", through(program, words, made, command))
         # Of more than 8 bits ffmpeg's grey and black have a colour: its chroma is 514 of 1023, and the middle is 512.
         if "gray" not in pixels and "le" not in pixels:
             cases.count(f"fill is ffmpeg's drawbox on {pixels}", through(program, "fill 16,8,64,48 126", made, "drawbox=x=16:y=8:w=64:h=48:color=gray@1:t=fill"))

@@ -16,9 +16,10 @@ sys.path.insert(0, str(pathlib.Path(__file__).resolve().parents[2]))
 from checking import Cases, both_builds
 from frames import count_tries, ends, exchanged, lines_said
 
-# The same by netpbm.
+# Flips, half turns and quarter turns by netpbm.
 FLIPS = (("flip rows", "pamflip -topbottom"), ("flip columns", "pamflip -leftright"), ("turn half", "pamflip -rotate180"))
-EDITS = ("fill 4,2,6,4 126", "fill 1,1,3,3 7", "mosaic 2,2,9,5 4,2", "mosaic 0,0,12,8 64,64", "mosaic 1,0,5,5 1,1", "move 0,0,6,4 4,2", "move 5,3,7,5 0,1", "crop 4,2,6,4", "crop 11,7,1,1", "fill 0,0,0,0 1", "pad 1,2,3,4 16", "pad 0,0,0,0 9", "flip rows", "flip columns", "turn half", "mean 2,2,9,5 4,2", "mean 0,0,12,8 64,64")
+TURNS = (("turn right", "pamflip -rotate270"), ("turn left", "pamflip -rotate90"))
+EDITS = ("fill 4,2,6,4 126", "fill 1,1,3,3 7", "mosaic 2,2,9,5 4,2", "mosaic 0,0,12,8 64,64", "mosaic 1,0,5,5 1,1", "move 0,0,6,4 4,2", "move 5,3,7,5 0,1", "crop 4,2,6,4", "crop 11,7,1,1", "fill 0,0,0,0 1", "pad 1,2,3,4 16", "pad 0,0,0,0 9", "flip rows", "flip columns", "turn half", "means 2,2,9,5 4,2", "means 0,0,12,8 64,64", "turn right", "turn left", "flip rows turn left")
 LISTS = (
     "fill 0,0,4,4 9 mosaic 3,2,8,6 4,2",
     "1..2 fill 0,0,4,4 9",
@@ -130,7 +131,7 @@ def by_netpbm(cases, program):
         part = said("pamcut -left 4 -top 2 -width 6 -height 4", whole)
         cases.count(f"crop is pamcut in {name}", ours("crop 4,2,6,4", whole) == part)
         cases.count(f"crop of pictures one after the other is pamcut in {name}", ours("crop 4,2,6,4", whole * 3) == said("pamcut -left 4 -top 2 -width 6 -height 4", whole * 3))
-        for words, command in FLIPS:
+        for words, command in (*FLIPS, *(TURNS if kind == 5 or greatest < 256 else ())):
             cases.count(f"{words} is {command} in {name}", ours(words, whole) == said(command, whole))
         cases.count(f"pad is pnmpad in {name}", ours("pad 1,2,3,4 0", whole) == said("pnmpad -black -left=1 -top=2 -right=3 -bottom=4", whole))
         for words, file, place in (("move 4,2,6,4 1,3", part, "1 3"), (f"fill 4,2,6,4 {greatest}", said(f"pgmmake -maxval={greatest} 1 6 4", b""), "4 2")):
@@ -158,7 +159,7 @@ def by_netpbm(cases, program):
         cases.count(f"{command} makes a picture of {given[:40]!r}", refused[1:] == ("fault header", 2) and taken[1:] == ("", 0) and command in reasons[1], str(reasons))
     for name, greatest in ((name, greatest) for name in TUPLES for greatest in (1, 255, 65535)):
         given = tuples(name, greatest=greatest)
-        for words, command in FLIPS:
+        for words, command in (*FLIPS, *(TURNS if len(given) - given.index(b"ENDHDR\n") - 7 <= 4 * 12 * 8 else ())):
             cases.count(f"{words} is {command} of {name} with {greatest}", ours(words, given) == said(command, given))
         cases.count(f"crop is pamcut of {name} with {greatest}", ours("crop 4,2,6,4", given * 2) == said("pamcut -left 4 -top 2 -width 6 -height 4", given * 2))
         for head in PAM_HEADS:

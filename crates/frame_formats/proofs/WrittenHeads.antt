@@ -7,7 +7,7 @@ use Rattle.text_model.proofs.Options.{bind_some, map_some}
 use Rattle.image_planes.specs.Changes.{Job}
 use Rattle.image_planes.specs.Resized.{Resizing, is_resizing, new_width, new_height}
 use Rattle.image_planes.specs.declared.target.Resize.{Resize}
-use Rattle.image_planes.specs.declared.target.Resize.TheVariants.{Crop, Pad}
+use Rattle.image_planes.specs.declared.target.Resize.TheVariants.{Crop, Pad, Turn}
 use Rattle.frame_formats.specs.Format.{resize_for}
 use Rattle.frame_formats.specs.Layers.{picture_pixel, picture_layers, resizings_on}
 use Rattle.frame_formats.specs.Steps.{pixel_size}
@@ -20,6 +20,10 @@ use Rattle.frame_formats.proofs.HeadTexts.{reads_back}
 use Rattle.frame_formats.specs.declared.framing.Framing.{Framing}
 use Rattle.frame_formats.specs.declared.picture.Picture.{Picture}
 
+-- numbers for which the test holds are one
+same_number : (a b : ℕ) → eqb a b ≡ true → a ≡ b
+same_number a b e = elim (eqb_tells a b) [ inl t ↦ t.1 | inr t ↦ absurd (let bad : true ≡ false = sym e ∙ t.0 in cc) ]
+
 -- the numbers of a plane in its new size
 below : (size width : ℕ) → 0 < size → size * width < 2 ^ 32 → width < 2 ^ 32
 below size width some small = omega (arith, le-mul_of_pos_right width some, mul_comm width size)
@@ -29,6 +33,10 @@ new_size size width height (Crop w) is =
     let old : width < 2 ^ 32 = below size width (grind arith) (grind arith) in
     (grind arith, grind (arith, old), grind arith)
 new_size size width height (Pad left top wide high value) is = (grind arith, below size wide (grind arith) (grind arith), grind arith)
+new_size size width height (Turn quarter wide high) is =
+    let old : width < 2 ^ 32 = below size width (grind arith) (grind arith) in
+    let same : high ≡ width = grind (arith, same_number) in
+    (grind arith, below size wide (grind arith) (grind arith), omega (arith, same, old))
 
 abbrev HasHead : Recipe → Type 0
 HasHead r = (q : Picture) × (picture_of r.head ≡ Some q)
@@ -46,7 +54,7 @@ finished_head p jobs None r columns width_bound rows height_bound great made =
     let same : recipe (head_text p) jobs None ≡ r = cc in
     (p, ap (λ (x : Recipe). picture_of x.head) (sym same) ∙ reads_back p columns width_bound rows height_bound great)
 finished_head p jobs (Some framing) r columns width_bound rows height_bound great made =
-    let step = bind_some (resize_for (picture_pixel p) p.width p.height framing) (λ resize. cond (eqb (new_height resize) 0) None (option_map (resized_recipe p jobs resize) (resizings_on (picture_pixel p) picture_layers p.width p.height resize))) r made in
+    let step = bind_some (resize_for true (picture_pixel p) p.width p.height framing) (λ resize. cond (eqb (new_height resize) 0) None (option_map (resized_recipe p jobs resize) (resizings_on (picture_pixel p) picture_layers p.width p.height resize))) r made in
     let resize : Resize = step.0 in
     let left = with_rows (eqb (new_height resize) 0) (option_map (resized_recipe p jobs resize) (resizings_on (picture_pixel p) picture_layers p.width p.height resize)) r step.2 in
     let some : 0 < new_height resize = elim (eqb_tells (new_height resize) 0) [ inl t ↦ absurd (let bad : true ≡ false = sym t.0 ∙ left.0 in cc) | inr t ↦ omega (arith, t.1) ] in

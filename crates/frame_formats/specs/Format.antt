@@ -1,12 +1,12 @@
 -- The format that a video's line names, and what pixels are in chroma samples.
-use Rattle.std.specs.Prelude.{ℕ, ◌+◌, ◌/◌, ◌%◌, ◌&&◌, ◌==◌, ◌||◌, ◌^◌, Bool, false, nat_lt, if◌then◌else◌, List, [], ◌∷◌, Option, Some, None, take, drop, slice_index, codes}
+use Rattle.std.specs.Prelude.{ℕ, ◌+◌, ◌/◌, ◌%◌, ◌&&◌, ◌==◌, ◌||◌, ◌^◌, Bool, true, false, not, nat_lt, if◌then◌else◌, List, [], ◌∷◌, Option, Some, None, take, drop, slice_index, codes}
 use Rattle.std.specs.Option.{is_none}
 use Rattle.std.specs.Str.{bytes_eq}
 use Rattle.image_shape.specs.declared.window.Window.{Window}
 use Rattle.image_planes.specs.declared.change.Change.{Change}
 use Rattle.image_planes.specs.declared.change.Change.TheVariants.{Fill, Mosaic, Mean, Move, Flip}
 use Rattle.image_planes.specs.declared.target.Resize.{Resize}
-use Rattle.image_planes.specs.declared.target.Resize.TheVariants.{Crop, Pad}
+use Rattle.image_planes.specs.declared.target.Resize.TheVariants.{Crop, Pad, Turn}
 use Rattle.text_model.specs.Parts.{parts_of}
 use Rattle.text_model.specs.Reading.{◌>>=◌, number_of}
 use Rattle.frame_formats.specs.Names.{value_named}
@@ -16,7 +16,7 @@ use Rattle.frame_formats.specs.declared.header.Chroma.{Chroma}
 use Rattle.frame_formats.specs.declared.header.Chroma.TheVariants.{Mono, Small, Wide, Quarter, Whole, WholeAlpha}
 use Rattle.frame_formats.specs.declared.header.Format.{Format}
 use Rattle.frame_formats.specs.declared.framing.Framing.{Framing}
-use Rattle.frame_formats.specs.declared.framing.Framing.TheVariants.{Crop as CropPixels, Pad as PadPixels}
+use Rattle.frame_formats.specs.declared.framing.Framing.TheVariants.{Crop as CropPixels, Pad as PadPixels, Turn as TurnPixels}
 
 -- what follows the letter in the first field that begins with it
 abbrev pub tagged : ℕ → List (List ℕ) → Option (List ℕ)
@@ -83,6 +83,15 @@ size_of text = do
   size ← number_of text
   if nat_lt 0 size && nat_lt size (2 ^ 32) then Some size else None
 
+-- whether pixels are as wide as they are high, or nothing is said of it
+abbrev pub is_square : Option (List ℕ) → Bool
+is_square None = true
+is_square (Some word) = bytes_eq word (codes "1:1") || bytes_eq word (codes "0:0")
+
+-- whether rows can be columns: pixels are square, and there are no fields
+abbrev pub is_upright : Format → Bool
+is_upright f = f.square && not f.interlaced
+
 -- the fields after the first
 unfoldable pub format_in : List (List ℕ) → Option Format
 format_in fields = do
@@ -91,7 +100,7 @@ format_in fields = do
   high ← tagged_once 72 fields
   height ← size_of high
   sampling ← sampling_named (tagged 67 fields)
-  Some (record { width = width; height = height; chroma = sampling.0; pixel = sampling.1; interlaced = is_interlaced (tagged 73 fields) })
+  Some (record { width = width; height = height; chroma = sampling.0; pixel = sampling.1; interlaced = is_interlaced (tagged 73 fields); square = is_square (tagged 65 fields) })
 
 abbrev pub format_of_fields : List (List ℕ) → Option Format
 format_of_fields [] = None
@@ -152,16 +161,17 @@ change_under pixel x y width height (Flip axes) = Some (Flip axes)
 abbrev pub padded_size : ℕ → ℕ → ℕ → Option ℕ
 padded_size before pixels behind = if nat_lt (before + pixels + behind) (2 ^ 32) then Some (before + pixels + behind) else None
 
--- what becomes of the size of the plane of brightness
-unfoldable pub resize_for : Pixel → ℕ → ℕ → Framing → Option Resize
-resize_for pixel width height (CropPixels w) = Some (Crop w)
-resize_for pixel width height (PadPixels left top right bottom value) = do
+-- what becomes of the size of the plane of brightness: a quarter turn needs rows that can be columns
+unfoldable pub resize_for : Bool → Pixel → ℕ → ℕ → Framing → Option Resize
+resize_for upright pixel width height (CropPixels w) = Some (Crop w)
+resize_for upright pixel width height (PadPixels left top right bottom value) = do
   wide ← padded_size left width right
   high ← padded_size top height bottom
   bytes ← grey_of pixel value
   Some (Pad left top wide high bytes)
+resize_for upright pixel width height (TurnPixels quarter) = if upright then Some (Turn quarter height width) else None
 
--- the same of a plane of chroma samples: a border has no colour
+-- the same of a plane of chroma samples: a border has no colour, and as many columns of pixels share a sample as rows do that are turned
 unfoldable pub resize_under : Pixel → ℕ → ℕ → ℕ → ℕ → Resize → Option Resize
 resize_under pixel x y width height (Crop w) = do
   under ← window_under x y width height w
@@ -169,3 +179,4 @@ resize_under pixel x y width height (Crop w) = do
 resize_under pixel x y width height (Pad left top wide high value) = do
   under ← window_under x y wide high (record { left = left; top = top; width = width; height = height })
   Some (Pad under.left under.top (samples wide x) (samples high y) (no_colour pixel))
+resize_under pixel x y width height (Turn quarter wide high) = if x == y then Some (Turn quarter (samples wide x) (samples high y)) else None

@@ -7,7 +7,7 @@ use Rattle.image_planes.specs.declared.change.Change.{Change}
 use Rattle.image_planes.specs.declared.change.Change.TheVariants.{Fill, Mosaic, Mean, Move, Flip}
 use Rattle.image_planes.specs.declared.change.Step.{Step}
 use Rattle.image_planes.specs.declared.target.Resize.{Resize}
-use Rattle.image_planes.specs.declared.target.Resize.TheVariants.{Crop, Pad}
+use Rattle.image_planes.specs.declared.target.Resize.TheVariants.{Crop, Pad, Turn}
 use Rattle.text_model.specs.Reading.{◌>>=◌}
 use Rattle.frame_formats.specs.Format.{samples, change_under, resize_under}
 use Rattle.frame_formats.specs.Steps.{all_some, step_by, change_in, opaque, pixel_size}
@@ -77,6 +77,7 @@ opaque_change pixel (Flip axes) = Flip axes
 abbrev pub opaque_resize : Pixel → Resize → Resize
 opaque_resize pixel (Crop w) = Crop w
 opaque_resize pixel (Pad left top width height value) = Pad left top width height (opaque pixel)
+opaque_resize pixel (Turn quarter width height) = Turn quarter width height
 
 -- what a change of pixels is to the plane
 abbrev pub change_on : Pixel → Layer → ℕ → ℕ → Change Paint → Option (Change (List ℕ))

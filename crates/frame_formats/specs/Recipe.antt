@@ -7,7 +7,7 @@ use Rattle.image_planes.specs.Resized.{Resizing, resized_planes, sources_len, ta
 use Rattle.image_planes.specs.Targets.{resizing_of}
 use Rattle.image_planes.specs.Unseen.{PlanesAlike}
 use Rattle.image_planes.specs.declared.target.Target.{Target}
-use Rattle.frame_formats.specs.Format.{format_of, resize_for}
+use Rattle.frame_formats.specs.Format.{format_of, is_upright, resize_for}
 use Rattle.frame_formats.specs.Layers.{picture_pixel, picture_layers, video_layers, jobs_on, resizings_on}
 use Rattle.frame_formats.specs.Covers.{video_unit, one_pixel, step_in}
 use Rattle.frame_formats.specs.Line.{resized}
@@ -48,7 +48,7 @@ recipe head jobs resizings = record {
 abbrev pub finished_video : List ℕ → Format → List Job → Option Framing → Option Recipe
 finished_video line format jobs None = Some (recipe (line ++ 10 ∷ []) jobs None)
 finished_video line format jobs (Some framing) =
-    resize_for format.pixel format.width format.height framing >>= λ resize.
+    resize_for (is_upright format) format.pixel format.width format.height framing >>= λ resize.
     if new_height resize == 0 then None
     else option_map (λ resizings. recipe (resized (new_width resize) (new_height resize) line ++ 10 ∷ []) jobs (Some resizings)) (resizings_on format.pixel (video_layers format.chroma) format.width format.height resize)
 
@@ -66,7 +66,7 @@ resized_picture p width height = picture width height p.kind p.greatest
 abbrev pub finished_picture : Picture → List Job → Option Framing → Option Recipe
 finished_picture p jobs None = Some (recipe (head_text p) jobs None)
 finished_picture p jobs (Some framing) =
-    resize_for (picture_pixel p) p.width p.height framing >>= λ resize.
+    resize_for true (picture_pixel p) p.width p.height framing >>= λ resize.
     if new_height resize == 0 then None
     else option_map (λ resizings. recipe (head_text (resized_picture p (new_width resize) (new_height resize))) jobs (Some resizings)) (resizings_on (picture_pixel p) picture_layers p.width p.height resize)
 

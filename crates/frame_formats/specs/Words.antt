@@ -10,7 +10,9 @@ use Rattle.image_planes.specs.declared.change.Change.TheVariants.{Fill, Mosaic, 
 use Rattle.image_planes.specs.declared.change.Axes.{Axes}
 use Rattle.image_planes.specs.declared.change.Axes.TheVariants.{Rows, Columns, Both}
 use Rattle.frame_formats.specs.declared.framing.Framing.{Framing}
-use Rattle.frame_formats.specs.declared.framing.Framing.TheVariants.{Crop, Pad}
+use Rattle.frame_formats.specs.declared.framing.Framing.TheVariants.{Crop, Pad, Turn}
+use Rattle.image_planes.specs.declared.target.Quarter.{Quarter}
+use Rattle.image_planes.specs.declared.target.Quarter.TheVariants.{Right, Left}
 use Rattle.text_model.specs.Parts.{parts_of}
 use Rattle.text_model.specs.Reading.{◌>>=◌, number_of, first_of_parts, number_at, window_of, is_nil}
 use Rattle.frame_formats.specs.Ranges.{range_of}
@@ -49,7 +51,7 @@ unfoldable pub change_of : List ℕ → Window → List ℕ → Option (Change P
 change_of word window last =
     if bytes_eq word (codes "fill") then option_map (λ paint. Fill window paint) (paint_of last)
     else if bytes_eq word (codes "mosaic") then option_map (λ p. Mosaic window p.0 p.1) (pair_of last)
-    else if bytes_eq word (codes "mean") then option_map (λ p. Mean window p.0 p.1) (pair_of last)
+    else if bytes_eq word (codes "means") then option_map (λ p. Mean window p.0 p.1) (pair_of last)
     else if bytes_eq word (codes "move") then option_map (λ p. Move window p.0 p.1) (pair_of last)
     else None
 
@@ -71,10 +73,22 @@ framing_by word numbers words =
     else if bytes_eq word (codes "pad") then option_map (λ framing. (framing, 3)) (pad_at numbers words)
     else None
 
+-- a quarter turn by its two words
+abbrev pub quarter_of : List ℕ → List ℕ → Option Quarter
+quarter_of word side =
+    if bytes_eq word (codes "turn") && bytes_eq side (codes "right") then Some Right
+    else if bytes_eq word (codes "turn") && bytes_eq side (codes "left") then Some Left
+    else None
+
+-- a quarter turn, or else what becomes of the size by numbers
+abbrev pub turn_by : Option Quarter → List ℕ → List ℕ → List (List ℕ) → Option (Framing × ℕ)
+turn_by (Some quarter) word numbers words = Some (Turn quarter, 2)
+turn_by None word numbers words = window_of numbers >>= λ window. framing_by word window words
+
 unfoldable pub framing_at : List (List ℕ) → Option (Framing × ℕ)
 framing_at [] = None
 framing_at (word ∷ []) = None
-framing_at (word ∷ (numbers ∷ words)) = window_of numbers >>= λ window. framing_by word window words
+framing_at (word ∷ (numbers ∷ words)) = turn_by (quarter_of word numbers) word numbers words
 
 -- the margin after a plus sign, which may be left out
 abbrev pub margin_in : List (List ℕ) → Option (Option ℕ)

@@ -4,7 +4,7 @@ ghost use Rattle.std.specs.Prelude.{◌≡◌};
 ghost use Rattle.frame_formats.specs.Format.{padded_size, resize_for};
 
 use crate::steps::{Pixel, grey_of};
-use image_planes::{Resize, Window};
+use image_planes::{Quarter, Resize, Window};
 
 /// The change of the size of frames, in pixels.
 #[derive(Clone, Copy, PartialEq, Eq)]
@@ -19,6 +19,8 @@ pub enum Framing {
         bottom: usize,
         value: usize,
     },
+    /// The frame is turned by a quarter.
+    Turn(Quarter),
 }
 
 // How many pixels there are with those before and after.
@@ -30,15 +32,17 @@ fn padded_size(before: usize, pixels: usize, behind: usize) -> Option<usize>
 }
 
 /// The change of the size of a plane of pixels, for a frame of this size. `None` where its new size
-/// is too large, or its pixels lack the value.
+/// is too large, or its pixels lack the value. A quarter turn needs rows that can be columns
+/// (`upright`).
 #[tactic(auto, unfolding(crate::specs::Format::resize_for))]
 pub(crate) fn resize_of(
+    upright: bool,
     pixel: Pixel,
     width: usize,
     height: usize,
     framing: Framing,
 ) -> Option<Resize>
-    ensures { result ≡ resize_for pixel width height framing }
+    ensures { result ≡ resize_for upright pixel width height framing }
 {
     match framing {
         Framing::Crop(window) => Some(Resize::Crop(window)),
@@ -54,6 +58,11 @@ pub(crate) fn resize_of(
             width: padded_size(left, width, right)?,
             height: padded_size(top, height, bottom)?,
             value: grey_of(pixel, value)?,
+        }),
+        Framing::Turn(quarter) => upright.then_some(Resize::Turn {
+            quarter,
+            width: height,
+            height: width,
         }),
     }
 }

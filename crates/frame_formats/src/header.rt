@@ -2,7 +2,7 @@
 
 ghost use Rattle.std.specs.Prelude.{◌≡◌, ◌<◌, IfSome};
 ghost use Rattle.std.specs.Option.{option_map};
-ghost use Rattle.frame_formats.specs.Format.{tagged, tagged_once, is_interlaced, deep_of, sampling_of, size_of, format_of};
+ghost use Rattle.frame_formats.specs.Format.{tagged, tagged_once, is_interlaced, is_square, is_upright, deep_of, sampling_of, size_of, format_of};
 ghost use Rattle.texts.specs.Parts.{parts_left};
 
 use crate::names::value_named;
@@ -36,6 +36,18 @@ pub struct Format {
     pub pixel: Pixel,
     /// Whether the rows of two fields follow one another in turn.
     pub interlaced: bool,
+    /// Whether pixels are as wide as they are high, or nothing is said of it.
+    pub square: bool,
+}
+
+impl Format {
+    /// Whether rows can be columns, as a quarter turn makes them: pixels are square, and there are no
+    /// fields.
+    pub fn is_upright(self) -> bool
+        ensures { result ≡ is_upright self }
+    {
+        self.square && !self.interlaced
+    }
 }
 
 /// What follows the letter in the first field that begins with it.
@@ -81,6 +93,15 @@ fn read_interlaced(word: Option<&[u8]>) -> bool
         Some(word) => {
             word == b"t".as_slice() || word == b"b".as_slice() || word == b"m".as_slice()
         }
+    }
+}
+
+fn read_square(word: Option<&[u8]>) -> bool
+    ensures { result ≡ is_square (option_map (λ text. text.now) word.entry) }
+{
+    match word {
+        None => true,
+        Some(word) => word == b"1:1".as_slice() || word == b"0:0".as_slice(),
     }
 }
 
@@ -158,5 +179,6 @@ pub fn read_format(line: &[u8]) -> Option<Format>
         chroma,
         pixel,
         interlaced: read_interlaced(field(fields, b'I')),
+        square: read_square(field(fields, b'A')),
     })
 }

@@ -95,7 +95,7 @@ fn opaque_resize(pixel: Pixel, resize: Resize) -> Resize
     ensures { result ≡ opaque_resize pixel resize }
 {
     match resize {
-        Resize::Crop(window) => Resize::Crop(window),
+        Resize::Crop(_) | Resize::Turn { .. } => resize,
         Resize::Pad {
             left,
             top,

@@ -26,7 +26,7 @@ pub use covers::{Unit, picture_covers_nothing, turns_over, video_covers_nothing}
 pub use framing::Framing;
 pub use header::{Chroma, Format, read_format, read_size};
 pub use hiding::recipes_hide;
-pub use image_planes::{Axes, Change, Window};
+pub use image_planes::{Axes, Change, Quarter, Window};
 pub use lists::{Edits, WordsFault, line_words};
 pub use pam::{Fields, Lines, Place, Tuples};
 pub use pam_words::Key;

@@ -124,7 +124,9 @@ impl Plan {
         let Some(framing) = framing else {
             return Plan::new(ended_line(alloc, line)?, planes, None);
         };
-        let resize = resize_of(pixel, width, height, framing).ok_or(PlanFault::Outside)?;
+        let resize = resize_of(format.is_upright(), pixel, width, height, framing).ok_or(
+            PlanFault::Outside,
+        )?;
         if resize.height() < 1 {
             return Err(PlanFault::Outside);
         }
@@ -162,7 +164,7 @@ impl Plan {
         let Some(framing) = framing else {
             return Plan::new(picture_head(alloc, picture)?, planes, None);
         };
-        let resize = resize_of(pixel, width, height, framing).ok_or(PlanFault::Outside)?;
+        let resize = resize_of(true, pixel, width, height, framing).ok_or(PlanFault::Outside)?;
         if resize.height() == 0 {
             return Err(PlanFault::Outside);
         }

@@ -133,6 +133,16 @@ pub(crate) fn resize_of_samples(
             let under = window_of_samples(x, y, width, height, window)?;
             Some(Resize::Crop(under))
         }
+        Resize::Turn { quarter, .. } => {
+            if x != y {
+                return None;
+            }
+            Some(Resize::Turn {
+                quarter,
+                width: count_samples(resize.width(), x),
+                height: count_samples(resize.height(), y),
+            })
+        }
         Resize::Pad { left, top, .. } => {
             let (wide, high) = (resize.width(), resize.height());
             let place = Window::new(left, top, width, height);

@@ -3,12 +3,12 @@
 ghost use Rattle.std.specs.Prelude.{◌≡◌, ◌+◌, ◌<◌, ◌≤◌, map, IfSome, length};
 ghost use Rattle.text_model.specs.Parts.{parts_of};
 ghost use Rattle.texts.specs.Parts.{parts_left};
-ghost use Rattle.frame_formats.specs.Words.{pair_of, colour_in, paint_of, axes_of, change_of, pad_of, framing_at, margin_in, rectangle_of, cover_at, change_at, step_at, ranged_at};
+ghost use Rattle.frame_formats.specs.Words.{pair_of, colour_in, paint_of, axes_of, quarter_of, change_of, pad_of, framing_at, margin_in, rectangle_of, cover_at, change_at, step_at, ranged_at};
 
 use crate::framing::Framing;
 use crate::ranges::{Range, read_range};
 use crate::steps::Paint;
-use image_planes::{Axes, Change, Window};
+use image_planes::{Axes, Change, Quarter, Window};
 use texts::{Field, Parts, next};
 
 /// A change, and the frames that it is for.
@@ -68,7 +68,7 @@ fn read_change(word: &[u8], window: Window, last: &[u8]) -> Option<Change<Paint>
             tile_width,
             tile_height,
         })
-    } else if word == b"mean".as_slice() {
+    } else if word == b"means".as_slice() {
         let (tile_width, tile_height) = read_pair(last)?;
         Some(Change::Mean {
             window,
@@ -97,6 +97,18 @@ fn read_pad(sides: Window, last: &[u8]) -> Option<Framing>
     })
 }
 
+fn read_quarter(word: &[u8], side: &[u8]) -> Option<Quarter>
+    ensures { result ≡ quarter_of word.now side.now }
+{
+    if word == b"turn".as_slice() && side == b"right".as_slice() {
+        Some(Quarter::Right)
+    } else if word == b"turn".as_slice() && side == b"left".as_slice() {
+        Some(Quarter::Left)
+    } else {
+        None
+    }
+}
+
 /// What becomes of the size, by the words at the front, and how many they are.
 #[tactic(auto, unfolding(crate::specs::Words::framing_at))]
 pub(crate) fn read_framing(words: &[&[u8]]) -> Option<(Framing, usize)>
@@ -106,6 +118,9 @@ pub(crate) fn read_framing(words: &[&[u8]]) -> Option<(Framing, usize)>
 {
     let (word, others) = words.split_first()?;
     let (numbers, others) = others.split_first()?;
+    if let Some(quarter) = read_quarter(word, numbers) {
+        return Some((Framing::Turn(quarter), 2));
+    }
     let window = Window::read(numbers)?;
     if *word == b"crop".as_slice() {
         Some((Framing::Crop(window), 2))

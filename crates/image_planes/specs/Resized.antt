@@ -1,5 +1,5 @@
 -- A frame in another size: a window of each plane is kept, or a border is put around it.
-use Rattle.std.specs.Prelude.{ℕ, ◌+◌, ◌*◌, ◌^◌, ◌&&◌, Bool, nat_lt, if◌then◌else◌, Option, Some, None, List, [], ◌∷◌, ◌++◌, take, drop}
+use Rattle.std.specs.Prelude.{ℕ, ◌+◌, ◌*◌, ◌^◌, ◌&&◌, ◌==◌, Bool, nat_lt, if◌then◌else◌, Option, Some, None, List, [], ◌∷◌, ◌++◌, take, drop}
 use Rattle.image_model.specs.Grid.{Grid, patch}
 use Rattle.image_model.specs.Rows.{grid_pixels}
 use Rattle.image_model.specs.Windows.{is_inside, window, window_view}
@@ -7,26 +7,40 @@ use Rattle.imgref.specs.Window.{as_window}
 use Rattle.image_ops.specs.Repeated.{repeated}
 use Rattle.image_planes.specs.Changes.{in_bytes, byte_grid, is_plane}
 use Rattle.image_planes.specs.declared.target.Resize.{Resize}
-use Rattle.image_planes.specs.declared.target.Resize.TheVariants.{Crop, Pad}
+use Rattle.image_planes.specs.declared.target.Resize.TheVariants.{Crop, Pad, Turn}
+use Rattle.image_planes.specs.declared.target.Quarter.{Quarter}
+use Rattle.image_planes.specs.declared.target.Quarter.TheVariants.{Right, Left}
+use Rattle.image_ops.specs.Oriented.{oriented}
+use Rattle.image_ops.specs.declared.pixel_turning.Orientation.{Orientation}
+use Rattle.image_ops.specs.declared.pixel_turning.Orientation.TheVariants.{Right as TurnedRight, Left as TurnedLeft}
 
--- what the grid of the bytes of pixels of so many bytes becomes: the window's view, or a grid of one value with the old grid at a corner
+-- a turn by a quarter as one of an image
+abbrev pub orientation_of : Quarter → Orientation
+orientation_of Right = TurnedRight
+orientation_of Left = TurnedLeft
+
+-- what the grid of the bytes of pixels of so many bytes becomes: the window's view, a grid of one value with the old grid at a corner, or the grid with its pixels turned
 abbrev pub resized : ℕ → Resize → Grid ℕ → Grid ℕ
 resized size (Crop w) g = window_view g (in_bytes size w)
 resized size (Pad left top width height value) g = patch (repeated (size * width) height (take size value)) (size * left) top g
+resized size (Turn quarter width height) g = oriented size (orientation_of quarter) g
 
 -- the new size in pixels
 abbrev pub new_width : Resize → ℕ
 new_width (Crop w) = w.width
 new_width (Pad left top width height value) = width
+new_width (Turn quarter width height) = width
 
 abbrev pub new_height : Resize → ℕ
 new_height (Crop w) = w.height
 new_height (Pad left top width height value) = height
+new_height (Turn quarter width height) = height
 
--- whether it is valid for so many pixels: the window has columns and is inside, or the plane is inside its border
+-- whether it is valid for so many pixels: the window has columns and is inside, the plane is inside its border, or its pixels of at most 4 bytes are turned: it is as wide then as it was high
 abbrev pub is_resize_of : ℕ → ℕ → ℕ → Resize → Bool
 is_resize_of size width height (Crop w) = nat_lt 0 w.width && is_inside width height (as_window w)
 is_resize_of size width height (Pad left top wide high value) = nat_lt (size * wide) (2 ^ 32) && (nat_lt high (2 ^ 32) && is_inside wide high (window left top width height))
+is_resize_of size width height (Turn quarter wide high) = nat_lt size 5 && (wide == height && (high == width && (nat_lt 0 wide && nat_lt (size * wide) (2 ^ 32))))
 
 -- the size of a plane in pixels, how many bytes a pixel has, and the change of the size
 pub record Resizing : Type 0 where

@@ -15,4 +15,4 @@ pub use hiding::changes_hide;
 pub use imgref::Window;
 pub use plane::Plane;
 pub use planes::{change_planes, planes_len, resize_planes, targets_len};
-pub use target::{Resize, Target};
+pub use target::{Quarter, Resize, Target};

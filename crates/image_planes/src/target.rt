@@ -12,13 +12,23 @@ ghost use Rattle.imgref.specs.Image.{ref_layout, width_of, height_of};
 ghost use Rattle.imgref.specs.Shape.{shaped, shape_width, shape_height, shape_stride};
 ghost use Rattle.imgref.specs.Window.{as_window};
 ghost use Rattle.image_planes.specs.Surrounds.{bordered};
-ghost use Rattle.image_planes.specs.Changes.{is_plane};
-ghost use Rattle.image_planes.specs.Resized.{is_resize_of, new_width, new_height, resizing_for, resized_plane, source_len, target_len};
+ghost use Rattle.image_planes.specs.Changes.{byte_grid, is_plane};
+ghost use Rattle.image_ops.specs.Oriented.{oriented};
+ghost use Rattle.image_planes.specs.Resized.{orientation_of, is_resize_of, new_width, new_height, resizing_for, resized_plane, source_len, target_len};
 
 use crate::change::{Value, in_bytes};
 use crate::plane::is_plane;
-use image_ops::repeat_window;
+use image_ops::{Orientation, orient_pixels, repeat_window};
 use imgref::{ImgRef, ImgRefMut, Shape, Window};
+
+/// A turn by a quarter.
+#[derive(Clone, Copy, PartialEq, Eq)]
+pub enum Quarter {
+    /// Clockwise: the first row becomes the last column.
+    Right,
+    /// The other way: the first row becomes the first column, from the bottom.
+    Left,
+}
 
 /// A change of the size of a plane, in pixels.
 #[derive(Clone, Copy, PartialEq, Eq)]
@@ -32,6 +42,12 @@ pub enum Resize {
         width: usize,
         height: usize,
         value: Value,
+    },
+    /// The whole plane is turned, and has this size then. A pixel has at most 4 bytes.
+    Turn {
+        quarter: Quarter,
+        width: usize,
+        height: usize,
     },
 }
 
@@ -145,6 +161,53 @@ fn pad_image(
     put_image(target, shape, place, source);
 }
 
+fn orientation_of(quarter: Quarter) -> Orientation
+    ensures { result ≡ orientation_of quarter }
+{
+    match quarter {
+        Quarter::Right => Orientation::Right,
+        Quarter::Left => Orientation::Left,
+    }
+}
+
+// The cells become the pixels of `size` bytes of the source, which has so many columns and rows of
+// them, turned.
+#[tactic(auto, using(crate::proofs::Parts::plane_pixels))]
+fn turn_plane(
+    source: &[u8],
+    size: usize,
+    columns: usize,
+    rows: usize,
+    quarter: Quarter,
+    target: &mut [u8],
+)
+    requires some { 0 < size }
+    requires few { size < 5 }
+    requires wide { 0 < columns }
+    requires high { 0 < rows }
+    requires width { size * columns < 2 ^ 32 }
+    requires height { rows < 2 ^ 32 }
+    requires new_width { size * rows < 2 ^ 32 }
+    requires new_height { columns < 2 ^ 32 }
+    requires whole { length source.now ≡ size * columns * rows }
+    requires room { length target.old ≡ size * rows * columns }
+    ensures { target.new ≡ grid_pixels (oriented size (orientation_of quarter)
+        (byte_grid (size * columns) rows source.now)) }
+{
+    let source_shape = Shape::new(size * columns, rows, size * columns);
+    let shape = Shape::new(size * rows, columns, size * rows);
+    let orientation = orientation_of(quarter);
+    orient_pixels(
+        target,
+        shape,
+        source,
+        source_shape,
+        size,
+        columns,
+        orientation,
+    );
+}
+
 impl Resize {
     /// The number of columns afterwards.
     pub fn width(&self) -> usize
@@ -152,7 +215,7 @@ impl Resize {
     {
         match self {
             Resize::Crop(window) => window.width,
-            Resize::Pad { width, .. } => *width,
+            Resize::Pad { width, .. } | Resize::Turn { width, .. } => *width,
         }
     }
 
@@ -162,7 +225,7 @@ impl Resize {
     {
         match self {
             Resize::Crop(window) => window.height,
-            Resize::Pad { height, .. } => *height,
+            Resize::Pad { height, .. } | Resize::Turn { height, .. } => *height,
         }
     }
 
@@ -180,6 +243,16 @@ impl Resize {
                 };
                 let place = Window::new(*left, *top, width, height);
                 bytes <= greatest && high <= greatest && place.is_inside(wide, high)
+            }
+            Resize::Turn { .. } => {
+                let (wide, high) = (self.width(), self.height());
+                if size > 4 || wide != height || high != width || wide == 0 {
+                    return false;
+                }
+                match size.checked_mul(wide) {
+                    Some(bytes) => bytes <= u32::MAX as usize,
+                    None => false,
+                }
             }
         }
     }
@@ -250,7 +323,7 @@ impl Target {
     }
 
     /// Copies the plane that the source makes, in its other size, over the target.
-    #[tactic(auto, using(crate::proofs::Parts::plane_numbers, crate::proofs::Parts::target_numbers, crate::proofs::Parts::bytes_inside, crate::proofs::Parts::ends_whole))]
+    #[tactic(auto, using(crate::proofs::Parts::plane_numbers, crate::proofs::Parts::target_numbers, crate::proofs::Parts::turned_numbers, crate::proofs::Parts::bytes_inside, crate::proofs::Parts::ends_whole))]
     pub(crate) fn apply(&self, source: &[u8], target: &mut [u8])
         requires whole { length source.now ≡ source_len (resizing_of self.now) }
         requires room { length target.old ≡ target_len (resizing_of self.now) }
@@ -273,6 +346,9 @@ impl Target {
                 let place = in_bytes(self.shape(), self.size, place);
                 let width = self.size * width;
                 pad_image(whole, place, width, height, &value[..self.size], target);
+            }
+            Resize::Turn { quarter, .. } => {
+                turn_plane(source, self.size, self.width, self.height, quarter, target);
             }
         }
     }

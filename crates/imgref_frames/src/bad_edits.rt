@@ -51,7 +51,7 @@ fn form_of(word: &[u8]) -> Option<Form> {
             sample: b"1,1",
         },
         Form {
-            word: b"mean",
+            word: b"means",
             numbers: RECTANGLE,
             last: "the size of its tiles TW,TH",
             sample: b"1,1",
@@ -70,7 +70,7 @@ fn form_of(word: &[u8]) -> Option<Form> {
         },
         Form {
             word: b"turn",
-            numbers: "half",
+            numbers: "right, half or left",
             last: "",
             sample: b"0",
         },
@@ -123,7 +123,7 @@ fn is_range<'a>(alloc: Global, word: &'a [u8]) -> bool {
 // Prints why no edit begins with the words.
 fn say_no_edit(rt: &HostRuntime, words: &[&[u8]]) {
     if begins_edit(rt.alloc(), words) {
-        let _ = eprintln!(rt; "no edit may come after a crop or a pad");
+        let _ = eprintln!(rt; "no edit may come after a crop or a pad, nor after a quarter turn");
         return;
     }
     let Some((range, others)) = words.split_first() else {
@@ -151,7 +151,7 @@ fn say_no_change(rt: &HostRuntime, words: &[&[u8]], has_range: bool) {
         Some(form) => say_bad_form(rt, form, others, has_range),
         None => {
             let _ = eprintln!(rt;
-                "{} isn't one of cover, fill, mosaic, mean, move, flip, turn, crop and pad",
+                "{} isn't one of cover, fill, mosaic, means, move, flip, turn, crop and pad",
                 shown(word)
             );
         }
@@ -175,7 +175,11 @@ fn say_bad_form(rt: &HostRuntime, form: Form, words: &[&[u8]], has_range: bool) 
         return;
     }
     if has_range && form.last.is_empty() {
-        let _ = eprintln!(rt; "{name} takes no range");
+        let _ = if form.word == b"turn".as_slice() {
+            eprintln!(rt; "turn right and turn left take no range")
+        } else {
+            eprintln!(rt; "{name} takes no range")
+        };
         return;
     }
     let _ = match more.split_first() {

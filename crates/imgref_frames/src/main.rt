@@ -43,12 +43,13 @@ EDIT is one of these. The edits are applied to each frame or picture, in their o
        [A..B] fill L,T,W,H V          exactly this rectangle: brightness V, no colour
        [A..B] fill L,T,W,H R,G,B      a colour, only for pictures in colour
        [A..B] mosaic L,T,W,H TW,TH    tiles of TW by TH pixels
-       [A..B] mean L,T,W,H TW,TH      the same, each of the mean of its pixels
+       [A..B] means L,T,W,H TW,TH     the same, each of the mean of its pixels
        [A..B] move L,T,W,H X,Y        to column X, row Y
        [A..B] flip rows|columns       the whole frame upside down, or mirrored
        [A..B] turn half               the whole frame by a half turn
        crop L,T,W,H                   only as the last edit
        pad L,T,R,B V                  likewise: a border of brightness V, no colour
+       turn right|left                likewise: the whole frame by a quarter turn
 A..B: only the frames A to B-1, counted from 0; A..: from A on.
       Times of a video, as 00:01:02.5..00:01:04: the frames from one up to the other.
 OPTION:
@@ -269,7 +270,7 @@ fn carry(
     }
     if words::covers_late(true, &edits.steps) {
         let _ = eprintln!(rt;
-            "note: a mean comes before a fill or a mosaic, and may show something of what that hides"
+            "note: means come before a fill or a mosaic, and may show something of what that hides"
         );
     }
     let call = Call {

@@ -5,7 +5,9 @@ use crate::fault::RunFault;
 use crate::ranges::say_no_frames;
 use crate::request::{Seen, Shape};
 use crate::words::{Lines, Refusal};
-use frame_formats::{Change, Chroma, Edits, Format, Framing, Kind, Paint, Window, turns_over};
+use frame_formats::{
+    Change, Chroma, Edits, Format, Framing, Kind, Paint, Picture, Window, turns_over,
+};
 
 // A frame: its size, how many columns and rows of pixels share a chroma sample, and the greatest
 // value of a sample.
@@ -17,7 +19,24 @@ struct Frame {
     down: usize,
     has_colours: bool,
     interlaced: bool,
+    square: bool,
+    bytes: usize,
     greatest: usize,
+}
+
+// How many bytes a pixel of a picture has.
+fn bytes_of(picture: Picture) -> usize {
+    let (colour, alpha) = match picture.kind {
+        Kind::Plain { colour } => (colour, false),
+        Kind::Pam(tuples) => (tuples.colour, tuples.alpha),
+    };
+    let colours: usize = if colour { 3 } else { 1 };
+    let samples: usize = if alpha { colours + 1 } else { colours };
+    if picture.greatest > 255 {
+        2 * samples
+    } else {
+        samples
+    }
 }
 
 impl Frame {
@@ -35,6 +54,8 @@ impl Frame {
             down,
             has_colours: false,
             interlaced: format.interlaced,
+            square: format.square,
+            bytes: 1,
             greatest: format.pixel.greatest as usize,
         }
     }
@@ -52,6 +73,8 @@ impl Frame {
                     Kind::Pam(tuples) => tuples.colour,
                 },
                 interlaced: false,
+                square: true,
+                bytes: bytes_of(picture),
                 greatest: picture.greatest as usize,
             },
         }
@@ -73,6 +96,12 @@ enum Wrong {
     TooLarge,
     // A mean of samples of two bytes.
     Deep,
+    // A quarter turn where as many columns as rows don't share a chroma sample.
+    Sampling(usize, usize),
+    // A quarter turn of pixels that aren't square.
+    NotSquare,
+    // A quarter turn of pixels of more than 4 bytes.
+    Large,
     // The rows of one field would be where those of the other were.
     Fields,
     // This number of these is no multiple of that.
@@ -167,8 +196,24 @@ fn check_change(frame: Frame, change: Change<Paint>) -> Option<Wrong> {
     }
 }
 
+// Why a frame can't be turned by a quarter.
+fn check_turn(frame: Frame) -> Option<Wrong> {
+    if frame.interlaced {
+        Some(Wrong::Fields)
+    } else if !frame.square {
+        Some(Wrong::NotSquare)
+    } else if frame.across != frame.down {
+        Some(Wrong::Sampling(frame.across, frame.down))
+    } else if frame.bytes > 4 {
+        Some(Wrong::Large)
+    } else {
+        Some(Wrong::TooLarge)
+    }
+}
+
 fn check_framing(frame: Frame, framing: Framing) -> Option<Wrong> {
     match framing {
+        Framing::Turn(_) => check_turn(frame),
         Framing::Crop(window) => {
             if window.width == 0 || window.height == 0 {
                 return Some(Wrong::NoSize);
@@ -194,10 +239,17 @@ fn say_wrong(rt: &HostRuntime, wrong: Wrong) {
         Wrong::Outside => eprintln!(rt; "it reaches outside the frame"),
         Wrong::NoSize => eprintln!(rt; "its size is 0"),
         Wrong::Colour => eprintln!(rt; "a colour is only for pictures in colour"),
-        Wrong::Deep => eprintln!(rt; "a mean is only for samples of one byte"),
+        Wrong::Deep => eprintln!(rt; "means are only for samples of one byte"),
         Wrong::Fields => eprintln!(rt;
-            "the video is interlaced, and this would exchange its two fields. Deinterlace it first"
+            "the video is interlaced, and its fields would be mixed up. Deinterlace it first"
         ),
+        Wrong::Sampling(across, down) => eprintln!(rt;
+            "{across} by {down} pixels share a chroma sample, and {down} by {across} would after the turn. Convert it to yuv420p or yuv444p first"
+        ),
+        Wrong::NotSquare => eprintln!(rt;
+            "its pixels aren't square (field A), and the turn would change their sides. Scale it first"
+        ),
+        Wrong::Large => eprintln!(rt; "only pixels of at most 4 bytes can be turned by a quarter"),
         Wrong::Value(value, greatest) => eprintln!(rt;
             "value {value} is above {greatest}, the greatest of a sample"
         ),
@@ -234,7 +286,10 @@ fn say_outside(rt: &HostRuntime, frame: Frame, edits: &Edits, text: Option<&[u8]
     }
     if let Some(framing) = edits.framing {
         if let Some(wrong) = check_framing(frame, framing) {
-            let _ = eprint!(rt; "the crop or pad: ");
+            let _ = match framing {
+                Framing::Turn(_) => eprint!(rt; "the turn: "),
+                _ => eprint!(rt; "the crop or pad: "),
+            };
             say_wrong(rt, wrong);
             return;
         }
