@@ -117,7 +117,8 @@ fn read_signed(piece: &[u8]) -> Option<Decimal>
     }
 }
 
-fn read_decimal(field: &[u8]) -> Option<Decimal>
+/// The number that a field is, with white space before it.
+pub fn read_decimal(field: &[u8]) -> Option<Decimal>
     ensures number { result ≡ decimal_of field.now }
     ensures exact { IfSome result IsDecimal }
 {
@@ -134,7 +135,8 @@ fn next_decimal(fields: &mut Parts<'_>) -> Option<Decimal>
     read_decimal(fields.next_part()?)
 }
 
-fn read_frame(field: &[u8]) -> Option<usize>
+/// The number of a frame that a field is, from 1.
+pub fn read_frame(field: &[u8]) -> Option<usize>
     ensures { result ≡ frame_of field.now }
 {
     let number = usize::read(without_white(field))?;
