@@ -6,3 +6,4 @@ pub mod WrittenHeads
 pub mod StepsEach
 pub mod EditsEach
 pub mod Times
+pub mod Touched

@@ -16,3 +16,4 @@ pub mod Planned
 pub mod Ranges
 pub mod Words
 pub mod Lists
+pub mod Boxes

@@ -3,6 +3,7 @@
 //! writes.
 #![tactic(auto)]
 
+mod boxes;
 mod covers;
 mod digits;
 mod framing;
@@ -22,6 +23,7 @@ mod samples;
 mod steps;
 mod words;
 
+pub use boxes::{Decimal, Tracked, cover_of, read_boxes, read_decimal, read_frame};
 pub use covers::{Unit, picture_covers_nothing, turns_over, video_covers_nothing};
 pub use framing::Framing;
 pub use header::{Chroma, Format, read_format, read_size};

@@ -14,7 +14,7 @@ use std::alloc::{AllocError, Global};
 use texts::Parts;
 
 // A line without the carriage return that it may end with.
-fn before_return(line: &[u8]) -> &[u8]
+pub(crate) fn before_return(line: &[u8]) -> &[u8]
     ensures { result.now ≡ strip_carriage_return line.now }
 {
     let len = line.len();
@@ -25,7 +25,7 @@ fn before_return(line: &[u8]) -> &[u8]
 }
 
 // A line without its comment.
-fn before_comment(line: &[u8]) -> &[u8]
+pub(crate) fn before_comment(line: &[u8]) -> &[u8]
     ensures { result.now ≡ uncommented line.now }
 {
     match Parts::new(line, b'#').next_part() {
@@ -34,7 +34,7 @@ fn before_comment(line: &[u8]) -> &[u8]
     }
 }
 
-fn is_white(byte: u8) -> bool
+pub(crate) fn is_white(byte: u8) -> bool
     ensures { result ≡ is_white byte }
 {
     byte == b' ' || byte == b'\t'

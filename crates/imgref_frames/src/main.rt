@@ -1,14 +1,17 @@
 //! Edits frames of raw video or pictures, one by one, from standard input to standard output.
 #![tactic(auto)]
 
+mod bad_boxes;
 mod bad_edits;
 mod beginnings;
+mod boxes;
 mod cells;
 mod fault;
 mod files;
 mod frames;
 mod options;
 mod pictures;
+mod places;
 mod program;
 mod ranges;
 mod reasons;
@@ -16,6 +19,7 @@ mod request;
 mod words;
 
 use beginnings::say_no_head;
+use boxes::with_boxes;
 pub use devices::Counted;
 use devices::Retried;
 pub use fault::RunFault;
@@ -23,6 +27,7 @@ use files::{Sink, Source, create_beside, read_whole, target_of};
 use frame_formats::Edits;
 pub use frame_formats::{Axes, Change, Edit, Format, Framing, Paint, Picture, Range, Rate, Window};
 use options::{Options, read_options};
+use places::Texts;
 pub use program::run;
 use ranges::{say_uncovered, say_unreached};
 use reasons::{say_no_words, say_reason};
@@ -35,6 +40,7 @@ use words::{Refusal, edits_of_lines, edits_of_words, fault_of, words_of};
 // What the words are, as docs/FRAMES.md has it.
 const USAGE: &str = "usage: imgref_frames [OPTION..] EDIT.. < video > video
        imgref_frames [OPTION..] --edits FILE < video > video
+       imgref_frames [OPTION..] --boxes FILE [EDIT..] < video > video
        imgref_frames -i FILE -o FILE [OPTION..] EDIT..
 The input is a video (YUV4MPEG2), or pictures (PGM, PPM, PAM), one after the other.
 EDIT is one of these. The edits are applied to each frame or picture, in their order:
@@ -58,6 +64,8 @@ OPTION:
                          - is standard output
        --edits FILE      reads the edits from a file: one on each line, # begins a comment
        --edits -         reads them from standard input; only with -i
+       --boxes FILE      covers the boxes of a tracker's list before the edits, which may be left
+                         out: lines frame,id,left,top,width,height, with frames from 1
        --strict          a range that the input doesn't reach is a fault, and so is a cover
                          that covers nothing
        --limit BYTES     how many bytes all buffers may have: 1073741824 without it
@@ -74,17 +82,23 @@ const RANGE: u8 = 8;
 // The status where a cover covers nothing, and that is a fault.
 const COVER: u8 = 9;
 
+// No files of edits.
+const NO_TEXTS: Texts<'static> = Texts {
+    boxes: None,
+    edits: None,
+};
+
 // How many bytes are read ahead: as many as a pipe holds.
 const AHEAD: usize = 65536;
 
-// What a run needs besides its input and its output. The text is that of the file of edits, for
+// What a run needs besides its input and its output. The texts are those of the files of edits, for
 // messages.
 #[derive(Clone, Copy)]
 struct Call<'a> {
     rt: &'a HostRuntime,
     options: Options,
     edits: &'a Edits,
-    text: Option<&'a [u8]>,
+    texts: Texts<'a>,
 }
 
 impl Call<'_> {
@@ -98,7 +112,7 @@ impl Call<'_> {
             seen,
             self.options.limit,
             self.edits,
-            self.text,
+            self.texts,
         );
         fault.status()
     }
@@ -144,12 +158,12 @@ impl Call<'_> {
 
     // Prints which edits did nothing in so many frames, and returns the status.
     fn note(&self, seen: Seen, count: u64) -> u8 {
-        let (rt, steps, text) = (self.rt, &self.edits.steps, self.text);
+        let (rt, steps, texts) = (self.rt, &self.edits.steps, self.texts);
         let strict = self.options.strict;
-        if say_uncovered(rt, seen.uncovered(count, steps), steps, text, strict) && strict {
+        if say_uncovered(rt, seen.uncovered(count, steps), steps, texts, strict) && strict {
             return COVER;
         }
-        if say_unreached(rt, count, seen.rate(), steps, text, strict) && strict {
+        if say_unreached(rt, count, seen.rate(), steps, texts, strict) && strict {
             return RANGE;
         }
         0
@@ -199,7 +213,7 @@ impl Call<'_> {
 fn main(rt: HostRuntime) -> ExitCode {
     let words = match words_of(&rt) {
         Ok(words) => words,
-        Err(refusal) => return refuse(&rt, refusal, &[], None),
+        Err(refusal) => return refuse(&rt, refusal, &[], NO_TEXTS),
     };
     let mut bytes = Vec::new(rt.alloc());
     for word in &words {
@@ -219,7 +233,7 @@ fn main(rt: HostRuntime) -> ExitCode {
     }
     let options = match read_options(&bytes) {
         Ok(options) => options,
-        Err(at) => return refuse(&rt, Refusal::NoOption(at), &bytes, None),
+        Err(at) => return refuse(&rt, Refusal::NoOption(at), &bytes, NO_TEXTS),
     };
     edit(&rt, options, &words, &bytes)
 }
@@ -230,28 +244,61 @@ fn name_at(words: &[String], at: Option<usize>) -> Option<&str> {
     Some(word.as_str())
 }
 
+// The text of the file with the name at this place, where there is one.
+fn text_at(rt: &HostRuntime, words: &[String], at: Option<usize>) -> io::Result<Option<Vec<u8>>> {
+    match name_at(words, at) {
+        Some(name) => match read_whole(rt, name) {
+            Ok(text) => Ok(Some(text)),
+            Err(error) => Err(error),
+        },
+        None => Ok(None),
+    }
+}
+
+// Whether standard input would be read for two of the edits, the boxes and the input.
+fn reads_input_twice(options: Options, words: &[String]) -> bool {
+    let edits = name_at(words, options.edits) == Some("-");
+    let boxes = name_at(words, options.boxes) == Some("-");
+    (edits && boxes) || ((edits || boxes) && options.input.is_none())
+}
+
+// The edits of the file, or else those of the words, after the boxes of a tracker's list.
+fn edits_of(rt: &HostRuntime, words: &[&[u8]], texts: Texts<'_>) -> Result<Edits, Refusal> {
+    let edits = match texts.edits {
+        Some(text) => edits_of_lines(rt.alloc(), text)?,
+        None if words.is_empty() && texts.boxes.is_some() => Edits::new(rt.alloc()),
+        None => edits_of_words(rt.alloc(), words)?,
+    };
+    match texts.boxes {
+        Some(text) => with_boxes(rt.alloc(), text, &edits),
+        None => Ok(edits),
+    }
+}
+
 // Finds the edits, and goes on with them.
 fn edit(rt: &HostRuntime, options: Options, words: &[String], bytes: &[&[u8]]) -> ExitCode {
-    let Some(name) = name_at(words, options.edits) else {
-        let first = options.first.min(bytes.len());
-        return match edits_of_words(rt.alloc(), &bytes[first..]) {
-            Ok(edits) => carry(rt, options, words, &edits, None),
-            Err(refusal) => refuse(rt, refusal, &bytes[first..], None),
-        };
-    };
-    if options.first < bytes.len() {
-        return refuse(rt, Refusal::NoOption(options.first), bytes, None);
+    if options.edits.is_some() && options.first < bytes.len() {
+        return refuse(rt, Refusal::NoOption(options.first), bytes, NO_TEXTS);
     }
-    if name == "-" && options.input.is_none() {
-        return refuse(rt, Refusal::OneInput, bytes, None);
+    if reads_input_twice(options, words) {
+        return refuse(rt, Refusal::OneInput, bytes, NO_TEXTS);
     }
-    let text = match read_whole(rt, name) {
+    let boxes = match text_at(rt, words, options.boxes) {
         Ok(text) => text,
-        Err(error) => return refuse(rt, fault_of(error, Refusal::NoFile), bytes, None),
+        Err(error) => return refuse(rt, fault_of(error, Refusal::NoBoxFile), bytes, NO_TEXTS),
     };
-    match edits_of_lines(rt.alloc(), &text) {
-        Ok(edits) => carry(rt, options, words, &edits, Some(&text)),
-        Err(refusal) => refuse(rt, refusal, bytes, Some(&text)),
+    let text = match text_at(rt, words, options.edits) {
+        Ok(text) => text,
+        Err(error) => return refuse(rt, fault_of(error, Refusal::NoFile), bytes, NO_TEXTS),
+    };
+    let texts = Texts {
+        boxes: boxes.as_deref(),
+        edits: text.as_deref(),
+    };
+    let first = options.first.min(bytes.len());
+    match edits_of(rt, &bytes[first..], texts) {
+        Ok(edits) => carry(rt, options, words, &edits, texts),
+        Err(refusal) => refuse(rt, refusal, &bytes[first..], texts),
     }
 }
 
@@ -261,7 +308,7 @@ fn carry(
     options: Options,
     words: &[String],
     edits: &Edits,
-    text: Option<&[u8]>,
+    texts: Texts<'_>,
 ) -> ExitCode {
     if words::covers_late(false, &edits.steps) {
         let _ = eprintln!(rt;
@@ -277,18 +324,18 @@ fn carry(
         rt,
         options,
         edits,
-        text,
+        texts,
     };
     ExitCode::from(call.run(words))
 }
 
 // The status tells of the fault even where its text can't be printed.
-fn refuse(rt: &HostRuntime, refusal: Refusal, words: &[&[u8]], text: Option<&[u8]>) -> ExitCode {
+fn refuse(rt: &HostRuntime, refusal: Refusal, words: &[&[u8]], texts: Texts<'_>) -> ExitCode {
     if refusal == Refusal::Memory {
         return end(rt, RunFault::Memory(0));
     }
     let _ = eprintln!(rt; "fault words");
-    say_no_words(rt, refusal, words, text);
+    say_no_words(rt, refusal, words, texts);
     let _ = eprintln!(rt; "{USAGE}");
     ExitCode::from(1)
 }

@@ -16,6 +16,8 @@ pub(crate) struct Options {
     pub(crate) limit: usize,
     /// The name of a file of edits. Without one the edits are words.
     pub(crate) edits: Option<usize>,
+    /// The name of a tracker's list, whose boxes are covered before the edits.
+    pub(crate) boxes: Option<usize>,
     /// The name of the input. Without one it is standard input.
     pub(crate) input: Option<usize>,
     /// The name of the output. Without one it is standard output.
@@ -29,6 +31,7 @@ pub(crate) struct Options {
 enum Followed {
     Limit,
     Edits,
+    Boxes,
     Input,
     Output,
 }
@@ -38,6 +41,8 @@ fn option_of(word: &[u8]) -> Option<Followed> {
         Some(Followed::Limit)
     } else if word == b"--edits".as_slice() {
         Some(Followed::Edits)
+    } else if word == b"--boxes".as_slice() {
+        Some(Followed::Boxes)
     } else if word == b"-i".as_slice() {
         Some(Followed::Input)
     } else if word == b"-o".as_slice() {
@@ -67,6 +72,7 @@ impl Options {
                 None => return false,
             },
             Followed::Edits => self.edits = Some(at),
+            Followed::Boxes => self.boxes = Some(at),
             Followed::Input => self.input = place_of(word, at),
             Followed::Output => self.output = place_of(word, at),
         }
@@ -81,6 +87,7 @@ pub(crate) fn read_options(words: &[&[u8]]) -> Result<Options, usize> {
         strict: false,
         limit: LIMIT,
         edits: None,
+        boxes: None,
         input: None,
         output: None,
         first: 1,

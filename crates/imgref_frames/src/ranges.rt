@@ -1,9 +1,9 @@
 //! Edits that did nothing: ranges that the input didn't reach, ranges of times that have no frame, and
 //! covers that cover nothing.
 
-use crate::reasons::{line_of, say_edit, size_of};
+use crate::places::{Texts, say_place};
+use crate::reasons::size_of;
 use crate::request::Stretch;
-use crate::words::Lines;
 use frame_formats::{Edit, Rate};
 
 /// Prints each range of frames that the input, which had so many, didn't reach. Returns whether
@@ -13,15 +13,12 @@ pub(crate) fn say_unreached(
     count: u64,
     rate: Option<Rate>,
     steps: &[Edit],
-    text: Option<&[u8]>,
+    texts: Texts<'_>,
     strict: bool,
 ) -> bool {
     let mut found = false;
     // The numbers only grow, so all lines are read once.
-    let mut lines = match text {
-        Some(text) => Some(Lines::new(rt.alloc(), text)),
-        None => None,
-    };
+    let mut places = texts.places(rt.alloc());
     for number in 0..steps.len() {
         let Some((first, end)) = steps[number].range.frames(rate) else {
             continue;
@@ -36,11 +33,7 @@ pub(crate) fn say_unreached(
                 eprint!(rt; "note: ")
             };
             found = true;
-            let line = match &mut lines {
-                Some(lines) => lines.find(Some(number)),
-                None => None,
-            };
-            say_edit(rt, number, line);
+            say_place(rt, places.find(number));
             let _ = if end < u64::MAX {
                 eprintln!(rt;
                     "the input has {count} frames, and ends before its range {first}..{end}"
@@ -58,7 +51,7 @@ pub(crate) fn say_uncovered(
     rt: &HostRuntime,
     stretch: Option<Stretch>,
     steps: &[Edit],
-    text: Option<&[u8]>,
+    texts: Texts<'_>,
     strict: bool,
 ) -> bool {
     let Some(stretch) = stretch else {
@@ -69,10 +62,7 @@ pub(crate) fn say_uncovered(
     }
     let (width, height) = size_of(stretch.shape);
     // The numbers only grow, so all lines are read once.
-    let mut lines = match text {
-        Some(text) => Some(Lines::new(rt.alloc(), text)),
-        None => None,
-    };
+    let mut places = texts.places(rt.alloc());
     for number in 0..steps.len() {
         let Some(frame) = stretch.uncovered(&steps[number]) else {
             continue;
@@ -82,11 +72,7 @@ pub(crate) fn say_uncovered(
         } else {
             eprint!(rt; "note: ")
         };
-        let line = match &mut lines {
-            Some(lines) => lines.find(Some(number)),
-            None => None,
-        };
-        say_edit(rt, number, line);
+        say_place(rt, places.find(number));
         let _ = eprintln!(rt;
             "it covers nothing in frame {frame}, which has {width} by {height} pixels"
         );
@@ -99,13 +85,13 @@ pub(crate) fn say_no_frames(
     rt: &HostRuntime,
     rate: Option<Rate>,
     steps: &[Edit],
-    text: Option<&[u8]>,
+    texts: Texts<'_>,
 ) -> bool {
     for number in 0..steps.len() {
         if steps[number].range.frames(rate).is_some() {
             continue;
         }
-        say_edit(rt, number, line_of(rt, text, number));
+        say_place(rt, texts.places(rt.alloc()).find(number));
         let _ = match rate {
             Some(rate) if rate.frames > 0 && rate.seconds > 0 => eprintln!(rt;
                 "no frame is in its range of times, with F{}:{}",

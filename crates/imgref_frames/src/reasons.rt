@@ -1,10 +1,12 @@
 //! Why a run ended, in words for standard error. Nothing here changes what is written or the status.
 
+use crate::bad_boxes::say_bad_box;
 use crate::bad_edits::{say_bad_line, say_bad_word};
 use crate::fault::RunFault;
+use crate::places::{Texts, say_place};
 use crate::ranges::say_no_frames;
 use crate::request::{Seen, Shape};
-use crate::words::{Lines, Refusal};
+use crate::words::Refusal;
 use frame_formats::{
     Change, Chroma, Edits, Format, Framing, Kind, Paint, Picture, Window, turns_over,
 };
@@ -262,24 +264,11 @@ fn say_wrong(rt: &HostRuntime, wrong: Wrong) {
     };
 }
 
-/// The line of the edit of this number, where edits have lines.
-pub(crate) fn line_of(rt: &HostRuntime, text: Option<&[u8]>, number: usize) -> Option<usize> {
-    Lines::new(rt.alloc(), text?).find(Some(number))
-}
-
-/// Prints the edit by its line, or else by its number.
-pub(crate) fn say_edit(rt: &HostRuntime, number: usize, line: Option<usize>) {
-    let _ = match line {
-        Some(line) => eprint!(rt; "line {line}: "),
-        None => eprint!(rt; "edit {}: ", number.saturating_add(1)),
-    };
-}
-
-fn say_outside(rt: &HostRuntime, frame: Frame, edits: &Edits, text: Option<&[u8]>) {
+fn say_outside(rt: &HostRuntime, frame: Frame, edits: &Edits, texts: Texts<'_>) {
     let _ = eprintln!(rt; "the frame has {} by {} pixels", frame.width, frame.height);
     for number in 0..edits.steps.len() {
         if let Some(wrong) = check_change(frame, edits.steps[number].change) {
-            say_edit(rt, number, line_of(rt, text, number));
+            say_place(rt, texts.places(rt.alloc()).find(number));
             say_wrong(rt, wrong);
             return;
         }
@@ -304,13 +293,13 @@ pub(crate) fn say_reason(
     seen: Seen,
     limit: usize,
     edits: &Edits,
-    text: Option<&[u8]>,
+    texts: Texts<'_>,
 ) {
     let _ = match fault {
         RunFault::Outside => {
-            if !say_no_frames(rt, seen.rate(), &edits.steps, text) {
+            if !say_no_frames(rt, seen.rate(), &edits.steps, texts) {
                 if let Some(shape) = seen.shape() {
-                    say_outside(rt, Frame::of(shape), edits, text);
+                    say_outside(rt, Frame::of(shape), edits, texts);
                 }
             }
             Ok(())
@@ -335,12 +324,7 @@ pub(crate) fn say_reason(
 }
 
 /// Prints why the words are no edits.
-pub(crate) fn say_no_words(
-    rt: &HostRuntime,
-    refusal: Refusal,
-    words: &[&[u8]],
-    text: Option<&[u8]>,
-) {
+pub(crate) fn say_no_words(rt: &HostRuntime, refusal: Refusal, words: &[&[u8]], texts: Texts<'_>) {
     match refusal {
         Refusal::Memory => {}
         Refusal::Empty => {
@@ -349,14 +333,27 @@ pub(crate) fn say_no_words(
         Refusal::NoFile => {
             let _ = eprintln!(rt; "the edits file can't be read");
         }
+        Refusal::NoBoxFile => {
+            let _ = eprintln!(rt; "the file of boxes can't be read");
+        }
+        Refusal::EmptyBoxes => {
+            let _ = eprintln!(rt; "the file of boxes has no box, so nothing would be covered");
+        }
+        Refusal::NoBoxes => say_bad_box(rt, texts.boxes),
         Refusal::NoOption(at) => {
             let _ = eprintln!(rt; "word {at} is no option, or lacks what follows it");
         }
         Refusal::OneInput => {
-            let _ = eprintln!(rt; "--edits - reads standard input, so -i has to name the input");
+            let _ = eprintln!(rt;
+                "- reads standard input once, so -i has to name the input, and the other list a file"
+            );
         }
         Refusal::NoFrame(number) => {
-            say_edit(rt, number, line_of(rt, text, number));
+            let edits = Texts {
+                boxes: None,
+                ..texts
+            };
+            say_place(rt, edits.places(rt.alloc()).find(number));
             let _ = eprintln!(rt; "its range has no frame: the second number must be greater");
         }
         Refusal::NoText => {
@@ -364,7 +361,7 @@ pub(crate) fn say_no_words(
                 "a word isn't UTF-8. Of a file with such a name the shell makes the input or the output: < or >"
             );
         }
-        Refusal::NoEdits => match text {
+        Refusal::NoEdits => match texts.edits {
             Some(text) => say_bad_line(rt, text),
             None => say_bad_word(rt, words),
         },

@@ -25,9 +25,15 @@ pub(crate) enum Refusal {
     NoFrame(usize),
     /// The file can't be read.
     NoFile,
+    /// The tracker's list can't be read.
+    NoBoxFile,
+    /// A line of the tracker's list is no box.
+    NoBoxes,
+    /// The tracker's list has no box.
+    EmptyBoxes,
     /// This word is no option.
     NoOption(usize),
-    /// Standard input is to be the edits and the input too.
+    /// Standard input is to be the edits or the boxes, and something else too.
     OneInput,
     /// Out of memory.
     Memory,
@@ -89,7 +95,7 @@ fn find_no_frame(edits: &[Edit]) -> Option<usize>
 }
 
 // Refuses a list with no edit, and a range with no frame: both would show what was to be covered.
-fn refuse_unusable(edits: &Edits) -> Result<(), Refusal>
+pub(crate) fn refuse_unusable(edits: &Edits) -> Result<(), Refusal>
     ensures { OnOk result (AreUsable (plain edits.now)) }
 {
     if edits.steps.is_empty() && edits.framing.is_none() {

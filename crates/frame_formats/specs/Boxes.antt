@@ -1,0 +1,146 @@
+-- The boxes of a tracker's list, and the covers that they become.
+use Rattle.std.specs.Prelude.{◌<◌, ◌≤◌, ◌↔◌, ℕ, ◌+◌, ◌-◌, ◌*◌, ◌/◌, ◌^◌, ◌&&◌, ◌==◌, Bool, false, true, not, nat_lt, nat_le, IsTrue, if◌then◌else◌, List, [], ◌∷◌, ◌++◌, Option, Some, None, length}
+use Rattle.std.specs.List.{list_all}
+use Rattle.std.specs.Option.{option_map}
+use Rattle.std.specs.Str.Lines.{strip_carriage_return}
+use Rattle.image_shape.specs.declared.window.Window.{Window}
+use Rattle.image_planes.specs.declared.change.Change.TheVariants.{Fill}
+use Rattle.text_model.specs.Parts.{parts_of}
+use Rattle.text_model.specs.Reading.{◌>>=◌, number_of, first_of_parts, is_nil}
+use Rattle.frame_formats.specs.Digits.{is_digit}
+use Rattle.frame_formats.specs.Lists.{is_white, uncommented}
+use Rattle.frame_formats.specs.Ranges.{worth}
+use Rattle.frame_formats.specs.declared.boxes.Decimal.{Decimal}
+use Rattle.frame_formats.specs.declared.boxes.Tracked.{Tracked}
+use Rattle.frame_formats.specs.declared.ranges.Range.TheVariants.{Frames}
+use Rattle.frame_formats.specs.declared.steps.Paint.TheVariants.{Around}
+use Rattle.frame_formats.specs.declared.words.Edit.{Edit}
+
+-- ---- numbers
+
+-- a field without the white space before it
+abbrev pub without_white : List ℕ → List ℕ
+without_white [] = []
+without_white (b ∷ bs) = if is_white b then without_white bs else b ∷ bs
+
+-- what one to twenty digits after a point are worth, in units of which a pixel has 10 ^ 20
+abbrev pub part_of : List ℕ → Option ℕ
+part_of digits = if nat_lt 0 (length digits) && (nat_lt (length digits) 21 && list_all is_digit digits) then Some (worth 10000000000000000000 digits) else None
+
+-- the same of what is left between points: there may be nothing
+abbrev pub part_in : List (List ℕ) → Option ℕ
+part_in [] = Some 0
+part_in (digits ∷ parts) = if is_nil parts then part_of digits else None
+
+-- a number without its sign: at most the greatest size of a frame, with its fraction
+unfoldable pub unsigned_in : Bool → List (List ℕ) → Option Decimal
+unsigned_in minus parts = do
+  whole ← first_of_parts number_of parts
+  part ← part_in whole.1
+  if nat_le whole.0 4294967295 then Some (record { minus = minus; whole = whole.0; part = part }) else None
+
+abbrev pub signed_of : List ℕ → Option Decimal
+signed_of [] = None
+signed_of (b ∷ bs) = if b == 45 then unsigned_in true (parts_of 46 bs) else unsigned_in false (parts_of 46 (b ∷ bs))
+
+abbrev pub decimal_of : List ℕ → Option Decimal
+decimal_of field = signed_of (without_white field)
+
+-- the number of a frame, from 1
+abbrev pub counted : Option ℕ → Option ℕ
+counted None = None
+counted (Some number) = if nat_lt 0 number then Some number else None
+
+abbrev pub frame_of : List ℕ → Option ℕ
+frame_of field = counted (number_of (without_white field))
+
+-- ---- a line
+
+-- a box by the fields of its line: a frame, an identity, a corner and a size, which has no sign
+unfoldable pub box_in : List (List ℕ) → Option Tracked
+box_in fields = do
+  frame ← first_of_parts frame_of fields
+  id ← first_of_parts decimal_of frame.1
+  left ← first_of_parts decimal_of id.1
+  top ← first_of_parts decimal_of left.1
+  width ← first_of_parts decimal_of top.1
+  height ← first_of_parts decimal_of width.1
+  if not width.0.minus && not height.0.minus then Some (record { frame = frame.0; id = id.0; left = left.0; top = top.0; width = width.0; height = height.0 }) else None
+
+abbrev pub box_of : List ℕ → Option Tracked
+box_of line = box_in (parts_of 44 line)
+
+-- ---- the cover
+
+-- a number without its sign, in units of which a pixel has 10 ^ 20
+abbrev pub size_of : Decimal → ℕ
+size_of d = d.whole * 100000000000000000000 + d.part
+
+-- how many pixels so many units are at least
+abbrev pub pixels_up : ℕ → ℕ
+pixels_up units = (units + 99999999999999999999) / 100000000000000000000
+
+-- a number that a field may hold
+pub record IsDecimal (d : Decimal) : Type 0 where
+  pub whole : d.whole < 2 ^ 32
+  pub part : d.part < 100000000000000000000
+
+pub record IsTracked (b : Tracked) : Type 0 where
+  pub left : IsDecimal b.left
+  pub top : IsDecimal b.top
+  pub width : IsDecimal b.width
+  pub height : IsDecimal b.height
+
+-- the first pixel that has a part of what begins there and is so long, and how many such pixels there are; where it ends before the frame there is none, and the first one is far outside
+abbrev pub side_of : Decimal → Decimal → ℕ × ℕ
+side_of start extent =
+    if not start.minus then (size_of start / 100000000000000000000, pixels_up (size_of start + size_of extent) - size_of start / 100000000000000000000)
+    else if nat_le (size_of extent) (size_of start) then (18446744073709551615, 0)
+    else (0, pixels_up (size_of extent - size_of start))
+
+abbrev pub window_by : ℕ × ℕ → ℕ × ℕ → Window
+window_by across down = record { left = across.0; top = down.0; width = across.1; height = down.1 }
+
+abbrev pub window_of_box : Tracked → Window
+window_of_box b = window_by (side_of b.left b.width) (side_of b.top b.height)
+
+-- a box as the cover of the pixels that it touches, in its frame alone
+abbrev pub cover_of : Tracked → Edit
+cover_of b = record { range = Frames (b.frame - 1) b.frame; change = Fill (window_of_box b) (Around None None) }
+
+-- ---- which pixels a box touches
+
+-- the pixel of this number has a part of what begins there and is so long
+abbrev pub is_touched : Decimal → Decimal → ℕ → Bool
+is_touched start extent x =
+    if start.minus then nat_lt (x * 100000000000000000000 + size_of start) (size_of extent)
+    else nat_lt (size_of start) ((x + 1) * 100000000000000000000) && nat_lt (x * 100000000000000000000) (size_of start + size_of extent)
+
+abbrev pub Touches : Tracked → ℕ → ℕ → Type 0
+Touches b x y = IsTrue (is_touched b.left b.width x) × IsTrue (is_touched b.top b.height y)
+
+-- the pixel is in the window
+abbrev pub Has : Window → ℕ → ℕ → Type 0
+Has w x y = ((w.left ≤ x) × (x < w.left + w.width)) × ((w.top ≤ y) × (y < w.top + w.height))
+
+-- the pixels of the window are those that the box touches
+abbrev pub TouchesExactly : Tracked → Window → Type 0
+TouchesExactly b w = (x y : ℕ) → Touches b x y ↔ Has w x y
+
+-- ---- all lines
+
+-- what a line adds: the cover of its box, or nothing where it has no word
+abbrev pub covers_by : Option Tracked → List ℕ → Option (List Edit)
+covers_by (Some b) line = Some (cover_of b ∷ [])
+covers_by None line = if list_all is_white line then Some [] else None
+
+abbrev pub line_covers : List ℕ → Option (List Edit)
+line_covers line = covers_by (box_of (uncommented (strip_carriage_return line))) (uncommented (strip_carriage_return line))
+
+-- covers with those that a line adds, and with those of all lines
+abbrev pub with_box : List Edit → List ℕ → Option (List Edit)
+with_box old line = option_map (λ more. old ++ more) (line_covers line)
+
+abbrev pub with_boxes : List Edit → List (List ℕ) → Option (List Edit)
+with_boxes old [] = Some old
+with_boxes old (line ∷ lines) = with_box old line >>= λ new. with_boxes new lines

@@ -1,0 +1,280 @@
+//! The boxes of a tracker's list, as the covers that they become.
+
+ghost use Rattle.std.specs.Prelude.{◌≡◌, ◌≤◌, ◌<◌, ◌↔◌, ℕ, Some, None, IfSome, IfOk, IfErr, OnOk, false, []};
+ghost use Rattle.std.specs.List.{list_all};
+ghost use Rattle.text_model.specs.Parts.{parts_of};
+ghost use Rattle.text_model.specs.Reading.{Finds, first_of_parts};
+ghost use Rattle.texts.specs.Parts.{parts_left};
+ghost use Rattle.frame_formats.specs.Boxes.{without_white, part_of, part_in, unsigned_in, signed_of, decimal_of, frame_of, box_of, IsDecimal, IsTracked, side_of, window_of_box, cover_of, line_covers, with_box, with_boxes, TouchesExactly};
+ghost use Rattle.frame_formats.specs.Lists.{is_white};
+
+use crate::digits::is_digit;
+use crate::lists::{WordsFault, before_comment, before_return, is_white};
+use crate::ranges::Range;
+use crate::steps::Paint;
+use crate::words::Edit;
+use image_planes::{Change, Window};
+use std::alloc::Global;
+use texts::{Field, Parts, next};
+
+/// A number of a tracker's list, in pixels: a sign, a whole number, and a fraction in units of
+/// 10^-20 pixels.
+#[derive(Clone, Copy, PartialEq, Eq)]
+pub struct Decimal {
+    pub minus: bool,
+    pub whole: usize,
+    pub part: u128,
+}
+
+/// A box of a tracker's list: its frame, the identity of what is tracked, its corner and its size.
+/// It may reach outside the frame.
+#[derive(Clone, Copy, PartialEq, Eq)]
+pub struct Tracked {
+    /// From 1.
+    pub frame: usize,
+    pub id: Decimal,
+    pub left: Decimal,
+    pub top: Decimal,
+    pub width: Decimal,
+    pub height: Decimal,
+}
+
+// How many units a pixel has.
+const PIXEL: u128 = 100_000_000_000_000_000_000;
+
+// What the first digit of a fraction counts, in units.
+const TENTH: u64 = 10_000_000_000_000_000_000;
+
+// A field without the white space before it.
+fn without_white(field: &[u8]) -> &[u8]
+    ensures { result.now ≡ without_white field.now }
+{
+    let mut rest = field;
+    while let [byte, others @ ..] = rest {
+        if !is_white(*byte) {
+            return rest;
+        }
+        rest = others;
+    }
+    rest
+}
+
+// What one to twenty digits after a point are worth.
+fn read_part(digits: &[u8]) -> Option<u128>
+    ensures part { result ≡ part_of digits.now }
+    ensures small { IfSome result (λ part. part < 100000000000000000000) }
+{
+    if digits.is_empty() || digits.len() > 20 {
+        return None;
+    }
+    let mut unit = TENTH;
+    let mut sum: u128 = 0;
+    for digit in digits {
+        if !is_digit(*digit) {
+            return None;
+        }
+        sum += (*digit - b'0') as u128 * unit as u128;
+        unit /= 10;
+    }
+    Some(sum)
+}
+
+// The fraction that is left of a number, or none.
+fn next_part_of(parts: Parts<'_>) -> Option<u128>
+    ensures part { result ≡ part_in (parts_left parts.entry) }
+    ensures small { IfSome result (λ part. part < 100000000000000000000) }
+{
+    let mut rest = parts;
+    let Some(digits) = rest.next_part() else {
+        return Some(0);
+    };
+    if !rest.is_done() {
+        return None;
+    }
+    read_part(digits)
+}
+
+// A number by its sign and what follows the sign.
+#[tactic(auto, unfolding(crate::specs::Boxes::unsigned_in))]
+fn read_unsigned(minus: bool, piece: &[u8]) -> Option<Decimal>
+    ensures number { result ≡ unsigned_in minus (parts_of 46 piece.now) }
+    ensures exact { IfSome result IsDecimal }
+{
+    let mut parts = Parts::new(piece, b'.');
+    let whole: usize = next(&mut parts)?;
+    let part = next_part_of(parts)?;
+    (whole <= u32::MAX as usize).then_some(Decimal { minus, whole, part })
+}
+
+fn read_signed(piece: &[u8]) -> Option<Decimal>
+    ensures number { result ≡ signed_of piece.now }
+    ensures exact { IfSome result IsDecimal }
+{
+    match piece {
+        [] => None,
+        [b'-', others @ ..] => read_unsigned(true, others),
+        _ => read_unsigned(false, piece),
+    }
+}
+
+/// The number that a field is, with white space before it.
+pub fn read_decimal(field: &[u8]) -> Option<Decimal>
+    ensures number { result ≡ decimal_of field.now }
+    ensures exact { IfSome result IsDecimal }
+{
+    read_signed(without_white(field))
+}
+
+// The number that the next field is.
+#[tactic(auto, unfolding(text_model::specs::Reading::first_of_parts))]
+fn next_decimal(fields: &mut Parts<'_>) -> Option<Decimal>
+    ensures number { Finds (λ x. (x, parts_left fields.new)) result
+        (first_of_parts decimal_of (parts_left fields.old)) }
+    ensures exact { IfSome result IsDecimal }
+{
+    read_decimal(fields.next_part()?)
+}
+
+/// The number of a frame that a field is, from 1.
+pub fn read_frame(field: &[u8]) -> Option<usize>
+    ensures { result ≡ frame_of field.now }
+{
+    let number = usize::read(without_white(field))?;
+    (number > 0).then_some(number)
+}
+
+// The number of a frame that the next field is.
+#[tactic(auto, unfolding(text_model::specs::Reading::first_of_parts))]
+fn next_frame(fields: &mut Parts<'_>) -> Option<usize>
+    ensures { Finds (λ x. (x, parts_left fields.new)) result
+        (first_of_parts frame_of (parts_left fields.old)) }
+{
+    read_frame(fields.next_part()?)
+}
+
+// The box that a line is, without its comment and its end.
+#[tactic(auto, unfolding(crate::specs::Boxes::box_in))]
+fn read_box(line: &[u8]) -> Option<Tracked>
+    ensures tracked { result ≡ box_of line.now }
+    ensures exact { IfSome result IsTracked }
+{
+    let mut fields = Parts::new(line, b',');
+    let frame = next_frame(&mut fields)?;
+    let id = next_decimal(&mut fields)?;
+    let left = next_decimal(&mut fields)?;
+    let top = next_decimal(&mut fields)?;
+    let width = next_decimal(&mut fields)?;
+    let height = next_decimal(&mut fields)?;
+    (!width.minus && !height.minus).then_some(Tracked {
+        frame,
+        id,
+        left,
+        top,
+        width,
+        height,
+    })
+}
+
+// The first pixel that a side touches, and how many it touches.
+fn side_of(start: Decimal, extent: Decimal) -> (usize, usize)
+    requires start { IsDecimal start }
+    requires extent { IsDecimal extent }
+    ensures { result ≡ side_of start extent }
+{
+    if !start.minus {
+        let part = start.part + extent.part;
+        let more = if part == 0 {
+            0
+        } else if part <= PIXEL {
+            1
+        } else {
+            2
+        };
+        return (start.whole, extent.whole + more);
+    }
+    let more = if extent.part > start.part { 1 } else { 0 };
+    if extent.whole + more <= start.whole {
+        return (usize::MAX, 0);
+    }
+    (0, extent.whole + more - start.whole)
+}
+
+/// The cover that a box becomes, in its frame alone: of exactly the whole pixels that the box
+/// touches. Where it ends before the first column or row, the cover is far outside.
+#[tactic(auto, using(crate::proofs::Touched::touches_exactly))]
+pub fn cover_of(tracked: Tracked) -> Edit
+    requires { IsTracked tracked }
+    ensures cover { result ≡ cover_of tracked }
+    ensures touched { TouchesExactly tracked (window_of_box tracked) }
+{
+    let (left, width) = side_of(tracked.left, tracked.width);
+    let (top, height) = side_of(tracked.top, tracked.height);
+    let number = tracked.frame as u64;
+    Edit {
+        range: Range::Frames {
+            first: number.saturating_sub(1),
+            end: number,
+        },
+        change: Change::Fill {
+            window: Window::new(left, top, width, height),
+            value: Paint::Around {
+                value: None,
+                margin: None,
+            },
+        },
+    }
+}
+
+// Whether a line has no word.
+fn is_blank(line: &[u8]) -> bool
+    ensures { result ≡ list_all is_white line.now }
+{
+    line.iter().all(|b| is_white(*b))
+}
+
+// Adds the cover of the box that a line is, where it has a word.
+fn take_line(covers: &mut Vec<Edit>, line: &[u8]) -> Result<(), WordsFault>
+    ensures taken { OnOk result (with_box covers.old.items line.now ≡ Some covers.new.items) }
+    ensures none { IfErr result
+        (λ e. e ≡ WordsFault.NoEdit → with_box covers.old.items line.now ≡ None) }
+{
+    let line = before_comment(before_return(line));
+    match read_box(line) {
+        Some(tracked) => match covers.push(cover_of(tracked)) {
+            Ok(()) => Ok(()),
+            Err(_) => Err(WordsFault::Memory),
+        },
+        None => {
+            if is_blank(line) {
+                Ok(())
+            } else {
+                Err(WordsFault::NoEdit)
+            }
+        }
+    }
+}
+
+/// The covers of the boxes that the lines of a text are, one on each line:
+/// `frame,id,left,top,width,height`. Frames count from 1, and columns and rows from 0. More fields are
+/// ignored. Before a field there may be spaces and tabs. Empty lines, comments and the ends of lines
+/// are as in `Edits::take_lines`.
+///
+/// # Errors
+///
+/// `NoEdit` where a line is no box.
+pub fn read_boxes(alloc: Global, text: &[u8]) -> Result<Vec<Edit>, WordsFault>
+    ensures covers { IfOk result
+        (λ covers. with_boxes [] (parts_of 10 text.now) ≡ Some covers.items) }
+    ensures none { IfErr result
+        (λ e. e ≡ WordsFault.NoEdit → with_boxes [] (parts_of 10 text.now) ≡ None) }
+{
+    let mut covers = Vec::new(alloc);
+    let mut lines = Parts::new(text, b'\n');
+    while let Some(line) = lines.next_part() {
+        match take_line(&mut covers, line) {
+            Ok(()) => {}
+            Err(fault) => return Err(fault),
+        }
+    }
+    Ok(covers)
+}

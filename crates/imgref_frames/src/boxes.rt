@@ -1,0 +1,41 @@
+//! A tracker's list, whose boxes are covered before other edits.
+
+ghost use Rattle.std.specs.Prelude.{IfOk};
+ghost use Rattle.imgref_frames.specs.Boxes.{BeginsWithBoxes};
+ghost use Rattle.imgref_frames.specs.Words.{AreUsable};
+ghost use Rattle.frame_formats.specs.Lists.{plain};
+
+use crate::words::{Refusal, refuse_unusable};
+use frame_formats::{Edits, WordsFault, read_boxes};
+use std::alloc::Global;
+
+/// The covers of the boxes of a tracker's list, and after them these edits.
+///
+/// # Errors
+///
+/// Where a line is no box, or there is none.
+pub(crate) fn with_boxes(alloc: Global, text: &[u8], edits: &Edits) -> Result<Edits, Refusal>
+    ensures begins { IfOk result
+        (λ made. BeginsWithBoxes text.now (plain edits.now) (plain made)) }
+    ensures usable { IfOk result (λ made. AreUsable (plain made)) }
+{
+    let mut steps = match read_boxes(alloc, text) {
+        Ok(covers) => covers,
+        Err(WordsFault::NoEdit) => return Err(Refusal::NoBoxes),
+        Err(WordsFault::Memory) => return Err(Refusal::Memory),
+    };
+    if steps.is_empty() {
+        return Err(Refusal::EmptyBoxes);
+    }
+    if steps.extend_from_slice(&edits.steps).is_err() {
+        return Err(Refusal::Memory);
+    }
+    let made = Edits {
+        steps,
+        framing: edits.framing,
+    };
+    match refuse_unusable(&made) {
+        Ok(()) => Ok(made),
+        Err(refusal) => Err(refusal),
+    }
+}
