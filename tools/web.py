@@ -40,10 +40,11 @@ POLICY = (
 )
 SCRIPT = re.compile(r'<script type="module" src="([\w.]+)"></script>')
 STYLE = re.compile(r'<link rel="stylesheet" href="([\w.]+)">')
-# A call on cells in a script, and an export in a file of the crate, with its doc lines.
-CALLED = re.compile(r"imgref_u(?:\$\{image\.bits\}|\d+)_(\w+)")
+# In a script, a call on cells, and the bits of an image's cells. In a file of the crate an export, with its doc lines.
+CALLED = re.compile(r"imgref_u(\$\{image\.bits\}|\d+)_(\w+)")
+BITS = re.compile(r"\bbits: (\d+)")
 EXPORT = re.compile(
-    r'(?:^///[^\n]*\n)+#\[unsafe\(no_mangle\)\]\npub extern "C" fn imgref_u\d+_(\w+)\(.*?^\}\n\n?',
+    r'(?:^///[^\n]*\n)+#\[unsafe\(no_mangle\)\]\npub extern "C" fn imgref_u(\d+_\w+)\(.*?^\}\n\n?',
     re.MULTILINE | re.DOTALL,
 )
 IMPORT = re.compile(r'^import \{[^}]*\} from "\./([\w.]+)";\n', re.MULTILINE)
@@ -102,8 +103,9 @@ def without_names(data):
 
 
 def called():
-    """The calls on cells that the pages make, without the size of a cell."""
-    return set(CALLED.findall("".join(it.read_text() for it in SOURCES.glob("*.js"))))
+    """The calls on cells that the pages make, such as `8_get`: for cells of each size that the pages have, or of one."""
+    text = "".join(it.read_text() for it in SOURCES.glob("*.js"))
+    return {f"{bits}_{name}" for size, name in CALLED.findall(text) for bits in (BITS.findall(text) if "$" in size else [size])}
 
 
 def make_module():
@@ -168,7 +170,7 @@ def build():
     """Builds what has changed."""
     OUT.mkdir(parents=True, exist_ok=True)
     with held(OUT):
-        if not is_fresh(OUT / MODULE, NAME) or any(f"imgref_u8_{it}".encode() not in (OUT / MODULE).read_bytes() for it in called()):
+        if not is_fresh(OUT / MODULE, NAME) or any(f"imgref_u{it}".encode() not in (OUT / MODULE).read_bytes() for it in called()):
             make_module()
     for name, its in PAGES.items():
         (OUT / name).write_text(page(*its))

@@ -148,16 +148,15 @@ export class Library {
     this.run(`imgref_u${image.bits}_move_window`, ...cells(image), ...windows);
   }
 
-  /** All pixels of another image, turned clockwise by so many quarters. */
+  /** All pixels of another picture, turned clockwise by so many quarters. */
   turn(image, source, quarters) {
-    this.run(`imgref_u${image.bits}_turn_into`, ...cells(image), 1n, ...cells(source), quarters);
+    this.run("imgref_u32_turn_into", ...cells(image), 1n, ...cells(source), quarters);
   }
 
-  /** Mirrors all of an image: its `rows` or its `columns` change places. */
+  /** Mirrors all of a picture: its `rows` or its `columns` change places. */
   flip(image, which) {
     const whole = this.windowAt(FROM, { left: 0, top: 0, width: image.width, height: image.height });
-    const name = which === "rows" ? `imgref_u${image.bits}_flip_rows` : `imgref_u${image.bits}_flip_columns`;
-    this.run(name, ...cells(image), 1n, whole);
+    this.run(which === "rows" ? "imgref_u32_flip_rows" : "imgref_u32_flip_columns", ...cells(image), 1n, whole);
   }
 
   copy(image, window, source) {
