@@ -191,6 +191,8 @@ def by_notes(cases, program):
     cases.count("a box after the last frame is noted", said[2] == 0 and all_lines[0] == "note: line 3 of the boxes: the input has 12 frames, and ends before its range 12..13", str(all_lines[:2]))
     said, all_lines = run(program, [inside, "", "13,1,2,2,4,4"], ["--strict"], data)
     cases.count("and is a fault where asked", said[1:] == ("fault range", 8), str(all_lines[:2]))
+    said, all_lines = run(program, ["13,1,2,2,4,4", "5,1,-9,2,4,4", "", inside, "5,2,-9,3,4,4"], [], data)
+    cases.count("lines that aren't in the order of their frames keep their numbers", [it.split(":")[1] for it in all_lines[:3]] == [" line 2 of the boxes", " line 5 of the boxes", " line 1 of the boxes"], str(all_lines[:4]))
     for words, reason in (("fill 0,0,14,1 9", "edit 1: it reaches outside the frame"), ("20..30 fill 0,0,1,1 9", "note: edit 1: the input has 12 frames"), ("5..5 fill 0,0,1,1 9", "edit 1: its range has no frame"), ("2..4 cover 20,20,1,1", "note: edit 1: it covers nothing in frame 2")):
         said, all_lines = run(program, [inside, inside], words.split(), data)
         cases.count(f"beside boxes '{words}' keeps its number", any(it.startswith(reason) for it in all_lines), str(all_lines[:3]))

@@ -1,6 +1,7 @@
 -- The boxes of a tracker's list, and the covers that they become.
-use Rattle.std.specs.Prelude.{◌<◌, ◌≤◌, ◌↔◌, ℕ, ◌+◌, ◌-◌, ◌*◌, ◌/◌, ◌^◌, ◌&&◌, ◌==◌, Bool, false, true, not, nat_lt, nat_le, IsTrue, if◌then◌else◌, List, [], ◌∷◌, ◌++◌, Option, Some, None, length}
+use Rattle.std.specs.Prelude.{◌≡◌, ◌<◌, ◌≤◌, ◌↔◌, ℕ, ◌+◌, ◌-◌, ◌*◌, ◌/◌, ◌^◌, ◌&&◌, ◌==◌, Bool, false, true, not, nat_lt, nat_le, IsTrue, if◌then◌else◌, List, [], ◌∷◌, ◌++◌, Option, Some, None, length}
 use Rattle.std.specs.List.{list_all}
+use Rattle.std.specs.Prelude.{IsPermutation}
 use Rattle.std.specs.Option.{option_map}
 use Rattle.std.specs.Str.Lines.{strip_carriage_return}
 use Rattle.image_shape.specs.declared.window.Window.{Window}
@@ -144,3 +145,9 @@ with_box old line = option_map (λ more. old ++ more) (line_covers line)
 abbrev pub with_boxes : List Edit → List (List ℕ) → Option (List Edit)
 with_boxes old [] = Some old
 with_boxes old (line ∷ lines) = with_box old line >>= λ new. with_boxes new lines
+
+-- the covers of all boxes of a text, in any order: one pixel after the other is black, whichever comes first
+pub record AreCovers (text : List ℕ) (covers : List Edit) : Type 0 where
+  pub read : List Edit
+  pub are : with_boxes [] (parts_of 10 text) ≡ Some read
+  pub same : IsPermutation read covers

@@ -5,7 +5,7 @@ ghost use Rattle.std.specs.List.{list_all};
 ghost use Rattle.text_model.specs.Parts.{parts_of};
 ghost use Rattle.text_model.specs.Reading.{Finds, first_of_parts};
 ghost use Rattle.texts.specs.Parts.{parts_left};
-ghost use Rattle.frame_formats.specs.Boxes.{without_white, part_of, part_in, unsigned_in, signed_of, decimal_of, frame_of, box_of, IsDecimal, IsTracked, side_of, window_of_box, cover_of, line_covers, with_box, with_boxes, TouchesExactly};
+ghost use Rattle.frame_formats.specs.Boxes.{without_white, part_of, part_in, unsigned_in, signed_of, decimal_of, frame_of, box_of, IsDecimal, IsTracked, side_of, window_of_box, cover_of, line_covers, with_box, with_boxes, TouchesExactly, AreCovers};
 ghost use Rattle.frame_formats.specs.Lists.{is_white};
 
 use crate::digits::is_digit;
@@ -254,15 +254,8 @@ fn take_line(covers: &mut Vec<Edit>, line: &[u8]) -> Result<(), WordsFault>
     }
 }
 
-/// The covers of the boxes that the lines of a text are, one on each line:
-/// `frame,id,left,top,width,height`. Frames count from 1, and columns and rows from 0. More fields are
-/// ignored. Before a field there may be spaces and tabs. Empty lines, comments and the ends of lines
-/// are as in `Edits::take_lines`.
-///
-/// # Errors
-///
-/// `NoEdit` where a line is no box.
-pub fn read_boxes(alloc: Global, text: &[u8]) -> Result<Vec<Edit>, WordsFault>
+// The covers of all lines, in their order.
+fn read_all(alloc: Global, text: &[u8]) -> Result<Vec<Edit>, WordsFault>
     ensures covers { IfOk result
         (λ covers. with_boxes [] (parts_of 10 text.now) ≡ Some covers.items) }
     ensures none { IfErr result
@@ -277,4 +270,38 @@ pub fn read_boxes(alloc: Global, text: &[u8]) -> Result<Vec<Edit>, WordsFault>
         }
     }
     Ok(covers)
+}
+
+/// The first frame that a cover is for.
+pub fn first_frame(cover: &Edit) -> u64 {
+    match cover.range {
+        Range::Frames { first, .. } => first,
+        Range::Times { from, .. } => from,
+    }
+}
+
+/// The covers of the boxes that the lines of a text are, one on each line:
+/// `frame,id,left,top,width,height`. Frames count from 1, and columns and rows from 0. More fields are
+/// ignored. Before a field there may be spaces and tabs. Empty lines, comments and the ends of lines
+/// are as in `Edits::take_lines`.
+///
+/// They are in the order of their frames, so that a frame passes over the blocks of others. Those
+/// of one frame are in the order of their lines.
+///
+/// # Errors
+///
+/// `NoEdit` where a line is no box.
+pub fn read_boxes(alloc: Global, text: &[u8]) -> Result<Vec<Edit>, WordsFault>
+    ensures covers { IfOk result (λ covers. AreCovers text.now covers.items) }
+    ensures none { IfErr result
+        (λ e. e ≡ WordsFault.NoEdit → with_boxes [] (parts_of 10 text.now) ≡ None) }
+{
+    let mut covers = match read_all(alloc, text) {
+        Ok(covers) => covers,
+        Err(fault) => return Err(fault),
+    };
+    match covers.sort_by_key(|cover| first_frame(cover)) {
+        Ok(()) => Ok(covers),
+        Err(_) => Err(WordsFault::Memory),
+    }
 }

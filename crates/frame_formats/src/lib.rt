@@ -23,7 +23,7 @@ mod samples;
 mod steps;
 mod words;
 
-pub use boxes::{Decimal, Tracked, cover_of, read_boxes, read_decimal, read_frame};
+pub use boxes::{Decimal, Tracked, cover_of, first_frame, read_boxes, read_decimal, read_frame};
 pub use covers::{Unit, picture_covers_nothing, turns_over, video_covers_nothing};
 pub use framing::Framing;
 pub use header::{Chroma, Format, read_format, read_size};

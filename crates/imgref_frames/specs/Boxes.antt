@@ -1,15 +1,14 @@
 -- Edits that begin with the boxes of a tracker's list.
-use Rattle.std.specs.Prelude.{◌≡◌, false, ℕ, List, [], ◌++◌, Some}
-use Rattle.text_model.specs.Parts.{parts_of}
+use Rattle.std.specs.Prelude.{◌≡◌, false, ℕ, List, ◌++◌}
 use Rattle.text_model.specs.Reading.{is_nil}
-use Rattle.frame_formats.specs.Boxes.{with_boxes}
+use Rattle.frame_formats.specs.Boxes.{AreCovers}
 use Rattle.frame_formats.specs.Edits.{Edits}
 use Rattle.frame_formats.specs.declared.words.Edit.{Edit}
 
 -- the covers of all boxes of a text, of which there is one, and after them the edits
 pub record BeginsWithBoxes (text : List ℕ) (others new : Edits) : Type 0 where
   pub covers : List Edit
-  pub are : with_boxes [] (parts_of 10 text) ≡ Some covers
+  pub are : AreCovers text covers
   pub some : is_nil covers ≡ false
   pub steps : new.steps ≡ covers ++ others.steps
   pub framing : new.framing ≡ others.framing

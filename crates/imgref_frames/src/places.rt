@@ -2,8 +2,8 @@
 //! among the words.
 
 use crate::words::Lines;
-use frame_formats::read_boxes;
-use std::alloc::Global;
+use frame_formats::{first_frame, read_boxes};
+use std::alloc::{AllocError, Global};
 use texts::Parts;
 
 /// The texts of the files that name edits. The boxes come first.
@@ -21,52 +21,43 @@ pub(crate) enum Place {
     Edit(usize),
 }
 
-// The lines of a tracker's list, and how many boxes those have that were passed.
-#[derive(Clone, Copy)]
-struct BoxLines<'a> {
-    alloc: Global,
-    lines: Parts<'a>,
-    number: usize,
-    count: usize,
-}
-
-impl<'a> BoxLines<'a> {
-    fn new(alloc: Global, text: Option<&'a [u8]>) -> Self {
-        // Without a list it is an empty line.
-        BoxLines {
-            alloc,
-            lines: Parts::new(text.unwrap_or(&[]), b'\n'),
-            number: 0,
-            count: 0,
-        }
-    }
-
-    // The line of the box of this number. The next call goes on after that line.
-    fn find(&mut self, number: usize) -> Option<usize> {
-        while let Some(line) = self.lines.next_part() {
-            self.number = self.number.saturating_add(1);
-            if let Ok(covers) = read_boxes(self.alloc, line) {
-                self.count = self.count.saturating_add(covers.len());
-            }
-            if self.count > number {
-                return Some(self.number);
+// The lines of the boxes of a tracker's list, in the order of the covers: by their frames.
+fn lines_of_boxes(alloc: Global, text: &[u8]) -> Result<Vec<usize>, AllocError> {
+    let mut found = Vec::new(alloc);
+    let mut lines = Parts::new(text, b'\n');
+    let mut number: usize = 0;
+    while let Some(line) = lines.next_part() {
+        number = number.saturating_add(1);
+        if let Ok(covers) = read_boxes(alloc, line) {
+            if let Some(cover) = covers.first() {
+                found.push((first_frame(cover), number))?;
             }
         }
-        None
     }
+    found.sort_by_key(|box_at| box_at.0)?;
+    let mut numbers = Vec::new(alloc);
+    for (_, number) in &found {
+        numbers.push(*number)?;
+    }
+    Ok(numbers)
 }
 
 /// Finds the places of edits, whose numbers only grow, so that all lines are read once.
 #[derive(Drop)]
 pub(crate) struct Places<'a> {
-    boxes: BoxLines<'a>,
+    texts: Texts<'a>,
+    alloc: Global,
+    // Those of the boxes, once one is looked for.
+    boxes: Option<Vec<usize>>,
     lines: Option<Lines<'a>>,
 }
 
 impl<'a> Texts<'a> {
     pub(crate) fn places(self, alloc: Global) -> Places<'a> {
         Places {
-            boxes: BoxLines::new(alloc, self.boxes),
+            texts: self,
+            alloc,
+            boxes: None,
             lines: match self.edits {
                 Some(text) => Some(Lines::new(alloc, text)),
                 None => None,
@@ -78,10 +69,17 @@ impl<'a> Texts<'a> {
 impl Places<'_> {
     /// The place of the edit of this number, counted from 0 with the boxes first.
     pub(crate) fn find(&mut self, number: usize) -> Place {
-        if let Some(line) = self.boxes.find(number) {
-            return Place::Box(line);
+        if self.boxes.is_none() {
+            self.boxes = lines_of_boxes(self.alloc, self.texts.boxes.unwrap_or(&[])).ok();
         }
-        let edit = number.saturating_sub(self.boxes.count);
+        let boxes: &[usize] = match &self.boxes {
+            Some(boxes) => boxes,
+            None => &[],
+        };
+        if number < boxes.len() {
+            return Place::Box(boxes[number]);
+        }
+        let edit = number - boxes.len();
         let line = match &mut self.lines {
             Some(lines) => lines.find(Some(edit)),
             None => None,

@@ -2,7 +2,7 @@ use Rattle.std.proofs.Common.{◌≡◌, [], length}
 use Rattle.text_model.specs.Parts.{parts_of}
 use Rattle.texts.specs.Parts.{parts_left}
 use Rattle.frame_formats.specs.Boxes.{with_boxes}
-use Rattle.frame_formats.proofs.boxes.read_boxes.Given as goal
+use Rattle.frame_formats.proofs.boxes.read_all.Given as goal
 
 -- the lines that are left add to the covers so far what all lines add to none
 abbrev pub invariant-loop-line : goal.invariant-loop-line
