@@ -61,6 +61,7 @@ impl Request {
 }
 
 /// What a job works with: the numbers that make its input, and the digest of its results.
+#[derive(Drop)]
 pub(crate) struct Work {
     pub(crate) alloc: Global,
     pub(crate) size: Size,
