@@ -3,9 +3,10 @@
 ghost use Rattle.std.specs.Prelude.{IfOk};
 ghost use Rattle.imgref.specs.Lists.{AllFit};
 
+use crate::digest::Digest;
 use crate::numbers::Numbers;
 use crate::photos::{add_image, photo};
-use crate::request::{Fault, Work};
+use crate::request::{Fault, Size};
 use crate::scripts::{push_numbers, replay_text};
 use imgref::ImgVec;
 use std::alloc::{AllocError, Global};
@@ -242,15 +243,20 @@ fn all_images(alloc: Global, numbers: &mut Numbers) -> Result<Vec<ImgVec<u8>>, F
 
 /// Reads and runs scripts of short commands through one to three nested windows, and now and then
 /// through more than a hundred.
-pub(crate) fn run(work: &mut Work) -> Result<(), Fault> {
-    for _ in 0..work.size.pick(9, 1) {
-        let mut images = all_images(work.alloc, &mut work.numbers)?;
-        let script = script_of(work.alloc, &mut work.numbers, work.size.pick(400_000, 300))?;
-        let mut replies = Vec::new(work.alloc);
-        replay_text(work.alloc, &script, &mut images, &mut replies)?;
-        work.digest.add_bytes(&replies);
+pub(crate) fn run(
+    alloc: Global,
+    size: Size,
+    numbers: &mut Numbers,
+    digest: &mut Digest,
+) -> Result<(), Fault> {
+    for _ in 0..size.pick(9, 1) {
+        let mut images = all_images(alloc, numbers)?;
+        let script = script_of(alloc, numbers, size.pick(400_000, 300))?;
+        let mut replies = Vec::new(alloc);
+        replay_text(alloc, &script, &mut images, &mut replies)?;
+        digest.add_bytes(&replies);
         for image in &images {
-            add_image(&mut work.digest, image);
+            add_image(digest, image);
         }
     }
     Ok(())

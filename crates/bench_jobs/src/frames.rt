@@ -4,7 +4,7 @@ use crate::digest::Digest;
 use crate::numbers::Numbers;
 use crate::photos::{add_image, photo};
 use crate::planes::{pictures, videos};
-use crate::request::{Fault, Work};
+use crate::request::{Fault, Size};
 use image_tiles::{TilesMut, Tiling};
 use imgref::{ImgRef, ImgVec};
 use imgref_examples::{
@@ -98,49 +98,55 @@ fn compare_tiles(
 
 // Composes a frame of sprites, filters it, and compares its tiles with those before.
 fn compose(
-    work: &mut Work,
+    alloc: Global,
+    numbers: &mut Numbers,
+    digest: &mut Digest,
     width: usize,
     height: usize,
     count: usize,
 ) -> Result<(), Fault> {
-    let mut frame: ImgVec<u8> = photo(work.alloc, &mut work.numbers, width, height, width.saturating_add(64))?;
-    let over: ImgVec<u8> = photo(work.alloc, &mut work.numbers, width, height, width)?;
-    paste_all(work.alloc, &mut work.numbers, &mut frame, count)?;
+    let mut frame: ImgVec<u8> = photo(alloc, numbers, width, height, width.saturating_add(64))?;
+    let over: ImgVec<u8> = photo(alloc, numbers, width, height, width)?;
+    paste_all(alloc, numbers, &mut frame, count)?;
     if !frame.is_valid() || frame.width() != over.width() || frame.height() != over.height() {
         return Err(Fault::Input);
     }
-    blend(&mut frame, over.as_ref(), (work.numbers.next() & 255) as u8);
+    blend(&mut frame, over.as_ref(), (numbers.next() & 255) as u8);
     if !frame.is_valid() {
         return Err(Fault::Input);
     }
-    brighten(&mut frame, (work.numbers.next() & 31) as u8);
-    add_counts(&mut work.digest, frame.as_ref())?;
-    let mut blurred: ImgVec<u8> = photo(work.alloc, &mut work.numbers, width, height, width)?;
+    brighten(&mut frame, (numbers.next() & 31) as u8);
+    add_counts(digest, frame.as_ref())?;
+    let mut blurred: ImgVec<u8> = photo(alloc, numbers, width, height, width)?;
     if !frame.is_valid() || frame.width() != width || frame.height() != height {
         return Err(Fault::Input);
     }
     box_blur_3x3(frame.as_ref(), &mut blurred);
-    add_image(&mut work.digest, &blurred);
-    add_image(&mut work.digest, &halve(work.alloc, frame.as_ref())?);
+    add_image(digest, &blurred);
+    add_image(digest, &halve(alloc, frame.as_ref())?);
     for side in [8, 16, 64] {
-        let before = frame.to_owned(work.alloc)?;
+        let before = frame.to_owned(alloc)?;
         fill_tiles(&mut frame, side)?;
-        compare_tiles(&mut work.digest, frame.as_ref(), before.as_ref(), side)?;
+        compare_tiles(digest, frame.as_ref(), before.as_ref(), side)?;
     }
     if !frame.is_valid() {
         return Err(Fault::Input);
     }
-    work.digest.add_bytes(&frame.into_contiguous_buf().0);
+    digest.add_bytes(&frame.into_contiguous_buf().0);
     Ok(())
 }
 
 /// Composes, filters and edits frames of 1920 by 1080 pixels.
-pub(crate) fn run(work: &mut Work) -> Result<(), Fault> {
-    for _ in 0..work.size.pick(20, 1) {
-        let (width, height) = (work.size.pick(1920, 100), work.size.pick(1080, 80));
-        let count = work.size.pick(2000, 3);
-        compose(work, width, height, count)?;
+pub(crate) fn run(
+    alloc: Global,
+    size: Size,
+    numbers: &mut Numbers,
+    digest: &mut Digest,
+) -> Result<(), Fault> {
+    for _ in 0..size.pick(20, 1) {
+        let (width, height) = (size.pick(1920, 100), size.pick(1080, 80));
+        compose(alloc, numbers, digest, width, height, size.pick(2000, 3))?;
     }
-    videos(work)?;
-    pictures(work)
+    videos(alloc, size, numbers, digest)?;
+    pictures(alloc, size, numbers, digest)
 }

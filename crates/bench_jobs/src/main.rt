@@ -20,30 +20,33 @@ mod windows;
 
 use digest::Digest;
 use numbers::Numbers;
-use request::{Fault, Job, Work, read_request};
+use request::{Fault, Job, Request, read_request};
+use std::alloc::Global;
 use std::process::ExitCode;
 
 // Does one job, and adds its results to the digest.
-fn do_job(job: Job, work: &mut Work) -> Result<(), Fault> {
+fn do_job(
+    alloc: Global,
+    job: Job,
+    request: Request,
+    numbers: &mut Numbers,
+    digest: &mut Digest,
+) -> Result<(), Fault> {
     match job {
-        Job::Pixels => pixels::run(work),
-        Job::Commands => commands::run(work),
-        Job::Windows => windows::run(work),
-        Job::Turns => turns::run(work),
-        Job::Frames => frames::run(work),
-        Job::Narrow => narrow::run(work),
+        Job::Pixels => pixels::run(alloc, request.size, numbers, digest),
+        Job::Commands => commands::run(alloc, request.size, numbers, digest),
+        Job::Windows => windows::run(alloc, request.size, numbers, digest),
+        Job::Turns => turns::run(alloc, request.size, numbers, digest),
+        Job::Frames => frames::run(alloc, request.size, numbers, digest),
+        Job::Narrow => narrow::run(alloc, request.size, numbers, digest),
     }
 }
 
 // The digest of the results of the job that the words name, or of all jobs.
 fn digest_of(rt: &HostRuntime) -> Result<u64, Fault> {
     let request = read_request(rt)?;
-    let mut work = Work {
-        alloc: rt.alloc(),
-        size: request.size,
-        numbers: Numbers::new(request.seed),
-        digest: Digest::new(),
-    };
+    let mut numbers = Numbers::new(request.seed);
+    let mut digest = Digest::new();
     for job in [
         Job::Pixels,
         Job::Commands,
@@ -53,10 +56,10 @@ fn digest_of(rt: &HostRuntime) -> Result<u64, Fault> {
         Job::Narrow,
     ] {
         if request.includes(job) {
-            do_job(job, &mut work)?;
+            do_job(rt.alloc(), job, request, &mut numbers, &mut digest)?;
         }
     }
-    Ok(work.digest.value())
+    Ok(digest.value())
 }
 
 fn main(rt: HostRuntime) -> ExitCode {

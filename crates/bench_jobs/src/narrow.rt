@@ -4,8 +4,9 @@
 use crate::digest::Digest;
 use crate::numbers::Numbers;
 use crate::photos::{Pixel, add_image, photo};
-use crate::request::{Fault, Work};
+use crate::request::{Fault, Size};
 use imgref::{ImgRef, ImgVec};
+use std::alloc::Global;
 
 // Fills, copies and moves windows of an image, and mirrors it.
 fn change<T: Pixel>(
@@ -73,59 +74,68 @@ fn number_all<T: Pixel>(image: &mut ImgVec<T>, first: u64) -> Result<(), Fault> 
 // Changes, reads, compares and compacts two images of this size, and transposes one to the other's
 // turned size.
 fn go_through<T: Pixel>(
-    work: &mut Work,
+    alloc: Global,
+    numbers: &mut Numbers,
+    digest: &mut Digest,
     width: usize,
     height: usize,
     stride: usize,
 ) -> Result<(), Fault> {
-    let mut image: ImgVec<T> = photo(work.alloc, &mut work.numbers, width, height, stride)?;
-    let mut other: ImgVec<T> = photo(work.alloc, &mut work.numbers, width, height, stride.saturating_add(1))?;
-    change(&mut work.numbers, &mut image, other.as_ref())?;
-    pass(&mut work.digest, &mut image, work.numbers.next())?;
-    number_all(&mut other, work.numbers.next())?;
+    let mut image: ImgVec<T> = photo(alloc, numbers, width, height, stride)?;
+    let mut other: ImgVec<T> = photo(alloc, numbers, width, height, stride.saturating_add(1))?;
+    change(numbers, &mut image, other.as_ref())?;
+    pass(digest, &mut image, numbers.next())?;
+    number_all(&mut other, numbers.next())?;
     if !image.is_valid() || !other.is_valid() {
         return Err(Fault::Input);
     }
     if image.width() != other.width() || image.height() != other.height() {
         return Err(Fault::Input);
     }
-    work.digest.add(u64::from(image == other));
+    digest.add(u64::from(image == other));
     other.copy_from(image.as_ref());
     if !other.is_valid() {
         return Err(Fault::Input);
     }
-    work.digest.add(u64::from(image.same_pixels(other.as_ref())));
+    digest.add(u64::from(image.same_pixels(other.as_ref())));
     other.as_contiguous_buf();
-    add_image(&mut work.digest, &image);
-    add_image(&mut work.digest, &other);
+    add_image(digest, &image);
+    add_image(digest, &other);
     Ok(())
 }
 
 // Copies the rows of an image, one after the other, to a buffer of its own.
 fn join(
-    work: &mut Work,
+    alloc: Global,
+    numbers: &mut Numbers,
+    digest: &mut Digest,
     width: usize,
     height: usize,
 ) -> Result<(), Fault> {
-    let image: ImgVec<u8> = photo(work.alloc, &mut work.numbers, width, height, width.saturating_add(5))?;
-    let (buf, _, _) = image.as_ref().to_contiguous_buf(work.alloc)?;
-    work.digest.add_bytes(&buf);
+    let image: ImgVec<u8> = photo(alloc, numbers, width, height, width.saturating_add(5))?;
+    let (buf, _, _) = image.as_ref().to_contiguous_buf(alloc)?;
+    digest.add_bytes(&buf);
     Ok(())
 }
 
 /// Goes through images of 1 to 16 columns and 100,000 rows, and of rows that have no padding.
-pub(crate) fn run(work: &mut Work) -> Result<(), Fault> {
-    let height = work.size.pick(100_000, 30);
-    for _ in 0..work.size.pick(4, 1) {
+pub(crate) fn run(
+    alloc: Global,
+    size: Size,
+    numbers: &mut Numbers,
+    digest: &mut Digest,
+) -> Result<(), Fault> {
+    let height = size.pick(100_000, 30);
+    for _ in 0..size.pick(4, 1) {
         for width in 1..17 {
-            go_through::<u8>(work, width, height, width + 3)?;
-            join(work, width, height)?;
+            go_through::<u8>(alloc, numbers, digest, width, height, width + 3)?;
+            join(alloc, numbers, digest, width, height)?;
         }
         for width in [1, 3, 16] {
-            go_through::<[u8; 3]>(work, width, height, width + 1)?;
+            go_through::<[u8; 3]>(alloc, numbers, digest, width, height, width + 1)?;
         }
         for width in [1, 2, 3, 5, 8, 16] {
-            go_through::<u32>(work, width, height, width)?;
+            go_through::<u32>(alloc, numbers, digest, width, height, width)?;
         }
     }
     Ok(())

@@ -2,9 +2,10 @@
 
 ghost use Rattle.imgref.specs.Lists.{AllFit};
 
+use crate::digest::Digest;
 use crate::numbers::Numbers;
 use crate::photos::photo;
-use crate::request::{Fault, Work};
+use crate::request::{Fault, Size};
 use crate::scripts::{push_number, push_numbers, replay_text};
 use imgref::ImgVec;
 use script_text::push_images;
@@ -40,14 +41,19 @@ fn push_command(text: &mut Vec<u8>, word: &[u8], numbers: &mut Numbers) -> Resul
 }
 
 /// Writes and reads the text of images of bytes from 0 to 255.
-pub(crate) fn run(work: &mut Work) -> Result<(), Fault> {
-    for _ in 0..work.size.pick(9, 1) {
-        let script = script_of(work.alloc, &mut work.numbers, work.size.pick(1000, 30), work.size.pick(4000, 20))?;
-        let mut images = Vec::new(work.alloc);
-        let mut output = Vec::new(work.alloc);
-        replay_text(work.alloc, &script, &mut images, &mut output)?;
+pub(crate) fn run(
+    alloc: Global,
+    size: Size,
+    numbers: &mut Numbers,
+    digest: &mut Digest,
+) -> Result<(), Fault> {
+    for _ in 0..size.pick(9, 1) {
+        let script = script_of(alloc, numbers, size.pick(1000, 30), size.pick(4000, 20))?;
+        let mut images = Vec::new(alloc);
+        let mut output = Vec::new(alloc);
+        replay_text(alloc, &script, &mut images, &mut output)?;
         push_images(&mut output, &images)?;
-        work.digest.add_bytes(&output);
+        digest.add_bytes(&output);
     }
     Ok(())
 }

@@ -1,8 +1,9 @@
 //! Frames of video and pictures, edited by a plan.
 
+use crate::digest::Digest;
 use crate::numbers::Numbers;
 use crate::photos::scatter;
-use crate::request::{Fault, Size, Work};
+use crate::request::{Fault, Size};
 use crate::scripts::{push_number, push_numbers};
 use frame_formats::{Edits, Kind, Picture, Plan, PlanFault, WordsFault, read_format};
 use std::alloc::Global;
@@ -47,18 +48,20 @@ fn picture_plan(alloc: Global, picture: Picture, lines: &[u8]) -> Result<Plan, F
 
 // Edits so many frames by a plan, each with other pixels.
 fn edit_frames(
-    work: &mut Work,
+    alloc: Global,
     plan: &Plan,
     count: u64,
+    numbers: &mut Numbers,
+    digest: &mut Digest,
 ) -> Result<(), Fault> {
-    let mut cells = vec![in work.alloc; 0u8; plan.room()]?;
-    let mut other = vec![in work.alloc; 0u8; plan.other_room()]?;
+    let mut cells = vec![in alloc; 0u8; plan.room()]?;
+    let mut other = vec![in alloc; 0u8; plan.other_room()]?;
     for number in 0..count {
-        scatter(&mut cells, &mut work.numbers);
+        scatter(&mut cells, numbers);
         if cells.len() < plan.room() || other.len() < plan.other_room() {
             return Err(Fault::Input);
         }
-        work.digest.add_bytes(plan.edit(number, &mut cells, &mut other));
+        digest.add_bytes(plan.edit(number, &mut cells, &mut other));
     }
     Ok(())
 }
@@ -81,50 +84,58 @@ fn tracked(alloc: Global, numbers: &mut Numbers, count: usize) -> Result<Vec<u8>
 /// Edits frames of video in 4:2:0, by a few edits of the whole frame and by a list with a line for
 /// each frame.
 pub(crate) fn videos(
-    work: &mut Work,
+    alloc: Global,
+    size: Size,
+    numbers: &mut Numbers,
+    digest: &mut Digest,
 ) -> Result<(), Fault> {
     let small = b"YUV4MPEG2 W96 H64 F25:1 C420jpeg";
-    if work.size == Size::Small {
+    if size == Size::Small {
         let lines = b"cover 8,8,16,16\nmosaic 0,0,96,64 4,4\npad 0,6,0,6 16\n";
-        let plan = video_plan(work.alloc, small, lines)?;
-        edit_frames(work, &plan, 2)?;
+        edit_frames(alloc, &video_plan(alloc, small, lines)?, 2, numbers, digest)?;
     } else {
         let line = b"YUV4MPEG2 W1920 H1080 F25:1 C420jpeg";
         let lines = b"cover 64,48,320,160\nmosaic 0,0,1920,1080 8,8\npad 0,60,0,60 16\n";
-        let plan = video_plan(work.alloc, line, lines)?;
-        edit_frames(work, &plan, 100)?;
+        edit_frames(
+            alloc,
+            &video_plan(alloc, line, lines)?,
+            100,
+            numbers,
+            digest,
+        )?;
     }
-    let count = work.size.pick(5000, 10);
-    let lines = tracked(work.alloc, &mut work.numbers, count)?;
-    let plan = video_plan(work.alloc, small, &lines)?;
-    edit_frames(work, &plan, count as u64)
+    let count = size.pick(5000, 10);
+    let lines = tracked(alloc, numbers, count)?;
+    let plan = video_plan(alloc, small, &lines)?;
+    edit_frames(alloc, &plan, count as u64, numbers, digest)
 }
 
 /// Edits pictures in colour, and many small grey ones.
 pub(crate) fn pictures(
-    work: &mut Work,
+    alloc: Global,
+    size: Size,
+    numbers: &mut Numbers,
+    digest: &mut Digest,
 ) -> Result<(), Fault> {
     let colour = Picture {
-        width: work.size.pick(1920, 48),
-        height: work.size.pick(1080, 27),
+        width: size.pick(1920, 48),
+        height: size.pick(1080, 27),
         kind: Kind::Plain { colour: true },
         greatest: 255,
     };
-    let lines = if work.size == Size::Full {
+    let lines = if size == Size::Full {
         b"mosaic 0,0,1920,1080 12,12\ncrop 320,180,1280,720\n".as_slice()
     } else {
         b"mosaic 0,0,48,27 12,12\ncrop 8,9,32,18\n".as_slice()
     };
-    let plan = picture_plan(work.alloc, colour, lines)?;
-    let count = work.size.pick(40, 2) as u64;
-    edit_frames(work, &plan, count)?;
+    let plan = picture_plan(alloc, colour, lines)?;
+    edit_frames(alloc, &plan, size.pick(40, 2) as u64, numbers, digest)?;
     let grey = Picture {
         width: 64,
         height: 64,
         kind: Kind::Plain { colour: false },
         greatest: 255,
     };
-    let plan = picture_plan(work.alloc, grey, b"cover 8,8,24,24\nmosaic 32,32,32,32 5,5\n")?;
-    let count = work.size.pick(5000, 5) as u64;
-    edit_frames(work, &plan, count)
+    let plan = picture_plan(alloc, grey, b"cover 8,8,24,24\nmosaic 32,32,32,32 5,5\n")?;
+    edit_frames(alloc, &plan, size.pick(5000, 5) as u64, numbers, digest)
 }

@@ -1,8 +1,6 @@
 //! What the words ask for, and why a job ends early.
 
-use crate::digest::Digest;
-use crate::numbers::Numbers;
-use std::alloc::{AllocError, AllocFailed, Global};
+use std::alloc::{AllocError, AllocFailed};
 use std::env;
 
 /// A job.
@@ -58,15 +56,6 @@ impl Request {
             None => true,
         }
     }
-}
-
-/// What a job works with: the numbers that make its input, and the digest of its results.
-#[derive(Drop)]
-pub(crate) struct Work {
-    pub(crate) alloc: Global,
-    pub(crate) size: Size,
-    pub(crate) numbers: Numbers,
-    pub(crate) digest: Digest,
 }
 
 /// Why a job ends early.

@@ -3,7 +3,7 @@
 use crate::digest::Digest;
 use crate::numbers::Numbers;
 use crate::photos::{Pixel, add_image, photo};
-use crate::request::{Fault, Size, Work};
+use crate::request::{Fault, Size};
 use imgref::{ImgVec, Window};
 use imgref_replay::{Command, Place, Reply, replay_into};
 use std::alloc::Global;
@@ -138,35 +138,42 @@ fn add_reply<T: Pixel>(digest: &mut Digest, reply: Reply<T>) {
 
 // Runs so many rounds over two images of this size.
 fn replay_over<T: Pixel>(
-    work: &mut Work,
+    alloc: Global,
+    numbers: &mut Numbers,
+    digest: &mut Digest,
     outer: (usize, usize),
     stride: usize,
     rounds: usize,
 ) -> Result<(), Fault> {
-    let mut images: Vec<ImgVec<T>> = Vec::new(work.alloc);
-    images.push(photo(work.alloc, &mut work.numbers, outer.0, outer.1, stride)?)?;
-    images.push(photo(work.alloc, &mut work.numbers, outer.0, outer.1, stride)?)?;
-    let commands = commands(work.alloc, &mut work.numbers, outer, rounds)?;
-    let mut replies = Vec::new(work.alloc);
+    let mut images: Vec<ImgVec<T>> = Vec::new(alloc);
+    images.push(photo(alloc, numbers, outer.0, outer.1, stride)?)?;
+    images.push(photo(alloc, numbers, outer.0, outer.1, stride)?)?;
+    let commands = commands(alloc, numbers, outer, rounds)?;
+    let mut replies = Vec::new(alloc);
     replies.resize_with(commands.len(), || Reply::Done)?;
     replay_into(&mut images, &commands, &mut replies);
     for reply in &replies {
-        add_reply(&mut work.digest, *reply);
+        add_reply(digest, *reply);
     }
     for image in &images {
-        add_image(&mut work.digest, image);
+        add_image(digest, image);
     }
     Ok(())
 }
 
 /// Runs commands over windows of images of 1 to 12 megapixels, of bytes and of words of four bytes.
-pub(crate) fn run(work: &mut Work) -> Result<(), Fault> {
+pub(crate) fn run(
+    alloc: Global,
+    size: Size,
+    numbers: &mut Numbers,
+    digest: &mut Digest,
+) -> Result<(), Fault> {
     let small = (64, 48);
-    if work.size == Size::Small {
-        replay_over::<u8>(work, small, 70, 2)?;
-        return replay_over::<u32>(work, small, 64, 1);
+    if size == Size::Small {
+        replay_over::<u8>(alloc, numbers, digest, small, 70, 2)?;
+        return replay_over::<u32>(alloc, numbers, digest, small, 64, 1);
     }
-    replay_over::<u8>(work, (4000, 3000), 4096, 36)?;
-    replay_over::<u8>(work, (1280, 800), 1300, 130)?;
-    replay_over::<u32>(work, (1920, 1080), 1920, 36)
+    replay_over::<u8>(alloc, numbers, digest, (4000, 3000), 4096, 36)?;
+    replay_over::<u8>(alloc, numbers, digest, (1280, 800), 1300, 130)?;
+    replay_over::<u32>(alloc, numbers, digest, (1920, 1080), 1920, 36)
 }
