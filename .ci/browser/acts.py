@@ -1,5 +1,5 @@
 """The page in a browser: keys, undo, and files that reveal nothing of what is covered."""
-import frames
+import tries
 from browser import png
 from browser.models import HEIGHT, PIXELS, WIDTH, by_model
 
@@ -110,7 +110,7 @@ def check_undo(page):
 def exchanged(pixels, window):
     """Other bytes in a rectangle."""
     left, top, width, height = window
-    return frames.exchanged(pixels, 0, 3 * WIDTH, (3 * left, top, 3 * width, height))
+    return tries.exchanged(pixels, 0, 3 * WIDTH, (3 * left, top, 3 * width, height))
 
 
 def swapped(pixels, one, other):

@@ -13,7 +13,9 @@ from fractions import Fraction
 
 sys.path.insert(0, str(pathlib.Path(__file__).resolve().parents[2]))
 from checking import Cases, both_builds
-from frames import Fault, STATUS, answer, edits_of, ends, lines_said, without_note
+from edits import Fault, edits_of
+from frames import answer
+from tries import STATUS, ends, lines_said, without_note
 
 # A line that is refused, and what is said of it.
 REFUSED = (

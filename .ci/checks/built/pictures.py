@@ -14,7 +14,7 @@ import tempfile
 
 sys.path.insert(0, str(pathlib.Path(__file__).resolve().parents[2]))
 from checking import Cases, both_builds
-from frames import count_tries, ends, exchanged, lines_said
+from tries import count_tries, ends, exchanged, lines_said
 
 # Flips, half turns and quarter turns by netpbm.
 FLIPS = (("flip rows", "pamflip -topbottom"), ("flip columns", "pamflip -leftright"), ("turn half", "pamflip -rotate180"))

@@ -11,7 +11,7 @@ import tempfile
 
 sys.path.insert(0, str(pathlib.Path(__file__).resolve().parents[2]))
 from checking import Cases, both_builds
-from frames import count_tries, ends, lines_said, wanted
+from tries import count_tries, ends, lines_said, wanted
 
 # The rates are even, odd, not whole, slow and fast.
 RATES = ("25:1", "30000:1001", "24000:1001", "60:1", "1:1", "1:10", "7:3", "4294967295:4294967294", "1000:1")

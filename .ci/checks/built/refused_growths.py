@@ -19,6 +19,7 @@ import tempfile
 
 sys.path.insert(0, str(pathlib.Path(__file__).resolve().parents[2]))
 import frames
+from edits import edits_of
 import model
 from checking import ROOT, Cases, both_builds, built, crates, preloaded, says
 
@@ -100,9 +101,9 @@ def main():
         video = pathlib.Path(room, "video")
         video.write_bytes(VIDEO)
         for label, words, edits in [*((it, it.split(), it) for it in EDITS), ("a file of edits", ["--edits", listed], EDITS[-1]), ("an input by its name", ["-i", video, *EDITS[0].split()], EDITS[0])]:
-            tries.append(("imgref_frames", words, label, VIDEO, ({b"": b"fault memory 0\n"}, 3), (frames.answer(VIDEO, frames.edits_of(edits.split())), 0), 0))
+            tries.append(("imgref_frames", words, label, VIDEO, ({b"": b"fault memory 0\n"}, 3), (frames.answer(VIDEO, edits_of(edits.split())), 0), 0))
         for words in PICTURE_EDITS:
-            first, both = (frames.answer(it, frames.edits_of(words.split())) for it in (PICTURES[0], b"".join(PICTURES)))
+            first, both = (frames.answer(it, edits_of(words.split())) for it in (PICTURES[0], b"".join(PICTURES)))
             tries.append(("imgref_frames", words.split(), f"pictures, {words}", b"".join(PICTURES), ({b"": b"fault memory 0\n", first: b"fault memory 1\n"}, 3), (both, 0), 0))
         for name in ("imgref_run", "imgref_frames"):
             for program in both_builds(cases, name):

@@ -49,13 +49,7 @@ fn strip_width<T>(cells: &[T], side: usize, stride: usize) -> usize
 
 // The block becomes the 16 by 16 pixels from column `left` of row `top` on, transposed.
 #[inline(always)]
-fn read_across<T: Copy>(
-    block: &mut [T],
-    cells: &[T],
-    shape: Shape,
-    left: usize,
-    top: usize,
-)
+fn read_across<T: Copy>(block: &mut [T], cells: &[T], shape: Shape, left: usize, top: usize)
     requires many { length block.old ≡ 256 }
     requires fits { Fits (shaped cells.now shape) }
     requires column { left + 16 ≤ shape_width shape }
@@ -72,13 +66,7 @@ fn read_across<T: Copy>(
 // The 16 by 16 pixels from column `left` of row `top` on become those of the block; every other
 // cell stays.
 #[inline(always)]
-fn write_block<T: Copy>(
-    cells: &mut [T],
-    shape: Shape,
-    left: usize,
-    top: usize,
-    block: &[T],
-)
+fn write_block<T: Copy>(cells: &mut [T], shape: Shape, left: usize, top: usize, block: &[T])
     requires many { length block.now ≡ 256 }
     requires fits { Fits (shaped cells.old shape) }
     requires column { left + 16 ≤ shape_width shape }

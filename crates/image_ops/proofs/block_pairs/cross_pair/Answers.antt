@@ -19,8 +19,8 @@ returns-clause-crossed g c =
     let lower = ap transposed (c.copy_block-lower_shape.ensures.grid ∙ ap (window_view (shaped_grid a.cells.now s)) c.new-across.ensures) in
     record {
       grid =
-        c.write_across-2.ensures.grid
-        ∙ (λ i. patch ((c.write_across.ensures.grid ∙ (λ j. patch (shaped_grid a.cells.now s) (c.new-across.ensures j).left (c.new-across.ensures j).top (upper j))) i) w.left w.top (lower i))
-        ∙ both_crossed s.width s.height (pixel (shaped a.cells.now s)) w.left w.top w.width w.height;
+          c.write_across-2.ensures.grid
+          ∙ (λ i. patch ((c.write_across.ensures.grid ∙ (λ j. patch (shaped_grid a.cells.now s) (c.new-across.ensures j).left (c.new-across.ensures j).top (upper j))) i) w.left w.top (lower i))
+          ∙ both_crossed s.width s.height (pixel (shaped a.cells.now s)) w.left w.top w.width w.height;
       outside = outside_trans _ _ _ c.write_across.ensures.outside c.write_across-2.ensures.outside;
     }

@@ -17,8 +17,8 @@ returns g c =
     let lower = ap block_grid c.as_slice-2.ensures ∙ c.read_across-2.ensures.grid in
     record {
       grid =
-        c.write_block-2.ensures.grid
-        ∙ (λ i. patch ((c.write_block.ensures.grid ∙ ap (patch (grid_of (shaped a.cells.now s)) a.top a.left) upper) i) a.left a.top (lower i))
-        ∙ both_crossed s.width s.height (pixel (shaped a.cells.now s)) a.left a.top 16 16;
+          c.write_block-2.ensures.grid
+          ∙ (λ i. patch ((c.write_block.ensures.grid ∙ ap (patch (grid_of (shaped a.cells.now s)) a.top a.left) upper) i) a.left a.top (lower i))
+          ∙ both_crossed s.width s.height (pixel (shaped a.cells.now s)) a.left a.top 16 16;
       outside = outside_trans _ _ _ c.write_block.ensures.outside c.write_block-2.ensures.outside;
     }

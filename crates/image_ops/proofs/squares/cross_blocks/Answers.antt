@@ -15,7 +15,7 @@ returns g c =
     let all : c.loop-from.from ≡ c.args.blocks = omega (arith, c.loop-from-test.false, c.loop-from.invariant.1) in
     record {
       grid =
-        all_pairs c.args.shape c.args.cells.now c.loop-from.cells c.loop-from.from c.loop-from.invariant.0
-        ∙ ap (λ n. corner_crossed (16 * n) (shaped_grid c.args.cells.now c.args.shape)) all;
+          all_pairs c.args.shape c.args.cells.now c.loop-from.cells c.loop-from.from c.loop-from.invariant.0
+          ∙ ap (λ n. corner_crossed (16 * n) (shaped_grid c.args.cells.now c.args.shape)) all;
       outside = c.loop-from.invariant.0.outside;
     }

@@ -1,0 +1,216 @@
+#!/usr/bin/env python3
+"""Shows what imgref_frames says of its words, its options and its files, and with which status it ends. Both builds are run."""
+import os
+import pathlib
+import subprocess
+import sys
+import tempfile
+
+sys.path.insert(0, str(pathlib.Path(__file__).resolve().parents[2]))
+from checking import Cases, both_builds
+from c_library import VERSION
+from tries import FILL, ends, lines_said, video, wanted
+
+# Three edits with ranges, and a crop.
+LIST = "0..2 mosaic 2,2,8,6 4,2 1..3 fill 4,2,2,2 7 crop 2,2,8,6"
+# A file of edits, and the status that it gives.
+EDIT_FILES = (
+    ("", 1), ("\n\n", 1), (" \n", 1), ("# fill 0,0,2,2 9\n", 1), ("fill 0,0,2,2 # 9\n", 1), ("fill 0,0,2,2\v9", 1), ("fill 0,0,2,2\n9", 1), ("fill 0,0,2,2 9 fill 0,0,2,2 9", 1),
+    ("fill 0,0,2,2 9\n3..3 fill 0,0,2,2 9\n", 1), ("crop 0,0,2,2\nfill 0,0,2,2 9", 1), ("fill\r0,0,2,2 9\n", 1), ("\rfill 0,0,2,2 9\n", 1), ("fill 0,0,2,2 9\r\r\n", 1), ("fill 0,0,2,2 9\r#", 1),
+    ("\n\nfill 0,0,2,2 9\n\n", 0), ("crop 0,0,2,2\n", 0), ("fill  0,0,2,2 9", 0), (" \tfill\t0,0,2,2 9 \t\r\n", 0), ("fill 0,0,2,2 9#a face", 0), ("#\r\ncover 0,0,2,2 #16\r\n\t \r\n# end", 0), ("# a\rb\r\nfill 0,0,2,2 9\r", 0),
+)  # fmt: skip  # fmt: skip
+
+# Words, an input, and a part of a line that is printed after the fault.
+REASONS = (
+    ("fill 0,0,2,2 9 fill 1,0,2,2 9", "420", "edit 2: column 1 is no multiple of 2"),
+    ("fill 0,1,2,2 9", "420", "edit 1: row 1 is no multiple of 2"),
+    ("fill 0,0,3,2 9", "422", "edit 1: width 3 is no multiple of 2"),
+    ("fill 0,0,2,10 9", "444", "edit 1: it reaches outside the frame"),
+    ("fill 0,0,2,10 9", "444", "the frame has 12 by 8 pixels"),
+    ("mosaic 0,0,4,4 3,2", "420", "edit 1: tile width 3 is no multiple of 2"),
+    ("mosaic 0,0,4,4 0,2", "mono", "edit 1: its size is 0"),
+    ("fill 0,0,4,4 256", "444", "edit 1: value 256 is above 255"),
+    ("fill 0,0,4,4 1024", "420p10", "edit 1: value 1024 is above 1023"),
+    ("pad 0,0,4,4 512", "mono9", "the crop or pad: value 512 is above 511"),
+    ("fill 0,0,4,4 1,2,3", "444", "edit 1: a colour is only for pictures in colour"),
+    ("means 0,0,4,4 2,2", "444p10", "edit 1: means are only for samples of one byte"),
+    ("means 0,0,4,4 3,2", "420", "edit 1: tile width 3 is no multiple of 2"),
+    ("means 0,0,4,4 16", "420", "at word 1: means needs the size of its tiles TW,TH, and 16 isn't one"),
+    ("move 0,0,4,4 10,0", "420", "edit 1: it reaches outside the frame"),
+    ("flip 0,0,2,2 9", "420", "at word 1: flip needs rows or columns, and 0,0,2,2 isn't that"),
+    ("flip", "420", "at word 1: flip needs rows or columns"),
+    ("turn back", "420", "at word 1: turn needs right, half or left, and back isn't that"),
+    ("1.. turn right", "420", "at word 1: turn right and turn left take no range"),
+    ("turn left flip rows", "420", "at word 3: no edit may come after a crop or a pad, nor after a quarter turn"),
+    ("turn right", "422", "the turn: 2 by 1 pixels share a chroma sample, and 1 by 2 would after the turn"),
+    ("turn left", "411", "the turn: 4 by 1 pixels share a chroma sample"),
+    ("crop 0,0,3,4", "420", "the crop or pad: width 3 is no multiple of 2"),
+    ("pad 1,0,0,0 9", "420", "the crop or pad: left side 1 is no multiple of 2"),
+    ("fill 0,0,2,2 9 fil 0,0,2,2 9", "mono", "at word 4: fil isn't one of cover, fill"),
+    ("fill 8,8,16,16", "mono", "at word 1: fill needs a brightness V, or a colour R,G,B after a rectangle L,T,W,H"),
+    ("fill 0,0,1 9", "mono", "at word 1: fill needs a rectangle L,T,W,H, and 0,0,1 isn't one"),
+    ("1.. mosaic 0,0,4,4 3", "mono", "at word 1: mosaic needs the size of its tiles TW,TH, and 3 isn't one"),
+    ("cover 0,0,2,2++1", "mono", "at word 1: cover needs a rectangle L,T,W,H, or one with a margin L,T,W,H+M, and 0,0,2,2++1 isn't one"),
+    ("fill 0,0,2,2 9 move", "mono", "at word 4: move needs a rectangle L,T,W,H"),
+    ("crop 0,0,2,2 fill 0,0,2,2 9", "mono", "at word 3: no edit may come after a crop or a pad"),
+    ("1..2 crop 0,0,2,2", "mono", "at word 1: crop takes no range"),
+    ("1...2 fill 0,0,2,2 9", "mono", "at word 1: 1...2 is no range"),
+    ("fill 0,0,2,2 9 1..2", "mono", "at word 4: no edit comes after the range"),
+    ("5..5 fill 0,0,2,2 9", "mono", "edit 1: its range has no frame"),
+    ("--edits /nowhere", "mono", "the edits file can't be read"),
+    ("--limit 100 fill 0,0,2,2 9", "444", "more than 100 bytes"),
+)
+
+
+def by_words(cases, program):
+    for words in ("", "fill", "fill 1,2,3,4", "blur 0,0,1,1 2", "fill 0,0,1,1 1,2", "fill 0,0,1,1 1,2,3,4", "pad 0,0,1,1 1,2,3", "fill 0,0,01,1 2", "fill 0,0,1 2", "mosaic 0,0,1,1 2", "crop 0,0,1,1 2", "crop 0,0,2,2 fill 0,0,2,2 9", "pad 0,0,2,2", "pad 0,0,2,2 9 crop 0,0,2,2", "1..2 pad 0,0,2,2 9", "1..2 crop 0,0,2,2", "1.2 fill 0,0,2,2 9", "cover 0,0,2,2+", "cover 0,0,2,2+ 9", "cover 0,0,2,2+1+1", "cover 0,0,2,2++1", "cover 0,0,2,2+01", "cover 0,0,2,2+-1", "cover 0,0,2,2+18446744073709551616", "cover 0,0,2+1,2", "cover +1", "cover 0,0,2,2 +1", "fill 0,0,2,2+1 9", "mosaic 0,0,2,2+1 2,2", "crop 0,0,2,2+1", "2..1 fill 0,0,4,4 9", "0..0 fill 0,0,4,4 9", "fill 0,0,2,2 9 5..5 move 0,0,2,2 2,2", "--edits /nowhere", "--edits", "--strict", "--limit", "--limit x fill 0,0,2,2 9", "--loud fill 0,0,2,2 9", "--edits /dev/null fill 0,0,2,2 9"):
+        said = ends(program, words.split(), video("mono"))
+        cases.count(f"words '{words}' are refused", said == (b"", "fault words", 1), str(said))
+    for before in ("flip rows", "flip columns", "turn half"):
+        said = lines_said(program, f"{before} {FILL}".split(), video("mono"))
+        cases.count(f"{before} before a fill is no move", said == [""], str(said))
+    with tempfile.NamedTemporaryFile("w", suffix=".edits") as listed:
+        listed.write(LIST.replace(" 1..3", "\n1..3").replace(" crop", "\ncrop") + "\n")
+        listed.flush()
+        cases.count("a file of edits is the same as its words", ends(program, ["--edits", listed.name], video("420")) == wanted(video("420"), LIST.split()))
+        listed.seek(0)
+        listed.write("# faces\r\n\t" + LIST.replace(" 1..3", "  \r\n \t# fill 0,0,2,2 9\n1..3").replace(" fill ", " \tfill  ").replace(" crop", "# one\n\r\ncrop") + " \t#last")
+        listed.flush()
+        cases.count("comments and white space of a file of edits change nothing", ends(program, ["--edits", listed.name], video("420")) == wanted(video("420"), LIST.split()))
+        for text, status in EDIT_FILES:
+            listed.seek(0)
+            listed.truncate()
+            listed.write(text)
+            listed.flush()
+            said = ends(program, ["--edits", listed.name], video("mono"))
+            cases.count(f"a file {text!r} of edits ends with status {status}", said[2] == status and (status == 0 or said[:2] == (b"", "fault words")), str(said))
+    for words, noted in (("means 0,0,2,2 2,2 fill 0,0,2,2 9", True), ("means 0,0,2,2 2,2 mosaic 0,0,2,2 1,1", True), ("means 0,0,2,2 2,2 means 4,4,2,2 2,2", False), ("cover 0,0,2,2 means 0,0,2,2 2,2", False), ("move 0,0,2,2 2,2 means 0,0,2,2 2,2", True)):
+        said = ends(program, words.split(), video("mono"))
+        cases.count(f"'{words}' is{'' if noted else ' not'} noted", said[1].startswith("note: ") == noted and said[2] == 0, str(said[1:]))
+    said = ends(program, "move 0,0,2,2 2,2 fill 0,0,2,2 9".split(), video("mono"))
+    cases.count("a move before a fill is noted", said[1].startswith("note: ") and said[2] == 0, str(said))
+    for word in ("--help", "-h"):
+        said = ends(program, [word], b"")
+        cases.count(f"{word} prints the help", said[0].startswith(b"usage: ") and said[2] == 0, str(said))
+    said = ends(program, ["--version"], b"")
+    cases.count("the version is printed", said == (f"imgref_frames {VERSION}\n".encode(), "", 0), str(said))
+    for name, shell, status in (("a closed output", f'"{program}" {FILL} >&-', 5), ("a full output", f'"{program}" {FILL} > /dev/full', 5), ("an input that can't be read", f'"{program}" {FILL} < /', 4)):
+        done = subprocess.run(["sh", "-c", shell], input=video("mono"), capture_output=True, timeout=120)
+        cases.count(f"{name} ends with status {status}", done.returncode == status, str(done))
+
+
+def by_options(cases, program):
+    """Ranges that the input doesn't reach, the limit of memory, and why a fault came."""
+    edits = "fill 0,0,2,2 9 3..5 fill 0,0,4,4 9"
+    out = ends(program, ["fill", "0,0,2,2", "9"], video("420"))[0]
+    lines = lines_said(program, edits.split(), video("420"))
+    cases.count("a range that isn't reached is noted", lines == ["note: edit 2: the input has 3 frames, and ends before its range 3..5", ""], str(lines))
+    lines = lines_said(program, "5.. fill 0,0,2,2 9".split(), video("420"))
+    cases.count("a range without an end is noted as one", lines == ["note: edit 1: the input has 3 frames, and ends before its range 5..", ""], str(lines))
+    cases.count("a range from 0 on is reached by no frame", ends(program, "--strict 0.. fill 0,0,2,2 9".split(), video("420", frames=0))[1:] == ("", 0))
+    cases.count("a range that isn't reached is a fault where asked", ends(program, ["--strict", *edits.split()], video("420")) == (out, "fault range", 8))
+    cases.count("a range that is reached is no fault", ends(program, ["--strict", *edits.replace("3..", "2..").split()], video("420"))[1:] == ("", 0))
+    size = 12 * 8 * 3 // 2
+    cases.count("the limit is enough", ends(program, ["--limit", str(size), "fill", "0,0,2,2", "9"], video("420")) == (out, "", 0))
+    cases.count("a byte less is out of memory", ends(program, ["--limit", str(size - 1), "fill", "0,0,2,2", "9"], video("420")) == (b"", "fault memory 0", 3))
+    large = b"YUV4MPEG2 W32768 H32768 C444\nFRAME\n"
+    cases.count("a large frame is out of memory without asking for it", ends(program, ["fill", "0,0,2,2", "9"], large) == (b"", "fault memory 0", 3))
+    for words, sampling, reason in REASONS:
+        lines = lines_said(program, words.split(), video(sampling))
+        cases.count(f"'{words}' says why", any(reason in it for it in lines[1:]), str(lines[:4]))
+    with tempfile.NamedTemporaryFile("w", suffix=".edits") as listed:
+        for text, reason in (("fill 0,0,2,2 9\n\n2..2 fill 0,0,2,2 9\n", "line 3: its range has no frame"), ("# a\r\n\r\nfill 0,0,2,2 9\r\n\t2..2  fill 0,0,2,2 9", "line 4: its range has no frame"), ("fill 0,0,2,2 9 # b\n# c\nfil 0,0,2,2 9\n", "at line 3: fil isn't one of"), ("\nfill 0,0,2,2 9 9\n", "at line 2: a line has one edit, and 9 comes after it"), ("#\nfill 0,0,2,2 9\n\nfill 0,0,20,2 9", "line 4: it reaches outside")):
+            listed.seek(0)
+            listed.truncate()
+            listed.write(text)
+            listed.flush()
+            lines = lines_said(program, ["--edits", listed.name], video("mono"))
+            cases.count(f"'{reason}' of a file of edits", any(reason in it for it in lines), str(lines[:4]))
+        listed.seek(0)
+        listed.truncate()
+        listed.write("# late\n9..12 fill 0,0,2,2 9\nfill 0,0,2,2 9\n\n3.. fill 0,0,2,2 9")
+        listed.flush()
+        lines = lines_said(program, ["--edits", listed.name], video("mono"))
+        cases.count("lines whose ranges aren't reached are noted", [it.split(":")[:2] for it in lines[:-1]] == [["note", " line 2"], ["note", " line 5"]], str(lines))
+
+
+def by_files(cases, program):
+    """The input and the output as files: an output has its name only where it is whole."""
+    made, (out, _, _), words = video("420"), wanted(video("420"), FILL.split()), FILL.split()
+    with tempfile.TemporaryDirectory() as folder:
+        given, taken, other = (pathlib.Path(folder, it) for it in ("in.y4m", "out.y4m", "edits"))
+        given.write_bytes(made)
+        cases.count("an input by its name", ends(program, ["-i", given, *words], b"") == (out, "", 0))
+        said = ends(program, ["-i", given, "-o", taken, *words], b"")
+        cases.count("an input and an output by their names", said == (b"", "", 0) and taken.read_bytes() == out, str(said))
+        taken.write_bytes(b"old")
+        taken.chmod(0o640)
+        said = ends(program, ["-o", taken, *words], made)
+        cases.count("an output replaces a file, and keeps its permissions", said == (b"", "", 0) and taken.read_bytes() == out and taken.stat().st_mode & 0o777 == 0o640, str(said))
+        taken.write_bytes(made)
+        said = ends(program, ["-i", taken, "-o", taken, *words], b"")
+        cases.count("an output may be the input", said == (b"", "", 0) and taken.read_bytes() == out, str(said))
+        other.write_text("# from a pipe\n" + FILL)
+        said = ends(program, ["--edits", "-", "-i", given], other.read_bytes())
+        cases.count("edits from standard input", said == (out, "", 0), str(said))
+        said = lines_said(program, ["--edits", "-"], other.read_bytes())
+        cases.count("edits and video from standard input are refused", said[0] == "fault words" and "-i has to name the input" in said[1], str(said[:2]))
+        pathlib.Path(f"{taken}.0.part").write_bytes(b"mine")
+        said = ends(program, ["-o", taken, *words], made)
+        cases.count("a file beside the output stays", said == (b"", "", 0) and taken.read_bytes() == out and pathlib.Path(f"{taken}.0.part").read_bytes() == b"mine", str(said))
+        pathlib.Path(f"{taken}.0.part").unlink()
+        there = sorted(pathlib.Path(folder).iterdir())
+        for name, options, data, fault in (
+            ("a cut frame", [], made[:-1], "frame 2"), ("no video", [], b"RIFF", "header"), ("an edit outside", [], video("420", 4, 4), "outside"), ("the limit", ["--limit", "9"], made, "memory 0"),
+            ("an input that isn't there", ["-i", f"{folder}/none"], b"", "input"), ("a range that isn't reached", ["--strict", "9..10"], made, "range"), ("a cover that covers nothing", ["--strict", "cover", "99,0,2,2"], made, "cover"),
+        ):  # fmt: skip
+            taken.write_bytes(b"old")
+            strict = options[:1] == ["--strict"]
+            said = ends(program, [*(options[:1] if strict else options), "-o", taken, *(options[1:] if strict else []), *words], data)
+            cases.count(f"{name} leaves the output as it was", said[:2] == (b"", f"fault {fault}") and taken.read_bytes() == b"old" and sorted(pathlib.Path(folder).iterdir()) == there, str(said))
+            taken.unlink()
+            said = ends(program, [*(options[:1] if strict else options), "-o", taken, *(options[1:] if strict else []), *words], data)
+            cases.count(f"{name} leaves no output", said[:2] == (b"", f"fault {fault}") and not taken.exists(), str(said))
+        for name in (f"{folder}/none/out", folder, "/dev/null", "/dev/full"):
+            cases.count(f"{name if name[:5] == '/dev/' else 'a folder or none'} is no output", ends(program, ["-o", name, *words], made) == (b"", "fault output", 5))
+        said = ends(program, ["-i", "-", "-o", "-", *words], made)
+        cases.count("- is standard input and output", said == (out, "", 0) and not pathlib.Path(folder, "-").exists(), str(said))
+        said = lines_said(program, ["--edits", "-", "-i", "-"], other.read_bytes())
+        cases.count("and can't be the edits too", said[0] == "fault words" and "-i has to name the input" in said[1], str(said[:2]))
+        before = len(os.listdir(folder))
+        for name in ("x" * 250, "x" * 255, "y" + "\u00e4" * 127):
+            long = pathlib.Path(folder, name)
+            said = ends(program, ["-o", long, *words], made)
+            cases.count(f"an output with a name of {len(name.encode())} bytes", said == (b"", "", 0) and long.read_bytes() == out and len(os.listdir(folder)) == before + 1, str(said))
+            long.unlink(missing_ok=True)
+        link, far = pathlib.Path(folder, "link"), pathlib.Path(folder, "far")
+        far.mkdir()
+        pathlib.Path(far, "target").write_bytes(b"old")
+        link.symlink_to("far/target")
+        said = ends(program, ["-o", link, *words], made)
+        cases.count("a symbolic link stays, and its target is replaced", said == (b"", "", 0) and link.is_symlink() and pathlib.Path(far, "target").read_bytes() == out and os.listdir(far) == ["target"], str(said))
+        link.unlink()
+        link.symlink_to("none/target")
+        cases.count("a link to nothing is no output", ends(program, ["-o", link, *words], made) == (b"", "fault output", 5) and link.is_symlink())
+        said = subprocess.run([program, "-o", os.fsencode(folder) + b"/\xff", *words], input=made, capture_output=True, timeout=120)
+        cases.count("a word that isn't UTF-8 is named as such", said.returncode == 1 and said.stderr.startswith(b"fault words\na word isn't UTF-8"), str(said.stderr[:80]))
+        taken.write_bytes(b"old")
+        with subprocess.Popen([program, "-o", taken, *words], stdin=subprocess.PIPE, stderr=subprocess.DEVNULL) as it:
+            it.stdin.write(made[:-1])
+            it.stdin.flush()
+            it.kill()
+            it.wait(timeout=60)
+        cases.count("a run that is killed leaves the output as it was", taken.read_bytes() == b"old")
+
+
+def main():
+    cases = Cases()
+    for program in both_builds(cases, "imgref_frames"):
+        by_words(cases, str(program))
+        by_options(cases, str(program))
+        by_files(cases, str(program))
+    return cases.end()
+
+
+if __name__ == "__main__":
+    sys.exit(main())

@@ -1,0 +1,65 @@
+"""imgref_frames beside its model (frames.py), and small videos to try it with."""
+import random
+import re
+import subprocess
+
+from edits import Fault, edits_of
+from frames import answer
+
+STATUS = {"words": 1, "header": 2, "memory": 3, "input": 4, "output": 5, "outside": 6, "frame": 7, "range": 8}
+SAMPLINGS = ("mono", "420jpeg", "420", "422", "411", "444", "444alpha", "420p10", "422p12", "444p16", "mono9", "mono14")
+FILL = "fill 4,2,6,4 126"
+
+
+def video(sampling, width=12, height=8, frames=3, parameters=(b"",), fields=b"Ip"):
+    """A small video with pixels by chance, the same in each run. The frames have these parameters in turn."""
+    chance = random.Random(f"{sampling} {width} {height}")
+    deep = re.fullmatch("(mono|420|422|444)p?(9|1[0246])", sampling)
+    name, sample = (deep[1], 2) if deep else (sampling, 1)
+    chroma = {"mono": 0, "411": 2 * (-(-width // 4)) * height, "422": 2 * (-(-width // 2)) * height, "444": 2 * width * height, "444alpha": 3 * width * height}.get(name, 2 * (-(-width // 2)) * (-(-height // 2)))
+    line = f"YUV4MPEG2 W{width} H{height} F25:1 ".encode() + fields + f" A1:1 C{sampling} XLABEL=a\n".encode()
+    return line + b"".join(b"FRAME" + parameters[it % len(parameters)] + b"\n" + chance.randbytes(sample * (width * height + chroma)) for it in range(frames))
+
+
+def lines_said(program, words, data):
+    """All lines that the program writes to standard error."""
+    return subprocess.run([program, *words], input=data, capture_output=True, timeout=120).stderr.decode().split("\n")
+
+
+def ends(program, words, data):
+    """What the program writes, what it says, and its status."""
+    done = subprocess.run([program, *words], input=data, capture_output=True, timeout=120)
+    return done.stdout, done.stderr.decode().split("\n")[0], done.returncode
+
+
+def wanted(data, words):
+    """The same by the model."""
+    try:
+        return answer(data, edits_of(words)), "", 0
+    except Fault as fault:
+        return fault.written, f"fault {fault.name}", STATUS[fault.name.split()[0]]
+
+
+def without_note(out, said, status):
+    """The same without a note, which is no fault."""
+    return out, "" if status == 0 and said.startswith("note: ") else said, status
+
+
+def differing(program, tries):
+    """Those tries of words and bytes at which the program differs from the model."""
+    return [f"{' '.join(words)} on {data[:60]!r}.." for words, data in tries if without_note(*ends(program, words, data)) != wanted(data, words)]
+
+
+def exchanged(data, start, row, window):
+    """Other bytes in a window of a plane whose rows have so many bytes, the first of which is at `start`."""
+    out, (left, top, width, height) = bytearray(data), window
+    for y in range(top, top + height):
+        for at in range(start + y * row + left, start + y * row + left + width):
+            out[at] ^= 0x55
+    return bytes(out)
+
+
+def count_tries(cases, label, program, tries):
+    """One case: at each of these tries the program is as the model."""
+    wrong = differing(program, tries)
+    cases.count(label, not wrong, "\n".join(wrong))
