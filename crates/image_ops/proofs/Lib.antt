@@ -29,7 +29,7 @@ pub mod QuarterBlocks
 pub mod PlacesCrossed
 pub mod SquareBlocks
 pub mod BlockPairs
-pub mod PixelPairs
+pub mod PixelSquares
 pub mod BlockSpreading
 pub mod CountedUpto
 pub mod Windowed

@@ -17,6 +17,7 @@ use Rattle.image_shape.specs.declared.shape.Shape.{Shape}
 use Rattle.image_ops.specs.Oriented.{source_column, source_row, oriented_width, oriented_height, oriented, source_cell}
 use Rattle.image_ops.specs.declared.pixel_turning.Orientation.{Orientation}
 use Rattle.image_ops.specs.declared.pixel_turning.Orientation.TheVariants.{Transposed, Right, Half, Left}
+use Rattle.image_ops.specs.Written.{Becomes}
 use Rattle.image_ops.proofs.Crossing.{GatheredTo}
 
 -- ---- places
@@ -189,3 +190,17 @@ module _ {T : Type 0} (q : Grid T) (s : Shape) where
         same_grids s.width s.height (pixel (shaped now s)) f (λ x y in_x in_y.
         sym (pixel_at (shaped now s) x y in_x in_y) ∙ so.each x y (omega (arith, in_x, all (omega (arith, in_y)))) in_x in_y ∙ ap (λ g. g.pixel x y) is_q ∙ at_place s.width s.height f x y in_x in_y)
         ∙ sym is_q
+
+-- so all pixels become those of the source's places
+pub all_strips : {T : Type 0} (size : ℕ) (some : 0 < size) (o : Orientation) (l : Layout T) (columns : ℕ) (wide : l.width ≡ columns * size) (s : Shape) → s.width ≡ oriented_width o columns l.height * size → s.height ≡ oriented_height o columns l.height
+    → (old now : List T) (left : ℕ) → ColumnsDone (oriented size o (grid_of l)) old now s left → (0 < s.height → s.width ≤ left) → Becomes s old now (oriented size o (grid_of l))
+unfolding grid_of
+all_strips {T} size some o l columns wide s is_width is_height old now left so all =
+    let are = columns_are size some o l columns wide in
+    let width : oriented_width o (l.width / size) l.height * size ≡ s.width = ap (λ n. oriented_width o n l.height * size) are ∙ sym is_width in
+    let height : oriented_height o (l.width / size) l.height ≡ s.height = ap (λ n. oriented_height o n l.height) are ∙ sym is_height in
+    let f : ℕ → ℕ → Option T = λ x y. (grid_of l).pixel (source_column o (l.width / size) (x / size) y * size + x % size) (source_row o l.height (x / size) y) in
+    record {
+      grid = all_columns (oriented size o (grid_of l)) s old now left so all f (λ i. grid (width i) (height i) f);
+      outside = so.outside;
+    }

@@ -1,20 +1,22 @@
-//! Squares that are transposed in place by pairs of blocks, which are copied first.
+//! Squares that are transposed in place by pairs of blocks, which are copied first. A pixel is `N` cells
+//! next to one another in a row, and moves whole.
 //!
 //! A block and the one across the diagonal are read whole, row after row. So the processor waits for
 //! many lines of the cache at once, and none is read again for its other pixels. Then each is written
 //! from the copy of the other. A copy has a stride that the compiler knows.
 
-ghost use Rattle.std.specs.Prelude.{◌≡◌, ◌*◌, ◌<◌, ◌≤◌, length};
+ghost use Rattle.std.specs.Prelude.{◌≡◌, ◌+◌, ◌*◌, ◌<◌, ◌≤◌, length};
 ghost use Rattle.image_model.specs.Grid.{patch};
 ghost use Rattle.image_model.specs.Layout.{Fits};
-ghost use Rattle.image_model.specs.Turns.{transposed};
 ghost use Rattle.image_model.specs.Windows.{window_view, IsInside};
-ghost use Rattle.image_shape.specs.Shape.{shape_width, shape_height, shape_stride, shaped_grid, shaped};
+ghost use Rattle.image_shape.specs.Shape.{shape_width, shape_height, shaped_grid, shaped};
 ghost use Rattle.image_shape.specs.Window.{as_window};
-ghost use Rattle.image_ops.specs.Blocks.{crossed_at};
-ghost use Rattle.image_ops.specs.Written.{Becomes, IsSquare};
+ghost use Rattle.image_ops.specs.Blocks.{pixels_crossed_at};
+ghost use Rattle.image_ops.specs.Oriented.{oriented};
+ghost use Rattle.image_ops.specs.Written.{AreBlocks, Becomes, IsPixelSquare};
 
 use crate::blocks::read_rows;
+use crate::pixel_turning::{Orientation, orient_rows};
 use crate::turning::{Quarter, quarter_rows};
 use crate::windows::{exact_part, padded_part};
 use image_shape::{Shape, Window};
@@ -47,70 +49,93 @@ pub(crate) fn copy_block<T: Copy, const WIDTH: usize, const HEIGHT: usize>(
     near
 }
 
-// The window gets the pixels of the block, transposed; every other cell stays.
+// The window of cells gets the pixels of the block, transposed; every other cell stays.
 #[inline(always)]
-fn write_across<T: Copy>(
+fn write_across<T: Copy, const N: usize>(
     cells: &mut [T],
     shape: Shape,
     window: Window,
     block: &[T],
     block_shape: Shape,
 )
+    requires some { 0 < N }
     requires fits { Fits (shaped cells.old shape) }
     requires inside { IsInside (shape_width shape) (shape_height shape) (as_window window) }
     requires block_fits { Fits (shaped block.now block_shape) }
-    requires columns { window.width ≡ shape_height block_shape }
-    requires lines { window.height ≡ shape_width block_shape }
+    requires columns { window.width ≡ shape_height block_shape * N }
+    requires lines { shape_width block_shape ≡ window.height * N }
     ensures { Becomes shape cells.old cells.new (patch (shaped_grid cells.old shape)
-        window.left window.top (transposed (shaped_grid block.now block_shape))) }
+        window.left window.top (oriented N Orientation.Transposed (shaped_grid block.now block_shape))) }
 {
     let (part, inner) = exact_part(cells.len(), shape, window);
-    quarter_rows(&mut cells[part], inner, block, block_shape, Quarter::Across);
+    let count = block_shape.height();
+    // Of cells of four bytes the compiler makes vector code here alone.
+    if N == 1 {
+        quarter_rows(&mut cells[part], inner, block, block_shape, Quarter::Across);
+        return;
+    }
+    orient_rows::<T, N>(
+        &mut cells[part],
+        inner,
+        0,
+        count,
+        block,
+        block_shape,
+        window.height,
+        Orientation::Transposed,
+    );
 }
 
-// The pixels of the window change places with those across the diagonal. Both are copied before one
-// is written: so they may be the same. What is in the blocks doesn't matter.
+// The pixels of the window change places with those across the diagonal. The window is counted in
+// pixels. Both blocks are copied before one is written: so they may be the same. What is in them
+// doesn't matter.
 #[inline(always)]
-fn cross_pair<T: Copy, const SIDE: usize>(
+fn cross_pair<T: Copy, const N: usize, const SIDE: usize, const WIDTH: usize>(
     cells: &mut [T],
     shape: Shape,
     window: Window,
     upper: &mut [T],
     lower: &mut [T],
 )
-    requires image { IsSquare cells.old shape }
-    requires inside { IsInside (shape_width shape) (shape_height shape) (as_window window) }
-    requires some { 0 < SIDE }
+    requires image { IsPixelSquare N cells.old shape }
+    requires blocks { AreBlocks N SIDE WIDTH upper.old lower.old }
+    requires column { window.left + window.width ≤ shape_height shape }
+    requires line { window.top + window.height ≤ shape_height shape }
     requires narrow { window.width ≤ SIDE }
     requires low { window.height ≤ SIDE }
-    requires room { SIDE * SIDE ≤ length upper.old }
-    requires lower_room { SIDE * SIDE ≤ length lower.old }
     ensures crossed { Becomes shape cells.old cells.new
-        (crossed_at window.left window.top window.width window.height
+        (pixels_crossed_at N window.left window.top window.width window.height
         (shaped_grid cells.old shape)) }
-    ensures as_many { length upper.new ≡ length upper.old }
-    ensures as_many_lower { length lower.new ≡ length lower.old }
+    ensures blocks { AreBlocks N SIDE WIDTH upper.new lower.new }
 {
-    let across = Window::new(window.top, window.left, window.height, window.width);
-    let upper_shape = copy_block::<T, SIDE, SIDE>(upper, cells, shape, window);
-    let lower_shape = copy_block::<T, SIDE, SIDE>(lower, cells, shape, across);
-    write_across(cells, shape, across, upper, upper_shape);
-    write_across(cells, shape, window, lower, lower_shape);
+    let Window {
+        left,
+        top,
+        width,
+        height,
+    } = window;
+    // (a width is below 2^32, so no product overflows)
+    let _width = shape.width();
+    let here = Window::new(left * N, top, width * N, height);
+    let across = Window::new(top * N, left, height * N, width);
+    let upper_shape = copy_block::<T, WIDTH, SIDE>(upper, cells, shape, here);
+    let lower_shape = copy_block::<T, WIDTH, SIDE>(lower, cells, shape, across);
+    write_across::<T, N>(cells, shape, across, upper, upper_shape);
+    write_across::<T, N>(cells, shape, here, lower, lower_shape);
 }
 
-/// Columns become rows, and rows columns, `SIDE` by `SIDE` pixels at a time. What is in the blocks
-/// doesn't matter.
-pub(crate) fn cross_pairs<T: Copy, const SIDE: usize>(
+/// Columns become rows, and rows columns, `SIDE` by `SIDE` pixels at a time. A row of a block has
+/// `WIDTH` cells. What is in the blocks doesn't matter.
+pub(crate) fn cross_pairs<T: Copy, const N: usize, const SIDE: usize, const WIDTH: usize>(
     cells: &mut [T],
     shape: Shape,
     upper: &mut [T],
     lower: &mut [T],
 )
-    requires image { IsSquare cells.old shape }
-    requires some { 0 < SIDE }
-    requires room { SIDE * SIDE ≤ length upper.old }
-    requires lower_room { SIDE * SIDE ≤ length lower.old }
-    ensures { Becomes shape cells.old cells.new (transposed (shaped_grid cells.old shape)) }
+    requires image { IsPixelSquare N cells.old shape }
+    requires blocks { AreBlocks N SIDE WIDTH upper.old lower.old }
+    ensures { Becomes shape cells.old cells.new
+        (oriented N Orientation.Transposed (shaped_grid cells.old shape)) }
 {
     let side = shape.height();
     let mut top = 0;
@@ -120,7 +145,7 @@ pub(crate) fn cross_pairs<T: Copy, const SIDE: usize>(
         while left < side {
             let width = SIDE.min(side - left);
             let window = Window::new(left, top, width, height);
-            cross_pair::<T, SIDE>(cells, shape, window, upper, lower);
+            cross_pair::<T, N, SIDE, WIDTH>(cells, shape, window, upper, lower);
             left += width;
         }
         top += height;

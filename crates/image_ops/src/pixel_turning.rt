@@ -10,6 +10,7 @@ ghost use Rattle.image_model.specs.Layout.{Fits, SameOutside};
 ghost use Rattle.image_shape.specs.Shape.{shape_width, shape_height, shape_stride, shaped_grid, shaped};
 ghost use Rattle.image_ops.specs.Gathered.{AreGathered};
 ghost use Rattle.image_ops.specs.Oriented.{oriented, oriented_width, oriented_height, source_cell, source_column, source_row};
+ghost use Rattle.image_ops.specs.Written.{AreOriented, Becomes};
 
 use crate::near::rows_near;
 use crate::turning::{Turn, transpose_pixels, turn_pixels};
@@ -109,10 +110,9 @@ pub(crate) fn orient_rows<T: Copy, const N: usize>(
     requires source_fits { Fits (shaped source.now source_shape) }
     requires source_width { shape_width source_shape ≡ columns * N }
     requires across { left + count ≤ oriented_width orientation columns (shape_height source_shape) }
-    ensures grid { shaped_grid cells.new shape
-        ≡ view (oriented N orientation (shaped_grid source.now source_shape)) (left * N) 0
-        (count * N) (shape_height shape) }
-    ensures outside { SameOutside (shaped cells.old shape) (shaped cells.new shape) }
+    ensures { Becomes shape cells.old cells.new
+        (view (oriented N orientation (shaped_grid source.now source_shape)) (left * N) 0
+        (count * N) (shape_height shape)) }
 {
     for y in 0..shape.row_count() {
         let row = shape.row(cells.len(), y);
@@ -141,19 +141,11 @@ fn orient_columns<T: Copy, const N: usize>(
     columns: usize,
     orientation: Orientation,
 )
-    requires some { 0 < N }
-    requires fits { Fits (shaped cells.old shape) }
-    requires width { shape_width shape
-        ≡ oriented_width orientation columns (shape_height source_shape) * N }
-    requires height { shape_height shape
-        ≡ oriented_height orientation columns (shape_height source_shape) }
-    requires source_fits { Fits (shaped source.now source_shape) }
-    requires source_width { shape_width source_shape ≡ columns * N }
+    requires image { AreOriented N orientation columns cells.old shape source.now source_shape }
     requires across { left + count ≤ oriented_width orientation columns (shape_height source_shape) }
-    ensures grid { shaped_grid cells.new shape ≡ patch (shaped_grid cells.old shape) (left * N) 0
+    ensures { Becomes shape cells.old cells.new (patch (shaped_grid cells.old shape) (left * N) 0
         (view (oriented N orientation (shaped_grid source.now source_shape)) (left * N) 0
-        (count * N) (shape_height shape)) }
-    ensures outside { SameOutside (shaped cells.old shape) (shaped cells.new shape) }
+        (count * N) (shape_height shape))) }
 {
     let _width = shape.width();
     let strip = Window::new(left * N, 0, count * N, shape.height());
@@ -183,20 +175,6 @@ fn strip_columns<T>(source: &[T], stride: usize, orientation: Orientation) -> us
     }
 }
 
-// How many columns have a pixel, in an image that gets so many columns and rows of a source.
-fn column_count(orientation: Orientation, columns: usize, rows: usize) -> usize
-    ensures within { result ≤ oriented_width orientation columns rows }
-    ensures all { 0 < oriented_height orientation columns rows
-        → result ≡ oriented_width orientation columns rows }
-{
-    match orientation {
-        Orientation::Half if rows == 0 => 0,
-        Orientation::Half => columns,
-        _ if columns == 0 => 0,
-        _ => rows,
-    }
-}
-
 // Every pixel of `shape` in `cells` becomes the pixel of the source that its place gets, some columns
 // at a time.
 #[inline(always)]
@@ -208,20 +186,16 @@ fn orient_strips<T: Copy, const N: usize>(
     columns: usize,
     orientation: Orientation,
 )
-    requires some { 0 < N }
-    requires fits { Fits (shaped cells.old shape) }
-    requires width { shape_width shape
-        ≡ oriented_width orientation columns (shape_height source_shape) * N }
-    requires height { shape_height shape
-        ≡ oriented_height orientation columns (shape_height source_shape) }
-    requires source_fits { Fits (shaped source.now source_shape) }
-    requires source_width { shape_width source_shape ≡ columns * N }
-    ensures grid { shaped_grid cells.new shape
-        ≡ oriented N orientation (shaped_grid source.now source_shape) }
-    ensures outside { SameOutside (shaped cells.old shape) (shaped cells.new shape) }
+    requires { AreOriented N orientation columns cells.old shape source.now source_shape }
+    ensures { Becomes shape cells.old cells.new
+        (oriented N orientation (shaped_grid source.now source_shape)) }
 {
     let most = strip_columns(source, source_shape.stride(), orientation);
-    let width = column_count(orientation, columns, source_shape.height());
+    // An image of no rows would have many strips of nothing.
+    if shape.height() == 0 {
+        return;
+    }
+    let width = shape.width() / N;
     let mut left = 0;
     while left < width {
         let count = most.min(width - left);
@@ -248,17 +222,9 @@ fn orient_each<T: Copy, const N: usize>(
     columns: usize,
     orientation: Orientation,
 )
-    requires some { 0 < N }
-    requires fits { Fits (shaped cells.old shape) }
-    requires width { shape_width shape
-        ≡ oriented_width orientation columns (shape_height source_shape) * N }
-    requires height { shape_height shape
-        ≡ oriented_height orientation columns (shape_height source_shape) }
-    requires source_fits { Fits (shaped source.now source_shape) }
-    requires source_width { shape_width source_shape ≡ columns * N }
-    ensures grid { shaped_grid cells.new shape
-        ≡ oriented N orientation (shaped_grid source.now source_shape) }
-    ensures outside { SameOutside (shaped cells.old shape) (shaped cells.new shape) }
+    requires { AreOriented N orientation columns cells.old shape source.now source_shape }
+    ensures { Becomes shape cells.old cells.new
+        (oriented N orientation (shaped_grid source.now source_shape)) }
 {
     use Orientation::{Half, Left, Right, Transposed};
     match orientation {
@@ -284,15 +250,10 @@ fn orient_cells<T: Copy>(
     source_shape: Shape,
     orientation: Orientation,
 )
-    requires fits { Fits (shaped cells.old shape) }
-    requires source_fits { Fits (shaped source.now source_shape) }
-    requires width { shape_width shape
-        ≡ oriented_width orientation (shape_width source_shape) (shape_height source_shape) }
-    requires height { shape_height shape
-        ≡ oriented_height orientation (shape_width source_shape) (shape_height source_shape) }
-    ensures grid { shaped_grid cells.new shape
-        ≡ oriented 1 orientation (shaped_grid source.now source_shape) }
-    ensures outside { SameOutside (shaped cells.old shape) (shaped cells.new shape) }
+    requires { AreOriented 1 orientation (shape_width source_shape) cells.old shape
+        source.now source_shape }
+    ensures { Becomes shape cells.old cells.new
+        (oriented 1 orientation (shaped_grid source.now source_shape)) }
 {
     match orientation {
         Orientation::Transposed => transpose_pixels(cells, shape, source, source_shape),

@@ -187,7 +187,7 @@ fn cross_square<T: Copy>(cells: &mut [T], shape: Shape)
         Some(cell) if width < side && (3..=4).contains(&size_of_val(cell)) => {
             let (mut upper, mut lower) = ([*cell; 1024], [*cell; 1024]);
             let (upper, lower) = (upper.as_mut_slice(), lower.as_mut_slice());
-            cross_pairs::<T, 32>(cells, shape, upper, lower);
+            cross_pairs::<T, 1, 32, 32>(cells, shape, upper, lower);
         }
         _ => cross_strips(cells, shape, width),
     }

@@ -4,7 +4,7 @@ use Rattle.image_model.specs.Flips.{flipped}
 use Rattle.image_model.specs.Grid.{grid_of}
 use Rattle.image_shape.specs.Shape.{shaped_grid}
 use Rattle.image_ops.specs.Oriented.{mirrored_by}
-use Rattle.image_ops.proofs.PixelPairs.{right_from_transposed_by, left_from_transposed_by, half_from_mirrored_by}
+use Rattle.image_ops.proofs.PixelSquares.{right_from_transposed_by, left_from_transposed_by, half_from_mirrored_by}
 use Rattle.image_ops.proofs.pixel_squares.orient_in_place.Goals as goal
 
 pub returns-in-Right-clause-grid : goal.returns-in-Right-clause-grid

@@ -3,5 +3,5 @@ use Rattle.std.proofs.Common.{◌∙◌}
 use Rattle.image_ops.proofs.Oriented.{transposed_cells}
 use Rattle.image_ops.proofs.pixel_squares.transpose_pixel_square.Goals as goal
 
-pub returns-in-1-clause-grid : goal.returns-in-1-clause-grid
-returns-in-1-clause-grid g c = rw c.in-1.is (c.transpose_square.ensures.grid ∙ transposed_cells _)
+pub returns-in-1 : goal.returns-in-1
+returns-in-1 g c = rw c.in-1.is (record { grid = c.transpose_square.ensures.grid ∙ transposed_cells _; outside = c.transpose_square.ensures.outside })

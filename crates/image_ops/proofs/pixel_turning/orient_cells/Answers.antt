@@ -3,14 +3,14 @@ use Rattle.std.proofs.Common.{◌∙◌}
 use Rattle.image_ops.proofs.Oriented.{transposed_cells, right_cells, half_cells, left_cells}
 use Rattle.image_ops.proofs.pixel_turning.orient_cells.Goals as goal
 
-pub returns-in-Transposed-clause-grid : goal.returns-in-Transposed-clause-grid
-returns-in-Transposed-clause-grid g c = rw c.in-Transposed.is (c.transpose_pixels.ensures.grid ∙ transposed_cells _)
+pub returns-in-Transposed : goal.returns-in-Transposed
+returns-in-Transposed g c = rw c.in-Transposed.is (record { grid = c.transpose_pixels.ensures.grid ∙ transposed_cells _; outside = c.transpose_pixels.ensures.outside })
 
-pub returns-in-Right-clause-grid : goal.returns-in-Right-clause-grid
-returns-in-Right-clause-grid g c = rw c.in-Right.is (c.turn_pixels.ensures.grid ∙ right_cells _)
+pub returns-in-Right : goal.returns-in-Right
+returns-in-Right g c = rw c.in-Right.is (record { grid = c.turn_pixels.ensures.grid ∙ right_cells _; outside = c.turn_pixels.ensures.outside })
 
-pub returns-in-Half-clause-grid : goal.returns-in-Half-clause-grid
-returns-in-Half-clause-grid g c = rw c.in-Half.is (c.turn_pixels-in-Half.ensures.grid ∙ half_cells _)
+pub returns-in-Half : goal.returns-in-Half
+returns-in-Half g c = rw c.in-Half.is (record { grid = c.turn_pixels-in-Half.ensures.grid ∙ half_cells _; outside = c.turn_pixels-in-Half.ensures.outside })
 
-pub returns-in-Left-clause-grid : goal.returns-in-Left-clause-grid
-returns-in-Left-clause-grid g c = rw c.in-Left.is (c.turn_pixels-in-Left.ensures.grid ∙ left_cells _)
+pub returns-in-Left : goal.returns-in-Left
+returns-in-Left g c = rw c.in-Left.is (record { grid = c.turn_pixels-in-Left.ensures.grid ∙ left_cells _; outside = c.turn_pixels-in-Left.ensures.outside })

@@ -1,10 +1,11 @@
 -- The rows so far come from the source.
-use Rattle.std.proofs.Common.{◌<◌, refl, ◌∙◌, arith}
+use Rattle.std.proofs.Common.{◌<◌, refl, subst, arith}
 use Rattle.image_model.specs.Layout.{Layout}
 use Rattle.image_model.specs.Rows.{row_count}
 use Rattle.image_shape.specs.Shape.{shaped}
+use Rattle.image_ops.specs.Written.{Becomes}
 use Rattle.image_ops.proofs.RowsWritten.{row_range}
-use Rattle.image_ops.proofs.FromPlaces.{row_gathered, shows_places}
+use Rattle.image_ops.proofs.FromPlaces.{row_gathered, becomes_places}
 use Rattle.image_ops.proofs.Oriented.{shown_column, shown_row, shown_within, view_shown}
 use Rattle.image_ops.proofs.pixel_turning.orient_rows.Goals as goal
 
@@ -19,11 +20,13 @@ loop-y-preserved g c =
     row_gathered from (shown_column g.row.N c.requires.some a.orientation from a.columns c.requires.source_width a.left) (shown_row g.row.N c.requires.some a.orientation from a.columns c.requires.source_width a.left) _ c.loop-y.cells s y c.loop-y.invariant
     _ _ c.requires.fits below at c.take_pixels.ensures.as_many c.take_pixels.ensures.taken (λ x column. refl)
 
-pub returns-clause-grid : goal.returns-clause-grid
-returns-clause-grid g c =
+pub returns : goal.returns
+returns g c =
     let a = c.args in
     let from : Layout g.row.T.Denot = shaped a.source.now a.source_shape in
-    shows_places from (shown_column g.row.N c.requires.some a.orientation from a.columns c.requires.source_width a.left) (shown_row g.row.N c.requires.some a.orientation from a.columns c.requires.source_width a.left)
-    _ _ a.shape c.loop-y.y c.loop-y.invariant _ _ c.requires.width refl (omega (arith, c.row_count-y-end.ensures.value))
-    (shown_within g.row.N c.requires.some a.orientation from a.columns c.requires.source_width a.left a.count a.shape.height c.requires.across c.requires.height)
-    ∙ view_shown g.row.N c.requires.some a.orientation from a.columns c.requires.source_width a.left a.count a.shape.height c.requires.across c.requires.height
+    let column = shown_column g.row.N c.requires.some a.orientation from a.columns c.requires.source_width a.left in
+    let line = shown_row g.row.N c.requires.some a.orientation from a.columns c.requires.source_width a.left in
+    subst (Becomes a.shape _ _)
+    (view_shown g.row.N c.requires.some a.orientation from a.columns c.requires.source_width a.left a.count a.shape.height c.requires.across c.requires.height)
+    (becomes_places from column line _ _ a.shape c.loop-y.y c.loop-y.invariant _ _ c.requires.width refl (omega (arith, c.row_count-y-end.ensures.value))
+    (shown_within g.row.N c.requires.some a.orientation from a.columns c.requires.source_width a.left a.count a.shape.height c.requires.across c.requires.height))
