@@ -131,7 +131,7 @@ def pictures(data, edits):
         planes = [(*size, 1, 1)] * samples
         try:
             length = 1 if greatest < 256 else 2
-            if any(edit[2] == "crop" and edit[3][3] == 0 or edit[2] == "turn" and samples * length > 4 for edit in edits):
+            if any(edit[2] == "crop" and edit[3][3] == 0 for edit in edits):
                 raise Fault("outside")
             steps = [step_of(planes, size, covered(numbered(edit, None), size, (1, 1), greatest), picture_values(samples, greatest), greatest) for edit in edits]
         except Fault as fault:

@@ -264,7 +264,7 @@ fn orient_cells<T: Copy>(
 }
 
 /// Every pixel of `shape` in `cells` becomes the pixel of the source that its place gets; the padding
-/// stays. A pixel is `size` cells next to one another in a row, 1 to 4 of them.
+/// stays. A pixel is `size` cells next to one another in a row, 1 to 8 of them.
 ///
 /// # Requires
 ///
@@ -280,7 +280,7 @@ pub fn orient_pixels<T: Copy>(
     orientation: Orientation,
 )
     requires some { 1 ≤ size }
-    requires few { size ≤ 4 }
+    requires few { size ≤ 8 }
     requires fits { Fits (shaped cells.old shape) }
     requires source_fits { Fits (shaped source.now source_shape) }
     requires source_width { shape_width source_shape ≡ columns * size }
@@ -296,6 +296,10 @@ pub fn orient_pixels<T: Copy>(
         1 => orient_cells(cells, shape, source, source_shape, orientation),
         2 => orient_each::<T, 2>(cells, shape, source, source_shape, columns, orientation),
         3 => orient_each::<T, 3>(cells, shape, source, source_shape, columns, orientation),
-        _ => orient_each::<T, 4>(cells, shape, source, source_shape, columns, orientation),
+        4 => orient_each::<T, 4>(cells, shape, source, source_shape, columns, orientation),
+        5 => orient_each::<T, 5>(cells, shape, source, source_shape, columns, orientation),
+        6 => orient_each::<T, 6>(cells, shape, source, source_shape, columns, orientation),
+        7 => orient_each::<T, 7>(cells, shape, source, source_shape, columns, orientation),
+        _ => orient_each::<T, 8>(cells, shape, source, source_shape, columns, orientation),
     }
 }

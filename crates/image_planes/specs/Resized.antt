@@ -36,11 +36,11 @@ new_height (Crop w) = w.height
 new_height (Pad left top width height value) = height
 new_height (Turn quarter width height) = height
 
--- whether it is valid for so many pixels: the window has columns and is inside, the plane is inside its border, or its pixels of at most 4 bytes are turned: it is as wide then as it was high
+-- whether it is valid for so many pixels: the window has columns and is inside, the plane is inside its border, or it is turned: it is as wide then as it was high
 abbrev pub is_resize_of : ℕ → ℕ → ℕ → Resize → Bool
 is_resize_of size width height (Crop w) = nat_lt 0 w.width && is_inside width height (as_window w)
 is_resize_of size width height (Pad left top wide high value) = nat_lt (size * wide) (2 ^ 32) && (nat_lt high (2 ^ 32) && is_inside wide high (window left top width height))
-is_resize_of size width height (Turn quarter wide high) = nat_lt size 5 && (wide == height && (high == width && (nat_lt 0 wide && nat_lt (size * wide) (2 ^ 32))))
+is_resize_of size width height (Turn quarter wide high) = wide == height && (high == width && (nat_lt 0 wide && nat_lt (size * wide) (2 ^ 32)))
 
 -- the size of a plane in pixels, how many bytes a pixel has, and the change of the size
 pub record Resizing : Type 0 where

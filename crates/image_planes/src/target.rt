@@ -43,7 +43,7 @@ pub enum Resize {
         height: usize,
         value: Value,
     },
-    /// The whole plane is turned, and has this size then. A pixel has at most 4 bytes.
+    /// The whole plane is turned, and has this size then.
     Turn {
         quarter: Quarter,
         width: usize,
@@ -182,7 +182,7 @@ fn turn_plane(
     target: &mut [u8],
 )
     requires some { 0 < size }
-    requires few { size < 5 }
+    requires few { size < 9 }
     requires wide { 0 < columns }
     requires high { 0 < rows }
     requires width { size * columns < 2 ^ 32 }
@@ -246,7 +246,7 @@ impl Resize {
             }
             Resize::Turn { .. } => {
                 let (wide, high) = (self.width(), self.height());
-                if size > 4 || wide != height || high != width || wide == 0 {
+                if wide != height || high != width || wide == 0 {
                     return false;
                 }
                 match size.checked_mul(wide) {

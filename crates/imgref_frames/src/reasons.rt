@@ -22,23 +22,7 @@ struct Frame {
     has_colours: bool,
     interlaced: bool,
     square: bool,
-    bytes: usize,
     greatest: usize,
-}
-
-// How many bytes a pixel of a picture has.
-fn bytes_of(picture: Picture) -> usize {
-    let (colour, alpha) = match picture.kind {
-        Kind::Plain { colour } => (colour, false),
-        Kind::Pam(tuples) => (tuples.colour, tuples.alpha),
-    };
-    let colours: usize = if colour { 3 } else { 1 };
-    let samples: usize = if alpha { colours + 1 } else { colours };
-    if picture.greatest > 255 {
-        2 * samples
-    } else {
-        samples
-    }
 }
 
 impl Frame {
@@ -57,7 +41,6 @@ impl Frame {
             has_colours: false,
             interlaced: format.interlaced,
             square: format.square,
-            bytes: 1,
             greatest: format.pixel.greatest as usize,
         }
     }
@@ -76,7 +59,6 @@ impl Frame {
                 },
                 interlaced: false,
                 square: true,
-                bytes: bytes_of(picture),
                 greatest: picture.greatest as usize,
             },
         }
@@ -102,8 +84,6 @@ enum Wrong {
     Sampling(usize, usize),
     // A quarter turn of pixels that aren't square.
     NotSquare,
-    // A quarter turn of pixels of more than 4 bytes.
-    Large,
     // The rows of one field would be where those of the other were.
     Fields,
     // This number of these is no multiple of that.
@@ -206,8 +186,6 @@ fn check_turn(frame: Frame) -> Option<Wrong> {
         Some(Wrong::NotSquare)
     } else if frame.across != frame.down {
         Some(Wrong::Sampling(frame.across, frame.down))
-    } else if frame.bytes > 4 {
-        Some(Wrong::Large)
     } else {
         Some(Wrong::TooLarge)
     }
@@ -251,7 +229,6 @@ fn say_wrong(rt: &HostRuntime, wrong: Wrong) {
         Wrong::NotSquare => eprintln!(rt;
             "its pixels aren't square (field A), and the turn would change their sides. Scale it first"
         ),
-        Wrong::Large => eprintln!(rt; "only pixels of at most 4 bytes can be turned by a quarter"),
         Wrong::Value(value, greatest) => eprintln!(rt;
             "value {value} is above {greatest}, the greatest of a sample"
         ),
