@@ -9,7 +9,7 @@ ghost use Rattle.image_shape.specs.Shape.{shape_width, shaped};
 ghost use Rattle.image_ops.specs.Written.{HaveSameSize};
 
 use crate::joining::fewest_rows;
-use crate::short::{block_of_row, have_equal_blocks, have_equal_ends, part_of_small_row};
+use crate::short::{block_of_row, have_equal_blocks, have_equal_ends, part_to_compare};
 use image_rows::row;
 use image_shape::Shape;
 
@@ -59,8 +59,8 @@ fn are_equal_lines<T: PartialEq, const N: usize, const IS_LONG: bool>(
     }
 }
 
-// The same by the rows' width, which is looked at once. Cells of 8 bytes and more may hold a
-// pointer, and then what it points to: they are compared in turn, up to the first that differs.
+// The same by the rows' width, which is looked at once. Cells of more than 16 bytes may hold
+// pointers, and then what they point to: they are compared in turn, up to the first that differs.
 fn are_equal_by_width<T: PartialEq>(
     first: &[T],
     first_shape: Shape,
@@ -71,7 +71,7 @@ fn are_equal_by_width<T: PartialEq>(
     ensures { result ≡ pointwise (pointwise T.eq) (rows_of (shaped first.now first_shape))
         (rows_of (shaped second.now second_shape)) }
 {
-    match part_of_small_row(first, first_shape.width()) {
+    match part_to_compare(first, first_shape.width()) {
         32 => have_equal_rows::<T, 32, false>(first, first_shape, second, second_shape),
         16 => have_equal_rows::<T, 16, false>(first, first_shape, second, second_shape),
         8 => have_equal_rows::<T, 8, false>(first, first_shape, second, second_shape),
@@ -97,6 +97,8 @@ fn are_equal_by_blocks<T: PartialEq>(
         64 => have_equal_rows::<T, 64, true>(first, first_shape, second, second_shape),
         32 => have_equal_rows::<T, 32, true>(first, first_shape, second, second_shape),
         16 => have_equal_rows::<T, 16, true>(first, first_shape, second, second_shape),
+        8 => have_equal_rows::<T, 8, true>(first, first_shape, second, second_shape),
+        4 => have_equal_rows::<T, 4, true>(first, first_shape, second, second_shape),
         _ => have_equal_rows::<T, 0, false>(first, first_shape, second, second_shape),
     }
 }

@@ -6,54 +6,37 @@
 ghost use Rattle.std.specs.Prelude.{◌≡◌, ◌*◌, ◌<◌, ◌≤◌, length};
 ghost use Rattle.std.specs.Cmp.Lexicographic.{pointwise};
 
-use row_mover::{read_part, write_part};
+use row_mover::{part_of_row, read_part, write_part};
 use std::mem::size_of_val;
 
-// The most cells, and the most bytes, of a short row.
-const FEW: usize = 64;
+// The most cells and bytes of a short row that is copied, and of one that is compared.
+const FEW_COPIED: usize = 128;
 
-/// How many cells each part of a row of `width` cells has, where the row is short. It is 0 where it
-/// isn't, and where there is no cell.
+const FEW_COMPARED: usize = 64;
+
+/// How many cells each part of a row of `width` cells has, where the row is copied and short. It is 0
+/// where it isn't, and where there is no cell.
 #[inline(always)]
-pub(crate) fn part_of_row<T>(cells: &[T], width: usize) -> usize
+pub(crate) fn part_to_copy<T>(cells: &[T], width: usize) -> usize
     ensures enough { result ≤ width }
     ensures few { 0 < result → width ≤ 2 * result }
 {
-    let Some(cell) = cells.first() else {
-        return 0;
-    };
-    let size = size_of_val(cell);
-    if size > FEW || width > FEW || width * size > FEW {
-        return 0;
-    }
-    if width > 32 {
-        32
-    } else if width > 16 {
-        16
-    } else if width > 8 {
-        8
-    } else if width > 4 {
-        4
-    } else if width > 2 {
-        2
-    } else {
-        width.min(1)
-    }
+    part_of_row(cells, width, FEW_COPIED)
 }
 
-/// The same for cells of at most four bytes. Larger ones may hold a pointer.
+/// The same of rows that are compared, for cells of at most 16 bytes. Larger ones may hold pointers to much that is compared.
 #[inline(always)]
-pub(crate) fn part_of_small_row<T>(cells: &[T], width: usize) -> usize
+pub(crate) fn part_to_compare<T>(cells: &[T], width: usize) -> usize
     ensures enough { result ≤ width }
     ensures few { 0 < result → width ≤ 2 * result }
 {
     match cells.first() {
-        Some(cell) if size_of_val(cell) <= 4 => part_of_row(cells, width),
+        Some(cell) if size_of_val(cell) <= 16 => part_of_row(cells, width, FEW_COMPARED),
         _ => 0,
     }
 }
 
-/// How many cells a block of a row of `width` cells has: 64 bytes of cells of at most four bytes. It
+/// How many cells a block of a row of `width` cells has: 64 bytes of cells of at most 16 bytes. It
 /// is 0 in a shorter row, and for larger cells.
 #[inline(always)]
 pub(crate) fn block_of_row<T>(cells: &[T], width: usize) -> usize
@@ -66,6 +49,8 @@ pub(crate) fn block_of_row<T>(cells: &[T], width: usize) -> usize
         1 => 64,
         2 => 32,
         3 | 4 => 16,
+        5..=8 => 8,
+        9..=16 => 4,
         _ => 0,
     };
     if width < block { 0 } else { block }

@@ -40,5 +40,13 @@ module _ {T : Type 0} (cells : List T) (start len target : ℕ) (down : target �
   pub front_first : (n : ℕ) → n ≤ len → shifted (shifted cells start n target) (start + n) (len - n) (target + n) ≡ shifted cells start len target
   front_first n enough = same_lists _ _ (grind (arith, places)) (λ k d below. grind (arith, places))
 
+-- a stretch and the cells next to it, as a list of their own
+module _ {T : Type 0} (cells : List T) (start len by : ℕ) (inside : start + (len + by) ≤ length cells) where
+  pub next_shifted : with_block cells start (len + by) (shifted (take (len + by) (drop start cells)) 0 len by) ≡ shifted cells start len (start + by)
+  next_shifted = same_lists _ _ (grind (arith, places)) (λ k d below. grind (arith, places))
+
+  pub previous_shifted : with_block cells start (len + by) (shifted (take (len + by) (drop start cells)) by len 0) ≡ shifted cells (start + by) len start
+  previous_shifted = same_lists _ _ (grind (arith, places)) (λ k d below. grind (arith, places))
+
 -- what the proofs of copies by blocks go by
 pub ruleset by_blocks = (ends_shifted, back_closed, front_closed)

@@ -6,10 +6,11 @@
 //! the rest.
 #![tactic(auto, using(crate::proofs::Stretches::by_blocks))]
 
-ghost use Rattle.std.specs.Prelude.{◌≡◌, ◌+◌, ◌*◌, ◌<◌, ◌≤◌, length};
+ghost use Rattle.std.specs.Prelude.{◌≡◌, ◌+◌, ◌-◌, ◌*◌, ◌<◌, ◌≤◌, length};
 ghost use Rattle.image_model.specs.Shifts.{shifted};
 
 use crate::parts::{read_part, write_part};
+use std::mem::size_of_val;
 
 // Copies `N` cells: all are read before one is written.
 fn copy_block<T: Copy, const N: usize>(cells: &mut [T], start: usize, target: usize)
@@ -23,9 +24,14 @@ fn copy_block<T: Copy, const N: usize>(cells: &mut [T], start: usize, target: us
     write_part(&mut cells[target..target + N], block);
 }
 
-// Copies `N` to `2 * N` cells, as the first and the last `N`: all are read before one is written.
+/// Copies `N` to `2 * N` cells, as the first and the last `N`: all are read before one is written.
 #[inline(always)]
-fn copy_ends<T: Copy, const N: usize>(cells: &mut [T], start: usize, len: usize, target: usize)
+pub(crate) fn copy_ends<T: Copy, const N: usize>(
+    cells: &mut [T],
+    start: usize,
+    len: usize,
+    target: usize,
+)
     requires some { 0 < N }
     requires enough { N ≤ len }
     requires few { len ≤ 2 * N }
@@ -56,15 +62,17 @@ fn copy_pair<T: Copy>(cells: &mut [T], start: usize, len: usize, target: usize)
     cells[target + len - 1] = last;
 }
 
-/// Copies at most 64 cells.
+/// Copies at most 128 cells.
 #[inline(always)]
 pub(crate) fn copy_few<T: Copy>(cells: &mut [T], start: usize, len: usize, target: usize)
-    requires few { len ≤ 64 }
+    requires few { len ≤ 128 }
     requires source { start + len ≤ length cells.old }
     requires target { target + len ≤ length cells.old }
     ensures { cells.new ≡ shifted cells.old start len target }
 {
-    if len > 32 {
+    if len > 64 {
+        copy_ends::<T, 64>(cells, start, len, target);
+    } else if len > 32 {
         copy_ends::<T, 32>(cells, start, len, target);
     } else if len > 16 {
         copy_ends::<T, 16>(cells, start, len, target);
@@ -173,7 +181,9 @@ fn copy_down<T: Copy>(cells: &mut [T], start: usize, len: usize, target: usize)
     copy_down_below_64(cells, start + done, len - done, target + done);
 }
 
-/// Copies a stretch to a place that it may overlap.
+/// Copies a stretch to a place that it may overlap. It isn't inlined, so that the loops over rows stay
+/// small.
+#[inline(never)]
 pub(crate) fn copy_by_blocks<T: Copy>(cells: &mut [T], start: usize, len: usize, target: usize)
     requires source { start + len ≤ length cells.old }
     requires target { target + len ≤ length cells.old }
@@ -184,4 +194,59 @@ pub(crate) fn copy_by_blocks<T: Copy>(cells: &mut [T], start: usize, len: usize,
     } else {
         copy_down(cells, start, len, target);
     }
+}
+
+/// Whether a cell has 1, 2, 4 or 8 bytes, and so goes by one register.
+#[inline(always)]
+pub(crate) fn are_words<T>(cells: &[T]) -> bool {
+    match cells.first() {
+        Some(cell) => matches!(size_of_val(cell), 1 | 2 | 4 | 8),
+        None => false,
+    }
+}
+
+// All cells but the last go one cell further. For words the compiler makes one call of `memmove` of
+// this loop: it knows the distance, and that the list begins with the first cell.
+#[inline(never)]
+fn push_back<T: Copy>(cells: &mut [T])
+    requires some { 1 ≤ length cells.old }
+    ensures { cells.new ≡ shifted cells.old 0 (length cells.old - 1) 1 }
+{
+    let count = cells.len() - 1;
+    for done in 0..count {
+        let at = count - 1 - done;
+        cells[at + 1] = cells[at];
+    }
+}
+
+// All cells but the first go one cell back, for words by one call of `memmove` too.
+#[inline(never)]
+fn pull_front<T: Copy>(cells: &mut [T])
+    requires some { 1 ≤ length cells.old }
+    ensures { cells.new ≡ shifted cells.old 1 (length cells.old - 1) 0 }
+{
+    let count = cells.len() - 1;
+    for done in 0..count {
+        cells[done] = cells[done + 1];
+    }
+}
+
+/// Copies a stretch one cell towards the back.
+#[inline(always)]
+pub(crate) fn copy_to_next<T: Copy>(cells: &mut [T], start: usize, len: usize)
+    requires source { start + (len + 1) ≤ length cells.old }
+    ensures { cells.new ≡ shifted cells.old start len (start + 1) }
+{
+    let _count = cells.len();
+    push_back(&mut cells[start..start + (len + 1)]);
+}
+
+/// Copies a stretch to the cell `target`, one cell before it.
+#[inline(always)]
+pub(crate) fn copy_to_previous<T: Copy>(cells: &mut [T], target: usize, len: usize)
+    requires source { target + (len + 1) ≤ length cells.old }
+    ensures { cells.new ≡ shifted cells.old (target + 1) len target }
+{
+    let _count = cells.len();
+    pull_front(&mut cells[target..target + (len + 1)]);
 }

@@ -13,4 +13,4 @@ mod parts;
 mod tests;
 
 pub use mover::RowMover;
-pub use parts::{read_part, write_part};
+pub use parts::{copy_line, part_of_row, read_part, write_part};

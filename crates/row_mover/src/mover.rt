@@ -1,7 +1,8 @@
-ghost use Rattle.std.specs.Prelude.{◌≡◌, ◌+◌, ◌≤◌, IsTrue, length};
+ghost use Rattle.std.specs.Prelude.{◌≡◌, ◌+◌, ◌*◌, ◌<◌, ◌≤◌, IsTrue, length};
 ghost use Rattle.image_model.specs.Shifts.{shifted};
 
-use crate::blocks::{copy_by_blocks, copy_few};
+use crate::blocks::{copy_by_blocks, copy_ends, copy_few, copy_to_next, copy_to_previous};
+use crate::parts::copy_line;
 use std::marker::Model;
 use std::mem::size_of;
 
@@ -70,71 +71,133 @@ impl<'a, T: Copy> RowMover<'a, T> {
         ensures shifts { self.new.shifts ≡ self.old.shifts + 1 }
         ensures lender { self.new.lender ≡ self.old.lender }
     {
+        self.shift_by::<0, ANY>(start, len, target);
+    }
+
+    /// The same shift, where more is known of it: that `len` is from `N` to `2 * N`, where `N` isn't
+    /// 0, or where the target is. So no test of that is left in a loop over rows.
+    #[inline(always)]
+    pub(crate) fn shift_by<const N: usize, const HOW: usize>(
+        &mut self,
+        start: usize,
+        len: usize,
+        target: usize,
+    )
+        requires enough { N ≤ len }
+        requires few { 0 < N → len ≤ 2 * N }
+        requires next { HOW ≡ 2 → target ≡ start + 1 }
+        requires previous { HOW ≡ 3 → start ≡ target + 1 }
+        requires behind { HOW ≡ 4 → start + len ≤ target }
+        requires before { HOW ≡ 5 → target + len ≤ start }
+        requires source { start + len ≤ length self.old.cells }
+        requires target { target + len ≤ length self.old.cells }
+        requires count { self.old.shifts + 1 ≤ u64.MAX }
+        ensures cells { self.new.cells ≡ shifted self.old.cells start len target }
+        ensures length { length self.new.cells ≡ length self.old.cells }
+        ensures shifts { self.new.shifts ≡ self.old.shifts + 1 }
+        ensures lender { self.new.lender ≡ self.old.lender }
+    {
         let RowMover { cells, shifts } = self;
         *shifts += 1;
-        copy_stretch(cells, start, len, target);
+        copy_by::<T, N, HOW>(cells, start, len, target);
     }
 }
 
-// The most cells, and the most bytes, of a short stretch.
-pub(crate) const FEW: usize = 64;
+// What is known of where a stretch goes: nothing; nothing, and it is long; to the next cell; to the
+// cell before it; to a place after its end; to a place that ends before it.
+pub(crate) const ANY: usize = 0;
 
-// Whether a stretch is so short that the tests of the longer ones, and a call of `memmove`, would
-// take longer than its copy. Only its length is looked at: where the compiler knows that in a loop,
-// no test is left there.
+pub(crate) const LONG: usize = 1;
+
+pub(crate) const NEXT: usize = 2;
+
+pub(crate) const PREVIOUS: usize = 3;
+
+pub(crate) const BEHIND: usize = 4;
+
+pub(crate) const BEFORE: usize = 5;
+
+/// The most cells and bytes of a row that goes by registers: the tests of longer ones, and a call of
+/// `memmove`, would take longer than its copy.
+pub(crate) const FEW: usize = 128;
+
+// Whether a stretch is so short.
 #[inline(always)]
 fn is_short<T>(stretch: &[T]) -> bool
-    ensures { IsTrue result → length stretch.now ≤ 64 }
+    ensures { IsTrue result → length stretch.now ≤ 128 }
 {
     stretch.len() <= FEW && stretch.len() * size_of::<T>() <= FEW
 }
 
-// Copies a stretch to a place that it may overlap.
+// Copies a stretch to a place that it may overlap, by what is known of it.
 #[inline(always)]
-fn copy_stretch<T: Copy>(cells: &mut [T], start: usize, len: usize, target: usize)
+fn copy_by<T: Copy, const N: usize, const HOW: usize>(
+    cells: &mut [T],
+    start: usize,
+    len: usize,
+    target: usize,
+)
+    requires enough { N ≤ len }
+    requires few { 0 < N → len ≤ 2 * N }
+    requires next { HOW ≡ 2 → target ≡ start + 1 }
+    requires previous { HOW ≡ 3 → start ≡ target + 1 }
+    requires behind { HOW ≡ 4 → start + len ≤ target }
+    requires before { HOW ≡ 5 → target + len ≤ start }
     requires source { start + len ≤ length cells.old }
     requires target { target + len ≤ length cells.old }
     ensures { cells.new ≡ shifted cells.old start len target }
 {
-    if is_short(&cells[start..start + len]) {
+    if N > 0 {
+        copy_ends::<T, N>(cells, start, len, target);
+    } else if HOW == NEXT {
+        copy_to_next(cells, start, len);
+    } else if HOW == PREVIOUS {
+        copy_to_previous(cells, target, len);
+    } else if HOW == BEHIND {
+        copy_behind(cells, start, len, target);
+    } else if HOW == BEFORE {
+        copy_before(cells, start, len, target);
+    } else if HOW == ANY && is_short(&cells[start..start + len]) {
         copy_few(cells, start, len, target);
     } else {
         copy_long(cells, start, len, target);
     }
 }
 
-// The same of any length. Not inlined, so that the loops over rows stay small.
-#[inline(never)]
+// The same of any length, where nothing is known of it.
+#[inline(always)]
 fn copy_long<T: Copy>(cells: &mut [T], start: usize, len: usize, target: usize)
     requires source { start + len ≤ length cells.old }
     requires target { target + len ≤ length cells.old }
     ensures { cells.new ≡ shifted cells.old start len target }
 {
-    if start + len <= target {
-        copy_behind(cells, start, len, target);
-    } else if target + len <= start {
+    if target + len <= start {
         copy_before(cells, start, len, target);
+    } else if start + len <= target {
+        copy_behind(cells, start, len, target);
     } else {
         copy_by_blocks(cells, start, len, target);
     }
 }
 
 // Copies a stretch to a place after its end.
+#[inline(always)]
 fn copy_behind<T: Copy>(cells: &mut [T], start: usize, len: usize, target: usize)
     requires apart { start + len ≤ target }
     requires target { target + len ≤ length cells.old }
     ensures { cells.new ≡ shifted cells.old start len target }
 {
     let (front, back) = cells.split_at_mut(target);
-    back[..len].copy_from_slice(&front[start..start + len]);
+    copy_line(&mut back[..len], &front[start..start + len]);
 }
 
 // Copies a stretch to a place that ends before it.
+#[inline(always)]
 fn copy_before<T: Copy>(cells: &mut [T], start: usize, len: usize, target: usize)
     requires apart { target + len ≤ start }
     requires source { start + len ≤ length cells.old }
     ensures { cells.new ≡ shifted cells.old start len target }
 {
     let (front, back) = cells.split_at_mut(start);
-    front[target..target + len].copy_from_slice(&back[..len]);
+    copy_line(&mut front[target..target + len], &back[..len]);
 }

@@ -3,18 +3,9 @@ ghost use Rattle.image_model.specs.Layout.{layout, Fits};
 ghost use Rattle.image_model.specs.Rows.{joined_rows};
 ghost use Rattle.image_model.specs.Shifts.{rows_compacted, rows_moved, MovesRows};
 
-use crate::mover::{FEW, RowMover};
-use std::mem::size_of;
-
-// The same number. So the compiler knows its bounds, and leaves out tests of it in a loop.
-#[inline(always)]
-fn within(number: usize, least: usize, most: usize) -> usize
-    requires least { least ≤ number }
-    requires most { number ≤ most }
-    ensures { result ≡ number }
-{
-    number.clamp(least, most)
-}
+use crate::blocks::are_words;
+use crate::mover::{ANY, BEFORE, BEHIND, FEW, LONG, NEXT, PREVIOUS, RowMover};
+use crate::parts::part_of_row;
 
 impl<T: Copy> RowMover<'_, T> {
     /// Joins the rows of an image at the front of the list, in place: the first `width * height`
@@ -36,30 +27,42 @@ impl<T: Copy> RowMover<'_, T> {
         if width == 0 || width == stride || height == 0 {
             return;
         }
-        let row = &self.cells()[..width];
-        if row.len() * size_of::<T>() > FEW {
-            self.join_each(width, height, stride);
-        } else if width <= 2 {
-            self.join_each(within(width, 1, 2), height, stride);
-        } else if width <= 4 {
-            self.join_each(within(width, 3, 4), height, stride);
-        } else if width <= 8 {
-            self.join_each(within(width, 5, 8), height, stride);
-        } else if width <= 16 {
-            self.join_each(within(width, 9, 16), height, stride);
-        } else if width <= 32 {
-            self.join_each(within(width, 17, 32), height, stride);
-        } else if width <= 64 {
-            self.join_each(within(width, 33, 64), height, stride);
-        } else {
-            self.join_each(width, height, stride);
+        match part_of_row(self.cells(), width, FEW) {
+            64 => self.join_each::<64>(width, height, stride),
+            32 => self.join_each::<32>(width, height, stride),
+            16 => self.join_each::<16>(width, height, stride),
+            8 => self.join_each::<8>(width, height, stride),
+            4 => self.join_each::<4>(width, height, stride),
+            2 => self.join_each::<2>(width, height, stride),
+            1 => self.join_each::<1>(width, height, stride),
+            _ => self.join_long(width, height, stride),
         }
+    }
+
+    // The same of rows that have pixels, don't touch and aren't short. It isn't inlined: so the loops
+    // of short rows have the registers for themselves.
+    #[inline(never)]
+    fn join_long(&mut self, width: usize, height: usize, stride: usize)
+        requires fits { Fits (layout self.old.cells width height stride) }
+        requires some { 0 < width }
+        requires apart { width < stride }
+        requires row { 0 < height }
+        requires count { self.old.shifts + height ≤ u64.MAX }
+        ensures cells { self.new.cells ≡ joined_rows (layout self.old.cells width height stride)
+            ++ drop (width * height) self.old.cells }
+        ensures length { length self.new.cells ≡ length self.old.cells }
+        ensures shifts { self.new.shifts ≡ self.old.shifts + rows_compacted width height stride }
+        ensures lender { self.new.lender ≡ self.old.lender }
+    {
+        self.join_each::<0>(width, height, stride);
     }
 
     // The loop of `compact_rows`, where rows have pixels and don't touch.
     #[inline(always)]
     #[tactic(auto, using(crate::proofs::Compacting::compacting))]
-    fn join_each(&mut self, width: usize, height: usize, stride: usize)
+    fn join_each<const N: usize>(&mut self, width: usize, height: usize, stride: usize)
+        requires enough { N ≤ width }
+        requires few { 0 < N → width ≤ 2 * N }
         requires fits { Fits (layout self.old.cells width height stride) }
         requires some { 0 < width }
         requires apart { width < stride }
@@ -74,7 +77,7 @@ impl<T: Copy> RowMover<'_, T> {
         // No row ends past the list, and its length is a `usize`: so no cell's number overflows.
         prove!(self.cells().len() <= usize::MAX);
         for y in 1..height {
-            self.shift(y * stride, width, y * width);
+            self.shift_by::<N, LONG>(y * stride, width, y * width);
         }
     }
 
@@ -98,30 +101,63 @@ impl<T: Copy> RowMover<'_, T> {
         if width == 0 || height == 0 {
             return;
         }
-        let row = &self.cells()[from..from + width];
-        if row.len() * size_of::<T>() > FEW {
-            self.move_each(stride, from, to, width, height);
-        } else if width <= 2 {
-            self.move_each(stride, from, to, within(width, 1, 2), height);
-        } else if width <= 4 {
-            self.move_each(stride, from, to, within(width, 3, 4), height);
-        } else if width <= 8 {
-            self.move_each(stride, from, to, within(width, 5, 8), height);
-        } else if width <= 16 {
-            self.move_each(stride, from, to, within(width, 9, 16), height);
-        } else if width <= 32 {
-            self.move_each(stride, from, to, within(width, 17, 32), height);
-        } else if width <= 64 {
-            self.move_each(stride, from, to, within(width, 33, 64), height);
+        match part_of_row(self.cells(), width, FEW) {
+            64 => self.move_each::<64, ANY>(stride, from, to, width, height),
+            32 => self.move_each::<32, ANY>(stride, from, to, width, height),
+            16 => self.move_each::<16, ANY>(stride, from, to, width, height),
+            8 => self.move_each::<8, ANY>(stride, from, to, width, height),
+            4 => self.move_each::<4, ANY>(stride, from, to, width, height),
+            2 => self.move_each::<2, ANY>(stride, from, to, width, height),
+            1 => self.move_each::<1, ANY>(stride, from, to, width, height),
+            _ => self.move_long(stride, from, to, width, height),
+        }
+    }
+
+    // The same of rows that have pixels and aren't short, by where they go. Not inlined, as above.
+    #[inline(never)]
+    fn move_long(&mut self, stride: usize, from: usize, to: usize, width: usize, height: usize)
+        requires some { 0 < width }
+        requires row { 0 < height }
+        requires holds_width { width ≤ stride }
+        requires count { self.old.shifts + height ≤ u64.MAX }
+        requires source { from + (stride * (height - 1) + width) ≤ length self.old.cells }
+        requires target { to + (stride * (height - 1) + width) ≤ length self.old.cells }
+        ensures cells { MovesRows self.old.cells self.new.cells stride from to width height }
+        ensures shifts { self.new.shifts ≡ self.old.shifts + rows_moved width height }
+        ensures lender { self.new.lender ≡ self.old.lender }
+    {
+        prove!(self.cells().len() <= usize::MAX);
+        let are_words = are_words(self.cells());
+        if from + width <= to {
+            self.move_each::<0, BEHIND>(stride, from, to, width, height);
+        } else if to + width <= from {
+            self.move_each::<0, BEFORE>(stride, from, to, width, height);
+        } else if are_words && from + 1 == to {
+            self.move_each::<0, NEXT>(stride, from, to, width, height);
+        } else if are_words && to + 1 == from {
+            self.move_each::<0, PREVIOUS>(stride, from, to, width, height);
         } else {
-            self.move_each(stride, from, to, width, height);
+            self.move_each::<0, LONG>(stride, from, to, width, height);
         }
     }
 
     // The loops of `move_rows`, where rows have pixels.
     #[inline(always)]
     #[tactic(auto, using(crate::proofs::Moving::moving))]
-    fn move_each(&mut self, stride: usize, from: usize, to: usize, width: usize, height: usize)
+    fn move_each<const N: usize, const HOW: usize>(
+        &mut self,
+        stride: usize,
+        from: usize,
+        to: usize,
+        width: usize,
+        height: usize,
+    )
+        requires enough { N ≤ width }
+        requires few { 0 < N → width ≤ 2 * N }
+        requires next { HOW ≡ 2 → to ≡ from + 1 }
+        requires previous { HOW ≡ 3 → from ≡ to + 1 }
+        requires behind { HOW ≡ 4 → from + width ≤ to }
+        requires before { HOW ≡ 5 → to + width ≤ from }
         requires some { 0 < width }
         requires row { 0 < height }
         requires holds_width { width ≤ stride }
@@ -138,11 +174,11 @@ impl<T: Copy> RowMover<'_, T> {
         // towards the back from the last.
         if to <= from {
             for y in 0..height {
-                self.shift(from + y * stride, width, to + y * stride);
+                self.shift_by::<N, HOW>(from + y * stride, width, to + y * stride);
             }
         } else {
             for y in (0..height).rev() {
-                self.shift(from + y * stride, width, to + y * stride);
+                self.shift_by::<N, HOW>(from + y * stride, width, to + y * stride);
             }
         }
     }

@@ -2,7 +2,9 @@
 //!
 //! `copy_from_slice` of the library tests whether the two stretches overlap. These calls don't.
 
-ghost use Rattle.std.specs.Prelude.{◌≡◌, length};
+ghost use Rattle.std.specs.Prelude.{◌≡◌, ◌*◌, ◌<◌, ◌≤◌, length};
+
+use std::mem::size_of_val;
 
 /// `N` cells as a value.
 #[inline(always)]
@@ -26,4 +28,48 @@ pub fn write_part<T: Copy, const N: usize>(cells: &mut [T], part: [T; N])
         unreachable!()
     };
     *place = part;
+}
+
+/// The cells become those of another list. It isn't inlined, so that a loop over rows keeps its
+/// numbers in registers: each row is one call, and ends in one of `memmove`.
+#[inline(never)]
+pub fn copy_line<T: Copy>(cells: &mut [T], source: &[T])
+    requires { length cells.old ≡ length source.now }
+    ensures len { length cells.new ≡ length cells.old }
+    ensures after { cells.new ≡ source.now }
+{
+    cells.copy_from_slice(source);
+}
+
+/// How many cells each part of a row of `width` cells has, where the row has at most `most` cells and
+/// bytes: its first and its last cells, which may overlap, are all of them. It is 0 for a longer row,
+/// and where there is no cell.
+#[inline(always)]
+pub fn part_of_row<T>(cells: &[T], width: usize, most: usize) -> usize
+    requires { most ≤ 128 }
+    ensures enough { result ≤ width }
+    ensures few { 0 < result → width ≤ 2 * result }
+{
+    let Some(cell) = cells.first() else {
+        return 0;
+    };
+    let size = size_of_val(cell);
+    if size > most || width > most || width * size > most {
+        return 0;
+    }
+    if width > 64 {
+        64
+    } else if width > 32 {
+        32
+    } else if width > 16 {
+        16
+    } else if width > 8 {
+        8
+    } else if width > 4 {
+        4
+    } else if width > 2 {
+        2
+    } else {
+        width.min(1)
+    }
 }
