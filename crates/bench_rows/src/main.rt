@@ -18,6 +18,7 @@ use std::{env, io};
 // Why nothing was timed.
 #[derive(Drop)]
 enum Fault {
+    Help,
     Words,
     Memory,
     Device,
@@ -75,6 +76,7 @@ fn read_call(word: &str) -> Result<Call, Fault> {
         "equal" => Ok(Call::Equal),
         "pack" => Ok(Call::Pack),
         "clones" => Ok(Call::Clones),
+        "--help" => Err(Fault::Help),
         _ => Err(Fault::Words),
     }
 }
@@ -84,12 +86,11 @@ fn read_words(rt: &HostRuntime) -> Result<Words, Fault> {
     let Ok(mut words) = env::args(rt) else {
         return Err(Fault::Words);
     };
-    let (Some(_), Some(name), Some(pixel), Some(rows)) = (
-        words.next(),
-        words.next(),
-        words.next(),
-        words.next(),
-    ) else {
+    let (Some(_), Some(name)) = (words.next(), words.next()) else {
+        return Err(Fault::Words);
+    };
+    let call = read_call(&name)?;
+    let (Some(pixel), Some(rows)) = (words.next(), words.next()) else {
         return Err(Fault::Words);
     };
     let (Some(first), Some(last), Some(calls), Some(rounds)) = (
@@ -101,8 +102,8 @@ fn read_words(rt: &HostRuntime) -> Result<Words, Fault> {
         return Err(Fault::Words);
     };
     Ok(Words {
-        call: read_call(&name)?,
         name,
+        call,
         pixel: pixel.parse().ok().ok_or(Fault::Words)?,
         rows: rows.parse().ok().ok_or(Fault::Words)?,
         first: first.parse().ok().ok_or(Fault::Words)?,
@@ -256,11 +257,16 @@ fn run(rt: &HostRuntime) -> Result<(), Fault> {
 }
 
 fn main(rt: HostRuntime) -> ExitCode {
+    let words = "words: call, bytes, rows, columns from and to, calls, rounds";
     let printed = match run(&rt) {
         Ok(()) => return ExitCode::SUCCESS,
-        Err(Fault::Words) => println!(rt;
-            "words: call, bytes, rows, columns from and to, calls, rounds"
-        ),
+        Err(Fault::Help) => {
+            return match println!(rt; "{words}") {
+                Ok(()) => ExitCode::SUCCESS,
+                Err(_) => ExitCode::FAILURE,
+            };
+        }
+        Err(Fault::Words) => println!(rt; "{words}"),
         Err(Fault::Memory) => println!(rt; "out of memory"),
         Err(Fault::Device) => println!(rt; "the clock or the output failed"),
     };
