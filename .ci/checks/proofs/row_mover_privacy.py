@@ -22,12 +22,12 @@ BY_HAND = "shift_counted_but_written_by_hand"
 
 def writes_count(text):
     """The function adds to the count beside each shift."""
-    return re.sub(r"self\.shift\((.*)\);", r"self.shift(\1); self.shifts += 1;", text)
+    return re.sub(r"(self\.shift_by::<.*>\(.*\);)", r"\1 self.shifts += 1;", text)
 
 
 def writes_list(text):
     """The function moves the cells of each row by hand."""
-    return re.sub(r"self\.shift\((.*), (.*), (.*)\);", r"self.cells.copy_within(\1..\1 + \2, \3);", text)
+    return re.sub(r"self\.shift_by::<.*>\((.*), (.*), (.*)\);", r"self.cells.copy_within(\1..\1 + \2, \3);", text)
 
 
 def refused(field):
@@ -43,7 +43,7 @@ def refused(field):
 def proved(said):
     """Whether the functions of `moves` are proved, and the crate with them."""
     lines = said.split("\n")
-    moves = [f"fn row_mover::mover::RowMover::{it}: proved" for it in ("compact_rows", "join_each", "move_rows", "move_each")]
+    moves = [f"fn row_mover::mover::RowMover::{it}: proved" for it in ("compact_rows", "join_each", "join_long", "move_rows", "move_each", "move_long")]
     return all(it in lines for it in moves) and any(it.startswith("logic=proved ") for it in lines)
 
 
