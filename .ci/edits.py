@@ -158,8 +158,6 @@ def step_of(planes, size, edit, values, greatest=255):
     """An edit as one of each plane, with what is written there: these values of a list of one or three, none of them above the
     greatest; or it isn't an edit here."""
     first, last, word, window, more = edit
-    if word == "means" and greatest > 255:
-        raise Fault("outside")
     found = [windows_of(plane, size, word, window, more) for plane in planes]
     if word in ("fill", "pad"):
         if len(more) not in values or max(more) > greatest:

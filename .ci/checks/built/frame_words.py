@@ -33,7 +33,6 @@ REASONS = (
     ("fill 0,0,4,4 1024", "420p10", "edit 1: value 1024 is above 1023"),
     ("pad 0,0,4,4 512", "mono9", "the crop or pad: value 512 is above 511"),
     ("fill 0,0,4,4 1,2,3", "444", "edit 1: a colour is only for pictures in colour"),
-    ("means 0,0,4,4 2,2", "444p10", "edit 1: means are only for samples of one byte"),
     ("means 0,0,4,4 3,2", "420", "edit 1: tile width 3 is no multiple of 2"),
     ("means 0,0,4,4 16", "420", "at word 1: means needs the size of its tiles TW,TH, and 16 isn't one"),
     ("move 0,0,4,4 10,0", "420", "edit 1: it reaches outside the frame"),

@@ -51,7 +51,7 @@ def by_model(cases, program):
     flips = [(it.split(), video(sampling, *size, fields=fields)) for sampling in SAMPLINGS for size in ((12, 8), (13, 9), (1, 1), (70, 3)) for fields in (b"Ip", b"It", b"Ib", b"Im") for it in FLIPS]
     count_tries(cases, "flips and half turns are the model's, and an interlaced video keeps its fields", program, flips)
     means = [(it.split(), video(sampling, *size)) for sampling in SAMPLINGS for size in ((12, 8), (13, 9)) for it in MEANS]
-    count_tries(cases, "mosaics of means are the model's, of samples of one byte", program, means)
+    count_tries(cases, "mosaics of means are the model's, of samples of one byte and of two", program, means)
     turns = [(it.split(), video(sampling, *size, fields=fields)) for sampling in SAMPLINGS for size in ((12, 8), (13, 9), (1, 1), (70, 3), (2, 130)) for fields in (b"Ip", b"It") for it in TURNS]
     count_tries(cases, "quarter turns are the model's, and are refused where the sampling would change", program, turns)
     shapes = [("turn left".split(), video("420").replace(b" A1:1 ", it, 1)) for it in (b" ", b" A0:0 ", b" A10:11 ", b" A ", b" A1:1 A2:1 ", b" A2:1 A1:1 ")]
@@ -100,6 +100,10 @@ def by_model(cases, program):
             swapped[row:row + 6] = shown[row:row + 6][::-1]
     for words in ("means 4,2,6,6 6,1", "means 4,2,6,6 6,4"):
         cases.count(f"the output of {words} reveals only the means", bytes(swapped) != shown and ends(program, words.split(), bytes(swapped)) == ends(program, words.split(), shown))
+    deep, row = bytearray(video("mono14", frames=1)), 12 * 2
+    start = deep.index(b"\nFRAME\n") + 7 + 2 * row + 4 * 2
+    deep[start:start + 4] = deep[start + 2:start + 4] + deep[start:start + 2]
+    cases.count("means of samples of two bytes reveal nothing of their order", bytes(deep) != video("mono14", frames=1) and ends(program, "means 4,2,6,6 6,4".split(), bytes(deep)) == ends(program, "means 4,2,6,6 6,4".split(), video("mono14", frames=1)))
     for after in ("", " flip rows", " flip columns move 4,2,6,4 0,0", " turn half", " turn left", " move 4,2,6,4 0,0", " mosaic 0,0,12,8 3,3", " move 4,2,6,4 5,1 crop 0,0,8,8"):
         words = (FILL + after).split()
         cases.count(f"the output reveals nothing of hidden pixels{after}", hidden != shown and ends(program, words, hidden) == ends(program, words, shown))

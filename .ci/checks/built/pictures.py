@@ -101,7 +101,7 @@ def by_model(cases, program):
     count_tries(cases, "a colour is written in pictures in colour, and is refused for grey ones and for video", program, [(it.split(), data) for it in painted for data in (*both, both[1] * 2, both[1] + both[0], b"YUV4MPEG2 W12 H8 C444\n")])
     values = [(it.split(), picture(kind, greatest=greatest)) for greatest in GREATEST for kind in (5, 6) for value in (0, 1, 2, greatest, greatest + 1) for it in (f"fill 1,2,3,4 {value}", f"cover 5,3,1,1 {value}", f"pad 1,1,0,2 {value}", f"fill 1,2,3,4 0,{value},1", f"fill 1,2,3,4 {value},0,0", f"fill 1,2,3,4 0,1,{value}")]
     count_tries(cases, "values up to the greatest of a sample, and above it", program, values)
-    deep = [(it.split(), picture(kind, greatest=greatest)) for greatest in GREATEST for kind in (5, 6) for it in (*EDITS[2:10], "fill 4,2,6,4 1", "cover 4,2,6,4", "cover 40,2,6,4", "pad 1,2,3,4 1", "pad 1,0,0,0 0")]
+    deep = [(it.split(), picture(kind, greatest=greatest)) for greatest in GREATEST for kind in (5, 6) for it in (*EDITS[2:10], *EDITS[15:17], "fill 4,2,6,4 1", "cover 4,2,6,4", "cover 40,2,6,4", "pad 1,2,3,4 1", "pad 1,0,0,0 0")]
     count_tries(cases, "each edit of samples of one byte and of two is the model's", program, deep)
     mixed = b"".join(picture(kind, greatest=greatest) for greatest in (255, 256, 65535, 255) for kind in (5, 6))
     count_tries(cases, "pictures with several greatest values one after the other", program, [(it.split(), mixed) for it in (*LISTS, "cover 4,2,6,4", "fill 1,1,2,2 256")])

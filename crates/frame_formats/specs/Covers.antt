@@ -79,7 +79,7 @@ fill_in s width height w (Around None margin) = Fill (cover_window s margin widt
 abbrev pub settled : Samples → ℕ → ℕ → Change Paint → Change Paint
 settled s width height (Fill w paint) = fill_in s width height w paint
 settled s width height (Mosaic w tile_width tile_height) = Mosaic w tile_width tile_height
-settled s width height (Mean w tile_width tile_height) = Mean w tile_width tile_height
+settled s width height (Mean w tile_width tile_height bytes) = Mean w tile_width tile_height bytes
 settled s width height (Move w left top) = Move w left top
 settled s width height (Flip axes) = Flip axes
 
@@ -87,7 +87,7 @@ settled s width height (Flip axes) = Flip axes
 abbrev pub turns_over : Change Paint → Bool
 turns_over (Fill w paint) = false
 turns_over (Mosaic w tile_width tile_height) = false
-turns_over (Mean w tile_width tile_height) = false
+turns_over (Mean w tile_width tile_height bytes) = false
 turns_over (Move w left top) = false
 turns_over (Flip Rows) = true
 turns_over (Flip Columns) = false
@@ -106,7 +106,7 @@ nothing_filled s width height w (Around value margin) = has_no_pixel (cover_wind
 abbrev pub covers_nothing : Samples → ℕ → ℕ → Change Paint → Bool
 covers_nothing s width height (Fill w paint) = nothing_filled s width height w paint
 covers_nothing s width height (Mosaic w tile_width tile_height) = false
-covers_nothing s width height (Mean w tile_width tile_height) = false
+covers_nothing s width height (Mean w tile_width tile_height bytes) = false
 covers_nothing s width height (Move w left top) = false
 covers_nothing s width height (Flip axes) = false
 

@@ -144,11 +144,11 @@ change_under pixel x y width height (Mosaic w tile_width tile_height) = do
   wide ← exact_samples x tile_width
   high ← exact_samples y tile_height
   Some (Mosaic under wide high)
-change_under pixel x y width height (Mean w tile_width tile_height) = do
+change_under pixel x y width height (Mean w tile_width tile_height bytes) = do
   under ← window_under x y width height w
   wide ← exact_samples x tile_width
   high ← exact_samples y tile_height
-  Some (Mean under wide high)
+  Some (Mean under wide high bytes)
 change_under pixel x y width height (Move w left top) = do
   under ← window_under x y width height w
   goal ← window_under x y width height (at_corner w left top)

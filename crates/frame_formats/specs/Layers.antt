@@ -70,7 +70,7 @@ layer_height (Samples x y) height = samples height y
 abbrev pub opaque_change : Pixel → Change (List ℕ) → Change (List ℕ)
 opaque_change pixel (Fill w value) = Fill w (opaque pixel)
 opaque_change pixel (Mosaic w tile_width tile_height) = Mosaic w tile_width tile_height
-opaque_change pixel (Mean w tile_width tile_height) = Mean w tile_width tile_height
+opaque_change pixel (Mean w tile_width tile_height bytes) = Mean w tile_width tile_height bytes
 opaque_change pixel (Move w left top) = Move w left top
 opaque_change pixel (Flip axes) = Flip axes
 

@@ -2,6 +2,7 @@
 use Rattle.std.specs.Prelude.{ℕ, ◌+◌, ◌*◌, ◌/◌, ◌%◌, ◌&&◌, false, nat_lt, nat_le, if◌then◌else◌, List, [], ◌∷◌, ◌++◌, Option, Some, None, take, replicate}
 use Rattle.std.specs.List.{flat_map}
 use Rattle.std.specs.Option.{option_map}
+use Rattle.image_planes.specs.Samples.{SampleBytes, One, LowFirst, HighFirst}
 use Rattle.image_planes.specs.declared.change.Change.{Change}
 use Rattle.image_planes.specs.declared.change.Change.TheVariants.{Fill, Mosaic, Mean, Move, Flip}
 use Rattle.image_planes.specs.declared.change.Step.{Step}
@@ -31,7 +32,11 @@ video_pixel greatest = record { tuples = tuple false false; greatest = greatest;
 abbrev pub pixel_size : Pixel → ℕ
 pixel_size p = if nat_lt p.greatest 256 then tuple_depth p.tuples else 2 * tuple_depth p.tuples
 
--- the bytes of a sample
+-- which bytes a sample has
+abbrev pub bytes_of : Pixel → SampleBytes
+bytes_of p = if nat_lt p.greatest 256 then One else if p.high_first then HighFirst else LowFirst
+
+-- the bytes of a sample with this value
 abbrev pub sample_bytes : Pixel → ℕ → List ℕ
 sample_bytes p value =
     if nat_lt p.greatest 256 then value % 256 ∷ []
@@ -77,10 +82,10 @@ value_in p (Colour red green blue) = colour_of p red green blue
 value_in p (Around (Some value) margin) = grey_of p value
 value_in p (Around None margin) = grey_of p (black p)
 
--- what a change is to a plane of such pixels: a mean is one of samples of a byte
+-- what a change is to a plane of such pixels: means are those of its samples
 unfoldable pub change_in : Pixel → Change Paint → Option (Change (List ℕ))
 change_in pixel (Fill w paint) = option_map (λ value. Fill w value) (value_in pixel paint)
 change_in pixel (Mosaic w tile_width tile_height) = Some (Mosaic w tile_width tile_height)
-change_in pixel (Mean w tile_width tile_height) = if nat_lt pixel.greatest 256 then Some (Mean w tile_width tile_height) else None
+change_in pixel (Mean w tile_width tile_height bytes) = Some (Mean w tile_width tile_height (bytes_of pixel))
 change_in pixel (Move w left top) = Some (Move w left top)
 change_in pixel (Flip axes) = Some (Flip axes)

@@ -6,6 +6,7 @@ use Rattle.image_shape.specs.declared.window.Window.{Window}
 use Rattle.frame_formats.specs.declared.steps.Paint.{Paint}
 use Rattle.frame_formats.specs.declared.steps.Paint.TheVariants.{Grey, Colour, Around}
 use Rattle.image_planes.specs.declared.change.Change.{Change}
+use Rattle.image_planes.specs.Samples.{One}
 use Rattle.image_planes.specs.declared.change.Change.TheVariants.{Fill, Mosaic, Mean, Move, Flip}
 use Rattle.image_planes.specs.declared.change.Axes.{Axes}
 use Rattle.image_planes.specs.declared.change.Axes.TheVariants.{Rows, Columns, Both}
@@ -51,7 +52,7 @@ unfoldable pub change_of : List ℕ → Window → List ℕ → Option (Change P
 change_of word window last =
     if bytes_eq word (codes "fill") then option_map (λ paint. Fill window paint) (paint_of last)
     else if bytes_eq word (codes "mosaic") then option_map (λ p. Mosaic window p.0 p.1) (pair_of last)
-    else if bytes_eq word (codes "means") then option_map (λ p. Mean window p.0 p.1) (pair_of last)
+    else if bytes_eq word (codes "means") then option_map (λ p. Mean window p.0 p.1 One) (pair_of last)
     else if bytes_eq word (codes "move") then option_map (λ p. Move window p.0 p.1) (pair_of last)
     else None
 

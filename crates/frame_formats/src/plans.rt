@@ -24,8 +24,7 @@ use std::alloc::{AllocError, AllocFailed, Global};
 #[derive(Clone, Copy, Debug, PartialEq, Eq)]
 pub enum PlanFault {
     /// The edit reaches outside a plane, or doesn't fall on whole chroma samples. Or it has a
-    /// colour where there is one brightness, a value that the samples lack, or a mean of samples of
-    /// two bytes. Or it is for times,
+    /// colour where there is one brightness, or a value that the samples lack. Or it is for times,
     /// and there is no rate, or no frame is in them.
     Outside,
     /// No memory was found for the plan, or a frame has 2^64 bytes or more.

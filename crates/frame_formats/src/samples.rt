@@ -95,10 +95,12 @@ pub(crate) fn change_of_samples(
             window,
             tile_width,
             tile_height,
+            bytes,
         } => Some(Change::Mean {
             window: window_of_samples(x, y, width, height, window)?,
             tile_width: whole_samples(x, tile_width)?,
             tile_height: whole_samples(y, tile_height)?,
+            bytes,
         }),
         Change::Move { window, left, top } => {
             let under = window_of_samples(x, y, width, height, window)?;

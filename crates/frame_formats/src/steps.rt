@@ -1,10 +1,10 @@
 //! Changes of the pixels of frames, and what they are on each plane.
 
 ghost use Rattle.std.specs.Prelude.{◌≡◌, ◌∷◌, ◌<◌, ◌%◌, ◌/◌, []};
-ghost use Rattle.frame_formats.specs.Steps.{video_pixel, pixel_size, pixel_bytes, black, grey_of, colour_of, no_colour, opaque, value_in, change_in};
+ghost use Rattle.frame_formats.specs.Steps.{video_pixel, bytes_of, pixel_size, pixel_bytes, black, grey_of, colour_of, no_colour, opaque, value_in, change_in};
 
 use crate::pam::Tuples;
-use image_planes::{Change, Value};
+use image_planes::{Change, SampleBytes, Value};
 
 /// The value that pixels get. Its numbers are in units of the samples.
 #[derive(Clone, Copy, PartialEq, Eq)]
@@ -175,8 +175,22 @@ fn value_in(pixel: Pixel, paint: Paint) -> Option<Value>
     }
 }
 
-/// What a change is on a plane of such pixels. `None` for a value that they lack, for a colour where
-/// there is one brightness, and for a mean of samples of two bytes.
+// The bytes of a sample.
+fn bytes_of(pixel: Pixel) -> SampleBytes
+    ensures { result ≡ bytes_of pixel }
+{
+    if pixel.greatest < 256 {
+        return SampleBytes::One;
+    }
+    if pixel.high_first {
+        SampleBytes::HighFirst
+    } else {
+        SampleBytes::LowFirst
+    }
+}
+
+/// What a change is on a plane of such pixels. `None` for a value that they lack, and for a colour
+/// where there is one brightness. Means are those of their samples.
 #[tactic(auto, unfolding(crate::specs::Steps::change_in))]
 pub(crate) fn change_in(pixel: Pixel, change: Change<Paint>) -> Option<Change<Value>>
     ensures { result ≡ change_in pixel change }
@@ -199,16 +213,13 @@ pub(crate) fn change_in(pixel: Pixel, change: Change<Paint>) -> Option<Change<Va
             window,
             tile_width,
             tile_height,
-        } => {
-            if pixel.greatest > 255 {
-                return None;
-            }
-            Some(Change::Mean {
-                window,
-                tile_width,
-                tile_height,
-            })
-        }
+            bytes: _,
+        } => Some(Change::Mean {
+            window,
+            tile_width,
+            tile_height,
+            bytes: bytes_of(pixel),
+        }),
         Change::Move { window, left, top } => Some(Change::Move { window, left, top }),
         Change::Flip(axes) => Some(Change::Flip(axes)),
     }

@@ -8,7 +8,7 @@ ghost use Rattle.frame_formats.specs.Words.{pair_of, colour_in, paint_of, axes_o
 use crate::framing::Framing;
 use crate::ranges::{Range, read_range};
 use crate::steps::Paint;
-use image_planes::{Axes, Change, Quarter, Window};
+use image_planes::{Axes, Change, Quarter, SampleBytes, Window};
 use texts::{Field, Parts, next};
 
 /// A change, and the frames that it is for.
@@ -74,6 +74,7 @@ fn read_change(word: &[u8], window: Window, last: &[u8]) -> Option<Change<Paint>
             window,
             tile_width,
             tile_height,
+            bytes: SampleBytes::One,
         })
     } else if word == b"move".as_slice() {
         let (left, top) = read_pair(last)?;

@@ -34,4 +34,5 @@ pub mod BlockSpreading
 pub mod CountedUpto
 pub mod Windowed
 pub mod Rounding
+pub mod Samples
 pub mod MeanTiles

@@ -46,7 +46,7 @@ pub use flipping::{flip_columns, flip_rows, swap_columns};
 pub use hashing::hash_pixels;
 pub use making::make_pixels;
 pub use map::map_pixels;
-pub use means::{Sample, mean_window};
+pub use means::{Sample, SampleBytes, mean_samples, mean_window};
 pub use mosaic::mosaic_cells;
 pub use moving::move_pixels;
 pub use packing::{join_rows, pack};

@@ -12,11 +12,12 @@ use Rattle.image_model.specs.Tiles.{tile_start}
 use Rattle.image_model.specs.Windows.{window_view}
 use Rattle.image_model.proofs.Grids.{same_grids, covers_decides}
 use Rattle.image_model.proofs.Tiles.{tile_start-is}
-use Rattle.image_ops.specs.Means.{mean_mosaic}
+use Rattle.image_ops.specs.Means.{sample_mosaic}
+use Rattle.image_ops.specs.declared.means.SampleBytes.{SampleBytes}
 use Rattle.image_ops.specs.Mosaic.{mosaic_by, shown_column}
 use Rattle.image_ops.specs.Oriented.{mirrored_by}
 use Rattle.image_ops.specs.Repeated.{repeated}
-use Rattle.image_planes.specs.Changes.{Job, job_len, in_bytes, changed, changed_plane, changed_planes, flipped_by, plane_grid, stepped, names}
+use Rattle.image_planes.specs.Changes.{bytes_for, Job, job_len, in_bytes, changed, changed_plane, changed_planes, flipped_by, plane_grid, stepped, names}
 use Rattle.image_planes.specs.Unseen.{MeansAlike, PlanesAlike, hidden_by, is_hidden, is_corner}
 use Rattle.image_planes.specs.declared.change.Change.{Change}
 use Rattle.image_planes.specs.declared.change.Change.TheVariants.{Fill, Mosaic, Mean, Move, Flip}
@@ -176,22 +177,22 @@ module _ (size : ℕ) (some : 0 < size) (width height : ℕ) (pixels : ℕ → �
       (mosaic_alike w tile_width tile_height g h a) (λ x y miss. let out = beside w x y miss in rw out refl) a
 
   -- all of the window counts
-  mean_alike : (w : Coded) (tile_width tile_height : ℕ) (g h : Grid ℕ) → AlikeBut (hides (Mean w tile_width tile_height)) g h
+  mean_alike : (w : Coded) (tile_width tile_height : ℕ) (bytes : SampleBytes) (g h : Grid ℕ) → AlikeBut (hides (Mean w tile_width tile_height bytes)) g h
       → window_view g (in_bytes size w) ≡ window_view h (in_bytes size w)
   unfolding view
-  mean_alike w tile_width tile_height g h a =
+  mean_alike w tile_width tile_height bytes g h a =
       same_grids (size * w.width) w.height _ _ (λ x y column line.
       let hit = (covers_decides (size * w.left) w.top (size * w.width) w.height (size * w.left + x) (w.top + y)).1 (omega arith, omega arith, omega (arith, column), omega (arith, line)) in
       let inside = sym (covers_pixels size w.left w.top w.width w.height (size * w.left + x) (w.top + y) some) ∙ hit in
       a.2 (size * w.left + x) (w.top + y) (rw inside refl))
 
-  mean_hides : (w : Coded) (tile_width tile_height : ℕ) (g h : Grid ℕ) → AlikeBut (hides (Mean w tile_width tile_height)) g h
-      → AlikeBut later (changed size (Mean w tile_width tile_height) g) (changed size (Mean w tile_width tile_height) h)
+  mean_hides : (w : Coded) (tile_width tile_height : ℕ) (bytes : SampleBytes) (g h : Grid ℕ) → AlikeBut (hides (Mean w tile_width tile_height bytes)) g h
+      → AlikeBut later (changed size (Mean w tile_width tile_height bytes) g) (changed size (Mean w tile_width tile_height bytes) h)
   unfolding view
-  mean_hides w tile_width tile_height g h a =
-      patched (hides (Mean w tile_width tile_height)) later (size * w.left) w.top (size * w.width) w.height g h
-      (mean_mosaic size tile_width tile_height (window_view g (in_bytes size w))) (mean_mosaic size tile_width tile_height (window_view h (in_bytes size w))) refl refl
-      (sym (ap (mean_mosaic size tile_width tile_height) (mean_alike w tile_width tile_height g h a))) (λ x y miss. let out = beside w x y miss in rw out refl) a
+  mean_hides w tile_width tile_height bytes g h a =
+      patched (hides (Mean w tile_width tile_height bytes)) later (size * w.left) w.top (size * w.width) w.height g h
+      (sample_mosaic (bytes_for size bytes) size tile_width tile_height (window_view g (in_bytes size w))) (sample_mosaic (bytes_for size bytes) size tile_width tile_height (window_view h (in_bytes size w))) refl refl
+      (sym (ap (sample_mosaic (bytes_for size bytes) size tile_width tile_height) (mean_alike w tile_width tile_height bytes g h a))) (λ x y miss. let out = beside w x y miss in rw out refl) a
 
   flip_hides : (axes : Axes) (g h : Grid ℕ) → g.width ≡ size * width → g.height ≡ height → AlikeBut (hides (Flip axes)) g h → AlikeBut later (flipped_by size axes g) (flipped_by size axes h)
   flip_hides Rows g h wide high a = rows_hide later height g h high a
@@ -204,7 +205,7 @@ module _ (size : ℕ) (some : 0 < size) (width height : ℕ) (pixels : ℕ → �
   one_step false c g h wide high a = a
   one_step true (Fill w value) g h wide high a = fill_hides w value g h a
   one_step true (Mosaic w tile_width tile_height) g h wide high a = mosaic_hides w tile_width tile_height g h a
-  one_step true (Mean w tile_width tile_height) g h wide high a = mean_hides w tile_width tile_height g h a
+  one_step true (Mean w tile_width tile_height bytes) g h wide high a = mean_hides w tile_width tile_height bytes g h a
   one_step true (Move w left top) g h wide high a = grind (arith, all_same)
   one_step true (Flip axes) g h wide high a = flip_hides axes g h wide high a
 
@@ -214,7 +215,7 @@ unfolding patch flipped
 size_kept size false c g = (refl, refl)
 size_kept size true (Fill w value) g = (refl, refl)
 size_kept size true (Mosaic w tile_width tile_height) g = (refl, refl)
-size_kept size true (Mean w tile_width tile_height) g = (refl, refl)
+size_kept size true (Mean w tile_width tile_height bytes) g = (refl, refl)
 size_kept size true (Move w left top) g = (refl, refl)
 size_kept size true (Flip Rows) g = (refl, refl)
 size_kept size true (Flip Columns) g = (refl, refl)
@@ -258,7 +259,7 @@ same_beside : (left top width height : ℕ) (g h p q : Grid ℕ) → p.width ≡
 unfolding patch
 same_beside left top width height g h p q across down same wide high beside = all_same _ _ (grind (arith, other_way))
 
-pub only_means : (size : ℕ) (w : Coded) (tile_width tile_height : ℕ) (g h : Grid ℕ) → MeansAlike size w tile_width tile_height g h → changed size (Mean w tile_width tile_height) g ≡ changed size (Mean w tile_width tile_height) h
+pub only_means : (size : ℕ) (w : Coded) (tile_width tile_height : ℕ) (bytes : SampleBytes) (g h : Grid ℕ) → MeansAlike size w tile_width tile_height bytes g h → changed size (Mean w tile_width tile_height bytes) g ≡ changed size (Mean w tile_width tile_height bytes) h
 unfolding view
-only_means size w tile_width tile_height g h a =
-    same_beside (size * w.left) w.top (size * w.width) w.height g h (mean_mosaic size tile_width tile_height (window_view g (in_bytes size w))) (mean_mosaic size tile_width tile_height (window_view h (in_bytes size w))) refl refl a.means a.same_width a.same_height a.beside
+only_means size w tile_width tile_height bytes g h a =
+    same_beside (size * w.left) w.top (size * w.width) w.height g h (sample_mosaic (bytes_for size bytes) size tile_width tile_height (window_view g (in_bytes size w))) (sample_mosaic (bytes_for size bytes) size tile_width tile_height (window_view h (in_bytes size w))) refl refl a.means a.same_width a.same_height a.beside

@@ -1,5 +1,5 @@
 -- What changes make of the grid of an image, and of a frame: planes one after the other.
-use Rattle.std.specs.Prelude.{ℕ, ◌+◌, ◌*◌, ◌<◌, ◌^◌, Bool, true, ◌&&◌, nat_lt, nat_le, if◌then◌else◌, Option, Some, None, List, [], ◌∷◌, ◌++◌, take, drop}
+use Rattle.std.specs.Prelude.{ℕ, ◌+◌, ◌*◌, ◌%◌, ◌==◌, ◌<◌, ◌^◌, Bool, true, ◌&&◌, nat_lt, nat_le, if◌then◌else◌, Option, Some, None, List, [], ◌∷◌, ◌++◌, take, drop}
 use Rattle.image_model.specs.Layout.{layout}
 use Rattle.image_model.specs.Grid.{Grid, grid_of, patch}
 use Rattle.image_model.specs.Flips.{flipped}
@@ -7,7 +7,9 @@ use Rattle.image_model.specs.Rows.{grid_pixels}
 use Rattle.image_model.specs.Windows.{IsInside, is_inside, window, window_view}
 use Rattle.image_model.specs.Windows as model
 use Rattle.imgref.specs.Window.{as_window}
-use Rattle.image_ops.specs.Means.{mean_mosaic}
+use Rattle.image_ops.specs.Means.{sample_mosaic}
+use Rattle.image_ops.specs.declared.means.SampleBytes.{SampleBytes}
+use Rattle.image_ops.specs.declared.means.SampleBytes.TheVariants.{One}
 use Rattle.image_ops.specs.Mosaic.{mosaic_by}
 use Rattle.image_ops.specs.Oriented.{mirrored_by}
 use Rattle.image_ops.specs.Repeated.{repeated}
@@ -29,11 +31,15 @@ flipped_by size Rows g = flipped g
 flipped_by size Columns g = mirrored_by size g
 flipped_by size Both g = flipped (mirrored_by size g)
 
+-- the bytes of a sample, where a pixel of so many has whole ones; else each byte is a sample
+abbrev pub bytes_for : ℕ → SampleBytes → SampleBytes
+bytes_for size bytes = if size % 2 == 0 then bytes else One
+
 -- what a change of pixels of so many bytes makes of the grid of the bytes
 abbrev pub changed : ℕ → Change (List ℕ) → Grid ℕ → Grid ℕ
 changed size (Fill w value) g = patch g (size * w.left) w.top (repeated (size * w.width) w.height (take size value))
 changed size (Mosaic w tile_width tile_height) g = patch g (size * w.left) w.top (mosaic_by size tile_width tile_height (window_view g (in_bytes size w)))
-changed size (Mean w tile_width tile_height) g = patch g (size * w.left) w.top (mean_mosaic size tile_width tile_height (window_view g (in_bytes size w)))
+changed size (Mean w tile_width tile_height bytes) g = patch g (size * w.left) w.top (sample_mosaic (bytes_for size bytes) size tile_width tile_height (window_view g (in_bytes size w)))
 changed size (Move w left top) g = patch g (size * left) top (window_view g (in_bytes size w))
 changed size (Flip axes) g = flipped_by size axes g
 
@@ -41,7 +47,7 @@ changed size (Flip axes) g = flipped_by size axes g
 abbrev pub IsChangeOf : ℕ → ℕ → Change (List ℕ) → Type 0
 IsChangeOf width height (Fill w value) = IsInside width height (as_window w)
 IsChangeOf width height (Mosaic w tile_width tile_height) = (0 < tile_width) × (0 < tile_height) × IsInside width height (as_window w)
-IsChangeOf width height (Mean w tile_width tile_height) = (0 < tile_width) × (0 < tile_height) × IsInside width height (as_window w)
+IsChangeOf width height (Mean w tile_width tile_height bytes) = (0 < tile_width) × (0 < tile_height) × IsInside width height (as_window w)
 IsChangeOf width height (Move w left top) = IsInside width height (as_window w) × IsInside width height (window left top w.width w.height)
 IsChangeOf width height (Flip axes) = Unit {0}
 
@@ -49,7 +55,7 @@ IsChangeOf width height (Flip axes) = Unit {0}
 abbrev pub is_change_of : ℕ → ℕ → Change (List ℕ) → Bool
 is_change_of width height (Fill w value) = is_inside width height (as_window w)
 is_change_of width height (Mosaic w tile_width tile_height) = nat_lt 0 tile_width && (nat_lt 0 tile_height && is_inside width height (as_window w))
-is_change_of width height (Mean w tile_width tile_height) = nat_lt 0 tile_width && (nat_lt 0 tile_height && is_inside width height (as_window w))
+is_change_of width height (Mean w tile_width tile_height bytes) = nat_lt 0 tile_width && (nat_lt 0 tile_height && is_inside width height (as_window w))
 is_change_of width height (Move w left top) = is_inside width height (as_window w) && is_inside width height (window left top w.width w.height)
 is_change_of width height (Flip axes) = true
 

@@ -3,8 +3,9 @@ use Rattle.std.specs.Prelude.{◌≡◌, ℕ, ◌*◌, ◌-◌, ◌/◌, ◌==�
 use Rattle.image_model.specs.Grid.{Grid, covers}
 use Rattle.image_model.specs.Tiles.{tile_start}
 use Rattle.image_model.specs.Windows.{window_view}
-use Rattle.image_ops.specs.Means.{mean_mosaic}
-use Rattle.image_planes.specs.Changes.{Job, in_bytes, job_len, plane_grid, names}
+use Rattle.image_ops.specs.Means.{sample_mosaic}
+use Rattle.image_ops.specs.declared.means.SampleBytes.{SampleBytes}
+use Rattle.image_planes.specs.Changes.{Job, bytes_for, in_bytes, job_len, plane_grid, names}
 use Rattle.image_planes.specs.declared.change.Axes.TheVariants.{Rows, Columns, Both}
 use Rattle.image_planes.specs.declared.change.Step.{Step}
 use Rattle.image_planes.specs.declared.change.Change.{Change}
@@ -19,7 +20,7 @@ is_corner w tile_width tile_height x y = (tile_start tile_width (x - w.left) == 
 abbrev pub hidden_by : ℕ → ℕ → Change (List ℕ) → (ℕ → ℕ → Bool) → ℕ → ℕ → Bool
 hidden_by width height (Fill w value) later x y = if covers w.left w.top w.width w.height x y then true else later x y
 hidden_by width height (Mosaic w tile_width tile_height) later x y = if covers w.left w.top w.width w.height x y then not (is_corner w tile_width tile_height x y) else later x y
-hidden_by width height (Mean w tile_width tile_height) later x y = if covers w.left w.top w.width w.height x y then false else later x y
+hidden_by width height (Mean w tile_width tile_height bytes) later x y = if covers w.left w.top w.width w.height x y then false else later x y
 hidden_by width height (Move w left top) later x y = false
 hidden_by width height (Flip Rows) later x y = later x (height - 1 - y)
 hidden_by width height (Flip Columns) later x y = later (width - 1 - x) y
@@ -43,8 +44,8 @@ PlanesAlike number (j ∷ js) p q =
     GridsAlike number j (plane_grid j (take (job_len j) p)) (plane_grid j (take (job_len j) q)) × PlanesAlike number js (drop (job_len j) p) (drop (job_len j) q)
 
 -- two grids are the same but in a window, of which each tile has the same means
-pub record MeansAlike (size : ℕ) (w : Window) (tile_width tile_height : ℕ) (g h : Grid ℕ) : Type 0 where
+pub record MeansAlike (size : ℕ) (w : Window) (tile_width tile_height : ℕ) (bytes : SampleBytes) (g h : Grid ℕ) : Type 0 where
   pub same_width : g.width ≡ h.width
   pub same_height : g.height ≡ h.height
   pub beside : (x y : ℕ) → covers (size * w.left) w.top (size * w.width) w.height x y ≡ false → g.pixel x y ≡ h.pixel x y
-  pub means : mean_mosaic size tile_width tile_height (window_view g (in_bytes size w)) ≡ mean_mosaic size tile_width tile_height (window_view h (in_bytes size w))
+  pub means : sample_mosaic (bytes_for size bytes) size tile_width tile_height (window_view g (in_bytes size w)) ≡ sample_mosaic (bytes_for size bytes) size tile_width tile_height (window_view h (in_bytes size w))

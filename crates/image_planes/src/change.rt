@@ -1,17 +1,19 @@
 //! Changes of an image in place, over its bytes in a shape. A pixel is some bytes next to one
 //! another in a row, so a window of pixels is a window of bytes.
 
-ghost use Rattle.std.specs.Prelude.{◌≡◌, ◌<◌, ◌/◌, ◌*◌};
+ghost use Rattle.std.specs.Prelude.{◌≡◌, ◌<◌, ◌/◌, ◌*◌, ◌%◌};
 ghost use Rattle.image_model.specs.Layout.{Fits};
 ghost use Rattle.image_model.specs.Grid.{grid_of};
 ghost use Rattle.image_model.specs.Windows.{IsInside};
 ghost use Rattle.imgref.specs.Shape.{shaped, shape_width, shape_height};
 ghost use Rattle.imgref.specs.Window.{as_window};
+ghost use Rattle.image_ops.specs.Means.{sample_cells};
 ghost use Rattle.image_ops.specs.Written.{Becomes};
-ghost use Rattle.image_planes.specs.Changes.{IsChangeOf, changed, flipped_by, in_bytes};
+ghost use Rattle.image_planes.specs.Changes.{IsChangeOf, bytes_for, changed, flipped_by, in_bytes};
 
 use image_ops::{
-    flip_rows, flip_window_columns, mean_window, mosaic_window_by, move_pixels, repeat_window,
+    SampleBytes, flip_rows, flip_window_columns, mean_samples, mosaic_window_by, move_pixels,
+    repeat_window,
 };
 use imgref::{Shape, Window};
 
@@ -43,12 +45,14 @@ pub enum Change<V> {
         tile_width: usize,
         tile_height: usize,
     },
-    /// Every pixel of the window gets the mean of its tile's pixels, byte by byte, rounded to the
-    /// nearest: a half goes up.
+    /// Every pixel of the window gets the mean of its tile's pixels, sample by sample, rounded to the
+    /// nearest: a half goes up. Where a pixel has an odd number of bytes, each byte is a sample.
     Mean {
         window: Window,
         tile_width: usize,
         tile_height: usize,
+        /// The bytes of a sample.
+        bytes: SampleBytes,
     },
     /// The old pixels of the window are written over those of the window of its size at another
     /// corner; the two may overlap.
@@ -86,6 +90,18 @@ pub(crate) fn in_bytes(shape: Shape, size: usize, window: Window) -> Window
         size * window.width,
         window.height,
     )
+}
+
+// The bytes of a sample, of which a pixel of so many bytes has whole ones.
+fn bytes_for(size: usize, bytes: SampleBytes) -> SampleBytes
+    ensures bytes { result ≡ bytes_for size bytes }
+    ensures whole { size % sample_cells result ≡ 0 }
+{
+    if size % 2 == 0 {
+        bytes
+    } else {
+        SampleBytes::One
+    }
 }
 
 // In each row the first pixel changes places with the last, and so on. A pixel has `size` bytes; the
@@ -149,9 +165,11 @@ pub(crate) fn change_cells(cells: &mut [u8], shape: Shape, size: usize, change: 
             window,
             tile_width,
             tile_height,
+            bytes,
         } => {
             let part = in_bytes(shape, size, window);
-            mean_window(cells, shape, part, size, tile_width, tile_height);
+            let bytes = bytes_for(size, bytes);
+            mean_samples(bytes, cells, shape, part, size, tile_width, tile_height);
         }
         Change::Move { window, left, top } => {
             let target = Window::new(left, top, window.width, window.height);

@@ -2,6 +2,7 @@
 
 ghost use Rattle.std.specs.Prelude.{◌≡◌, ℕ, List};
 ghost use Rattle.image_model.specs.Grid.{Grid};
+ghost use Rattle.image_ops.specs.declared.means.SampleBytes.{SampleBytes};
 ghost use Rattle.image_planes.specs.Changes.{Job, changed, changed_planes};
 ghost use Rattle.image_planes.specs.declared.change.Change.TheVariants.{Mean};
 ghost use Rattle.image_shape.specs.declared.window.Window.{Window};
@@ -10,14 +11,14 @@ ghost use Rattle.image_planes.specs.Unseen.{MeansAlike, PlanesAlike};
 /// A frame reveals nothing of a filled window, and of a mosaic only the corners of its tiles. That
 /// is, frames that differ only at the other places are equal after the steps. A caller calls this
 /// for its clauses, which are the law; it does nothing. By `means`, a mosaic of means reveals of its
-/// window only the mean of each tile, byte by byte.
+/// window only the mean of each tile, sample by sample.
 #[tactic(auto, using(crate::proofs::Unseen::planes_hide, crate::proofs::Unseen::only_means))]
 pub fn changes_hide()
     ensures planes { (number : ℕ) (jobs : List Job) (cells others : List ℕ)
         → PlanesAlike number jobs cells others
         → changed_planes number jobs cells ≡ changed_planes number jobs others }
-    ensures means { (size : ℕ) (window : Window) (tile_width tile_height : ℕ) (g h : Grid ℕ)
-        → MeansAlike size window tile_width tile_height g h
-        → changed size (Mean window tile_width tile_height) g
-        ≡ changed size (Mean window tile_width tile_height) h }
+    ensures means { (size : ℕ) (window : Window) (tile_width tile_height : ℕ) (bytes : SampleBytes)
+        → (g h : Grid ℕ) → MeansAlike size window tile_width tile_height bytes g h
+        → changed size (Mean window tile_width tile_height bytes) g
+        ≡ changed size (Mean window tile_width tile_height bytes) h }
 {}

@@ -127,6 +127,7 @@ pub(crate) fn is_inside(width: usize, height: usize, change: Change<Value>) -> b
             window,
             tile_width,
             tile_height,
+            bytes: _,
         } => tile_width > 0 && tile_height > 0 && window.is_inside(width, height),
         Change::Move { window, left, top } => {
             let target = Window::new(left, top, window.width, window.height);

@@ -35,7 +35,7 @@ pub record AreUsable (e : Edits) : Type 0 where
 abbrev pub spreads : Bool → Change Paint → Bool
 spreads means (Fill w paint) = false
 spreads means (Mosaic w wide high) = false
-spreads means (Mean w wide high) = means
+spreads means (Mean w wide high bytes) = means
 spreads means (Move w left top) = not means
 spreads means (Flip axes) = false
 
@@ -43,7 +43,7 @@ spreads means (Flip axes) = false
 abbrev pub covers : Bool → Change Paint → Bool
 covers means (Fill w paint) = true
 covers means (Mosaic w wide high) = true
-covers means (Mean w wide high) = not means
+covers means (Mean w wide high bytes) = not means
 covers means (Move w left top) = false
 covers means (Flip axes) = false
 

@@ -78,8 +78,6 @@ enum Wrong {
     NoSize,
     Colour,
     TooLarge,
-    // A mean of samples of two bytes.
-    Deep,
     // A quarter turn where as many columns as rows don't share a chroma sample.
     Sampling(usize, usize),
     // A quarter turn of pixels that aren't square.
@@ -152,7 +150,6 @@ fn check_change(frame: Frame, change: Change<Paint>) -> Option<Wrong> {
                 check_value(frame, value).or(check_window(frame, window))
             }
         },
-        Change::Mean { .. } if frame.greatest > 255 => Some(Wrong::Deep),
         Change::Mosaic {
             window,
             tile_width,
@@ -162,6 +159,7 @@ fn check_change(frame: Frame, change: Change<Paint>) -> Option<Wrong> {
             window,
             tile_width,
             tile_height,
+            bytes: _,
         } => {
             if tile_width == 0 || tile_height == 0 {
                 return Some(Wrong::NoSize);
@@ -219,7 +217,6 @@ fn say_wrong(rt: &HostRuntime, wrong: Wrong) {
         Wrong::Outside => eprintln!(rt; "it reaches outside the frame"),
         Wrong::NoSize => eprintln!(rt; "its size is 0"),
         Wrong::Colour => eprintln!(rt; "a colour is only for pictures in colour"),
-        Wrong::Deep => eprintln!(rt; "means are only for samples of one byte"),
         Wrong::Fields => eprintln!(rt;
             "the video is interlaced, and its fields would be mixed up. Deinterlace it first"
         ),

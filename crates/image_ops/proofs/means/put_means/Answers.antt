@@ -3,9 +3,10 @@ use Rattle.std.proofs.Common.{◌≡◌, ℕ, ◌+◌, ◌-◌, ◌*◌, ◌%◌
 use Rattle.std.proofs.Math.Nat.{mod-add-mod}
 use Rattle.image_model.specs.Rows.{row_count}
 use Rattle.image_model.proofs.Rows.{row_count-le}
-use Rattle.image_ops.specs.Means.{PutsMeans}
+use Rattle.image_ops.specs.Means.{mean_cell, row_cell, PutsCells}
 use Rattle.image_ops.proofs.RowsWritten.{outside_stays}
-use Rattle.image_ops.proofs.MeanTiles.{IsMean, lines_inside, row_kept, row_put, rows_put}
+use Rattle.image_ops.proofs.MeanTiles.{IsBegun, lines_inside, row_kept, row_put, rows_put, grid_cell}
+use Rattle.image_shape.specs.Shape.{shaped_grid}
 use Rattle.image_ops.proofs.means.put_means.Goals.{then-line-eq0, else-line-eq0}
 use Rattle.image_ops.proofs.means.put_means.Goals as goal
 
@@ -32,12 +33,16 @@ loop-y-preserved g c =
       put = elim c.if-line-eq0.branch [
         | then-line-eq0 w ↦
             let count : w.min-lines.result ≡ min a.tile_height (s.height - y) = omega (arith, w.min-lines.ensures, w.height.ensures.value) in
-            let put : PutsMeans g.T.Sample.number g.T.Sample.sample a.size a.tile_width w.min-lines.result s.stride (y * s.stride) s.width c.loop-y.cells w.put_row_means.new.cells =
-            subst (λ k. PutsMeans g.T.Sample.number g.T.Sample.sample a.size a.tile_width w.min-lines.result s.stride k s.width c.loop-y.cells w.put_row_means.new.cells) w.row-row.ensures.start
-            (subst (λ k. PutsMeans g.T.Sample.number g.T.Sample.sample a.size a.tile_width w.min-lines.result s.stride w.row-row.result.start k c.loop-y.cells w.put_row_means.new.cells) w.row-row.ensures.len
-            (subst (λ k. PutsMeans g.T.Sample.number g.T.Sample.sample a.size a.tile_width w.min-lines.result k w.row-row.result.start w.row-row.result.len c.loop-y.cells w.put_row_means.new.cells) w.stride.ensures.value w.put_row_means.ensures)) in
-            rw w.cells-is (row_put g.T.Sample.number g.T.Sample.sample a.cells.now s a.size a.tile_width a.tile_height c.loop-y.cells y so.put w.put_row_means.new.cells w.min-lines.result c.requires.size count below put)
-        | else-line-eq0 w ↦ rw w.cells-is (row_kept g.T.Sample.number g.T.Sample.sample a.cells.now s a.size a.tile_width a.tile_height c.loop-y.cells y so.put (omega (arith, so.line, w.if-line-eq0.false)))
+            let what = mean_cell a.bytes g.T.Sample.number g.T.Sample.sample a.size a.tile_width a.tile_height (shaped_grid a.cells.now s) in
+            let cell = λ (stride : ℕ). λ (start : ℕ). λ (width : ℕ). row_cell a.bytes g.T.Sample.number g.T.Sample.sample a.size a.tile_width w.min-lines.result stride start width c.loop-y.cells in
+            let put : PutsCells (cell s.stride (y * s.stride) s.width) a.size a.tile_width (y * s.stride) s.width c.loop-y.cells w.put_row_means.new.cells =
+            subst (λ k. PutsCells (cell s.stride k s.width) a.size a.tile_width k s.width c.loop-y.cells w.put_row_means.new.cells) w.row-row.ensures.start
+            (subst (λ k. PutsCells (cell s.stride w.row-row.result.start k) a.size a.tile_width w.row-row.result.start k c.loop-y.cells w.put_row_means.new.cells) w.row-row.ensures.len
+            (subst (λ k. PutsCells (cell k w.row-row.result.start w.row-row.result.len) a.size a.tile_width w.row-row.result.start w.row-row.result.len c.loop-y.cells w.put_row_means.new.cells) w.stride.ensures.value w.put_row_means.ensures)) in
+            rw w.cells-is
+            (row_put what a.cells.now s a.size a.tile_width a.tile_height c.loop-y.cells y so.put w.put_row_means.new.cells (cell s.stride (y * s.stride) s.width)
+            (λ x column. grid_cell a.bytes g.T.Sample.number g.T.Sample.sample what a.cells.now c.loop-y.cells s a.size a.tile_width a.tile_height y w.min-lines.result x so.put c.requires.size c.requires.pixels c.requires.whole count column below) put)
+        | else-line-eq0 w ↦ rw w.cells-is (row_kept (mean_cell a.bytes g.T.Sample.number g.T.Sample.sample a.size a.tile_width a.tile_height (shaped_grid a.cells.now s)) a.cells.now s a.size a.tile_width a.tile_height c.loop-y.cells y so.put (omega (arith, so.line, w.if-line-eq0.false)))
       ];
       line = c.next_line-line.ensures ∙ ap (λ k. (k + 1) % a.tile_height) so.line ∙ mod-add-mod y a.tile_height 1;
     }
@@ -45,9 +50,9 @@ loop-y-preserved g c =
 pub returns-clause-grid : goal.returns-clause-grid
 returns-clause-grid g c =
     let a = c.args in
-    rows_put g.T.Sample.number g.T.Sample.sample a.cells.now a.shape a.size a.tile_width a.tile_height c.loop-y.cells c.loop-y.y c.loop-y.invariant.put (omega (arith, c.row_count-y-end.ensures.value))
+    rows_put (mean_cell a.bytes g.T.Sample.number g.T.Sample.sample a.size a.tile_width a.tile_height (shaped_grid a.cells.now a.shape)) a.cells.now a.shape a.size a.tile_width a.tile_height c.loop-y.cells c.loop-y.y c.loop-y.invariant.put (omega (arith, c.row_count-y-end.ensures.value))
 
 pub returns-clause-outside : goal.returns-clause-outside
 returns-clause-outside g c =
     let a = c.args in
-    outside_stays (IsMean g.T.Sample.number g.T.Sample.sample a.cells.now a.shape a.size a.tile_width a.tile_height) a.cells.now c.loop-y.cells a.shape c.loop-y.y c.loop-y.invariant.put (omega (arith, c.row_count-y-end.ensures.value))
+    outside_stays (IsBegun (mean_cell a.bytes g.T.Sample.number g.T.Sample.sample a.size a.tile_width a.tile_height (shaped_grid a.cells.now a.shape)) a.cells.now a.shape a.size a.tile_width a.tile_height) a.cells.now c.loop-y.cells a.shape c.loop-y.y c.loop-y.invariant.put (omega (arith, c.row_count-y-end.ensures.value))

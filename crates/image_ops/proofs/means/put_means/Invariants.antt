@@ -1,11 +1,13 @@
--- The rows so far have the means, and the line of the next one is known.
+-- The rows so far have their cells, and the line of the next one is known.
 use Rattle.std.proofs.Common.{◌≡◌, ◌%◌}
 use Rattle.image_ops.proofs.RowsWritten.{RowsDone}
-use Rattle.image_ops.proofs.MeanTiles.{IsMean}
+use Rattle.image_ops.specs.Means.{mean_cell}
+use Rattle.image_ops.proofs.MeanTiles.{IsBegun}
+use Rattle.image_shape.specs.Shape.{shaped_grid}
 use Rattle.image_ops.proofs.means.put_means.Given as goal
 
 abbrev pub invariant-loop-y : goal.invariant-loop-y
 invariant-loop-y g l = record {
-  put : RowsDone (IsMean g.T.Sample.number g.T.Sample.sample l.initial.cells l.shape l.size l.tile_width l.tile_height) l.initial.cells l.cells l.shape l.y;
+  put : RowsDone (IsBegun (mean_cell l.bytes g.T.Sample.number g.T.Sample.sample l.size l.tile_width l.tile_height (shaped_grid l.initial.cells l.shape)) l.initial.cells l.shape l.size l.tile_width l.tile_height) l.initial.cells l.cells l.shape l.y;
   line : l.line ≡ l.y % l.tile_height;
 }
