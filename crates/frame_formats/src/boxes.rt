@@ -1,11 +1,13 @@
 //! The boxes of a tracker's list, as the covers that they become.
 
-ghost use Rattle.std.specs.Prelude.{◌≡◌, ◌≤◌, ◌<◌, ◌↔◌, ℕ, Some, None, IfSome, IfOk, IfErr, OnOk, false, []};
+ghost use Rattle.std.specs.Prelude.{◌≡◌, ◌≤◌, ◌<◌, ◌↔◌, ℕ, All, IsPermutation, Some, None, IfSome, IfOk, IfErr, OnOk, false, []};
 ghost use Rattle.std.specs.List.{list_all};
+ghost use Rattle.std.specs.List.Sorted.{IsNonDecreasingBy};
+ghost use Rattle.std.specs.Option.{option_to_list};
 ghost use Rattle.text_model.specs.Parts.{parts_of};
 ghost use Rattle.text_model.specs.Reading.{Finds, first_of_parts};
 ghost use Rattle.texts.specs.Parts.{parts_left};
-ghost use Rattle.frame_formats.specs.Boxes.{without_white, part_of, part_in, unsigned_in, signed_of, decimal_of, frame_of, box_of, IsDecimal, IsTracked, side_of, window_of_box, cover_of, line_covers, with_box, with_boxes, TouchesExactly, AreCovers};
+ghost use Rattle.frame_formats.specs.Boxes.{without_white, part_of, part_in, unsigned_in, signed_of, decimal_of, frame_of, box_of, IsDecimal, IsTracked, side_of, window_of_box, cover_of, with_box, with_boxes, TouchesExactly, IsExtent, IsBox, line_boxes, each_box, first_of, AreCovers};
 ghost use Rattle.frame_formats.specs.Lists.{is_white};
 
 use crate::digits::is_digit;
@@ -14,7 +16,7 @@ use crate::ranges::Range;
 use crate::steps::Paint;
 use crate::words::Edit;
 use image_planes::{Change, Window};
-use std::alloc::Global;
+use std::alloc::{AllocError, Global};
 use texts::{Field, Parts, next};
 
 /// A number of a tracker's list, in pixels: a sign, a whole number, and a fraction in units of
@@ -40,7 +42,7 @@ pub struct Tracked {
 }
 
 // How many units a pixel has.
-const PIXEL: u128 = 100_000_000_000_000_000_000;
+pub(crate) const PIXEL: u128 = 100_000_000_000_000_000_000;
 
 // What the first digit of a fraction counts, in units.
 const TENTH: u64 = 10_000_000_000_000_000_000;
@@ -178,7 +180,7 @@ fn read_box(line: &[u8]) -> Option<Tracked>
 // The first pixel that a side touches, and how many it touches.
 fn side_of(start: Decimal, extent: Decimal) -> (usize, usize)
     requires start { IsDecimal start }
-    requires extent { IsDecimal extent }
+    requires extent { IsExtent extent }
     ensures { result ≡ side_of start extent }
 {
     if !start.minus {
@@ -203,7 +205,7 @@ fn side_of(start: Decimal, extent: Decimal) -> (usize, usize)
 /// touches. Where it ends before the first column or row, the cover is far outside.
 #[tactic(auto, using(crate::proofs::Touched::touches_exactly))]
 pub fn cover_of(tracked: Tracked) -> Edit
-    requires { IsTracked tracked }
+    requires { IsBox tracked }
     ensures cover { result ≡ cover_of tracked }
     ensures touched { TouchesExactly tracked (window_of_box tracked) }
 {
@@ -232,21 +234,18 @@ fn is_blank(line: &[u8]) -> bool
     line.iter().all(|b| is_white(*b))
 }
 
-// Adds the cover of the box that a line is, where it has a word.
-fn take_line(covers: &mut Vec<Edit>, line: &[u8]) -> Result<(), WordsFault>
-    ensures taken { OnOk result (with_box covers.old.items line.now ≡ Some covers.new.items) }
-    ensures none { IfErr result
-        (λ e. e ≡ WordsFault.NoEdit → with_box covers.old.items line.now ≡ None) }
+// The box that a line is, or `None` where it has no word.
+fn box_on(line: &[u8]) -> Result<Option<Tracked>, WordsFault>
+    ensures found { IfOk result (λ found. line_boxes line.now ≡ Some (option_to_list found)) }
+    ensures exact { IfOk result (λ found. IfSome found IsTracked) }
+    ensures none { IfErr result (λ _. line_boxes line.now ≡ None) }
 {
     let line = before_comment(before_return(line));
     match read_box(line) {
-        Some(tracked) => match covers.push(cover_of(tracked)) {
-            Ok(()) => Ok(()),
-            Err(_) => Err(WordsFault::Memory),
-        },
+        Some(tracked) => Ok(Some(tracked)),
         None => {
             if is_blank(line) {
-                Ok(())
+                Ok(None)
             } else {
                 Err(WordsFault::NoEdit)
             }
@@ -254,12 +253,29 @@ fn take_line(covers: &mut Vec<Edit>, line: &[u8]) -> Result<(), WordsFault>
     }
 }
 
+// Adds the cover of the box that a line is, where it has a word.
+#[tactic(auto, using(crate::proofs::Touched::is_box))]
+fn take_line(covers: &mut Vec<Edit>, line: &[u8]) -> Result<(), WordsFault>
+    ensures taken { OnOk result
+        (with_box cover_of covers.old.items line.now ≡ Some covers.new.items) }
+    ensures none { IfErr result
+        (λ e. e ≡ WordsFault.NoEdit → with_box cover_of covers.old.items line.now ≡ None) }
+{
+    match box_on(line) {
+        Ok(Some(tracked)) => match covers.push(cover_of(tracked)) {
+            Ok(()) => Ok(()),
+            Err(_) => Err(WordsFault::Memory),
+        },
+        Ok(None) => Ok(()),
+        Err(fault) => Err(fault),
+    }
+}
+
 // The covers of all lines, in their order.
 fn read_all(alloc: Global, text: &[u8]) -> Result<Vec<Edit>, WordsFault>
-    ensures covers { IfOk result
-        (λ covers. with_boxes [] (parts_of 10 text.now) ≡ Some covers.items) }
+    ensures covers { IfOk result (λ covers. each_box cover_of text.now ≡ Some covers.items) }
     ensures none { IfErr result
-        (λ e. e ≡ WordsFault.NoEdit → with_boxes [] (parts_of 10 text.now) ≡ None) }
+        (λ e. e ≡ WordsFault.NoEdit → each_box cover_of text.now ≡ None) }
 {
     let mut covers = Vec::new(alloc);
     let mut lines = Parts::new(text, b'\n');
@@ -272,12 +288,66 @@ fn read_all(alloc: Global, text: &[u8]) -> Result<Vec<Edit>, WordsFault>
     Ok(covers)
 }
 
+// Adds the box that a line is, where it has a word.
+fn take_box(boxes: &mut Vec<Tracked>, line: &[u8]) -> Result<(), WordsFault>
+    requires { All IsTracked boxes.old.items }
+    ensures taken { OnOk result (with_box (λ b. b) boxes.old.items line.now ≡ Some boxes.new.items) }
+    ensures exact { OnOk result (All IsTracked boxes.new.items) }
+    ensures none { IfErr result
+        (λ e. e ≡ WordsFault.NoEdit → with_box (λ b. b) boxes.old.items line.now ≡ None) }
+{
+    match box_on(line) {
+        Ok(Some(tracked)) => match boxes.push(tracked) {
+            Ok(()) => Ok(()),
+            Err(_) => Err(WordsFault::Memory),
+        },
+        Ok(None) => Ok(()),
+        Err(fault) => Err(fault),
+    }
+}
+
+/// The boxes that the lines of a text are, in their order, as `read_boxes` has them.
+///
+/// # Errors
+///
+/// `NoEdit` where a line is no box.
+pub fn read_tracked(alloc: Global, text: &[u8]) -> Result<Vec<Tracked>, WordsFault>
+    ensures boxes { IfOk result (λ boxes. each_box (λ b. b) text.now ≡ Some boxes.items) }
+    ensures exact { IfOk result (λ boxes. All IsTracked boxes.items) }
+    ensures none { IfErr result
+        (λ e. e ≡ WordsFault.NoEdit → each_box (λ b. b) text.now ≡ None) }
+{
+    let mut boxes = Vec::new(alloc);
+    let mut lines = Parts::new(text, b'\n');
+    while let Some(line) = lines.next_part() {
+        if let Err(fault) = take_box(&mut boxes, line) {
+            return Err(fault);
+        }
+    }
+    Ok(boxes)
+}
+
 /// The first frame that a cover is for.
-pub fn first_frame(cover: &Edit) -> u64 {
+pub fn first_frame(cover: &Edit) -> u64
+    ensures { result ≡ first_of cover.now }
+{
     match cover.range {
         Range::Frames { first, .. } => first,
         Range::Times { from, .. } => from,
     }
+}
+
+/// Puts covers in the order of their frames, and leaves those of one frame as they are.
+///
+/// # Errors
+///
+/// No memory was found.
+pub(crate) fn put_in_order(covers: &mut Vec<Edit>) -> Result<(), AllocError>
+    ensures same { IsPermutation covers.old.items covers.new.items }
+    ensures in_order { OnOk result (IsNonDecreasingBy first_of covers.new.items) }
+{
+    covers.sort_by_key(|cover| first_frame(cover))?;
+    Ok(())
 }
 
 /// The covers of the boxes that the lines of a text are, one on each line:
@@ -285,8 +355,7 @@ pub fn first_frame(cover: &Edit) -> u64 {
 /// ignored. Before a field there may be spaces and tabs. Empty lines, comments and the ends of lines
 /// are as in `Edits::take_lines`.
 ///
-/// They are in the order of their frames, so that a frame passes over the blocks of others. Those
-/// of one frame are in the order of their lines.
+/// They are in the order of their frames, so that a frame passes over the blocks of others.
 ///
 /// # Errors
 ///
@@ -294,13 +363,13 @@ pub fn first_frame(cover: &Edit) -> u64 {
 pub fn read_boxes(alloc: Global, text: &[u8]) -> Result<Vec<Edit>, WordsFault>
     ensures covers { IfOk result (λ covers. AreCovers text.now covers.items) }
     ensures none { IfErr result
-        (λ e. e ≡ WordsFault.NoEdit → with_boxes [] (parts_of 10 text.now) ≡ None) }
+        (λ e. e ≡ WordsFault.NoEdit → each_box cover_of text.now ≡ None) }
 {
     let mut covers = match read_all(alloc, text) {
         Ok(covers) => covers,
         Err(fault) => return Err(fault),
     };
-    match covers.sort_by_key(|cover| first_frame(cover)) {
+    match put_in_order(&mut covers) {
         Ok(()) => Ok(covers),
         Err(_) => Err(WordsFault::Memory),
     }
