@@ -115,7 +115,7 @@ def by_ends(cases, program):
         for frame in (1, 2, FRAMES - 1, FRAMES):
             lines = [f"{frame},1,2,2,4,4"]
             cases.count(f"frame {frame} held for {hold}", differing(program, data, lines, hold, ["--strict"]) is None)
-        said, all_lines = run(program, ["1,1,2,2,4,4", "", f"{greatest},1,2,2,4,4"], ["--hold", str(hold)], data)
+        said, all_lines = run(program, ["1,1,2,2,4,4", "", f"{greatest},2,2,2,4,4"], ["--hold", str(hold)], data)
         note = f"note: line 3 of the boxes: the input has {FRAMES} frames, and ends before its range {greatest - 1 - hold}.."
         cases.count(f"the last frame held for {hold}", said[2] == 0 and (all_lines[0].startswith(note) if hold < FRAMES else not all_lines[0]), str(all_lines[:2]))
 

@@ -1,13 +1,12 @@
 //! The boxes of a tracker's list, as the covers that they become.
 
-ghost use Rattle.std.specs.Prelude.{◌≡◌, ◌≤◌, ◌<◌, ◌↔◌, ℕ, All, IsPermutation, Some, None, IfSome, IfOk, IfErr, OnOk, false, []};
+ghost use Rattle.std.specs.Prelude.{◌≡◌, ◌≤◌, ◌<◌, ◌↔◌, ℕ, All, IsPermutation, Some, None, IfSome, IfOk, IfErr, OnOk, true, false, []};
 ghost use Rattle.std.specs.List.{list_all};
 ghost use Rattle.std.specs.List.Sorted.{IsNonDecreasingBy};
-ghost use Rattle.std.specs.Option.{option_to_list};
 ghost use Rattle.text_model.specs.Parts.{parts_of};
 ghost use Rattle.text_model.specs.Reading.{Finds, first_of_parts};
 ghost use Rattle.texts.specs.Parts.{parts_left};
-ghost use Rattle.frame_formats.specs.Boxes.{without_white, part_of, part_in, unsigned_in, signed_of, decimal_of, frame_of, box_of, IsDecimal, IsTracked, side_of, window_of_box, cover_of, with_box, with_boxes, TouchesExactly, IsExtent, IsBox, line_boxes, each_box, first_of, AreCovers};
+ghost use Rattle.frame_formats.specs.Boxes.{without_white, part_of, part_in, unsigned_in, signed_of, decimal_of, frame_of, box_of, IsDecimal, IsTracked, side_of, window_of_box, cover_of, with_box, with_boxes, TouchesExactly, IsExtent, IsBox, each_box, first_of, AreCovers};
 ghost use Rattle.frame_formats.specs.Lists.{is_white};
 
 use crate::digits::is_digit;
@@ -48,6 +47,7 @@ pub(crate) const PIXEL: u128 = 100_000_000_000_000_000_000;
 const TENTH: u64 = 10_000_000_000_000_000_000;
 
 // A field without the white space before it.
+#[inline(always)]
 fn without_white(field: &[u8]) -> &[u8]
     ensures { result.now ≡ without_white field.now }
 {
@@ -62,6 +62,7 @@ fn without_white(field: &[u8]) -> &[u8]
 }
 
 // What one to twenty digits after a point are worth.
+#[inline(always)]
 fn read_part(digits: &[u8]) -> Option<u128>
     ensures part { result ≡ part_of digits.now }
     ensures small { IfSome result (λ part. part < 100000000000000000000) }
@@ -82,6 +83,7 @@ fn read_part(digits: &[u8]) -> Option<u128>
 }
 
 // The fraction that is left of a number, or none.
+#[inline(always)]
 fn next_part_of(parts: Parts<'_>) -> Option<u128>
     ensures part { result ≡ part_in (parts_left parts.entry) }
     ensures small { IfSome result (λ part. part < 100000000000000000000) }
@@ -97,6 +99,7 @@ fn next_part_of(parts: Parts<'_>) -> Option<u128>
 }
 
 // A number by its sign and what follows the sign.
+#[inline(always)]
 #[tactic(auto, unfolding(crate::specs::Boxes::unsigned_in))]
 fn read_unsigned(minus: bool, piece: &[u8]) -> Option<Decimal>
     ensures number { result ≡ unsigned_in minus (parts_of 46 piece.now) }
@@ -108,6 +111,7 @@ fn read_unsigned(minus: bool, piece: &[u8]) -> Option<Decimal>
     (whole <= u32::MAX as usize).then_some(Decimal { minus, whole, part })
 }
 
+#[inline(always)]
 fn read_signed(piece: &[u8]) -> Option<Decimal>
     ensures number { result ≡ signed_of piece.now }
     ensures exact { IfSome result IsDecimal }
@@ -120,6 +124,7 @@ fn read_signed(piece: &[u8]) -> Option<Decimal>
 }
 
 /// The number that a field is, with white space before it.
+#[inline(always)]
 pub fn read_decimal(field: &[u8]) -> Option<Decimal>
     ensures number { result ≡ decimal_of field.now }
     ensures exact { IfSome result IsDecimal }
@@ -155,6 +160,7 @@ fn next_frame(fields: &mut Parts<'_>) -> Option<usize>
 }
 
 // The box that a line is, without its comment and its end.
+#[inline(always)]
 #[tactic(auto, unfolding(crate::specs::Boxes::box_in))]
 fn read_box(line: &[u8]) -> Option<Tracked>
     ensures tracked { result ≡ box_of line.now }
@@ -234,22 +240,15 @@ fn is_blank(line: &[u8]) -> bool
     line.iter().all(|b| is_white(*b))
 }
 
-// The box that a line is, or `None` where it has no word.
-fn box_on(line: &[u8]) -> Result<Option<Tracked>, WordsFault>
-    ensures found { IfOk result (λ found. line_boxes line.now ≡ Some (option_to_list found)) }
-    ensures exact { IfOk result (λ found. IfSome found IsTracked) }
-    ensures none { IfErr result (λ _. line_boxes line.now ≡ None) }
+// Passes over a line that is no box: it has no word.
+fn pass_over(line: &[u8]) -> Result<(), WordsFault>
+    ensures blank { OnOk result (list_all is_white line.now ≡ true) }
+    ensures none { IfErr result (λ _. list_all is_white line.now ≡ false) }
 {
-    let line = before_comment(before_return(line));
-    match read_box(line) {
-        Some(tracked) => Ok(Some(tracked)),
-        None => {
-            if is_blank(line) {
-                Ok(None)
-            } else {
-                Err(WordsFault::NoEdit)
-            }
-        }
+    if is_blank(line) {
+        Ok(())
+    } else {
+        Err(WordsFault::NoEdit)
     }
 }
 
@@ -261,13 +260,13 @@ fn take_line(covers: &mut Vec<Edit>, line: &[u8]) -> Result<(), WordsFault>
     ensures none { IfErr result
         (λ e. e ≡ WordsFault.NoEdit → with_box cover_of covers.old.items line.now ≡ None) }
 {
-    match box_on(line) {
-        Ok(Some(tracked)) => match covers.push(cover_of(tracked)) {
+    let line = before_comment(before_return(line));
+    match read_box(line) {
+        Some(tracked) => match covers.push(cover_of(tracked)) {
             Ok(()) => Ok(()),
             Err(_) => Err(WordsFault::Memory),
         },
-        Ok(None) => Ok(()),
-        Err(fault) => Err(fault),
+        None => pass_over(line),
     }
 }
 
@@ -291,18 +290,19 @@ fn read_all(alloc: Global, text: &[u8]) -> Result<Vec<Edit>, WordsFault>
 // Adds the box that a line is, where it has a word.
 fn take_box(boxes: &mut Vec<Tracked>, line: &[u8]) -> Result<(), WordsFault>
     requires { All IsTracked boxes.old.items }
-    ensures taken { OnOk result (with_box (λ b. b) boxes.old.items line.now ≡ Some boxes.new.items) }
+    ensures taken { OnOk result
+        (with_box (λ b. b) boxes.old.items line.now ≡ Some boxes.new.items) }
     ensures exact { OnOk result (All IsTracked boxes.new.items) }
     ensures none { IfErr result
         (λ e. e ≡ WordsFault.NoEdit → with_box (λ b. b) boxes.old.items line.now ≡ None) }
 {
-    match box_on(line) {
-        Ok(Some(tracked)) => match boxes.push(tracked) {
+    let line = before_comment(before_return(line));
+    match read_box(line) {
+        Some(tracked) => match boxes.push(tracked) {
             Ok(()) => Ok(()),
             Err(_) => Err(WordsFault::Memory),
         },
-        Ok(None) => Ok(()),
-        Err(fault) => Err(fault),
+        None => pass_over(line),
     }
 }
 

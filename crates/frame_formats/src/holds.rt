@@ -177,8 +177,8 @@ fn filled(goes: bool, boxes: &[Tracked], at: usize) -> Option<Edit>
     }
 }
 
-/// What the box at a place of a list by its tracks becomes: a cover, which is kept for so many frames
-/// on each side where its track doesn't go on there, and that of the gap after it.
+/// The covers that the box at a place of a list by its tracks becomes: its own, and that of the gap
+/// after it. Its own is kept for so many frames on each side where the track doesn't go on.
 pub fn held_at(hold: usize, boxes: &[Tracked], at: usize) -> (Edit, Option<Edit>)
     requires at { at < length boxes.now }
     requires tracked { All IsTracked boxes.now }
