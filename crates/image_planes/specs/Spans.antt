@@ -17,9 +17,9 @@ abbrev pub are_spans_by : ℕ → List Span → List (Step (List ℕ)) → Bool
 are_spans_by many [] steps = length steps == 0
 are_spans_by many (span ∷ spans) steps = has_all span (take many steps) && are_spans_by many spans (drop many steps)
 
--- the same of blocks of 512 steps, and of groups of 32 blocks
+-- the same of blocks of 64 steps, and of groups of 64 blocks
 abbrev pub are_spans : List Span → List (Step (List ℕ)) → Bool
-are_spans spans steps = are_spans_by 512 spans steps
+are_spans spans steps = are_spans_by 64 spans steps
 
 abbrev pub are_groups : List Span → List (Step (List ℕ)) → Bool
-are_groups spans steps = are_spans_by 16384 spans steps
+are_groups spans steps = are_spans_by 4096 spans steps

@@ -14,13 +14,13 @@ use imgref::Shape;
 use std::alloc::{AllocError, Global};
 
 /// The number of steps of a block. Only the last block may have fewer.
-pub(crate) const BLOCK: usize = 512;
+pub(crate) const BLOCK: usize = 64;
 
 /// The number of steps of a group of blocks. Only the last group may have fewer.
-pub(crate) const GROUP: usize = 16384;
+pub(crate) const GROUP: usize = 4096;
 
 // The number of blocks of a group.
-const BLOCKS: usize = 32;
+const BLOCKS: usize = 64;
 
 /// The frames that all steps of a block name are among these, by their numbers from 0.
 #[derive(Clone, Copy)]
