@@ -32,6 +32,8 @@ VIDEO = b"YUV4MPEG2 W4 H2 C420 F25:1\n" + b"FRAME\n0123456789AB" * 2
 EDITS = ("fill 0,0,2,2 16 1..2 move 0,0,2,2 2,0", "mosaic 0,0,4,2 2,2 crop 0,0,2,2", "pad 2,2,2,2 16")
 # A picture in colour and a larger grey one after it, and words of edits.
 PICTURES = (b"P6 2 2 255 0123456789AB", b"P5 5 3 255 0123456789ABCDE")
+# A tracker's list, which is long enough to take memory where it is sorted, and the edit that it is.
+BOXES, BOX = "".join(f"{1 + it % 2},{it},0,0,1,1\n" for it in range(24)), "cover 0,0,1,1"
 PICTURE_EDITS = ("fill 0,0,2,2 16", "mosaic 0,0,2,2 2,2 crop 0,0,2,1", "pad 2,2,2,2 16")
 # What a test says whose result is the refusal: of a call, of a push to a vector, and of a run.
 HANDED_ON = (b"error: AllocError\n", b"error: AllocFailed { .. }\n", b"error: Memory\n")
@@ -102,6 +104,10 @@ def main():
         video.write_bytes(VIDEO)
         for label, words, edits in [*((it, it.split(), it) for it in EDITS), ("a file of edits", ["--edits", listed], EDITS[-1]), ("an input by its name", ["-i", video, *EDITS[0].split()], EDITS[0])]:
             tries.append(("imgref_frames", words, label, VIDEO, ({b"": b"fault memory 0\n"}, 3), (frames.answer(VIDEO, edits_of(edits.split())), 0), 0))
+        boxes = pathlib.Path(room, "boxes")
+        boxes.write_text(BOXES)
+        for words in (["--boxes", boxes], ["--boxes", boxes, "--hold", "1"]):
+            tries.append(("imgref_frames", words, f"boxes {' '.join(words[2:])}", VIDEO, ({b"": b"fault memory 0\n"}, 3), (frames.answer(VIDEO, edits_of(BOX.split())), 0), 0))
         for words in PICTURE_EDITS:
             first, both = (frames.answer(it, edits_of(words.split())) for it in (PICTURES[0], b"".join(PICTURES)))
             tries.append(("imgref_frames", words.split(), f"pictures, {words}", b"".join(PICTURES), ({b"": b"fault memory 0\n", first: b"fault memory 1\n"}, 3), (both, 0), 0))

@@ -7,3 +7,5 @@ pub mod StepsEach
 pub mod EditsEach
 pub mod Times
 pub mod Touched
+mod BothBoxes
+mod HeldEach

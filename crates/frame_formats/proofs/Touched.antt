@@ -2,7 +2,7 @@
 use Rattle.std.proofs.Common.{◌≡◌, ◌↔◌, ℕ, ◌+◌, ◌-◌, ◌*◌, ◌/◌, ◌<◌, ◌≤◌, ◌&&◌, Bool, true, false, nat_lt, nat_le, if◌then◌else◌, refl, arith}
 use Rattle.std.specs.Prelude.{IsTrue}
 use Rattle.std.proofs.lemmas.Bool.Decides.{nat_tests}
-use Rattle.frame_formats.specs.Boxes.{side_of, is_touched, pixels_up, size_of, window_of_box, TouchesExactly}
+use Rattle.frame_formats.specs.Boxes.{IsDecimal, IsExtent, IsTracked, IsBox, side_of, is_touched, pixels_up, size_of, window_of_box, TouchesExactly}
 use Rattle.frame_formats.specs.declared.boxes.Decimal.{Decimal}
 use Rattle.frame_formats.specs.declared.boxes.Tracked.{Tracked}
 
@@ -30,3 +30,10 @@ touches_exactly b x y =
     let across = side_touched b.left b.width x in
     let down = side_touched b.top b.height y in
     (λ t. (across.0 t.0, down.0 t.1), λ h. (across.1 h.0, down.1 h.1))
+
+-- a box of a line is no larger than one around two
+is_extent : (d : Decimal) → IsDecimal d → IsExtent d
+is_extent d h = record { whole = omega (arith, h.whole); part = h.part }
+
+pub is_box : (b : Tracked) → IsTracked b → IsBox b
+is_box b h = record { left = h.left; top = h.top; width = is_extent b.width h.width; height = is_extent b.height h.height }

@@ -1,7 +1,8 @@
 -- The boxes of a tracker's list, and the covers that they become.
 use Rattle.std.specs.Prelude.{◌≡◌, ◌<◌, ◌≤◌, ◌↔◌, ℕ, ◌+◌, ◌-◌, ◌*◌, ◌/◌, ◌^◌, ◌&&◌, ◌==◌, Bool, false, true, not, nat_lt, nat_le, IsTrue, if◌then◌else◌, List, [], ◌∷◌, ◌++◌, Option, Some, None, length}
 use Rattle.std.specs.List.{list_all}
-use Rattle.std.specs.Prelude.{IsPermutation}
+use Rattle.std.specs.Prelude.{IsPermutation, map}
+use Rattle.std.specs.List.Sorted.{IsNonDecreasingBy}
 use Rattle.std.specs.Option.{option_map}
 use Rattle.std.specs.Str.Lines.{strip_carriage_return}
 use Rattle.image_shape.specs.declared.window.Window.{Window}
@@ -13,7 +14,8 @@ use Rattle.frame_formats.specs.Lists.{is_white, uncommented}
 use Rattle.frame_formats.specs.Ranges.{worth}
 use Rattle.frame_formats.specs.declared.boxes.Decimal.{Decimal}
 use Rattle.frame_formats.specs.declared.boxes.Tracked.{Tracked}
-use Rattle.frame_formats.specs.declared.ranges.Range.TheVariants.{Frames}
+use Rattle.frame_formats.specs.declared.ranges.Range.{Range}
+use Rattle.frame_formats.specs.declared.ranges.Range.TheVariants.{Frames, Times}
 use Rattle.frame_formats.specs.declared.steps.Paint.TheVariants.{Around}
 use Rattle.frame_formats.specs.declared.words.Edit.{Edit}
 
@@ -92,6 +94,18 @@ pub record IsTracked (b : Tracked) : Type 0 where
   pub width : IsDecimal b.width
   pub height : IsDecimal b.height
 
+-- a size of the box around two
+pub record IsExtent (d : Decimal) : Type 0 where
+  pub whole : d.whole < 2 ^ 34
+  pub part : d.part < 100000000000000000000
+
+-- a box of a line, or the box around two
+pub record IsBox (b : Tracked) : Type 0 where
+  pub left : IsDecimal b.left
+  pub top : IsDecimal b.top
+  pub width : IsExtent b.width
+  pub height : IsExtent b.height
+
 -- the first pixel that has a part of what begins there and is so long, and how many such pixels there are; where it ends before the frame there is none, and the first one is far outside
 abbrev pub side_of : Decimal → Decimal → ℕ × ℕ
 side_of start extent =
@@ -130,24 +144,37 @@ TouchesExactly b w = (x y : ℕ) → Touches b x y ↔ Has w x y
 
 -- ---- all lines
 
--- what a line adds: the cover of its box, or nothing where it has no word
-abbrev pub covers_by : Option Tracked → List ℕ → Option (List Edit)
-covers_by (Some b) line = Some (cover_of b ∷ [])
-covers_by None line = if list_all is_white line then Some [] else None
+-- what a line adds: its box, or nothing where it has no word
+abbrev pub boxes_by : Option Tracked → List ℕ → Option (List Tracked)
+boxes_by (Some b) line = Some (b ∷ [])
+boxes_by None line = if list_all is_white line then Some [] else None
 
-abbrev pub line_covers : List ℕ → Option (List Edit)
-line_covers line = covers_by (box_of (uncommented (strip_carriage_return line))) (uncommented (strip_carriage_return line))
+abbrev pub line_boxes : List ℕ → Option (List Tracked)
+line_boxes line = boxes_by (box_of (uncommented (strip_carriage_return line))) (uncommented (strip_carriage_return line))
 
--- covers with those that a line adds, and with those of all lines
-abbrev pub with_box : List Edit → List ℕ → Option (List Edit)
-with_box old line = option_map (λ more. old ++ more) (line_covers line)
+-- what boxes become, with that of the box that a line adds, and with those of all lines
+abbrev pub with_box : {X : Type 0} → (Tracked → X) → List X → List ℕ → Option (List X)
+with_box become old line = option_map (λ more. old ++ map become more) (line_boxes line)
 
-abbrev pub with_boxes : List Edit → List (List ℕ) → Option (List Edit)
-with_boxes old [] = Some old
-with_boxes old (line ∷ lines) = with_box old line >>= λ new. with_boxes new lines
+abbrev pub with_boxes : {X : Type 0} → (Tracked → X) → List X → List (List ℕ) → Option (List X)
+with_boxes become old [] = Some old
+with_boxes become old (line ∷ lines) = with_box become old line >>= λ new. with_boxes become new lines
 
--- the covers of all boxes of a text, in any order: one pixel after the other is black, whichever comes first
+-- what the boxes of a text become, in the order of its lines
+abbrev pub each_box : {X : Type 0} → (Tracked → X) → List ℕ → Option (List X)
+each_box become text = with_boxes become [] (parts_of 10 text)
+
+-- the first frame, or the first time, of an edit
+abbrev pub first_in : Range → ℕ
+first_in (Frames first end) = first
+first_in (Times from to) = from
+
+abbrev pub first_of : Edit → ℕ
+first_of e = first_in e.range
+
+-- the covers of all boxes of a text, in the order of their frames
 pub record AreCovers (text : List ℕ) (covers : List Edit) : Type 0 where
   pub read : List Edit
-  pub are : with_boxes [] (parts_of 10 text) ≡ Some read
+  pub are : each_box cover_of text ≡ Some read
   pub same : IsPermutation read covers
+  pub in_order : IsNonDecreasingBy first_of covers

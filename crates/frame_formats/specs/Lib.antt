@@ -17,3 +17,4 @@ pub mod Ranges
 pub mod Words
 pub mod Lists
 pub mod Boxes
+pub mod Holds

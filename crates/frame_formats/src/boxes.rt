@@ -1,11 +1,12 @@
 //! The boxes of a tracker's list, as the covers that they become.
 
-ghost use Rattle.std.specs.Prelude.{◌≡◌, ◌≤◌, ◌<◌, ◌↔◌, ℕ, Some, None, IfSome, IfOk, IfErr, OnOk, false, []};
+ghost use Rattle.std.specs.Prelude.{◌≡◌, ◌≤◌, ◌<◌, ◌↔◌, ℕ, All, IsPermutation, Some, None, IfSome, IfOk, IfErr, OnOk, true, false, []};
 ghost use Rattle.std.specs.List.{list_all};
+ghost use Rattle.std.specs.List.Sorted.{IsNonDecreasingBy};
 ghost use Rattle.text_model.specs.Parts.{parts_of};
 ghost use Rattle.text_model.specs.Reading.{Finds, first_of_parts};
 ghost use Rattle.texts.specs.Parts.{parts_left};
-ghost use Rattle.frame_formats.specs.Boxes.{without_white, part_of, part_in, unsigned_in, signed_of, decimal_of, frame_of, box_of, IsDecimal, IsTracked, side_of, window_of_box, cover_of, line_covers, with_box, with_boxes, TouchesExactly, AreCovers};
+ghost use Rattle.frame_formats.specs.Boxes.{without_white, part_of, part_in, unsigned_in, signed_of, decimal_of, frame_of, box_of, IsDecimal, IsTracked, side_of, window_of_box, cover_of, with_box, with_boxes, TouchesExactly, IsExtent, IsBox, each_box, first_of, AreCovers};
 ghost use Rattle.frame_formats.specs.Lists.{is_white};
 
 use crate::digits::is_digit;
@@ -14,7 +15,7 @@ use crate::ranges::Range;
 use crate::steps::Paint;
 use crate::words::Edit;
 use image_planes::{Change, Window};
-use std::alloc::Global;
+use std::alloc::{AllocError, Global};
 use texts::{Field, Parts, next};
 
 /// A number of a tracker's list, in pixels: a sign, a whole number, and a fraction in units of
@@ -40,12 +41,13 @@ pub struct Tracked {
 }
 
 // How many units a pixel has.
-const PIXEL: u128 = 100_000_000_000_000_000_000;
+pub(crate) const PIXEL: u128 = 100_000_000_000_000_000_000;
 
 // What the first digit of a fraction counts, in units.
 const TENTH: u64 = 10_000_000_000_000_000_000;
 
 // A field without the white space before it.
+#[inline(always)]
 fn without_white(field: &[u8]) -> &[u8]
     ensures { result.now ≡ without_white field.now }
 {
@@ -60,6 +62,7 @@ fn without_white(field: &[u8]) -> &[u8]
 }
 
 // What one to twenty digits after a point are worth.
+#[inline(always)]
 fn read_part(digits: &[u8]) -> Option<u128>
     ensures part { result ≡ part_of digits.now }
     ensures small { IfSome result (λ part. part < 100000000000000000000) }
@@ -80,6 +83,7 @@ fn read_part(digits: &[u8]) -> Option<u128>
 }
 
 // The fraction that is left of a number, or none.
+#[inline(always)]
 fn next_part_of(parts: Parts<'_>) -> Option<u128>
     ensures part { result ≡ part_in (parts_left parts.entry) }
     ensures small { IfSome result (λ part. part < 100000000000000000000) }
@@ -95,6 +99,7 @@ fn next_part_of(parts: Parts<'_>) -> Option<u128>
 }
 
 // A number by its sign and what follows the sign.
+#[inline(always)]
 #[tactic(auto, unfolding(crate::specs::Boxes::unsigned_in))]
 fn read_unsigned(minus: bool, piece: &[u8]) -> Option<Decimal>
     ensures number { result ≡ unsigned_in minus (parts_of 46 piece.now) }
@@ -106,6 +111,7 @@ fn read_unsigned(minus: bool, piece: &[u8]) -> Option<Decimal>
     (whole <= u32::MAX as usize).then_some(Decimal { minus, whole, part })
 }
 
+#[inline(always)]
 fn read_signed(piece: &[u8]) -> Option<Decimal>
     ensures number { result ≡ signed_of piece.now }
     ensures exact { IfSome result IsDecimal }
@@ -118,6 +124,7 @@ fn read_signed(piece: &[u8]) -> Option<Decimal>
 }
 
 /// The number that a field is, with white space before it.
+#[inline(always)]
 pub fn read_decimal(field: &[u8]) -> Option<Decimal>
     ensures number { result ≡ decimal_of field.now }
     ensures exact { IfSome result IsDecimal }
@@ -153,6 +160,7 @@ fn next_frame(fields: &mut Parts<'_>) -> Option<usize>
 }
 
 // The box that a line is, without its comment and its end.
+#[inline(always)]
 #[tactic(auto, unfolding(crate::specs::Boxes::box_in))]
 fn read_box(line: &[u8]) -> Option<Tracked>
     ensures tracked { result ≡ box_of line.now }
@@ -178,7 +186,7 @@ fn read_box(line: &[u8]) -> Option<Tracked>
 // The first pixel that a side touches, and how many it touches.
 fn side_of(start: Decimal, extent: Decimal) -> (usize, usize)
     requires start { IsDecimal start }
-    requires extent { IsDecimal extent }
+    requires extent { IsExtent extent }
     ensures { result ≡ side_of start extent }
 {
     if !start.minus {
@@ -203,7 +211,7 @@ fn side_of(start: Decimal, extent: Decimal) -> (usize, usize)
 /// touches. Where it ends before the first column or row, the cover is far outside.
 #[tactic(auto, using(crate::proofs::Touched::touches_exactly))]
 pub fn cover_of(tracked: Tracked) -> Edit
-    requires { IsTracked tracked }
+    requires { IsBox tracked }
     ensures cover { result ≡ cover_of tracked }
     ensures touched { TouchesExactly tracked (window_of_box tracked) }
 {
@@ -232,11 +240,25 @@ fn is_blank(line: &[u8]) -> bool
     line.iter().all(|b| is_white(*b))
 }
 
+// Passes over a line that is no box: it has no word.
+fn pass_over(line: &[u8]) -> Result<(), WordsFault>
+    ensures blank { OnOk result (list_all is_white line.now ≡ true) }
+    ensures none { IfErr result (λ _. list_all is_white line.now ≡ false) }
+{
+    if is_blank(line) {
+        Ok(())
+    } else {
+        Err(WordsFault::NoEdit)
+    }
+}
+
 // Adds the cover of the box that a line is, where it has a word.
+#[tactic(auto, using(crate::proofs::Touched::is_box))]
 fn take_line(covers: &mut Vec<Edit>, line: &[u8]) -> Result<(), WordsFault>
-    ensures taken { OnOk result (with_box covers.old.items line.now ≡ Some covers.new.items) }
+    ensures taken { OnOk result
+        (with_box cover_of covers.old.items line.now ≡ Some covers.new.items) }
     ensures none { IfErr result
-        (λ e. e ≡ WordsFault.NoEdit → with_box covers.old.items line.now ≡ None) }
+        (λ e. e ≡ WordsFault.NoEdit → with_box cover_of covers.old.items line.now ≡ None) }
 {
     let line = before_comment(before_return(line));
     match read_box(line) {
@@ -244,22 +266,15 @@ fn take_line(covers: &mut Vec<Edit>, line: &[u8]) -> Result<(), WordsFault>
             Ok(()) => Ok(()),
             Err(_) => Err(WordsFault::Memory),
         },
-        None => {
-            if is_blank(line) {
-                Ok(())
-            } else {
-                Err(WordsFault::NoEdit)
-            }
-        }
+        None => pass_over(line),
     }
 }
 
 // The covers of all lines, in their order.
 fn read_all(alloc: Global, text: &[u8]) -> Result<Vec<Edit>, WordsFault>
-    ensures covers { IfOk result
-        (λ covers. with_boxes [] (parts_of 10 text.now) ≡ Some covers.items) }
+    ensures covers { IfOk result (λ covers. each_box cover_of text.now ≡ Some covers.items) }
     ensures none { IfErr result
-        (λ e. e ≡ WordsFault.NoEdit → with_boxes [] (parts_of 10 text.now) ≡ None) }
+        (λ e. e ≡ WordsFault.NoEdit → each_box cover_of text.now ≡ None) }
 {
     let mut covers = Vec::new(alloc);
     let mut lines = Parts::new(text, b'\n');
@@ -272,12 +287,67 @@ fn read_all(alloc: Global, text: &[u8]) -> Result<Vec<Edit>, WordsFault>
     Ok(covers)
 }
 
+// Adds the box that a line is, where it has a word.
+fn take_box(boxes: &mut Vec<Tracked>, line: &[u8]) -> Result<(), WordsFault>
+    requires { All IsTracked boxes.old.items }
+    ensures taken { OnOk result
+        (with_box (λ b. b) boxes.old.items line.now ≡ Some boxes.new.items) }
+    ensures exact { OnOk result (All IsTracked boxes.new.items) }
+    ensures none { IfErr result
+        (λ e. e ≡ WordsFault.NoEdit → with_box (λ b. b) boxes.old.items line.now ≡ None) }
+{
+    let line = before_comment(before_return(line));
+    match read_box(line) {
+        Some(tracked) => match boxes.push(tracked) {
+            Ok(()) => Ok(()),
+            Err(_) => Err(WordsFault::Memory),
+        },
+        None => pass_over(line),
+    }
+}
+
+/// The boxes that the lines of a text are, in their order, as `read_boxes` has them.
+///
+/// # Errors
+///
+/// `NoEdit` where a line is no box.
+pub fn read_tracked(alloc: Global, text: &[u8]) -> Result<Vec<Tracked>, WordsFault>
+    ensures boxes { IfOk result (λ boxes. each_box (λ b. b) text.now ≡ Some boxes.items) }
+    ensures exact { IfOk result (λ boxes. All IsTracked boxes.items) }
+    ensures none { IfErr result
+        (λ e. e ≡ WordsFault.NoEdit → each_box (λ b. b) text.now ≡ None) }
+{
+    let mut boxes = Vec::new(alloc);
+    let mut lines = Parts::new(text, b'\n');
+    while let Some(line) = lines.next_part() {
+        if let Err(fault) = take_box(&mut boxes, line) {
+            return Err(fault);
+        }
+    }
+    Ok(boxes)
+}
+
 /// The first frame that a cover is for.
-pub fn first_frame(cover: &Edit) -> u64 {
+pub fn first_frame(cover: &Edit) -> u64
+    ensures { result ≡ first_of cover.now }
+{
     match cover.range {
         Range::Frames { first, .. } => first,
         Range::Times { from, .. } => from,
     }
+}
+
+/// Puts covers in the order of their frames, and leaves those of one frame as they are.
+///
+/// # Errors
+///
+/// No memory was found.
+pub(crate) fn put_in_order(covers: &mut Vec<Edit>) -> Result<(), AllocError>
+    ensures same { IsPermutation covers.old.items covers.new.items }
+    ensures in_order { OnOk result (IsNonDecreasingBy first_of covers.new.items) }
+{
+    covers.sort_by_key(|cover| first_frame(cover))?;
+    Ok(())
 }
 
 /// The covers of the boxes that the lines of a text are, one on each line:
@@ -285,8 +355,7 @@ pub fn first_frame(cover: &Edit) -> u64 {
 /// ignored. Before a field there may be spaces and tabs. Empty lines, comments and the ends of lines
 /// are as in `Edits::take_lines`.
 ///
-/// They are in the order of their frames, so that a frame passes over the blocks of others. Those
-/// of one frame are in the order of their lines.
+/// They are in the order of their frames, so that a frame passes over the blocks of others.
 ///
 /// # Errors
 ///
@@ -294,13 +363,13 @@ pub fn first_frame(cover: &Edit) -> u64 {
 pub fn read_boxes(alloc: Global, text: &[u8]) -> Result<Vec<Edit>, WordsFault>
     ensures covers { IfOk result (λ covers. AreCovers text.now covers.items) }
     ensures none { IfErr result
-        (λ e. e ≡ WordsFault.NoEdit → with_boxes [] (parts_of 10 text.now) ≡ None) }
+        (λ e. e ≡ WordsFault.NoEdit → each_box cover_of text.now ≡ None) }
 {
     let mut covers = match read_all(alloc, text) {
         Ok(covers) => covers,
         Err(fault) => return Err(fault),
     };
-    match covers.sort_by_key(|cover| first_frame(cover)) {
+    match put_in_order(&mut covers) {
         Ok(()) => Ok(covers),
         Err(_) => Err(WordsFault::Memory),
     }

@@ -10,6 +10,7 @@ mod framing;
 mod header;
 mod heads;
 mod hiding;
+mod holds;
 mod layers;
 mod line;
 mod lists;
@@ -23,11 +24,14 @@ mod samples;
 mod steps;
 mod words;
 
-pub use boxes::{Decimal, Tracked, cover_of, first_frame, read_boxes, read_decimal, read_frame};
+pub use boxes::{
+    Decimal, Tracked, cover_of, first_frame, read_boxes, read_decimal, read_frame, read_tracked,
+};
 pub use covers::{Unit, picture_covers_nothing, turns_over, video_covers_nothing};
 pub use framing::Framing;
 pub use header::{Chroma, Format, read_format, read_size};
 pub use hiding::recipes_hide;
+pub use holds::{around, held_at, put_by_tracks, read_held, track_of};
 pub use image_planes::{Axes, Change, Quarter, Window};
 pub use lists::{Edits, WordsFault, line_words};
 pub use pam::{Fields, Lines, Place, Tuples};

@@ -1,12 +1,12 @@
 -- Steps block by block: a block whose span lacks a frame changes nothing of it.
-use Rattle.std.proofs.Common.{◌≡◌, ℕ, zero, suc, ◌+◌, ◌<◌, ◌≤◌, ◌&&◌, Bool, true, false, cond, List, [], ◌∷◌, ◌++◌, length, get_or, take, drop, max, min, refl, ap, sym, ◌∙◌, arith, inl, inr, add-one, append_assoc, drop-cons, subst}
+use Rattle.std.proofs.Common.{◌≡◌, ℕ, zero, suc, ◌+◌, ◌<◌, ◌≤◌, ◌&&◌, Bool, true, false, cond, List, [], ◌∷◌, ◌++◌, length, get_or, take, drop, max, min, refl, ap, sym, ◌∙◌, arith, inl, inr, add-one, append_assoc, drop-cons, drop-drop, zero-mul, suc-mul, ◌*◌, subst}
 use Rattle.std.proofs.Math.Nat.{min-eq_left, min-eq_right}
 use Rattle.std.proofs.lemmas.Bool.{cases_lt}
-use Rattle.std.proofs.lemmas.List.{take_all, drop_all}
+use Rattle.std.proofs.lemmas.List.{take_all, drop_all, drop-take}
 use Rattle.std.proofs.lemmas.List.Folds.{list_all_more}
 use Rattle.image_model.specs.Grid.{Grid}
 use Rattle.image_planes.specs.Changes.{are_inside, changed, names, stepped}
-use Rattle.image_planes.specs.Spans.{has, has_all, are_spans}
+use Rattle.image_planes.specs.Spans.{has, has_all, are_spans_by}
 use Rattle.image_planes.specs.declared.change.Step.{Step}
 use Rattle.image_planes.specs.declared.spans.Span.{Span}
 
@@ -63,16 +63,39 @@ one_step_more old new steps i d within first end all =
     list_all_more _ steps i d within ∙ and_both (has_all new (take i steps)) _ others (grind (arith, first, end))
 
 -- the spans of one block more
-pub one_span_more : (made rest : List Span) (span : Span) (steps left : List (Step (List ℕ))) → ((others : List Span) → are_spans others left ≡ true → are_spans (made ++ others) steps ≡ true) → has_all span (take 512 left) ≡ true → are_spans rest (drop 512 left) ≡ true → are_spans ((made ++ span ∷ []) ++ rest) steps ≡ true
-one_span_more made rest span steps left so_far all are = rw append_assoc (so_far (span ∷ rest) (and_both (has_all span (take 512 left)) (are_spans rest (drop 512 left)) all are))
+pub one_span_more : (many : ℕ) (made rest : List Span) (span : Span) (steps left : List (Step (List ℕ))) → ((others : List Span) → are_spans_by many others left ≡ true → are_spans_by many (made ++ others) steps ≡ true) → has_all span (take many left) ≡ true → are_spans_by many rest (drop many left) ≡ true → are_spans_by many ((made ++ span ∷ []) ++ rest) steps ≡ true
+one_span_more many made rest span steps left so_far all are = rw append_assoc (so_far (span ∷ rest) (and_both (has_all span (take many left)) (are_spans_by many rest (drop many left)) all are))
 
 -- and that block is the next one
-pub span_at : (spans : List Span) (i : ℕ) (d : Span) (left : List (Step (List ℕ))) → i < length spans → are_spans (drop i spans) left ≡ true → (has_all (get_or spans i d) (take 512 left) ≡ true) × (are_spans (drop (i + 1) spans) (drop 512 left) ≡ true)
-span_at spans i d left within are =
-    both _ _ (rw add-one (subst (λ (ss : List Span). are_spans ss left ≡ true) (drop-cons spans i d within) are))
+pub span_at : (many : ℕ) (spans : List Span) (i : ℕ) (d : Span) (left : List (Step (List ℕ))) → i < length spans → are_spans_by many (drop i spans) left ≡ true → (has_all (get_or spans i d) (take many left) ≡ true) × (are_spans_by many (drop (i + 1) spans) (drop many left) ≡ true)
+span_at many spans i d left within are =
+    both _ _ (rw add-one (subst (λ (ss : List Span). are_spans_by many ss left ≡ true) (drop-cons spans i d within) are))
 
 -- no steps are left without a span
-pub none_left : (spans : List Span) (i : ℕ) (left : List (Step (List ℕ))) → length spans ≤ i → are_spans (drop i spans) left ≡ true → left ≡ []
-none_left spans i left past are =
-    let none : are_spans [] left ≡ true = subst (λ (ss : List Span). are_spans ss left ≡ true) (drop_all i spans past) are in
-    drop_all 0 left (grind (arith, none))
+no_steps : (many : ℕ) (steps : List (Step (List ℕ))) → are_spans_by many [] steps ≡ true → steps ≡ []
+no_steps many steps none = drop_all 0 steps (grind (arith, none))
+
+pub none_left : (many : ℕ) (spans : List Span) (i : ℕ) (left : List (Step (List ℕ))) → length spans ≤ i → are_spans_by many (drop i spans) left ≡ true → left ≡ []
+none_left many spans i left past are = no_steps many left (subst (λ (ss : List Span). are_spans_by many ss left ≡ true) (drop_all i spans past) are)
+
+-- the spans of so many blocks are those of their steps, and so are the others
+front_of : {A : Type 0} (n k : ℕ) (xs : List A) → n ≤ k → take n (take k xs) ≡ take n xs
+front_of zero k xs within = refl
+front_of (suc n) zero xs within = grind (arith, within)
+front_of (suc n) (suc k) [] within = refl
+front_of (suc n) (suc k) (x ∷ xs) within = ap (λ l. x ∷ l) (front_of n k xs (omega (arith, within)))
+
+pub spans_in_parts : (many k : ℕ) (spans : List Span) (steps : List (Step (List ℕ))) → are_spans_by many spans steps ≡ true → (are_spans_by many (take k spans) (take (k * many) steps) ≡ true) × (are_spans_by many (drop k spans) (drop (k * many) steps) ≡ true)
+spans_in_parts many zero spans steps are = rw (zero-mul many) (refl, are)
+spans_in_parts many (suc k) [] steps are =
+    let none = no_steps many steps are in
+    (ap (are_spans_by many []) (ap (take (suc k * many)) none ∙ take_all (suc k * many) [] (omega arith)), ap (are_spans_by many []) (ap (drop (suc k * many)) none ∙ drop_all (suc k * many) [] (omega arith)))
+spans_in_parts many (suc k) (span ∷ spans) steps are =
+    let parts = both (has_all span (take many steps)) (are_spans_by many spans (drop many steps)) are in
+    let more = spans_in_parts many k spans (drop many steps) parts.1 in
+    let one_more : suc k * many ≡ many + k * many = omega (arith, suc-mul k many) in
+    rw one_more (
+      and_both (has_all span (take many (take (many + k * many) steps))) (are_spans_by many (take k spans) (drop many (take (many + k * many) steps)))
+          (ap (has_all span) (front_of many (many + k * many) steps (omega arith)) ∙ parts.0) (ap (are_spans_by many (take k spans)) (drop-take many (k * many) steps) ∙ more.0),
+      ap (are_spans_by many (drop k spans)) (sym (drop-drop (k * many) many steps)) ∙ more.1,
+    )

@@ -4,10 +4,10 @@ ghost use Rattle.std.specs.Prelude.{◌≡◌, ◌<◌, ◌*◌, ◌/◌, length
 ghost use Rattle.std.specs.Option.{option_map};
 ghost use Rattle.imgref.specs.Shape.{shape_width, shape_height, shape_stride};
 ghost use Rattle.image_planes.specs.Changes.{is_change_of, is_plane, are_inside, job_for, changed_plane};
-ghost use Rattle.image_planes.specs.Spans.{are_spans};
+ghost use Rattle.image_planes.specs.Spans.{are_spans, are_groups};
 
 use crate::change::{Change, Step, Value};
-use crate::spans::{Span, do_blocks, spans_of};
+use crate::spans::{BLOCK, GROUP, Span, do_groups, spans_of};
 use crate::steps::all_inside;
 use imgref::{Shape, Window};
 use std::alloc::{AllocError, Global};
@@ -35,9 +35,11 @@ pub struct Plane {
     height: usize,
     steps: Vec<Step<Value>>,
     spans: Vec<Span>,
+    groups: Vec<Span>,
     ghost plane: { IsTrue (is_plane size width height) },
     ghost inside: { IsTrue (are_inside width height steps.items) },
     ghost blocks: { IsTrue (are_spans spans.items steps.items) },
+    ghost grouped: { IsTrue (are_groups groups.items steps.items) },
 }
 
 impl Plane {
@@ -62,13 +64,15 @@ impl Plane {
         if !all_inside(width, height, &steps) {
             return Ok(None);
         }
-        let spans = spans_of(alloc, &steps)?;
+        let spans = spans_of(alloc, &steps, BLOCK)?;
+        let groups = spans_of(alloc, &steps, GROUP)?;
         Ok(Some(Plane {
             size,
             width,
             height,
             steps,
             spans,
+            groups,
         }))
     }
 
@@ -101,12 +105,13 @@ impl Plane {
         requires { length cells.old ≡ plane_len self.now }
         ensures { cells.new ≡ changed_plane number (job_of self.now) cells.old }
     {
-        do_blocks(
+        do_groups(
             cells,
             self.shape(),
             self.size,
             &self.steps,
             &self.spans,
+            &self.groups,
             number,
         );
     }

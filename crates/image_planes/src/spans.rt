@@ -6,15 +6,21 @@ ghost use Rattle.image_model.specs.Grid.{grid_of};
 ghost use Rattle.imgref.specs.Shape.{shaped, shape_width, shape_height};
 ghost use Rattle.image_ops.specs.Written.{Becomes};
 ghost use Rattle.image_planes.specs.Changes.{are_inside, stepped};
-ghost use Rattle.image_planes.specs.Spans.{has, has_all, are_spans};
+ghost use Rattle.image_planes.specs.Spans.{has, has_all, are_spans_by, are_spans, are_groups};
 
 use crate::change::{Step, Value};
 use crate::steps::do_steps;
 use imgref::Shape;
 use std::alloc::{AllocError, Global};
 
-// The number of steps of a block. Only the last block may have fewer.
-const BLOCK: usize = 512;
+/// The number of steps of a block. Only the last block may have fewer.
+pub(crate) const BLOCK: usize = 64;
+
+/// The number of steps of a group of blocks. Only the last group may have fewer.
+pub(crate) const GROUP: usize = 4096;
+
+// The number of blocks of a group.
+const BLOCKS: usize = 64;
 
 /// The frames that all steps of a block name are among these, by their numbers from 0.
 #[derive(Clone, Copy)]
@@ -48,24 +54,29 @@ fn span_of(block: &[Step<Value>]) -> Span
     span
 }
 
-/// The spans of the blocks of steps, one after the other.
-pub(crate) fn spans_of(alloc: Global, steps: &[Step<Value>]) -> Result<Vec<Span>, AllocError>
-    ensures { IfOk result (λ spans. IsTrue (are_spans spans.items steps.now)) }
+/// The spans of the blocks of so many steps, one after the other.
+pub(crate) fn spans_of(
+    alloc: Global,
+    steps: &[Step<Value>],
+    many: usize,
+) -> Result<Vec<Span>, AllocError>
+    requires { 0 < many }
+    ensures { IfOk result (λ spans. IsTrue (are_spans_by many spans.items steps.now)) }
 {
     let mut spans = Vec::new(alloc);
     let mut left = steps;
     while !left.is_empty() {
-        let (block, others) = left.split_at(left.len().min(BLOCK));
+        let (block, others) = left.split_at(left.len().min(many));
         spans.push(span_of(block))?;
         left = others;
     }
     Ok(spans)
 }
 
-/// Applies the steps for the frame of this number to the image that the bytes make in this shape,
-/// block by block. A pixel has `size` bytes; the padding stays.
+// Applies the steps for the frame of this number to the image that the bytes make in this shape,
+// block by block. A pixel has `size` bytes; the padding stays.
 #[tactic(auto, using(crate::proofs::Blocks::inside_parts))]
-pub(crate) fn do_blocks(
+fn do_blocks(
     cells: &mut [u8],
     shape: Shape,
     size: usize,
@@ -89,6 +100,42 @@ pub(crate) fn do_blocks(
         left = others;
         if span.has(number) {
             do_steps(cells, shape, size, block, number);
+        }
+    }
+}
+
+/// Applies the steps for the frame of this number to the image that the bytes make in this shape,
+/// group by group and block by block. A pixel has `size` bytes; the padding stays.
+#[tactic(auto, using(crate::proofs::Blocks::inside_parts))]
+pub(crate) fn do_groups(
+    cells: &mut [u8],
+    shape: Shape,
+    size: usize,
+    steps: &[Step<Value>],
+    spans: &[Span],
+    groups: &[Span],
+    number: u64,
+)
+    requires fits { Fits (shaped cells.old shape) }
+    requires some { 0 < size }
+    requires few { size < 9 }
+    requires whole { shape_width shape ≡ shape_width shape / size * size }
+    requires inside { IsTrue
+        (are_inside (shape_width shape / size) (shape_height shape) steps.now) }
+    requires spans { IsTrue (are_spans spans.now steps.now) }
+    requires groups { IsTrue (are_groups groups.now steps.now) }
+    ensures { Becomes shape cells.old cells.new
+        (stepped size number steps.now (grid_of (shaped cells.old shape))) }
+{
+    let mut left = steps;
+    let mut spans_left = spans;
+    for group in groups {
+        let (part, others) = left.split_at(left.len().min(GROUP));
+        let (its, more) = spans_left.split_at(spans_left.len().min(BLOCKS));
+        left = others;
+        spans_left = more;
+        if group.has(number) {
+            do_blocks(cells, shape, size, part, its, number);
         }
     }
 }

@@ -1,25 +1,41 @@
 //! A tracker's list, whose boxes are covered before other edits.
 
 ghost use Rattle.std.specs.Prelude.{IfOk};
-ghost use Rattle.imgref_frames.specs.Boxes.{BeginsWithBoxes};
+ghost use Rattle.imgref_frames.specs.Boxes.{BeginsWithBoxes, CoverBoxes};
 ghost use Rattle.imgref_frames.specs.Words.{AreUsable};
 ghost use Rattle.frame_formats.specs.Lists.{plain};
 
 use crate::words::{Refusal, refuse_unusable};
-use frame_formats::{Edits, WordsFault, read_boxes};
+use frame_formats::{Edit, Edits, WordsFault, read_boxes, read_held};
 use std::alloc::Global;
 
-/// The covers of the boxes of a tracker's list, and after them these edits.
+// The covers of the boxes of a tracker's list, which are held for so many frames.
+fn covers_of(alloc: Global, text: &[u8], hold: Option<usize>) -> Result<Vec<Edit>, WordsFault>
+    ensures { IfOk result (λ covers. CoverBoxes text.now hold covers.items) }
+{
+    match hold {
+        None => read_boxes(alloc, text),
+        Some(hold) => read_held(alloc, text, hold),
+    }
+}
+
+/// The covers of the boxes of a tracker's list, and after them these edits. The boxes are held for so
+/// many frames.
 ///
 /// # Errors
 ///
 /// Where a line is no box, or there is none.
-pub(crate) fn with_boxes(alloc: Global, text: &[u8], edits: &Edits) -> Result<Edits, Refusal>
+pub(crate) fn with_boxes(
+    alloc: Global,
+    text: &[u8],
+    hold: Option<usize>,
+    edits: &Edits,
+) -> Result<Edits, Refusal>
     ensures begins { IfOk result
-        (λ made. BeginsWithBoxes text.now (plain edits.now) (plain made)) }
+        (λ made. BeginsWithBoxes text.now hold (plain edits.now) (plain made)) }
     ensures usable { IfOk result (λ made. AreUsable (plain made)) }
 {
-    let mut steps = match read_boxes(alloc, text) {
+    let mut steps = match covers_of(alloc, text, hold) {
         Ok(covers) => covers,
         Err(WordsFault::NoEdit) => return Err(Refusal::NoBoxes),
         Err(WordsFault::Memory) => return Err(Refusal::Memory),

@@ -66,6 +66,8 @@ OPTION:
        --edits -         reads them from standard input; only with -i
        --boxes FILE      covers the boxes of a tracker's list before the edits, which may be left
                          out: lines frame,id,left,top,width,height, with frames from 1
+       --hold N          keeps a box for N frames before and after its track (the lines of one
+                         id), and fills gaps in it of up to N frames by the box around both sides
        --strict          a range that the input doesn't reach is a fault, and so is a cover
                          that covers nothing
        --limit BYTES     how many bytes all buffers may have: 1073741824 without it
@@ -85,6 +87,7 @@ const COVER: u8 = 9;
 // No files of edits.
 const NO_TEXTS: Texts<'static> = Texts {
     boxes: None,
+    hold: None,
     edits: None,
 };
 
@@ -270,7 +273,7 @@ fn edits_of(rt: &HostRuntime, words: &[&[u8]], texts: Texts<'_>) -> Result<Edits
         None => edits_of_words(rt.alloc(), words)?,
     };
     match texts.boxes {
-        Some(text) => with_boxes(rt.alloc(), text, &edits),
+        Some(text) => with_boxes(rt.alloc(), text, texts.hold, &edits),
         None => Ok(edits),
     }
 }
@@ -279,6 +282,9 @@ fn edits_of(rt: &HostRuntime, words: &[&[u8]], texts: Texts<'_>) -> Result<Edits
 fn edit(rt: &HostRuntime, options: Options, words: &[String], bytes: &[&[u8]]) -> ExitCode {
     if options.edits.is_some() && options.first < bytes.len() {
         return refuse(rt, Refusal::NoOption(options.first), bytes, NO_TEXTS);
+    }
+    if options.hold.is_some() && options.boxes.is_none() {
+        return refuse(rt, Refusal::NoBoxesToHold, bytes, NO_TEXTS);
     }
     if reads_input_twice(options, words) {
         return refuse(rt, Refusal::OneInput, bytes, NO_TEXTS);
@@ -293,6 +299,7 @@ fn edit(rt: &HostRuntime, options: Options, words: &[String], bytes: &[&[u8]]) -
     };
     let texts = Texts {
         boxes: boxes.as_deref(),
+        hold: options.hold,
         edits: text.as_deref(),
     };
     let first = options.first.min(bytes.len());

@@ -18,6 +18,8 @@ pub(crate) struct Options {
     pub(crate) edits: Option<usize>,
     /// The name of a tracker's list, whose boxes are covered before the edits.
     pub(crate) boxes: Option<usize>,
+    /// For how many frames a box of that list is held.
+    pub(crate) hold: Option<usize>,
     /// The name of the input. Without one it is standard input.
     pub(crate) input: Option<usize>,
     /// The name of the output. Without one it is standard output.
@@ -32,6 +34,7 @@ enum Followed {
     Limit,
     Edits,
     Boxes,
+    Hold,
     Input,
     Output,
 }
@@ -43,6 +46,8 @@ fn option_of(word: &[u8]) -> Option<Followed> {
         Some(Followed::Edits)
     } else if word == b"--boxes".as_slice() {
         Some(Followed::Boxes)
+    } else if word == b"--hold".as_slice() {
+        Some(Followed::Hold)
     } else if word == b"-i".as_slice() {
         Some(Followed::Input)
     } else if word == b"-o".as_slice() {
@@ -73,6 +78,10 @@ impl Options {
             },
             Followed::Edits => self.edits = Some(at),
             Followed::Boxes => self.boxes = Some(at),
+            Followed::Hold => match usize::read(word) {
+                Some(hold) => self.hold = Some(hold),
+                None => return false,
+            },
             Followed::Input => self.input = place_of(word, at),
             Followed::Output => self.output = place_of(word, at),
         }
@@ -88,6 +97,7 @@ pub(crate) fn read_options(words: &[&[u8]]) -> Result<Options, usize> {
         limit: LIMIT,
         edits: None,
         boxes: None,
+        hold: None,
         input: None,
         output: None,
         first: 1,

@@ -2,7 +2,7 @@
 //! among the words.
 
 use crate::words::Lines;
-use frame_formats::{first_frame, read_boxes};
+use frame_formats::{first_frame, held_at, put_by_tracks, read_tracked, track_of};
 use std::alloc::{AllocError, Global};
 use texts::Parts;
 
@@ -10,6 +10,8 @@ use texts::Parts;
 #[derive(Clone, Copy)]
 pub(crate) struct Texts<'a> {
     pub(crate) boxes: Option<&'a [u8]>,
+    /// For how many frames a box is held.
+    pub(crate) hold: Option<usize>,
     pub(crate) edits: Option<&'a [u8]>,
 }
 
@@ -21,23 +23,82 @@ pub(crate) enum Place {
     Edit(usize),
 }
 
-// The lines of the boxes of a tracker's list, in the order of the covers: by their frames.
-fn lines_of_boxes(alloc: Global, text: &[u8]) -> Result<Vec<usize>, AllocError> {
+// A box of a tracker's list: its track, its frame and its line.
+#[derive(Clone, Copy)]
+struct Listed {
+    track: u128,
+    frame: usize,
+    line: usize,
+}
+
+// The boxes of a tracker's list, in their order.
+fn list_boxes(alloc: Global, text: &[u8]) -> Result<Vec<Listed>, AllocError> {
     let mut found = Vec::new(alloc);
     let mut lines = Parts::new(text, b'\n');
     let mut number: usize = 0;
     while let Some(line) = lines.next_part() {
         number = number.saturating_add(1);
-        if let Ok(covers) = read_boxes(alloc, line) {
-            if let Some(cover) = covers.first() {
-                found.push((first_frame(cover), number))?;
-            }
+        let Ok(boxes) = read_tracked(alloc, line) else {
+            continue;
+        };
+        if let Some(tracked) = boxes.first() {
+            found.push(Listed {
+                track: track_of(tracked),
+                frame: tracked.frame,
+                line: number,
+            })?;
         }
     }
-    found.sort_by_key(|box_at| box_at.0)?;
+    Ok(found)
+}
+
+// The first frames and the lines of covers that are held, in the order of their tracks.
+fn held_lines(
+    alloc: Global,
+    text: &[u8],
+    hold: usize,
+    lines: &[Listed],
+) -> Result<Vec<(u64, usize)>, AllocError> {
+    let mut found = Vec::new(alloc);
+    let Ok(mut boxes) = read_tracked(alloc, text) else {
+        return Ok(found);
+    };
+    put_by_tracks(&mut boxes)?;
+    for at in 0..boxes.len() {
+        let line = match lines.get(at) {
+            Some(listed) => listed.line,
+            None => 0,
+        };
+        let (cover, gap) = held_at(hold, &boxes, at);
+        found.push((first_frame(&cover), line))?;
+        if let Some(gap) = gap {
+            found.push((first_frame(&gap), line))?;
+        }
+    }
+    Ok(found)
+}
+
+// The lines of the covers of a tracker's list, in the order of the covers: by their frames. The
+// cover of a gap has the line before it.
+fn lines_of_boxes(
+    alloc: Global,
+    text: &[u8],
+    hold: Option<usize>,
+) -> Result<Vec<usize>, AllocError> {
+    let mut lines = list_boxes(alloc, text)?;
+    lines.sort_by_key(|listed| listed.frame)?;
     let mut numbers = Vec::new(alloc);
-    for (_, number) in &found {
-        numbers.push(*number)?;
+    let Some(hold) = hold else {
+        for listed in &lines {
+            numbers.push(listed.line)?;
+        }
+        return Ok(numbers);
+    };
+    lines.sort_by_key(|listed| listed.track)?;
+    let mut found = held_lines(alloc, text, hold, &lines)?;
+    found.sort_by_key(|cover| cover.0)?;
+    for (_, line) in &found {
+        numbers.push(*line)?;
     }
     Ok(numbers)
 }
@@ -70,7 +131,8 @@ impl Places<'_> {
     /// The place of the edit of this number, counted from 0 with the boxes first.
     pub(crate) fn find(&mut self, number: usize) -> Place {
         if self.boxes.is_none() {
-            self.boxes = lines_of_boxes(self.alloc, self.texts.boxes.unwrap_or(&[])).ok();
+            let text = self.texts.boxes.unwrap_or(&[]);
+            self.boxes = lines_of_boxes(self.alloc, text, self.texts.hold).ok();
         }
         let boxes: &[usize] = match &self.boxes {
             Some(boxes) => boxes,

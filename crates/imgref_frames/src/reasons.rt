@@ -313,6 +313,9 @@ pub(crate) fn say_no_words(rt: &HostRuntime, refusal: Refusal, words: &[&[u8]], 
         Refusal::EmptyBoxes => {
             let _ = eprintln!(rt; "the file of boxes has no box, so nothing would be covered");
         }
+        Refusal::NoBoxesToHold => {
+            let _ = eprintln!(rt; "--hold is for the boxes of a list, so it needs --boxes");
+        }
         Refusal::NoBoxes => say_bad_box(rt, texts.boxes),
         Refusal::NoOption(at) => {
             let _ = eprintln!(rt; "word {at} is no option, or lacks what follows it");

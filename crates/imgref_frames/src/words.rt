@@ -31,6 +31,8 @@ pub(crate) enum Refusal {
     NoBoxes,
     /// The tracker's list has no box.
     EmptyBoxes,
+    /// Boxes are to be held, and there is no tracker's list.
+    NoBoxesToHold,
     /// This word is no option.
     NoOption(usize),
     /// Standard input is to be the edits or the boxes, and something else too.

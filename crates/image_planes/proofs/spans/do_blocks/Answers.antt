@@ -16,9 +16,9 @@ loop-span-preserved c =
     let left : List (Step (List ℕ)) = c.loop-span.left.now in
     let n : ℕ = c.min.result in
     let inv = c.loop-span.invariant in
-    let here = span_at a.spans.now c.loop-span.span-index (record { first = 0; end = 0 }) left c.loop-span-test.true inv.spans in
-    let front : c.split_at.result.0.now ≡ take 512 left = c.split_at.ensures.front ∙ ap (λ k. take k left) c.min.ensures ∙ take_upto 512 left in
-    let back : drop n left ≡ drop 512 left = ap (λ k. drop k left) c.min.ensures ∙ drop_upto 512 left in
+    let here = span_at 64 a.spans.now c.loop-span.span-index (record { first = 0; end = 0 }) left c.loop-span-test.true inv.spans in
+    let front : c.split_at.result.0.now ≡ take 64 left = c.split_at.ensures.front ∙ ap (λ k. take k left) c.min.ensures ∙ take_upto 64 left in
+    let back : drop n left ≡ drop 64 left = ap (λ k. drop k left) c.min.ensures ∙ drop_upto 64 left in
     let old : Grid ℕ = grid_of (shaped c.loop-span.cells a.shape) in
     let done : (grid_of (shaped c.if-has.cells a.shape) ≡ stepped a.size a.number c.split_at.result.0.now old) × SameOutside (shaped c.loop-span.cells a.shape) (shaped c.if-has.cells a.shape) =
     elim c.if-has.branch [

@@ -3,8 +3,8 @@ use Rattle.std.proofs.Common.{◌*◌, length}
 use Rattle.image_planes.proofs.Parts.{dense_fits}
 use Rattle.image_planes.proofs.plane.Plane.apply.Goals as goal
 
-pub do_blocks-requires-clause-fits : goal.do_blocks-requires-clause-fits
-do_blocks-requires-clause-fits c =
+pub do_groups-requires-clause-fits : goal.do_groups-requires-clause-fits
+do_groups-requires-clause-fits c =
     let j = c.args.self.now in
     let s = c.shape.ensures in
     dense_fits (length c.args.cells.now) (j.size * j.width) j.height _ _ _ c.requires s.width s.height s.stride
