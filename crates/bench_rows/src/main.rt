@@ -1,9 +1,9 @@
 //! Times one call on images of few columns. `bench/widths` compares the times of two builds.
 //!
-//! Its words are a call, the bytes of a pixel, the number of rows, the first and the last number of
-//! columns, and how many calls are timed at once and how often. It prints a line for each width and
-//! padding: the call, the bytes, the columns, the padding in pixels, and the least time of a call
-//! in picoseconds.
+//! Its words are a call, the bytes of a pixel, the number of rows, and the first and the last number
+//! of columns. Then come how many calls are timed at once, and how often. It prints a line for each
+//! width and padding: the call, the bytes, the columns and the padding in pixels. The last word is
+//! the least time of a call in picoseconds.
 #![tactic(auto)]
 
 ghost use Rattle.std.specs.Prelude.{◌≡◌};

@@ -4,7 +4,7 @@ ghost use Rattle.image_model.specs.Rows.{joined_rows};
 ghost use Rattle.image_model.specs.Shifts.{rows_compacted, rows_moved, MovesRows};
 
 use crate::blocks::are_words;
-use crate::mover::{ANY, BEFORE, BEHIND, FEW, LONG, NEXT, PREVIOUS, RowMover};
+use crate::mover::{ANY, BEFORE, BEHIND, FEW, LONG, NEXT, OVER, PREVIOUS, RowMover};
 use crate::parts::part_of_row;
 
 impl<T: Copy> RowMover<'_, T> {
@@ -137,7 +137,7 @@ impl<T: Copy> RowMover<'_, T> {
         } else if are_words && to + 1 == from {
             self.move_each::<0, PREVIOUS>(stride, from, to, width, height);
         } else {
-            self.move_each::<0, LONG>(stride, from, to, width, height);
+            self.move_each::<0, OVER>(stride, from, to, width, height);
         }
     }
 

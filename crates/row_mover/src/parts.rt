@@ -41,9 +41,9 @@ pub fn copy_line<T: Copy>(cells: &mut [T], source: &[T])
     cells.copy_from_slice(source);
 }
 
-/// How many cells each part of a row of `width` cells has, where the row has at most `most` cells and
-/// bytes: its first and its last cells, which may overlap, are all of them. It is 0 for a longer row,
-/// and where there is no cell.
+/// How many cells each part of a row of `width` cells has, if the row has at most `most` cells and
+/// bytes. The parts are its first and its last cells, and may overlap. It is 0 for a longer row, and
+/// where there is no cell.
 #[inline(always)]
 pub fn part_of_row<T>(cells: &[T], width: usize, most: usize) -> usize
     requires { most ≤ 128 }
