@@ -105,7 +105,7 @@ fn do_blocks(
 }
 
 /// Applies the steps for the frame of this number to the image that the bytes make in this shape,
-/// group by group and block by block. A pixel has `size` bytes; the padding stays.
+/// group by group. A pixel has `size` bytes; the padding stays.
 #[tactic(auto, using(crate::proofs::Blocks::inside_parts))]
 pub(crate) fn do_groups(
     cells: &mut [u8],
