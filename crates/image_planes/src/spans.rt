@@ -104,8 +104,8 @@ fn do_blocks(
     }
 }
 
-/// Applies the steps for the frame of this number to the image that the bytes make in this shape,
-/// group by group. A pixel has `size` bytes; the padding stays.
+/// Applies the steps for the frame of this number to the image that the bytes make in this shape, by
+/// groups and blocks. A pixel has `size` bytes; the padding stays.
 #[tactic(auto, using(crate::proofs::Blocks::inside_parts))]
 pub(crate) fn do_groups(
     cells: &mut [u8],
