@@ -2,7 +2,6 @@
 //! another in a row, so a window of pixels is a window of bytes.
 
 ghost use Rattle.std.specs.Prelude.{◌≡◌, ◌<◌, ◌/◌, ◌*◌, ◌%◌};
-ghost use Rattle.image_model.specs.Layout.{Fits};
 ghost use Rattle.image_model.specs.Grid.{grid_of};
 ghost use Rattle.image_model.specs.Windows.{IsInside};
 ghost use Rattle.imgref.specs.Shape.{shaped, shape_width, shape_height};
@@ -10,6 +9,7 @@ ghost use Rattle.imgref.specs.Window.{as_window};
 ghost use Rattle.image_ops.specs.Means.{sample_cells};
 ghost use Rattle.image_ops.specs.Written.{Becomes};
 ghost use Rattle.image_planes.specs.Changes.{IsChangeOf, bytes_for, changed, flipped_by, in_bytes};
+ghost use Rattle.image_planes.specs.Pixels.{HavePixels};
 
 use image_ops::{
     SampleBytes, flip_rows, flip_window_columns, mean_samples, mosaic_window_by, move_pixels,
@@ -107,10 +107,7 @@ fn bytes_for(size: usize, bytes: SampleBytes) -> SampleBytes
 // In each row the first pixel changes places with the last, and so on. A pixel has `size` bytes; the
 // padding stays.
 fn flip_columns(cells: &mut [u8], shape: Shape, size: usize)
-    requires fits { Fits (shaped cells.old shape) }
-    requires some { 0 < size }
-    requires few { size < 9 }
-    requires whole { shape_width shape ≡ shape_width shape / size * size }
+    requires pixels { HavePixels cells.old shape size }
     ensures { Becomes shape cells.old cells.new
         (flipped_by size Axes.Columns (grid_of (shaped cells.old shape))) }
 {
@@ -121,10 +118,7 @@ fn flip_columns(cells: &mut [u8], shape: Shape, size: usize)
 
 // The rows or the columns change places.
 fn flip_cells(cells: &mut [u8], shape: Shape, size: usize, axes: Axes)
-    requires fits { Fits (shaped cells.old shape) }
-    requires some { 0 < size }
-    requires few { size < 9 }
-    requires whole { shape_width shape ≡ shape_width shape / size * size }
+    requires pixels { HavePixels cells.old shape size }
     ensures { Becomes shape cells.old cells.new
         (flipped_by size axes (grid_of (shaped cells.old shape))) }
 {
@@ -141,10 +135,7 @@ fn flip_cells(cells: &mut [u8], shape: Shape, size: usize, axes: Axes)
 /// Applies the change of pixels of `size` bytes to the image that the bytes make in this shape; the
 /// padding stays.
 pub(crate) fn change_cells(cells: &mut [u8], shape: Shape, size: usize, change: Change<Value>)
-    requires fits { Fits (shaped cells.old shape) }
-    requires some { 0 < size }
-    requires few { size < 9 }
-    requires whole { shape_width shape ≡ shape_width shape / size * size }
+    requires pixels { HavePixels cells.old shape size }
     requires inside { IsChangeOf (shape_width shape / size) (shape_height shape) change }
     ensures { Becomes shape cells.old cells.new
         (changed size change (grid_of (shaped cells.old shape))) }

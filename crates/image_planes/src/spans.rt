@@ -1,11 +1,11 @@
 //! Blocks of steps, and the frames that each names, so that a frame passes over the blocks of others.
 
-ghost use Rattle.std.specs.Prelude.{◌≡◌, ◌<◌, ◌/◌, ◌*◌, IfOk, IsTrue};
-ghost use Rattle.image_model.specs.Layout.{Fits};
+ghost use Rattle.std.specs.Prelude.{◌≡◌, ◌<◌, ◌/◌, IfOk, IsTrue};
 ghost use Rattle.image_model.specs.Grid.{grid_of};
 ghost use Rattle.imgref.specs.Shape.{shaped, shape_width, shape_height};
 ghost use Rattle.image_ops.specs.Written.{Becomes};
 ghost use Rattle.image_planes.specs.Changes.{are_inside, stepped};
+ghost use Rattle.image_planes.specs.Pixels.{HavePixels};
 ghost use Rattle.image_planes.specs.Spans.{has, has_all, are_spans_by, are_spans, are_groups};
 
 use crate::change::{Step, Value};
@@ -84,10 +84,7 @@ fn do_blocks(
     spans: &[Span],
     number: u64,
 )
-    requires fits { Fits (shaped cells.old shape) }
-    requires some { 0 < size }
-    requires few { size < 9 }
-    requires whole { shape_width shape ≡ shape_width shape / size * size }
+    requires pixels { HavePixels cells.old shape size }
     requires inside { IsTrue
         (are_inside (shape_width shape / size) (shape_height shape) steps.now) }
     requires spans { IsTrue (are_spans spans.now steps.now) }
@@ -116,10 +113,7 @@ pub(crate) fn do_groups(
     groups: &[Span],
     number: u64,
 )
-    requires fits { Fits (shaped cells.old shape) }
-    requires some { 0 < size }
-    requires few { size < 9 }
-    requires whole { shape_width shape ≡ shape_width shape / size * size }
+    requires pixels { HavePixels cells.old shape size }
     requires inside { IsTrue
         (are_inside (shape_width shape / size) (shape_height shape) steps.now) }
     requires spans { IsTrue (are_spans spans.now steps.now) }

@@ -1,11 +1,11 @@
 //! Changes that are applied one after the other, each to some frames of a video.
 
-ghost use Rattle.std.specs.Prelude.{◌≡◌, ◌<◌, ◌/◌, ◌*◌, IsTrue};
-ghost use Rattle.image_model.specs.Layout.{Fits};
+ghost use Rattle.std.specs.Prelude.{◌≡◌, ◌/◌, IsTrue};
 ghost use Rattle.image_model.specs.Grid.{grid_of};
 ghost use Rattle.imgref.specs.Shape.{shaped, shape_width, shape_height};
 ghost use Rattle.image_ops.specs.Written.{Becomes};
 ghost use Rattle.image_planes.specs.Changes.{are_inside, stepped};
+ghost use Rattle.image_planes.specs.Pixels.{HavePixels};
 
 use crate::change::{Step, Value, change_cells};
 use crate::plane::is_inside;
@@ -29,10 +29,7 @@ pub(crate) fn do_steps(
     steps: &[Step<Value>],
     number: u64,
 )
-    requires fits { Fits (shaped cells.old shape) }
-    requires some { 0 < size }
-    requires few { size < 9 }
-    requires whole { shape_width shape ≡ shape_width shape / size * size }
+    requires pixels { HavePixels cells.old shape size }
     requires inside { IsTrue
         (are_inside (shape_width shape / size) (shape_height shape) steps.now) }
     ensures { Becomes shape cells.old cells.new

@@ -1,5 +1,6 @@
 ghost use Rattle.std.specs.Prelude.{◌≡◌, ◌+◌, ◌*◌, ◌<◌, ◌≤◌, IsTrue, length};
 ghost use Rattle.image_model.specs.Shifts.{shifted};
+ghost use Rattle.row_mover.specs.State.{IsKnown};
 
 use crate::blocks::{copy_by_blocks, copy_ends, copy_few, copy_to_next, copy_to_previous};
 use crate::parts::copy_line;
@@ -83,12 +84,7 @@ impl<'a, T: Copy> RowMover<'a, T> {
         len: usize,
         target: usize,
     )
-        requires enough { N ≤ len }
-        requires few { 0 < N → len ≤ 2 * N }
-        requires next { HOW ≡ 2 → target ≡ start + 1 }
-        requires previous { HOW ≡ 3 → start ≡ target + 1 }
-        requires behind { HOW ≡ 4 → start + len ≤ target }
-        requires before { HOW ≡ 5 → target + len ≤ start }
+        requires known { IsKnown N HOW start len target }
         requires source { start + len ≤ length self.old.cells }
         requires target { target + len ≤ length self.old.cells }
         requires count { self.old.shifts + 1 ≤ u64.MAX }
@@ -139,12 +135,7 @@ fn copy_by<T: Copy, const N: usize, const HOW: usize>(
     len: usize,
     target: usize,
 )
-    requires enough { N ≤ len }
-    requires few { 0 < N → len ≤ 2 * N }
-    requires next { HOW ≡ 2 → target ≡ start + 1 }
-    requires previous { HOW ≡ 3 → start ≡ target + 1 }
-    requires behind { HOW ≡ 4 → start + len ≤ target }
-    requires before { HOW ≡ 5 → target + len ≤ start }
+    requires known { IsKnown N HOW start len target }
     requires source { start + len ≤ length cells.old }
     requires target { target + len ≤ length cells.old }
     ensures { cells.new ≡ shifted cells.old start len target }

@@ -2,6 +2,7 @@ ghost use Rattle.std.specs.Prelude.{◌≡◌, ◌+◌, ◌-◌, ◌*◌, ◌<�
 ghost use Rattle.image_model.specs.Layout.{layout, Fits};
 ghost use Rattle.image_model.specs.Rows.{joined_rows};
 ghost use Rattle.image_model.specs.Shifts.{rows_compacted, rows_moved, MovesRows};
+ghost use Rattle.row_mover.specs.State.{IsKnown};
 
 use crate::blocks::are_words;
 use crate::mover::{ANY, BEFORE, BEHIND, FEW, LONG, NEXT, OVER, PREVIOUS, RowMover};
@@ -152,12 +153,7 @@ impl<T: Copy> RowMover<'_, T> {
         width: usize,
         height: usize,
     )
-        requires enough { N ≤ width }
-        requires few { 0 < N → width ≤ 2 * N }
-        requires next { HOW ≡ 2 → to ≡ from + 1 }
-        requires previous { HOW ≡ 3 → from ≡ to + 1 }
-        requires behind { HOW ≡ 4 → from + width ≤ to }
-        requires before { HOW ≡ 5 → to + width ≤ from }
+        requires known { IsKnown N HOW from width to }
         requires some { 0 < width }
         requires row { 0 < height }
         requires holds_width { width ≤ stride }

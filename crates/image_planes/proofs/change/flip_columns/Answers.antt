@@ -13,6 +13,6 @@ returns c =
     let across : w.width ≡ c.width-width.result = search rules in
     let down : w.height ≡ c.height-height.result = search rules in
     record {
-      grid = c.flip_window_columns.ensures.grid ∙ whole_mirrored c.args.size (shaped c.args.cells.now c.args.shape) w c.requires.some left top (across ∙ c.width-width.ensures.value) (down ∙ c.height-height.ensures.value) c.requires.whole;
+      grid = c.flip_window_columns.ensures.grid ∙ whole_mirrored c.args.size (shaped c.args.cells.now c.args.shape) w c.requires.pixels.some left top (across ∙ c.width-width.ensures.value) (down ∙ c.height-height.ensures.value) c.requires.pixels.whole;
       outside = c.flip_window_columns.ensures.outside;
     }
