@@ -7,6 +7,7 @@
 #![tactic(auto)]
 
 mod bands;
+mod blur;
 mod block_pairs;
 mod blocks;
 mod clones;

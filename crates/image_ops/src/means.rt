@@ -100,7 +100,7 @@ fn begins_sample(bytes: SampleBytes, x: usize) -> bool
 
 // The number of the sample that begins at this cell.
 #[inline(always)]
-fn sample_from<T: Sample>(bytes: SampleBytes, cells: &[T], at: usize) -> u16
+pub(crate) fn sample_from<T: Sample>(bytes: SampleBytes, cells: &[T], at: usize) -> u16
     requires kind { AreBytes bytes T.greatest }
     requires inside { at + sample_cells bytes ≤ length cells.now }
     requires room { length cells.now < 2 ^ 63 }
