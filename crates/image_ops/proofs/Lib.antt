@@ -35,4 +35,5 @@ pub mod CountedUpto
 pub mod Windowed
 pub mod Rounding
 pub mod Samples
+pub mod BoxSums
 pub mod MeanTiles

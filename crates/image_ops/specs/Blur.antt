@@ -1,6 +1,5 @@
 -- A grid of which each pixel is the mean of the box around it, cut at the grid's edges.
-use Rattle.std.specs.Prelude.{◌≡◌, ℕ, ◌+◌, ◌-◌, ◌*◌, ◌/◌, ◌%◌, ◌<◌, min, Some, List, length, slice_get}
-use Rattle.std.specs.Option.{option_map_or}
+use Rattle.std.specs.Prelude.{◌≡◌, ℕ, ◌+◌, ◌-◌, ◌*◌, ◌/◌, ◌%◌, ◌<◌, min, Some, List, length, slice_index_or}
 use Rattle.image_model.specs.Grid.{Grid, grid}
 use Rattle.image_ops.specs.Means.{mean_of, sample_at, sample_cells, sample_in, sample_start, cell_number, sum_upto}
 use Rattle.image_ops.specs.declared.means.SampleBytes.{SampleBytes}
@@ -27,7 +26,7 @@ blurred bytes size across down g = grid g.width g.height (λ x y. Some (cell_num
 
 -- the number in a place of a list
 abbrev pub sum_at : List ℕ → ℕ → ℕ
-sum_at sums k = option_map_or (λ n. n) (slice_get sums k) 0
+sum_at sums k = slice_index_or sums k 0
 
 -- each sum has the sample of a row more
 pub record AddsRow (bytes : SampleBytes) (row old new : List ℕ) : Type 0 where

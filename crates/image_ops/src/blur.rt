@@ -2,7 +2,7 @@
 //! sum of a box runs along the row.
 
 ghost use Rattle.std.specs.Prelude.{◌≡◌, ◌<◌, ◌≤◌, ◌+◌, ◌*◌, ◌%◌, ◌^◌, ℕ, length};
-ghost use Rattle.image_ops.specs.Blur.{sum_at, AddsRow};
+ghost use Rattle.image_ops.specs.Blur.{pixels_upto, sum_at, AddsRow};
 ghost use Rattle.image_ops.specs.Means.{sample_cells, sample_in};
 
 use crate::means::{SampleBytes, sample_from};
@@ -42,4 +42,35 @@ pub(crate) fn take_row(bytes: SampleBytes, row: &[u8], sums: &mut [u64])
     for k in 0..sums.len() {
         sums[k] -= u64::from(sample_from(bytes, row, k * cells));
     }
+}
+
+// The sum of the samples at one place of each pixel of a box that begins at pixel `from` and ends
+// before pixel `to`, after the sum of what is before it.
+fn grown(sums: &[u64], per: usize, at: usize, sum: u64, from: usize, to: usize) -> u64
+    requires order { from ≤ to }
+    requires inside { (p : ℕ) → p < to → p * per + at < length sums.now }
+    requires room { length sums.now < 2 ^ 32 }
+    requires bound { (n : ℕ) → n ≤ to → sum + pixels_upto sums.now per at n < 2 ^ 63 }
+    ensures { result + pixels_upto sums.now per at from ≡ sum + pixels_upto sums.now per at to }
+{
+    let mut grown = sum;
+    for p in from..to {
+        grown += sums[p * per + at];
+    }
+    grown
+}
+
+// The sum without those of its first pixels, from one up to another.
+fn shrunk(sums: &[u64], per: usize, at: usize, sum: u64, from: usize, to: usize) -> u64
+    requires order { from ≤ to }
+    requires inside { (p : ℕ) → p < to → p * per + at < length sums.now }
+    requires room { length sums.now < 2 ^ 32 }
+    requires parts { pixels_upto sums.now per at to ≤ sum + pixels_upto sums.now per at from }
+    ensures { result + pixels_upto sums.now per at to ≡ sum + pixels_upto sums.now per at from }
+{
+    let mut shrunk = sum;
+    for p in from..to {
+        shrunk -= sums[p * per + at];
+    }
+    shrunk
 }

@@ -7,9 +7,9 @@
 #![tactic(auto)]
 
 mod bands;
-mod blur;
 mod block_pairs;
 mod blocks;
+mod blur;
 mod clones;
 mod copy;
 mod counting;
