@@ -36,4 +36,5 @@ pub mod Windowed
 pub mod Rounding
 pub mod Samples
 pub mod BoxSums
+pub mod ColumnSums
 pub mod MeanTiles

@@ -157,7 +157,7 @@ fn sum_of<T: Sample>(bytes: SampleBytes, row: &[T], size: usize) -> u64
 }
 
 // The number with this sum of so many numbers as its mean, rounded to the nearest.
-fn rounded(sum: u64, count: u64) -> u64
+pub(crate) fn rounded(sum: u64, count: u64) -> u64
     requires { 0 < count }
     ensures { result ≡ rounded_mean sum count }
 {

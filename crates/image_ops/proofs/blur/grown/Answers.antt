@@ -8,7 +8,7 @@ pub overflow_add-grown-in-loop-p : goal.overflow_add-grown-in-loop-p
 overflow_add-grown-in-loop-p c =
     let a = c.args in
     let p = c.loop-p.p in
-    omega (arith, c.loop-p.invariant.sum, pixels_next a.sums.now a.per a.at p, c.requires.bound (p + 1) (omega (arith, c.loop-p-test.true)))
+    omega (arith, c.loop-p.invariant.sum, pixels_next a.sums.now a.per a.at p, c.requires.bound (p + 1) (omega (arith, c.loop-p.invariant.order)) (omega (arith, c.loop-p-test.true)))
 
 pub loop-p-preserved : goal.loop-p-preserved
 loop-p-preserved c =
