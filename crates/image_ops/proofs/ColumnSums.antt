@@ -1,10 +1,10 @@
 -- Sums of numbers, split and exchanged, and those of the samples in one column of rows.
-use Rattle.std.proofs.Common.{◌≡◌, ℕ, zero, suc, ◌+◌, ◌-◌, ◌*◌, ◌<◌, ◌≤◌, List, length, take, drop, refl, sym, ap, ap₂, ◌∙◌, arith}
+use Rattle.std.proofs.Common.{◌≡◌, ℕ, zero, suc, ◌+◌, ◌-◌, ◌*◌, ◌<◌, ◌≤◌, List, [], ◌∷◌, length, take, drop, refl, sym, ap, ap₂, ◌∙◌, arith}
 use Rattle.std.proofs.Math.Nat.{add-mul, mul-le-mul_right}
 use Rattle.std.specs.List.{slice_get}
 use Rattle.image_model.proofs.Cells.{slice_get-take, slice_get-drop}
-use Rattle.image_ops.specs.Blur.{column_upto}
-use Rattle.image_ops.specs.Means.{sum_upto, sample_cells, sample_in}
+use Rattle.image_ops.specs.Blur.{column_upto, sum_at}
+use Rattle.image_ops.specs.Means.{sum_upto, number_in, sample_cells, sample_in, sample_number}
 use Rattle.image_ops.specs.declared.means.SampleBytes.{SampleBytes}
 use Rattle.image_ops.specs.declared.means.SampleBytes.TheVariants.{One, LowFirst, HighFirst}
 use Rattle.image_ops.proofs.Rounding.{sum_next, sum_same}
@@ -69,3 +69,20 @@ column_next bytes cells stride k n = sum_next n (λ j. sample_in bytes (λ i. i)
 
 pub column_grows : (bytes : SampleBytes) (cells : List ℕ) (stride k m n : ℕ) → m ≤ n → column_upto bytes cells stride k m ≤ column_upto bytes cells stride k n
 column_grows bytes cells stride k m n order = sum_grows (λ j. sample_in bytes (λ i. i) cells (j * stride + k * sample_cells bytes)) m n order
+
+-- ---- bytes
+
+number_get : (cells : List ℕ) (k : ℕ) → number_in (λ n. n) cells k ≡ sum_at cells k
+number_get [] k = refl
+number_get (x ∷ xs) zero = refl
+number_get (x ∷ xs) (suc k) = number_get xs k
+
+-- a sample of bytes is no more than the greatest one
+sample_bound : (bytes : SampleBytes) (cells : List ℕ) (k : ℕ) → ((i : ℕ) → sum_at cells i ≤ 255) → sample_in bytes (λ n. n) cells k ≤ sample_number bytes 255 255
+sample_bound One cells k within = omega (arith, number_get cells k, within k)
+sample_bound LowFirst cells k within = omega (arith, number_get cells k, within k, number_get cells (k + 1), within (k + 1))
+sample_bound HighFirst cells k within = omega (arith, number_get cells k, within k, number_get cells (k + 1), within (k + 1))
+
+pub column_between : (bytes : SampleBytes) (cells : List ℕ) (stride k m n : ℕ) → ((i : ℕ) → sum_at cells i ≤ 255) → m ≤ n → column_upto bytes cells stride k n ≤ column_upto bytes cells stride k m + (n - m) * sample_number bytes 255 255
+column_between bytes cells stride k m n within order =
+    between_bound (λ j. sample_in bytes (λ i. i) cells (j * stride + k * sample_cells bytes)) (sample_number bytes 255 255) m n (λ j. sample_bound bytes cells (j * stride + k * sample_cells bytes) within) order

@@ -37,4 +37,5 @@ pub mod Rounding
 pub mod Samples
 pub mod BoxSums
 pub mod ColumnSums
+pub mod BoxMeans
 pub mod MeanTiles

@@ -3,6 +3,9 @@
 
 ghost use Rattle.std.specs.Prelude.{◌≡◌, ◌<◌, ◌≤◌, ◌+◌, ◌-◌, ◌*◌, ◌/◌, ◌%◌, ◌^◌, ℕ, length};
 ghost use Rattle.image_model.specs.Layout.{Fits, SameOutside};
+ghost use Rattle.image_model.specs.Grid.{patch};
+ghost use Rattle.image_model.specs.Windows.{window_view, IsInside};
+ghost use Rattle.image_shape.specs.Window.{as_window};
 ghost use Rattle.image_model.specs.Rows.{row_count};
 ghost use Rattle.image_shape.specs.Shape.{shape_height, shape_stride, shape_width, shaped, shaped_grid};
 ghost use Rattle.image_ops.specs.Blur.{blurred, box_sum, column_upto, pixels_upto, sum_at, sums_mean, AddsRow, AddsRows, BlursRow, PutsSample};
@@ -10,7 +13,8 @@ ghost use Rattle.image_ops.specs.Means.{sample_cells, sample_in, sample_number};
 
 use crate::means::{SampleBytes, rounded, sample_from};
 use crate::fill::fill_cells;
-use image_shape::Shape;
+use crate::windows::exact_part;
+use image_shape::{Shape, Window};
 
 // Each sum of a column gets the sample of this row.
 pub(crate) fn add_row(bytes: SampleBytes, row: &[u8], sums: &mut [u64])
@@ -255,4 +259,89 @@ fn blur_from(
         let row = shape.row(cells.len(), y).range();
         blur_row(bytes, sums, boxes, &mut cells[row], per, across, end - first);
     }
+}
+
+// The image gets the means of its own boxes, by a copy of its cells.
+fn blur_cells(
+    bytes: SampleBytes,
+    cells: &mut [u8],
+    shape: Shape,
+    per: usize,
+    across: usize,
+    down: usize,
+    copy: &mut [u8],
+    sums: &mut [u64],
+    boxes: &mut [u64],
+)
+    requires fits { Fits (shaped cells.old shape) }
+    requires room { length cells.old < 2 ^ 63 }
+    requires per { 0 < per }
+    requires whole { length sums.old ≡ length sums.old / per * per }
+    requires row { shape_width shape ≡ length sums.old * sample_cells bytes }
+    requires copy { length cells.old ≤ length copy.old }
+    requires as_many { length boxes.old ≡ length sums.old }
+    requires across { across < 2 ^ 16 }
+    requires down { down < 2 ^ 16 }
+    ensures grid { shaped_grid cells.new shape
+        ≡ blurred bytes (per * sample_cells bytes) across down (shaped_grid cells.old shape) }
+    ensures outside { SameOutside (shaped cells.old shape) (shaped cells.new shape) }
+{
+    let source = &mut copy[..cells.len()];
+    source.copy_from_slice(cells);
+    blur_from(bytes, source, cells, shape, per, across, down, sums, boxes);
+}
+
+/// Each sample of the window becomes the mean of the samples around it, rounded to the nearest
+/// number: a half goes up. Every other cell stays. The box around a pixel has `across` pixels on the
+/// left and on the right, and `down` above and below. What is outside the window doesn't count. Each
+/// sample of a pixel of `size` bytes has its own mean, and each byte is that byte of the mean.
+///
+/// # Requires
+///
+/// The cells fit the shape. The window is inside the shape. A pixel, which has bytes, has whole
+/// samples, and the window's rows have whole pixels. `across` and `down` are below 2^16. `copy` has
+/// room for the cells. `sums` and `boxes` have a number for each sample of a row. What the three had
+/// is lost.
+#[inline(never)]
+pub fn blur_samples(
+    bytes: SampleBytes,
+    cells: &mut [u8],
+    shape: Shape,
+    window: Window,
+    size: usize,
+    across: usize,
+    down: usize,
+    copy: &mut [u8],
+    sums: &mut [u64],
+    boxes: &mut [u64],
+)
+    requires fits { Fits (shaped cells.old shape) }
+    requires inside { IsInside (shape_width shape) (shape_height shape) (as_window window) }
+    requires size { 0 < size }
+    requires pixels { size % sample_cells bytes ≡ 0 }
+    requires whole { window.width % size ≡ 0 }
+    requires across { across < 2 ^ 16 }
+    requires down { down < 2 ^ 16 }
+    requires copy { length cells.old ≤ length copy.old }
+    requires sums { length sums.old * sample_cells bytes ≡ window.width }
+    requires boxes { length boxes.old ≡ length sums.old }
+    ensures grid { shaped_grid cells.new shape
+        ≡ patch (shaped_grid cells.old shape) window.left window.top
+        (blurred bytes size across down
+        (window_view (shaped_grid cells.old shape) (as_window window))) }
+    ensures outside { SameOutside (shaped cells.old shape) (shaped cells.new shape) }
+{
+    let (part, inner) = exact_part(cells.len(), shape, window);
+    let per = size / cells_of(bytes);
+    blur_cells(
+        bytes,
+        &mut cells[part],
+        inner,
+        per,
+        across,
+        down,
+        copy,
+        sums,
+        boxes,
+    );
 }

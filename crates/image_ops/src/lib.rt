@@ -38,6 +38,7 @@ mod swapping;
 mod turning;
 mod windows;
 
+pub use blur::blur_samples;
 pub use clones::{cloned, contiguous, joined_clones};
 pub use copy::copy_pixels;
 pub use counting::count_pixels;
