@@ -1,5 +1,5 @@
 -- Sums of numbers, split and exchanged, and those of the samples in one column of rows.
-use Rattle.std.proofs.Common.{◌≡◌, ℕ, zero, suc, ◌+◌, ◌-◌, ◌*◌, ◌<◌, ◌≤◌, List, [], ◌∷◌, length, take, drop, refl, sym, ap, ap₂, ◌∙◌, arith}
+use Rattle.std.proofs.Common.{◌≡◌, ℕ, zero, suc, ◌+◌, ◌-◌, ◌*◌, ◌<◌, ◌≤◌, List, [], ◌∷◌, take, drop, refl, ap, ◌∙◌, arith}
 use Rattle.std.proofs.Math.Nat.{add-mul, mul-le-mul_right}
 use Rattle.std.specs.List.{slice_get}
 use Rattle.image_model.proofs.Cells.{slice_get-take, slice_get-drop}
@@ -7,7 +7,7 @@ use Rattle.image_ops.specs.Blur.{column_upto, sum_at}
 use Rattle.image_ops.specs.Means.{sum_upto, number_in, sample_cells, sample_in, sample_number}
 use Rattle.image_ops.specs.declared.means.SampleBytes.{SampleBytes}
 use Rattle.image_ops.specs.declared.means.SampleBytes.TheVariants.{One, LowFirst, HighFirst}
-use Rattle.image_ops.proofs.Rounding.{sum_next, sum_same}
+use Rattle.image_ops.proofs.Rounding.{sum_next}
 use Rattle.image_ops.proofs.Samples.{sample_same}
 
 module _ (f : ℕ → ℕ) where

@@ -11,8 +11,8 @@ ghost use Rattle.image_shape.specs.Shape.{shape_height, shape_stride, shape_widt
 ghost use Rattle.image_ops.specs.Blur.{blurred, box_sum, column_upto, pixels_upto, sum_at, sums_mean, AddsRow, AddsRows, BlursRow, PutsSample};
 ghost use Rattle.image_ops.specs.Means.{sample_cells, sample_in, sample_number};
 
-use crate::means::{SampleBytes, rounded, sample_from};
 use crate::fill::fill_cells;
+use crate::means::{SampleBytes, rounded, sample_from};
 use crate::windows::exact_part;
 use image_shape::{Shape, Window};
 
@@ -106,7 +106,14 @@ fn box_sum(sums: &[u64], boxes: &[u64], per: usize, across: usize, p: usize, at:
     } else {
         let before = boxes[(p - 1) * per + at];
         let more = grown(sums, per, at, before, pixels.min(p + across), end);
-        shrunk(sums, per, at, more, (p - 1).saturating_sub(across), p.saturating_sub(across))
+        shrunk(
+            sums,
+            per,
+            at,
+            more,
+            (p - 1).saturating_sub(across),
+            p.saturating_sub(across),
+        )
     }
 }
 
@@ -257,7 +264,15 @@ fn blur_from(
         first = next_first;
         end = next_end;
         let row = shape.row(cells.len(), y).range();
-        blur_row(bytes, sums, boxes, &mut cells[row], per, across, end - first);
+        blur_row(
+            bytes,
+            sums,
+            boxes,
+            &mut cells[row],
+            per,
+            across,
+            end - first,
+        );
     }
 }
 

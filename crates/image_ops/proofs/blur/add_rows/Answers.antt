@@ -1,7 +1,6 @@
 -- One row more.
-use Rattle.std.proofs.Common.{◌≡◌, ℕ, ◌+◌, ◌-◌, ◌*◌, ◌<◌, ◌≤◌, length, take, drop, ap, ◌∙◌, arith}
-use Rattle.image_ops.specs.Means.{sample_in, sample_cells}
-use Rattle.image_ops.proofs.ColumnSums.{row_sample, column_next, column_grows}
+use Rattle.std.proofs.Common.{◌<◌, length, ◌∙◌, arith}
+use Rattle.image_ops.proofs.ColumnSums.{row_sample, column_next}
 use Rattle.image_ops.proofs.blur.add_rows.Goals as goal
 
 pub loop-y-preserved : goal.loop-y-preserved

@@ -1,5 +1,5 @@
 -- The rows up to this one are done.
-use Rattle.std.proofs.Common.{◌≡◌, ◌<◌, ◌≤◌, ◌+◌, ◌*◌, ℕ, length}
+use Rattle.std.proofs.Common.{◌≡◌, ◌<◌, ◌≤◌, ◌+◌, ℕ, length}
 use Rattle.image_shape.specs.Shape.{shape_stride}
 use Rattle.image_ops.specs.Blur.{sum_at, column_upto}
 use Rattle.image_ops.proofs.blur.add_rows.Given as goal

@@ -1,5 +1,5 @@
 -- The sums are those of the box's rows, and one row more is a row of means.
-use Rattle.std.proofs.Common.{◌≡◌, ℕ, ◌+◌, ◌-◌, ◌*◌, ◌/◌, ◌<◌, ◌≤◌, ◌^◌, min, Some, length, take, drop, refl, ap, subst, sym, ◌∙◌, arith}
+use Rattle.std.proofs.Common.{◌≡◌, ℕ, ◌+◌, ◌-◌, ◌*◌, ◌/◌, ◌<◌, ◌≤◌, ◌^◌, Some, length, take, drop, ap, subst, sym, ◌∙◌, arith}
 use Rattle.std.proofs.lemmas.Nat.{mul-le}
 use Rattle.image_model.specs.Grid.{grid_of}
 use Rattle.image_model.specs.Rows.{row_count}
@@ -10,7 +10,7 @@ use Rattle.image_ops.specs.Means.{sample_number, sample_cells, sample_start, cel
 use Rattle.image_ops.proofs.Samples.{sample_short, of_bytes}
 use Rattle.image_ops.proofs.ColumnSums.{column_between, column_grows}
 use Rattle.image_ops.proofs.BoxMeans.{row_is}
-use Rattle.image_ops.proofs.RowsWritten.{RowsDone, row_range, row_written, outside_stays, shows_table}
+use Rattle.image_ops.proofs.RowsWritten.{row_range, row_written, outside_stays, shows_table}
 use Rattle.image_ops.proofs.blur.blur_from.Goals as goal
 
 pub add_rows-requires-clause-bounds : goal.add_rows-requires-clause-bounds
@@ -38,8 +38,13 @@ blur_row-requires-clause-bounds c =
     λ k here.
     let added : k < length c.add_rows.new.sums = omega (arith, here, c.take_rows.ensures.as_many) in
     let before : k < length c.loop-y.sums = omega (arith, added, c.add_rows.ensures.as_many) in
-    omega (arith, so.columns k before, c.add_rows.ensures.each k before, c.take_rows.ensures.each k here,
-    column_between a.bytes a.source.now a.shape.stride k c.saturating_sub-next_first.result c.min-next_end.result (λ i. omega (arith, c.type_inv.source i)) (omega (arith, c.saturating_sub-next_first.ensures, c.min-next_end.ensures, c.loop-y-test.true, c.loop-y.auto.y-end)))
+    omega (
+      arith,
+      so.columns k before,
+      c.add_rows.ensures.each k before,
+      c.take_rows.ensures.each k here,
+      column_between a.bytes a.source.now a.shape.stride k c.saturating_sub-next_first.result c.min-next_end.result (λ i. omega (arith, c.type_inv.source i)) (omega (arith, c.saturating_sub-next_first.ensures, c.min-next_end.ensures, c.loop-y-test.true, c.loop-y.auto.y-end)),
+    )
 
 pub loop-y-preserved : goal.loop-y-preserved
 loop-y-preserved c =

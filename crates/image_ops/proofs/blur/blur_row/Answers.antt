@@ -1,8 +1,8 @@
 -- A mean is one of samples, and one sample more.
-use Rattle.std.proofs.Common.{◌≡◌, ℕ, ◌+◌, ◌-◌, ◌*◌, ◌/◌, ◌<◌, ◌≤◌, ◌^◌, min, length, set, Some, sym, ap, ap₂, ◌∙◌, arith, inl, inr}
+use Rattle.std.proofs.Common.{◌≡◌, ℕ, ◌+◌, ◌-◌, ◌*◌, ◌/◌, ◌≤◌, length, set, Some, sym, ap, ap₂, ◌∙◌, arith, inl, inr}
 use Rattle.std.proofs.lemmas.Bool.{cases_lt}
 use Rattle.std.proofs.lemmas.List.{get_or-set_same, get_or-set_other, length-set}
-use Rattle.std.proofs.Math.Nat.{mul_comm, mul_assoc, add-mul, mul-le-mul_right}
+use Rattle.std.proofs.Math.Nat.{mul_assoc, add-mul, mul-le-mul_right}
 use Rattle.std.specs.List.{slice_get}
 use Rattle.image_ops.specs.Blur.{box_sum, box_first, box_end, sum_at, sums_mean}
 use Rattle.image_ops.specs.Means.{rounded_mean, sample_cells, sample_number, cell_number}

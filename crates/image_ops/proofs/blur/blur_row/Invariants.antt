@@ -1,5 +1,5 @@
 -- The samples before this one are means, and the next one is at a place of a pixel.
-use Rattle.std.proofs.Common.{◌≡◌, ◌<◌, ◌≤◌, ◌+◌, ◌*◌, ℕ, length, Some}
+use Rattle.std.proofs.Common.{◌≡◌, ◌<◌, ◌+◌, ◌*◌, ℕ, length, Some}
 use Rattle.std.specs.List.{slice_get}
 use Rattle.image_ops.specs.Blur.{box_sum, sum_at, sums_mean}
 use Rattle.image_ops.specs.Means.{sample_cells, cell_number}

@@ -1,5 +1,5 @@
 -- The image shows at the window what was written there.
-use Rattle.std.proofs.Common.{◌≡◌, ◌/◌, ◌*◌, length, ap, ap₂, ◌∙◌}
+use Rattle.std.proofs.Common.{◌/◌, ◌*◌, length, ap, ap₂, ◌∙◌}
 use Rattle.image_model.specs.Grid.{grid_of, patch}
 use Rattle.image_ops.specs.Blur.{blurred}
 use Rattle.image_ops.specs.Means.{sample_cells}

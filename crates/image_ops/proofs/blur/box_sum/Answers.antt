@@ -1,7 +1,7 @@
 -- A box's sum by the one before.
-use Rattle.std.proofs.Common.{◌≡◌, ℕ, ◌+◌, ◌-◌, ◌*◌, ◌/◌, ◌<◌, ◌≤◌, ◌^◌, min, length, sym, ap, ◌∙◌, arith}
-use Rattle.image_ops.specs.Blur.{pixels_upto, box_sum, box_first, box_end, sum_at}
-use Rattle.image_ops.proofs.BoxSums.{pixel_of, between_bound, upto_grows, sum_is, sum_bound, is_sum}
+use Rattle.std.proofs.Common.{◌≡◌, ℕ, ◌+◌, ◌-◌, ◌*◌, ◌/◌, ◌<◌, ◌≤◌, ◌^◌, length, ap, arith}
+use Rattle.image_ops.specs.Blur.{pixels_upto, box_sum, box_first, box_end}
+use Rattle.image_ops.proofs.BoxSums.{pixel_of, between_bound, upto_grows, sum_bound, is_sum}
 use Rattle.image_ops.proofs.blur.box_sum.Goals as goal
 
 pub grown-requires-clause-bound : goal.grown-requires-clause-bound

@@ -1,7 +1,6 @@
 -- One pixel more.
-use Rattle.std.proofs.Common.{◌≡◌, ℕ, ◌+◌, ◌-◌, ◌≤◌, ap, arith}
-use Rattle.image_ops.specs.Blur.{pixels_upto}
-use Rattle.image_ops.proofs.BoxSums.{pixels_next, pixels_more}
+use Rattle.std.proofs.Common.{◌+◌, arith}
+use Rattle.image_ops.proofs.BoxSums.{pixels_next}
 use Rattle.image_ops.proofs.blur.grown.Goals as goal
 
 pub overflow_add-grown-in-loop-p : goal.overflow_add-grown-in-loop-p

@@ -1,5 +1,5 @@
 -- One pixel less.
-use Rattle.std.proofs.Common.{◌≡◌, ℕ, ◌+◌, ◌-◌, ◌≤◌, ap, arith}
+use Rattle.std.proofs.Common.{◌≡◌, ◌+◌, ◌-◌, ◌≤◌, ap, arith}
 use Rattle.image_ops.specs.Blur.{pixels_upto}
 use Rattle.image_ops.proofs.BoxSums.{pixels_next, pixels_more}
 use Rattle.image_ops.proofs.blur.shrunk.Goals as goal

@@ -1,6 +1,5 @@
 -- One row less.
-use Rattle.std.proofs.Common.{◌≡◌, ℕ, ◌+◌, ◌-◌, ◌*◌, ◌<◌, ◌≤◌, length, take, drop, ap, ◌∙◌, arith}
-use Rattle.image_ops.specs.Means.{sample_in, sample_cells}
+use Rattle.std.proofs.Common.{◌+◌, ◌<◌, length, ◌∙◌, arith}
 use Rattle.image_ops.proofs.ColumnSums.{row_sample, column_next, column_grows}
 use Rattle.image_ops.proofs.blur.take_rows.Goals as goal
 
