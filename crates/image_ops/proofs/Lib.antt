@@ -35,4 +35,7 @@ pub mod CountedUpto
 pub mod Windowed
 pub mod Rounding
 pub mod Samples
+pub mod BoxSums
+pub mod ColumnSums
+pub mod BoxMeans
 pub mod MeanTiles

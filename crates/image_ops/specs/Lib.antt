@@ -16,3 +16,4 @@ pub mod Blocks
 pub mod Counting
 pub mod Written
 pub mod Means
+pub mod Blur

@@ -1,5 +1,5 @@
 //! Calls on all cells in a shape. They give windows, compare, count, hash, and copy without padding.
-//! They fill, copy and map pixels, make mosaics, and move pixels in place.
+//! They fill, copy and map pixels, make mosaics and blurs, and move pixels in place.
 //!
 //! Cells are a slice or a `Vec`, and a [`Shape`](image_shape::Shape) says where the rows of the
 //! image are in them. The crate hides the loops over rows, and that shifts of a
@@ -9,6 +9,7 @@
 mod bands;
 mod block_pairs;
 mod blocks;
+mod blur;
 mod clones;
 mod copy;
 mod counting;
@@ -37,6 +38,7 @@ mod swapping;
 mod turning;
 mod windows;
 
+pub use blur::blur_samples;
 pub use clones::{cloned, contiguous, joined_clones};
 pub use copy::copy_pixels;
 pub use counting::count_pixels;

@@ -100,7 +100,7 @@ fn begins_sample(bytes: SampleBytes, x: usize) -> bool
 
 // The number of the sample that begins at this cell.
 #[inline(always)]
-fn sample_from<T: Sample>(bytes: SampleBytes, cells: &[T], at: usize) -> u16
+pub(crate) fn sample_from<T: Sample>(bytes: SampleBytes, cells: &[T], at: usize) -> u16
     requires kind { AreBytes bytes T.greatest }
     requires inside { at + sample_cells bytes ≤ length cells.now }
     requires room { length cells.now < 2 ^ 63 }
@@ -157,7 +157,7 @@ fn sum_of<T: Sample>(bytes: SampleBytes, row: &[T], size: usize) -> u64
 }
 
 // The number with this sum of so many numbers as its mean, rounded to the nearest.
-fn rounded(sum: u64, count: u64) -> u64
+pub(crate) fn rounded(sum: u64, count: u64) -> u64
     requires { 0 < count }
     ensures { result ≡ rounded_mean sum count }
 {

@@ -1,0 +1,10 @@
+-- The sum up to this pixel.
+use Rattle.std.proofs.Common.{◌≡◌, ◌+◌, ◌≤◌}
+use Rattle.image_ops.specs.Blur.{pixels_upto}
+use Rattle.image_ops.proofs.blur.grown.Given as goal
+
+abbrev pub invariant-loop-p : goal.invariant-loop-p
+invariant-loop-p l = record {
+  order : l.from ≤ l.p;
+  sum : l.grown + pixels_upto l.sums l.per l.at l.from ≡ l.sum + pixels_upto l.sums l.per l.at l.p;
+}
