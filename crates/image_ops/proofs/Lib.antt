@@ -34,6 +34,7 @@ pub mod BlockSpreading
 pub mod CountedUpto
 pub mod Windowed
 pub mod Rounding
+pub mod Factors
 pub mod Samples
 pub mod BoxSums
 pub mod ColumnSums

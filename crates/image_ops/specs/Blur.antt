@@ -51,6 +51,14 @@ pub record PutsSample (bytes : SampleBytes) (at value : ℕ) (old new : List ℕ
   pub each : (c : ℕ) → c < sample_cells bytes → slice_get new (at + c) ≡ Some (cell_number bytes c value)
   pub others : (k : ℕ) → (k < at) ⊎ (at + sample_cells bytes ≤ k) → slice_get new k ≡ slice_get old k
 
+-- the samples at one place of each pixel of a row are means of boxes, and those at the places before it are as they were
+pub record BlursPlace (bytes : SampleBytes) (sums : List ℕ) (per at across lines : ℕ) (old new : List ℕ) : Type 0 where
+  pub as_many : length new ≡ length old
+  pub each : (p c : ℕ) → p * per + at < length sums → c < sample_cells bytes
+      → slice_get new ((p * per + at) * sample_cells bytes + c) ≡ Some (cell_number bytes c (sums_mean sums per across lines p at))
+  pub before : (p a c : ℕ) → a < at → p * per + a < length sums → c < sample_cells bytes
+      → slice_get new ((p * per + a) * sample_cells bytes + c) ≡ slice_get old ((p * per + a) * sample_cells bytes + c)
+
 -- the row's samples are means of boxes
 pub record BlursRow (bytes : SampleBytes) (sums : List ℕ) (per across lines : ℕ) (old new : List ℕ) : Type 0 where
   pub as_many : length new ≡ length old

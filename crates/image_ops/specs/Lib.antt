@@ -17,3 +17,4 @@ pub mod Counting
 pub mod Written
 pub mod Means
 pub mod Blur
+pub mod Division

@@ -1,31 +1,33 @@
 //! A blur: each pixel becomes the mean of the box around it. The sums of columns run down, and the
-//! sum of a box runs along the row.
+//! sum of a box runs along the row. A mean is a product, since a division takes longer.
 
-ghost use Rattle.std.specs.Prelude.{◌≡◌, ◌<◌, ◌≤◌, ◌+◌, ◌-◌, ◌*◌, ◌/◌, ◌%◌, ◌^◌, ℕ, length};
+ghost use Rattle.std.specs.Prelude.{◌≡◌, ◌<◌, ◌≤◌, ◌+◌, ◌-◌, ◌*◌, ◌/◌, ◌%◌, ◌^◌, ℕ, length, min};
 ghost use Rattle.image_model.specs.Layout.{Fits, SameOutside};
 ghost use Rattle.image_model.specs.Grid.{patch};
 ghost use Rattle.image_model.specs.Windows.{window_view, IsInside};
 ghost use Rattle.image_shape.specs.Window.{as_window};
 ghost use Rattle.image_model.specs.Rows.{row_count};
 ghost use Rattle.image_shape.specs.Shape.{shape_height, shape_stride, shape_width, shaped, shaped_grid};
-ghost use Rattle.image_ops.specs.Blur.{blurred, box_sum, column_upto, pixels_upto, sum_at, sums_mean, AddsRow, AddsRows, BlursRow, PutsSample};
+ghost use Rattle.image_ops.specs.Blur.{blurred, column_upto, pixels_upto, sum_at, AddsRow, AddsRows, BlursPlace, BlursRow, PutsSample};
 ghost use Rattle.image_ops.specs.Means.{sample_cells, sample_in, sample_number};
 
+use crate::division::{factor_of, mean_by};
 use crate::fill::fill_cells;
-use crate::means::{SampleBytes, rounded, sample_from};
+use crate::means::{SampleBytes, sample_from};
 use crate::windows::exact_part;
 use image_shape::{Shape, Window};
 
 // Each sum of a column gets the sample of this row.
-pub(crate) fn add_row(bytes: SampleBytes, row: &[u8], sums: &mut [u64])
+pub(crate) fn add_row(bytes: SampleBytes, row: &[u8], sums: &mut [u32])
     requires row { length row.now ≡ length sums.old * sample_cells bytes }
     requires room { length row.now < 2 ^ 32 }
-    requires bounds { (k : ℕ) → k < length sums.old → sum_at sums.old k < 2 ^ 63 }
+    requires bounds { (k : ℕ) → k < length sums.old → sum_at sums.old k
+        + sample_in bytes (λ n. n) row.now (k * sample_cells bytes) < 2 ^ 32 }
     ensures { AddsRow bytes row.now sums.old sums.new }
 {
     let cells = cells_of(bytes);
     for k in 0..sums.len() {
-        sums[k] += u64::from(sample_from(bytes, row, k * cells));
+        sums[k] += u32::from(sample_from(bytes, row, k * cells));
     }
 }
 
@@ -40,7 +42,7 @@ fn cells_of(bytes: SampleBytes) -> usize
 }
 
 // Each sum of a column loses the sample of this row, which is one of its parts.
-pub(crate) fn take_row(bytes: SampleBytes, row: &[u8], sums: &mut [u64])
+pub(crate) fn take_row(bytes: SampleBytes, row: &[u8], sums: &mut [u32])
     requires row { length row.now ≡ length sums.old * sample_cells bytes }
     requires room { length row.now < 2 ^ 32 }
     requires parts { (k : ℕ) → k < length sums.old
@@ -49,72 +51,46 @@ pub(crate) fn take_row(bytes: SampleBytes, row: &[u8], sums: &mut [u64])
 {
     let cells = cells_of(bytes);
     for k in 0..sums.len() {
-        sums[k] -= u64::from(sample_from(bytes, row, k * cells));
+        sums[k] -= u32::from(sample_from(bytes, row, k * cells));
     }
 }
 
-// The sum of the samples at one place of each pixel of a box that begins at pixel `from` and ends
-// before pixel `to`, after the sum of what is before it.
-fn grown(sums: &[u64], per: usize, at: usize, sum: u64, from: usize, to: usize) -> u64
-    requires order { from ≤ to }
-    requires inside { (p : ℕ) → p < to → p * per + at < length sums.now }
+// The sum of the samples at one place of each pixel before this one.
+fn sum_before(sums: &[u32], per: usize, at: usize, end: usize) -> u64
+    requires inside { (p : ℕ) → p < end → p * per + at < length sums.now }
     requires room { length sums.now < 2 ^ 32 }
-    requires bound { (n : ℕ) → from ≤ n → n ≤ to
-        → sum + pixels_upto sums.now per at n < 2 ^ 63 + pixels_upto sums.now per at from }
-    ensures { result + pixels_upto sums.now per at from ≡ sum + pixels_upto sums.now per at to }
+    requires few { end < 2 ^ 32 }
+    ensures { result ≡ pixels_upto sums.now per at end }
 {
-    let mut grown = sum;
-    for p in from..to {
-        grown += sums[p * per + at];
+    let mut sum = 0;
+    for p in 0..end {
+        sum += u64::from(sums[p * per + at]);
     }
-    grown
+    sum
 }
 
-// The sum without those of its first pixels, from one up to another.
-fn shrunk(sums: &[u64], per: usize, at: usize, sum: u64, from: usize, to: usize) -> u64
-    requires order { from ≤ to }
-    requires inside { (p : ℕ) → p < to → p * per + at < length sums.now }
-    requires room { length sums.now < 2 ^ 32 }
-    requires parts { pixels_upto sums.now per at to ≤ sum + pixels_upto sums.now per at from }
-    ensures { result + pixels_upto sums.now per at to ≡ sum + pixels_upto sums.now per at from }
-{
-    let mut shrunk = sum;
-    for p in from..to {
-        shrunk -= sums[p * per + at];
-    }
-    shrunk
-}
-
-// The sum of the samples at place `at` of each pixel in the box around pixel `p`, by the sum of the
-// box before, which is in `boxes`.
-fn box_sum(sums: &[u64], boxes: &[u64], per: usize, across: usize, p: usize, at: usize) -> u64
-    requires whole { length sums.now ≡ length sums.now / per * per }
-    requires as_many { length boxes.now ≡ length sums.now }
-    requires room { length sums.now < 2 ^ 32 }
-    requires across { across < 2 ^ 16 }
+// The sum of the box around this pixel, by that of the box around the one before: it gets the pixel
+// that comes in, and loses the one that goes out.
+#[inline(always)]
+fn next_box(sums: &[u32], per: usize, at: usize, across: usize, p: usize, before: u64) -> u64
     requires place { at < per }
-    requires pixel { p * per + at < length sums.now }
-    requires bounds { (k : ℕ) → k < length sums.now → sum_at sums.now k ≤ 2 ^ 40 }
-    requires before { 0 < p → sum_at boxes.now ((p - 1) * per + at)
-        ≡ box_sum sums.now per across (p - 1) at }
-    ensures value { result ≡ box_sum sums.now per across p at }
+    requires whole { length sums.now ≡ length sums.now / per * per }
+    requires room { length sums.now < 2 ^ 32 }
+    requires across { across < 2 ^ 15 }
+    requires pixel { p < length sums.now / per }
+    requires before { before + pixels_upto sums.now per at (p - (across + 1))
+        ≡ pixels_upto sums.now per at (min (length sums.now / per) (p + across)) }
+    ensures { result + pixels_upto sums.now per at (p - across)
+        ≡ pixels_upto sums.now per at (min (length sums.now / per) (p + across + 1)) }
 {
-    let pixels = sums.len() / per;
-    let end = pixels.min(p + across + 1);
-    if p == 0 {
-        grown(sums, per, at, 0, 0, end)
-    } else {
-        let before = boxes[(p - 1) * per + at];
-        let more = grown(sums, per, at, before, pixels.min(p + across), end);
-        shrunk(
-            sums,
-            per,
-            at,
-            more,
-            (p - 1).saturating_sub(across),
-            p.saturating_sub(across),
-        )
+    let mut sum = before;
+    if p + across < sums.len() / per {
+        sum += u64::from(sums[(p + across) * per + at]);
     }
+    if across < p {
+        sum -= u64::from(sums[(p - across - 1) * per + at]);
+    }
+    sum
 }
 
 // Writes the cells of a sample.
@@ -137,44 +113,66 @@ fn put_sample(bytes: SampleBytes, cells: &mut [u8], at: usize, value: u16)
     }
 }
 
+// The samples at one place of each pixel get the means of boxes that have these sums of columns over
+// so many lines.
+fn blur_place(
+    bytes: SampleBytes,
+    sums: &[u32],
+    row: &mut [u8],
+    per: usize,
+    at: usize,
+    across: usize,
+    lines: usize,
+)
+    requires place { at < per }
+    requires whole { length sums.now ≡ length sums.now / per * per }
+    requires row { length row.old ≡ length sums.now * sample_cells bytes }
+    requires room { length row.old < 2 ^ 32 }
+    requires across { across < 2 ^ 15 }
+    requires lines { 0 < lines }
+    requires few { lines < 2 ^ 17 }
+    requires bounds { (k : ℕ) → k < length sums.now
+        → sum_at sums.now k ≤ lines * sample_number bytes 255 255 }
+    ensures means { BlursPlace bytes sums.now per at across lines row.old row.new }
+{
+    let cells = cells_of(bytes);
+    let pixels = sums.len() / per;
+    let mut sum = sum_before(sums, per, at, pixels.min(across));
+    let mut count = lines as u64;
+    let mut factor = factor_of(count);
+    for p in 0..pixels {
+        sum = next_box(sums, per, at, across, p, sum);
+        let columns = pixels.min(p + across + 1) - p.saturating_sub(across);
+        if count != (columns * lines) as u64 {
+            count = (columns * lines) as u64;
+            factor = factor_of(count);
+        }
+        let mean = mean_by(sum, count, factor);
+        put_sample(bytes, row, (p * per + at) * cells, mean as u16);
+    }
+}
+
 // The row gets the means of boxes that have these sums of columns over so many lines.
 fn blur_row(
     bytes: SampleBytes,
-    sums: &[u64],
-    boxes: &mut [u64],
+    sums: &[u32],
     row: &mut [u8],
     per: usize,
     across: usize,
     lines: usize,
 )
-    requires per { 0 < per }
     requires whole { length sums.now ≡ length sums.now / per * per }
-    requires as_many { length boxes.old ≡ length sums.now }
     requires row { length row.old ≡ length sums.now * sample_cells bytes }
     requires room { length row.old < 2 ^ 32 }
-    requires across { across < 2 ^ 16 }
+    requires across { across < 2 ^ 15 }
     requires lines { 0 < lines }
     requires few { lines < 2 ^ 17 }
     requires bounds { (k : ℕ) → k < length sums.now
         → sum_at sums.now k ≤ lines * sample_number bytes 255 255 }
-    ensures as_many { length boxes.new ≡ length boxes.old }
     ensures means { BlursRow bytes sums.now per across lines row.old row.new }
 {
-    let cells = cells_of(bytes);
-    let pixels = sums.len() / per;
-    let mut p = 0;
-    let mut at = 0;
-    for k in 0..sums.len() {
-        let sum = box_sum(sums, boxes, per, across, p, at);
-        boxes[k] = sum;
-        let columns = pixels.min(p + across + 1) - p.saturating_sub(across);
-        let mean = rounded(sum, (columns * lines) as u64);
-        put_sample(bytes, row, k * cells, mean as u16);
-        at += 1;
-        if at == per {
-            at = 0;
-            p += 1;
-        }
+    for at in 0..per {
+        blur_place(bytes, sums, row, per, at, across, lines);
     }
 }
 
@@ -183,7 +181,7 @@ fn add_rows(
     bytes: SampleBytes,
     cells: &[u8],
     shape: Shape,
-    sums: &mut [u64],
+    sums: &mut [u32],
     from: usize,
     to: usize,
 )
@@ -194,7 +192,7 @@ fn add_rows(
     requires row { shape_width shape ≡ length sums.old * sample_cells bytes }
     requires bounds { (k n : ℕ) → k < length sums.old → from ≤ n → n ≤ to
         → sum_at sums.old k + column_upto bytes cells.now (shape_stride shape) k n
-        < 2 ^ 63 + column_upto bytes cells.now (shape_stride shape) k from }
+        < 2 ^ 32 + column_upto bytes cells.now (shape_stride shape) k from }
     ensures { AddsRows bytes cells.now (shape_stride shape) from to sums.old sums.new }
 {
     for y in from..to {
@@ -207,7 +205,7 @@ fn take_rows(
     bytes: SampleBytes,
     cells: &[u8],
     shape: Shape,
-    sums: &mut [u64],
+    sums: &mut [u32],
     from: usize,
     to: usize,
 )
@@ -235,8 +233,7 @@ fn blur_from(
     per: usize,
     across: usize,
     down: usize,
-    sums: &mut [u64],
-    boxes: &mut [u64],
+    sums: &mut [u32],
 )
     requires source { Fits (shaped source.now shape) }
     requires fits { Fits (shaped cells.old shape) }
@@ -245,9 +242,8 @@ fn blur_from(
     requires per { 0 < per }
     requires whole { length sums.old ≡ length sums.old / per * per }
     requires row { shape_width shape ≡ length sums.old * sample_cells bytes }
-    requires as_many { length boxes.old ≡ length sums.old }
-    requires across { across < 2 ^ 16 }
-    requires down { down < 2 ^ 16 }
+    requires across { across < 2 ^ 15 }
+    requires down { down < 2 ^ 15 }
     ensures grid { shaped_grid cells.new shape
         ≡ blurred bytes (per * sample_cells bytes) across down (shaped_grid source.now shape) }
     ensures outside { SameOutside (shaped cells.old shape) (shaped cells.new shape) }
@@ -264,15 +260,7 @@ fn blur_from(
         first = next_first;
         end = next_end;
         let row = shape.row(cells.len(), y).range();
-        blur_row(
-            bytes,
-            sums,
-            boxes,
-            &mut cells[row],
-            per,
-            across,
-            end - first,
-        );
+        blur_row(bytes, sums, &mut cells[row], per, across, end - first);
     }
 }
 
@@ -285,8 +273,7 @@ fn blur_cells(
     across: usize,
     down: usize,
     copy: &mut [u8],
-    sums: &mut [u64],
-    boxes: &mut [u64],
+    sums: &mut [u32],
 )
     requires fits { Fits (shaped cells.old shape) }
     requires room { length cells.old < 2 ^ 63 }
@@ -294,16 +281,15 @@ fn blur_cells(
     requires whole { length sums.old ≡ length sums.old / per * per }
     requires row { shape_width shape ≡ length sums.old * sample_cells bytes }
     requires copy { length cells.old ≤ length copy.old }
-    requires as_many { length boxes.old ≡ length sums.old }
-    requires across { across < 2 ^ 16 }
-    requires down { down < 2 ^ 16 }
+    requires across { across < 2 ^ 15 }
+    requires down { down < 2 ^ 15 }
     ensures grid { shaped_grid cells.new shape
         ≡ blurred bytes (per * sample_cells bytes) across down (shaped_grid cells.old shape) }
     ensures outside { SameOutside (shaped cells.old shape) (shaped cells.new shape) }
 {
     let source = &mut copy[..cells.len()];
     source.copy_from_slice(cells);
-    blur_from(bytes, source, cells, shape, per, across, down, sums, boxes);
+    blur_from(bytes, source, cells, shape, per, across, down, sums);
 }
 
 /// Each sample of the window becomes the mean of the samples around it, rounded to the nearest
@@ -314,9 +300,8 @@ fn blur_cells(
 /// # Requires
 ///
 /// The cells fit the shape. The window is inside the shape. A pixel, which has bytes, has whole
-/// samples, and the window's rows have whole pixels. `across` and `down` are below 2^16. `copy` has
-/// room for the cells. `sums` and `boxes` have a number for each sample of a row. What the three had
-/// is lost.
+/// samples, and the window's rows have whole pixels. `across` and `down` are below 2^15. `copy` has
+/// room for the cells, and `sums` a number for each sample of a row. What the two had is lost.
 #[inline(never)]
 pub fn blur_samples(
     bytes: SampleBytes,
@@ -327,19 +312,17 @@ pub fn blur_samples(
     across: usize,
     down: usize,
     copy: &mut [u8],
-    sums: &mut [u64],
-    boxes: &mut [u64],
+    sums: &mut [u32],
 )
     requires fits { Fits (shaped cells.old shape) }
     requires inside { IsInside (shape_width shape) (shape_height shape) (as_window window) }
     requires size { 0 < size }
     requires pixels { size % sample_cells bytes ≡ 0 }
     requires whole { window.width % size ≡ 0 }
-    requires across { across < 2 ^ 16 }
-    requires down { down < 2 ^ 16 }
+    requires across { across < 2 ^ 15 }
+    requires down { down < 2 ^ 15 }
     requires copy { length cells.old ≤ length copy.old }
     requires sums { length sums.old * sample_cells bytes ≡ window.width }
-    requires boxes { length boxes.old ≡ length sums.old }
     ensures grid { shaped_grid cells.new shape
         ≡ patch (shaped_grid cells.old shape) window.left window.top
         (blurred bytes size across down
@@ -357,6 +340,5 @@ pub fn blur_samples(
         down,
         copy,
         sums,
-        boxes,
     );
 }

@@ -13,6 +13,7 @@ mod blur;
 mod clones;
 mod copy;
 mod counting;
+mod division;
 mod equality;
 mod fill;
 mod flipping;

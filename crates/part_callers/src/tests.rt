@@ -121,8 +121,7 @@ fn a_blur_is_that_of_two_loops(rt: HostRuntime) {
             radius,
             down,
             [0u8; 32].as_mut_slice(),
-            [9u64; 4].as_mut_slice(),
-            [9u64; 4].as_mut_slice(),
+            [9u32; 4].as_mut_slice(),
         );
         for k in 0..32 {
             let column = k % 8;
@@ -157,8 +156,7 @@ fn samples_of_two_bytes_are_blurred_apart(rt: HostRuntime) {
         1,
         0,
         [0u8; 8].as_mut_slice(),
-        [0u64; 4].as_mut_slice(),
-        [0u64; 4].as_mut_slice(),
+        [0u32; 4].as_mut_slice(),
     );
     assert!(rt; cells == [0u8, 2, 128, 128, 0, 2, 128, 128]);
 }

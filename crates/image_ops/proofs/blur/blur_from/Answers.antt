@@ -19,8 +19,8 @@ add_rows-requires-clause-bounds c =
     let so = c.loop-y.invariant in
     let greatest : ℕ = sample_number a.bytes 255 255 in
     λ k n here from upto.
-    let few : n - c.loop-y.first ≤ 2 ^ 18 = omega (arith, upto, c.min-next_end.ensures, so.begins, c.requires.down) in
-    let most : (n - c.loop-y.first) * greatest ≤ 2 ^ 18 * 2 ^ 16 = mul-le (n - c.loop-y.first) greatest (2 ^ 18) (2 ^ 16) few (omega (arith, sample_short a.bytes 255 (of_bytes a.bytes) (omega arith))) in
+    let few : n - c.loop-y.first ≤ 2 ^ 16 = omega (arith, upto, c.min-next_end.ensures, so.begins, c.requires.down) in
+    let most : (n - c.loop-y.first) * greatest ≤ 2 ^ 16 * 65535 = mul-le (n - c.loop-y.first) greatest (2 ^ 16) 65535 few (omega (arith, sample_short a.bytes 255 (of_bytes a.bytes) (omega arith))) in
     omega (arith, so.columns k here, most, column_between a.bytes a.source.now a.shape.stride k c.loop-y.first n (λ i. omega (arith, c.type_inv.source i)) (omega (arith, so.order, from)))
 
 pub take_rows-requires-clause-parts : goal.take_rows-requires-clause-parts
@@ -78,7 +78,6 @@ loop-y-preserved c =
       put = row_written _ _ _ s y so.put c.requires.fits below _ _ at c.blur_row.new.row c.blur_row.ensures.means.as_many
           (λ x column here. row_is a.bytes sums a.source.now s a.per a.across a.down y ((end - first) * sample_number a.bytes 255 255) c.requires.per whole row (omega (arith, below, high)) bounds columns _ c.blur_row.new.row x blurs column);
       as_many = many;
-      many_boxes = c.blur_row.ensures.as_many ∙ so.many_boxes;
       begins = omega (arith, first_is);
       ends = omega (arith, c.min-next_end.ensures, c.row_count-rows.ensures.value);
       order = omega (arith, first_is, end_is, below, high);

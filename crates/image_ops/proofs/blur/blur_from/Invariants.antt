@@ -11,7 +11,6 @@ abbrev pub invariant-loop-y : goal.invariant-loop-y
 invariant-loop-y l = record {
   put : RowsDone (λ x j p. p ≡ Some (cell_number l.bytes x (box_mean l.bytes (l.per * sample_cells l.bytes) l.across l.down (shaped_grid l.source l.shape) (sample_start l.bytes x) j))) l.fn.cells l.cells l.shape l.y;
   as_many : length l.sums ≡ length l.fn.sums;
-  many_boxes : length l.boxes ≡ length l.fn.boxes;
   begins : l.first ≡ l.y - 1 - l.down;
   ends : l.end ≤ min (row_count (shape_width l.shape) (shape_height l.shape)) (l.y + l.down);
   order : l.first ≤ l.end;
