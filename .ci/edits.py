@@ -143,7 +143,7 @@ def edits_of(words):
             more = [int(words.pop(0))] if words and words[0].isdigit() else []
         else:
             more = [int(it) for it in words.pop(0).split(",")]
-        if word == "blur" and more[0] > 65535:
+        if word == "blur" and more[0] > 32767:
             raise Fault("words")
         edits.append((first, last, word, window, more))
     return edits

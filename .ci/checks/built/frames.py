@@ -26,7 +26,7 @@ TURNS = ("turn right", "turn left", "flip rows turn right", "fill 0,0,1,1 9 1.. 
 # Tiles of one pixel, tiles that edges cut, and one tile for all.
 MEANS = ("means 0,0,12,8 4,2", "means 4,2,8,6 4,4", "means 0,0,12,8 4,6", "means 0,0,12,8 64,64", "means 4,0,4,4 1,1", "means 8,0,5,9 4,2", "means 0,0,0,0 4,2", "means 4,2,4,4 3,2", "means 4,2,4,4 0,2", "means 0,0,12,8 18446744073709551612,2", "means 4,2,8,6 4,2 1.. means 0,0,8,4 8,4 turn half")
 # Boxes of one pixel, boxes that edges of the window or of the frame cut, and boxes that have all of it.
-BLURS = ("blur 0,0,12,8 1", "blur 4,2,8,6 2", "blur 4,2,4,4 0", "blur 0,0,12,8 65535", "blur 8,2,5,7 3", "blur 12,8,1,1 1", "blur 0,0,0,0 5", "blur 4,2,9,5 1", "blur 3,2,4,4 1", "blur 4,2,8,6 1 1.. blur 0,0,8,8 5 flip rows", "fill 4,2,4,4 9 blur 0,0,12,8 3 turn half", "blur 4,0,4,6 7 move 0,0,8,6 4,2")
+BLURS = ("blur 0,0,12,8 1", "blur 4,2,8,6 2", "blur 4,2,4,4 0", "blur 0,0,12,8 32767", "blur 8,2,5,7 3", "blur 12,8,1,1 1", "blur 0,0,0,0 5", "blur 4,2,9,5 1", "blur 3,2,4,4 1", "blur 4,2,8,6 1 1.. blur 0,0,8,8 5 flip rows", "fill 4,2,4,4 9 blur 0,0,12,8 3 turn half", "blur 4,0,4,6 7 move 0,0,8,6 4,2")
 # The same with a margin.
 MARGINS = ("5,3,1,1", "4,2,2,2", "5,2,3,4", "0,0,2,2", "11,7,1,1", "13,9,1,1", "16,12,2,2", "7,0,0,0", "6,4,0,0", "18446744073709551615,0,1,1", "0,0,18446744073709551615,1")
 PARAMETERS = (b"", b" Ip", b" ", b" XLABEL=a b  Ib")

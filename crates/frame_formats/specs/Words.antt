@@ -31,10 +31,10 @@ pair_in parts = do
 abbrev pub pair_of : List ℕ → Option (ℕ × ℕ)
 pair_of part = pair_in (parts_of 44 part)
 
--- the radius of a box, below 2 ^ 16
+-- the radius of a box, below 2 ^ 15
 abbrev pub radius_by : Option ℕ → Option ℕ
 radius_by None = None
-radius_by (Some radius) = if nat_le radius 65535 then Some radius else None
+radius_by (Some radius) = if nat_le radius 32767 then Some radius else None
 
 abbrev pub radius_of : List ℕ → Option ℕ
 radius_of part = radius_by (number_of part)

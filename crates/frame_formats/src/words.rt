@@ -29,12 +29,12 @@ fn read_pair(piece: &[u8]) -> Option<(usize, usize)>
     numbers.is_done().then_some((first, second))
 }
 
-// The radius of a box: a number below 2^16.
+// The radius of a box: a number below 2^15.
 fn read_radius(piece: &[u8]) -> Option<usize>
     ensures { result ≡ radius_of piece.now }
 {
     let radius = usize::read(piece)?;
-    (radius <= u16::MAX as usize).then_some(radius)
+    (radius <= i16::MAX as usize).then_some(radius)
 }
 
 // A colour: three numbers with commas between them.

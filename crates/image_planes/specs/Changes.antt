@@ -45,12 +45,12 @@ changed size (Blur w across down bytes) g = patch g (size * w.left) w.top (blurr
 changed size (Move w left top) g = patch g (size * left) top (window_view g (in_bytes size w))
 changed size (Flip axes) g = flipped_by size axes g
 
--- a change is valid for so many pixels: its windows are inside, its tiles have a place, and a box reaches fewer than 2 ^ 16 pixels on each side
+-- a change is valid for so many pixels: its windows are inside, its tiles have a place, and a box reaches fewer than 2 ^ 15 pixels on each side
 abbrev pub IsChangeOf : ℕ → ℕ → Change (List ℕ) → Type 0
 IsChangeOf width height (Fill w value) = IsInside width height (as_window w)
 IsChangeOf width height (Mosaic w tile_width tile_height) = (0 < tile_width) × (0 < tile_height) × IsInside width height (as_window w)
 IsChangeOf width height (Mean w tile_width tile_height bytes) = (0 < tile_width) × (0 < tile_height) × IsInside width height (as_window w)
-IsChangeOf width height (Blur w across down bytes) = (across < 2 ^ 16) × (down < 2 ^ 16) × IsInside width height (as_window w)
+IsChangeOf width height (Blur w across down bytes) = (across < 2 ^ 15) × (down < 2 ^ 15) × IsInside width height (as_window w)
 IsChangeOf width height (Move w left top) = IsInside width height (as_window w) × IsInside width height (window left top w.width w.height)
 IsChangeOf width height (Flip axes) = Unit {0}
 
@@ -59,7 +59,7 @@ abbrev pub is_change_of : ℕ → ℕ → Change (List ℕ) → Bool
 is_change_of width height (Fill w value) = is_inside width height (as_window w)
 is_change_of width height (Mosaic w tile_width tile_height) = nat_lt 0 tile_width && (nat_lt 0 tile_height && is_inside width height (as_window w))
 is_change_of width height (Mean w tile_width tile_height bytes) = nat_lt 0 tile_width && (nat_lt 0 tile_height && is_inside width height (as_window w))
-is_change_of width height (Blur w across down bytes) = nat_lt across (2 ^ 16) && (nat_lt down (2 ^ 16) && is_inside width height (as_window w))
+is_change_of width height (Blur w across down bytes) = nat_lt across (2 ^ 15) && (nat_lt down (2 ^ 15) && is_inside width height (as_window w))
 is_change_of width height (Move w left top) = is_inside width height (as_window w) && is_inside width height (window left top w.width w.height)
 is_change_of width height (Flip axes) = true
 

@@ -20,12 +20,12 @@ is_blur (Flip axes) = false
 abbrev pub have_blur : List (Step (List ℕ)) → Bool
 have_blur steps = list_any (λ s. is_blur s.change) steps
 
--- a blur needs a copy of the plane, and for its rows two sums for each byte
+-- a blur needs a copy of the plane, and for its rows a sum for each byte
 abbrev pub copy_len : Job → ℕ
 copy_len j = if have_blur j.steps then job_len j else 0
 
 abbrev pub sums_len : Job → ℕ
-sums_len j = if have_blur j.steps then 2 * (j.size * j.width) else 0
+sums_len j = if have_blur j.steps then j.size * j.width else 0
 
 -- the same room serves all planes, one after the other
 abbrev pub copy_room : List Job → ℕ
@@ -36,9 +36,9 @@ abbrev pub sums_room : List Job → ℕ
 sums_room [] = 0
 sums_room (j ∷ js) = max (sums_len j) (sums_room js)
 
--- how many bytes it has: a sum has eight
+-- how many bytes it has: a sum has four
 abbrev pub scratch_len : List Job → ℕ
-scratch_len js = sums_room js * 8 + copy_room js
+scratch_len js = sums_room js * 4 + copy_room js
 
 -- ---- of the code
 
@@ -49,7 +49,7 @@ pub record HasRoom (js : List Job) (s : Scratch) : Type 0 where
 
 -- how many bytes the room has
 abbrev pub room_len : Scratch → ℕ
-room_len s = length s.sums.items * 8 + length s.copy.items
+room_len s = length s.sums.items * 4 + length s.copy.items
 
 -- there is room for the same planes as before
 abbrev pub KeepsRoom : Scratch → Scratch → Type 0
@@ -57,7 +57,7 @@ KeepsRoom old new = (js : List Job) → HasRoom js old → HasRoom js new
 
 -- whether a change of so many bytes, in rows of so many, has the room that it needs
 abbrev pub has_room : ℕ → ℕ → ℕ → ℕ → Change (List ℕ) → Bool
-has_room len row copy sums change = if is_blur change then nat_le len copy && nat_le (2 * row) sums else true
+has_room len row copy sums change = if is_blur change then nat_le len copy && nat_le row sums else true
 
 abbrev pub have_room : ℕ → ℕ → ℕ → ℕ → List (Step (List ℕ)) → Bool
 have_room len row copy sums steps = list_all (λ s. has_room len row copy sums s.change) steps

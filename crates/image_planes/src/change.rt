@@ -147,14 +147,14 @@ fn blur_cells(
     down: usize,
     bytes: SampleBytes,
     copy: &mut [u8],
-    sums: &mut [u64],
+    sums: &mut [u32],
 )
     requires pixels { HavePixels cells.old shape size }
     requires inside { IsInside (shape_width shape / size) (shape_height shape) (as_window window) }
-    requires across { across < 2 ^ 16 }
-    requires down { down < 2 ^ 16 }
+    requires across { across < 2 ^ 15 }
+    requires down { down < 2 ^ 15 }
     requires copy { length cells.old ≤ length copy.old }
-    requires sums { 2 * shape_width shape ≤ length sums.old }
+    requires sums { shape_width shape ≤ length sums.old }
     ensures { Becomes shape cells.old cells.new (patch (grid_of (shaped cells.old shape))
         (size * window.left) window.top (blurred (bytes_for size bytes) size across down
         (window_view (grid_of (shaped cells.old shape)) (in_bytes size window)))) }
@@ -162,11 +162,8 @@ fn blur_cells(
     let part = in_bytes(shape, size, window);
     let bytes = bytes_for(size, bytes);
     let count = count_samples(bytes, part.width);
-    let (sums, boxes) = sums.split_at_mut(count);
-    let boxes = &mut boxes[..count];
-    blur_samples(
-        bytes, cells, shape, part, size, across, down, copy, sums, boxes,
-    );
+    let sums = &mut sums[..count];
+    blur_samples(bytes, cells, shape, part, size, across, down, copy, sums);
 }
 
 // In each row the first pixel changes places with the last, and so on. A pixel has `size` bytes; the
@@ -205,7 +202,7 @@ pub(crate) fn change_cells(
     size: usize,
     change: Change<Value>,
     copy: &mut [u8],
-    sums: &mut [u64],
+    sums: &mut [u32],
 )
     requires pixels { HavePixels cells.old shape size }
     requires inside { IsChangeOf (shape_width shape / size) (shape_height shape) change }
@@ -241,9 +238,7 @@ pub(crate) fn change_cells(
             across,
             down,
             bytes,
-        } => blur_cells(
-            cells, shape, size, window, across, down, bytes, copy, sums,
-        ),
+        } => blur_cells(cells, shape, size, window, across, down, bytes, copy, sums),
         Change::Move { window, left, top } => {
             let target = Window::new(left, top, window.width, window.height);
             let from = in_bytes(shape, size, window);

@@ -119,7 +119,7 @@ impl Plane {
         ensures { result ≡ sums_len (job_of self.now) }
     {
         if self.has_blur() {
-            2 * self.shape().width()
+            self.shape().width()
         } else {
             0
         }
@@ -128,7 +128,7 @@ impl Plane {
     /// Applies the steps for the frame of this number to the plane that these bytes make. What the
     /// copy and the sums had is lost.
     #[tactic(auto, using(crate::proofs::Parts::plane_pixels))]
-    pub(crate) fn apply(&self, number: u64, cells: &mut [u8], copy: &mut [u8], sums: &mut [u64])
+    pub(crate) fn apply(&self, number: u64, cells: &mut [u8], copy: &mut [u8], sums: &mut [u32])
         requires whole { length cells.old ≡ plane_len self.now }
         requires copy { copy_len (job_of self.now) ≤ length copy.old }
         requires sums { sums_len (job_of self.now) ≤ length sums.old }
@@ -170,7 +170,7 @@ pub(crate) fn is_inside(width: usize, height: usize, change: Change<Value>) -> b
             across,
             down,
             bytes: _,
-        } => across < 65536 && down < 65536 && window.is_inside(width, height),
+        } => across < 32768 && down < 32768 && window.is_inside(width, height),
         Change::Move { window, left, top } => {
             let target = Window::new(left, top, window.width, window.height);
             window.is_inside(width, height) && target.is_inside(width, height)

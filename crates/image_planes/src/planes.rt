@@ -23,13 +23,7 @@ pub fn planes_len(planes: &[Plane]) -> Option<usize>
 }
 
 // Applies the steps for the frame of this number to each of its planes.
-fn change_each(
-    number: u64,
-    cells: &mut [u8],
-    planes: &[Plane],
-    copy: &mut [u8],
-    sums: &mut [u64],
-)
+fn change_each(number: u64, cells: &mut [u8], planes: &[Plane], copy: &mut [u8], sums: &mut [u32])
     requires cells { jobs_len (map job_of planes.now) ≤ length cells.old }
     requires copy { copy_room (map job_of planes.now) ≤ length copy.old }
     requires sums { sums_room (map job_of planes.now) ≤ length sums.old }

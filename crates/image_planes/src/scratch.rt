@@ -34,7 +34,7 @@ pub fn scratch_len(planes: &[Plane]) -> Option<usize>
     ensures { result ≡ as_usize (scratch_len (map job_of planes.now)) }
 {
     sums_room(planes)
-        .checked_mul(8)?
+        .checked_mul(4)?
         .checked_add(copy_room(planes))
 }
 
@@ -42,7 +42,7 @@ pub fn scratch_len(planes: &[Plane]) -> Option<usize>
 #[derive(Drop)]
 pub struct Scratch {
     pub(crate) copy: Vec<u8>,
-    pub(crate) sums: Vec<u64>,
+    pub(crate) sums: Vec<u32>,
 }
 
 impl Scratch {
@@ -55,7 +55,7 @@ impl Scratch {
         ensures bytes { IfOk result (λ s. room_len s ≡ scratch_len (map job_of planes.now)) }
     {
         let copy = vec![in alloc; 0u8; copy_room(planes)]?;
-        let sums = vec![in alloc; 0u64; sums_room(planes)]?;
+        let sums = vec![in alloc; 0u32; sums_room(planes)]?;
         Ok(Scratch { copy, sums })
     }
 }

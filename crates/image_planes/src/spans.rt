@@ -85,7 +85,7 @@ fn do_blocks(
     spans: &[Span],
     number: u64,
     copy: &mut [u8],
-    sums: &mut [u64],
+    sums: &mut [u32],
 )
     requires pixels { HavePixels cells.old shape size }
     requires inside { IsTrue
@@ -119,7 +119,7 @@ pub(crate) fn do_groups(
     groups: &[Span],
     number: u64,
     copy: &mut [u8],
-    sums: &mut [u64],
+    sums: &mut [u32],
 )
     requires pixels { HavePixels cells.old shape size }
     requires inside { IsTrue

@@ -30,7 +30,7 @@ pub(crate) fn do_steps(
     steps: &[Step<Value>],
     number: u64,
     copy: &mut [u8],
-    sums: &mut [u64],
+    sums: &mut [u32],
 )
     requires pixels { HavePixels cells.old shape size }
     requires inside { IsTrue

@@ -59,7 +59,7 @@ fn form_of(word: &[u8]) -> Option<Form> {
         Form {
             word: b"blur",
             numbers: RECTANGLE,
-            last: "a radius R from 0 to 65535",
+            last: "a radius R from 0 to 32767",
             sample: b"0",
         },
         Form {

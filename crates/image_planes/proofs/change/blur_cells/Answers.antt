@@ -5,15 +5,17 @@ use Rattle.std.proofs.Math.Nat.{mul-mod_left, mul-mod_right, zero-mul}
 use Rattle.image_ops.specs.Means.{sample_cells}
 use Rattle.image_planes.proofs.change.blur_cells.Goals as goal
 
-pub count_samples-requires-clause-whole : goal.count_samples-requires-clause-whole
-count_samples-requires-clause-whole c =
+pub count_samples-count-requires : goal.count_samples-count-requires
+count_samples-count-requires c =
     let columns : ℕ = c.args.window.width in
     let cells : ℕ = sample_cells c.bytes_for-bytes.result in
-    ap (λ w. w.width % cells) c.in_bytes-part.ensures.window
-    ∙ sym (mul-mod_first c.args.size columns cells)
-    ∙ ap (λ n. n * columns % cells) c.bytes_for-bytes.ensures.whole
-    ∙ ap (λ n. n % cells) (zero-mul columns ∙ sym (zero-mul cells))
-    ∙ mul-mod_left 0 cells
+    record {
+      whole = ap (λ w. w.width % cells) c.in_bytes-part.ensures.window
+          ∙ sym (mul-mod_first c.args.size columns cells)
+          ∙ ap (λ n. n * columns % cells) c.bytes_for-bytes.ensures.whole
+          ∙ ap (λ n. n % cells) (zero-mul columns ∙ sym (zero-mul cells))
+          ∙ mul-mod_left 0 cells;
+    }
 
 pub blur_samples-requires-clause-whole : goal.blur_samples-requires-clause-whole
 blur_samples-requires-clause-whole c =

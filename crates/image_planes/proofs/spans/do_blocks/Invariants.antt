@@ -13,6 +13,6 @@ invariant-loop-span l = record {
   grid : stepped l.size l.number l.left (grid_of (shaped l.cells l.shape)) ≡ stepped l.size l.number l.steps (grid_of (shaped l.initial.cells l.shape));
   outside : SameOutside (shaped l.initial.cells l.shape) (shaped l.cells l.shape);
   inside : are_inside (shape_width l.shape / l.size) (shape_height l.shape) l.left ≡ true;
-  room : have_room (length l.cells) (shape_width l.shape) (length l.copy) (length l.sums) l.left ≡ true;
+  room : have_room (length l.initial.cells) (shape_width l.shape) (length l.initial.copy) (length l.initial.sums) l.left ≡ true;
   spans : are_spans (drop l.span-index l.spans) l.left ≡ true;
 }
