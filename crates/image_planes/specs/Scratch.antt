@@ -1,5 +1,5 @@
 -- The room that blurs need besides the planes.
-use Rattle.std.specs.Prelude.{◌≤◌, ◌+◌, ◌*◌, ◌&&◌, ℕ, Bool, true, false, nat_le, if◌then◌else◌, List, [], ◌∷◌, length, max}
+use Rattle.std.specs.Prelude.{◌≤◌, ◌+◌, ◌*◌, ◌&&◌, ℕ, Bool, true, false, nat_le, if◌then◌else◌, List, [], ◌∷◌, vec_capacity, max}
 use Rattle.std.specs.List.{list_all, list_any}
 use Rattle.image_planes.specs.Changes.{Job, job_len}
 use Rattle.image_planes.specs.declared.change.Change.{Change}
@@ -44,12 +44,14 @@ scratch_len js = sums_room js * 4 + copy_room js
 
 -- there is room for the blurs of these planes
 pub record HasRoom (js : List Job) (s : Scratch) : Type 0 where
-  pub copy : copy_room js ≤ length s.copy.items
-  pub sums : sums_room js ≤ length s.sums.items
+  pub copy : copy_room js ≤ s.copy_room
+  pub sums : sums_room js ≤ s.sums_room
+  pub copy_there : s.copy_room ≤ vec_capacity s.copy
+  pub sums_there : s.sums_room ≤ vec_capacity s.sums
 
 -- how many bytes the room has
 abbrev pub room_len : Scratch → ℕ
-room_len s = length s.sums.items * 4 + length s.copy.items
+room_len s = vec_capacity s.sums * 4 + vec_capacity s.copy
 
 -- there is room for the same planes as before
 abbrev pub KeepsRoom : Scratch → Scratch → Type 0

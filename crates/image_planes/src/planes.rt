@@ -9,7 +9,7 @@ ghost use Rattle.image_planes.specs.Resized.{sources_len, targets_len, resized_p
 ghost use Rattle.image_planes.specs.Targets.{resizing_of};
 
 use crate::plane::Plane;
-use crate::scratch::Scratch;
+use crate::scratch::{Scratch, lengthen};
 use crate::target::Target;
 
 /// The number of bytes of all planes, or `None` exactly where that is 2^64 or more.
@@ -46,6 +46,8 @@ pub fn change_planes(number: u64, cells: &mut [u8], planes: &[Plane], scratch: &
     ensures planes { cells.new ≡ changed_planes number (map job_of planes.now) cells.old }
     ensures room { KeepsRoom scratch.old scratch.new }
 {
+    lengthen(&mut scratch.copy, scratch.copy_room, 0);
+    lengthen(&mut scratch.sums, scratch.sums_room, 0);
     let (copy, sums) = (&mut scratch.copy, &mut scratch.sums);
     change_each(number, cells, planes, copy, sums);
 }

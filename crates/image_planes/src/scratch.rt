@@ -1,6 +1,6 @@
 //! The room that blurs need besides the planes.
 
-ghost use Rattle.std.specs.Prelude.{◌≡◌, map, IfOk};
+ghost use Rattle.std.specs.Prelude.{◌≡◌, ◌≤◌, length, map, vec_capacity, IfOk};
 ghost use Rattle.image_planes.specs.Changes.{as_usize};
 ghost use Rattle.image_planes.specs.Planes.{job_of};
 ghost use Rattle.image_planes.specs.Scratch.{copy_room, sums_room, scratch_len, HasRoom};
@@ -38,11 +38,14 @@ pub fn scratch_len(planes: &[Plane]) -> Option<usize>
         .checked_add(copy_room(planes))
 }
 
-/// Room for the blurs of planes: a copy of the bytes of one, and sums for its rows.
+/// Room for the blurs of planes: a copy of the bytes of one, and sums for its rows. Its memory is
+/// touched only where the first frame is changed.
 #[derive(Drop)]
 pub struct Scratch {
     pub(crate) copy: Vec<u8>,
     pub(crate) sums: Vec<u32>,
+    pub(crate) copy_room: usize,
+    pub(crate) sums_room: usize,
 }
 
 impl Scratch {
@@ -54,8 +57,25 @@ impl Scratch {
         ensures room { IfOk result (HasRoom (map job_of planes.now)) }
         ensures bytes { IfOk result (λ s. room_len s ≡ scratch_len (map job_of planes.now)) }
     {
-        let copy = vec![in alloc; 0u8; copy_room(planes)]?;
-        let sums = vec![in alloc; 0u32; sums_room(planes)]?;
-        Ok(Scratch { copy, sums })
+        let (copy_room, sums_room) = (copy_room(planes), sums_room(planes));
+        Ok(Scratch {
+            copy: Vec::with_capacity(alloc, copy_room)?,
+            sums: Vec::with_capacity(alloc, sums_room)?,
+            copy_room,
+            sums_room,
+        })
+    }
+}
+
+/// Makes a buffer so long that it has at least so many items. It has the capacity.
+pub(crate) fn lengthen<T: Copy + Drop>(buffer: &mut Vec<T>, len: usize, value: T)
+    requires { len ≤ vec_capacity buffer.old }
+    ensures len { len ≤ length buffer.new.items }
+    ensures capacity { vec_capacity buffer.old ≤ vec_capacity buffer.new }
+{
+    if buffer.len() < len {
+        let Ok(()) = buffer.resize(len, value) else {
+            unreachable!()
+        };
     }
 }
