@@ -124,7 +124,5 @@ pub(crate) fn pass_cells<R: Read, W: Write>(
     if count < plan.room() {
         return Err(RunFault::Frame(number));
     }
-    Ok(write_edited(
-        writer, plan, number, head, cells, other, scratch,
-    )?)
+    Ok(write_edited(writer, plan, number, head, cells, other, scratch)?)
 }
