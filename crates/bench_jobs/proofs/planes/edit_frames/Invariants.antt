@@ -1,4 +1,4 @@
-use Rattle.frame_formats.specs.Planned.{HasRoomFor}
+use Rattle.frame_formats.specs.Rooms.{HasRoomFor}
 use Rattle.bench_jobs.proofs.planes.edit_frames.Given as goal
 
 -- there is room for the blurs of the plan
