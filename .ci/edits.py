@@ -69,6 +69,8 @@ def windows_of(plane, size, word, window, last):
         if 0 in last or any(it % step for it, step in zip(last, steps)):
             raise Fault("outside")
         last = [it // step for it, step in zip(last, steps)]
+    if word == "blur":
+        last = [samples(last[0], step) for step in steps]
     if word == "move":
         last = under((*last, *window[2:]), size, steps)[:2]
         if last[0] + width > wide or last[1] + height > high:
@@ -101,6 +103,9 @@ def edited(plane, cells, word, window, last):
             elif word == "means":
                 tile = [it for row in old[top + y - y % last[1]:top + min(height, y - y % last[1] + last[1])] for it in row[left + x - x % last[0]:left + min(width, x - x % last[0] + last[0])]]
                 new[top + y][left + x] = (2 * sum(tile) + len(tile)) // (2 * len(tile))
+            elif word == "blur":
+                box = [old[top + j][left + i] for j in range(max(0, y - last[1]), min(height, y + last[1] + 1)) for i in range(max(0, x - last[0]), min(width, x + last[0] + 1))]
+                new[top + y][left + x] = (2 * sum(box) + len(box)) // (2 * len(box))
             else:
                 new[last[1] + y][last[0] + x] = old[top + y][left + x]
     return [it for row in new for it in row]
@@ -138,6 +143,8 @@ def edits_of(words):
             more = [int(words.pop(0))] if words and words[0].isdigit() else []
         else:
             more = [int(it) for it in words.pop(0).split(",")]
+        if word == "blur" and more[0] > 32767:
+            raise Fault("words")
         edits.append((first, last, word, window, more))
     return edits
 

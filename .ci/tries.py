@@ -27,9 +27,11 @@ def lines_said(program, words, data):
 
 
 def ends(program, words, data):
-    """What the program writes, what it says, and its status."""
+    """What the program writes, what it says first, and its status. Before a fault there may be notes."""
     done = subprocess.run([program, *words], input=data, capture_output=True, timeout=120)
-    return done.stdout, done.stderr.decode().split("\n")[0], done.returncode
+    lines = done.stderr.decode().split("\n")
+    said = [it for it in lines if not it.startswith("note: ")] if done.returncode else lines
+    return done.stdout, said[0], done.returncode
 
 
 def wanted(data, words):

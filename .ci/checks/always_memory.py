@@ -48,6 +48,7 @@ EDITS, FILL = "edits", ("fill", "0,0,2,2", "16")
 RUNS = [
     ("frame_formats", "plans", "for_video", PLANNED, VIDEO, FILL),
     ("frame_formats", "plans", "for_picture", PLANNED, PICTURE, FILL),
+    ("frame_formats", "plans", "scratch", NO_ROOM, VIDEO, ("blur", "0,0,2,2", "1")),
     ("frame_formats", "lists", "take", READ, VIDEO, FILL),
     ("frame_formats", "lists", "take_all", READ, VIDEO, FILL),
     ("frame_formats", "lists", "take_lines", READ, VIDEO, ("--edits", EDITS)),

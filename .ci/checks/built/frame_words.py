@@ -35,6 +35,12 @@ REASONS = (
     ("fill 0,0,4,4 1,2,3", "444", "edit 1: a colour is only for pictures in colour"),
     ("means 0,0,4,4 3,2", "420", "edit 1: tile width 3 is no multiple of 2"),
     ("means 0,0,4,4 16", "420", "at word 1: means needs the size of its tiles TW,TH, and 16 isn't one"),
+    ("blur 1,0,4,4 1", "420", "edit 1: column 1 is no multiple of 2"),
+    ("blur 0,0,4,14 1", "420", "edit 1: it reaches outside the frame"),
+    ("blur 0,0,4,4 32768", "420", "at word 1: blur needs a radius R from 0 to 32767, and 32768 isn't one"),
+    ("blur 0,0,4,4 1,1", "420", "at word 1: blur needs a radius R from 0 to 32767, and 1,1 isn't one"),
+    ("blur 0,0,4,4", "420", "at word 1: blur needs a radius R from 0 to 32767 after a rectangle L,T,W,H"),
+    ("--limit 287 blur 0,0,4,4 1", "420", "more than 287 bytes"),
     ("move 0,0,4,4 10,0", "420", "edit 1: it reaches outside the frame"),
     ("flip 0,0,2,2 9", "420", "at word 1: flip needs rows or columns, and 0,0,2,2 isn't that"),
     ("flip", "420", "at word 1: flip needs rows or columns"),
@@ -62,7 +68,7 @@ REASONS = (
 
 
 def by_words(cases, program):
-    for words in ("", "fill", "fill 1,2,3,4", "blur 0,0,1,1 2", "fill 0,0,1,1 1,2", "fill 0,0,1,1 1,2,3,4", "pad 0,0,1,1 1,2,3", "fill 0,0,01,1 2", "fill 0,0,1 2", "mosaic 0,0,1,1 2", "crop 0,0,1,1 2", "crop 0,0,2,2 fill 0,0,2,2 9", "pad 0,0,2,2", "pad 0,0,2,2 9 crop 0,0,2,2", "1..2 pad 0,0,2,2 9", "1..2 crop 0,0,2,2", "1.2 fill 0,0,2,2 9", "cover 0,0,2,2+", "cover 0,0,2,2+ 9", "cover 0,0,2,2+1+1", "cover 0,0,2,2++1", "cover 0,0,2,2+01", "cover 0,0,2,2+-1", "cover 0,0,2,2+18446744073709551616", "cover 0,0,2+1,2", "cover +1", "cover 0,0,2,2 +1", "fill 0,0,2,2+1 9", "mosaic 0,0,2,2+1 2,2", "crop 0,0,2,2+1", "2..1 fill 0,0,4,4 9", "0..0 fill 0,0,4,4 9", "fill 0,0,2,2 9 5..5 move 0,0,2,2 2,2", "--edits /nowhere", "--edits", "--strict", "--limit", "--limit x fill 0,0,2,2 9", "--loud fill 0,0,2,2 9", "--edits /dev/null fill 0,0,2,2 9"):
+    for words in ("", "fill", "fill 1,2,3,4", "blurs 0,0,1,1 2", "blur 0,0,1,1", "blur 0,0,1,1 1,1", "blur 0,0,1,1 32768", "fill 0,0,1,1 1,2", "fill 0,0,1,1 1,2,3,4", "pad 0,0,1,1 1,2,3", "fill 0,0,01,1 2", "fill 0,0,1 2", "mosaic 0,0,1,1 2", "crop 0,0,1,1 2", "crop 0,0,2,2 fill 0,0,2,2 9", "pad 0,0,2,2", "pad 0,0,2,2 9 crop 0,0,2,2", "1..2 pad 0,0,2,2 9", "1..2 crop 0,0,2,2", "1.2 fill 0,0,2,2 9", "cover 0,0,2,2+", "cover 0,0,2,2+ 9", "cover 0,0,2,2+1+1", "cover 0,0,2,2++1", "cover 0,0,2,2+01", "cover 0,0,2,2+-1", "cover 0,0,2,2+18446744073709551616", "cover 0,0,2+1,2", "cover +1", "cover 0,0,2,2 +1", "fill 0,0,2,2+1 9", "mosaic 0,0,2,2+1 2,2", "crop 0,0,2,2+1", "2..1 fill 0,0,4,4 9", "0..0 fill 0,0,4,4 9", "fill 0,0,2,2 9 5..5 move 0,0,2,2 2,2", "--edits /nowhere", "--edits", "--strict", "--limit", "--limit x fill 0,0,2,2 9", "--loud fill 0,0,2,2 9", "--edits /dev/null fill 0,0,2,2 9"):
         said = ends(program, words.split(), video("mono"))
         cases.count(f"words '{words}' are refused", said == (b"", "fault words", 1), str(said))
     for before in ("flip rows", "flip columns", "turn half"):
@@ -86,6 +92,9 @@ def by_words(cases, program):
     for words, noted in (("means 0,0,2,2 2,2 fill 0,0,2,2 9", True), ("means 0,0,2,2 2,2 mosaic 0,0,2,2 1,1", True), ("means 0,0,2,2 2,2 means 4,4,2,2 2,2", False), ("cover 0,0,2,2 means 0,0,2,2 2,2", False), ("move 0,0,2,2 2,2 means 0,0,2,2 2,2", True)):
         said = ends(program, words.split(), video("mono"))
         cases.count(f"'{words}' is{'' if noted else ' not'} noted", said[1].startswith("note: ") == noted and said[2] == 0, str(said[1:]))
+    for words, notes in (("blur 0,0,2,2 1", 1), ("cover 0,0,2,2 blur 0,0,2,2 1", 1), ("blur 0,0,2,2 1 means 4,4,2,2 2,2", 1), ("blur 0,0,2,2 1 fill 0,0,2,2 9", 2), ("move 0,0,2,2 2,2 blur 0,0,2,2 1", 1), ("means 0,0,2,2 2,2", 0)):
+        lines = lines_said(program, words.split(), video("mono"))
+        cases.count(f"'{words}' has {notes} notes, one of them that a blur hides nothing", len(lines) == notes + 1 and ("note: a blur hides nothing: cover what has to stay secret first" in lines) == (notes > 0), str(lines))
     said = ends(program, "move 0,0,2,2 2,2 fill 0,0,2,2 9".split(), video("mono"))
     cases.count("a move before a fill is noted", said[1].startswith("note: ") and said[2] == 0, str(said))
     for word in ("--help", "-h"):

@@ -25,6 +25,8 @@ FLIPS = ("flip rows", "flip columns", "turn half", "1.. flip columns", "0..2 tur
 TURNS = ("turn right", "turn left", "flip rows turn right", "fill 0,0,1,1 9 1.. flip columns turn left", "cover 4,2,2,2 5 turn right")
 # Tiles of one pixel, tiles that edges cut, and one tile for all.
 MEANS = ("means 0,0,12,8 4,2", "means 4,2,8,6 4,4", "means 0,0,12,8 4,6", "means 0,0,12,8 64,64", "means 4,0,4,4 1,1", "means 8,0,5,9 4,2", "means 0,0,0,0 4,2", "means 4,2,4,4 3,2", "means 4,2,4,4 0,2", "means 0,0,12,8 18446744073709551612,2", "means 4,2,8,6 4,2 1.. means 0,0,8,4 8,4 turn half")
+# Boxes of one pixel, boxes that edges of the window or of the frame cut, and boxes that have all of it.
+BLURS = ("blur 0,0,12,8 1", "blur 4,2,8,6 2", "blur 4,2,4,4 0", "blur 0,0,12,8 32767", "blur 8,2,5,7 3", "blur 12,8,1,1 1", "blur 0,0,0,0 5", "blur 4,2,9,5 1", "blur 3,2,4,4 1", "blur 4,2,8,6 1 1.. blur 0,0,8,8 5 flip rows", "fill 4,2,4,4 9 blur 0,0,12,8 3 turn half", "blur 4,0,4,6 7 move 0,0,8,6 4,2")
 # The same with a margin.
 MARGINS = ("5,3,1,1", "4,2,2,2", "5,2,3,4", "0,0,2,2", "11,7,1,1", "13,9,1,1", "16,12,2,2", "7,0,0,0", "6,4,0,0", "18446744073709551615,0,1,1", "0,0,18446744073709551615,1")
 PARAMETERS = (b"", b" Ip", b" ", b" XLABEL=a b  Ib")
@@ -52,6 +54,8 @@ def by_model(cases, program):
     count_tries(cases, "flips and half turns are the model's, and an interlaced video keeps its fields", program, flips)
     means = [(it.split(), video(sampling, *size)) for sampling in SAMPLINGS for size in ((12, 8), (13, 9)) for it in MEANS]
     count_tries(cases, "mosaics of means are the model's, of samples of one byte and of two", program, means)
+    blurs = [(it.split(), video(sampling, *size)) for sampling in SAMPLINGS for size in ((12, 8), (13, 9)) for it in BLURS]
+    count_tries(cases, "blurs are the model's, of samples of one byte and of two", program, blurs)
     turns = [(it.split(), video(sampling, *size, fields=fields)) for sampling in SAMPLINGS for size in ((12, 8), (13, 9), (1, 1), (70, 3), (2, 130)) for fields in (b"Ip", b"It") for it in TURNS]
     count_tries(cases, "quarter turns are the model's, and are refused where the sampling would change", program, turns)
     shapes = [("turn left".split(), video("420").replace(b" A1:1 ", it, 1)) for it in (b" ", b" A0:0 ", b" A10:11 ", b" A ", b" A1:1 A2:1 ", b" A2:1 A1:1 ")]
@@ -104,7 +108,7 @@ def by_model(cases, program):
     start = deep.index(b"\nFRAME\n") + 7 + 2 * row + 4 * 2
     deep[start:start + 4] = deep[start + 2:start + 4] + deep[start:start + 2]
     cases.count("means of samples of two bytes reveal nothing of their order", bytes(deep) != video("mono14", frames=1) and ends(program, "means 4,2,6,6 6,4".split(), bytes(deep)) == ends(program, "means 4,2,6,6 6,4".split(), video("mono14", frames=1)))
-    for after in ("", " flip rows", " flip columns move 4,2,6,4 0,0", " turn half", " turn left", " move 4,2,6,4 0,0", " mosaic 0,0,12,8 3,3", " move 4,2,6,4 5,1 crop 0,0,8,8"):
+    for after in ("", " flip rows", " flip columns move 4,2,6,4 0,0", " turn half", " turn left", " blur 0,0,12,8 2", " move 4,2,6,4 0,0", " mosaic 0,0,12,8 3,3", " move 4,2,6,4 5,1 crop 0,0,8,8"):
         words = (FILL + after).split()
         cases.count(f"the output reveals nothing of hidden pixels{after}", hidden != shown and ends(program, words, hidden) == ends(program, words, shown))
 
@@ -156,7 +160,7 @@ def most_memory(program, words, data):
 def by_memory(cases, program):
     """A head takes room of 3 GB, and memory is touched only as bytes arrive."""
     for name, head in (("video", b"YUV4MPEG2 W32768 H32768 C444\nFRAME\n"), ("picture", b"P6 32768 32768 255\n")):
-        for words in ("fill 0,0,2,2 9", "crop 0,0,2,2"):
+        for words in ("fill 0,0,2,2 9", "crop 0,0,2,2", "blur 0,0,2,2 1"):
             most, status = most_memory(program, ["--limit", "9000000000", *words.split()], head + bytes(5000000))
             cases.count(f"the head of a {name} with {words} touches little memory", status in (2, 7) and most < 200000, f"{most} KiB, status {status}")
     with tempfile.NamedTemporaryFile(suffix=".pgm") as pictures:

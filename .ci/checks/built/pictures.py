@@ -19,7 +19,7 @@ from tries import count_tries, ends, exchanged, lines_said
 # Flips, half turns and quarter turns by netpbm.
 FLIPS = (("flip rows", "pamflip -topbottom"), ("flip columns", "pamflip -leftright"), ("turn half", "pamflip -rotate180"))
 TURNS = (("turn right", "pamflip -rotate270"), ("turn left", "pamflip -rotate90"))
-EDITS = ("fill 4,2,6,4 126", "fill 1,1,3,3 7", "mosaic 2,2,9,5 4,2", "mosaic 0,0,12,8 64,64", "mosaic 1,0,5,5 1,1", "move 0,0,6,4 4,2", "move 5,3,7,5 0,1", "crop 4,2,6,4", "crop 11,7,1,1", "fill 0,0,0,0 1", "pad 1,2,3,4 16", "pad 0,0,0,0 9", "flip rows", "flip columns", "turn half", "means 2,2,9,5 4,2", "means 0,0,12,8 64,64", "turn right", "turn left", "flip rows turn left")
+EDITS = ("fill 4,2,6,4 126", "fill 1,1,3,3 7", "mosaic 2,2,9,5 4,2", "mosaic 0,0,12,8 64,64", "mosaic 1,0,5,5 1,1", "move 0,0,6,4 4,2", "move 5,3,7,5 0,1", "crop 4,2,6,4", "crop 11,7,1,1", "fill 0,0,0,0 1", "pad 1,2,3,4 16", "pad 0,0,0,0 9", "flip rows", "flip columns", "turn half", "means 2,2,9,5 4,2", "means 0,0,12,8 64,64", "blur 2,2,9,5 1", "blur 0,0,12,8 3", "blur 11,1,1,7 32767", "turn right", "turn left", "flip rows turn left")
 LISTS = (
     "fill 0,0,4,4 9 mosaic 3,2,8,6 4,2",
     "1..2 fill 0,0,4,4 9",

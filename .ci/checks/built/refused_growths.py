@@ -29,12 +29,12 @@ SCRIPTS = sorted((ROOT / "examples").glob("*.script"))
 LARGE = b"image 100 9 101" + b" 7" * 908 + b"\n"
 # A video of two frames of 4 by 2 pixels, and words of edits: a list of two, and each that changes the size.
 VIDEO = b"YUV4MPEG2 W4 H2 C420 F25:1\n" + b"FRAME\n0123456789AB" * 2
-EDITS = ("fill 0,0,2,2 16 1..2 move 0,0,2,2 2,0", "mosaic 0,0,4,2 2,2 crop 0,0,2,2", "pad 2,2,2,2 16")
+EDITS = ("fill 0,0,2,2 16 1..2 move 0,0,2,2 2,0", "mosaic 0,0,4,2 2,2 crop 0,0,2,2", "blur 0,0,4,2 1", "pad 2,2,2,2 16")
 # A picture in colour and a larger grey one after it, and words of edits.
 PICTURES = (b"P6 2 2 255 0123456789AB", b"P5 5 3 255 0123456789ABCDE")
 # A tracker's list, which is long enough to take memory where it is sorted, and the edit that it is.
 BOXES, BOX = "".join(f"{1 + it % 2},{it},0,0,1,1\n" for it in range(24)), "cover 0,0,1,1"
-PICTURE_EDITS = ("fill 0,0,2,2 16", "mosaic 0,0,2,2 2,2 crop 0,0,2,1", "pad 2,2,2,2 16")
+PICTURE_EDITS = ("fill 0,0,2,2 16", "blur 0,0,2,2 1", "mosaic 0,0,2,2 2,2 crop 0,0,2,1", "pad 2,2,2,2 16")
 # What a test says whose result is the refusal: of a call, of a push to a vector, and of a run.
 HANDED_ON = (b"error: AllocError\n", b"error: AllocFailed { .. }\n", b"error: Memory\n")
 # A crate of tests, a test, the same without its one call that takes memory, and how many growths that call takes.

@@ -35,8 +35,26 @@ def by_ffmpeg(cases, program):
         if "gray" not in pixels and "le" not in pixels:
             cases.count(f"fill is ffmpeg's drawbox on {pixels}", through(program, "fill 16,8,64,48 126", made, "drawbox=x=16:y=8:w=64:h=48:color=gray@1:t=fill"))
             cases.count(f"pad is ffmpeg's on {pixels}", through(program, "pad 16,8,32,24 16", made, "pad=176:128:16:8:color=black"))
-        for words in ("mosaic 16,8,64,48 8,8", "move 16,8,32,32 24,16"):
+        for words in ("mosaic 16,8,64,48 8,8", "blur 16,8,64,48 3", "move 16,8,32,32 24,16"):
             count_tries(cases, f"{words} is the model's on {pixels}", program, [(words.split(), made)])
+
+
+def by_boxblur(cases, program):
+    """Far from the edges of the frame a blur is ffmpeg's boxblur, which rounds in two steps: by one direction after the other."""
+    wide, high = 128, 96
+    for pixels in ("gray", "yuv444p"):
+        source = ["-f", "lavfi", "-i", f"testsrc2=size={wide}x{high}:rate=5:duration=1", "-pix_fmt", pixels, "-f", "yuv4mpegpipe", "-strict", "-1", "-"]
+        made = subprocess.run(["ffmpeg", "-v", "error", *source], capture_output=True, timeout=120).stdout
+        line, planes = made.index(b"\n") + 1, 1 if pixels == "gray" else 3
+        frame = len(b"FRAME\n") + planes * wide * high
+        for radius in (1, 2, 5):
+            command = f"boxblur=lr={radius}:lp=1:cr={radius}:cp=1"
+            theirs = subprocess.run(["ffmpeg", "-v", "error", "-i", "-", "-vf", command, "-f", "yuv4mpegpipe", "-strict", "-1", "-"], input=made, capture_output=True, timeout=120).stdout
+            ours = ends(program, f"blur 0,0,{wide},{high} {radius}".split(), made)[0]
+            cells = [b"".join(it[at - planes * wide * high:at] for at in range(line + frame, len(it) + 1, frame)) for it in (ours, theirs)]
+            far = [at for at in range(len(cells[0])) if radius <= at % wide < wide - radius and radius <= at // wide % high < high - radius]
+            near = len(cells[0]) == len(cells[1]) == 5 * planes * wide * high and max(abs(cells[0][at] - cells[1][at]) for at in far) < 2
+            cases.count(f"blur by {radius} is ffmpeg's {command} on {pixels}, within 1", near)
 
 
 def by_h264(cases, program):
@@ -97,6 +115,7 @@ def main():
     for program in both_builds(cases, "imgref_frames"):
         if shutil.which("ffmpeg"):
             by_ffmpeg(cases, str(program))
+            by_boxblur(cases, str(program))
             by_h264(cases, str(program))
         if shutil.which("parallel"):
             by_parallel(cases, str(program))

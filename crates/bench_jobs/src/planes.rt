@@ -56,12 +56,13 @@ fn edit_frames(
 ) -> Result<(), Fault> {
     let mut cells = vec![in alloc; 0u8; plan.room()]?;
     let mut other = vec![in alloc; 0u8; plan.other_room()]?;
+    let mut scratch = plan.scratch(alloc)?;
     for number in 0..count {
         scatter(&mut cells, numbers);
         if cells.len() < plan.room() || other.len() < plan.other_room() {
             return Err(Fault::Input);
         }
-        digest.add_bytes(plan.edit(number, &mut cells, &mut other));
+        digest.add_bytes(plan.edit(number, &mut cells, &mut other, &mut scratch));
     }
     Ok(())
 }

@@ -3,7 +3,7 @@ use Rattle.std.specs.Prelude.{ℕ, ◌+◌, ◌-◌, ◌*◌, ◌%◌, ◌==◌,
 use Rattle.std.specs.Option.{option_map}
 use Rattle.image_shape.specs.declared.window.Window.{Window}
 use Rattle.image_planes.specs.declared.change.Change.{Change}
-use Rattle.image_planes.specs.declared.change.Change.TheVariants.{Fill, Mosaic, Mean, Move, Flip}
+use Rattle.image_planes.specs.declared.change.Change.TheVariants.{Fill, Mosaic, Mean, Blur, Move, Flip}
 use Rattle.image_planes.specs.declared.change.Axes.TheVariants.{Rows, Columns, Both}
 use Rattle.image_planes.specs.declared.change.Step.{Step}
 use Rattle.frame_formats.specs.Ranges.{frames_in}
@@ -80,6 +80,7 @@ abbrev pub settled : Samples → ℕ → ℕ → Change Paint → Change Paint
 settled s width height (Fill w paint) = fill_in s width height w paint
 settled s width height (Mosaic w tile_width tile_height) = Mosaic w tile_width tile_height
 settled s width height (Mean w tile_width tile_height bytes) = Mean w tile_width tile_height bytes
+settled s width height (Blur w across down bytes) = Blur w across down bytes
 settled s width height (Move w left top) = Move w left top
 settled s width height (Flip axes) = Flip axes
 
@@ -88,6 +89,7 @@ abbrev pub turns_over : Change Paint → Bool
 turns_over (Fill w paint) = false
 turns_over (Mosaic w tile_width tile_height) = false
 turns_over (Mean w tile_width tile_height bytes) = false
+turns_over (Blur w across down bytes) = false
 turns_over (Move w left top) = false
 turns_over (Flip Rows) = true
 turns_over (Flip Columns) = false
@@ -107,6 +109,7 @@ abbrev pub covers_nothing : Samples → ℕ → ℕ → Change Paint → Bool
 covers_nothing s width height (Fill w paint) = nothing_filled s width height w paint
 covers_nothing s width height (Mosaic w tile_width tile_height) = false
 covers_nothing s width height (Mean w tile_width tile_height bytes) = false
+covers_nothing s width height (Blur w across down bytes) = false
 covers_nothing s width height (Move w left top) = false
 covers_nothing s width height (Flip axes) = false
 

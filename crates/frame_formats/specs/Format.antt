@@ -4,7 +4,7 @@ use Rattle.std.specs.Option.{is_none}
 use Rattle.std.specs.Str.{bytes_eq}
 use Rattle.image_shape.specs.declared.window.Window.{Window}
 use Rattle.image_planes.specs.declared.change.Change.{Change}
-use Rattle.image_planes.specs.declared.change.Change.TheVariants.{Fill, Mosaic, Mean, Move, Flip}
+use Rattle.image_planes.specs.declared.change.Change.TheVariants.{Fill, Mosaic, Mean, Blur, Move, Flip}
 use Rattle.image_planes.specs.declared.target.Resize.{Resize}
 use Rattle.image_planes.specs.declared.target.Resize.TheVariants.{Crop, Pad, Turn}
 use Rattle.text_model.specs.Parts.{parts_of}
@@ -149,6 +149,9 @@ change_under pixel x y width height (Mean w tile_width tile_height bytes) = do
   wide ← exact_samples x tile_width
   high ← exact_samples y tile_height
   Some (Mean under wide high bytes)
+change_under pixel x y width height (Blur w across down bytes) = do
+  under ← window_under x y width height w
+  Some (Blur under (samples across x) (samples down y) bytes)
 change_under pixel x y width height (Move w left top) = do
   under ← window_under x y width height w
   goal ← window_under x y width height (at_corner w left top)

@@ -4,7 +4,7 @@ use Rattle.image_planes.specs.Changes.{Job, job_for}
 use Rattle.image_planes.specs.Resized.{Resizing, resizing_for}
 use Rattle.std.specs.Option.{option_map}
 use Rattle.image_planes.specs.declared.change.Change.{Change}
-use Rattle.image_planes.specs.declared.change.Change.TheVariants.{Fill, Mosaic, Mean, Move, Flip}
+use Rattle.image_planes.specs.declared.change.Change.TheVariants.{Fill, Mosaic, Mean, Blur, Move, Flip}
 use Rattle.image_planes.specs.declared.change.Step.{Step}
 use Rattle.image_planes.specs.declared.target.Resize.{Resize}
 use Rattle.image_planes.specs.declared.target.Resize.TheVariants.{Crop, Pad, Turn}
@@ -71,6 +71,7 @@ abbrev pub opaque_change : Pixel → Change (List ℕ) → Change (List ℕ)
 opaque_change pixel (Fill w value) = Fill w (opaque pixel)
 opaque_change pixel (Mosaic w tile_width tile_height) = Mosaic w tile_width tile_height
 opaque_change pixel (Mean w tile_width tile_height bytes) = Mean w tile_width tile_height bytes
+opaque_change pixel (Blur w across down bytes) = Blur w across down bytes
 opaque_change pixel (Move w left top) = Move w left top
 opaque_change pixel (Flip axes) = Flip axes
 

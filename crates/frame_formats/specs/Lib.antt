@@ -12,6 +12,7 @@ pub mod Heads
 pub mod Plan
 pub mod Edits
 pub mod Recipe
+pub mod Rooms
 pub mod Planned
 pub mod Ranges
 pub mod Words

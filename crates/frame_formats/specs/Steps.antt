@@ -4,7 +4,7 @@ use Rattle.std.specs.List.{flat_map}
 use Rattle.std.specs.Option.{option_map}
 use Rattle.image_planes.specs.Samples.{SampleBytes, One, LowFirst, HighFirst}
 use Rattle.image_planes.specs.declared.change.Change.{Change}
-use Rattle.image_planes.specs.declared.change.Change.TheVariants.{Fill, Mosaic, Mean, Move, Flip}
+use Rattle.image_planes.specs.declared.change.Change.TheVariants.{Fill, Mosaic, Mean, Blur, Move, Flip}
 use Rattle.image_planes.specs.declared.change.Step.{Step}
 use Rattle.text_model.specs.Reading.{◌>>=◌}
 use Rattle.frame_formats.specs.Pam.{tuple, tuple_depth}
@@ -82,10 +82,11 @@ value_in p (Colour red green blue) = colour_of p red green blue
 value_in p (Around (Some value) margin) = grey_of p value
 value_in p (Around None margin) = grey_of p (black p)
 
--- what a change is to a plane of such pixels: means are those of its samples
+-- what a change is to a plane of such pixels: means are those of its samples, and so are blurs
 unfoldable pub change_in : Pixel → Change Paint → Option (Change (List ℕ))
 change_in pixel (Fill w paint) = option_map (λ value. Fill w value) (value_in pixel paint)
 change_in pixel (Mosaic w tile_width tile_height) = Some (Mosaic w tile_width tile_height)
 change_in pixel (Mean w tile_width tile_height bytes) = Some (Mean w tile_width tile_height (bytes_of pixel))
+change_in pixel (Blur w across down bytes) = Some (Blur w across down (bytes_of pixel))
 change_in pixel (Move w left top) = Some (Move w left top)
 change_in pixel (Flip axes) = Some (Flip axes)

@@ -1,5 +1,5 @@
 -- The edit that words name.
-use Rattle.std.specs.Prelude.{ℕ, ◌+◌, ◌&&◌, List, [], ◌∷◌, ◌++◌, Option, Some, None, if◌then◌else◌, codes}
+use Rattle.std.specs.Prelude.{ℕ, ◌+◌, ◌&&◌, nat_le, List, [], ◌∷◌, ◌++◌, Option, Some, None, if◌then◌else◌, codes}
 use Rattle.std.specs.Option.{option_map}
 use Rattle.std.specs.Str.{bytes_eq}
 use Rattle.image_shape.specs.declared.window.Window.{Window}
@@ -7,7 +7,7 @@ use Rattle.frame_formats.specs.declared.steps.Paint.{Paint}
 use Rattle.frame_formats.specs.declared.steps.Paint.TheVariants.{Grey, Colour, Around}
 use Rattle.image_planes.specs.declared.change.Change.{Change}
 use Rattle.image_planes.specs.Samples.{One}
-use Rattle.image_planes.specs.declared.change.Change.TheVariants.{Fill, Mosaic, Mean, Move, Flip}
+use Rattle.image_planes.specs.declared.change.Change.TheVariants.{Fill, Mosaic, Mean, Blur, Move, Flip}
 use Rattle.image_planes.specs.declared.change.Axes.{Axes}
 use Rattle.image_planes.specs.declared.change.Axes.TheVariants.{Rows, Columns, Both}
 use Rattle.frame_formats.specs.declared.framing.Framing.{Framing}
@@ -31,6 +31,14 @@ pair_in parts = do
 abbrev pub pair_of : List ℕ → Option (ℕ × ℕ)
 pair_of part = pair_in (parts_of 44 part)
 
+-- the radius of a box, below 2 ^ 15
+abbrev pub radius_by : Option ℕ → Option ℕ
+radius_by None = None
+radius_by (Some radius) = if nat_le radius 32767 then Some radius else None
+
+abbrev pub radius_of : List ℕ → Option ℕ
+radius_of part = radius_by (number_of part)
+
 -- three numbers, and no part more
 unfoldable pub colour_in : List (List ℕ) → Option Paint
 colour_in parts = do
@@ -53,6 +61,7 @@ change_of word window last =
     if bytes_eq word (codes "fill") then option_map (λ paint. Fill window paint) (paint_of last)
     else if bytes_eq word (codes "mosaic") then option_map (λ p. Mosaic window p.0 p.1) (pair_of last)
     else if bytes_eq word (codes "means") then option_map (λ p. Mean window p.0 p.1 One) (pair_of last)
+    else if bytes_eq word (codes "blur") then option_map (λ radius. Blur window radius radius One) (radius_of last)
     else if bytes_eq word (codes "move") then option_map (λ p. Move window p.0 p.1) (pair_of last)
     else None
 

@@ -32,7 +32,7 @@ pub use framing::Framing;
 pub use header::{Chroma, Format, read_format, read_size};
 pub use hiding::recipes_hide;
 pub use holds::{around, held_at, put_by_tracks, read_held, track_of};
-pub use image_planes::{Axes, Change, Quarter, Window};
+pub use image_planes::{Axes, Change, Quarter, Scratch, Window};
 pub use lists::{Edits, WordsFault, line_words};
 pub use pam::{Fields, Lines, Place, Tuples};
 pub use pam_words::Key;

@@ -103,11 +103,11 @@ impl Edits {
 
     /// Adds the edit at the front of the words, and returns the number of its words. It changes a
     /// rectangle: `cover L,T,W,H`, `cover L,T,W,H V`, `fill L,T,W,H V`, `fill L,T,W,H R,G,B`,
-    /// `mosaic L,T,W,H TW,TH`, `means L,T,W,H TW,TH` or `move L,T,W,H X,Y`. Or it changes the whole
-    /// frame: `flip rows`, `flip columns` or `turn half`. Or it comes last: `crop L,T,W,H`, `pad
-    /// L,T,R,B V`, `turn right` or `turn left`. A cover may have a margin after its rectangle: `cover
-    /// L,T,W,H+M`. Before every edit except the last ones there may be a range of frames: `12..80`,
-    /// or `12..` up to the end. It may also be of times: `00:01:02.5..00:01:04`.
+    /// `mosaic L,T,W,H TW,TH`, `means L,T,W,H TW,TH`, `blur L,T,W,H R` or `move L,T,W,H X,Y`. Or it
+    /// changes the whole frame: `flip rows`, `flip columns` or `turn half`. Or it comes last: `crop
+    /// L,T,W,H`, `pad L,T,R,B V`, `turn right` or `turn left`. A cover may have a margin after its
+    /// rectangle: `cover L,T,W,H+M`. Before every edit except the last ones there may be a range of
+    /// frames: `12..80`, or `12..` up to the end. It may also be of times: `00:01:02.5..00:01:04`.
     ///
     /// # Errors
     ///

@@ -1,8 +1,9 @@
 //! The changes of each frame of a video, or of a picture.
 
 ghost use Rattle.std.specs.Prelude.{◌≡◌, ◌≤◌, ◌⊎◌, ◌^◌, ℕ, true, false, Some, None, IfOk, IfErr, length, map, max, take, if◌then◌else◌};
-ghost use Rattle.image_planes.specs.Changes.{jobs_len};
+ghost use Rattle.image_planes.specs.Changes.{as_usize, jobs_len};
 ghost use Rattle.image_planes.specs.Planes.{job_of};
+ghost use Rattle.image_planes.specs.Scratch.{scratch_len, room_len, HasRoom, KeepsRoom};
 ghost use Rattle.frame_formats.specs.Format.{format_of};
 ghost use Rattle.frame_formats.specs.Plan.{Tells};
 ghost use Rattle.frame_formats.specs.Edits.{edits};
@@ -17,7 +18,9 @@ use crate::line::{ended_line, resized_line};
 use crate::picture::Picture;
 use crate::ranges::read_rate;
 use crate::words::Edit;
-use image_planes::{Plane, Target, change_planes, planes_len, resize_planes, targets_len};
+use image_planes::{
+    Plane, Scratch, Target, change_planes, planes_len, resize_planes, scratch_len, targets_len,
+};
 use std::alloc::{AllocError, AllocFailed, Global};
 
 /// Why there is no plan.
@@ -202,16 +205,40 @@ impl Plan {
         }
     }
 
+    /// The number of bytes that its blurs need besides the buffers. It is 0 where there is no blur,
+    /// and `None` exactly where it is 2^64 or more.
+    pub fn scratch_len(&self) -> Option<usize>
+        ensures { result ≡ as_usize (scratch_len (recipe_of self.now).jobs) }
+    {
+        scratch_len(&self.planes)
+    }
+
+    /// Exactly the room for its blurs. Without a blur it takes no memory.
+    pub fn scratch(&self, alloc: Global) -> Result<Scratch, AllocError>
+        ensures room { IfOk result (HasRoom (recipe_of self.now).jobs) }
+        ensures bytes { IfOk result (λ s. room_len s ≡ scratch_len (recipe_of self.now).jobs) }
+    {
+        Scratch::new(alloc, &self.planes)
+    }
+
     /// Edits the frame of this number, which is at the front of the first buffer, and returns what
-    /// it becomes. That is in the other buffer where its size changes.
-    pub fn edit<'a>(&self, number: u64, cells: &'a mut [u8], other: &'a mut [u8]) -> &'a [u8]
+    /// it becomes. That is in the other buffer where its size changes. Blurs use the room.
+    pub fn edit<'a>(
+        &self,
+        number: u64,
+        cells: &'a mut [u8],
+        other: &'a mut [u8],
+        scratch: &mut Scratch,
+    ) -> &'a [u8]
         requires room { plan_room self.now ≤ length cells.old }
         requires other_room { plan_other_room self.now ≤ length other.old }
-        ensures { result.now
+        requires scratch { HasRoom (recipe_of self.now).jobs scratch.old }
+        ensures frame { result.now
             ≡ (recipe_of self.now).frame number (take (recipe_of self.now).size cells.old) }
+        ensures scratch { KeepsRoom scratch.old scratch.new }
     {
         let (frame, _) = cells.split_at_mut(self.source_len);
-        change_planes(number, frame, &self.planes);
+        change_planes(number, frame, &self.planes, scratch);
         match &self.targets {
             None => frame,
             Some(targets) => {

@@ -102,6 +102,17 @@ pub(crate) fn change_of_samples(
             tile_height: whole_samples(y, tile_height)?,
             bytes,
         }),
+        Change::Blur {
+            window,
+            across,
+            down,
+            bytes,
+        } => Some(Change::Blur {
+            window: window_of_samples(x, y, width, height, window)?,
+            across: count_samples(across, x),
+            down: count_samples(down, y),
+            bytes,
+        }),
         Change::Move { window, left, top } => {
             let under = window_of_samples(x, y, width, height, window)?;
             let goal = Window::new(left, top, window.width, window.height);

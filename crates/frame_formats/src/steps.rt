@@ -190,11 +190,12 @@ fn bytes_of(pixel: Pixel) -> SampleBytes
 }
 
 /// What a change is on a plane of such pixels. `None` for a value that they lack, and for a colour
-/// where there is one brightness. Means are those of their samples.
+/// where there is one brightness. Means are those of their samples, and so are blurs.
 #[tactic(auto, unfolding(crate::specs::Steps::change_in))]
 pub(crate) fn change_in(pixel: Pixel, change: Change<Paint>) -> Option<Change<Value>>
     ensures { result ≡ change_in pixel change }
 {
+    let bytes = bytes_of(pixel);
     match change {
         Change::Fill { window, value } => Some(Change::Fill {
             window,
@@ -218,7 +219,18 @@ pub(crate) fn change_in(pixel: Pixel, change: Change<Paint>) -> Option<Change<Va
             window,
             tile_width,
             tile_height,
-            bytes: bytes_of(pixel),
+            bytes,
+        }),
+        Change::Blur {
+            window,
+            across,
+            down,
+            bytes: _,
+        } => Some(Change::Blur {
+            window,
+            across,
+            down,
+            bytes,
         }),
         Change::Move { window, left, top } => Some(Change::Move { window, left, top }),
         Change::Flip(axes) => Some(Change::Flip(axes)),

@@ -3,7 +3,7 @@
 ghost use Rattle.std.specs.Prelude.{◌≡◌, ◌+◌, ◌<◌, ◌≤◌, map, IfSome, length};
 ghost use Rattle.text_model.specs.Parts.{parts_of};
 ghost use Rattle.texts.specs.Parts.{parts_left};
-ghost use Rattle.frame_formats.specs.Words.{pair_of, colour_in, paint_of, axes_of, quarter_of, change_of, pad_of, framing_at, margin_in, rectangle_of, cover_at, change_at, step_at, ranged_at};
+ghost use Rattle.frame_formats.specs.Words.{pair_of, radius_of, colour_in, paint_of, axes_of, quarter_of, change_of, pad_of, framing_at, margin_in, rectangle_of, cover_at, change_at, step_at, ranged_at};
 
 use crate::framing::Framing;
 use crate::ranges::{Range, read_range};
@@ -27,6 +27,14 @@ fn read_pair(piece: &[u8]) -> Option<(usize, usize)>
     let first = next(&mut numbers)?;
     let second = next(&mut numbers)?;
     numbers.is_done().then_some((first, second))
+}
+
+// The radius of a box: a number below 2^15.
+fn read_radius(piece: &[u8]) -> Option<usize>
+    ensures { result ≡ radius_of piece.now }
+{
+    let radius = usize::read(piece)?;
+    (radius <= i16::MAX as usize).then_some(radius)
 }
 
 // A colour: three numbers with commas between them.
@@ -74,6 +82,14 @@ fn read_change(word: &[u8], window: Window, last: &[u8]) -> Option<Change<Paint>
             window,
             tile_width,
             tile_height,
+            bytes: SampleBytes::One,
+        })
+    } else if word == b"blur".as_slice() {
+        let radius = read_radius(last)?;
+        Some(Change::Blur {
+            window,
+            across: radius,
+            down: radius,
             bytes: SampleBytes::One,
         })
     } else if word == b"move".as_slice() {

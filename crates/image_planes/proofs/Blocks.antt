@@ -6,6 +6,7 @@ use Rattle.std.proofs.lemmas.List.{take_all, drop_all, drop-take}
 use Rattle.std.proofs.lemmas.List.Folds.{list_all_more}
 use Rattle.image_model.specs.Grid.{Grid}
 use Rattle.image_planes.specs.Changes.{are_inside, changed, names, stepped}
+use Rattle.image_planes.specs.Scratch.{have_room}
 use Rattle.image_planes.specs.Spans.{has, has_all, are_spans_by}
 use Rattle.image_planes.specs.declared.change.Step.{Step}
 use Rattle.image_planes.specs.declared.spans.Span.{Span}
@@ -35,6 +36,11 @@ pub inside_parts : (width height n : ℕ) (steps : List (Step (List ℕ))) → a
 inside_parts width height zero steps all = (refl, all)
 inside_parts width height (suc n) [] all = (refl, refl)
 inside_parts width height (suc n) (s ∷ ss) all = grind (arith, inside_parts width height n ss)
+
+pub room_parts : (len row copy sums n : ℕ) (steps : List (Step (List ℕ))) → have_room len row copy sums steps ≡ true → (have_room len row copy sums (take n steps) ≡ true) × (have_room len row copy sums (drop n steps) ≡ true)
+room_parts len row copy sums zero steps all = (refl, all)
+room_parts len row copy sums (suc n) [] all = (refl, refl)
+room_parts len row copy sums (suc n) (s ∷ ss) all = grind (arith, room_parts len row copy sums n ss)
 
 -- a list that ends within a block is all of it
 pub take_upto : {A : Type 0} (n : ℕ) (xs : List A) → take (min (length xs) n) xs ≡ take n xs

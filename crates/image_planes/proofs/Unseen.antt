@@ -12,15 +12,16 @@ use Rattle.image_model.specs.Tiles.{tile_start}
 use Rattle.image_model.specs.Windows.{window_view}
 use Rattle.image_model.proofs.Grids.{same_grids, covers_decides}
 use Rattle.image_model.proofs.Tiles.{tile_start-is}
+use Rattle.image_ops.specs.Blur.{blurred}
 use Rattle.image_ops.specs.Means.{sample_mosaic}
 use Rattle.image_ops.specs.declared.means.SampleBytes.{SampleBytes}
 use Rattle.image_ops.specs.Mosaic.{mosaic_by, shown_column}
 use Rattle.image_ops.specs.Oriented.{mirrored_by}
 use Rattle.image_ops.specs.Repeated.{repeated}
 use Rattle.image_planes.specs.Changes.{bytes_for, Job, job_len, in_bytes, changed, changed_plane, changed_planes, flipped_by, plane_grid, stepped, names}
-use Rattle.image_planes.specs.Unseen.{MeansAlike, PlanesAlike, hidden_by, is_hidden, is_corner}
+use Rattle.image_planes.specs.Unseen.{BoxesAlike, MadeAlike, MeansAlike, PlanesAlike, hidden_by, is_hidden, is_corner}
 use Rattle.image_planes.specs.declared.change.Change.{Change}
-use Rattle.image_planes.specs.declared.change.Change.TheVariants.{Fill, Mosaic, Mean, Move, Flip}
+use Rattle.image_planes.specs.declared.change.Change.TheVariants.{Fill, Mosaic, Mean, Blur, Move, Flip}
 use Rattle.image_planes.specs.declared.change.Axes.{Axes}
 use Rattle.image_planes.specs.declared.change.Axes.TheVariants.{Rows, Columns, Both}
 use Rattle.image_planes.specs.declared.change.Step.{Step}
@@ -177,22 +178,24 @@ module _ (size : ℕ) (some : 0 < size) (width height : ℕ) (pixels : ℕ → �
       (mosaic_alike w tile_width tile_height g h a) (λ x y miss. let out = beside w x y miss in rw out refl) a
 
   -- all of the window counts
-  mean_alike : (w : Coded) (tile_width tile_height : ℕ) (bytes : SampleBytes) (g h : Grid ℕ) → AlikeBut (hides (Mean w tile_width tile_height bytes)) g h
+  view_alike : (c : Change (List ℕ)) (w : Coded) (g h : Grid ℕ) → ((x y : ℕ) → hides c x y ≡ cond (covers w.left w.top w.width w.height (x / size) y) false (later x y)) → AlikeBut (hides c) g h
       → window_view g (in_bytes size w) ≡ window_view h (in_bytes size w)
   unfolding view
-  mean_alike w tile_width tile_height bytes g h a =
+  view_alike c w g h shows a =
       same_grids (size * w.width) w.height _ _ (λ x y column line.
       let hit = (covers_decides (size * w.left) w.top (size * w.width) w.height (size * w.left + x) (w.top + y)).1 (omega arith, omega arith, omega (arith, column), omega (arith, line)) in
       let inside = sym (covers_pixels size w.left w.top w.width w.height (size * w.left + x) (w.top + y) some) ∙ hit in
-      a.2 (size * w.left + x) (w.top + y) (rw inside refl))
+      a.2 (size * w.left + x) (w.top + y) (shows (size * w.left + x) (w.top + y) ∙ (rw inside refl)))
 
-  mean_hides : (w : Coded) (tile_width tile_height : ℕ) (bytes : SampleBytes) (g h : Grid ℕ) → AlikeBut (hides (Mean w tile_width tile_height bytes)) g h
-      → AlikeBut later (changed size (Mean w tile_width tile_height bytes) g) (changed size (Mean w tile_width tile_height bytes) h)
+  -- of which a grid of its size is made
+  made_hides : (c : Change (List ℕ)) (w : Coded) (make : Grid ℕ → Grid ℕ) (g h : Grid ℕ) → ((k : Grid ℕ) → (make k).width ≡ k.width) → ((k : Grid ℕ) → (make k).height ≡ k.height)
+      → ((x y : ℕ) → hides c x y ≡ cond (covers w.left w.top w.width w.height (x / size) y) false (later x y)) → AlikeBut (hides c) g h
+      → AlikeBut later (patch g (size * w.left) w.top (make (window_view g (in_bytes size w)))) (patch h (size * w.left) w.top (make (window_view h (in_bytes size w))))
   unfolding view
-  mean_hides w tile_width tile_height bytes g h a =
-      patched (hides (Mean w tile_width tile_height bytes)) later (size * w.left) w.top (size * w.width) w.height g h
-      (sample_mosaic (bytes_for size bytes) size tile_width tile_height (window_view g (in_bytes size w))) (sample_mosaic (bytes_for size bytes) size tile_width tile_height (window_view h (in_bytes size w))) refl refl
-      (sym (ap (sample_mosaic (bytes_for size bytes) size tile_width tile_height) (mean_alike w tile_width tile_height bytes g h a))) (λ x y miss. let out = beside w x y miss in rw out refl) a
+  made_hides c w make g h wide high shows a =
+      patched (hides c) later (size * w.left) w.top (size * w.width) w.height g h (make (window_view g (in_bytes size w))) (make (window_view h (in_bytes size w)))
+      (wide (window_view g (in_bytes size w))) (high (window_view g (in_bytes size w)))
+      (sym (ap make (view_alike c w g h shows a))) (λ x y miss. let out = beside w x y miss in shows x y ∙ (rw out refl)) a
 
   flip_hides : (axes : Axes) (g h : Grid ℕ) → g.width ≡ size * width → g.height ≡ height → AlikeBut (hides (Flip axes)) g h → AlikeBut later (flipped_by size axes g) (flipped_by size axes h)
   flip_hides Rows g h wide high a = rows_hide later height g h high a
@@ -205,7 +208,10 @@ module _ (size : ℕ) (some : 0 < size) (width height : ℕ) (pixels : ℕ → �
   one_step false c g h wide high a = a
   one_step true (Fill w value) g h wide high a = fill_hides w value g h a
   one_step true (Mosaic w tile_width tile_height) g h wide high a = mosaic_hides w tile_width tile_height g h a
-  one_step true (Mean w tile_width tile_height bytes) g h wide high a = mean_hides w tile_width tile_height bytes g h a
+  one_step true (Mean w tile_width tile_height bytes) g h wide high a =
+      made_hides (Mean w tile_width tile_height bytes) w (sample_mosaic (bytes_for size bytes) size tile_width tile_height) g h (λ k. refl) (λ k. refl) (λ x y. refl) a
+  one_step true (Blur w across down bytes) g h wide high a =
+      made_hides (Blur w across down bytes) w (blurred (bytes_for size bytes) size across down) g h (λ k. refl) (λ k. refl) (λ x y. refl) a
   one_step true (Move w left top) g h wide high a = grind (arith, all_same)
   one_step true (Flip axes) g h wide high a = flip_hides axes g h wide high a
 
@@ -216,6 +222,7 @@ size_kept size false c g = (refl, refl)
 size_kept size true (Fill w value) g = (refl, refl)
 size_kept size true (Mosaic w tile_width tile_height) g = (refl, refl)
 size_kept size true (Mean w tile_width tile_height bytes) g = (refl, refl)
+size_kept size true (Blur w across down bytes) g = (refl, refl)
 size_kept size true (Move w left top) g = (refl, refl)
 size_kept size true (Flip Rows) g = (refl, refl)
 size_kept size true (Flip Columns) g = (refl, refl)
@@ -251,7 +258,7 @@ planes_hide number (j ∷ js) p q alike =
     let others : changed_planes number js (drop (job_len j) p) ≡ changed_planes number js (drop (job_len j) q) = planes_hide number js (drop (job_len j) p) (drop (job_len j) q) alike.1 in
     λ i. first i ++ others i
 
--- ---- what a mosaic of means reveals
+-- ---- what means and blurs reveal
 
 -- patches that are one, of grids that are the same beside them
 same_beside : (left top width height : ℕ) (g h p q : Grid ℕ) → p.width ≡ width → p.height ≡ height → p ≡ q → g.width ≡ h.width → g.height ≡ h.height
@@ -259,7 +266,15 @@ same_beside : (left top width height : ℕ) (g h p q : Grid ℕ) → p.width ≡
 unfolding patch
 same_beside left top width height g h p q across down same wide high beside = all_same _ _ (grind (arith, other_way))
 
-pub only_means : (size : ℕ) (w : Coded) (tile_width tile_height : ℕ) (bytes : SampleBytes) (g h : Grid ℕ) → MeansAlike size w tile_width tile_height bytes g h → changed size (Mean w tile_width tile_height bytes) g ≡ changed size (Mean w tile_width tile_height bytes) h
+only_made : (size : ℕ) (w : Coded) (make : Grid ℕ → Grid ℕ) (g h : Grid ℕ) → ((k : Grid ℕ) → (make k).width ≡ k.width) → ((k : Grid ℕ) → (make k).height ≡ k.height) → MadeAlike size w make g h
+    → patch g (size * w.left) w.top (make (window_view g (in_bytes size w))) ≡ patch h (size * w.left) w.top (make (window_view h (in_bytes size w)))
 unfolding view
-only_means size w tile_width tile_height bytes g h a =
-    same_beside (size * w.left) w.top (size * w.width) w.height g h (sample_mosaic (bytes_for size bytes) size tile_width tile_height (window_view g (in_bytes size w))) (sample_mosaic (bytes_for size bytes) size tile_width tile_height (window_view h (in_bytes size w))) refl refl a.means a.same_width a.same_height a.beside
+only_made size w make g h across down a =
+    same_beside (size * w.left) w.top (size * w.width) w.height g h (make (window_view g (in_bytes size w))) (make (window_view h (in_bytes size w)))
+    (across (window_view g (in_bytes size w))) (down (window_view g (in_bytes size w))) a.made a.same_width a.same_height a.beside
+
+pub only_means : (size : ℕ) (w : Coded) (tile_width tile_height : ℕ) (bytes : SampleBytes) (g h : Grid ℕ) → MeansAlike size w tile_width tile_height bytes g h → changed size (Mean w tile_width tile_height bytes) g ≡ changed size (Mean w tile_width tile_height bytes) h
+only_means size w tile_width tile_height bytes g h a = only_made size w (sample_mosaic (bytes_for size bytes) size tile_width tile_height) g h (λ k. refl) (λ k. refl) a
+
+pub only_boxes : (size : ℕ) (w : Coded) (across down : ℕ) (bytes : SampleBytes) (g h : Grid ℕ) → BoxesAlike size w across down bytes g h → changed size (Blur w across down bytes) g ≡ changed size (Blur w across down bytes) h
+only_boxes size w across down bytes g h a = only_made size w (blurred (bytes_for size bytes) size across down) g h (λ k. refl) (λ k. refl) a

@@ -7,6 +7,7 @@ use Rattle.image_model.specs.Rows.{grid_pixels}
 use Rattle.image_model.specs.Windows.{IsInside, is_inside, window, window_view}
 use Rattle.image_model.specs.Windows as model
 use Rattle.imgref.specs.Window.{as_window}
+use Rattle.image_ops.specs.Blur.{blurred}
 use Rattle.image_ops.specs.Means.{sample_mosaic}
 use Rattle.image_ops.specs.declared.means.SampleBytes.{SampleBytes}
 use Rattle.image_ops.specs.declared.means.SampleBytes.TheVariants.{One}
@@ -19,7 +20,7 @@ use Rattle.image_planes.specs.declared.change.Axes.{Axes}
 use Rattle.image_planes.specs.declared.change.Axes.TheVariants.{Rows, Columns, Both}
 use Rattle.image_planes.specs.declared.change.Step.{Step}
 use Rattle.image_planes.specs.declared.change.Change.{Change}
-use Rattle.image_planes.specs.declared.change.Change.TheVariants.{Fill, Mosaic, Mean, Move, Flip}
+use Rattle.image_planes.specs.declared.change.Change.TheVariants.{Fill, Mosaic, Mean, Blur, Move, Flip}
 
 -- a window of pixels as one of bytes, where so many bytes next to one another are a pixel
 abbrev pub in_bytes : ℕ → Window → model.Window
@@ -40,14 +41,16 @@ abbrev pub changed : ℕ → Change (List ℕ) → Grid ℕ → Grid ℕ
 changed size (Fill w value) g = patch g (size * w.left) w.top (repeated (size * w.width) w.height (take size value))
 changed size (Mosaic w tile_width tile_height) g = patch g (size * w.left) w.top (mosaic_by size tile_width tile_height (window_view g (in_bytes size w)))
 changed size (Mean w tile_width tile_height bytes) g = patch g (size * w.left) w.top (sample_mosaic (bytes_for size bytes) size tile_width tile_height (window_view g (in_bytes size w)))
+changed size (Blur w across down bytes) g = patch g (size * w.left) w.top (blurred (bytes_for size bytes) size across down (window_view g (in_bytes size w)))
 changed size (Move w left top) g = patch g (size * left) top (window_view g (in_bytes size w))
 changed size (Flip axes) g = flipped_by size axes g
 
--- a change is valid for so many pixels: its windows are inside, and its tiles have a place
+-- a change is valid for so many pixels: its windows are inside, its tiles have a place, and a box reaches fewer than 2 ^ 15 pixels on each side
 abbrev pub IsChangeOf : ℕ → ℕ → Change (List ℕ) → Type 0
 IsChangeOf width height (Fill w value) = IsInside width height (as_window w)
 IsChangeOf width height (Mosaic w tile_width tile_height) = (0 < tile_width) × (0 < tile_height) × IsInside width height (as_window w)
 IsChangeOf width height (Mean w tile_width tile_height bytes) = (0 < tile_width) × (0 < tile_height) × IsInside width height (as_window w)
+IsChangeOf width height (Blur w across down bytes) = (across < 2 ^ 15) × (down < 2 ^ 15) × IsInside width height (as_window w)
 IsChangeOf width height (Move w left top) = IsInside width height (as_window w) × IsInside width height (window left top w.width w.height)
 IsChangeOf width height (Flip axes) = Unit {0}
 
@@ -56,6 +59,7 @@ abbrev pub is_change_of : ℕ → ℕ → Change (List ℕ) → Bool
 is_change_of width height (Fill w value) = is_inside width height (as_window w)
 is_change_of width height (Mosaic w tile_width tile_height) = nat_lt 0 tile_width && (nat_lt 0 tile_height && is_inside width height (as_window w))
 is_change_of width height (Mean w tile_width tile_height bytes) = nat_lt 0 tile_width && (nat_lt 0 tile_height && is_inside width height (as_window w))
+is_change_of width height (Blur w across down bytes) = nat_lt across (2 ^ 15) && (nat_lt down (2 ^ 15) && is_inside width height (as_window w))
 is_change_of width height (Move w left top) = is_inside width height (as_window w) && is_inside width height (window left top w.width w.height)
 is_change_of width height (Flip axes) = true
 

@@ -1,19 +1,21 @@
 //! Changes of an image in place, over its bytes in a shape. A pixel is some bytes next to one
 //! another in a row, so a window of pixels is a window of bytes.
 
-ghost use Rattle.std.specs.Prelude.{◌≡◌, ◌<◌, ◌/◌, ◌*◌, ◌%◌};
-ghost use Rattle.image_model.specs.Grid.{grid_of};
-ghost use Rattle.image_model.specs.Windows.{IsInside};
+ghost use Rattle.std.specs.Prelude.{◌≡◌, ◌<◌, ◌≤◌, ◌/◌, ◌*◌, ◌%◌, ◌^◌, length, IsTrue};
+ghost use Rattle.image_model.specs.Grid.{grid_of, patch};
+ghost use Rattle.image_model.specs.Windows.{IsInside, window_view};
 ghost use Rattle.imgref.specs.Shape.{shaped, shape_width, shape_height};
 ghost use Rattle.imgref.specs.Window.{as_window};
+ghost use Rattle.image_ops.specs.Blur.{blurred};
 ghost use Rattle.image_ops.specs.Means.{sample_cells};
 ghost use Rattle.image_ops.specs.Written.{Becomes};
 ghost use Rattle.image_planes.specs.Changes.{IsChangeOf, bytes_for, changed, flipped_by, in_bytes};
 ghost use Rattle.image_planes.specs.Pixels.{HavePixels};
+ghost use Rattle.image_planes.specs.Scratch.{has_room, is_blur};
 
 use image_ops::{
-    SampleBytes, flip_rows, flip_window_columns, mean_samples, mosaic_window_by, move_pixels,
-    repeat_window,
+    SampleBytes, blur_samples, flip_rows, flip_window_columns, mean_samples, mosaic_window_by,
+    move_pixels, repeat_window,
 };
 use imgref::{Shape, Window};
 
@@ -51,6 +53,17 @@ pub enum Change<V> {
         window: Window,
         tile_width: usize,
         tile_height: usize,
+        /// The bytes of a sample.
+        bytes: SampleBytes,
+    },
+    /// Every pixel of the window gets the mean of the box around it, sample by sample, rounded to the
+    /// nearest: a half goes up. The box has `across` pixels on the left and on the right, and `down`
+    /// above and below. What is outside the window doesn't count. Where a pixel has an odd number of
+    /// bytes, each byte is a sample.
+    Blur {
+        window: Window,
+        across: usize,
+        down: usize,
         /// The bytes of a sample.
         bytes: SampleBytes,
     },
@@ -104,6 +117,55 @@ fn bytes_for(size: usize, bytes: SampleBytes) -> SampleBytes
     }
 }
 
+/// Whether a change is a blur, which needs room.
+pub(crate) fn is_blur(change: Change<Value>) -> bool
+    ensures { result ≡ is_blur change }
+{
+    matches!(change, Change::Blur { .. })
+}
+
+// The number of samples of so many bytes.
+fn count_samples(bytes: SampleBytes, width: usize) -> usize
+    requires whole { width % sample_cells bytes ≡ 0 }
+    ensures samples { result * sample_cells bytes ≡ width }
+    ensures within { result ≤ width }
+{
+    match bytes {
+        SampleBytes::One => width,
+        SampleBytes::LowFirst | SampleBytes::HighFirst => width / 2,
+    }
+}
+
+// Every pixel of the window becomes the mean of the box around it. What the copy and the sums had is
+// lost.
+fn blur_cells(
+    cells: &mut [u8],
+    shape: Shape,
+    size: usize,
+    window: Window,
+    across: usize,
+    down: usize,
+    bytes: SampleBytes,
+    copy: &mut [u8],
+    sums: &mut [u32],
+)
+    requires pixels { HavePixels cells.old shape size }
+    requires inside { IsInside (shape_width shape / size) (shape_height shape) (as_window window) }
+    requires across { across < 2 ^ 15 }
+    requires down { down < 2 ^ 15 }
+    requires copy { length cells.old ≤ length copy.old }
+    requires sums { shape_width shape ≤ length sums.old }
+    ensures { Becomes shape cells.old cells.new (patch (grid_of (shaped cells.old shape))
+        (size * window.left) window.top (blurred (bytes_for size bytes) size across down
+        (window_view (grid_of (shaped cells.old shape)) (in_bytes size window)))) }
+{
+    let part = in_bytes(shape, size, window);
+    let bytes = bytes_for(size, bytes);
+    let count = count_samples(bytes, part.width);
+    let sums = &mut sums[..count];
+    blur_samples(bytes, cells, shape, part, size, across, down, copy, sums);
+}
+
 // In each row the first pixel changes places with the last, and so on. A pixel has `size` bytes; the
 // padding stays.
 fn flip_columns(cells: &mut [u8], shape: Shape, size: usize)
@@ -133,10 +195,19 @@ fn flip_cells(cells: &mut [u8], shape: Shape, size: usize, axes: Axes)
 }
 
 /// Applies the change of pixels of `size` bytes to the image that the bytes make in this shape; the
-/// padding stays.
-pub(crate) fn change_cells(cells: &mut [u8], shape: Shape, size: usize, change: Change<Value>)
+/// padding stays. What the copy and the sums had is lost.
+pub(crate) fn change_cells(
+    cells: &mut [u8],
+    shape: Shape,
+    size: usize,
+    change: Change<Value>,
+    copy: &mut [u8],
+    sums: &mut [u32],
+)
     requires pixels { HavePixels cells.old shape size }
     requires inside { IsChangeOf (shape_width shape / size) (shape_height shape) change }
+    requires room { IsTrue (has_room (length cells.old) (shape_width shape)
+        (length copy.old) (length sums.old) change) }
     ensures { Becomes shape cells.old cells.new
         (changed size change (grid_of (shaped cells.old shape))) }
 {
@@ -162,6 +233,12 @@ pub(crate) fn change_cells(cells: &mut [u8], shape: Shape, size: usize, change: 
             let bytes = bytes_for(size, bytes);
             mean_samples(bytes, cells, shape, part, size, tile_width, tile_height);
         }
+        Change::Blur {
+            window,
+            across,
+            down,
+            bytes,
+        } => blur_cells(cells, shape, size, window, across, down, bytes, copy, sums),
         Change::Move { window, left, top } => {
             let target = Window::new(left, top, window.width, window.height);
             let from = in_bytes(shape, size, window);

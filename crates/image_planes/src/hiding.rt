@@ -4,15 +4,16 @@ ghost use Rattle.std.specs.Prelude.{◌≡◌, ℕ, List};
 ghost use Rattle.image_model.specs.Grid.{Grid};
 ghost use Rattle.image_ops.specs.declared.means.SampleBytes.{SampleBytes};
 ghost use Rattle.image_planes.specs.Changes.{Job, changed, changed_planes};
-ghost use Rattle.image_planes.specs.declared.change.Change.TheVariants.{Mean};
+ghost use Rattle.image_planes.specs.declared.change.Change.TheVariants.{Blur, Mean};
 ghost use Rattle.image_shape.specs.declared.window.Window.{Window};
-ghost use Rattle.image_planes.specs.Unseen.{MeansAlike, PlanesAlike};
+ghost use Rattle.image_planes.specs.Unseen.{BoxesAlike, MeansAlike, PlanesAlike};
 
 /// A frame reveals nothing of a filled window, and of a mosaic only the corners of its tiles. That
 /// is, frames that differ only at the other places are equal after the steps. A caller calls this
 /// for its clauses, which are the law; it does nothing. By `means`, a mosaic of means reveals of its
-/// window only the mean of each tile, sample by sample.
-#[tactic(auto, using(crate::proofs::Unseen::planes_hide, crate::proofs::Unseen::only_means))]
+/// window only the mean of each tile, sample by sample. By `blurs`, a blur reveals of its window only
+/// the means of its boxes, from which the old pixels may perhaps be computed.
+#[tactic(auto, using(crate::proofs::Unseen::planes_hide, crate::proofs::Unseen::only_means, crate::proofs::Unseen::only_boxes))]
 pub fn changes_hide()
     ensures planes { (number : ℕ) (jobs : List Job) (cells others : List ℕ)
         → PlanesAlike number jobs cells others
@@ -21,4 +22,8 @@ pub fn changes_hide()
         → (g h : Grid ℕ) → MeansAlike size window tile_width tile_height bytes g h
         → changed size (Mean window tile_width tile_height bytes) g
         ≡ changed size (Mean window tile_width tile_height bytes) h }
+    ensures blurs { (size : ℕ) (window : Window) (across down : ℕ) (bytes : SampleBytes)
+        → (g h : Grid ℕ) → BoxesAlike size window across down bytes g h
+        → changed size (Blur window across down bytes) g
+        ≡ changed size (Blur window across down bytes) h }
 {}

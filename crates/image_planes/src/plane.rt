@@ -1,12 +1,13 @@
 //! A plane of a frame, and its changes.
 
-ghost use Rattle.std.specs.Prelude.{◌≡◌, ◌<◌, ◌*◌, ◌/◌, length, IfOk, IsTrue};
+ghost use Rattle.std.specs.Prelude.{◌≡◌, ◌<◌, ◌≤◌, ◌*◌, ◌/◌, length, IfOk, IsTrue};
 ghost use Rattle.std.specs.Option.{option_map};
 ghost use Rattle.imgref.specs.Shape.{shape_width, shape_height, shape_stride};
 ghost use Rattle.image_planes.specs.Changes.{is_change_of, is_plane, are_inside, job_for, changed_plane};
+ghost use Rattle.image_planes.specs.Scratch.{copy_len, sums_len, have_blur};
 ghost use Rattle.image_planes.specs.Spans.{are_spans, are_groups};
 
-use crate::change::{Change, Step, Value};
+use crate::change::{Change, Step, Value, is_blur};
 use crate::spans::{BLOCK, GROUP, Span, do_groups, spans_of};
 use crate::steps::all_inside;
 use imgref::{Shape, Window};
@@ -99,10 +100,38 @@ impl Plane {
         self.shape().pixel_count()
     }
 
-    /// Applies the steps for the frame of this number to the plane that these bytes make.
+    // Whether one of its steps is a blur.
+    fn has_blur(&self) -> bool
+        ensures { result ≡ have_blur (job_of self.now).steps }
+    {
+        self.steps.iter().any(|step| is_blur(step.change))
+    }
+
+    /// The number of bytes of the copy that its blurs need.
+    pub(crate) fn copy_len(&self) -> usize
+        ensures { result ≡ copy_len (job_of self.now) }
+    {
+        if self.has_blur() { self.len() } else { 0 }
+    }
+
+    /// The number of sums that its blurs need.
+    pub(crate) fn sums_len(&self) -> usize
+        ensures { result ≡ sums_len (job_of self.now) }
+    {
+        if self.has_blur() {
+            self.shape().width()
+        } else {
+            0
+        }
+    }
+
+    /// Applies the steps for the frame of this number to the plane that these bytes make. What the
+    /// copy and the sums had is lost.
     #[tactic(auto, using(crate::proofs::Parts::plane_pixels))]
-    pub(crate) fn apply(&self, number: u64, cells: &mut [u8])
-        requires { length cells.old ≡ plane_len self.now }
+    pub(crate) fn apply(&self, number: u64, cells: &mut [u8], copy: &mut [u8], sums: &mut [u32])
+        requires whole { length cells.old ≡ plane_len self.now }
+        requires copy { copy_len (job_of self.now) ≤ length copy.old }
+        requires sums { sums_len (job_of self.now) ≤ length sums.old }
         ensures { cells.new ≡ changed_plane number (job_of self.now) cells.old }
     {
         do_groups(
@@ -113,6 +142,8 @@ impl Plane {
             &self.spans,
             &self.groups,
             number,
+            copy,
+            sums,
         );
     }
 }
@@ -134,6 +165,12 @@ pub(crate) fn is_inside(width: usize, height: usize, change: Change<Value>) -> b
             tile_height,
             bytes: _,
         } => tile_width > 0 && tile_height > 0 && window.is_inside(width, height),
+        Change::Blur {
+            window,
+            across,
+            down,
+            bytes: _,
+        } => across < 32768 && down < 32768 && window.is_inside(width, height),
         Change::Move { window, left, top } => {
             let target = Window::new(left, top, window.width, window.height);
             window.is_inside(width, height) && target.is_inside(width, height)

@@ -4,10 +4,12 @@
 ghost use Rattle.std.specs.Prelude.{◌≡◌, ◌≤◌, length, map};
 ghost use Rattle.image_planes.specs.Changes.{changed_planes, jobs_len, as_usize};
 ghost use Rattle.image_planes.specs.Planes.{job_of};
+ghost use Rattle.image_planes.specs.Scratch.{copy_room, sums_room, HasRoom, KeepsRoom};
 ghost use Rattle.image_planes.specs.Resized.{sources_len, targets_len, resized_planes};
 ghost use Rattle.image_planes.specs.Targets.{resizing_of};
 
 use crate::plane::Plane;
+use crate::scratch::{Scratch, lengthen};
 use crate::target::Target;
 
 /// The number of bytes of all planes, or `None` exactly where that is 2^64 or more.
@@ -20,10 +22,11 @@ pub fn planes_len(planes: &[Plane]) -> Option<usize>
     }
 }
 
-/// Applies the steps for the frame of this number to each of its planes. The cells are those of the
-/// planes, one after the other.
-pub fn change_planes(number: u64, cells: &mut [u8], planes: &[Plane])
-    requires { jobs_len (map job_of planes.now) ≤ length cells.old }
+// Applies the steps for the frame of this number to each of its planes.
+fn change_each(number: u64, cells: &mut [u8], planes: &[Plane], copy: &mut [u8], sums: &mut [u32])
+    requires cells { jobs_len (map job_of planes.now) ≤ length cells.old }
+    requires copy { copy_room (map job_of planes.now) ≤ length copy.old }
+    requires sums { sums_room (map job_of planes.now) ≤ length sums.old }
     ensures { cells.new ≡ changed_planes number (map job_of planes.now) cells.old }
 {
     let Some((plane, others)) = planes.split_first() else {
@@ -31,8 +34,22 @@ pub fn change_planes(number: u64, cells: &mut [u8], planes: &[Plane])
     };
     let len = plane.len();
     let (front, back) = cells.split_at_mut(len);
-    plane.apply(number, front);
-    change_planes(number, back, others);
+    plane.apply(number, front, copy, sums);
+    change_each(number, back, others, copy, sums);
+}
+
+/// Applies the steps for the frame of this number to each of its planes. The cells are those of the
+/// planes, one after the other. Blurs use the room.
+pub fn change_planes(number: u64, cells: &mut [u8], planes: &[Plane], scratch: &mut Scratch)
+    requires cells { jobs_len (map job_of planes.now) ≤ length cells.old }
+    requires scratch { HasRoom (map job_of planes.now) scratch.old }
+    ensures planes { cells.new ≡ changed_planes number (map job_of planes.now) cells.old }
+    ensures room { KeepsRoom scratch.old scratch.new }
+{
+    lengthen(&mut scratch.copy, scratch.copy_room, 0);
+    lengthen(&mut scratch.sums, scratch.sums_room, 0);
+    let (copy, sums) = (&mut scratch.copy, &mut scratch.sums);
+    change_each(number, cells, planes, copy, sums);
 }
 
 /// The number of bytes of all planes in their other size, or `None` exactly where that is 2^64 or more.

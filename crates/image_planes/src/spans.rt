@@ -1,11 +1,12 @@
 //! Blocks of steps, and the frames that each names, so that a frame passes over the blocks of others.
 
-ghost use Rattle.std.specs.Prelude.{◌≡◌, ◌<◌, ◌/◌, IfOk, IsTrue};
+ghost use Rattle.std.specs.Prelude.{◌≡◌, ◌<◌, ◌/◌, length, IfOk, IsTrue};
 ghost use Rattle.image_model.specs.Grid.{grid_of};
 ghost use Rattle.imgref.specs.Shape.{shaped, shape_width, shape_height};
 ghost use Rattle.image_ops.specs.Written.{Becomes};
 ghost use Rattle.image_planes.specs.Changes.{are_inside, stepped};
 ghost use Rattle.image_planes.specs.Pixels.{HavePixels};
+ghost use Rattle.image_planes.specs.Scratch.{have_room};
 ghost use Rattle.image_planes.specs.Spans.{has, has_all, are_spans_by, are_spans, are_groups};
 
 use crate::change::{Step, Value};
@@ -74,8 +75,8 @@ pub(crate) fn spans_of(
 }
 
 // Applies the steps for the frame of this number to the image that the bytes make in this shape,
-// block by block. A pixel has `size` bytes; the padding stays.
-#[tactic(auto, using(crate::proofs::Blocks::inside_parts))]
+// block by block. A pixel has `size` bytes; the padding stays. What the copy and the sums had is lost.
+#[tactic(auto, using(crate::proofs::Blocks::inside_parts, crate::proofs::Blocks::room_parts))]
 fn do_blocks(
     cells: &mut [u8],
     shape: Shape,
@@ -83,10 +84,14 @@ fn do_blocks(
     steps: &[Step<Value>],
     spans: &[Span],
     number: u64,
+    copy: &mut [u8],
+    sums: &mut [u32],
 )
     requires pixels { HavePixels cells.old shape size }
     requires inside { IsTrue
         (are_inside (shape_width shape / size) (shape_height shape) steps.now) }
+    requires room { IsTrue (have_room (length cells.old) (shape_width shape)
+        (length copy.old) (length sums.old) steps.now) }
     requires spans { IsTrue (are_spans spans.now steps.now) }
     ensures { Becomes shape cells.old cells.new
         (stepped size number steps.now (grid_of (shaped cells.old shape))) }
@@ -96,14 +101,15 @@ fn do_blocks(
         let (block, others) = left.split_at(left.len().min(BLOCK));
         left = others;
         if span.has(number) {
-            do_steps(cells, shape, size, block, number);
+            do_steps(cells, shape, size, block, number, copy, sums);
         }
     }
 }
 
 /// Applies the steps for the frame of this number to the image that the bytes make in this shape, by
-/// groups and blocks. A pixel has `size` bytes; the padding stays.
-#[tactic(auto, using(crate::proofs::Blocks::inside_parts))]
+/// groups and blocks. A pixel has `size` bytes; the padding stays. What the copy and the sums had is
+/// lost.
+#[tactic(auto, using(crate::proofs::Blocks::inside_parts, crate::proofs::Blocks::room_parts))]
 pub(crate) fn do_groups(
     cells: &mut [u8],
     shape: Shape,
@@ -112,10 +118,14 @@ pub(crate) fn do_groups(
     spans: &[Span],
     groups: &[Span],
     number: u64,
+    copy: &mut [u8],
+    sums: &mut [u32],
 )
     requires pixels { HavePixels cells.old shape size }
     requires inside { IsTrue
         (are_inside (shape_width shape / size) (shape_height shape) steps.now) }
+    requires room { IsTrue (have_room (length cells.old) (shape_width shape)
+        (length copy.old) (length sums.old) steps.now) }
     requires spans { IsTrue (are_spans spans.now steps.now) }
     requires groups { IsTrue (are_groups groups.now steps.now) }
     ensures { Becomes shape cells.old cells.new
@@ -129,7 +139,7 @@ pub(crate) fn do_groups(
         left = others;
         spans_left = more;
         if group.has(number) {
-            do_blocks(cells, shape, size, part, its, number);
+            do_blocks(cells, shape, size, part, its, number, copy, sums);
         }
     }
 }

@@ -1,11 +1,12 @@
 //! Changes that are applied one after the other, each to some frames of a video.
 
-ghost use Rattle.std.specs.Prelude.{◌≡◌, ◌/◌, IsTrue};
+ghost use Rattle.std.specs.Prelude.{◌≡◌, ◌/◌, length, IsTrue};
 ghost use Rattle.image_model.specs.Grid.{grid_of};
 ghost use Rattle.imgref.specs.Shape.{shaped, shape_width, shape_height};
 ghost use Rattle.image_ops.specs.Written.{Becomes};
 ghost use Rattle.image_planes.specs.Changes.{are_inside, stepped};
 ghost use Rattle.image_planes.specs.Pixels.{HavePixels};
+ghost use Rattle.image_planes.specs.Scratch.{have_room};
 
 use crate::change::{Step, Value, change_cells};
 use crate::plane::is_inside;
@@ -21,23 +22,27 @@ pub(crate) fn all_inside(width: usize, height: usize, steps: &[Step<Value>]) -> 
 }
 
 /// Applies the steps for the frame of this number to the image that the bytes make in this shape. A
-/// pixel has `size` bytes; the padding stays.
+/// pixel has `size` bytes; the padding stays. What the copy and the sums had is lost.
 pub(crate) fn do_steps(
     cells: &mut [u8],
     shape: Shape,
     size: usize,
     steps: &[Step<Value>],
     number: u64,
+    copy: &mut [u8],
+    sums: &mut [u32],
 )
     requires pixels { HavePixels cells.old shape size }
     requires inside { IsTrue
         (are_inside (shape_width shape / size) (shape_height shape) steps.now) }
+    requires room { IsTrue (have_room (length cells.old) (shape_width shape)
+        (length copy.old) (length sums.old) steps.now) }
     ensures { Becomes shape cells.old cells.new
         (stepped size number steps.now (grid_of (shaped cells.old shape))) }
 {
     for step in steps {
         if step.first <= number && number < step.end {
-            change_cells(cells, shape, size, step.change);
+            change_cells(cells, shape, size, step.change, copy, sums);
         }
     }
 }

@@ -7,6 +7,7 @@ use Rattle.frame_formats.specs.Edits.{Edits}
 use Rattle.frame_formats.specs.Format.{format_of}
 use Rattle.frame_formats.specs.Planned.{recipe_of, plan_room, plan_other_room}
 use Rattle.frame_formats.specs.Recipe.{picture_recipe}
+use Rattle.image_planes.specs.Scratch.{HasRoom}
 use Rattle.frame_formats.specs.declared.header.Format.{Format}
 use Rattle.frame_formats.specs.declared.picture.Picture.{Picture}
 use Rattle.imgref_frames.specs.Stream.{Piece, IsPiece, pieces_text}
@@ -16,11 +17,12 @@ use Rattle.imgref_frames.specs.declared.pictures.Kept.{Kept}
 use Rattle.imgref_frames.specs.declared.fault.RunFault.{RunFault}
 use Rattle.imgref_frames.specs.declared.fault.RunFault.TheVariants.{Header, Outside, Frame, Memory, Input, Output}
 
--- the plan is that of the edits for its picture, and buffers of these capacities are enough for it
+-- the plan is that of the edits for its picture, buffers of these capacities are enough for it, and so is its room for blurs
 pub record IsKept (edit : Edits) (room_there other_there : ℕ) (k : Kept) : Type 0 where
   pub plan : picture_recipe edit k.picture ≡ Some (recipe_of k.plan)
   pub room : plan_room k.plan ≤ room_there
   pub other_room : plan_other_room k.plan ≤ other_there
+  pub scratch : HasRoom (recipe_of k.plan).jobs k.scratch
 
 abbrev pub kept_picture : Option Kept → Option Picture
 kept_picture kept = option_map (λ k. k.picture) kept

@@ -6,8 +6,9 @@ use Rattle.text_model.specs.Reading.{is_nil}
 use Rattle.frame_formats.specs.Edits.{Edits}
 use Rattle.frame_formats.specs.Lists.{AreEdits, framing_after}
 use Rattle.frame_formats.specs.Words.{Named}
+use Rattle.image_planes.specs.Scratch.{is_blur}
 use Rattle.image_planes.specs.declared.change.Change.{Change}
-use Rattle.image_planes.specs.declared.change.Change.TheVariants.{Fill, Mosaic, Mean, Move, Flip}
+use Rattle.image_planes.specs.declared.change.Change.TheVariants.{Fill, Mosaic, Mean, Blur, Move, Flip}
 use Rattle.frame_formats.specs.declared.ranges.Range.{Range}
 use Rattle.frame_formats.specs.declared.ranges.Range.TheVariants.{Frames, Times}
 use Rattle.frame_formats.specs.declared.steps.Paint.{Paint}
@@ -31,11 +32,12 @@ pub record AreUsable (e : Edits) : Type 0 where
   pub some : is_nil e.steps && is_none e.framing ≡ false
   pub ranges : All (λ s. IsTrue (has_span s.range)) e.steps
 
--- a change that carries pixels away, or with `means` a mosaic of means, each of which shows something of its whole tile
+-- a change that carries pixels away, or with `means` one of means, each of which shows something of its whole tile or box
 abbrev pub spreads : Bool → Change Paint → Bool
 spreads means (Fill w paint) = false
 spreads means (Mosaic w wide high) = false
 spreads means (Mean w wide high bytes) = means
+spreads means (Blur w across down bytes) = means
 spreads means (Move w left top) = not means
 spreads means (Flip axes) = false
 
@@ -44,6 +46,7 @@ abbrev pub covers : Bool → Change Paint → Bool
 covers means (Fill w paint) = true
 covers means (Mosaic w wide high) = true
 covers means (Mean w wide high bytes) = not means
+covers means (Blur w across down bytes) = false
 covers means (Move w left top) = false
 covers means (Flip axes) = false
 
@@ -51,3 +54,7 @@ covers means (Flip axes) = false
 unfoldable pub covers_late : Bool → List Edit → Bool
 covers_late means [] = false
 covers_late means (s ∷ ss) = if spreads means s.change then list_any (λ t. covers means t.change) ss else covers_late means ss
+
+-- a change is a blur
+abbrev pub has_blur : List Edit → Bool
+has_blur steps = list_any (λ s. is_blur s.change) steps

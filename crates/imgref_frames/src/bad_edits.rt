@@ -57,6 +57,12 @@ fn form_of(word: &[u8]) -> Option<Form> {
             sample: b"1,1",
         },
         Form {
+            word: b"blur",
+            numbers: RECTANGLE,
+            last: "a radius R from 0 to 32767",
+            sample: b"0",
+        },
+        Form {
             word: b"move",
             numbers: RECTANGLE,
             last: "a place X,Y",
@@ -151,7 +157,7 @@ fn say_no_change(rt: &HostRuntime, words: &[&[u8]], has_range: bool) {
         Some(form) => say_bad_form(rt, form, others, has_range),
         None => {
             let _ = eprintln!(rt;
-                "{} isn't one of cover, fill, mosaic, means, move, flip, turn, crop and pad",
+                "{} isn't one of cover, fill, mosaic, means, blur, move, flip, turn, crop and pad",
                 shown(word)
             );
         }

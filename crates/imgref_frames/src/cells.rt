@@ -5,13 +5,14 @@ ghost use Rattle.std.specs.Io.KnownBytes.{Appends, Consumes, IsAtEnd};
 ghost use Rattle.devices.specs.Device.{device_of, failures_of, errors};
 ghost use Rattle.devices.specs.Whole.{AppendsBeginning};
 ghost use Rattle.frame_formats.specs.Planned.{recipe_of, plan_room, plan_other_room};
+ghost use Rattle.image_planes.specs.Scratch.{HasRoom, KeepsRoom};
 ghost use Rattle.imgref_frames.specs.Fault.{reader_failures, writer_failures};
 ghost use Rattle.imgref_frames.specs.Passing.{PassesCells};
 ghost use Rattle.imgref_frames.specs.Video.{with_head};
 
 use crate::fault::RunFault;
 use devices::{Counted, ReadFailed, WriteFailed, fill_front, lengthen, write_all};
-use frame_formats::Plan;
+use frame_formats::{Plan, Scratch};
 use std::io::{Read, Write};
 
 // Writes a head, and cells after it.
@@ -41,9 +42,11 @@ fn write_edited<W: Write>(
     head: &[u8],
     cells: &mut [u8],
     other: &mut [u8],
+    scratch: &mut Scratch,
 ) -> Result<(), WriteFailed>
     requires room { plan_room plan.now ≤ length cells.old }
     requires other_room { plan_other_room plan.now ≤ length other.old }
+    requires scratch { HasRoom (recipe_of plan.now).jobs scratch.old }
     requires counts { failures_of writer.old < u64.MAX }
     ensures whole { OnOk result
         (Appends (W.contents (device_of writer.old)) (W.contents (device_of writer.new)) (head.now
@@ -51,9 +54,10 @@ fn write_edited<W: Write>(
     ensures beginning { OnErr result (AppendsBeginning
         (W.contents (device_of writer.old)) (W.contents (device_of writer.new)) (head.now
         ++ (recipe_of plan.now).frame number (take (recipe_of plan.now).size cells.old))) }
+    ensures same_scratch { KeepsRoom scratch.old scratch.new }
     ensures count { failures_of writer.new ≡ failures_of writer.old + errors result }
 {
-    let made = plan.edit(number, cells, other);
+    let made = plan.edit(number, cells, other, scratch);
     write_piece(writer, head, made)
 }
 
@@ -98,9 +102,11 @@ pub(crate) fn pass_cells<R: Read, W: Write>(
     head: &[u8],
     cells: &mut Vec<u8>,
     other: &mut Vec<u8>,
+    scratch: &mut Scratch,
 ) -> Result<(), RunFault>
     requires room { plan_room plan.now ≤ vec_capacity cells.old }
     requires other_room { plan_other_room plan.now ≤ vec_capacity other.old }
+    requires scratch { HasRoom (recipe_of plan.now).jobs scratch.old }
     requires reader_counts { failures_of reader.old < u64.MAX }
     requires writer_counts { failures_of writer.old < u64.MAX }
     ensures passes { PassesCells result (with_head head.now (recipe_of plan.now))
@@ -108,6 +114,7 @@ pub(crate) fn pass_cells<R: Read, W: Write>(
         (W.contents (device_of writer.old)) (W.contents (device_of writer.new)) }
     ensures same_room { vec_capacity cells.old ≤ vec_capacity cells.new }
     ensures same_other_room { vec_capacity other.old ≤ vec_capacity other.new }
+    ensures same_scratch { KeepsRoom scratch.old scratch.new }
     ensures reader_count { failures_of reader.new
         ≡ failures_of reader.old + reader_failures result }
     ensures writer_count { failures_of writer.new
@@ -117,5 +124,5 @@ pub(crate) fn pass_cells<R: Read, W: Write>(
     if count < plan.room() {
         return Err(RunFault::Frame(number));
     }
-    Ok(write_edited(writer, plan, number, head, cells, other)?)
+    Ok(write_edited(writer, plan, number, head, cells, other, scratch)?)
 }

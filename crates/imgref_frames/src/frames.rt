@@ -3,13 +3,14 @@
 ghost use Rattle.std.specs.Prelude.{◌≡◌, ◌+◌, ◌≤◌, ◌<◌, length, vec_capacity};
 ghost use Rattle.devices.specs.Device.{device_of, failures_of};
 ghost use Rattle.frame_formats.specs.Planned.{recipe_of, plan_room, plan_other_room};
+ghost use Rattle.image_planes.specs.Scratch.{HasRoom};
 ghost use Rattle.imgref_frames.specs.Fault.{reader_failures, writer_failures};
 ghost use Rattle.imgref_frames.specs.Passing.{WordIs, LineIs, PassesFrames};
 
 use crate::cells::pass_cells;
 use crate::fault::RunFault;
 use devices::{Counted, LineFault, fill, read_line};
-use frame_formats::Plan;
+use frame_formats::{Plan, Scratch};
 use std::io::{Read, Write};
 
 /// What was found in place of a frame's line.
@@ -91,10 +92,12 @@ pub(crate) fn pass_frames<R: Read, W: Write>(
     line: &mut [u8],
     cells: &mut Vec<u8>,
     other: &mut Vec<u8>,
+    scratch: &mut Scratch,
 ) -> Result<u64, RunFault>
     requires room { length line.old ≡ 256 }
     requires cells_room { plan_room plan.now ≤ vec_capacity cells.old }
     requires other_room { plan_other_room plan.now ≤ vec_capacity other.old }
+    requires scratch { HasRoom (recipe_of plan.now).jobs scratch.old }
     requires reader_counts { failures_of reader.old < u64.MAX }
     requires writer_counts { failures_of writer.old < u64.MAX }
     ensures passes { PassesFrames result (recipe_of plan.now)
@@ -111,7 +114,8 @@ pub(crate) fn pass_frames<R: Read, W: Write>(
             Found::End => return Ok(number),
             Found::Other => return Err(RunFault::Frame(number)),
         };
-        pass_cells(reader, writer, plan, number, &line[..len], cells, other)?;
+        let head = &line[..len];
+        pass_cells(reader, writer, plan, number, head, cells, other, scratch)?;
     }
     Err(RunFault::Frame(u64::MAX))
 }

@@ -25,7 +25,9 @@ use devices::Retried;
 pub use fault::RunFault;
 use files::{Sink, Source, create_beside, read_whole, target_of};
 use frame_formats::Edits;
-pub use frame_formats::{Axes, Change, Edit, Format, Framing, Paint, Picture, Range, Rate, Window};
+pub use frame_formats::{
+    Axes, Change, Edit, Format, Framing, Paint, Picture, Range, Rate, Scratch, Window,
+};
 use options::{Options, read_options};
 use places::Texts;
 pub use program::run;
@@ -50,6 +52,8 @@ EDIT is one of these. The edits are applied to each frame or picture, in their o
        [A..B] fill L,T,W,H R,G,B      a colour, only for pictures in colour
        [A..B] mosaic L,T,W,H TW,TH    tiles of TW by TH pixels
        [A..B] means L,T,W,H TW,TH     the same, each of the mean of its pixels
+       [A..B] blur L,T,W,H R          each pixel is the mean of those up to R around it;
+                                      it hides nothing
        [A..B] move L,T,W,H X,Y        to column X, row Y
        [A..B] flip rows|columns       the whole frame upside down, or mirrored
        [A..B] turn half               the whole frame by a half turn
@@ -324,8 +328,11 @@ fn carry(
     }
     if words::covers_late(true, &edits.steps) {
         let _ = eprintln!(rt;
-            "note: means come before a fill or a mosaic, and may show something of what that hides"
+            "note: means or a blur come before a fill or a mosaic, and may show something of what that hides"
         );
+    }
+    if words::has_blur(&edits.steps) {
+        let _ = eprintln!(rt; "note: a blur hides nothing: cover what has to stay secret first");
     }
     let call = Call {
         rt,

@@ -2,7 +2,9 @@
 
 ghost use Rattle.std.specs.Prelude.{◌≡◌, ◌≢◌, ◌+◌, ◌≤◌, ◌<◌, max, vec_capacity, None, true, false, IfOk, IfErr, IfSome, OnOk, OnErr};
 ghost use Rattle.devices.specs.Device.{device_of, failures_of};
+ghost use Rattle.frame_formats.specs.Planned.{recipe_of};
 ghost use Rattle.frame_formats.specs.Recipe.{picture_recipe};
+ghost use Rattle.image_planes.specs.Scratch.{scratch_len};
 ghost use Rattle.imgref_frames.specs.Fault.{reader_failures, writer_failures};
 ghost use Rattle.imgref_frames.specs.Kept.{IsKept, kept_picture, picture_in, HasNoPlan, NeedsMemory, PictureStops, PicturesStop};
 ghost use Rattle.imgref_frames.specs.Passing.{PassesPicture, PassesPictures};
@@ -13,7 +15,7 @@ use crate::cells::pass_cells;
 use crate::fault::{RunFault, fault_of_plan};
 use crate::request::{Request, Seen, Shape, is_over};
 use devices::{Counted, read_byte};
-use frame_formats::{Picture, Plan, Scan, heads_end_themselves};
+use frame_formats::{Picture, Plan, Scan, Scratch, heads_end_themselves};
 use std::alloc::{AllocError, Global};
 use std::io::{Read, Write};
 
@@ -21,11 +23,13 @@ use std::io::{Read, Write};
 // long.
 const LONGEST: usize = 65536;
 
-/// The plan for a picture, which is also that for each of the same size and kind.
+/// The plan for a picture, which is also that for each of the same size and kind, and the room for
+/// its blurs.
 #[derive(Drop)]
 pub(crate) struct Kept {
     picture: Picture,
     plan: Plan,
+    scratch: Scratch,
 }
 
 // Reads the rest of a head, whose first letter was read. Returns `None` where it isn't a head of at
@@ -106,8 +110,8 @@ fn make_plan(
     ensures picture { IfOk result (λ k. k.picture ≡ picture) }
     ensures kept { IfOk result
         (IsKept (edits_of request.entry) (vec_capacity cells.new) (vec_capacity other.new)) }
-    ensures limit { OnOk result
-        (vec_capacity cells.new + vec_capacity other.new ≤ request.entry.limit) }
+    ensures limit { IfOk result (λ k. vec_capacity cells.new + vec_capacity other.new
+        + scratch_len (recipe_of k.plan).jobs ≤ request.entry.limit) }
     ensures fault { IfErr result
         (HasNoPlan (picture_recipe (edits_of request.entry) picture ≡ None) number) }
 {
@@ -119,15 +123,26 @@ fn make_plan(
     if is_over(request.limit, &plan) {
         return Err(RunFault::Memory(number));
     }
+    let Some(bytes) = plan.scratch_len() else {
+        return Err(RunFault::Memory(number));
+    };
+    let left = request.limit - bytes;
     let (room, other_room) = (plan.room(), plan.other_room());
-    if make_room(alloc, request.limit, cells, room, other, other_room).is_err() {
+    if make_room(alloc, left, cells, room, other, other_room).is_err() {
         return Err(RunFault::Memory(number));
     }
-    Ok(Kept { picture, plan })
+    let Ok(scratch) = plan.scratch(alloc) else {
+        return Err(RunFault::Memory(number));
+    };
+    Ok(Kept {
+        picture,
+        plan,
+        scratch,
+    })
 }
 
 // The plan for the picture of this number: that of the picture before it where both have the same
-// size and kind, and else a new one.
+// size and kind, and else a new one. Then the room of the one before is given back first.
 fn plan_for(
     request: Request<'_>,
     number: u64,
@@ -145,16 +160,12 @@ fn plan_for(
         (HasNoPlan (picture_recipe (edits_of request.entry) picture ≡ None) number) }
     ensures stops { IfErr result (NeedsMemory (kept_picture kept) picture) }
 {
-    match kept {
-        Some(before) => {
-            if is_same(before.picture, picture) {
-                Ok(before)
-            } else {
-                make_plan(request, number, picture, cells, other)
-            }
+    if let Some(before) = kept {
+        if is_same(before.picture, picture) {
+            return Ok(before);
         }
-        None => make_plan(request, number, picture, cells, other),
     }
+    make_plan(request, number, picture, cells, other)
 }
 
 // Passes on the picture of this number, the first letter of whose head was read. The plan of the
@@ -195,9 +206,10 @@ fn pass_picture<R: Read, W: Write>(
         return Err(RunFault::Frame(number));
     };
     seen.see(number, Shape::Picture(picture), request.steps);
-    let made = plan_for(request, number, kept, picture, cells, other)?;
-    let head = made.plan.head();
-    pass_cells(reader, writer, &made.plan, number, head, cells, other)?;
+    let mut made = plan_for(request, number, kept, picture, cells, other)?;
+    let (plan, scratch) = (&made.plan, &mut made.scratch);
+    let head = plan.head();
+    pass_cells(reader, writer, plan, number, head, cells, other, scratch)?;
     Ok(made)
 }
 

@@ -64,6 +64,9 @@ fn run_video<R: Read, W: Write>(
     let Ok(mut other) = Vec::with_capacity(alloc, plan.other_room()) else {
         return Err(RunFault::Memory(0));
     };
+    let Ok(mut scratch) = plan.scratch(alloc) else {
+        return Err(RunFault::Memory(0));
+    };
     if write_all(writer, plan.head()).is_err() {
         return Err(RunFault::Output);
     }
@@ -75,6 +78,7 @@ fn run_video<R: Read, W: Write>(
         &mut frame_line,
         &mut cells,
         &mut other,
+        &mut scratch,
     )
 }
 

@@ -168,6 +168,7 @@ fn check_change(frame: Frame, change: Change<Paint>) -> Option<Wrong> {
             let high = check_corner("tile height", tile_height, frame.down);
             check_window(frame, window).or(wide).or(high)
         }
+        Change::Blur { window, .. } => check_window(frame, window),
         Change::Move { window, left, top } => {
             let goal = Window::new(left, top, window.width, window.height);
             check_window(frame, window).or(check_window(frame, goal))

@@ -1,7 +1,9 @@
 //! The request for a run, and what was found of its input.
 
 ghost use Rattle.std.specs.Prelude.{◌≡◌, ◌+◌, ◌≤◌, ℕ, None, IfSome, false};
-ghost use Rattle.frame_formats.specs.Planned.{plan_room, plan_other_room};
+ghost use Rattle.frame_formats.specs.Planned.{recipe_of, plan_room, plan_other_room};
+ghost use Rattle.image_planes.specs.Changes.{as_usize};
+ghost use Rattle.image_planes.specs.Scratch.{scratch_len};
 
 use frame_formats::{
     Change, Edit, Format, Framing, Paint, Picture, Plan, Rate, picture_covers_nothing,
@@ -141,11 +143,21 @@ impl Seen {
     }
 }
 
+// How many bytes the buffers for a plan have, and its room for blurs.
+fn bytes_for(plan: &Plan) -> Option<usize>
+    ensures { result ≡ as_usize (plan_room plan.now + plan_other_room plan.now
+        + scratch_len (recipe_of plan.now).jobs) }
+{
+    let buffers = plan.room().checked_add(plan.other_room())?;
+    buffers.checked_add(plan.scratch_len()?)
+}
+
 /// Whether the buffers for a plan have more bytes than allowed.
 pub(crate) fn is_over(limit: usize, plan: &Plan) -> bool
-    ensures { result ≡ false → plan_room plan.now + plan_other_room plan.now ≤ limit }
+    ensures { result ≡ false → plan_room plan.now + plan_other_room plan.now
+        + scratch_len (recipe_of plan.now).jobs ≤ limit }
 {
-    match plan.room().checked_add(plan.other_room()) {
+    match bytes_for(plan) {
         Some(bytes) => bytes > limit,
         None => true,
     }

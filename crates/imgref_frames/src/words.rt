@@ -4,7 +4,7 @@
 ghost use Rattle.std.specs.Prelude.{◌≡◌, IsTrue, All, IfOk, OnOk, Some, None, map, []};
 ghost use Rattle.frame_formats.specs.Edits.{edits};
 ghost use Rattle.frame_formats.specs.Lists.{with_lines, plain};
-ghost use Rattle.imgref_frames.specs.Words.{AreWords, AreUsable, has_span, spreads, covers, covers_late};
+ghost use Rattle.imgref_frames.specs.Words.{AreWords, AreUsable, has_blur, has_span, spreads, covers, covers_late};
 ghost use Rattle.text_model.specs.Parts.{parts_of};
 
 use frame_formats::{Change, Edit, Edits, Paint, Range, WordsFault};
@@ -150,13 +150,22 @@ pub(crate) fn edits_of_lines(alloc: Global, text: &[u8]) -> Result<Edits, Refusa
     }
 }
 
-// Whether a change carries pixels away, or with `means` shows something of its whole tiles.
+/// Whether a step is a blur, which hides nothing.
+pub(crate) fn has_blur(steps: &[Edit]) -> bool
+    ensures { result ≡ has_blur steps.now }
+{
+    steps
+        .iter()
+        .any(|step| matches!(step.change, Change::Blur { .. }))
+}
+
+// Whether a change carries pixels away, or with `means` shows something of its whole tiles or boxes.
 fn spreads(means: bool, change: Change<Paint>) -> bool
     ensures { result ≡ spreads means change }
 {
     match change {
         Change::Move { .. } => !means,
-        Change::Mean { .. } => means,
+        Change::Mean { .. } | Change::Blur { .. } => means,
         Change::Fill { .. } | Change::Mosaic { .. } | Change::Flip(_) => false,
     }
 }
@@ -166,13 +175,13 @@ fn covers(means: bool, change: Change<Paint>) -> bool
 {
     match change {
         Change::Mean { .. } => !means,
-        Change::Move { .. } | Change::Flip(_) => false,
+        Change::Blur { .. } | Change::Move { .. } | Change::Flip(_) => false,
         Change::Fill { .. } | Change::Mosaic { .. } => true,
     }
 }
 
 /// Whether a fill or a mosaic comes after a move, which may have carried away what they would hide.
-/// With `means` it is after a mosaic of means, which may show something of it.
+/// With `means` it is after a mosaic of means or a blur, which may show something of it.
 pub(crate) fn covers_late(means: bool, steps: &[Edit]) -> bool
     ensures { result ≡ covers_late means steps.now }
 {

@@ -33,6 +33,7 @@ loop-number-preserved g c = record {
   passed = frame_passed (recipe_of c.args.plan.now) c.loop-number.number c.in-Frame.len (omega arith) c.read_frame_line.new.line _ _ _ _ _ _ _ c.loop-number.invariant.passed (rw c.in-Frame.is at c.in_ok-len.ensures.found) tt c.in_ok-pass_cells.ensures.passes;
   cells = grind (arith, common_steps);
   other = grind (arith, common_steps);
+  scratch = c.in_ok-pass_cells.ensures.same_scratch (recipe_of c.args.plan.now).jobs c.loop-number.invariant.scratch;
   read = grind (arith, common_steps);
   written = grind (arith, common_steps);
 }

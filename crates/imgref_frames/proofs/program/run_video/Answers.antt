@@ -21,7 +21,7 @@ pub returns-in-Err-clause-follows : goal.returns-in-Err-clause-follows
 returns-in-Err-clause-follows g c input read = subst (λ (e : RunFault). Writes (Err e) (edits_of c.args.request) input (g.W.Write.contents (device_of c.args.writer.now)) (g.W.Write.contents (device_of c.args.writer.now))) (sym c.fault_of_plan.ensures)
     (not_planned c.in-Err.fault (edits_of c.args.request) c.args.line.now c.in-Some.format (g.R.Read.remaining (device_of c.args.reader.now)) (g.W.Write.contents (device_of c.args.writer.now)) c.requires.one_line c.requires.short c.requires.kind (sym c.in-Some.ensures) c.in-Err.ensures.fault input read)
 
--- more bytes than the limit, no memory for a frame, and none for one of another size
+-- more bytes than the limit, no memory for a frame, none for one of another size, and none for blurs
 pub returns-then-is_over-clause-follows : goal.returns-then-is_over-clause-follows
 returns-then-is_over-clause-follows g c input read =
     not_planned NoMemory (edits_of c.args.request) c.args.line.now c.in-Some.format (g.R.Read.remaining (device_of c.args.reader.now)) (g.W.Write.contents (device_of c.args.writer.now)) c.requires.one_line c.requires.short c.requires.kind (sym c.in-Some.ensures) tt input read
@@ -32,6 +32,10 @@ returns-in_default-with_capacity-clause-follows g c input read =
 
 pub returns-in_default-with_capacity-2-clause-follows : goal.returns-in_default-with_capacity-2-clause-follows
 returns-in_default-with_capacity-2-clause-follows g c input read =
+    not_planned NoMemory (edits_of c.args.request) c.args.line.now c.in-Some.format (g.R.Read.remaining (device_of c.args.reader.now)) (g.W.Write.contents (device_of c.args.writer.now)) c.requires.one_line c.requires.short c.requires.kind (sym c.in-Some.ensures) tt input read
+
+pub returns-in_default-scratch-clause-follows : goal.returns-in_default-scratch-clause-follows
+returns-in_default-scratch-clause-follows g c input read =
     not_planned NoMemory (edits_of c.args.request) c.args.line.now c.in-Some.format (g.R.Read.remaining (device_of c.args.reader.now)) (g.W.Write.contents (device_of c.args.writer.now)) c.requires.one_line c.requires.short c.requires.kind (sym c.in-Some.ensures) tt input read
 
 pub returns-then-is_err-clause-follows : goal.returns-then-is_err-clause-follows
