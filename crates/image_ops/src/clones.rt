@@ -7,11 +7,11 @@ ghost use Rattle.image_model.specs.Rows.{joined_rows};
 ghost use Rattle.image_shape.specs.Shape.{shape_width, shape_height, shape_stride, shaped};
 ghost use Rattle.image_ops.specs.Clones.{ClonesEqual};
 
+use crate::appending::push_clones;
 use image_rows::row;
 use image_shape::Shape;
 use std::alloc::{AllocError, Global};
 use std::borrow::CowSlice;
-use std::vec::VecCloneMethods;
 
 /// Clones of the cells in a buffer of their own, whose memory is allocated at once. Where there is
 /// no cell, nothing is allocated.
@@ -24,7 +24,7 @@ pub fn cloned<T: Clone>(alloc: Global, cells: &[T]) -> Result<Vec<T>, AllocError
     if cells.is_empty() {
         return Ok(buf);
     }
-    buf.extend_from_slice(cells)?;
+    push_clones(&mut buf, cells)?;
     Ok(buf)
 }
 
@@ -42,7 +42,7 @@ pub fn joined_clones<T: Clone>(
 {
     let mut pixels: Vec<T> = Vec::with_capacity(alloc, shape.pixel_count())?;
     for y in 0..shape.row_count() {
-        pixels.extend_from_slice(row(cells, shape, y))?;
+        push_clones(&mut pixels, row(cells, shape, y))?;
     }
     Ok(pixels)
 }
