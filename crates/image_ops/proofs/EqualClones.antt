@@ -84,7 +84,3 @@ module _ {T : Type 0} (is_clone : T → T → Type 0) where
     clones_more n old new cells e h a =
         rw (joined_upto_more l n, a.1)
         (all_clones (joined_upto l n) old (row l n) a.0 h (subst (λ us. AllZip is_clone us a.0) e a.2))
-
-    -- the clones of all rows are the joined rows
-    pub all_rows_cloned : (pixels : List T) → ClonesEqual is_clone (joined_rows l) → AreClonesUpto (row_count l.width l.height) pixels → pixels ≡ joined_rows l
-    all_rows_cloned pixels e h = equal_clones (joined_rows l) pixels e h

@@ -3,10 +3,10 @@
 //! All clones of a block are made before the first is appended. So where `clone` is a copy, the
 //! compiler sees that no cell changes in between, and copies a block by vectors.
 
-ghost use Rattle.std.specs.Prelude.{◌≡◌, ◌+◌, ◌<◌, ◌≤◌, ◌++◌, IfOk, OnOk, length};
+ghost use Rattle.std.specs.Prelude.{◌≡◌, ◌+◌, ◌*◌, ◌/◌, ◌<◌, ◌≤◌, ◌++◌, IfOk, OnOk, length};
 ghost use Rattle.std.specs.List.{AllZip};
 ghost use Rattle.std.specs.Vec.{vec_len, vec_capacity};
-ghost use Rattle.image_ops.specs.Clones.{GetsClones};
+ghost use Rattle.image_ops.specs.Clones.{AreWhole, GetsClones};
 
 use std::alloc::AllocError;
 use std::mem::size_of_val;
@@ -57,20 +57,32 @@ fn push_sixteen<T: Clone>(buf: &mut Vec<T>, cells: &[T]) -> Result<(), AllocErro
     Ok(())
 }
 
-// Appends the clones of any cells one by one.
+// Appends the clones of fewer than four cells.
 #[inline(always)]
-fn push_each<T: Clone>(buf: &mut Vec<T>, cells: &[T]) -> Result<(), AllocError>
+fn push_below_four<T: Clone>(buf: &mut Vec<T>, cells: &[T]) -> Result<(), AllocError>
+    requires few { length cells.now < 4 }
     requires room { vec_len buf.old + length cells.now ≤ vec_capacity buf.old }
     ensures { OnOk result (GetsClones T.is_clone buf.old buf.new cells.now) }
 {
-    for x in 0..cells.len() {
-        let clone = cells[x].clone()?;
-        buf.push_reserved(clone);
+    if cells.is_empty() {
+        return Ok(());
     }
+    let first = cells[0].clone()?;
+    buf.push_reserved(first);
+    if cells.len() == 1 {
+        return Ok(());
+    }
+    let second = cells[1].clone()?;
+    buf.push_reserved(second);
+    if cells.len() == 2 {
+        return Ok(());
+    }
+    let third = cells[2].clone()?;
+    buf.push_reserved(third);
     Ok(())
 }
 
-// The same, by fours.
+// Appends the clones of any cells, by fours.
 #[inline(always)]
 fn push_fours<T: Clone>(buf: &mut Vec<T>, cells: &[T]) -> Result<(), AllocError>
     requires room { vec_len buf.old + length cells.now ≤ vec_capacity buf.old }
@@ -82,7 +94,7 @@ fn push_fours<T: Clone>(buf: &mut Vec<T>, cells: &[T]) -> Result<(), AllocError>
         push_four(buf, clones);
         done += 4;
     }
-    push_each(buf, &cells[done..])
+    push_below_four(buf, &cells[done..])
 }
 
 // The same, by sixteens.
@@ -102,35 +114,100 @@ fn push_sixteens<T: Clone>(buf: &mut Vec<T>, cells: &[T]) -> Result<(), AllocErr
     push_fours(buf, &cells[done..])
 }
 
-// The same, by four sixteens at once.
+// Appends the clones of cells whose number is a multiple of 16. So there is no rest.
 #[inline(always)]
-fn push_many<T: Clone>(buf: &mut Vec<T>, cells: &[T]) -> Result<(), AllocError>
+fn push_whole<T: Clone>(buf: &mut Vec<T>, cells: &[T]) -> Result<(), AllocError>
+    requires whole { length cells.now ≡ 16 * (length cells.now / 16) }
     requires room { vec_len buf.old + length cells.now ≤ vec_capacity buf.old }
     ensures { OnOk result (GetsClones T.is_clone buf.old buf.new cells.now) }
 {
     let mut done = 0;
-    while cells.len() - done >= 64 {
+    while done < cells.len() {
+        push_sixteen(buf, &cells[done..done + 16])?;
+        done += 16;
+    }
+    Ok(())
+}
+
+// The same of a multiple of 64, by four sixteens at once.
+#[inline(always)]
+fn push_many<T: Clone>(buf: &mut Vec<T>, cells: &[T]) -> Result<(), AllocError>
+    requires whole { length cells.now ≡ 64 * (length cells.now / 64) }
+    requires room { vec_len buf.old + length cells.now ≤ vec_capacity buf.old }
+    ensures { OnOk result (GetsClones T.is_clone buf.old buf.new cells.now) }
+{
+    let mut done = 0;
+    while done < cells.len() {
         push_sixteen(buf, &cells[done..done + 16])?;
         push_sixteen(buf, &cells[done + 16..done + 32])?;
         push_sixteen(buf, &cells[done + 32..done + 48])?;
         push_sixteen(buf, &cells[done + 48..done + 64])?;
         done += 64;
     }
-    if done == cells.len() {
-        return Ok(());
-    }
-    push_sixteens(buf, &cells[done..])
+    Ok(())
 }
 
-/// Appends the clones of cells. There is room for them. Cells of 1, 2, 4 and 8 bytes go by blocks.
+// How the clones of a row are appended: by blocks of so many cells, of which there is no rest; by
+// sixteens and what is left; by fours.
+const SIXTY_FOURS: usize = 64;
+
+const SIXTEENS: usize = 16;
+
+const ANY: usize = 0;
+
+const FOURS: usize = 4;
+
+/// Whether a cell has 1, 2, 4 or 8 bytes, and so goes by one register. There is a cell: so the compiler
+/// knows its size, and makes only the loops for it.
 #[inline(always)]
-pub(crate) fn push_clones<T: Clone>(buf: &mut Vec<T>, cells: &[T]) -> Result<(), AllocError>
+pub(crate) fn go_by_registers<T>(cells: &[T]) -> bool
+    requires some { 0 < length cells.now }
+{
+    let Some(cell) = cells.first() else {
+        unreachable!()
+    };
+    matches!(size_of_val(cell), 1 | 2 | 4 | 8)
+}
+
+/// How rows of so many of these cells are appended. Blocks of 64 are for bytes.
+#[inline(always)]
+pub(crate) fn blocks_to_clone<T>(cells: &[T], width: usize) -> usize
+    requires some { 0 < length cells.now }
+    ensures { AreWhole result width }
+{
+    let Some(cell) = cells.first() else {
+        unreachable!()
+    };
+    if width < 16 {
+        FOURS
+    } else if size_of_val(cell) == 1 && width % 64 == 0 {
+        SIXTY_FOURS
+    } else if width % 16 == 0 {
+        SIXTEENS
+    } else {
+        ANY
+    }
+}
+
+/// Appends the clones of cells. There is room for them.
+#[inline(always)]
+pub(crate) fn push_clones<T: Clone, const HOW: usize>(
+    buf: &mut Vec<T>,
+    cells: &[T],
+) -> Result<(), AllocError>
+    requires whole { AreWhole HOW (length cells.now) }
     requires room { vec_len buf.old + length cells.now ≤ vec_capacity buf.old }
     ensures { OnOk result (GetsClones T.is_clone buf.old buf.new cells.now) }
 {
-    match cells.first() {
-        Some(cell) if size_of_val(cell) == 1 => push_many(buf, cells),
-        Some(cell) if matches!(size_of_val(cell), 2 | 4 | 8) => push_sixteens(buf, cells),
-        _ => buf.extend_from_slice(cells),
+    if HOW == SIXTY_FOURS {
+        push_many(buf, cells)
+    } else if HOW == SIXTEENS {
+        push_whole(buf, cells)
+    } else if HOW == FOURS {
+        push_fours(buf, cells)
+    } else if HOW == ANY {
+        push_sixteens(buf, cells)
+    } else {
+        buf.extend_from_slice(cells)
     }
 }

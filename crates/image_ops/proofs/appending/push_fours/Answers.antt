@@ -17,4 +17,4 @@ loop-done-preserved g c =
     )
 
 pub returns : goal.returns
-returns g c = gets_rest_ok g.T.Clone.is_clone c.args.cells.now c.args.buf.now c.loop-done.buf c.loop-done.done c.loop-done.invariant.1 c.push_each.result c.push_each.new.buf c.loop-done.invariant.0 c.push_each.ensures
+returns g c = gets_rest_ok g.T.Clone.is_clone c.args.cells.now c.args.buf.now c.loop-done.buf c.loop-done.done c.loop-done.invariant.1 c.push_below_four.result c.push_below_four.new.buf c.loop-done.invariant.0 c.push_below_four.ensures

@@ -4,4 +4,4 @@ use Rattle.image_ops.proofs.clones.cloned.Goals as goal
 
 pub returns-clause-cells : goal.returns-clause-cells
 returns-clause-cells g c =
-    appended_to_none g.T.Clone.is_clone c.in_ok-buf.buf.items c.push_clones.new.buf.items c.args.cells.now c.in_ok-buf.ensures.items c.requires.clones_equal c.in_ok-push_clones.ensures.clones
+    appended_to_none g.T.Clone.is_clone c.in_ok-buf.buf.items c.extend_from_slice.new.self.items c.args.cells.now c.in_ok-buf.ensures.items c.requires.clones_equal c.in_ok-extend_from_slice.ensures.items
