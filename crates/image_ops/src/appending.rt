@@ -68,11 +68,12 @@ fn push_below_four<T: Clone>(buf: &mut Vec<T>, cells: &[T]) -> Result<(), AllocE
         return Ok(());
     }
     let first = cells[0].clone()?;
-    buf.push_reserved(first);
     if cells.len() == 1 {
+        buf.push_reserved(first);
         return Ok(());
     }
     let second = cells[1].clone()?;
+    buf.push_reserved(first);
     buf.push_reserved(second);
     if cells.len() == 2 {
         return Ok(());
