@@ -11,7 +11,7 @@ and_overlap true false r = refl
 and_overlap false q r = refl
 
 module _ {T : Type 0} (xs : List T) (m n : ℕ) (order : m ≤ n) (within : n ≤ length xs) where
-  front_parts : take n xs ≡ take m xs ++ take (n - m) (drop m xs)
+  pub front_parts : take n xs ≡ take m xs ++ take (n - m) (drop m xs)
   front_parts = same_lists _ _ (grind (arith, places)) (λ k d below. grind (arith, places))
 
   back_parts : take (length xs - m) (drop m xs) ≡ take (n - m) (drop m xs) ++ drop n xs

@@ -1,12 +1,15 @@
 //! Copies of cells, and of the rows without padding.
 
-ghost use Rattle.std.specs.Prelude.{◌≡◌, ◌*◌, ◌↔◌, IsOk, IfOk, length};
+ghost use Rattle.std.specs.Prelude.{◌≡◌, ◌*◌, ◌↔◌, ◌<◌, ◌≤◌, IsOk, IfOk, OnOk, length};
 ghost use Rattle.std.specs.Cow.{cow_slice_items, IsBorrowedSlice};
 ghost use Rattle.image_model.specs.Layout.{Fits};
 ghost use Rattle.image_model.specs.Rows.{joined_rows};
 ghost use Rattle.image_shape.specs.Shape.{shape_width, shape_height, shape_stride, shaped};
-ghost use Rattle.image_ops.specs.Clones.{ClonesEqual};
+ghost use Rattle.std.specs.List.{AllZip};
+ghost use Rattle.std.specs.Vec.{vec_len, vec_capacity};
+ghost use Rattle.image_ops.specs.Clones.{AreWhole, ClonesEqual};
 
+use crate::appending::{blocks_to_clone, go_by_registers, push_clones};
 use image_rows::row;
 use image_shape::Shape;
 use std::alloc::{AllocError, Global};
@@ -28,6 +31,49 @@ pub fn cloned<T: Clone>(alloc: Global, cells: &[T]) -> Result<Vec<T>, AllocError
     Ok(buf)
 }
 
+// Appends the clones of the rows to a buffer without cells, which has room for them.
+#[inline(always)]
+fn push_rows<T: Clone, const HOW: usize>(
+    pixels: &mut Vec<T>,
+    cells: &[T],
+    shape: Shape,
+) -> Result<(), AllocError>
+    requires fits { Fits (shaped cells.now shape) }
+    requires whole { AreWhole HOW (shape_width shape) }
+    requires none { vec_len pixels.old ≡ 0 }
+    requires room { shape_width shape * shape_height shape ≤ vec_capacity pixels.old }
+    ensures clones { OnOk result
+        (AllZip T.is_clone (joined_rows (shaped cells.now shape)) pixels.new.items) }
+    ensures succeeds { shape_width shape * shape_height shape ≡ 0 → IsOk result }
+{
+    for y in 0..shape.row_count() {
+        push_clones::<T, HOW>(pixels, row(cells, shape, y))?;
+    }
+    Ok(())
+}
+
+// The same by the rows' width, which is looked at once.
+#[inline(always)]
+fn push_by_width<T: Clone>(pixels: &mut Vec<T>, cells: &[T], shape: Shape) -> Result<(), AllocError>
+    requires fits { Fits (shaped cells.now shape) }
+    requires some { 0 < length cells.now }
+    requires none { vec_len pixels.old ≡ 0 }
+    requires room { shape_width shape * shape_height shape ≤ vec_capacity pixels.old }
+    ensures clones { OnOk result
+        (AllZip T.is_clone (joined_rows (shaped cells.now shape)) pixels.new.items) }
+    ensures succeeds { shape_width shape * shape_height shape ≡ 0 → IsOk result }
+{
+    if !go_by_registers(cells) {
+        return push_rows::<T, 1>(pixels, cells, shape);
+    }
+    match blocks_to_clone(cells, shape.width()) {
+        64 => push_rows::<T, 64>(pixels, cells, shape),
+        16 => push_rows::<T, 16>(pixels, cells, shape),
+        4 => push_rows::<T, 4>(pixels, cells, shape),
+        _ => push_rows::<T, 0>(pixels, cells, shape),
+    }
+}
+
 /// Clones of the rows, one after the other in a buffer of their own, whose memory is allocated at
 /// once. Where there is no pixel, nothing is allocated. The cells fit.
 pub fn joined_clones<T: Clone>(
@@ -41,9 +87,10 @@ pub fn joined_clones<T: Clone>(
     ensures succeeds { shape_width shape * shape_height shape ≡ 0 → IsOk result }
 {
     let mut pixels: Vec<T> = Vec::with_capacity(alloc, shape.pixel_count())?;
-    for y in 0..shape.row_count() {
-        pixels.extend_from_slice(row(cells, shape, y))?;
+    if shape.row_count() == 0 {
+        return Ok(pixels);
     }
+    push_by_width(&mut pixels, cells, shape)?;
     Ok(pixels)
 }
 

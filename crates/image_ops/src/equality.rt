@@ -94,6 +94,8 @@ fn are_equal_by_blocks<T: PartialEq>(
         (rows_of (shaped second.now second_shape)) }
 {
     match block_of_row(first, first_shape.width()) {
+        256 => have_equal_rows::<T, 256, true>(first, first_shape, second, second_shape),
+        128 => have_equal_rows::<T, 128, true>(first, first_shape, second, second_shape),
         64 => have_equal_rows::<T, 64, true>(first, first_shape, second, second_shape),
         32 => have_equal_rows::<T, 32, true>(first, first_shape, second, second_shape),
         16 => have_equal_rows::<T, 16, true>(first, first_shape, second, second_shape),

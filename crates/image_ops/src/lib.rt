@@ -6,6 +6,7 @@
 //! [`RowMover`](row_mover::RowMover) move pixels in place.
 #![tactic(auto)]
 
+mod appending;
 mod bands;
 mod block_pairs;
 mod blocks;

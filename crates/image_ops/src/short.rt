@@ -3,7 +3,7 @@
 //! Both parts have a length that the compiler knows. So a row goes by registers, and there is no
 //! call and no test in it. The length is chosen once for an image.
 
-ghost use Rattle.std.specs.Prelude.{◌≡◌, ◌*◌, ◌<◌, ◌≤◌, length};
+ghost use Rattle.std.specs.Prelude.{◌≡◌, ◌*◌, ◌<◌, ◌≤◌, length, IsTrue};
 ghost use Rattle.std.specs.Cmp.Lexicographic.{pointwise};
 
 use row_mover::{part_of_row, read_part, write_part};
@@ -24,20 +24,33 @@ pub(crate) fn part_to_copy<T>(cells: &[T], width: usize) -> usize
     part_of_row(cells, width, FEW_COPIED)
 }
 
-/// The same of rows that are compared, for cells of at most 16 bytes. Larger ones may hold pointers to much that is compared.
+/// The same of rows that are compared, for cells of at most 8 bytes. Larger ones may hold pointers to
+/// much that is compared, and few of them are compared faster one by one.
 #[inline(always)]
 pub(crate) fn part_to_compare<T>(cells: &[T], width: usize) -> usize
     ensures enough { result ≤ width }
     ensures few { 0 < result → width ≤ 2 * result }
 {
     match cells.first() {
-        Some(cell) if size_of_val(cell) <= 16 => part_of_row(cells, width, FEW_COMPARED),
+        Some(cell) if size_of_val(cell) <= 8 => part_of_row(cells, width, FEW_COMPARED),
         _ => 0,
     }
 }
 
-/// How many cells a block of a row of `width` cells has: 64 bytes of cells of at most 16 bytes. It
-/// is 0 in a shorter row, and for larger cells.
+// Whether a row can be cut into blocks of so many cells, of which the last one overlaps at most a
+// sixteenth of the row.
+#[inline(always)]
+fn has_blocks(width: usize, block: usize) -> bool
+    requires some { 0 < block }
+    ensures { IsTrue result → block ≤ width }
+{
+    let rest = width % block;
+    width >= block && (rest == 0 || block - rest <= width / 16)
+}
+
+/// How many cells a block of a row of `width` cells has, for cells of at most 16 bytes. It is 0 in a
+/// shorter row, and for larger cells. Each block ends with a test: so cells of 1, 2 and 4 bytes are
+/// compared by 256 or 128 bytes where such blocks fit the row, and others by 64 bytes.
 #[inline(always)]
 pub(crate) fn block_of_row<T>(cells: &[T], width: usize) -> usize
     ensures { result ≤ width }
@@ -45,15 +58,24 @@ pub(crate) fn block_of_row<T>(cells: &[T], width: usize) -> usize
     let Some(cell) = cells.first() else {
         return 0;
     };
-    let block = match size_of_val(cell) {
-        1 => 64,
-        2 => 32,
-        3 | 4 => 16,
-        5..=8 => 8,
-        9..=16 => 4,
-        _ => 0,
+    let (least, block) = match size_of_val(cell) {
+        1 => (64, 256),
+        2 => (32, 128),
+        3 => (16, 16),
+        4 => (16, 64),
+        5..=8 => (8, 8),
+        9..=16 => (12, 4),
+        _ => return 0,
     };
-    if width < block { 0 } else { block }
+    if width < least {
+        0
+    } else if block > least && has_blocks(width, block) {
+        block
+    } else if block > least && has_blocks(width, block / 2) {
+        block / 2
+    } else {
+        least.min(block)
+    }
 }
 
 /// Copies a row of `N` to `2 * N` cells, as the first and the last `N`.

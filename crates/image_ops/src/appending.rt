@@ -1,0 +1,214 @@
+//! Clones of cells, appended to a buffer that has room for them.
+//!
+//! All clones of a block are made before the first is appended. So where `clone` is a copy, the
+//! compiler sees that no cell changes in between, and copies a block by vectors.
+
+ghost use Rattle.std.specs.Prelude.{◌≡◌, ◌+◌, ◌*◌, ◌/◌, ◌<◌, ◌≤◌, ◌++◌, IfOk, OnOk, length};
+ghost use Rattle.std.specs.List.{AllZip};
+ghost use Rattle.std.specs.Vec.{vec_len, vec_capacity};
+ghost use Rattle.image_ops.specs.Clones.{AreWhole, GetsClones};
+
+use std::alloc::AllocError;
+use std::mem::size_of_val;
+use std::vec::VecCloneMethods;
+
+// The clones of four cells.
+#[inline(always)]
+fn four_clones<T: Clone>(cells: &[T]) -> Result<[T; 4], AllocError>
+    requires four { length cells.now ≡ 4 }
+    ensures { IfOk result (λ clones. AllZip T.is_clone cells.now clones) }
+{
+    let first = cells[0].clone()?;
+    let second = cells[1].clone()?;
+    let third = cells[2].clone()?;
+    let fourth = cells[3].clone()?;
+    Ok([first, second, third, fourth])
+}
+
+#[inline(always)]
+fn push_four<T>(buf: &mut Vec<T>, cells: [T; 4])
+    requires room { vec_len buf.old + 4 ≤ vec_capacity buf.old }
+    ensures capacity { vec_capacity buf.new ≡ vec_capacity buf.old }
+    ensures len { vec_len buf.new ≡ vec_len buf.old + 4 }
+    ensures items { buf.new.items ≡ buf.old.items ++ cells }
+{
+    let [first, second, third, fourth] = cells;
+    buf.push_reserved(first);
+    buf.push_reserved(second);
+    buf.push_reserved(third);
+    buf.push_reserved(fourth);
+}
+
+// Appends the clones of sixteen cells.
+#[inline(always)]
+fn push_sixteen<T: Clone>(buf: &mut Vec<T>, cells: &[T]) -> Result<(), AllocError>
+    requires sixteen { length cells.now ≡ 16 }
+    requires room { vec_len buf.old + 16 ≤ vec_capacity buf.old }
+    ensures { OnOk result (GetsClones T.is_clone buf.old buf.new cells.now) }
+{
+    let first = four_clones(&cells[..4])?;
+    let second = four_clones(&cells[4..8])?;
+    let third = four_clones(&cells[8..12])?;
+    let fourth = four_clones(&cells[12..])?;
+    push_four(buf, first);
+    push_four(buf, second);
+    push_four(buf, third);
+    push_four(buf, fourth);
+    Ok(())
+}
+
+// Appends the clones of fewer than four cells.
+#[inline(always)]
+fn push_below_four<T: Clone>(buf: &mut Vec<T>, cells: &[T]) -> Result<(), AllocError>
+    requires few { length cells.now < 4 }
+    requires room { vec_len buf.old + length cells.now ≤ vec_capacity buf.old }
+    ensures { OnOk result (GetsClones T.is_clone buf.old buf.new cells.now) }
+{
+    if cells.is_empty() {
+        return Ok(());
+    }
+    let first = cells[0].clone()?;
+    if cells.len() == 1 {
+        buf.push_reserved(first);
+        return Ok(());
+    }
+    let second = cells[1].clone()?;
+    buf.push_reserved(first);
+    buf.push_reserved(second);
+    if cells.len() == 2 {
+        return Ok(());
+    }
+    let third = cells[2].clone()?;
+    buf.push_reserved(third);
+    Ok(())
+}
+
+// Appends the clones of any cells, by fours.
+#[inline(always)]
+fn push_fours<T: Clone>(buf: &mut Vec<T>, cells: &[T]) -> Result<(), AllocError>
+    requires room { vec_len buf.old + length cells.now ≤ vec_capacity buf.old }
+    ensures { OnOk result (GetsClones T.is_clone buf.old buf.new cells.now) }
+{
+    let mut done = 0;
+    while cells.len() - done >= 4 {
+        let clones = four_clones(&cells[done..done + 4])?;
+        push_four(buf, clones);
+        done += 4;
+    }
+    push_below_four(buf, &cells[done..])
+}
+
+// The same, by sixteens.
+#[inline(always)]
+fn push_sixteens<T: Clone>(buf: &mut Vec<T>, cells: &[T]) -> Result<(), AllocError>
+    requires room { vec_len buf.old + length cells.now ≤ vec_capacity buf.old }
+    ensures { OnOk result (GetsClones T.is_clone buf.old buf.new cells.now) }
+{
+    let mut done = 0;
+    while cells.len() - done >= 16 {
+        push_sixteen(buf, &cells[done..done + 16])?;
+        done += 16;
+    }
+    if done == cells.len() {
+        return Ok(());
+    }
+    push_fours(buf, &cells[done..])
+}
+
+// Appends the clones of cells whose number is a multiple of 16. So there is no rest.
+#[inline(always)]
+fn push_whole<T: Clone>(buf: &mut Vec<T>, cells: &[T]) -> Result<(), AllocError>
+    requires whole { length cells.now ≡ 16 * (length cells.now / 16) }
+    requires room { vec_len buf.old + length cells.now ≤ vec_capacity buf.old }
+    ensures { OnOk result (GetsClones T.is_clone buf.old buf.new cells.now) }
+{
+    let mut done = 0;
+    while done < cells.len() {
+        push_sixteen(buf, &cells[done..done + 16])?;
+        done += 16;
+    }
+    Ok(())
+}
+
+// The same of a multiple of 64, by four sixteens at once.
+#[inline(always)]
+fn push_many<T: Clone>(buf: &mut Vec<T>, cells: &[T]) -> Result<(), AllocError>
+    requires whole { length cells.now ≡ 64 * (length cells.now / 64) }
+    requires room { vec_len buf.old + length cells.now ≤ vec_capacity buf.old }
+    ensures { OnOk result (GetsClones T.is_clone buf.old buf.new cells.now) }
+{
+    let mut done = 0;
+    while done < cells.len() {
+        push_sixteen(buf, &cells[done..done + 16])?;
+        push_sixteen(buf, &cells[done + 16..done + 32])?;
+        push_sixteen(buf, &cells[done + 32..done + 48])?;
+        push_sixteen(buf, &cells[done + 48..done + 64])?;
+        done += 64;
+    }
+    Ok(())
+}
+
+// How the clones of a row are appended: by blocks of so many cells, of which there is no rest; by
+// sixteens and what is left; by fours.
+const SIXTY_FOURS: usize = 64;
+
+const SIXTEENS: usize = 16;
+
+const ANY: usize = 0;
+
+const FOURS: usize = 4;
+
+/// Whether a cell has 1, 2, 4 or 8 bytes, and so goes by one register. There is a cell: so the compiler
+/// knows its size, and makes only the loops for it.
+#[inline(always)]
+pub(crate) fn go_by_registers<T>(cells: &[T]) -> bool
+    requires some { 0 < length cells.now }
+{
+    let Some(cell) = cells.first() else {
+        unreachable!()
+    };
+    matches!(size_of_val(cell), 1 | 2 | 4 | 8)
+}
+
+/// How rows of so many of these cells are appended. Blocks of 64 are for bytes.
+#[inline(always)]
+pub(crate) fn blocks_to_clone<T>(cells: &[T], width: usize) -> usize
+    requires some { 0 < length cells.now }
+    ensures { AreWhole result width }
+{
+    let Some(cell) = cells.first() else {
+        unreachable!()
+    };
+    if width < 16 {
+        FOURS
+    } else if size_of_val(cell) == 1 && width % 64 == 0 {
+        SIXTY_FOURS
+    } else if width % 16 == 0 {
+        SIXTEENS
+    } else {
+        ANY
+    }
+}
+
+/// Appends the clones of cells. There is room for them.
+#[inline(always)]
+pub(crate) fn push_clones<T: Clone, const HOW: usize>(
+    buf: &mut Vec<T>,
+    cells: &[T],
+) -> Result<(), AllocError>
+    requires whole { AreWhole HOW (length cells.now) }
+    requires room { vec_len buf.old + length cells.now ≤ vec_capacity buf.old }
+    ensures { OnOk result (GetsClones T.is_clone buf.old buf.new cells.now) }
+{
+    if HOW == SIXTY_FOURS {
+        push_many(buf, cells)
+    } else if HOW == SIXTEENS {
+        push_whole(buf, cells)
+    } else if HOW == FOURS {
+        push_fours(buf, cells)
+    } else if HOW == ANY {
+        push_sixteens(buf, cells)
+    } else {
+        buf.extend_from_slice(cells)
+    }
+}
