@@ -147,7 +147,8 @@ pub(crate) fn copied_columns(size: usize) -> usize {
 
 /// Every pixel of `shape` in `cells` becomes the pixel of the source whose columns are rows. Up to
 /// 24 KiB of its cells are copied at a time. Where there are more columns than `copied_columns` says,
-/// none are copied.
+/// none are copied. It isn't inlined, so that the loop over strips that need no copy stays small.
+#[inline(never)]
 pub(crate) fn quarter_copied<T: Copy>(
     cells: &mut [T],
     shape: Shape,
