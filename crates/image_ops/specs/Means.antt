@@ -1,8 +1,11 @@
 -- A grid of which each tile shows the mean of its pixels.
-use Rattle.std.specs.Prelude.{◌≡◌, ℕ, zero, suc, ◌+◌, ◌-◌, ◌*◌, ◌/◌, ◌%◌, ◌==◌, ◌<◌, ◌≤◌, ◌⊎◌, min, Bool, true, false, Some, List, length, slice_get}
+use Rattle.std.specs.Prelude.{◌≡◌, ℕ, zero, suc, ◌+◌, ◌-◌, ◌*◌, ◌/◌, ◌%◌, ◌^◌, ◌==◌, ◌<◌, ◌≤◌, ◌⊎◌, min, Bool, true, false, Some, List, length, slice_get}
 use Rattle.std.specs.Option.{option_map_or}
 use Rattle.image_model.specs.Grid.{Grid, grid}
+use Rattle.image_model.specs.Layout.{Fits}
 use Rattle.image_model.specs.Tiles.{tile_count, tile_start}
+use Rattle.image_shape.specs.Shape.{shape_width, shaped}
+use Rattle.image_shape.specs.declared.shape.Shape.{Shape}
 use Rattle.image_ops.specs.Mosaic.{shown_column}
 use Rattle.image_ops.specs.declared.means.SampleBytes.{SampleBytes}
 use Rattle.image_ops.specs.declared.means.SampleBytes.TheVariants.{One, LowFirst, HighFirst}
@@ -74,6 +77,20 @@ abbrev pub AreBytes : SampleBytes → ℕ → Type 0
 AreBytes One greatest = Unit {0}
 AreBytes LowFirst greatest = greatest ≡ 255
 AreBytes HighFirst greatest = greatest ≡ 255
+
+-- a pixel of so many cells has whole samples, whose bytes can be cells with numbers up to the greatest
+pub record HasSamples (bytes : SampleBytes) (greatest size : ℕ) : Type 0 where
+  pub kind : AreBytes bytes greatest
+  pub some : 0 < size
+  pub whole : size % sample_cells bytes ≡ 0
+
+-- fewer than 2^63 cells fit a shape, whose rows have whole samples, and a tile has columns and rows
+pub record AreTiled {T : Type 0} (bytes : SampleBytes) (cells : List T) (s : Shape) (tile_width tile_height : ℕ) : Type 0 where
+  pub fits : Fits (shaped cells s)
+  pub room : length cells < 2 ^ 63
+  pub whole : shape_width s % sample_cells bytes ≡ 0
+  pub wide : 0 < tile_width
+  pub high : 0 < tile_height
 
 -- the number of the sample that begins at a column and a line
 abbrev pub sample_at : {T : Type 0} → SampleBytes → (T → ℕ) → Grid T → ℕ → ℕ → ℕ

@@ -11,47 +11,14 @@ ghost use Rattle.image_ops.specs.Quarters.{quartered};
 ghost use Rattle.image_ops.specs.Written.{AreCrosswise, Becomes};
 
 use crate::blocks::read_rows;
-use crate::turning::{
-    Quarter, blocks_pay, first_column, quarter_blocks, quarter_rows, quarter_strip,
-};
+use crate::turning::{Quarter, blocks_pay, first_column, quarter_blocks, quarter_rows};
 use crate::windows::{exact_part, padded_part};
 use image_shape::{Shape, Window};
 use std::mem::size_of_val;
 
-// The 16 rows from row `line` on become those that the source shows there. They are put together in
-// `lines` first, and written as whole rows: so their own stride doesn't matter either.
-#[inline(always)]
-fn quarter_line<T: Copy>(
-    cells: &mut [T],
-    shape: Shape,
-    line: usize,
-    source: &[T],
-    source_shape: Shape,
-    quarter: Quarter,
-    lines: &mut [T],
-)
-    requires sizes { AreCrosswise cells.old shape source.now source_shape }
-    requires wide { 16 ≤ shape_width shape }
-    requires there { line + 16 ≤ shape_height shape }
-    requires narrow { shape_width shape ≤ shape_stride source_shape }
-    requires room { 16 * shape_stride source_shape ≤ length lines.old }
-    ensures becomes { Becomes shape cells.old cells.new (patch (shaped_grid cells.old shape) 0 line
-        (view (quartered quarter (shaped_grid source.now source_shape)) 0 line
-        (shape_width shape) 16)) }
-    ensures as_many { length lines.new ≡ length lines.old }
-{
-    let column = first_column(quarter, source_shape.width(), line, 16);
-    let place = Window::new(column, 0, 16, source_shape.height());
-    let (seen, seen_shape) = padded_part(source, source_shape, place);
-    let band = Shape::new(shape.width(), 16, source_shape.stride());
-    quarter_blocks(lines, band, seen, seen_shape, quarter);
-    let place = Window::new(0, line, shape.width(), 16);
-    let (part, inner) = exact_part(cells.len(), shape, place);
-    read_rows(&mut cells[part], inner, lines, band, false);
-}
-
 // Every pixel of `shape` in `cells` becomes the pixel of the source whose columns are rows, 16 rows at
-// a time. Where the last ones would be cut off, they begin earlier.
+// a time. They are put together in `lines` first, and written as whole rows: so their own stride
+// doesn't matter either. Where the last ones would be cut off, they begin earlier.
 #[inline(always)]
 fn quarter_lines<T: Copy>(
     cells: &mut [T],
@@ -70,35 +37,20 @@ fn quarter_lines<T: Copy>(
         (quartered quarter (shaped_grid source.now source_shape)) }
     ensures as_many { length lines.new ≡ length lines.old }
 {
-    let height = shape.height();
+    let (width, height) = (shape.width(), shape.height());
+    let (columns, rows) = (source_shape.width(), source_shape.height());
+    let band = Shape::new(width, 16, source_shape.stride());
     let mut top = 0;
     while top < height {
         let line = top.min(height - 16);
-        quarter_line(cells, shape, line, source, source_shape, quarter, lines);
+        let column = first_column(quarter, columns, line, 16);
+        let place = Window::new(column, 0, 16, rows);
+        let (seen, seen_shape) = padded_part(source, source_shape, place);
+        quarter_blocks(lines, band, seen, seen_shape, quarter);
+        let shown = Window::new(0, line, width, 16);
+        let (part, inner) = exact_part(cells.len(), shape, shown);
+        read_rows(&mut cells[part], inner, lines, band, false);
         top += 16;
-    }
-}
-
-// Every pixel of `shape` in `cells` becomes the pixel of the copied source whose columns are rows.
-#[inline(always)]
-fn quarter_copy<T: Copy>(
-    cells: &mut [T],
-    shape: Shape,
-    source: &[T],
-    source_shape: Shape,
-    quarter: Quarter,
-    lines: &mut [T],
-)
-    requires sizes { AreCrosswise cells.old shape source.now source_shape }
-    requires narrow { shape_width shape ≤ shape_stride source_shape }
-    ensures becomes { Becomes shape cells.old cells.new
-        (quartered quarter (shaped_grid source.now source_shape)) }
-    ensures as_many { length lines.new ≡ length lines.old }
-{
-    if lines.len() / 16 >= source_shape.stride() && blocks_pay(source, shape) {
-        quarter_lines(cells, shape, source, source_shape, quarter, lines);
-    } else {
-        quarter_rows(cells, shape, source, source_shape, quarter);
     }
 }
 
@@ -135,7 +87,12 @@ fn quarter_band<T: Copy, const SIDE: usize>(
     read_rows(copy, near, seen, seen_shape, false);
     let place = Window::new(0, top, shape.width(), height);
     let (part, inner) = exact_part(cells.len(), shape, place);
-    quarter_copy(&mut cells[part], inner, copy, near, quarter, lines);
+    let target = &mut cells[part];
+    if lines.len() / 16 >= SIDE && blocks_pay(copy, inner) {
+        quarter_lines(target, inner, copy, near, quarter, lines);
+    } else {
+        quarter_rows(target, inner, copy, near, quarter);
+    }
 }
 
 // Every pixel of `shape` in `cells` becomes the pixel of the source whose columns are rows, `SIDE`
@@ -190,7 +147,8 @@ pub(crate) fn copied_columns(size: usize) -> usize {
 
 /// Every pixel of `shape` in `cells` becomes the pixel of the source whose columns are rows. Up to
 /// 24 KiB of its cells are copied at a time. Where there are more columns than `copied_columns` says,
-/// none are copied.
+/// none are copied. It isn't inlined, so that the loop over strips that need no copy stays small.
+#[inline(never)]
 pub(crate) fn quarter_copied<T: Copy>(
     cells: &mut [T],
     shape: Shape,
@@ -204,7 +162,7 @@ pub(crate) fn quarter_copied<T: Copy>(
 {
     let (from, width) = (source_shape, shape.width());
     let Some(cell) = source.first() else {
-        return quarter_strip(cells, shape, source, from, quarter);
+        return quarter_rows(cells, shape, source, from, quarter);
     };
     let mut lines = [*cell; 1];
     let none = lines.as_mut_slice();
@@ -234,6 +192,6 @@ pub(crate) fn quarter_copied<T: Copy>(
             let copy = copy.as_mut_slice();
             quarter_bands::<T, 16>(cells, shape, source, from, quarter, copy, none);
         }
-        _ => quarter_strip(cells, shape, source, from, quarter),
+        _ => quarter_rows(cells, shape, source, from, quarter),
     }
 }

@@ -8,7 +8,7 @@ ghost use Rattle.image_model.specs.Tiles.{tile_count};
 ghost use Rattle.image_model.specs.Windows.{window_view, IsInside};
 ghost use Rattle.image_shape.specs.Shape.{shape_width, shape_height, shaped, shaped_grid};
 ghost use Rattle.image_shape.specs.Window.{as_window};
-ghost use Rattle.image_ops.specs.Means.{mean_cell, mean_mosaic_by, mean_of, rounded_mean, row_cell, byte_of, cell_number, sample_cells, sample_in, sample_mosaic, sample_mosaic_by, sample_number, sum_upto, AreBytes, BeginsWith, PutsCells};
+ghost use Rattle.image_ops.specs.Means.{mean_cell, mean_mosaic_by, mean_of, rounded_mean, row_cell, byte_of, cell_number, sample_cells, sample_in, sample_mosaic, sample_mosaic_by, sample_number, sum_upto, AreBytes, AreTiled, BeginsWith, HasSamples, PutsCells};
 
 use crate::mosaic::{mosaic_cells, next_line};
 use crate::windows::exact_part;
@@ -139,9 +139,7 @@ const LARGE: u64 = 1 << 62;
 
 // The sum of the first sample of each pixel of a row.
 fn sum_of<T: Sample>(bytes: SampleBytes, row: &[T], size: usize) -> u64
-    requires kind { AreBytes bytes T.greatest }
-    requires size { 0 < size }
-    requires pixels { size % sample_cells bytes ≡ 0 }
+    requires samples { HasSamples bytes T.greatest size }
     requires narrow { length row.now < 2 ^ 32 }
     requires whole { length row.now % sample_cells bytes ≡ 0 }
     ensures value { result ≡ sum_upto (tile_count size (length row.now))
@@ -181,9 +179,7 @@ fn mean_at<T: Sample>(
     stride: usize,
     size: usize,
 ) -> u16
-    requires kind { AreBytes bytes T.greatest }
-    requires size { 0 < size }
-    requires pixels { size % sample_cells bytes ≡ 0 }
+    requires samples { HasSamples bytes T.greatest size }
     requires some { 0 < len }
     requires whole { len % sample_cells bytes ≡ 0 }
     requires lines { 0 < lines }
@@ -231,9 +227,7 @@ fn put_row_means<T: Sample>(
     size: usize,
     tile_width: usize,
 )
-    requires kind { AreBytes bytes T.greatest }
-    requires size { 0 < size }
-    requires pixels { size % sample_cells bytes ≡ 0 }
+    requires samples { HasSamples bytes T.greatest size }
     requires tile_width { 0 < tile_width }
     requires lines { 0 < lines }
     requires narrow { width < 2 ^ 32 }
@@ -270,14 +264,8 @@ fn put_means<T: Sample>(
     tile_width: usize,
     tile_height: usize,
 )
-    requires kind { AreBytes bytes T.greatest }
-    requires fits { Fits (shaped cells.old shape) }
-    requires room { length cells.old < 2 ^ 63 }
-    requires whole { shape_width shape % sample_cells bytes ≡ 0 }
-    requires size { 0 < size }
-    requires pixels { size % sample_cells bytes ≡ 0 }
-    requires tile_width { 0 < tile_width }
-    requires tile_height { 0 < tile_height }
+    requires samples { HasSamples bytes T.greatest size }
+    requires image { AreTiled bytes cells.old shape tile_width tile_height }
     ensures grid { BeginsWith (mean_cell bytes T.number T.sample size tile_width tile_height
         (shaped_grid cells.old shape)) size tile_width tile_height
         (shaped_grid cells.new shape) (shape_width shape) (shape_height shape) }
@@ -314,14 +302,8 @@ fn mean_cells<T: Sample>(
     tile_width: usize,
     tile_height: usize,
 )
-    requires kind { AreBytes bytes T.greatest }
-    requires fits { Fits (shaped cells.old shape) }
-    requires room { length cells.old < 2 ^ 63 }
-    requires whole { shape_width shape % sample_cells bytes ≡ 0 }
-    requires size { 0 < size }
-    requires pixels { size % sample_cells bytes ≡ 0 }
-    requires tile_width { 0 < tile_width }
-    requires tile_height { 0 < tile_height }
+    requires samples { HasSamples bytes T.greatest size }
+    requires image { AreTiled bytes cells.old shape tile_width tile_height }
     ensures grid { shaped_grid cells.new shape
         ≡ sample_mosaic_by bytes T.number T.sample size tile_width tile_height
         (shaped_grid cells.old shape) }
@@ -342,13 +324,11 @@ fn mean_part<T: Sample>(
     tile_width: usize,
     tile_height: usize,
 )
-    requires kind { AreBytes bytes T.greatest }
+    requires samples { HasSamples bytes T.greatest size }
     requires fits { Fits (shaped cells.old shape) }
     requires room { length cells.old < 2 ^ 63 }
     requires inside { IsInside (shape_width shape) (shape_height shape) (as_window window) }
     requires whole { window.width % sample_cells bytes ≡ 0 }
-    requires size { 0 < size }
-    requires pixels { size % sample_cells bytes ≡ 0 }
     requires tile_width { 0 < tile_width }
     requires tile_height { 0 < tile_height }
     ensures grid { shaped_grid cells.new shape

@@ -159,37 +159,8 @@ fn writes_back(quarter: Quarter) -> bool
     }
 }
 
-// Every pixel of `shape` in `cells` becomes the pixel of the source whose columns are rows. Both
-// have 16 by 16 pixels, which the compiler knows where this is inlined.
-#[inline(always)]
-fn quarter_block<T: Copy>(
-    cells: &mut [T],
-    shape: Shape,
-    source: &[T],
-    source_shape: Shape,
-    quarter: Quarter,
-)
-    requires sizes { AreCrosswise cells.old shape source.now source_shape }
-    requires width { shape_width shape ≡ 16 }
-    requires height { shape_height shape ≡ 16 }
-    ensures { Becomes shape cells.old cells.new
-        (quartered quarter (shaped_grid source.now source_shape)) }
-{
-    let square = block_shape();
-    let mut block = [source[0]; 256];
-    read_rows(
-        block.as_mut_slice(),
-        square,
-        source,
-        source_shape,
-        reads_back(quarter),
-    );
-    transpose_block(block.as_mut_slice());
-    read_rows(cells, shape, block.as_slice(), square, writes_back(quarter));
-}
-
-// The same of the 16 by 16 pixels from column `left` of row `top` on, of an image that gets all
-// pixels of the source; every other cell stays.
+// The 16 by 16 pixels from column `left` of row `top` on become those that the source shows there;
+// every other cell stays. The compiler knows the size of a block, so it makes vector code.
 fn quarter_at<T: Copy>(
     cells: &mut [T],
     shape: Shape,
@@ -209,8 +180,25 @@ fn quarter_at<T: Copy>(
     let line = first_row(quarter, source_shape.height(), left, 16);
     let place = Window::new(column, line, 16, 16);
     let (seen, seen_shape) = padded_part(source, source_shape, place);
+    let square = block_shape();
+    let mut block = [seen[0]; 256];
+    read_rows(
+        block.as_mut_slice(),
+        square,
+        seen,
+        seen_shape,
+        reads_back(quarter),
+    );
+    transpose_block(block.as_mut_slice());
     let (part, inner) = exact_part(cells.len(), shape, Window::new(left, top, 16, 16));
-    quarter_block(&mut cells[part], inner, seen, seen_shape, quarter);
+    let target = &mut cells[part];
+    read_rows(
+        target,
+        inner,
+        block.as_slice(),
+        square,
+        writes_back(quarter),
+    );
 }
 
 // Every pixel of `shape` in `cells` becomes the pixel of the source whose columns are rows, block
@@ -263,46 +251,9 @@ pub(crate) fn blocks_pay<T>(source: &[T], shape: Shape) -> bool
     width == 16 || height == 16 || width + height >= 48
 }
 
-// Every pixel of `shape` in `cells` becomes the pixel of the source whose columns are rows, by
-// blocks or row by row.
-#[inline(always)]
-pub(crate) fn quarter_strip<T: Copy>(
-    cells: &mut [T],
-    shape: Shape,
-    source: &[T],
-    source_shape: Shape,
-    quarter: Quarter,
-)
-    requires { AreCrosswise cells.old shape source.now source_shape }
-    ensures { Becomes shape cells.old cells.new
-        (quartered quarter (shaped_grid source.now source_shape)) }
-{
-    if blocks_pay(source, shape) {
-        quarter_blocks(cells, shape, source, source_shape, quarter);
-    } else {
-        quarter_rows(cells, shape, source, source_shape, quarter);
-    }
-}
-
-// Every pixel of `shape` in `cells` becomes the pixel of the source whose columns are rows, through
-// copies of the source or not.
-fn quarter_part<T: Copy>(
-    cells: &mut [T],
-    shape: Shape,
-    source: &[T],
-    source_shape: Shape,
-    quarter: Quarter,
-    is_copied: bool,
-)
-    requires { AreCrosswise cells.old shape source.now source_shape }
-    ensures { Becomes shape cells.old cells.new
-        (quartered quarter (shaped_grid source.now source_shape)) }
-{
-    if is_copied {
-        quarter_copied(cells, shape, source, source_shape, quarter);
-    } else {
-        quarter_strip(cells, shape, source, source_shape, quarter);
-    }
+// Whether a source stays in the nearest cache, however it is read.
+fn is_near<T>(source: &[T]) -> bool {
+    source.len() * size_of::<T>() <= NEAR
 }
 
 // How many columns are written at a time in an image of few rows, which share the lines of the cache.
@@ -325,10 +276,13 @@ fn blocks_clash(size: usize, stride: usize) -> bool {
 
 // How many columns are written at a time, and whether the source's cells are copied first. As many
 // rows of the source are read at once, and the lines of the cache that have their pixels stay in the
-// nearest one. Where too few do, a copy of their cells does.
+// nearest one. Where too few do, a copy of their cells does. All of a source that is near stays.
 fn strip_columns<T>(source: &[T], stride: usize, shape: Shape) -> (usize, bool)
     ensures { 0 < result.0 }
 {
+    if is_near(source) {
+        return (usize::MAX, false);
+    }
     let few = columns_of_few(shape.height());
     let Some(cell) = source.first() else {
         return (few, false);
@@ -360,10 +314,6 @@ fn quarter_strips<T: Copy>(
     ensures { Becomes shape cells.old cells.new
         (quartered quarter (shaped_grid source.now source_shape)) }
 {
-    if source.len() * size_of::<T>() <= NEAR {
-        quarter_strip(cells, shape, source, source_shape, quarter);
-        return;
-    }
     let (most, is_copied) = strip_columns(source, source_shape.stride(), shape);
     let (columns, lines) = (shape.width(), shape.height());
     let (source_width, source_height) = (source_shape.width(), source_shape.height());
@@ -376,7 +326,13 @@ fn quarter_strips<T: Copy>(
         let strip = Window::new(left, 0, width, lines);
         let (cut, inner) = exact_part(cells.len(), shape, strip);
         let target = &mut cells[cut];
-        quarter_part(target, inner, part, part_shape, quarter, is_copied);
+        if is_copied {
+            quarter_copied(target, inner, part, part_shape, quarter);
+        } else if blocks_pay(part, inner) {
+            quarter_blocks(target, inner, part, part_shape, quarter);
+        } else {
+            quarter_rows(target, inner, part, part_shape, quarter);
+        }
         left += width;
     }
 }
@@ -395,7 +351,7 @@ fn quarter_pixels<T: Copy>(
     ensures { Becomes shape cells.old cells.new
         (quartered quarter (shaped_grid source.now source_shape)) }
 {
-    if source.len() * size_of::<T>() <= NEAR && !blocks_pay(source, shape) {
+    if is_near(source) && !blocks_pay(source, shape) {
         quarter_rows(cells, shape, source, source_shape, quarter);
     } else {
         quarter_strips(cells, shape, source, source_shape, quarter);

@@ -79,7 +79,12 @@ impl<'a, T> RowsIterMut<'a, T> {
     fn take(&mut self) -> RowsIterMut<'a, T>
         ensures { result ≡ self.old }
     {
-        std::mem::replace(self, RowsIterMut::new(&mut [], Shape::new(0, 0, 1)))
+        let spacing = Spacing {
+            count: 0,
+            ..self.spacing
+        };
+        let cells: &mut [T] = &mut [];
+        std::mem::replace(self, RowsIterMut { cells, spacing })
     }
 }
 

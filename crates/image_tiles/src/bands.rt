@@ -167,8 +167,16 @@ impl<'a, T> BandsMut<'a, T> {
     fn take(&mut self) -> BandsMut<'a, T>
         ensures { result ≡ self.old }
     {
-        let none = ImgRefMut::new_stride(&mut [], 0, 0, 1);
-        std::mem::replace(self, BandsMut::new(none, 1))
+        let rows = Spacing {
+            count: 0,
+            ..self.spacing.rows
+        };
+        let spacing = BandSpacing {
+            rows,
+            ..self.spacing
+        };
+        let cells: &mut [T] = &mut [];
+        std::mem::replace(self, BandsMut { cells, spacing })
     }
 }
 

@@ -1,44 +1,47 @@
 -- A stretch that is copied by blocks of n cells, each read before any block overwrites it.
-use Rattle.std.proofs.Common.{◌≡◌, ℕ, ◌+◌, ◌-◌, ◌*◌, ◌≤◌, List, ◌++◌, length, take, drop, arith}
+use Rattle.std.proofs.Common.{◌≡◌, refl, ap, subst, ◌∙◌, ℕ, ◌+◌, ◌-◌, ◌*◌, ◌≤◌, Bool, true, false, List, ◌++◌, length, take, drop, arith}
 use Rattle.std.proofs.lemmas.List.{same_lists, places}
 use Rattle.image_model.specs.Shifts.{shifted}
+use Rattle.row_mover.specs.State.{block_at, GoesTo}
 
 -- the list with `block` in the place of the n cells from `at` on
 abbrev pub with_block : {T : Type 0} → List T → ℕ → ℕ → List T → List T
 with_block cells at n block = take at cells ++ (block ++ drop n (drop at cells))
 
--- the list once all but the first `left` cells of the stretch were copied
-abbrev pub back_copied : {T : Type 0} → List T → ℕ → ℕ → ℕ → ℕ → List T
-back_copied cells start len target left = shifted cells (start + left) (len - left) (target + left)
+-- the list once all but `left` cells of the stretch were copied: towards the back its last cells are copied first, else its first ones
+abbrev pub partly_copied : {T : Type 0} → Bool → List T → ℕ → ℕ → ℕ → ℕ → List T
+partly_copied true cells start len target left = shifted cells (start + left) (len - left) (target + left)
+partly_copied false cells start len target left = shifted cells start (len - left) target
 
 module _ {T : Type 0} (cells : List T) (start len target : ℕ) (source : start + len ≤ length cells) (inside : target + len ≤ length cells) where
   -- the first and the last n cells are all of the stretch
   pub ends_shifted : (n : ℕ) → n ≤ len → len ≤ 2 * n → with_block (with_block cells target n (take n (drop start cells))) (target + len - n) n (take n (drop (start + len - n) cells)) ≡ shifted cells start len target
   ends_shifted n enough few = same_lists _ _ (grind (arith, places)) (λ k d below. grind (arith, places))
 
--- towards the back the last cells are copied first, and no cell before them is written
-module _ {T : Type 0} (cells : List T) (start len target : ℕ) (up : start ≤ target) (inside : target + len ≤ length cells) where
-  pub back_more : (left n : ℕ) → n ≤ left → left ≤ len → shifted (back_copied cells start len target left) (start + (left - n)) n (target + (left - n)) ≡ back_copied cells start len target (left - n)
-  back_more left n enough within = same_lists _ _ (grind (arith, places)) (λ k d below. grind (arith, places))
+-- a block more: towards the back no cell before it is written, and else no cell after it
+pub block_more : {T : Type 0} (up : Bool) (cells : List T) (start len target left n : ℕ) → GoesTo up start len target (length cells) → n ≤ left → left ≤ len
+    → shifted (partly_copied up cells start len target left) (start + block_at up len (left - n) n) n (target + block_at up len (left - n) n) ≡ partly_copied up cells start len target (left - n)
+block_more true cells start len target left n goes enough within = let above = goes.back refl in same_lists _ _ (grind (arith, places)) (λ k d below. grind (arith, places))
+block_more false cells start len target left n goes enough within = let under = goes.front refl in same_lists _ _ (grind (arith, places)) (λ k d below. grind (arith, places))
 
-  pub back_closed : (left : ℕ) → left ≤ len → shifted (back_copied cells start len target left) start left target ≡ shifted cells start len target
-  back_closed left within = same_lists _ _ (grind (arith, places)) (λ k d below. grind (arith, places))
+-- none is left
+none_left : {T : Type 0} (up : Bool) (cells : List T) (start len target : ℕ) → partly_copied up cells start len target 0 ≡ shifted cells start len target
+none_left true cells start len target = let first : start + 0 ≡ start = omega arith in let place : target + 0 ≡ target = omega arith in let all : len - 0 ≡ len = omega arith in λ i. shifted cells (first i) (all i) (place i)
+none_left false cells start len target = let all : len - 0 ≡ len = omega arith in ap (λ n. shifted cells start n target) all
 
-  -- the last n, and then the others
-  pub back_first : (n : ℕ) → n ≤ len → shifted (shifted cells (start + (len - n)) n (target + (len - n))) start (len - n) target ≡ shifted cells start len target
-  back_first n enough = same_lists _ _ (grind (arith, places)) (λ k d below. grind (arith, places))
+-- all that are left
+pub all_copied : {T : Type 0} (up : Bool) (cells : List T) (start len target left : ℕ) → GoesTo up start len target (length cells) → left ≤ len
+    → shifted (partly_copied up cells start len target left) (start + block_at up len 0 left) left (target + block_at up len 0 left) ≡ shifted cells start len target
+all_copied up cells start len target left goes within =
+    let none : left - left ≡ 0 = omega arith in
+    let now = partly_copied up cells start len target left in
+    subst (λ rest. shifted now (start + block_at up len rest left) left (target + block_at up len rest left) ≡ partly_copied up cells start len target rest) none (block_more up cells start len target left left goes (omega arith) within)
+    ∙ none_left up cells start len target
 
--- towards the front the first cells are copied first, and no cell after them is written
-module _ {T : Type 0} (cells : List T) (start len target : ℕ) (down : target ≤ start) (source : start + len ≤ length cells) where
-  pub front_more : (done n : ℕ) → done + n ≤ len → shifted (shifted cells start done target) (start + done) n (target + done) ≡ shifted cells start (done + n) target
-  front_more done n within = same_lists _ _ (grind (arith, places)) (λ k d below. grind (arith, places))
-
-  pub front_closed : (done : ℕ) → done ≤ len → shifted (shifted cells start done target) (start + done) (len - done) (target + done) ≡ shifted cells start len target
-  front_closed done within = same_lists _ _ (grind (arith, places)) (λ k d below. grind (arith, places))
-
-  -- the first n, and then the others
-  pub front_first : (n : ℕ) → n ≤ len → shifted (shifted cells start n target) (start + n) (len - n) (target + n) ≡ shifted cells start len target
-  front_first n enough = same_lists _ _ (grind (arith, places)) (λ k d below. grind (arith, places))
+-- none is copied yet
+pub none_copied : {T : Type 0} (up : Bool) (cells : List T) (start len target : ℕ) → GoesTo up start len target (length cells) → cells ≡ partly_copied up cells start len target len
+none_copied true cells start len target goes = same_lists _ _ (grind (arith, places)) (λ k d below. grind (arith, places))
+none_copied false cells start len target goes = same_lists _ _ (grind (arith, places)) (λ k d below. grind (arith, places))
 
 -- a stretch and the cells next to it, as a list of their own
 module _ {T : Type 0} (cells : List T) (start len by : ℕ) (inside : start + (len + by) ≤ length cells) where
@@ -49,4 +52,4 @@ module _ {T : Type 0} (cells : List T) (start len by : ℕ) (inside : start + (l
   previous_shifted = same_lists _ _ (grind (arith, places)) (λ k d below. grind (arith, places))
 
 -- what the proofs of copies by blocks go by
-pub ruleset by_blocks = (ends_shifted, back_closed, front_closed)
+pub ruleset by_blocks = (ends_shifted)

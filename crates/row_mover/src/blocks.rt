@@ -8,6 +8,7 @@
 
 ghost use Rattle.std.specs.Prelude.{◌≡◌, ◌+◌, ◌-◌, ◌*◌, ◌<◌, ◌≤◌, length};
 ghost use Rattle.image_model.specs.Shifts.{shifted};
+ghost use Rattle.row_mover.specs.State.{block_at, GoesTo};
 
 use crate::parts::{read_part, write_part};
 use std::mem::size_of_val;
@@ -87,98 +88,31 @@ pub(crate) fn copy_few<T: Copy>(cells: &mut [T], start: usize, len: usize, targe
     }
 }
 
-// Copies fewer than 32 cells towards the back, the last 16 first where there are as many.
-fn copy_up_below_32<T: Copy>(cells: &mut [T], start: usize, len: usize, target: usize)
-    requires few { len < 32 }
-    requires up { start ≤ target }
-    requires target { target + len ≤ length cells.old }
-    ensures { cells.new ≡ shifted cells.old start len target }
+// Where a block of `n` cells begins in a stretch, of which `left` cells are copied after it: towards
+// the back the first ones, else the last ones.
+#[inline(always)]
+fn block_at<const UP: bool>(len: usize, left: usize, n: usize) -> usize
+    requires there { left + n ≤ len }
+    ensures at { result ≡ block_at UP len left n }
+    ensures inside { result + n ≤ len }
 {
-    let _count = cells.len();
-    if len >= 16 {
-        copy_block::<T, 16>(cells, start + (len - 16), target + (len - 16));
-        copy_few(cells, start, len - 16, target);
-    } else {
-        copy_few(cells, start, len, target);
-    }
+    if UP { left } else { len - n - left }
 }
 
-// The same of fewer than 64 cells.
-fn copy_up_below_64<T: Copy>(cells: &mut [T], start: usize, len: usize, target: usize)
-    requires few { len < 64 }
-    requires up { start ≤ target }
-    requires target { target + len ≤ length cells.old }
-    ensures { cells.new ≡ shifted cells.old start len target }
-{
-    let _count = cells.len();
-    if len >= 32 {
-        copy_block::<T, 32>(cells, start + (len - 32), target + (len - 32));
-        copy_up_below_32(cells, start, len - 32, target);
-    } else {
-        copy_up_below_32(cells, start, len, target);
-    }
-}
-
-// Copies a stretch towards the back, by blocks from its end.
-fn copy_up<T: Copy>(cells: &mut [T], start: usize, len: usize, target: usize)
-    requires up { start ≤ target }
-    requires target { target + len ≤ length cells.old }
+// Copies a stretch by blocks: towards the back from its end, else from its start.
+fn copy_over<T: Copy, const UP: bool>(cells: &mut [T], start: usize, len: usize, target: usize)
+    requires goes { GoesTo UP start len target (length cells.old) }
     ensures { cells.new ≡ shifted cells.old start len target }
 {
     let _count = cells.len();
     let mut left = len;
-    while left >= 64 {
+    while left >= 32 {
         left -= 32;
-        copy_block::<T, 32>(cells, start + left, target + left);
+        let at = block_at::<UP>(len, left, 32);
+        copy_block::<T, 32>(cells, start + at, target + at);
     }
-    copy_up_below_64(cells, start, left, target);
-}
-
-// Copies fewer than 32 cells towards the front, the first 16 first where there are as many.
-fn copy_down_below_32<T: Copy>(cells: &mut [T], start: usize, len: usize, target: usize)
-    requires few { len < 32 }
-    requires down { target ≤ start }
-    requires source { start + len ≤ length cells.old }
-    ensures { cells.new ≡ shifted cells.old start len target }
-{
-    let _count = cells.len();
-    if len >= 16 {
-        copy_block::<T, 16>(cells, start, target);
-        copy_few(cells, start + 16, len - 16, target + 16);
-    } else {
-        copy_few(cells, start, len, target);
-    }
-}
-
-// The same of fewer than 64 cells.
-fn copy_down_below_64<T: Copy>(cells: &mut [T], start: usize, len: usize, target: usize)
-    requires few { len < 64 }
-    requires down { target ≤ start }
-    requires source { start + len ≤ length cells.old }
-    ensures { cells.new ≡ shifted cells.old start len target }
-{
-    let _count = cells.len();
-    if len >= 32 {
-        copy_block::<T, 32>(cells, start, target);
-        copy_down_below_32(cells, start + 32, len - 32, target + 32);
-    } else {
-        copy_down_below_32(cells, start, len, target);
-    }
-}
-
-// Copies a stretch towards the front, by blocks from its start.
-fn copy_down<T: Copy>(cells: &mut [T], start: usize, len: usize, target: usize)
-    requires down { target ≤ start }
-    requires source { start + len ≤ length cells.old }
-    ensures { cells.new ≡ shifted cells.old start len target }
-{
-    let _count = cells.len();
-    let mut done = 0;
-    while len - done >= 64 {
-        copy_block::<T, 32>(cells, start + done, target + done);
-        done += 32;
-    }
-    copy_down_below_64(cells, start + done, len - done, target + done);
+    let at = block_at::<UP>(len, 0, left);
+    copy_few(cells, start + at, left, target + at);
 }
 
 /// Copies a stretch to a place that it may overlap. It isn't inlined, so that the loops over rows stay
@@ -190,9 +124,9 @@ pub(crate) fn copy_by_blocks<T: Copy>(cells: &mut [T], start: usize, len: usize,
     ensures { cells.new ≡ shifted cells.old start len target }
 {
     if start <= target {
-        copy_up(cells, start, len, target);
+        copy_over::<T, true>(cells, start, len, target);
     } else {
-        copy_down(cells, start, len, target);
+        copy_over::<T, false>(cells, start, len, target);
     }
 }
 

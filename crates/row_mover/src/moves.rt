@@ -2,7 +2,7 @@ ghost use Rattle.std.specs.Prelude.{◌≡◌, ◌+◌, ◌-◌, ◌*◌, ◌<�
 ghost use Rattle.image_model.specs.Layout.{layout, Fits};
 ghost use Rattle.image_model.specs.Rows.{joined_rows};
 ghost use Rattle.image_model.specs.Shifts.{rows_compacted, rows_moved, MovesRows};
-ghost use Rattle.row_mover.specs.State.{IsKnown};
+ghost use Rattle.row_mover.specs.State.{AreApart, AreJoined, AreMoved, CanMove, IsKnown};
 
 use crate::blocks::are_words;
 use crate::mover::{ANY, BEFORE, BEHIND, FEW, LONG, NEXT, OVER, PREVIOUS, RowMover};
@@ -44,16 +44,9 @@ impl<T: Copy> RowMover<'_, T> {
     // of short rows have the registers for themselves.
     #[inline(never)]
     fn join_long(&mut self, width: usize, height: usize, stride: usize)
-        requires fits { Fits (layout self.old.cells width height stride) }
-        requires some { 0 < width }
-        requires apart { width < stride }
-        requires row { 0 < height }
+        requires rows { AreApart self.old.cells width height stride }
         requires count { self.old.shifts + height ≤ u64.MAX }
-        ensures cells { self.new.cells ≡ joined_rows (layout self.old.cells width height stride)
-            ++ drop (width * height) self.old.cells }
-        ensures length { length self.new.cells ≡ length self.old.cells }
-        ensures shifts { self.new.shifts ≡ self.old.shifts + rows_compacted width height stride }
-        ensures lender { self.new.lender ≡ self.old.lender }
+        ensures { AreJoined self.old self.new width height stride }
     {
         self.join_each::<0>(width, height, stride);
     }
@@ -64,16 +57,9 @@ impl<T: Copy> RowMover<'_, T> {
     fn join_each<const N: usize>(&mut self, width: usize, height: usize, stride: usize)
         requires enough { N ≤ width }
         requires few { 0 < N → width ≤ 2 * N }
-        requires fits { Fits (layout self.old.cells width height stride) }
-        requires some { 0 < width }
-        requires apart { width < stride }
-        requires row { 0 < height }
+        requires rows { AreApart self.old.cells width height stride }
         requires count { self.old.shifts + height ≤ u64.MAX }
-        ensures cells { self.new.cells ≡ joined_rows (layout self.old.cells width height stride)
-            ++ drop (width * height) self.old.cells }
-        ensures length { length self.new.cells ≡ length self.old.cells }
-        ensures shifts { self.new.shifts ≡ self.old.shifts + rows_compacted width height stride }
-        ensures lender { self.new.lender ≡ self.old.lender }
+        ensures { AreJoined self.old self.new width height stride }
     {
         // No row ends past the list, and its length is a `usize`: so no cell's number overflows.
         prove!(self.cells().len() <= usize::MAX);
@@ -117,15 +103,9 @@ impl<T: Copy> RowMover<'_, T> {
     // The same of rows that have pixels and aren't short, by where they go. Not inlined, as above.
     #[inline(never)]
     fn move_long(&mut self, stride: usize, from: usize, to: usize, width: usize, height: usize)
-        requires some { 0 < width }
-        requires row { 0 < height }
-        requires holds_width { width ≤ stride }
+        requires rows { CanMove (length self.old.cells) stride from to width height }
         requires count { self.old.shifts + height ≤ u64.MAX }
-        requires source { from + (stride * (height - 1) + width) ≤ length self.old.cells }
-        requires target { to + (stride * (height - 1) + width) ≤ length self.old.cells }
-        ensures cells { MovesRows self.old.cells self.new.cells stride from to width height }
-        ensures shifts { self.new.shifts ≡ self.old.shifts + rows_moved width height }
-        ensures lender { self.new.lender ≡ self.old.lender }
+        ensures { AreMoved self.old self.new stride from to width height }
     {
         prove!(self.cells().len() <= usize::MAX);
         let are_words = are_words(self.cells());
@@ -154,15 +134,9 @@ impl<T: Copy> RowMover<'_, T> {
         height: usize,
     )
         requires known { IsKnown N HOW from width to }
-        requires some { 0 < width }
-        requires row { 0 < height }
-        requires holds_width { width ≤ stride }
+        requires rows { CanMove (length self.old.cells) stride from to width height }
         requires count { self.old.shifts + height ≤ u64.MAX }
-        requires source { from + (stride * (height - 1) + width) ≤ length self.old.cells }
-        requires target { to + (stride * (height - 1) + width) ≤ length self.old.cells }
-        ensures cells { MovesRows self.old.cells self.new.cells stride from to width height }
-        ensures shifts { self.new.shifts ≡ self.old.shifts + rows_moved width height }
-        ensures lender { self.new.lender ≡ self.old.lender }
+        ensures { AreMoved self.old self.new stride from to width height }
     {
         // As above, no cell's number overflows.
         prove!(self.cells().len() <= usize::MAX);

@@ -42,10 +42,10 @@ overflow_add-mean g c =
     let columns : ℕ = c.tiles_along.result in
     let count : ℕ = columns * a.lines in
     let here : tile_count a.size a.len ≡ columns = sym c.tiles_along.ensures.value in
-    let some : 0 < count = some_pixels a.lines c.requires.lines columns (omega (arith, here, tile_counted a.size a.len 0 c.requires.size (omega (arith, c.requires.some)))) in
+    let some : 0 < count = some_pixels a.lines c.requires.lines columns (omega (arith, here, tile_counted a.size a.len 0 c.requires.samples.some (omega (arith, c.requires.some)))) in
     let all = line_added a.cells.now a.size a.len start l.line a.lines greatest (l.mean * count + l.sum) c.sum_of-sum.result c.requires.lines c.loop-line-test.true inside l.invariant.bound c.sum_of-sum.ensures.bound in
     let sum : ℕ = l.sum + c.sum_of-sum.result in
-    omega (arith, divided_within sum count some l.mean greatest (l.mean * count + sum) refl (subst (λ n. l.mean * count + sum ≤ n * a.lines * greatest) here (omega (arith, all.1))), sample_short a.bytes g.T.Sample.greatest c.requires.kind g.met.T.Sample.short)
+    omega (arith, divided_within sum count some l.mean greatest (l.mean * count + sum) refl (subst (λ n. l.mean * count + sum ≤ n * a.lines * greatest) here (omega (arith, all.1))), sample_short a.bytes g.T.Sample.greatest c.requires.samples.kind g.met.T.Sample.short)
 
 pub loop-line-preserved : goal.loop-line-preserved
 loop-line-preserved g c =
@@ -57,11 +57,11 @@ loop-line-preserved g c =
     let columns : ℕ = c.tiles_along.result in
     let count : ℕ = columns * a.lines in
     let here : tile_count a.size a.len ≡ columns = sym c.tiles_along.ensures.value in
-    let some : 0 < count = some_pixels a.lines c.requires.lines columns (omega (arith, here, tile_counted a.size a.len 0 c.requires.size (omega (arith, c.requires.some)))) in
+    let some : 0 < count = some_pixels a.lines c.requires.lines columns (omega (arith, here, tile_counted a.size a.len 0 c.requires.samples.some (omega (arith, c.requires.some)))) in
     let all = line_added a.cells.now a.size a.len start l.line a.lines greatest (l.mean * count + l.sum) c.sum_of-sum.result c.requires.lines c.loop-line-test.true inside l.invariant.bound c.sum_of-sum.ensures.bound in
     let sum : ℕ = l.sum + c.sum_of-sum.result in
     let f : ℕ → ℕ = λ j. sum_upto (tile_count a.size a.len) (λ i. sample_in a.bytes g.T.Sample.number a.cells.now (a.from + (j * a.stride + i * a.size))) in
-    let line : c.sum_of-sum.result ≡ f l.line = c.sum_of-sum.ensures.value ∙ line_sum a.bytes g.T.Sample.number a.cells.now a.size a.from l.line a.stride start a.len c.requires.size c.requires.pixels c.requires.whole refl inside in
+    let line : c.sum_of-sum.result ≡ f l.line = c.sum_of-sum.ensures.value ∙ line_sum a.bytes g.T.Sample.number a.cells.now a.size a.from l.line a.stride start a.len c.requires.samples.some c.requires.samples.whole c.requires.whole refl inside in
     let total : l.mean * count + sum ≡ sum_upto (l.line + 1) f = (let e : l.mean * count + sum ≡ l.mean * count + l.sum + c.sum_of-sum.result = omega arith in e) ∙ ap₂ (λ m n. m + n) l.invariant.value line ∙ sym (sum_next l.line f) in
     let part : (l.mean + sum / count) * count + sum % count ≡ l.mean * count + sum = divided sum count some l.mean (l.mean * count + sum) refl in
     let next : l.mean * count + sum ≤ (l.line + 1) * (tile_count a.size a.len * greatest) = omega (arith, all.0) in
@@ -88,7 +88,7 @@ within g c =
     let columns : ℕ = c.tiles_along.result in
     let count : ℕ = columns * a.lines in
     let here : tile_count a.size a.len ≡ columns = sym c.tiles_along.ensures.value in
-    let some : 0 < count = some_pixels a.lines c.requires.lines columns (omega (arith, here, tile_counted a.size a.len 0 c.requires.size (omega (arith, c.requires.some)))) in
+    let some : 0 < count = some_pixels a.lines c.requires.lines columns (omega (arith, here, tile_counted a.size a.len 0 c.requires.samples.some (omega (arith, c.requires.some)))) in
     let total : ℕ = l.mean * count + l.sum in
     let all : l.line ≡ a.lines = omega (arith, l.auto.line-end, c.loop-line-test.false) in
     let is : l.mean + c.rounded.result ≡ rounded_mean total count = ap (λ n. l.mean + n) c.rounded.ensures ∙ rounded_later l.sum count some l.mean total refl in
@@ -97,10 +97,10 @@ within g c =
     omega (arith, is, rounded_within total count some greatest most)
 
 pub overflow_add-result : goal.overflow_add-result
-overflow_add-result g c = omega (arith, within g c, sample_short c.args.bytes g.T.Sample.greatest c.requires.kind g.met.T.Sample.short)
+overflow_add-result g c = omega (arith, within g c, sample_short c.args.bytes g.T.Sample.greatest c.requires.samples.kind g.met.T.Sample.short)
 
 pub overflow_cast-result : goal.overflow_cast-result
-overflow_cast-result g c = omega (arith, within g c, sample_short c.args.bytes g.T.Sample.greatest c.requires.kind g.met.T.Sample.short)
+overflow_cast-result g c = omega (arith, within g c, sample_short c.args.bytes g.T.Sample.greatest c.requires.samples.kind g.met.T.Sample.short)
 
 pub sum_of-sum-requires-clause-whole : goal.sum_of-sum-requires-clause-whole
 sum_of-sum-requires-clause-whole g c =
@@ -119,7 +119,7 @@ returns-clause-value g c =
     let columns : ℕ = c.tiles_along.result in
     let count : ℕ = columns * a.lines in
     let here : tile_count a.size a.len ≡ columns = sym c.tiles_along.ensures.value in
-    let some : 0 < count = some_pixels a.lines c.requires.lines columns (omega (arith, here, tile_counted a.size a.len 0 c.requires.size (omega (arith, c.requires.some)))) in
+    let some : 0 < count = some_pixels a.lines c.requires.lines columns (omega (arith, here, tile_counted a.size a.len 0 c.requires.samples.some (omega (arith, c.requires.some)))) in
     let total : ℕ = l.mean * count + l.sum in
     let all : l.line ≡ a.lines = omega (arith, l.auto.line-end, c.loop-line-test.false) in
     let is : l.mean + c.rounded.result ≡ rounded_mean total count = ap (λ n. l.mean + n) c.rounded.ensures ∙ rounded_later l.sum count some l.mean total refl in

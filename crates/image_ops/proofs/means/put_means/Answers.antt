@@ -18,8 +18,8 @@ put_row_means-requires-clause-inside g c =
     let high : y < s.height = omega (arith, below, row_count-le s.width s.height) in
     let lines : ℕ = c.min-lines.result in
     let within : lines ≤ s.height - y = omega (arith, c.min-lines.ensures, c.height.ensures.value) in
-    let some : 0 < lines = omega (arith, c.min-lines.ensures, c.height.ensures.value, high, c.requires.tile_height) in
-    let reached = lines_inside (length c.args.cells.now) s.width s.height s.stride y lines c.requires.fits below within some in
+    let some : 0 < lines = omega (arith, c.min-lines.ensures, c.height.ensures.value, high, c.requires.image.high) in
+    let reached = lines_inside (length c.args.cells.now) s.width s.height s.stride y lines c.requires.image.fits below within some in
     rw (c.row-row.ensures.start, c.row-row.ensures.len, c.stride.ensures.value) (omega (arith, reached, c.loop-y.auto.cells))
 
 pub loop-y-preserved : goal.loop-y-preserved
@@ -41,7 +41,7 @@ loop-y-preserved g c =
             (subst (λ k. PutsCells (cell k w.row-row.result.start w.row-row.result.len) a.size a.tile_width w.row-row.result.start w.row-row.result.len c.loop-y.cells w.put_row_means.new.cells) w.stride.ensures.value w.put_row_means.ensures)) in
             rw w.cells-is
             (row_put what a.cells.now s a.size a.tile_width a.tile_height c.loop-y.cells y so.put w.put_row_means.new.cells (cell s.stride (y * s.stride) s.width)
-            (λ x column. grid_cell a.bytes g.T.Sample.number g.T.Sample.sample what a.cells.now c.loop-y.cells s a.size a.tile_width a.tile_height y w.min-lines.result x so.put c.requires.size c.requires.pixels c.requires.whole count column below) put)
+            (λ x column. grid_cell a.bytes g.T.Sample.number g.T.Sample.sample what a.cells.now c.loop-y.cells s a.size a.tile_width a.tile_height y w.min-lines.result x so.put c.requires.samples.some c.requires.samples.whole c.requires.image.whole count column below) put)
         | else-line-eq0 w ↦ rw w.cells-is (row_kept (mean_cell a.bytes g.T.Sample.number g.T.Sample.sample a.size a.tile_width a.tile_height (shaped_grid a.cells.now s)) a.cells.now s a.size a.tile_width a.tile_height c.loop-y.cells y so.put (omega (arith, so.line, w.if-line-eq0.false)))
       ];
       line = c.next_line-line.ensures ∙ ap (λ k. (k + 1) % a.tile_height) so.line ∙ mod-add-mod y a.tile_height 1;

@@ -10,7 +10,7 @@ use Rattle.image_ops.proofs.means.put_row_means.Goals as goal
 pub mean_at-mean-requires-clause-some : goal.mean_at-mean-requires-clause-some
 mean_at-mean-requires-clause-some g c =
     let a = c.args in
-    let room : 1 ≤ a.tile_width * a.size = omega (arith, mul-le 1 1 a.tile_width a.size (omega (arith, c.requires.tile_width)) (omega (arith, c.requires.size))) in
+    let room : 1 ≤ a.tile_width * a.size = omega (arith, mul-le 1 1 a.tile_width a.size (omega (arith, c.requires.tile_width)) (omega (arith, c.requires.samples.some))) in
     omega (arith, c.min-len.ensures, c.saturating_mul-tile.ensures, room, c.loop-x-test.true)
 
 pub mean_at-mean-requires-clause-whole : goal.mean_at-mean-requires-clause-whole
@@ -19,7 +19,7 @@ mean_at-mean-requires-clause-whole g c =
     let x = c.loop-x.x in
     let len : c.min-len.result ≡ min (a.tile_width * a.size) (a.width - x) = omega (arith, c.min-len.ensures, c.saturating_mul-tile.ensures, c.requires.narrow) in
     let begins : x % sample_cells a.bytes ≡ 0 = c.begins_sample.ensures.begins c.if-begins_sample.true in
-    ap (λ n. n % sample_cells a.bytes) len ∙ whole_tile a.bytes a.tile_width a.size a.width x c.requires.pixels c.requires.whole begins
+    ap (λ n. n % sample_cells a.bytes) len ∙ whole_tile a.bytes a.tile_width a.size a.width x c.requires.samples.whole c.requires.whole begins
 
 pub sample-requires : goal.sample-requires
 sample-requires g c =
@@ -30,7 +30,7 @@ sample-requires g c =
       | then-begins_sample w ↦ rw w.mean-is w.mean_at-mean.ensures.within
       | else-begins_sample w ↦ rw w.mean-is c.loop-x.invariant.within
     ] in
-    rw c.number_at.ensures (cell_within bytes greatest c.loop-x.x c.if-begins_sample.mean c.requires.kind within)
+    rw c.number_at.ensures (cell_within bytes greatest c.loop-x.x c.if-begins_sample.mean c.requires.samples.kind within)
 
 -- this cell lies in the tile that begins at the corner; where it is a sample's second cell, the corner stays
 record Here {T : Type 0} (what : ℕ → T) (size tile start : ℕ) (old now : List T) (cells before corner x : ℕ) : Type 0 where
@@ -53,7 +53,7 @@ loop-x-preserved g c =
     let put = l.invariant.put in
     let what = row_cell bytes number sample size wide a.lines a.stride a.start a.width old in
     let means = row_mean bytes number size wide a.lines a.stride a.start a.width old in
-    let some = c.requires.size in
+    let some = c.requires.samples.some in
     let many = c.requires.tile_width in
     let tile = c.saturating_mul-tile.ensures in
     let corner = c.corner_of-corner.result in
@@ -63,7 +63,7 @@ loop-x-preserved g c =
     elim c.corner_of-corner.ensures [
       | inl is ↦
           let ends : x ≡ l.corner + wide * size = omega (arith, is.0, tile, narrow) in
-          let whole : x % sample_cells bytes ≡ 0 = tile_whole what size wide a.start some many old now l.corner x put bytes c.requires.pixels ends in
+          let whole : x % sample_cells bytes ≡ 0 = tile_whole what size wide a.start some many old now l.corner x put bytes c.requires.samples.whole ends in
           rw is.1 (record {
             put = next_put what size wide a.start some many old now l.corner x put ends;
             within = omega (arith, room, some);

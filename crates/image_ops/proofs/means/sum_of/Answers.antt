@@ -10,4 +10,4 @@ sample_from-requires-clause-inside g c =
     let a = c.args in
     let pixel = c.loop-pixel.pixel in
     let below : pixel < tile_count a.size (length a.row.now) = omega (arith, c.loop-pixel-test.true, c.tiles_along-pixel-end.ensures.value) in
-    sample_within a.bytes (pixel * a.size) (length a.row.now) (whole_pixels a.bytes pixel a.size c.requires.pixels) c.requires.whole (tile_begins a.size (length a.row.now) pixel c.requires.size below)
+    sample_within a.bytes (pixel * a.size) (length a.row.now) (whole_pixels a.bytes pixel a.size c.requires.samples.whole) c.requires.whole (tile_begins a.size (length a.row.now) pixel c.requires.samples.some below)
