@@ -1,7 +1,7 @@
-//! Rows of each width up to two blocks of 64 bytes and more, which are copied and compared by parts
-//! whose lengths the compiler knows.
+//! Rows of each width up to two blocks of 64 bytes and more, which are copied, compared and cloned by
+//! parts whose lengths the compiler knows.
 
-ghost use Rattle.std.specs.Prelude.{◌+◌, ◌<◌};
+ghost use Rattle.std.specs.Prelude.{◌≡◌, ◌+◌, ◌<◌};
 
 use imgref::{Img, ImgVec};
 use std::alloc::{AllocError, Global};
@@ -91,5 +91,33 @@ fn words_of_each_width_are_copied_and_compared(rt: HostRuntime) -> Result<(), Fa
     check_each_width::<u16>(&rt, rt.alloc(), 70)?;
     check_each_width::<u32>(&rt, rt.alloc(), 36)?;
     check_each_width::<u64>(&rt, rt.alloc(), 20)?;
+    Ok(())
+}
+
+// The rows of padded images of every width below this one are cloned one after the other.
+fn check_clones<T: Copy + Drop + PartialEq + From<u8>>(
+    rt: &impl Abort,
+    alloc: Global,
+    widths: usize,
+) -> Result<(), AllocError>
+    requires widths { widths < 200 }
+    requires clones_equal { (x y : T) → T.is_clone x y → y ≡ x }
+{
+    for width in 0..widths {
+        let image = numbered::<T>(alloc, width, 3, 0)?;
+        assert!(rt; image.is_valid());
+        let pixels: Vec<T> = image.pixels().collect(alloc)?;
+        let (joined, _, _) = image.as_ref().to_contiguous_buf(alloc)?;
+        assert!(rt; joined.as_ref() == pixels.as_slice());
+    }
+    Ok(())
+}
+
+#[test]
+fn pixels_of_each_width_are_cloned(rt: HostRuntime) -> Result<(), Fail> {
+    check_clones::<u8>(&rt, rt.alloc(), 140)?;
+    check_clones::<u16>(&rt, rt.alloc(), 70)?;
+    check_clones::<u32>(&rt, rt.alloc(), 36)?;
+    check_clones::<u64>(&rt, rt.alloc(), 20)?;
     Ok(())
 }
