@@ -3,7 +3,7 @@ use Rattle.std.specs.Prelude.{◌≡◌, ◌≤◌, ℕ, ◌+◌, ◌-◌, ◌/�
 use Rattle.std.specs.Prelude.{IsPermutation}
 use Rattle.std.specs.List.{AllAdjacentBelow, flat_map, range_with_len, slice_get}
 use Rattle.std.specs.List.Sorted.{IsNonDecreasingBy}
-use Rattle.frame_formats.specs.Boxes.{size_of, cover_of, each_box, first_of, Touches}
+use Rattle.frame_formats.specs.Boxes.{units_of, cover_of, each_box, first_of, Touches}
 use Rattle.frame_formats.specs.declared.boxes.Decimal.{Decimal}
 use Rattle.frame_formats.specs.declared.boxes.Tracked.{Tracked}
 use Rattle.frame_formats.specs.declared.ranges.Range.TheVariants.{Frames}
@@ -49,7 +49,7 @@ kept before after b = record { range = Frames (b.frame - 1 - before) (min (b.fra
 
 -- where a number is, in units after the least number
 abbrev pub place_of : Decimal → ℕ
-place_of d = if d.minus then 429496729600000000000000000000 - size_of d else 429496729600000000000000000000 + size_of d
+place_of d = if d.minus then 429496729600000000000000000000 - units_of d else 429496729600000000000000000000 + units_of d
 
 -- the size of so many units
 abbrev pub size_by : ℕ → Decimal
@@ -60,7 +60,7 @@ abbrev pub first_start : Decimal → Decimal → Decimal
 first_start a b = if nat_le (place_of a) (place_of b) then a else b
 
 abbrev pub both_extent : Decimal → Decimal → Decimal → Decimal → Decimal
-both_extent a long b wide = size_by (max (place_of a + size_of long) (place_of b + size_of wide) - place_of (first_start a b))
+both_extent a long b wide = size_by (max (place_of a + units_of long) (place_of b + units_of wide) - place_of (first_start a b))
 
 -- the smallest box around two
 abbrev pub around : Tracked → Tracked → Tracked

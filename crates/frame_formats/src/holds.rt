@@ -4,7 +4,7 @@ ghost use Rattle.std.specs.Prelude.{◌≡◌, ◌<◌, ◌≤◌, ◌+◌, ◌�
 ghost use Rattle.std.specs.List.{slice_get};
 ghost use Rattle.std.specs.Option.{option_to_list};
 ghost use Rattle.std.specs.List.Sorted.{IsNonDecreasingBy};
-ghost use Rattle.frame_formats.specs.Boxes.{IsDecimal, IsExtent, IsBox, IsTracked, each_box, size_of};
+ghost use Rattle.frame_formats.specs.Boxes.{IsDecimal, IsExtent, IsBox, IsTracked, each_box, units_of};
 ghost use Rattle.frame_formats.specs.Holds.{track_of, missing, goes_on, goes_on_at, comes_at, kept, kept_on, filled, place_of, size_by, first_start, both_extent, around, HasBoth, between, held_at, held, AreByTracks, AreHeld};
 
 use crate::boxes::{Decimal, PIXEL, Tracked, cover_of, put_in_order, read_tracked};
@@ -79,9 +79,9 @@ fn place_of(number: Decimal) -> u128
     }
 }
 
-fn size_of(number: Decimal) -> u128
+fn units_of(number: Decimal) -> u128
     requires { IsDecimal number }
-    ensures size { result ≡ size_of number }
+    ensures size { result ≡ units_of number }
     ensures small { result < 429496729600000000000000000000 }
 {
     number.whole as u128 * PIXEL + number.part
@@ -104,7 +104,7 @@ fn both_sides(first: Decimal, long: Decimal, second: Decimal, wide: Decimal) -> 
     } else {
         (second, other)
     };
-    let units = (from + size_of(long)).max(other + size_of(wide)) - begin;
+    let units = (from + units_of(long)).max(other + units_of(wide)) - begin;
     let extent = Decimal {
         minus: false,
         whole: (units / PIXEL) as usize,
