@@ -20,8 +20,8 @@ abbrev pub missing : Tracked → Tracked → ℕ
 missing a b = b.frame - a.frame - 1
 
 -- whether the second box goes on where the first ends: both are of one track, and at most so many frames are between them
-abbrev pub goes_on : ℕ → Tracked → Tracked → Bool
-goes_on hold a b = nat_lt 0 (track_of a) && (track_of a == track_of b && (nat_lt a.frame b.frame && nat_le (missing a b) hold))
+abbrev pub continues : ℕ → Tracked → Tracked → Bool
+continues hold a b = nat_lt 0 (track_of a) && (track_of a == track_of b && (nat_lt a.frame b.frame && nat_le (missing a b) hold))
 
 -- boxes by their tracks, and those of one track by their frames
 pub record AreByTracks (bs : List Tracked) : Type 0 where
@@ -32,7 +32,7 @@ pub record AreByTracks (bs : List Tracked) : Type 0 where
 abbrev pub both_go_on : ℕ → Option Tracked → Option Tracked → Bool
 both_go_on hold None b = false
 both_go_on hold (Some a) None = false
-both_go_on hold (Some a) (Some b) = goes_on hold a b
+both_go_on hold (Some a) (Some b) = continues hold a b
 
 abbrev pub goes_on_at : ℕ → List Tracked → ℕ → Bool
 goes_on_at hold bs at = both_go_on hold (slice_get bs at) (slice_get bs (at + 1))

@@ -3,7 +3,7 @@ use Rattle.std.specs.Prelude.{ℕ, ◌+◌, ◌-◌, ◌==◌, ◌&&◌, Bool, t
 use Rattle.std.specs.Option.{is_none, option_map}
 use Rattle.text_model.specs.Reading.{◌>>=◌}
 use Rattle.frame_formats.specs.Digits.{is_digit, with_digit}
-use Rattle.frame_formats.specs.PamWords.{key_text, key_of, type_text, plain_letters, continues, is_blank}
+use Rattle.frame_formats.specs.PamWords.{key_text, key_of, type_text, plain_letters, goes_on, is_blank}
 use Rattle.frame_formats.specs.declared.pam.Tuples.{Tuples}
 use Rattle.frame_formats.specs.declared.pam.Fields.{Fields}
 use Rattle.frame_formats.specs.declared.pam_words.Key.{Key}
@@ -55,7 +55,7 @@ after_word f key byte = if is_blank byte then Some (lines f (Number key None)) e
 
 abbrev pub at_word : Fields → Key → ℕ → ℕ → Option Lines
 at_word f key count byte =
-    if continues (key_text key) count byte then Some (lines f (Word key (count + 1)))
+    if goes_on (key_text key) count byte then Some (lines f (Word key (count + 1)))
     else if count == length (key_text key) then after_word f key byte
     else None
 
@@ -84,7 +84,7 @@ after_letters f colour count =
 
 abbrev pub at_letters : Fields → Bool → ℕ → ℕ → Option Lines
 at_letters f colour count byte =
-    if continues (type_text colour) count byte then Some (lines f (Letters colour (count + 1)))
+    if goes_on (type_text colour) count byte then Some (lines f (Letters colour (count + 1)))
     else if byte == 10 then after_letters f colour count
     else None
 

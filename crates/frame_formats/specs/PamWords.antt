@@ -33,8 +33,8 @@ plain_letters false = 9
 plain_letters true = 3
 
 -- whether a byte goes on with a text of which so many were read
-abbrev pub continues : List ℕ → ℕ → ℕ → Bool
-continues text count byte = nat_lt count (length text) && (slice_index text count == byte)
+abbrev pub goes_on : List ℕ → ℕ → ℕ → Bool
+goes_on text count byte = nat_lt count (length text) && (slice_index text count == byte)
 
 -- a space or a tab
 abbrev pub is_blank : ℕ → Bool

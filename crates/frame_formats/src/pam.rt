@@ -5,7 +5,7 @@ ghost use Rattle.std.specs.Option.{is_none};
 ghost use Rattle.frame_formats.specs.Pam.{lines, tuple_depth, with_field, with_tuples, at_line, after_word, at_word, at_number, at_gap, after_letters, at_letters, lines_pushed, lines_start};
 
 use crate::digits::{is_digit, with_digit};
-use crate::pam_words::{Key, continues, is_blank, plain_letters, type_text};
+use crate::pam_words::{Key, goes_on, is_blank, plain_letters, type_text};
 
 /// The samples of a pixel: one brightness, or red, green and blue. With `alpha` there is one more,
 /// of how opaque it is.
@@ -136,7 +136,7 @@ impl Fields {
     fn at_word(self, key: Key, count: usize, byte: u8) -> Option<Lines>
         ensures { result ≡ at_word self key count byte }
     {
-        if continues(key.text(), count, byte) {
+        if goes_on(key.text(), count, byte) {
             Some(self.at(Place::Word(key, count + 1)))
         } else if count == key.text().len() {
             self.after_word(key, byte)
@@ -189,7 +189,7 @@ impl Fields {
     fn at_letters(self, colour: bool, count: usize, byte: u8) -> Option<Lines>
         ensures { result ≡ at_letters self colour count byte }
     {
-        if continues(type_text(colour), count, byte) {
+        if goes_on(type_text(colour), count, byte) {
             Some(self.at(Place::Letters(colour, count + 1)))
         } else if byte == b'\n' {
             self.after_letters(colour, count)

@@ -1,7 +1,7 @@
 //! The words in the lines of the head of a PAM picture.
 
 ghost use Rattle.std.specs.Prelude.{◌≡◌};
-ghost use Rattle.frame_formats.specs.PamWords.{key_text, key_of, type_text, plain_letters, continues, is_blank};
+ghost use Rattle.frame_formats.specs.PamWords.{key_text, key_of, type_text, plain_letters, goes_on, is_blank};
 
 /// The word with which a line begins.
 #[derive(Clone, Copy, PartialEq, Eq)]
@@ -69,8 +69,8 @@ pub(crate) fn plain_letters(colour: bool) -> usize
 }
 
 /// Whether a byte goes on with a text of which so many were read.
-pub(crate) fn continues(text: &[u8], count: usize, byte: u8) -> bool
-    ensures { result ≡ continues text.now count byte }
+pub(crate) fn goes_on(text: &[u8], count: usize, byte: u8) -> bool
+    ensures { result ≡ goes_on text.now count byte }
 {
     count < text.len() && text[count] == byte
 }
