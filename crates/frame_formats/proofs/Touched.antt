@@ -2,7 +2,7 @@
 use Rattle.std.proofs.Common.{◌≡◌, ◌↔◌, ℕ, ◌+◌, ◌-◌, ◌*◌, ◌/◌, ◌<◌, ◌≤◌, ◌&&◌, Bool, true, false, nat_lt, nat_le, if◌then◌else◌, refl, arith}
 use Rattle.std.specs.Prelude.{IsTrue}
 use Rattle.std.proofs.lemmas.Bool.Decides.{nat_tests}
-use Rattle.frame_formats.specs.Boxes.{IsDecimal, IsExtent, IsTracked, IsBox, side_of, is_touched, pixels_up, size_of, window_of_box, TouchesExactly}
+use Rattle.frame_formats.specs.Boxes.{IsDecimal, IsExtent, IsTracked, IsBox, side_of, is_touched, pixels_up, units_of, window_of_box, TouchesExactly}
 use Rattle.frame_formats.specs.declared.boxes.Decimal.{Decimal}
 use Rattle.frame_formats.specs.declared.boxes.Tracked.{Tracked}
 
@@ -19,8 +19,8 @@ from_outside : (start extent x : ℕ) → IsTrue (nat_lt (x * 100000000000000000
 from_outside start extent x = (λ t. grind (arith, nat_tests), λ h. grind (arith, nat_tests))
 
 by_sign : (minus : Bool) (start extent : Decimal) (x : ℕ) → start.minus ≡ minus → IsTrue (is_touched start extent x) ↔ IsIn (side_of start extent) x
-by_sign true start extent x e = rw e (from_outside (size_of start) (size_of extent) x)
-by_sign false start extent x e = rw e (from_inside (size_of start) (size_of extent) x)
+by_sign true start extent x e = rw e (from_outside (units_of start) (units_of extent) x)
+by_sign false start extent x e = rw e (from_inside (units_of start) (units_of extent) x)
 
 pub side_touched : (start extent : Decimal) (x : ℕ) → IsTrue (is_touched start extent x) ↔ IsIn (side_of start extent) x
 side_touched start extent x = by_sign start.minus start extent x refl

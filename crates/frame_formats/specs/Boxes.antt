@@ -76,8 +76,8 @@ box_of line = box_in (parts_of 44 line)
 -- ---- the cover
 
 -- a number without its sign, in units of which a pixel has 10 ^ 20
-abbrev pub size_of : Decimal → ℕ
-size_of d = d.whole * 100000000000000000000 + d.part
+abbrev pub units_of : Decimal → ℕ
+units_of d = d.whole * 100000000000000000000 + d.part
 
 -- how many pixels so many units are at least
 abbrev pub pixels_up : ℕ → ℕ
@@ -109,9 +109,9 @@ pub record IsBox (b : Tracked) : Type 0 where
 -- the first pixel that has a part of what begins there and is so long, and how many such pixels there are; where it ends before the frame there is none, and the first one is far outside
 abbrev pub side_of : Decimal → Decimal → ℕ × ℕ
 side_of start extent =
-    if not start.minus then (size_of start / 100000000000000000000, pixels_up (size_of start + size_of extent) - size_of start / 100000000000000000000)
-    else if nat_le (size_of extent) (size_of start) then (18446744073709551615, 0)
-    else (0, pixels_up (size_of extent - size_of start))
+    if not start.minus then (units_of start / 100000000000000000000, pixels_up (units_of start + units_of extent) - units_of start / 100000000000000000000)
+    else if nat_le (units_of extent) (units_of start) then (18446744073709551615, 0)
+    else (0, pixels_up (units_of extent - units_of start))
 
 abbrev pub window_by : ℕ × ℕ → ℕ × ℕ → Window
 window_by across down = record { left = across.0; top = down.0; width = across.1; height = down.1 }
@@ -128,8 +128,8 @@ cover_of b = record { range = Frames (b.frame - 1) b.frame; change = Fill (windo
 -- the pixel of this number has a part of what begins there and is so long
 abbrev pub is_touched : Decimal → Decimal → ℕ → Bool
 is_touched start extent x =
-    if start.minus then nat_lt (x * 100000000000000000000 + size_of start) (size_of extent)
-    else nat_lt (size_of start) ((x + 1) * 100000000000000000000) && nat_lt (x * 100000000000000000000) (size_of start + size_of extent)
+    if start.minus then nat_lt (x * 100000000000000000000 + units_of start) (units_of extent)
+    else nat_lt (units_of start) ((x + 1) * 100000000000000000000) && nat_lt (x * 100000000000000000000) (units_of start + units_of extent)
 
 abbrev pub Touches : Tracked → ℕ → ℕ → Type 0
 Touches b x y = IsTrue (is_touched b.left b.width x) × IsTrue (is_touched b.top b.height y)

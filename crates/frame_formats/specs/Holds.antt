@@ -3,7 +3,7 @@ use Rattle.std.specs.Prelude.{◌≡◌, ◌≤◌, ℕ, ◌+◌, ◌-◌, ◌/�
 use Rattle.std.specs.Prelude.{IsPermutation}
 use Rattle.std.specs.List.{AllAdjacentBelow, flat_map, range_with_len, slice_get}
 use Rattle.std.specs.List.Sorted.{IsNonDecreasingBy}
-use Rattle.frame_formats.specs.Boxes.{size_of, cover_of, each_box, first_of, Touches}
+use Rattle.frame_formats.specs.Boxes.{units_of, cover_of, each_box, first_of, Touches}
 use Rattle.frame_formats.specs.declared.boxes.Decimal.{Decimal}
 use Rattle.frame_formats.specs.declared.boxes.Tracked.{Tracked}
 use Rattle.frame_formats.specs.declared.ranges.Range.TheVariants.{Frames}
@@ -20,8 +20,8 @@ abbrev pub missing : Tracked → Tracked → ℕ
 missing a b = b.frame - a.frame - 1
 
 -- whether the second box goes on where the first ends: both are of one track, and at most so many frames are between them
-abbrev pub goes_on : ℕ → Tracked → Tracked → Bool
-goes_on hold a b = nat_lt 0 (track_of a) && (track_of a == track_of b && (nat_lt a.frame b.frame && nat_le (missing a b) hold))
+abbrev pub continues : ℕ → Tracked → Tracked → Bool
+continues hold a b = nat_lt 0 (track_of a) && (track_of a == track_of b && (nat_lt a.frame b.frame && nat_le (missing a b) hold))
 
 -- boxes by their tracks, and those of one track by their frames
 pub record AreByTracks (bs : List Tracked) : Type 0 where
@@ -32,7 +32,7 @@ pub record AreByTracks (bs : List Tracked) : Type 0 where
 abbrev pub both_go_on : ℕ → Option Tracked → Option Tracked → Bool
 both_go_on hold None b = false
 both_go_on hold (Some a) None = false
-both_go_on hold (Some a) (Some b) = goes_on hold a b
+both_go_on hold (Some a) (Some b) = continues hold a b
 
 abbrev pub goes_on_at : ℕ → List Tracked → ℕ → Bool
 goes_on_at hold bs at = both_go_on hold (slice_get bs at) (slice_get bs (at + 1))
@@ -49,7 +49,7 @@ kept before after b = record { range = Frames (b.frame - 1 - before) (min (b.fra
 
 -- where a number is, in units after the least number
 abbrev pub place_of : Decimal → ℕ
-place_of d = if d.minus then 429496729600000000000000000000 - size_of d else 429496729600000000000000000000 + size_of d
+place_of d = if d.minus then 429496729600000000000000000000 - units_of d else 429496729600000000000000000000 + units_of d
 
 -- the size of so many units
 abbrev pub size_by : ℕ → Decimal
@@ -60,7 +60,7 @@ abbrev pub first_start : Decimal → Decimal → Decimal
 first_start a b = if nat_le (place_of a) (place_of b) then a else b
 
 abbrev pub both_extent : Decimal → Decimal → Decimal → Decimal → Decimal
-both_extent a long b wide = size_by (max (place_of a + size_of long) (place_of b + size_of wide) - place_of (first_start a b))
+both_extent a long b wide = size_by (max (place_of a + units_of long) (place_of b + units_of wide) - place_of (first_start a b))
 
 -- the smallest box around two
 abbrev pub around : Tracked → Tracked → Tracked

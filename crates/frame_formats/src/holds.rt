@@ -4,8 +4,8 @@ ghost use Rattle.std.specs.Prelude.{◌≡◌, ◌<◌, ◌≤◌, ◌+◌, ◌�
 ghost use Rattle.std.specs.List.{slice_get};
 ghost use Rattle.std.specs.Option.{option_to_list};
 ghost use Rattle.std.specs.List.Sorted.{IsNonDecreasingBy};
-ghost use Rattle.frame_formats.specs.Boxes.{IsDecimal, IsExtent, IsBox, IsTracked, each_box, size_of};
-ghost use Rattle.frame_formats.specs.Holds.{track_of, missing, goes_on, goes_on_at, comes_at, kept, kept_on, filled, place_of, size_by, first_start, both_extent, around, HasBoth, between, held_at, held, AreByTracks, AreHeld};
+ghost use Rattle.frame_formats.specs.Boxes.{IsDecimal, IsExtent, IsBox, IsTracked, each_box, units_of};
+ghost use Rattle.frame_formats.specs.Holds.{track_of, missing, continues, goes_on_at, comes_at, kept, kept_on, filled, place_of, size_by, first_start, both_extent, around, HasBoth, between, held_at, held, AreByTracks, AreHeld};
 
 use crate::boxes::{Decimal, PIXEL, Tracked, cover_of, put_in_order, read_tracked};
 use crate::lists::WordsFault;
@@ -34,8 +34,8 @@ fn missing(first: &Tracked, next: &Tracked) -> usize
 }
 
 // Whether the second box goes on where the first ends.
-fn goes_on(hold: usize, first: &Tracked, next: &Tracked) -> bool
-    ensures { result ≡ goes_on hold first.now next.now }
+fn continues(hold: usize, first: &Tracked, next: &Tracked) -> bool
+    ensures { result ≡ continues hold first.now next.now }
 {
     let track = track_of(first);
     track > 0 && track == track_of(next) && first.frame < next.frame && missing(first, next) <= hold
@@ -46,7 +46,7 @@ fn goes_on_at(hold: usize, boxes: &[Tracked], at: usize) -> bool
     requires { at < length boxes.now }
     ensures { result ≡ goes_on_at hold boxes.now at }
 {
-    boxes.len() - at > 1 && goes_on(hold, &boxes[at], &boxes[at + 1])
+    boxes.len() - at > 1 && continues(hold, &boxes[at], &boxes[at + 1])
 }
 
 // The cover of a box that is kept for so many frames before its own and after it.
@@ -79,9 +79,9 @@ fn place_of(number: Decimal) -> u128
     }
 }
 
-fn size_of(number: Decimal) -> u128
+fn units_of(number: Decimal) -> u128
     requires { IsDecimal number }
-    ensures size { result ≡ size_of number }
+    ensures size { result ≡ units_of number }
     ensures small { result < 429496729600000000000000000000 }
 {
     number.whole as u128 * PIXEL + number.part
@@ -104,7 +104,7 @@ fn both_sides(first: Decimal, long: Decimal, second: Decimal, wide: Decimal) -> 
     } else {
         (second, other)
     };
-    let units = (from + size_of(long)).max(other + size_of(wide)) - begin;
+    let units = (from + units_of(long)).max(other + units_of(wide)) - begin;
     let extent = Decimal {
         minus: false,
         whole: (units / PIXEL) as usize,

@@ -4,10 +4,10 @@ use Rattle.std.specs.List.{slice_get}
 use Rattle.std.proofs.lemmas.Bool.{cases_lt}
 use Rattle.std.proofs.Math.Nat.{mul-le-mul_right}
 use Rattle.image_model.proofs.Cells.{slice_get-append_left, slice_get-append_right}
-use Rattle.image_ops.specs.Made.{AppendsRow, AreMade}
+use Rattle.image_ops.specs.Made.{AddsRow, AreMade}
 
 -- one pixel more
-pub one_added : {T : Type 0} (answers : ℕ → T → Type 0) (old now : List T) (n : ℕ) (value : T) → AppendsRow answers old now n → answers n value → AppendsRow answers old (now ++ (value ∷ [])) (n + 1)
+pub one_added : {T : Type 0} (answers : ℕ → T → Type 0) (old now : List T) (n : ℕ) (value : T) → AddsRow answers old now n → answers n value → AddsRow answers old (now ++ (value ∷ [])) (n + 1)
 one_added answers old now n value so right = record {
   as_many = omega (arith, length-append now (value ∷ []), so.as_many);
   still = λ k below. slice_get-append_left now (value ∷ []) k (omega (arith, below, so.as_many)) ∙ so.still k below;
@@ -24,7 +24,7 @@ one_added answers old now n value so right = record {
 }
 
 -- one row more
-pub row_added : {T : Type 0} (answers : ℕ → ℕ → T → Type 0) (width y : ℕ) (old new : List T) → AreMade answers width y old → AppendsRow (λ x. answers x y) old new width → AreMade answers width (y + 1) new
+pub row_added : {T : Type 0} (answers : ℕ → ℕ → T → Type 0) (width y : ℕ) (old new : List T) → AreMade answers width y old → AddsRow (λ x. answers x y) old new width → AreMade answers width (y + 1) new
 row_added answers width y old new so row = record {
   as_many = omega (arith, so.as_many, row.as_many);
   each = λ x j p column upto is.

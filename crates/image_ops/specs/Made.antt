@@ -2,7 +2,7 @@
 use Rattle.std.specs.Prelude.{◌≡◌, ℕ, ◌+◌, ◌*◌, ◌<◌, List, length, slice_get, Some}
 
 -- the list goes on with as many results, by their numbers
-pub record AppendsRow {T : Type 0} (answers : ℕ → T → Type 0) (old new : List T) (width : ℕ) : Type 0 where
+pub record AddsRow {T : Type 0} (answers : ℕ → T → Type 0) (old new : List T) (width : ℕ) : Type 0 where
   pub as_many : length new ≡ length old + width
   pub still : (k : ℕ) → k < length old → slice_get new k ≡ slice_get old k
   pub each : (x : ℕ) (p : T) → x < width → slice_get new (length old + x) ≡ Some p → answers x p

@@ -3,7 +3,7 @@
 ghost use Rattle.std.specs.Prelude.{◌≡◌, ◌*◌, ◌+◌, ◌^◌, ◌≤◌, ◌<◌, IsOk, IfOk, length};
 ghost use Rattle.std.specs.Vec.{vec_len, vec_capacity};
 ghost use Rattle.image_model.specs.ByPlace.{TakesPlacesOf};
-ghost use Rattle.image_ops.specs.Made.{AppendsRow, AreMade};
+ghost use Rattle.image_ops.specs.Made.{AddsRow, AreMade};
 
 use std::alloc::{AllocError, Global};
 
@@ -13,7 +13,7 @@ fn push_row<T, F: Fn(usize, usize) -> T>(pixels: &mut Vec<T>, width: usize, y: u
     requires callable { (x : _) → x < width → F.pre f.now x y }
     ensures capacity { vec_capacity pixels.new ≡ vec_capacity pixels.old }
     ensures len { vec_len pixels.new ≡ vec_len pixels.old + width }
-    ensures added { AppendsRow (λ x. F.post f.now x y) pixels.old.items pixels.new.items width }
+    ensures added { AddsRow (λ x. F.post f.now x y) pixels.old.items pixels.new.items width }
 {
     for x in 0..width {
         pixels.push_reserved(f(x, y));
