@@ -1,4 +1,4 @@
-//! Rows of each width up to two blocks of 64 bytes and more, which are copied, compared and cloned by
+//! Rows of each width up to two blocks of 64 bytes and more. They are copied, compared and cloned by
 //! parts whose lengths the compiler knows.
 
 ghost use Rattle.std.specs.Prelude.{◌≡◌, ◌+◌, ◌<◌};
