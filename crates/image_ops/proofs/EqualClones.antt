@@ -9,7 +9,7 @@ use Rattle.std.specs.declared.result.Result.{Result}
 use Rattle.std.specs.declared.result.Result.TheVariants.{Ok, Err}
 use Rattle.std.specs.Result.{OnOk}
 use Rattle.image_model.specs.Layout.{Layout}
-use Rattle.image_model.specs.Rows.{row, row_count, joined_rows}
+use Rattle.image_model.specs.Rows.{row}
 use Rattle.image_model.proofs.Rows.{joined_upto, joined_upto_more}
 use Rattle.image_ops.specs.Clones.{ClonesEqual, GetsClones}
 

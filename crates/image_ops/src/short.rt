@@ -49,8 +49,9 @@ fn has_blocks(width: usize, block: usize) -> bool
 }
 
 /// How many cells a block of a row of `width` cells has, for cells of at most 16 bytes. It is 0 in a
-/// shorter row, and for larger cells. Each block ends with a test. So cells of 1, 2 and 4 bytes are
-/// compared by 256 or 128 bytes where such blocks fit the row. Others are compared by 64 bytes.
+/// shorter row, and for larger cells. Each block ends with a test, so long ones are
+/// faster. Cells of 1, 2 and 4 bytes are compared by 256 or 128 bytes where such blocks fit the
+/// row. Others go by 64 bytes.
 #[inline(always)]
 pub(crate) fn block_of_row<T>(cells: &[T], width: usize) -> usize
     ensures { result ≤ width }

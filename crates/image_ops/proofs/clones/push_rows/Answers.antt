@@ -1,11 +1,10 @@
 -- The clones of one row more, for which there is room.
-use Rattle.std.proofs.Common.{◌≡◌, ◌+◌, ◌*◌, ◌≤◌, subst, arith}
+use Rattle.std.proofs.Common.{◌≡◌, ◌+◌, ◌*◌, ◌≤◌, arith}
 use Rattle.std.proofs.Math.Nat.{mul-le-mul_right}
-use Rattle.std.specs.List.{AllZip}
 use Rattle.image_shape.specs.Shape.{shape_width, shape_height, shaped}
 use Rattle.image_model.specs.Rows.{row_count}
 use Rattle.image_model.proofs.Rows.{some_pixel, row_count-le}
-use Rattle.image_ops.proofs.EqualClones.{AreClonesUpto, clones_more}
+use Rattle.image_ops.proofs.EqualClones.{clones_more}
 use Rattle.image_ops.proofs.clones.push_rows.Goals as goal
 
 pub push_clones-requires : goal.push_clones-requires
