@@ -29,7 +29,7 @@ abbrev pub sum_at : List ℕ → ℕ → ℕ
 sum_at sums k = slice_index_or sums k 0
 
 -- each sum has the sample of a row more
-pub record AddsRow (bytes : SampleBytes) (row old new : List ℕ) : Type 0 where
+pub record AddsSamples (bytes : SampleBytes) (row old new : List ℕ) : Type 0 where
   pub as_many : length new ≡ length old
   pub each : (k : ℕ) → k < length old → sum_at new k ≡ sum_at old k + sample_in bytes (λ n. n) row (k * sample_cells bytes)
 

@@ -8,7 +8,7 @@ ghost use Rattle.image_model.specs.Windows.{window_view, IsInside};
 ghost use Rattle.image_shape.specs.Window.{as_window};
 ghost use Rattle.image_model.specs.Rows.{row_count};
 ghost use Rattle.image_shape.specs.Shape.{shape_height, shape_stride, shape_width, shaped, shaped_grid};
-ghost use Rattle.image_ops.specs.Blur.{blurred, column_upto, pixels_upto, sum_at, AddsRow, AddsRows, BlursPlace, BlursRow, PutsSample};
+ghost use Rattle.image_ops.specs.Blur.{blurred, column_upto, pixels_upto, sum_at, AddsSamples, AddsRows, BlursPlace, BlursRow, PutsSample};
 ghost use Rattle.image_ops.specs.Means.{sample_cells, sample_in, sample_number};
 
 use crate::division::{factor_of, mean_by};
@@ -23,7 +23,7 @@ pub(crate) fn add_row(bytes: SampleBytes, row: &[u8], sums: &mut [u32])
     requires room { length row.now < 2 ^ 32 }
     requires bounds { (k : ℕ) → k < length sums.old → sum_at sums.old k
         + sample_in bytes (λ n. n) row.now (k * sample_cells bytes) < 2 ^ 32 }
-    ensures { AddsRow bytes row.now sums.old sums.new }
+    ensures { AddsSamples bytes row.now sums.old sums.new }
 {
     let cells = cells_of(bytes);
     for k in 0..sums.len() {
@@ -47,7 +47,7 @@ pub(crate) fn take_row(bytes: SampleBytes, row: &[u8], sums: &mut [u32])
     requires room { length row.now < 2 ^ 32 }
     requires parts { (k : ℕ) → k < length sums.old
         → sample_in bytes (λ n. n) row.now (k * sample_cells bytes) ≤ sum_at sums.old k }
-    ensures { AddsRow bytes row.now sums.new sums.old }
+    ensures { AddsSamples bytes row.now sums.new sums.old }
 {
     let cells = cells_of(bytes);
     for k in 0..sums.len() {
