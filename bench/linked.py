@@ -3,10 +3,10 @@
 Where a loop lies can change its time by a third, and any change moves what comes after it. So both builds are timed at each place.
 """
 import pathlib
-import subprocess
+import sys
 
-# What a program of Rattle's is linked with.
-LIBRARIES = ["/opt/rattle/c/libos_c.a", "/opt/rattle/c/liblibc_c.a", "-lpthread", "-lm"]
+sys.path.insert(0, str(pathlib.Path(__file__).resolve().parent.parent / "tools"))
+from c_library import command, compiler, shift, toolchain
 
 
 def placed(checkout, crate, place, folder):
@@ -16,7 +16,5 @@ def placed(checkout, crate, place, folder):
         return out / crate
     program = pathlib.Path(folder) / "_".join([*out.parts[1:], str(place)])
     if not program.exists():
-        pad = program.with_suffix(".s")
-        pad.write_text(f".text\n.skip {16 * place}, 0x90\n.section .note.GNU-stack\n")
-        subprocess.run(["gcc", "-o", program, pad, out / f"{crate}.o", *LIBRARIES], check=True)
+        command(*compiler(), "-o", program, shift(program.with_suffix(".s"), place), out / f"{crate}.o", *toolchain(), "-lpthread", "-lm")
     return program

@@ -29,7 +29,7 @@ import zipfile
 
 import c_library
 import python_package
-from c_library import Failure, command, compiler, toolchain
+from c_library import Failure, command, compiler, shift, toolchain
 from processes import end_on_signals, end_on_signals_too, run_to_end, started, unbroken
 from program import built, say
 from speed_tables import SHOWN, Call, call_tables, calls_shown, frames_table, others_table, plot, script_table
@@ -43,8 +43,8 @@ OTHERS, OTHERS_END = "<!-- table beside OpenCV and NumPy -->", "<!-- end of that
 RUST = ["rustc", "--edition", "2021", "-C", "opt-level=3", "-C", "target-cpu=x86-64-v2", "-C", "panic=abort", "-C", "codegen-units=1"]
 # How often each program runs on each script and each video.
 RUNS = 7
-# The builds in which the calls are timed: the code of each lies so many bytes after that of the one before it.
-BUILDS, APART = 5, 16
+# The builds in which the calls are timed: the code of each lies 16 bytes after that of the one before it.
+BUILDS = 5
 # How many bytes the planes of a frame have: 1920 by 1080 of brightness, and half as many of chroma.
 CELLS = 1920 * 1080 * 3 // 2
 # The same of a picture in colour, and the head before it.
@@ -114,10 +114,7 @@ def make(crate, speed, numbers, with_video):
     c_library.build()
     ours = [*rust(crate), product("bench_exports"), ROOT / "out/c/libimgref.a", *toolchain()]
     for k in range(BUILDS):
-        # (what is linked first lies first: so many bytes of nothing move all code after them)
-        shift = OUT / "shift.s"
-        shift.write_text(f'.section .note.GNU-stack,"",@progbits\n.text\n.balign 64\n.skip {APART * k + 1}\n')
-        command(*compiler(), "-O2", f"-I{ROOT / 'include'}", "-o", f"{speed}{k}", shift, ROOT / "bench/speed.c", *ours, "-lpthread", "-ldl", "-lm")
+        command(*compiler(), "-O2", f"-I{ROOT / 'include'}", "-o", f"{speed}{k}", shift(OUT / "shift.s", k), ROOT / "bench/speed.c", *ours, "-lpthread", "-ldl", "-lm")
     command(*compiler(), "-O2", "-o", numbers, ROOT / "bench/numbers.c")
 
 

@@ -28,6 +28,8 @@ OUT = ROOT / "out/c"
 # The version of this port (CHANGELOG.md), and the number that changes where a built caller has to be built again.
 VERSION, ABI = "0.1.0", "1"
 EXPORTS = "imgref_*"
+# Functions begin at multiples of so many bytes.
+APART = 16
 
 
 class Failure(Exception):
@@ -73,6 +75,12 @@ def toolchain():
     """The archives of the toolchain's own C code."""
     kit = pathlib.Path(shutil.which("rt")).resolve().parent.parent
     return sorted(it for it in (kit / "c").glob("lib*.a"))
+
+
+def shift(file, places):
+    """Writes an assembler file of nothing that, linked first, moves all code after it by so many times 16 bytes. Returns its name."""
+    file.write_text(f'.section .note.GNU-stack,"",@progbits\n.text\n.balign 64\n.skip {APART * places + 1}\n')
+    return file
 
 
 def link(archive):
