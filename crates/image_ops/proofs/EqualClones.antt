@@ -1,6 +1,5 @@
 -- Clones that equal what they were made of, row by row.
-use Rattle.std.proofs.Common.{◌≡◌, ℕ, suc, ◌+◌, ◌-◌, ◌<◌, ◌≤◌, List, [], ◌∷◌, ◌++◌, length, take, drop, get_or, refl, sym, subst, ap, ◌∙◌, append_assoc, append-nil, take_all, length-append, arith}
-use Rattle.std.proofs.lemmas.List.{take_more}
+use Rattle.std.proofs.Common.{◌≡◌, ℕ, suc, ◌+◌, ◌-◌, ◌≤◌, List, [], ◌∷◌, ◌++◌, length, take, drop, refl, sym, subst, ap, ◌∙◌, append_assoc, append-nil, take_all, length-append, arith}
 use Rattle.image_ops.proofs.ShortRows.{front_parts}
 use Rattle.std.specs.List.{AllZip, AppendsClones}
 use Rattle.std.specs.Vec.{vec_len, vec_capacity}
@@ -58,12 +57,6 @@ module _ {T : Type 0} (is_clone : T → T → Type 0) where
       pub gets_upto : (new : Vec T Z) (m : ℕ) → n ≤ m → m ≤ length cells → GetsClones is_clone now new (take (m - n) (drop n cells)) → GetsClones is_clone old new (take m cells)
       gets_upto new m order within more =
           subst (GetsClones is_clone old new) (sym (front_parts cells n m order within)) (gets_both old now new (take n cells) (take (m - n) (drop n cells)) so more)
-
-      -- and of one cell more
-      pub gets_one : (new : Vec T Z) (clone d : T) → n < length cells → is_clone (get_or cells n d) clone → vec_capacity new ≡ vec_capacity now → vec_len new ≡ vec_len now + 1 → new.items ≡ now.items ++ (clone ∷ [])
-          → GetsClones is_clone old new (take (n + 1) cells)
-      gets_one new clone d below is room len items =
-          subst (GetsClones is_clone old new) (sym (take_more cells n d below)) (gets_both old now new (take n cells) (get_or cells n d ∷ []) so (gets_pushed now new (get_or cells n d ∷ []) (clone ∷ []) (is, tt) room len items))
 
       -- and of all that are left
       pub gets_rest : (new : Vec T Z) → n ≤ length cells → GetsClones is_clone now new (take (length cells - n) (drop n cells)) → GetsClones is_clone old new cells

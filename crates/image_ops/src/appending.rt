@@ -83,22 +83,53 @@ fn push_below_four<T: Clone>(buf: &mut Vec<T>, cells: &[T]) -> Result<(), AllocE
     Ok(())
 }
 
-// Appends the clones of any cells, by fours.
+// Appends the clones of eight cells.
 #[inline(always)]
-fn push_fours<T: Clone>(buf: &mut Vec<T>, cells: &[T]) -> Result<(), AllocError>
+fn push_eight<T: Clone>(buf: &mut Vec<T>, cells: &[T]) -> Result<(), AllocError>
+    requires eight { length cells.now ≡ 8 }
+    requires room { vec_len buf.old + 8 ≤ vec_capacity buf.old }
+    ensures { OnOk result (GetsClones T.is_clone buf.old buf.new cells.now) }
+{
+    let first = four_clones(&cells[..4])?;
+    let second = four_clones(&cells[4..])?;
+    push_four(buf, first);
+    push_four(buf, second);
+    Ok(())
+}
+
+// Appends the clones of fewer than eight cells.
+#[inline(always)]
+fn push_below_eight<T: Clone>(buf: &mut Vec<T>, cells: &[T]) -> Result<(), AllocError>
+    requires few { length cells.now < 8 }
     requires room { vec_len buf.old + length cells.now ≤ vec_capacity buf.old }
     ensures { OnOk result (GetsClones T.is_clone buf.old buf.new cells.now) }
 {
     let mut done = 0;
-    while cells.len() - done >= 4 {
-        let clones = four_clones(&cells[done..done + 4])?;
+    if cells.len() >= 4 {
+        let clones = four_clones(&cells[..4])?;
         push_four(buf, clones);
-        done += 4;
+        done = 4;
     }
     push_below_four(buf, &cells[done..])
 }
 
-// The same, by sixteens.
+// Appends the clones of fewer than sixteen cells: of eight, of four, and of those that are left. So
+// there is no loop.
+#[inline(always)]
+fn push_below_sixteen<T: Clone>(buf: &mut Vec<T>, cells: &[T]) -> Result<(), AllocError>
+    requires few { length cells.now < 16 }
+    requires room { vec_len buf.old + length cells.now ≤ vec_capacity buf.old }
+    ensures { OnOk result (GetsClones T.is_clone buf.old buf.new cells.now) }
+{
+    let mut done = 0;
+    if cells.len() >= 8 {
+        push_eight(buf, &cells[..8])?;
+        done = 8;
+    }
+    push_below_eight(buf, &cells[done..])
+}
+
+// Appends the clones of any cells, by sixteens.
 #[inline(always)]
 fn push_sixteens<T: Clone>(buf: &mut Vec<T>, cells: &[T]) -> Result<(), AllocError>
     requires room { vec_len buf.old + length cells.now ≤ vec_capacity buf.old }
@@ -109,10 +140,7 @@ fn push_sixteens<T: Clone>(buf: &mut Vec<T>, cells: &[T]) -> Result<(), AllocErr
         push_sixteen(buf, &cells[done..done + 16])?;
         done += 16;
     }
-    if done == cells.len() {
-        return Ok(());
-    }
-    push_fours(buf, &cells[done..])
+    push_below_sixteen(buf, &cells[done..])
 }
 
 // Appends the clones of cells whose number is a multiple of 16. So there is no rest.
@@ -148,29 +176,21 @@ fn push_many<T: Clone>(buf: &mut Vec<T>, cells: &[T]) -> Result<(), AllocError>
     Ok(())
 }
 
-// How the clones of a row are appended: by blocks of so many cells, of which there is no rest; by
-// sixteens and what is left; by fours.
-const SIXTY_FOURS: usize = 64;
+/// How the clones of a row are appended: by blocks of so many cells, of which there is no rest.
+pub(crate) const SIXTY_FOURS: usize = 64;
 
-const SIXTEENS: usize = 16;
+pub(crate) const SIXTEENS: usize = 16;
 
-const ANY: usize = 0;
+/// By sixteens and what is left; fewer than sixteen; one by one.
+pub(crate) const ANY: usize = 0;
 
-const FOURS: usize = 4;
+pub(crate) const FEW: usize = 4;
 
-/// Whether a cell has 1, 2, 4 or 8 bytes, and so goes by one register. There is a cell: so the compiler
-/// knows its size, and makes only the loops for it.
-#[inline(always)]
-pub(crate) fn go_by_registers<T>(cells: &[T]) -> bool
-    requires some { 0 < length cells.now }
-{
-    let Some(cell) = cells.first() else {
-        unreachable!()
-    };
-    matches!(size_of_val(cell), 1 | 2 | 4 | 8)
-}
+pub(crate) const ONES: usize = 1;
 
-/// How rows of so many of these cells are appended. Blocks of 64 are for bytes.
+/// How rows of so many of these cells are appended. Only cells of 1, 2, 4 or 8 bytes go by one register,
+/// and so by blocks. Blocks of 64 are for bytes. There is a cell: so the compiler knows its size, and
+/// makes only the loops for it.
 #[inline(always)]
 pub(crate) fn blocks_to_clone<T>(cells: &[T], width: usize) -> usize
     requires some { 0 < length cells.now }
@@ -179,9 +199,12 @@ pub(crate) fn blocks_to_clone<T>(cells: &[T], width: usize) -> usize
     let Some(cell) = cells.first() else {
         unreachable!()
     };
-    if width < 16 {
-        FOURS
-    } else if size_of_val(cell) == 1 && width % 64 == 0 {
+    let size = size_of_val(cell);
+    if !matches!(size, 1 | 2 | 4 | 8) {
+        ONES
+    } else if width < 16 {
+        FEW
+    } else if size == 1 && width % 64 == 0 {
         SIXTY_FOURS
     } else if width % 16 == 0 {
         SIXTEENS
@@ -204,8 +227,8 @@ pub(crate) fn push_clones<T: Clone, const HOW: usize>(
         push_many(buf, cells)
     } else if HOW == SIXTEENS {
         push_whole(buf, cells)
-    } else if HOW == FOURS {
-        push_fours(buf, cells)
+    } else if HOW == FEW {
+        push_below_sixteen(buf, cells)
     } else if HOW == ANY {
         push_sixteens(buf, cells)
     } else {

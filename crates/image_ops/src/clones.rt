@@ -9,7 +9,7 @@ ghost use Rattle.std.specs.List.{AllZip};
 ghost use Rattle.std.specs.Vec.{vec_len, vec_capacity};
 ghost use Rattle.image_ops.specs.Clones.{AreWhole, ClonesEqual};
 
-use crate::appending::{blocks_to_clone, go_by_registers, push_clones};
+use crate::appending::{ANY, FEW, ONES, SIXTEENS, SIXTY_FOURS, blocks_to_clone, push_clones};
 use image_rows::row;
 use image_shape::Shape;
 use std::alloc::{AllocError, Global};
@@ -63,14 +63,12 @@ fn push_by_width<T: Clone>(pixels: &mut Vec<T>, cells: &[T], shape: Shape) -> Re
         (AllZip T.is_clone (joined_rows (shaped cells.now shape)) pixels.new.items) }
     ensures succeeds { shape_width shape * shape_height shape ≡ 0 → IsOk result }
 {
-    if !go_by_registers(cells) {
-        return push_rows::<T, 1>(pixels, cells, shape);
-    }
     match blocks_to_clone(cells, shape.width()) {
-        64 => push_rows::<T, 64>(pixels, cells, shape),
-        16 => push_rows::<T, 16>(pixels, cells, shape),
-        4 => push_rows::<T, 4>(pixels, cells, shape),
-        _ => push_rows::<T, 0>(pixels, cells, shape),
+        SIXTY_FOURS => push_rows::<T, SIXTY_FOURS>(pixels, cells, shape),
+        SIXTEENS => push_rows::<T, SIXTEENS>(pixels, cells, shape),
+        FEW => push_rows::<T, FEW>(pixels, cells, shape),
+        ANY => push_rows::<T, ANY>(pixels, cells, shape),
+        _ => push_rows::<T, ONES>(pixels, cells, shape),
     }
 }
 

@@ -1,7 +1,7 @@
 -- Rows joined at the front of the list, one after the other.
 use Rattle.std.proofs.Common.{◌≡◌, ℕ, ◌+◌, ◌-◌, ◌*◌, ◌<◌, ◌≤◌, List, ◌++◌, length, take, drop, sym, ap, ◌∙◌, arith, refl}
 use Rattle.std.proofs.lemmas.List.{take_at, drop_at, drop-drop, append-nil, take-append-drop}
-use Rattle.std.proofs.Math.Nat.{mul-le-mul_left}
+use Rattle.std.proofs.Math.Nat.{mul-add, mul-le-mul_left, mul-le-mul_right}
 use Rattle.image_model.specs.Layout.{Layout, layout, Fits}
 use Rattle.image_model.specs.Rows.{row, joined_rows}
 use Rattle.image_model.specs.Shifts.{shifted}
@@ -64,5 +64,13 @@ module _ {T : Type 0} (old : State T) (w h s : ℕ) (fits : Fits (layout old.cel
 pub compacted_already : {T : Type 0} (cells : List T) (w h s : ℕ) → Fits (layout cells w h s) → (0 < w → 0 < h → w ≡ s) → cells ≡ joined_rows (layout cells w h s) ++ drop (w * h) cells
 compacted_already cells w h s fits touch = grind (arith, take-append-drop, joined_in_place)
 
+-- where a row ends before it begins, a later one does too
+pub stays_apart : (w s first y : ℕ) → w ≤ first * (s - w) → w ≤ s → first ≤ y → y * w + w ≤ y * s
+stays_apart w s first y apart covers later =
+    let more : first * (s - w) ≤ y * (s - w) = mul-le-mul_right (s - w) later in
+    let same : w + (s - w) ≡ s = omega (arith, covers) in
+    let whole : y * s ≡ y * w + y * (s - w) = rw same at (mul-add y w (s - w)) in
+    omega (arith, apart, more, whole)
+
 -- what the proof of a compaction goes by
-pub ruleset compacting = (compacted_first, compacted_after, compacted_already)
+pub ruleset compacting = (compacted_first, compacted_after, compacted_already, stays_apart)

@@ -14,10 +14,10 @@ pub record State (T : Type 0) : Type 0 where
 pub record IsKnown (n how start len target : ℕ) : Type 0 where
   pub enough : n ≤ len
   pub few : 0 < n → len ≤ 2 * n
-  pub next : how ≡ 2 → target ≡ start + 1
-  pub previous : how ≡ 3 → start ≡ target + 1
-  pub behind : how ≡ 4 → start + len ≤ target
-  pub before : how ≡ 5 → target + len ≤ start
+  pub next : how ≡ 1 → target ≡ start + 1
+  pub previous : how ≡ 2 → start ≡ target + 1
+  pub behind : how ≡ 3 → start + len ≤ target
+  pub before : how ≡ 4 → target + len ≤ start
 
 -- a stretch of a list of so many cells goes to another place in it: towards the back or not
 pub record GoesTo (up : Bool) (start len target count : ℕ) : Type 0 where

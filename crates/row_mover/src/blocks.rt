@@ -10,8 +10,14 @@ ghost use Rattle.std.specs.Prelude.{◌≡◌, ◌+◌, ◌-◌, ◌*◌, ◌<�
 ghost use Rattle.image_model.specs.Shifts.{shifted};
 ghost use Rattle.row_mover.specs.State.{block_at, GoesTo};
 
-use crate::parts::{read_part, write_part};
+use crate::parts::{read_part, write_part, write_words};
 use std::mem::size_of_val;
+
+/// Whether a cell has 1, 2, 4 or 8 bytes, and so goes by one register.
+#[inline(always)]
+pub(crate) fn is_word<T>(cell: &T) -> bool {
+    matches!(size_of_val(cell), 1 | 2 | 4 | 8)
+}
 
 // Copies `N` cells: all are read before one is written.
 fn copy_block<T: Copy, const N: usize>(cells: &mut [T], start: usize, target: usize)
@@ -43,8 +49,13 @@ pub(crate) fn copy_ends<T: Copy, const N: usize>(
     let _count = cells.len();
     let first = read_part::<T, N>(&cells[start..start + N]);
     let last = read_part::<T, N>(&cells[start + len - N..start + len]);
-    write_part(&mut cells[target..target + N], first);
-    write_part(&mut cells[target + len - N..target + len], last);
+    if is_word(&cells[start]) {
+        write_words(&mut cells[target..target + N], first);
+        write_words(&mut cells[target + len - N..target + len], last);
+    } else {
+        write_part(&mut cells[target..target + N], first);
+        write_part(&mut cells[target + len - N..target + len], last);
+    }
 }
 
 // Copies one or two cells: both are read before one is written.
@@ -127,15 +138,6 @@ pub(crate) fn copy_by_blocks<T: Copy>(cells: &mut [T], start: usize, len: usize,
         copy_over::<T, true>(cells, start, len, target);
     } else {
         copy_over::<T, false>(cells, start, len, target);
-    }
-}
-
-/// Whether a cell has 1, 2, 4 or 8 bytes, and so goes by one register.
-#[inline(always)]
-pub(crate) fn are_words<T>(cells: &[T]) -> bool {
-    match cells.first() {
-        Some(cell) => matches!(size_of_val(cell), 1 | 2 | 4 | 8),
-        None => false,
     }
 }
 

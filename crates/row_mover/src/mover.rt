@@ -99,21 +99,19 @@ impl<'a, T: Copy> RowMover<'a, T> {
     }
 }
 
-// What is known of where a stretch goes: nothing; nothing, and it is long; to the next cell; to the
-// cell before it; to a place after its end; to a place that ends before it; mostly over itself.
+// What is known of where a stretch goes: nothing; to the next cell; to the cell before it; to a place
+// after its end; to a place that ends before it; mostly over itself.
 pub(crate) const ANY: usize = 0;
 
-pub(crate) const LONG: usize = 1;
+pub(crate) const NEXT: usize = 1;
 
-pub(crate) const NEXT: usize = 2;
+pub(crate) const PREVIOUS: usize = 2;
 
-pub(crate) const PREVIOUS: usize = 3;
+pub(crate) const BEHIND: usize = 3;
 
-pub(crate) const BEHIND: usize = 4;
+pub(crate) const BEFORE: usize = 4;
 
-pub(crate) const BEFORE: usize = 5;
-
-pub(crate) const OVER: usize = 6;
+pub(crate) const OVER: usize = 5;
 
 /// The most cells and bytes of a row that goes by registers. The tests of longer ones, and a call of
 /// `memmove`, would take longer than its copy.
@@ -152,7 +150,7 @@ fn copy_by<T: Copy, const N: usize, const HOW: usize>(
         copy_before(cells, start, len, target);
     } else if HOW == OVER {
         copy_by_blocks(cells, start, len, target);
-    } else if HOW == ANY && is_short(&cells[start..start + len]) {
+    } else if is_short(&cells[start..start + len]) {
         copy_few(cells, start, len, target);
     } else {
         copy_long(cells, start, len, target);

@@ -4,9 +4,10 @@ ghost use Rattle.image_model.specs.Rows.{joined_rows};
 ghost use Rattle.image_model.specs.Shifts.{rows_compacted, rows_moved, MovesRows};
 ghost use Rattle.row_mover.specs.State.{AreApart, AreJoined, AreMoved, CanMove, IsKnown};
 
-use crate::blocks::are_words;
-use crate::mover::{ANY, BEFORE, BEHIND, FEW, LONG, NEXT, OVER, PREVIOUS, RowMover};
+use crate::blocks::is_word;
+use crate::mover::{ANY, BEFORE, BEHIND, FEW, NEXT, OVER, PREVIOUS, RowMover};
 use crate::parts::part_of_row;
+use std::mem;
 
 impl<T: Copy> RowMover<'_, T> {
     /// Joins the rows of an image at the front of the list, in place: the first `width * height`
@@ -41,22 +42,37 @@ impl<T: Copy> RowMover<'_, T> {
     }
 
     // The same of rows that have pixels, don't touch and aren't short. It isn't inlined: so the loops
-    // of short rows have the registers for themselves.
+    // of short rows have the registers for themselves. The mover is a value here: so its count and its
+    // list are in registers, too.
     #[inline(never)]
+    #[tactic(auto, using(crate::proofs::Compacting::compacting))]
     fn join_long(&mut self, width: usize, height: usize, stride: usize)
         requires rows { AreApart self.old.cells width height stride }
         requires count { self.old.shifts + height ≤ u64.MAX }
         ensures { AreJoined self.old self.new width height stride }
     {
-        self.join_each::<0>(width, height, stride);
+        prove!(self.cells().len() <= usize::MAX);
+        let mut mover = mem::replace(self, RowMover::new(&mut []));
+        // The first rows overlap the places that they go to. All after the first one that doesn't are
+        // apart from theirs.
+        let mut y = 1;
+        while y < height && y * (stride - width) < width {
+            mover.shift_by::<0, OVER>(y * stride, width, y * width);
+            y += 1;
+        }
+        for y in y..height {
+            mover.shift_by::<0, BEFORE>(y * stride, width, y * width);
+        }
+        *self = mover;
     }
 
-    // The loop of `compact_rows`, where rows have pixels and don't touch.
+    // The loop of `compact_rows` for rows of `N` to `2 * N` pixels that don't touch.
     #[inline(always)]
     #[tactic(auto, using(crate::proofs::Compacting::compacting))]
     fn join_each<const N: usize>(&mut self, width: usize, height: usize, stride: usize)
+        requires some { 0 < N }
         requires enough { N ≤ width }
-        requires few { 0 < N → width ≤ 2 * N }
+        requires few { width ≤ 2 * N }
         requires rows { AreApart self.old.cells width height stride }
         requires count { self.old.shifts + height ≤ u64.MAX }
         ensures { AreJoined self.old self.new width height stride }
@@ -64,7 +80,7 @@ impl<T: Copy> RowMover<'_, T> {
         // No row ends past the list, and its length is a `usize`: so no cell's number overflows.
         prove!(self.cells().len() <= usize::MAX);
         for y in 1..height {
-            self.shift_by::<N, LONG>(y * stride, width, y * width);
+            self.shift_by::<N, ANY>(y * stride, width, y * width);
         }
     }
 
@@ -108,18 +124,20 @@ impl<T: Copy> RowMover<'_, T> {
         ensures { AreMoved self.old self.new stride from to width height }
     {
         prove!(self.cells().len() <= usize::MAX);
-        let are_words = are_words(self.cells());
+        let are_words = is_word(&self.cells()[from]);
+        let mut mover = mem::replace(self, RowMover::new(&mut []));
         if from + width <= to {
-            self.move_each::<0, BEHIND>(stride, from, to, width, height);
+            mover.move_each::<0, BEHIND>(stride, from, to, width, height);
         } else if to + width <= from {
-            self.move_each::<0, BEFORE>(stride, from, to, width, height);
+            mover.move_each::<0, BEFORE>(stride, from, to, width, height);
         } else if are_words && from + 1 == to {
-            self.move_each::<0, NEXT>(stride, from, to, width, height);
+            mover.move_each::<0, NEXT>(stride, from, to, width, height);
         } else if are_words && to + 1 == from {
-            self.move_each::<0, PREVIOUS>(stride, from, to, width, height);
+            mover.move_each::<0, PREVIOUS>(stride, from, to, width, height);
         } else {
-            self.move_each::<0, OVER>(stride, from, to, width, height);
+            mover.move_each::<0, OVER>(stride, from, to, width, height);
         }
+        *self = mover;
     }
 
     // The loops of `move_rows`, where rows have pixels.

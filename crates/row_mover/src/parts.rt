@@ -30,6 +30,25 @@ pub fn write_part<T: Copy, const N: usize>(cells: &mut [T], part: [T; N])
     *place = part;
 }
 
+/// The same, two cells at a time. So the compiler keeps cells of 1, 2, 4 or 8 bytes in registers while
+/// others are written. With `write_part` it would keep them on the stack.
+#[inline(always)]
+pub(crate) fn write_words<T: Copy, const N: usize>(cells: &mut [T], part: [T; N])
+    requires { length cells.old ≡ N }
+    ensures { cells.new ≡ part }
+{
+    let _count = cells.len();
+    let mut x = 0;
+    while N - x >= 2 {
+        cells[x] = part[x];
+        cells[x + 1] = part[x + 1];
+        x += 2;
+    }
+    if x < N {
+        cells[x] = part[x];
+    }
+}
+
 /// The cells become those of another list. It isn't inlined, so that a loop over rows keeps its
 /// numbers in registers: each row is one call, and ends in one of `memmove`.
 #[inline(never)]

@@ -13,4 +13,4 @@ loop-done-preserved g c =
     )
 
 pub returns : goal.returns
-returns g c = gets_rest_ok g.T.Clone.is_clone c.args.cells.now c.args.buf.now c.loop-done.buf c.loop-done.done c.loop-done.invariant.1 c.push_fours.result c.push_fours.new.buf c.loop-done.invariant.0 c.push_fours.ensures
+returns g c = gets_rest_ok g.T.Clone.is_clone c.args.cells.now c.args.buf.now c.loop-done.buf c.loop-done.done c.loop-done.invariant.1 c.push_below_sixteen.result c.push_below_sixteen.new.buf c.loop-done.invariant.0 c.push_below_sixteen.ensures
