@@ -129,18 +129,34 @@ fn push_below_sixteen<T: Clone>(buf: &mut Vec<T>, cells: &[T]) -> Result<(), All
     push_below_eight(buf, &cells[done..])
 }
 
-// Appends the clones of any cells, by sixteens.
+// Appends the clones of fewer than thirty-two cells: of sixteen, and of those that are left.
+#[inline(always)]
+fn push_below_thirty_two<T: Clone>(buf: &mut Vec<T>, cells: &[T]) -> Result<(), AllocError>
+    requires few { length cells.now < 32 }
+    requires room { vec_len buf.old + length cells.now ≤ vec_capacity buf.old }
+    ensures { OnOk result (GetsClones T.is_clone buf.old buf.new cells.now) }
+{
+    let mut done = 0;
+    if cells.len() >= 16 {
+        push_sixteen(buf, &cells[..16])?;
+        done = 16;
+    }
+    push_below_sixteen(buf, &cells[done..])
+}
+
+// Appends the clones of any cells, by two sixteens at once.
 #[inline(always)]
 fn push_sixteens<T: Clone>(buf: &mut Vec<T>, cells: &[T]) -> Result<(), AllocError>
     requires room { vec_len buf.old + length cells.now ≤ vec_capacity buf.old }
     ensures { OnOk result (GetsClones T.is_clone buf.old buf.new cells.now) }
 {
     let mut done = 0;
-    while cells.len() - done >= 16 {
+    while cells.len() - done >= 32 {
         push_sixteen(buf, &cells[done..done + 16])?;
-        done += 16;
+        push_sixteen(buf, &cells[done + 16..done + 32])?;
+        done += 32;
     }
-    push_below_sixteen(buf, &cells[done..])
+    push_below_thirty_two(buf, &cells[done..])
 }
 
 // Appends the clones of cells whose number is a multiple of 16. So there is no rest.

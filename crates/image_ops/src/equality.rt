@@ -76,8 +76,6 @@ fn are_equal_by_width<T: PartialEq>(
         16 => have_equal_rows::<T, 16, false>(first, first_shape, second, second_shape),
         8 => have_equal_rows::<T, 8, false>(first, first_shape, second, second_shape),
         4 => have_equal_rows::<T, 4, false>(first, first_shape, second, second_shape),
-        2 => have_equal_rows::<T, 2, false>(first, first_shape, second, second_shape),
-        1 => have_equal_rows::<T, 1, false>(first, first_shape, second, second_shape),
         _ => are_equal_by_blocks(first, first_shape, second, second_shape),
     }
 }
@@ -101,6 +99,9 @@ fn are_equal_by_blocks<T: PartialEq>(
         16 => have_equal_rows::<T, 16, true>(first, first_shape, second, second_shape),
         8 => have_equal_rows::<T, 8, true>(first, first_shape, second, second_shape),
         4 => have_equal_rows::<T, 4, true>(first, first_shape, second, second_shape),
+        3 => have_equal_rows::<T, 3, true>(first, first_shape, second, second_shape),
+        2 => have_equal_rows::<T, 2, true>(first, first_shape, second, second_shape),
+        1 => have_equal_rows::<T, 1, true>(first, first_shape, second, second_shape),
         _ => have_equal_rows::<T, 0, false>(first, first_shape, second, second_shape),
     }
 }
@@ -138,15 +139,11 @@ pub fn are_equal<T: PartialEq>(
     ensures { result
         ≡ is_alike T.eq (shaped first.now first_shape) (shaped second.now second_shape) }
 {
-    match (
-        first_shape.fits(first.len()),
-        second_shape.fits(second.len()),
-    ) {
-        (true, true) => are_equal_fitting(first, first_shape, second, second_shape),
-        (false, false) => {
-            first_shape.width() == second_shape.width()
-                && first_shape.height() == second_shape.height()
-        }
-        _ => false,
+    if first_shape.fits(first.len()) {
+        return second_shape.fits(second.len())
+            && are_equal_fitting(first, first_shape, second, second_shape);
     }
+    !second_shape.fits(second.len())
+        && first_shape.width() == second_shape.width()
+        && first_shape.height() == second_shape.height()
 }

@@ -24,15 +24,17 @@ pub(crate) fn part_to_copy<T>(cells: &[T], width: usize) -> usize
     part_of_row(cells, width, FEW_COPIED)
 }
 
-/// The same of rows that are compared, for cells of at most 8 bytes. Larger ones may hold pointers to
-/// much that is compared, and few of them are compared faster one by one.
+/// The same of rows that are compared, of more than four cells of at most 8 bytes. Larger ones may
+/// hold pointers to much that is compared, and few of them are compared faster one by one.
 #[inline(always)]
 pub(crate) fn part_to_compare<T>(cells: &[T], width: usize) -> usize
     ensures enough { result ≤ width }
     ensures few { 0 < result → width ≤ 2 * result }
 {
     match cells.first() {
-        Some(cell) if size_of_val(cell) <= 8 => part_of_row(cells, width, FEW_COMPARED),
+        Some(cell) if size_of_val(cell) <= 8 && width > 4 => {
+            part_of_row(cells, width, FEW_COMPARED)
+        }
         _ => 0,
     }
 }
@@ -48,10 +50,10 @@ fn has_blocks(width: usize, block: usize) -> bool
     width >= block && (rest == 0 || block - rest <= width / 16)
 }
 
-/// How many cells a block of a row of `width` cells has, for cells of at most 16 bytes. It is 0 in a
-/// shorter row, and for larger cells. Each block ends with a test, so long ones are
-/// faster. Cells of 1, 2 and 4 bytes are compared by 256 or 128 bytes where such blocks fit the
-/// row. Others go by 64 bytes.
+/// How many cells a block of a row of `width` cells has, for cells of at most 16 bytes. It is 0 for
+/// larger cells, and in a row of more than four cells that is shorter than a block. Up to four cells
+/// are one block. Each block ends with a test, so long ones are faster. Cells of 1, 2 and 4 bytes are
+/// compared by 256 or 128 bytes where such blocks fit the row. Others go by 64 bytes.
 #[inline(always)]
 pub(crate) fn block_of_row<T>(cells: &[T], width: usize) -> usize
     ensures { result ≤ width }
@@ -68,7 +70,9 @@ pub(crate) fn block_of_row<T>(cells: &[T], width: usize) -> usize
         9..=16 => (12, 4),
         _ => return 0,
     };
-    if width < least {
+    if width <= 4 {
+        width
+    } else if width < least {
         0
     } else if block > least && has_blocks(width, block) {
         block
