@@ -82,6 +82,10 @@ pub(crate) fn copy_few<T: Copy>(cells: &mut [T], start: usize, len: usize, targe
     requires target { target + len ≤ length cells.old }
     ensures { cells.new ≡ shifted cells.old start len target }
 {
+    // After whole blocks often none is left.
+    if len == 0 {
+        return;
+    }
     if len > 64 {
         copy_ends::<T, 64>(cells, start, len, target);
     } else if len > 32 {
@@ -94,7 +98,7 @@ pub(crate) fn copy_few<T: Copy>(cells: &mut [T], start: usize, len: usize, targe
         copy_ends::<T, 4>(cells, start, len, target);
     } else if len > 2 {
         copy_ends::<T, 2>(cells, start, len, target);
-    } else if len > 0 {
+    } else {
         copy_pair(cells, start, len, target);
     }
 }
