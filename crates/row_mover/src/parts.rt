@@ -61,8 +61,9 @@ pub fn copy_line<T: Copy>(cells: &mut [T], source: &[T])
 }
 
 /// How many cells each part of a row of `width` cells has. The parts are its first and its last cells,
-/// and may overlap. The row has at most `most` cells and bytes, or three quarters of that where a
-/// cell has not 1, 2, 4, 8 or 16 bytes. It is 0 for a longer row, and where there is no cell.
+/// and may overlap. The row has at most `most` cells and bytes. Cells of other sizes than 1, 2, 4, 8
+/// and 16 bytes have at most three quarters of that. It is 0 for a longer row, and where there is no
+/// cell.
 #[inline(always)]
 pub fn part_of_row<T>(cells: &[T], width: usize, most: usize) -> usize
     requires { most ≤ 128 }
