@@ -197,7 +197,7 @@ pub(crate) const SIXTY_FOURS: usize = 64;
 
 pub(crate) const SIXTEENS: usize = 16;
 
-/// By sixteens and what is left; fewer than sixteen; one by one.
+/// Any number of them; fewer than sixteen; one by one.
 pub(crate) const ANY: usize = 0;
 
 pub(crate) const FEW: usize = 4;

@@ -13,17 +13,17 @@ use crate::short::{block_of_row, have_equal_blocks, have_equal_ends, part_to_com
 use image_rows::row;
 use image_shape::Shape;
 
-// Whether the rows of two images of one size are equal, one by one: long rows by blocks of `N`
-// cells, others of `N` to `2 * N` cells by their two ends, and at 0 any rows.
-fn have_equal_rows<T: PartialEq, const N: usize, const IS_LONG: bool>(
+// Whether the rows of two images of one size are equal, one by one: by blocks of `N` cells, or rows of
+// `N` to `2 * N` cells by their two ends. Where `N` is 0, any rows.
+fn have_equal_rows<T: PartialEq, const N: usize, const BY_BLOCKS: bool>(
     first: &[T],
     first_shape: Shape,
     second: &[T],
     second_shape: Shape,
 ) -> bool
-    requires some { IsTrue IS_LONG → 0 < N }
+    requires some { IsTrue BY_BLOCKS → 0 < N }
     requires enough { N ≤ shape_width first_shape }
-    requires few { IsFalse IS_LONG → 0 < N → shape_width first_shape ≤ 2 * N }
+    requires few { IsFalse BY_BLOCKS → 0 < N → shape_width first_shape ≤ 2 * N }
     requires sizes { HaveSameSize first.now first_shape second.now second_shape }
     ensures { result ≡ pointwise (pointwise T.eq) (rows_of (shaped first.now first_shape))
         (rows_of (shaped second.now second_shape)) }
@@ -31,7 +31,7 @@ fn have_equal_rows<T: PartialEq, const N: usize, const IS_LONG: bool>(
     for y in 0..first_shape.row_count() {
         let line = row(first, first_shape, y);
         let other = row(second, second_shape, y);
-        if !are_equal_lines::<T, N, IS_LONG>(line, other) {
+        if !are_equal_lines::<T, N, BY_BLOCKS>(line, other) {
             return false;
         }
     }
@@ -40,17 +40,17 @@ fn have_equal_rows<T: PartialEq, const N: usize, const IS_LONG: bool>(
 
 // Whether two rows are equal.
 #[inline(always)]
-fn are_equal_lines<T: PartialEq, const N: usize, const IS_LONG: bool>(
+fn are_equal_lines<T: PartialEq, const N: usize, const BY_BLOCKS: bool>(
     line: &[T],
     other: &[T],
 ) -> bool
     requires as_many { length line.now ≡ length other.now }
-    requires some { IsTrue IS_LONG → 0 < N }
+    requires some { IsTrue BY_BLOCKS → 0 < N }
     requires enough { N ≤ length line.now }
-    requires few { IsFalse IS_LONG → 0 < N → length line.now ≤ 2 * N }
+    requires few { IsFalse BY_BLOCKS → 0 < N → length line.now ≤ 2 * N }
     ensures { result ≡ pointwise T.eq line.now other.now }
 {
-    if IS_LONG {
+    if BY_BLOCKS {
         have_equal_blocks::<T, N>(line, other)
     } else if N > 0 {
         have_equal_ends::<T, N>(line, other)
@@ -80,7 +80,7 @@ fn are_equal_by_width<T: PartialEq>(
     }
 }
 
-// The same of rows that aren't short.
+// The same of long rows, and of rows of up to four cells.
 fn are_equal_by_blocks<T: PartialEq>(
     first: &[T],
     first_shape: Shape,
