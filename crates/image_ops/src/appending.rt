@@ -8,6 +8,7 @@ ghost use Rattle.std.specs.List.{AllZip};
 ghost use Rattle.std.specs.Vec.{vec_len, vec_capacity};
 ghost use Rattle.image_ops.specs.Clones.{AreWhole, GetsClones};
 
+use row_mover::is_word;
 use std::alloc::AllocError;
 use std::mem::size_of_val;
 use std::vec::VecCloneMethods;
@@ -215,12 +216,11 @@ pub(crate) fn blocks_to_clone<T>(cells: &[T], width: usize) -> usize
     let Some(cell) = cells.first() else {
         unreachable!()
     };
-    let size = size_of_val(cell);
-    if !matches!(size, 1 | 2 | 4 | 8) {
+    if !is_word(cell) {
         ONES
     } else if width < 16 {
         FEW
-    } else if size == 1 && width % 64 == 0 {
+    } else if size_of_val(cell) == 1 && width % 64 == 0 {
         SIXTY_FOURS
     } else if width % 16 == 0 {
         SIXTEENS

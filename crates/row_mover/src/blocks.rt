@@ -15,7 +15,7 @@ use std::mem::size_of_val;
 
 /// Whether a cell has 1, 2, 4 or 8 bytes, and so goes by one register.
 #[inline(always)]
-pub(crate) fn is_word<T>(cell: &T) -> bool {
+pub fn is_word<T>(cell: &T) -> bool {
     matches!(size_of_val(cell), 1 | 2 | 4 | 8)
 }
 

@@ -12,5 +12,6 @@ mod parts;
 #[cfg(test)]
 mod tests;
 
+pub use blocks::is_word;
 pub use mover::RowMover;
 pub use parts::{copy_line, part_of_row, read_part, write_part};
