@@ -12,8 +12,8 @@ use Rattle.image_model.proofs.Tiles.{tile_start-is}
 use Rattle.image_model.specs.Windows.{Stretch, with_stretch}
 use Rattle.image_model.proofs.Cells.{slice_get-set_same, slice_get-set_other, slice_get-take, slice_get-drop, slice_get-append_left, slice_get-append_right}
 use Rattle.image_model.proofs.Stretches.{length-with_stretch, with_stretch_beside}
-use Rattle.image_ops.specs.Mosaic.{IsSpread}
-use Rattle.image_ops.proofs.Corners.{first_start, start_of, next_start}
+use Rattle.image_writes.specs.Mosaic.{IsSpread}
+use Rattle.image_writes.proofs.Corners.{first_start, start_of, next_start}
 use Rattle.image_ops.proofs.Spreading.{filled_cell}
 
 -- tiles counted from the beginning of a tile

@@ -3,7 +3,7 @@ use Rattle.std.proofs.Common.{◌≡◌, ℕ, ◌+◌, ◌-◌, ◌*◌, ◌<◌
 use Rattle.std.specs.List.{slice_get}
 use Rattle.image_shape.specs.declared.shape.Shape.{Shape}
 use Rattle.image_ops.specs.Mapping.{AreAnswers}
-use Rattle.image_ops.proofs.RowsWritten.{RowsDone, RowRange, cell_of_row}
+use Rattle.image_writes.proofs.RowsWritten.{RowsDone, RowRange, cell_of_row}
 
 -- the first n cells are answers at the old ones, and the others are as before
 pub record AnsweredUpto {T : Type 0} (answers : T → T → Type 0) (old new : List T) (n : ℕ) : Type 0 where

@@ -9,11 +9,11 @@ use Rattle.image_shape.specs.Shape.{shaped, shaped_grid}
 use Rattle.image_shape.specs.declared.shape.Shape.{Shape}
 use Rattle.image_shape.specs.declared.window.Stretch as part
 use Rattle.image_model.proofs.Grids.{same_grids, at_place, pixel_at}
-use Rattle.image_ops.proofs.RowsWritten.{RowsDone, RowRange, cell_of_row, row_written, row_copied, becomes_table}
-use Rattle.image_ops.specs.Mosaic.{mosaic, mosaic_by, shown_column, IsSpreadBy}
-use Rattle.image_ops.specs.Written.{Becomes}
-use Rattle.image_ops.proofs.Corners.{own_start, start_before}
-use Rattle.image_ops.proofs.Parts.{of_one_cell, of_one_pixel, shown_before}
+use Rattle.image_writes.proofs.RowsWritten.{RowsDone, RowRange, cell_of_row, row_written, row_copied, becomes_table}
+use Rattle.image_writes.specs.Mosaic.{mosaic, mosaic_by, shown_column, IsSpreadBy}
+use Rattle.image_writes.specs.Written.{Becomes}
+use Rattle.image_writes.proofs.Corners.{own_start, start_before}
+use Rattle.image_writes.proofs.Parts.{of_one_cell, of_one_pixel, shown_before}
 
 -- a tile of one pixel shows that pixel
 module _ {T : Type 0} (size w h : ℕ) (f : ℕ → ℕ → Option T) where

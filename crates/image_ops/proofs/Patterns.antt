@@ -7,8 +7,8 @@ use Rattle.std.proofs.Math.Nat.{mod-eq_of_lt}
 use Rattle.image_model.specs.Grid.{uniform}
 use Rattle.image_model.proofs.Grids.{same_grids}
 use Rattle.image_ops.specs.Repeated.{repeated, IsRepeated}
-use Rattle.image_ops.proofs.CellByCell.{one_set}
-use Rattle.image_ops.proofs.Parts.{place_before}
+use Rattle.image_writes.proofs.CellByCell.{one_set}
+use Rattle.image_writes.proofs.Parts.{place_before}
 
 -- the cells before number x have the pattern
 pub record RepeatedUpto {T : Type 0} (pattern old now : List T) (x : ℕ) : Type 0 where

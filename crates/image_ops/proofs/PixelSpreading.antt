@@ -7,10 +7,10 @@ use Rattle.std.proofs.lemmas.Option.{slice_get-get_or}
 use Rattle.std.proofs.Math.Nat.{add-mul}
 use Rattle.image_model.specs.Tiles.{tile_start}
 use Rattle.image_model.proofs.Cells.{slice_get-set_other}
-use Rattle.image_ops.specs.Mosaic.{shown_column, IsSpread, IsSpreadBy}
-use Rattle.image_ops.proofs.CellByCell.{one_set}
-use Rattle.image_ops.proofs.Corners.{first_start, next_start}
-use Rattle.image_ops.proofs.Parts.{of_one_cell, of_one_pixel, shows_itself, shows_before}
+use Rattle.image_writes.specs.Mosaic.{shown_column, IsSpread, IsSpreadBy}
+use Rattle.image_writes.proofs.CellByCell.{one_set}
+use Rattle.image_writes.proofs.Corners.{first_start, next_start}
+use Rattle.image_writes.proofs.Parts.{of_one_cell, of_one_pixel, shows_itself, shows_before}
 
 -- cells that are pixels themselves
 pub spread_cells : {T : Type 0} (size tile : ℕ) (old new : List T) → size ≡ 1 → IsSpread tile old new → IsSpreadBy size tile old new

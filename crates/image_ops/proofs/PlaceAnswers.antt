@@ -4,8 +4,8 @@ use Rattle.std.specs.List.{slice_get}
 use Rattle.image_model.proofs.Cells.{slice_get-set_other}
 use Rattle.image_shape.specs.declared.shape.Shape.{Shape}
 use Rattle.image_ops.specs.CellAnswers.{AreAnswersAt}
-use Rattle.image_ops.proofs.CellByCell.{one_set}
-use Rattle.image_ops.proofs.RowsWritten.{RowsDone, RowRange, cell_of_row}
+use Rattle.image_writes.proofs.CellByCell.{one_set}
+use Rattle.image_writes.proofs.RowsWritten.{RowsDone, RowRange, cell_of_row}
 
 -- the first n cells are answers, and the others are as before
 pub record AnsweredTo {T : Type 0} (answers : ℕ → T → T → Type 0) (old new : List T) (n : ℕ) : Type 0 where

@@ -7,9 +7,9 @@ use Rattle.image_model.specs.Tiles.{tile_start}
 use Rattle.image_model.specs.Windows.{Stretch, with_stretch}
 use Rattle.image_model.proofs.Cells.{slice_get-set_other, slice_get-replicate}
 use Rattle.image_model.proofs.Stretches.{length-with_stretch, with_stretch_at, with_stretch_beside}
-use Rattle.image_ops.specs.Mosaic.{IsSpread}
-use Rattle.image_ops.proofs.CellByCell.{one_set}
-use Rattle.image_ops.proofs.Corners.{first_start, start_of, next_start}
+use Rattle.image_writes.specs.Mosaic.{IsSpread}
+use Rattle.image_writes.proofs.CellByCell.{one_set}
+use Rattle.image_writes.proofs.Corners.{first_start, start_of, next_start}
 
 -- the cells before number x are spread, and those from it on are as before; a tile begins at the corner, which shows the pixel
 pub record SpreadUpto {T : Type 0} (tile : ℕ) (old now : List T) (corner x : ℕ) : Type 0 where

@@ -10,7 +10,7 @@ use Rattle.image_model.proofs.Grids.{same_grids}
 use Rattle.image_shape.specs.declared.shape.Shape.{Shape}
 use Rattle.image_shape.specs.Shape.{shape_width, shape_height, shaped}
 use Rattle.image_ops.specs.Joined.{IsOneRow, AreFewestRows}
-use Rattle.image_ops.specs.Written.{HaveSameSize}
+use Rattle.image_writes.specs.Written.{HaveSameSize}
 use Rattle.image_ops.proofs.FirstRows.{one_row_fits, as_one_row}
 
 module _ (w h : ℕ) where

@@ -6,7 +6,7 @@ ghost use Rattle.image_model.specs.Layout.{Fits};
 ghost use Rattle.image_model.specs.Rows.{rows as rows_of};
 ghost use Rattle.image_model.specs.Alike.{is_alike};
 ghost use Rattle.image_shape.specs.Shape.{shape_width, shaped};
-ghost use Rattle.image_ops.specs.Written.{HaveSameSize};
+ghost use Rattle.image_writes.specs.Written.{HaveSameSize};
 
 use crate::joining::fewest_rows;
 use crate::short::{block_of_row, have_equal_blocks, have_equal_ends, part_to_compare};

@@ -4,7 +4,7 @@ ghost use Rattle.std.specs.Prelude.{◌≡◌, length, replicate};
 ghost use Rattle.image_model.specs.Layout.{Fits, SameOutside};
 ghost use Rattle.image_model.specs.Grid.{uniform};
 ghost use Rattle.image_shape.specs.Shape.{shape_width, shape_height, shaped_grid, shaped};
-ghost use Rattle.image_ops.specs.Written.{Becomes};
+ghost use Rattle.image_writes.specs.Written.{Becomes};
 
 use crate::joining::fewest_rows;
 use image_shape::Shape;

@@ -5,8 +5,8 @@ ghost use Rattle.image_model.specs.Layout.{Fits, SameOutside};
 ghost use Rattle.image_model.specs.Grid.{grid_of};
 ghost use Rattle.image_model.specs.Shifts.{shifted};
 ghost use Rattle.image_shape.specs.Shape.{shaped, shaped_grid};
-ghost use Rattle.image_ops.specs.Mosaic.{mosaic_by, IsSpread, IsSpreadBy};
-ghost use Rattle.image_ops.specs.Written.{Becomes};
+ghost use Rattle.image_writes.specs.Mosaic.{mosaic_by, IsSpread, IsSpreadBy};
+ghost use Rattle.image_writes.specs.Written.{Becomes};
 
 use crate::fill::fill_cells;
 use image_shape::{Shape, Stretch};
@@ -227,9 +227,9 @@ fn copy_down<T: Copy>(cells: &mut [T], row: Stretch, target: usize)
     copy_cells(&mut back[..row.len], &front[row.range()]);
 }
 
-// The line of a tile that comes after a line, from the first one again after the last.
+/// The line of a tile that comes after a line, from the first one again after the last.
 #[inline(always)]
-pub(crate) fn next_line(line: usize, tile_height: usize) -> usize
+pub fn next_line(line: usize, tile_height: usize) -> usize
     requires { line < tile_height }
     ensures { result ≡ (line + 1) % tile_height }
 {

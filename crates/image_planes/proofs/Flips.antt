@@ -6,7 +6,7 @@ use Rattle.image_model.specs.Layout.{Layout}
 use Rattle.image_model.specs.Grid.{Grid, grid_of, patch, view}
 use Rattle.image_model.proofs.Grids.{at_place, is_patch, covers_decides}
 use Rattle.image_model.specs.Windows.{window_view}
-use Rattle.image_ops.specs.Oriented.{mirrored_by}
+use Rattle.image_writes.specs.Mirrored.{mirrored_by}
 use Rattle.image_shape.specs.declared.window.Window.{Window}
 use Rattle.imgref.specs.Window.{as_window}
 

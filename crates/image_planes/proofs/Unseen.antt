@@ -12,11 +12,11 @@ use Rattle.image_model.specs.Tiles.{tile_start}
 use Rattle.image_model.specs.Windows.{window_view}
 use Rattle.image_model.proofs.Grids.{same_grids, covers_decides}
 use Rattle.image_model.proofs.Tiles.{tile_start-is}
-use Rattle.image_ops.specs.Blur.{blurred}
-use Rattle.image_ops.specs.Means.{sample_mosaic}
-use Rattle.image_ops.specs.declared.means.SampleBytes.{SampleBytes}
-use Rattle.image_ops.specs.Mosaic.{mosaic_by, shown_column}
-use Rattle.image_ops.specs.Oriented.{mirrored_by}
+use Rattle.image_means.specs.Blur.{blurred}
+use Rattle.image_means.specs.Means.{sample_mosaic}
+use Rattle.image_means.specs.declared.means.SampleBytes.{SampleBytes}
+use Rattle.image_writes.specs.Mosaic.{mosaic_by, shown_column}
+use Rattle.image_writes.specs.Mirrored.{mirrored_by}
 use Rattle.image_ops.specs.Repeated.{repeated}
 use Rattle.image_planes.specs.Changes.{bytes_for, Job, job_len, in_bytes, changed, changed_plane, changed_planes, flipped_by, plane_grid, stepped, names}
 use Rattle.image_planes.specs.Unseen.{BoxesAlike, MadeAlike, MeansAlike, PlanesAlike, hidden_by, is_hidden, is_corner}

@@ -7,12 +7,12 @@ use Rattle.image_model.specs.Rows.{grid_pixels}
 use Rattle.image_model.specs.Windows.{IsInside, is_inside, window, window_view}
 use Rattle.image_model.specs.Windows as model
 use Rattle.imgref.specs.Window.{as_window}
-use Rattle.image_ops.specs.Blur.{blurred}
-use Rattle.image_ops.specs.Means.{sample_mosaic}
-use Rattle.image_ops.specs.declared.means.SampleBytes.{SampleBytes}
-use Rattle.image_ops.specs.declared.means.SampleBytes.TheVariants.{One}
-use Rattle.image_ops.specs.Mosaic.{mosaic_by}
-use Rattle.image_ops.specs.Oriented.{mirrored_by}
+use Rattle.image_means.specs.Blur.{blurred}
+use Rattle.image_means.specs.Means.{sample_mosaic}
+use Rattle.image_means.specs.declared.means.SampleBytes.{SampleBytes}
+use Rattle.image_means.specs.declared.means.SampleBytes.TheVariants.{One}
+use Rattle.image_writes.specs.Mosaic.{mosaic_by}
+use Rattle.image_writes.specs.Mirrored.{mirrored_by}
 use Rattle.image_ops.specs.Repeated.{repeated}
 use Rattle.std.specs.List.{list_all}
 use Rattle.image_shape.specs.declared.window.Window.{Window}

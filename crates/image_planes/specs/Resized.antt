@@ -10,9 +10,9 @@ use Rattle.image_planes.specs.declared.target.Resize.{Resize}
 use Rattle.image_planes.specs.declared.target.Resize.TheVariants.{Crop, Pad, Turn}
 use Rattle.image_planes.specs.declared.target.Quarter.{Quarter}
 use Rattle.image_planes.specs.declared.target.Quarter.TheVariants.{Right, Left}
-use Rattle.image_ops.specs.Oriented.{oriented}
-use Rattle.image_ops.specs.declared.pixel_turning.Orientation.{Orientation}
-use Rattle.image_ops.specs.declared.pixel_turning.Orientation.TheVariants.{Right as TurnedRight, Left as TurnedLeft}
+use Rattle.image_turns.specs.Oriented.{oriented}
+use Rattle.image_turns.specs.declared.pixel_turning.Orientation.{Orientation}
+use Rattle.image_turns.specs.declared.pixel_turning.Orientation.TheVariants.{Right as TurnedRight, Left as TurnedLeft}
 
 -- a turn by a quarter as one of an image
 abbrev pub orientation_of : Quarter → Orientation

@@ -3,9 +3,9 @@ use Rattle.std.specs.Prelude.{◌≡◌, ℕ, ◌*◌, ◌-◌, ◌/◌, ◌==�
 use Rattle.image_model.specs.Grid.{Grid, covers}
 use Rattle.image_model.specs.Tiles.{tile_start}
 use Rattle.image_model.specs.Windows.{window_view}
-use Rattle.image_ops.specs.Blur.{blurred}
-use Rattle.image_ops.specs.Means.{sample_mosaic}
-use Rattle.image_ops.specs.declared.means.SampleBytes.{SampleBytes}
+use Rattle.image_means.specs.Blur.{blurred}
+use Rattle.image_means.specs.Means.{sample_mosaic}
+use Rattle.image_means.specs.declared.means.SampleBytes.{SampleBytes}
 use Rattle.image_planes.specs.Changes.{Job, bytes_for, in_bytes, job_len, plane_grid, names}
 use Rattle.image_planes.specs.declared.change.Axes.TheVariants.{Rows, Columns, Both}
 use Rattle.image_planes.specs.declared.change.Step.{Step}

@@ -6,17 +6,17 @@ ghost use Rattle.image_model.specs.Grid.{grid_of, patch};
 ghost use Rattle.image_model.specs.Windows.{IsInside, window_view};
 ghost use Rattle.imgref.specs.Shape.{shaped, shape_width, shape_height};
 ghost use Rattle.imgref.specs.Window.{as_window};
-ghost use Rattle.image_ops.specs.Blur.{blurred};
-ghost use Rattle.image_ops.specs.Means.{sample_cells};
-ghost use Rattle.image_ops.specs.Written.{Becomes};
+ghost use Rattle.image_means.specs.Blur.{blurred};
+ghost use Rattle.image_means.specs.Means.{sample_cells};
+ghost use Rattle.image_writes.specs.Written.{Becomes};
 ghost use Rattle.image_planes.specs.Changes.{IsChangeOf, bytes_for, changed, flipped_by, in_bytes};
 ghost use Rattle.image_planes.specs.Pixels.{HavePixels};
 ghost use Rattle.image_planes.specs.Scratch.{has_room, is_blur};
 
-use image_ops::{
-    SampleBytes, blur_samples, flip_rows, flip_window_columns, mean_samples, mosaic_window_by,
-    move_pixels, repeat_window,
-};
+use image_flips::{flip_rows, flip_window_columns};
+use image_means::{SampleBytes, blur_samples, mean_samples};
+use image_moves::move_pixels;
+use image_ops::{mosaic_window_by, repeat_window};
 use imgref::{Shape, Window};
 
 /// The bytes of a pixel. Where a pixel has fewer, the others are ignored.

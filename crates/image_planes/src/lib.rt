@@ -13,7 +13,7 @@ mod target;
 
 pub use change::{Axes, Change, Step, Value};
 pub use hiding::changes_hide;
-pub use image_ops::SampleBytes;
+pub use image_means::SampleBytes;
 pub use imgref::Window;
 pub use plane::Plane;
 pub use planes::{change_planes, planes_len, resize_planes, targets_len};

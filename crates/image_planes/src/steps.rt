@@ -3,7 +3,7 @@
 ghost use Rattle.std.specs.Prelude.{◌≡◌, ◌/◌, length, IsTrue};
 ghost use Rattle.image_model.specs.Grid.{grid_of};
 ghost use Rattle.imgref.specs.Shape.{shaped, shape_width, shape_height};
-ghost use Rattle.image_ops.specs.Written.{Becomes};
+ghost use Rattle.image_writes.specs.Written.{Becomes};
 ghost use Rattle.image_planes.specs.Changes.{are_inside, stepped};
 ghost use Rattle.image_planes.specs.Pixels.{HavePixels};
 ghost use Rattle.image_planes.specs.Scratch.{have_room};

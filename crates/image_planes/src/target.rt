@@ -5,7 +5,7 @@ ghost use Rattle.std.specs.Option.{option_map};
 ghost use Rattle.image_model.specs.Layout.{Fits};
 ghost use Rattle.image_model.specs.Grid.{grid_of, patch};
 ghost use Rattle.image_ops.specs.Repeated.{repeated};
-ghost use Rattle.image_ops.specs.Written.{Becomes};
+ghost use Rattle.image_writes.specs.Written.{Becomes};
 ghost use Rattle.image_model.specs.Rows.{grid_pixels};
 ghost use Rattle.image_model.specs.Windows.{IsInside, is_inside, window_view};
 ghost use Rattle.imgref.specs.Image.{ref_layout, width_of, height_of};
@@ -13,12 +13,13 @@ ghost use Rattle.imgref.specs.Shape.{shaped, shape_width, shape_height, shape_st
 ghost use Rattle.imgref.specs.Window.{as_window};
 ghost use Rattle.image_planes.specs.Surrounds.{bordered};
 ghost use Rattle.image_planes.specs.Changes.{byte_grid, is_plane};
-ghost use Rattle.image_ops.specs.Oriented.{oriented};
+ghost use Rattle.image_turns.specs.Oriented.{oriented};
 ghost use Rattle.image_planes.specs.Resized.{orientation_of, is_resize_of, new_width, new_height, resizing_for, resized_plane, source_len, target_len};
 
 use crate::change::{Value, in_bytes};
 use crate::plane::is_plane;
-use image_ops::{Orientation, orient_pixels, repeat_window};
+use image_ops::repeat_window;
+use image_turns::{Orientation, orient_pixels};
 use imgref::{ImgRef, ImgRefMut, Shape, Window};
 
 /// A turn by a quarter.

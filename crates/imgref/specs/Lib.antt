@@ -2,9 +2,9 @@ pub use Rattle.image_shape.specs.Shape
 pub use Rattle.image_shape.specs.Spacing
 pub use Rattle.image_shape.specs.Window
 pub use Rattle.image_ops.specs.Clones
-pub use Rattle.image_ops.specs.Mosaic
+pub use Rattle.image_writes.specs.Mosaic
 pub use Rattle.image_ops.specs.Pairs
-pub use Rattle.image_ops.specs.Turned
+pub use Rattle.image_turns.specs.Turned
 pub use Rattle.image_rows.specs.Rows
 pub use Rattle.image_pixels.specs.Marks
 pub use Rattle.image_pixels.specs.Pixels

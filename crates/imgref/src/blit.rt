@@ -11,7 +11,9 @@ ghost use Rattle.imgref.specs.Image.{width_of, height_of, grid_by, layout_by, On
 
 use crate::containers::AsMutSlice;
 use crate::img::{Img, ImgRef};
-use image_ops::{copy_pixels, copy_window, move_pixels, swap_rows};
+use image_flips::swap_rows;
+use image_moves::move_pixels;
+use image_ops::{copy_pixels, copy_window};
 use image_shape::Window;
 
 impl<C: AsMutSlice> Img<C> {

@@ -34,9 +34,10 @@ mod turns;
 mod window;
 
 pub use containers::{AsMutSlice, AsSlice};
-pub use image_ops::{Turn, fill_pixels};
+pub use image_ops::fill_pixels;
 pub use image_pixels::{PixelsIter, PixelsIterMut, PixelsRefIter};
 pub use image_rows::{End, RowsIter, RowsIterMut};
 pub use image_shape::{Shape, Stretch, Window};
+pub use image_turns::Turn;
 pub use img::{Img, ImgRef, ImgRefMut, ImgVec};
 pub use padded::{ImgExt, ImgExtMut};

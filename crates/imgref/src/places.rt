@@ -5,7 +5,7 @@ ghost use Rattle.std.specs.Prelude.{◌≡◌, ◌<◌, IsSome};
 ghost use Rattle.image_model.specs.Layout.{Fits, SameOutside};
 ghost use Rattle.image_model.specs.Grid.{grid_of, patch, uniform};
 ghost use Rattle.image_model.specs.Windows.{IsInside, window, window_view};
-ghost use Rattle.image_ops.specs.Mosaic.{mosaic};
+ghost use Rattle.image_writes.specs.Mosaic.{mosaic};
 ghost use Rattle.image_shape.specs.Window.{as_window};
 ghost use Rattle.imgref.specs.Image.{width_of, height_of, grid_by, layout_by, OnlyCellsChange};
 

@@ -5,15 +5,13 @@ ghost use Rattle.std.specs.Prelude.{◌≡◌, ◌<◌};
 ghost use Rattle.image_model.specs.Layout.{Fits, SameOutside};
 ghost use Rattle.image_model.specs.Flips.{flipped};
 ghost use Rattle.image_model.specs.Turns.{columns_swapped, mirrored, transposed};
-ghost use Rattle.image_ops.specs.Turned.{turned, turned_width, turned_height};
+ghost use Rattle.image_turns.specs.Turned.{turned, turned_width, turned_height};
 ghost use Rattle.imgref.specs.Image.{width_of, height_of, grid_by, layout_by, OnlyCellsChange};
 
 use crate::containers::{AsMutSlice, AsSlice};
 use crate::img::Img;
-use image_ops::{
-    Turn, flip_columns, flip_rows, swap_columns, transpose_pixels, transpose_square, turn_in_place,
-    turn_pixels,
-};
+use image_flips::{flip_columns, flip_rows, swap_columns};
+use image_turns::{Turn, transpose_pixels, transpose_square, turn_in_place, turn_pixels};
 
 impl<C: AsMutSlice> Img<C> {
     /// The image is turned upside down: its first row changes places with its last, and so on. The

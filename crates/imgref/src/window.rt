@@ -12,7 +12,7 @@ ghost use Rattle.imgref.specs.Image.{buf_of, width_of, height_of, stride_of, gri
 
 use crate::containers::{AsMutSlice, AsSlice};
 use crate::img::{Img, ImgRef, ImgRefMut};
-use image_ops::{padded_part, padded_stretch_mut};
+use image_flips::{padded_part, padded_stretch_mut};
 use image_shape::{Shape, Stretch, Window};
 
 impl<'s, T> Img<&'s [T]> {

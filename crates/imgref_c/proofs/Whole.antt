@@ -6,9 +6,9 @@ use Rattle.image_model.proofs.Grids.{at_place, covers_decides, is_patch}
 use Rattle.std.proofs.lemmas.Bool.{true≢false}
 use Rattle.image_shape.specs.declared.shape.Shape.{Shape}
 use Rattle.image_shape.specs.Shape.{shaped, shaped_grid}
-use Rattle.image_ops.specs.Oriented.{oriented_width, oriented_height}
-use Rattle.image_ops.specs.declared.pixel_turning.Orientation.{Orientation}
-use Rattle.image_ops.specs.declared.pixel_turning.Orientation.TheVariants.{Transposed, Right, Half, Left}
+use Rattle.image_turns.specs.Oriented.{oriented_width, oriented_height}
+use Rattle.image_turns.specs.declared.pixel_turning.Orientation.{Orientation}
+use Rattle.image_turns.specs.declared.pixel_turning.Orientation.TheVariants.{Transposed, Right, Half, Left}
 use Rattle.imgref_c.specs.Calls.{Writes}
 
 -- a patch of the whole size is all that is left

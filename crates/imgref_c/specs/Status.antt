@@ -4,8 +4,8 @@ use Rattle.image_model.specs.Layout.{Reaches}
 use Rattle.image_model.specs.Grid.{is_place}
 use Rattle.image_model.specs.Windows.{Window, window, is_inside}
 use Rattle.image_model.specs.Tiles.{tiles}
-use Rattle.image_ops.specs.Oriented.{oriented_width, oriented_height}
-use Rattle.image_ops.specs.declared.pixel_turning.Orientation.{Orientation}
+use Rattle.image_turns.specs.Oriented.{oriented_width, oriented_height}
+use Rattle.image_turns.specs.declared.pixel_turning.Orientation.{Orientation}
 use Rattle.imgref_c.specs.Turns.{is_turn, turn_by}
 use Rattle.imgref_c.specs.declared.status.Status.{Status}
 use Rattle.imgref_c.specs.declared.status.Status.TheVariants.{Done, NotAnImage, WindowOutside, SizesDiffer, PlaceOutside, NoTile, NoTurn}

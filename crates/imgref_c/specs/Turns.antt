@@ -1,7 +1,7 @@
 -- Turns by their numbers in the header.
 use Rattle.std.specs.Prelude.{ℕ, ◌==◌, Bool, ◌&&◌, nat_le, if◌then◌else◌}
-use Rattle.image_ops.specs.declared.pixel_turning.Orientation.{Orientation}
-use Rattle.image_ops.specs.declared.pixel_turning.Orientation.TheVariants.{Right, Half, Left}
+use Rattle.image_turns.specs.declared.pixel_turning.Orientation.{Orientation}
+use Rattle.image_turns.specs.declared.pixel_turning.Orientation.TheVariants.{Right, Half, Left}
 
 -- whether a number is that of a turn: so many quarters, clockwise
 abbrev pub is_turn : ℕ → Bool

@@ -5,11 +5,12 @@ pub use Rattle.image_model.specs.Flips.{flipped}
 pub use Rattle.image_model.specs.Swaps.{rows_swapped}
 pub use Rattle.image_model.specs.Windows.{exact_stretch, IsInside}
 pub use Rattle.image_model.specs.Tiles.{tiles}
-pub use Rattle.image_ops.specs.Mosaic.{mosaic as mosaic_of, mosaic_by}
-pub use Rattle.image_ops.specs.Oriented.{oriented, mirrored_by}
-pub use Rattle.image_ops.specs.declared.pixel_turning.Orientation.TheVariants.{Transposed}
+pub use Rattle.image_writes.specs.Mosaic.{mosaic as mosaic_of, mosaic_by}
+pub use Rattle.image_turns.specs.Oriented.{oriented}
+pub use Rattle.image_writes.specs.Mirrored.{mirrored_by}
+pub use Rattle.image_turns.specs.declared.pixel_turning.Orientation.TheVariants.{Transposed}
 pub use Rattle.image_ops.specs.PixelCounts.{times_shown}
-pub use Rattle.image_ops.specs.Means.{mean_mosaic as means_of, mean_mosaic_by as means_by}
+pub use Rattle.image_means.specs.Means.{mean_mosaic as means_of, mean_mosaic_by as means_by}
 pub use Rattle.image_ops.specs.Repeated.{repeated}
 pub use Rattle.image_shape.specs.Window.{as_window}
 pub use Rattle.imgref_c.specs.Turns.{is_turn, turn_by}

@@ -7,7 +7,8 @@ ghost use Rattle.imgref_c.specs.Words.{as_window, code, in_cells, pixel_window_s
 use crate::images::ClaimedShape;
 use crate::pixels::pixel_window;
 use crate::status::Status;
-use image_ops::{count_value, padded_part};
+use image_flips::padded_part;
+use image_ops::count_value;
 use image_shape::Window;
 
 // How many pixels of the window have the value goes to `count`.

@@ -6,7 +6,7 @@ ghost use Rattle.imgref_c.specs.Words.{as_window, code, flipped, grid_of, in_cel
 use crate::images::ClaimedShape;
 use crate::pixels::{are_pixels, pixel_window};
 use crate::status::Status;
-use image_ops::{flip_window_columns, flip_window_rows};
+use image_flips::{flip_window_columns, flip_window_rows};
 use image_shape::Window;
 
 // The first row of the window changes places with its last, and so on.
@@ -74,6 +74,6 @@ pub(crate) fn swap_rows<T>(
         return Status::PlaceOutside;
     }
     let shape = claimed.with_width(channels * claimed.width).shape();
-    image_ops::swap_rows(cells, shape, y, z);
+    image_flips::swap_rows(cells, shape, y, z);
     Status::Done
 }

@@ -9,7 +9,7 @@ ghost use Rattle.imgref_c.specs.Words.{as_window, code, in_cells, means_of, mean
 use crate::images::ClaimedShape;
 use crate::pixels::pixel_window;
 use crate::status::Status;
-use image_ops::{Sample, mean_window};
+use image_means::{Sample, mean_window};
 use image_shape::Window;
 
 // Each tile of the window, from its corner on, gets the mean of its pixels.

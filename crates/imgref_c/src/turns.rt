@@ -2,13 +2,13 @@
 //! another in a row.
 
 ghost use Rattle.std.specs.Prelude.{◌≡◌, ◌*◌, length};
-ghost use Rattle.image_ops.specs.Oriented.{oriented_width, oriented_height};
+ghost use Rattle.image_turns.specs.Oriented.{oriented_width, oriented_height};
 ghost use Rattle.imgref_c.specs.Words.{code, grid_of, is_turn, layout, oriented, oriented_in_place_status, oriented_status, turn_by, turn_in_place_status, turn_status, Writes};
 
 use crate::images::ClaimedShape;
 use crate::pixels::are_pixels;
 use crate::status::Status;
-use image_ops::{Orientation, orient_in_place, orient_pixels};
+use image_turns::{Orientation, orient_in_place, orient_pixels};
 
 // Whether there is a turn by so many quarters.
 fn is_turn(quarters: u32) -> bool

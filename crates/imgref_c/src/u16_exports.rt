@@ -5,8 +5,8 @@ ghost use Rattle.imgref_c.specs.Words.{as_window, code, copy_status, flipped, gr
 
 use crate::images::ClaimedShape;
 use crate::{counts, flips, packing, pairs, pixels, places, turns, windows};
-use image_ops::Orientation;
 use image_shape::Window;
+use image_turns::Orientation;
 
 /// Writes the pixel in column `x` of row `y` to `pixel`.
 #[unsafe(no_mangle)]

@@ -5,7 +5,8 @@ ghost use Rattle.imgref_c.specs.Words.{as_window, code, mosaic_of, mosaic_status
 
 use crate::images::ClaimedShape;
 use crate::status::Status;
-use image_ops::{mosaic_window, move_pixels};
+use image_moves::move_pixels;
+use image_ops::mosaic_window;
 use image_shape::Window;
 
 // Every pixel of the window becomes `value`.

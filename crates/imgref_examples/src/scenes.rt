@@ -63,6 +63,7 @@ pub fn ramp(alloc: Global, width: usize, height: usize) -> Result<ImgVec<u8>, Al
     requires height_bound { height < 2 ^ 32 }
     ensures grid { IfOk result
         (λ image. vec_grid image ≡ from_places width height (λ x y. ramp_at width x)) }
+    ensures fits { IfOk result (λ image. Fits (vec_layout image)) }
 {
     let image = ImgVec::from_places(alloc, width, height, |x, _y| (255 * x / width) as u8)?;
     Ok(image)

@@ -12,7 +12,7 @@ use Rattle.image_model.specs.Windows.{Window}
 use Rattle.image_model.specs.Tiles.{tile_count, tile, tiles, tile_start, has_place, LiesIn}
 use Rattle.image_model.proofs.Grids.{covers_decides, at_place, same_grids}
 use Rattle.image_model.proofs.Tiles.{tile_at, tile_counted, tile_start-is, tiles_cover, length-tiles}
-use Rattle.image_ops.specs.Mosaic.{mosaic}
+use Rattle.image_writes.specs.Mosaic.{mosaic}
 use Rattle.part_callers.specs.Flattening.{all_flattened}
 
 -- the tile that a number lies in

@@ -7,7 +7,7 @@ ghost use Rattle.imgref.specs.Shape.{shaped, shape_width, shape_height};
 ghost use Rattle.imgref.specs.Image.{buf_of, mut_layout};
 ghost use Rattle.image_tiles.specs.Tiling.{windows_left};
 ghost use Rattle.image_tiles.specs.Lending.{image_of, tiling_of};
-ghost use Rattle.image_ops.specs.Mosaic.{mosaic};
+ghost use Rattle.image_writes.specs.Mosaic.{mosaic};
 ghost use Rattle.part_callers.specs.Flattening.{flat, all_flattened};
 
 use image_tiles::TilesMut;

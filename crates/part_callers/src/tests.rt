@@ -1,7 +1,7 @@
 use crate::{
     fill_first_band, fill_next_tile, fill_through_path, mosaic_by_tiles, put_through_path,
 };
-use image_ops::{SampleBytes, blur_samples};
+use image_means::{SampleBytes, blur_samples};
 use image_tiles::TilesMut;
 use imgref::{Shape, Window};
 use imgref_fixtures::{PADDED, padded, padded_mut};

@@ -10,14 +10,7 @@ ghost use Rattle.std.specs.Prelude.{◌≡◌, ◌+◌, ◌-◌, ◌*◌, ◌<�
 ghost use Rattle.image_model.specs.Shifts.{shifted};
 ghost use Rattle.row_mover.specs.State.{block_at, GoesTo};
 
-use crate::parts::{read_part, write_part, write_words};
-use std::mem::size_of_val;
-
-/// Whether a cell has 1, 2, 4 or 8 bytes, and so goes by one register.
-#[inline(always)]
-pub fn is_word<T>(cell: &T) -> bool {
-    matches!(size_of_val(cell), 1 | 2 | 4 | 8)
-}
+use row_parts::{is_word, read_part, write_part, write_words};
 
 // Copies `N` cells: all are read before one is written.
 fn copy_block<T: Copy, const N: usize>(cells: &mut [T], start: usize, target: usize)

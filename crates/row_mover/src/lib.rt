@@ -8,10 +8,7 @@
 mod blocks;
 mod mover;
 mod moves;
-mod parts;
 #[cfg(test)]
 mod tests;
 
-pub use blocks::is_word;
 pub use mover::RowMover;
-pub use parts::{copy_line, part_of_row, read_part, write_part};

@@ -3,7 +3,7 @@ ghost use Rattle.image_model.specs.Shifts.{shifted};
 ghost use Rattle.row_mover.specs.State.{IsKnown};
 
 use crate::blocks::{copy_by_blocks, copy_ends, copy_few, copy_to_next, copy_to_previous};
-use crate::parts::copy_line;
+use row_parts::copy_line;
 use std::marker::Model;
 use std::mem::size_of;
 

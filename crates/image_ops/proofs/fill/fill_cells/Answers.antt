@@ -1,5 +1,5 @@
 use Rattle.std.proofs.Common.{◌<◌, length, set, ap, ◌∙◌, arith}
-use Rattle.image_ops.proofs.RowsWritten.{filled_more}
+use Rattle.image_writes.proofs.RowsWritten.{filled_more}
 use Rattle.image_ops.proofs.fill.fill_cells.Goals as goal
 
 pub loop-cell-preserved : goal.loop-cell-preserved

@@ -3,7 +3,7 @@ use Rattle.std.proofs.Common.{Some, ap, ◌∙◌, arith, length}
 use Rattle.std.proofs.lemmas.List.{length-replicate}
 use Rattle.image_model.specs.Grid.{uniform}
 use Rattle.image_model.proofs.Cells.{slice_get-replicate}
-use Rattle.image_ops.proofs.RowsWritten.{row_range, row_written, becomes_table}
+use Rattle.image_writes.proofs.RowsWritten.{row_range, row_written, becomes_table}
 use Rattle.image_ops.proofs.fill.fill_rows.Goals as goal
 
 pub loop-y-preserved : goal.loop-y-preserved

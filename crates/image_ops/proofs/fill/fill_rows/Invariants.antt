@@ -1,5 +1,5 @@
 use Rattle.std.proofs.Common.{◌≡◌, Some}
-use Rattle.image_ops.proofs.RowsWritten.{RowsDone}
+use Rattle.image_writes.proofs.RowsWritten.{RowsDone}
 use Rattle.image_ops.proofs.fill.fill_rows.Given as goal
 
 abbrev pub invariant-loop-y : goal.invariant-loop-y

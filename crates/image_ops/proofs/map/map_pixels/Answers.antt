@@ -3,7 +3,7 @@ use Rattle.std.proofs.Common.{arith, rules}
 use Rattle.image_shape.specs.Shape.{shaped}
 use Rattle.image_model.proofs.Mapped.{is_mapped}
 use Rattle.image_ops.proofs.Mapping.{row_answers}
-use Rattle.image_ops.proofs.RowsWritten.{row_range, row_written, all_right}
+use Rattle.image_writes.proofs.RowsWritten.{row_range, row_written, all_right}
 use Rattle.image_ops.proofs.map.map_pixels.Goals as goal
 
 pub loop-y-preserved : goal.loop-y-preserved

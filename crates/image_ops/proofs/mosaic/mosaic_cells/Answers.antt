@@ -3,7 +3,7 @@ use Rattle.std.proofs.Common.{sym, ◌∙◌, ap₂}
 use Rattle.image_model.specs.Layout.{Layout, pixel}
 use Rattle.image_model.specs.Grid.{grid_of}
 use Rattle.image_shape.specs.Shape.{shaped}
-use Rattle.image_ops.specs.Mosaic.{mosaic_by}
+use Rattle.image_writes.specs.Mosaic.{mosaic_by}
 use Rattle.image_ops.proofs.Mosaics.{of_single_tiles}
 use Rattle.image_ops.proofs.mosaic.mosaic_cells.Goals as goal
 

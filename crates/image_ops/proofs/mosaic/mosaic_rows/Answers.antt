@@ -2,7 +2,7 @@
 use Rattle.std.proofs.Common.{◌≡◌, ◌+◌, ◌<◌, ◌%◌, arith, ap, ◌∙◌}
 use Rattle.std.proofs.Math.Nat.{mod-lt, mod-add-mod}
 use Rattle.image_model.specs.Rows.{row_count}
-use Rattle.image_ops.proofs.RowsWritten.{row_range}
+use Rattle.image_writes.proofs.RowsWritten.{row_range}
 use Rattle.image_ops.proofs.Mosaics.{row_spread, row_repeated, mosaic_becomes}
 use Rattle.image_ops.proofs.mosaic.mosaic_rows.Goals as goal
 

@@ -6,7 +6,7 @@ use Rattle.image_model.proofs.ByPlace.{is_mapped_by_place}
 use Rattle.image_model.proofs.Rows.{row_count-le}
 use Rattle.image_ops.proofs.PlaceAnswers.{row_answers_at}
 use Rattle.image_ops.proofs.Elements.{in_row}
-use Rattle.image_ops.proofs.RowsWritten.{row_range, row_length, cell_of_row, row_written, all_right}
+use Rattle.image_writes.proofs.RowsWritten.{row_range, row_length, cell_of_row, row_written, all_right}
 use Rattle.image_ops.proofs.places.map_places.Goals as goal
 
 pub map_row-requires : goal.map_row-requires

@@ -1,6 +1,6 @@
 use Rattle.image_shape.specs.Shape.{shape_stride}
 use Rattle.image_ops.proofs.PlaceAnswers.{IsAnswerAt}
-use Rattle.image_ops.proofs.RowsWritten.{RowsDone}
+use Rattle.image_writes.proofs.RowsWritten.{RowsDone}
 use Rattle.image_ops.proofs.places.map_places.Given as goal
 
 abbrev pub invariant-loop-y : goal.invariant-loop-y

@@ -6,7 +6,7 @@ use Rattle.image_shape.specs.Shape.{shaped}
 use Rattle.image_model.proofs.ByPlace.{is_zipped}
 use Rattle.image_model.proofs.Rows.{row_count-le, row_pixel}
 use Rattle.image_ops.proofs.Elements.{in_row, row_element}
-use Rattle.image_ops.proofs.RowsWritten.{row_range, row_length, cell_of_row, row_written, all_right}
+use Rattle.image_writes.proofs.RowsWritten.{row_range, row_length, cell_of_row, row_written, all_right}
 use Rattle.image_ops.proofs.places.zip_pixels.Goals as goal
 
 pub zip_row-requires-clause-callable : goal.zip_row-requires-clause-callable

@@ -2,7 +2,7 @@ use Rattle.std.proofs.Common.{◌≡◌, Some}
 use Rattle.image_model.specs.Layout.{pixel}
 use Rattle.image_shape.specs.Shape.{shape_stride, shaped}
 use Rattle.image_ops.proofs.PlaceAnswers.{IsAnswerAt}
-use Rattle.image_ops.proofs.RowsWritten.{RowsDone}
+use Rattle.image_writes.proofs.RowsWritten.{RowsDone}
 use Rattle.image_ops.proofs.places.zip_pixels.Given as goal
 
 abbrev pub invariant-loop-y : goal.invariant-loop-y

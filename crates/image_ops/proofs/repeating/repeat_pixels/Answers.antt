@@ -3,7 +3,7 @@ use Rattle.std.proofs.Common.{ℕ, ◌%◌, ◌<◌, length, Option, refl, arith
 use Rattle.std.specs.List.{slice_get}
 use Rattle.image_ops.specs.Repeated.{repeated}
 use Rattle.image_model.specs.Rows.{row_count}
-use Rattle.image_ops.proofs.RowsWritten.{row_range, row_written, row_copied, shows_table}
+use Rattle.image_writes.proofs.RowsWritten.{row_range, row_written, row_copied, shows_table}
 use Rattle.image_ops.proofs.repeating.repeat_pixels.Goals as goal
 
 pub loop-y-preserved : goal.loop-y-preserved

@@ -1,7 +1,7 @@
 -- The rows so far have the pattern.
 use Rattle.std.proofs.Common.{◌≡◌, ◌%◌, length}
 use Rattle.std.specs.List.{slice_get}
-use Rattle.image_ops.proofs.RowsWritten.{RowsDone}
+use Rattle.image_writes.proofs.RowsWritten.{RowsDone}
 use Rattle.image_ops.proofs.repeating.repeat_pixels.Given as goal
 
 abbrev pub invariant-loop-y : goal.invariant-loop-y

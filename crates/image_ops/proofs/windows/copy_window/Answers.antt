@@ -2,7 +2,7 @@
 use Rattle.std.proofs.Common.{ap, ◌∙◌}
 use Rattle.image_model.specs.Grid.{grid_of, patch}
 use Rattle.image_shape.specs.Shape.{shaped}
-use Rattle.image_ops.proofs.WindowWrites.{part_grid, part_outside}
+use Rattle.image_writes.proofs.WindowWrites.{part_grid, part_outside}
 use Rattle.image_ops.proofs.windows.copy_window.Goals as goal
 
 pub returns-clause-grid : goal.returns-clause-grid

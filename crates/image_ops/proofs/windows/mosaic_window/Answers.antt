@@ -2,10 +2,10 @@
 use Rattle.std.proofs.Common.{ap, ◌-◌, ◌∙◌}
 use borrow.Rule.Slice.PartMut.{mid_of}
 use Rattle.image_model.specs.Grid.{grid_of, patch}
-use Rattle.image_ops.specs.Mosaic.{mosaic}
+use Rattle.image_writes.specs.Mosaic.{mosaic}
 use Rattle.image_shape.specs.Shape.{shaped}
 use Rattle.image_ops.proofs.Mosaics.{mosaic_of_cells}
-use Rattle.image_ops.proofs.WindowWrites.{part_shows, part_grid, part_outside}
+use Rattle.image_writes.proofs.WindowWrites.{part_shows, part_grid, part_outside}
 use Rattle.image_ops.proofs.windows.mosaic_window.Goals as goal
 
 pub returns-clause-grid : goal.returns-clause-grid

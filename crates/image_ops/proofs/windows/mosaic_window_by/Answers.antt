@@ -1,9 +1,9 @@
 -- The image shows at the window what was written there.
 use Rattle.std.proofs.Common.{ap, ◌∙◌}
 use Rattle.image_model.specs.Grid.{grid_of, patch}
-use Rattle.image_ops.specs.Mosaic.{mosaic_by}
+use Rattle.image_writes.specs.Mosaic.{mosaic_by}
 use Rattle.image_shape.specs.Shape.{shaped}
-use Rattle.image_ops.proofs.WindowWrites.{part_shows, part_grid, part_outside}
+use Rattle.image_writes.proofs.WindowWrites.{part_shows, part_grid, part_outside}
 use Rattle.image_ops.proofs.windows.mosaic_window_by.Goals as goal
 
 pub returns-clause-grid : goal.returns-clause-grid

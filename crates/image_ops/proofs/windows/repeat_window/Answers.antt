@@ -4,7 +4,7 @@ use Rattle.image_model.specs.Grid.{grid_of, patch}
 use Rattle.image_ops.specs.Repeated.{repeated}
 use Rattle.image_shape.specs.Shape.{shaped}
 use Rattle.image_ops.proofs.Patterns.{one_value}
-use Rattle.image_ops.proofs.WindowWrites.{part_grid, part_outside}
+use Rattle.image_writes.proofs.WindowWrites.{part_grid, part_outside}
 use Rattle.image_ops.proofs.windows.repeat_window.Goals as goal
 
 pub returns-clause-grid : goal.returns-clause-grid

@@ -2,7 +2,7 @@
 use Rattle.std.proofs.Common.{ℕ, ◌*◌, ◌%◌, ap, sym, ◌∙◌}
 use Rattle.std.proofs.lemmas.Nat.{mul-mod_first}
 use Rattle.std.proofs.Math.Nat.{mul-mod_left, zero-mul}
-use Rattle.image_ops.specs.Means.{sample_cells}
+use Rattle.image_means.specs.Means.{sample_cells}
 use Rattle.image_planes.proofs.change.change_cells.Goals as goal
 
 pub mean_samples-requires-clause-whole : goal.mean_samples-requires-clause-whole

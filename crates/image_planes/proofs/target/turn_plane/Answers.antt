@@ -4,7 +4,7 @@ use Rattle.std.proofs.Math.Nat.{mul_comm}
 use Rattle.image_model.specs.Grid.{grid_of}
 use Rattle.image_model.specs.Layout.{layout}
 use Rattle.image_model.specs.Rows.{grid_pixels}
-use Rattle.image_ops.specs.Oriented.{oriented, oriented_width}
+use Rattle.image_turns.specs.Oriented.{oriented, oriented_width}
 use Rattle.image_planes.proofs.Parts.{plane_pixels, turned_width}
 use Rattle.image_planes.proofs.target.turn_plane.Goals as goal
 

@@ -3,7 +3,7 @@ use Rattle.std.proofs.Common.{rules, ◌≡◌, ◌+◌, ◌*◌, ◌/◌, ◌%�
 use Rattle.std.proofs.Math.Nat.{mul-div_cancel_left, mul_comm}
 use Rattle.image_model.specs.Grid.{grid, grid_of}
 use Rattle.image_model.specs.Layout.{Layout, layout}
-use Rattle.image_ops.specs.Oriented.{oriented, oriented_width, oriented_height, source_column, source_row}
+use Rattle.image_turns.specs.Oriented.{oriented, oriented_width, oriented_height, source_column, source_row}
 use Rattle.imgref_c.proofs.Whole.{shaped_as, all_written, height_stays}
 use Rattle.imgref_c.proofs.turns.orient.Goals as goal
 

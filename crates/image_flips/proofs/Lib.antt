@@ -1,0 +1,3 @@
+pub mod Crossing
+pub mod PixelFlips
+pub mod Swaps

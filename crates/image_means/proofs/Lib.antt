@@ -1,0 +1,7 @@
+pub mod BoxMeans
+pub mod BoxSums
+pub mod ColumnSums
+pub mod Factors
+pub mod MeanTiles
+pub mod Rounding
+pub mod Samples

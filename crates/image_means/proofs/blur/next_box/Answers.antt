@@ -1,0 +1,74 @@
+-- A pixel comes in, and one goes out.
+use Rattle.std.proofs.Common.{◌≡◌, ℕ, ◌+◌, ◌-◌, ◌*◌, ◌/◌, ◌<◌, ◌≤◌, ◌⊎◌, ◌^◌, min, List, length, ap, arith, inl, inr}
+use Rattle.image_means.specs.Blur.{pixels_upto, sum_at}
+use Rattle.image_means.proofs.BoxSums.{pixels_next, between_bound, upto_grows}
+use Rattle.image_means.proofs.blur.next_box.Goals.{then-p-across, else-p-across}
+use Rattle.image_means.proofs.blur.next_box.Goals as goal
+
+module _ (sums : List ℕ) (per at across p : ℕ) where
+  abbrev upto : ℕ → ℕ
+  upto n = pixels_upto sums per at n
+
+  abbrev pixels : ℕ
+  pixels = length sums / per
+
+  -- the sum after the pixel that comes in, where there is one
+  comes_in : (before sum : ℕ) → before + upto (p - (across + 1)) ≡ upto (min pixels (p + across))
+      → ((p + across < pixels) × (sum ≡ before + sum_at sums ((p + across) * per + at))) ⊎ ((pixels ≤ p + across) × (sum ≡ before))
+      → sum + upto (p - (across + 1)) ≡ upto (min pixels (p + across + 1))
+  comes_in before sum so (inl it) =
+      omega (
+        arith,
+        so,
+        it.1,
+        pixels_next sums per at (p + across),
+        ap upto (let e : min pixels (p + across) ≡ p + across = omega (arith, it.0) in e),
+        ap upto (let e : min pixels (p + across + 1) ≡ p + across + 1 = omega (arith, it.0) in e),
+      )
+  comes_in before sum so (inr none) = omega (arith, so, none.1, ap upto (let e : min pixels (p + across) ≡ min pixels (p + across + 1) = omega (arith, none.0) in e))
+
+  -- the pixel that goes out is a part of it
+  goes_out : across < p → upto (p - across) ≡ upto (p - (across + 1)) + sum_at sums ((p - across - 1) * per + at)
+  goes_out later =
+      omega (
+        arith,
+        pixels_next sums per at (p - across - 1),
+        ap upto (let e : p - across - 1 + 1 ≡ p - across = omega (arith, later) in e),
+        ap upto (let e : p - across - 1 ≡ p - (across + 1) = omega (arith, later) in e),
+      )
+
+pub overflow_add-sum : goal.overflow_add-sum
+overflow_add-sum c =
+    let a = c.args in
+    let end : ℕ = min (length a.sums.now / a.per) (a.p + a.across) in
+    let bound = between_bound a.sums.now a.per a.at (2 ^ 32 - 1) c.requires.place c.requires.whole (λ k here. omega (arith, c.type_inv.sums k)) (a.p - (a.across + 1)) end (omega (arith, c.requires.pixel)) (omega arith) in
+    omega (arith, c.requires.before, bound, c.requires.across, c.from-sum.ensures, c.type_inv.sums ((a.p + a.across) * a.per + a.at))
+
+pub overflow_sub-sum : goal.overflow_sub-sum
+overflow_sub-sum c =
+    let a = c.args in
+    let pixels : ℕ = length a.sums.now / a.per in
+    let sum = comes_in a.sums.now a.per a.at a.across a.p a.before c.if-p-across.sum c.requires.before (elim c.if-p-across.branch [
+      | then-p-across w ↦ inl (omega (arith, w.if-p-across.true), omega (arith, w.sum-is, w.from-sum.ensures))
+      | else-p-across w ↦ inr (omega (arith, w.if-p-across.false), w.sum-is)
+    ]) in
+    let order = upto_grows a.sums.now a.per a.at (2 ^ 32 - 1) c.requires.place c.requires.whole (λ k here. omega (arith, c.type_inv.sums k)) (a.p - a.across) (min pixels (a.p + a.across + 1)) (omega (arith, c.requires.pixel)) in
+    omega (arith, sum, order, goes_out a.sums.now a.per a.at a.across a.p c.if-across-p.true, c.from-sum-then-across-p.ensures)
+
+pub returns-then-across-p : goal.returns-then-across-p
+returns-then-across-p c =
+    let a = c.args in
+    let sum = comes_in a.sums.now a.per a.at a.across a.p a.before c.if-p-across.sum c.requires.before (elim c.if-p-across.branch [
+      | then-p-across w ↦ inl (omega (arith, w.if-p-across.true), omega (arith, w.sum-is, w.from-sum.ensures))
+      | else-p-across w ↦ inr (omega (arith, w.if-p-across.false), w.sum-is)
+    ]) in
+    omega (arith, sum, overflow_sub-sum c, goes_out a.sums.now a.per a.at a.across a.p c.if-across-p.true, c.from-sum-then-across-p.ensures)
+
+pub returns-else-across-p : goal.returns-else-across-p
+returns-else-across-p c =
+    let a = c.args in
+    let sum = comes_in a.sums.now a.per a.at a.across a.p a.before c.if-p-across.sum c.requires.before (elim c.if-p-across.branch [
+      | then-p-across w ↦ inl (omega (arith, w.if-p-across.true), omega (arith, w.sum-is, w.from-sum.ensures))
+      | else-p-across w ↦ inr (omega (arith, w.if-p-across.false), w.sum-is)
+    ]) in
+    omega (arith, sum, ap (λ n. pixels_upto a.sums.now a.per a.at n) (let e : a.p - (a.across + 1) ≡ a.p - a.across = omega (arith, c.if-across-p.false) in e))

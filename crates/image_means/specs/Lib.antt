@@ -1,0 +1,3 @@
+pub mod Blur
+pub mod Division
+pub mod Means

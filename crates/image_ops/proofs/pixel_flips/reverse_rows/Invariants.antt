@@ -1,7 +1,0 @@
-use Rattle.image_ops.proofs.Crossing.{FromRow}
-use Rattle.image_ops.proofs.PixelFlips.{reversed_place}
-use Rattle.image_ops.proofs.RowsWritten.{RowsDone}
-use Rattle.image_ops.proofs.pixel_flips.reverse_rows.Given as goal
-
-abbrev pub invariant-loop-y : goal.invariant-loop-y
-invariant-loop-y g l = RowsDone (FromRow (reversed_place l.size l.columns) l.initial.cells l.shape) l.initial.cells l.cells l.shape l.y

@@ -1,7 +1,0 @@
--- A pixel of one cell is that cell.
-use Rattle.std.proofs.Common.{◌∙◌}
-use Rattle.image_ops.proofs.Oriented.{transposed_cells}
-use Rattle.image_ops.proofs.pixel_squares.transpose_pixel_square.Goals as goal
-
-pub returns-in-1 : goal.returns-in-1
-returns-in-1 g c = rw c.in-1.is (record { grid = c.transpose_square.ensures.grid ∙ transposed_cells _; outside = c.transpose_square.ensures.outside })

@@ -1,6 +1,0 @@
-use Rattle.image_model.specs.Turns.{transposed}
-use Rattle.image_ops.proofs.turning.transpose_pixels.Goals as goal
-
-pub returns-clause-grid : goal.returns-clause-grid
-unfolding transposed
-returns-clause-grid g c = c.quarter_pixels.ensures.grid

@@ -1,0 +1,11 @@
+pub mod BlockPairs
+pub mod Diagonals
+pub mod FromPlaces
+pub mod Oriented
+pub mod PixelSquares
+pub mod PlacesCrossed
+pub mod QuarterBlocks
+pub mod Quarters
+pub mod Shuffles
+pub mod SquareBlocks
+pub mod Windowed

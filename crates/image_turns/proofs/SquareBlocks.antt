@@ -1,0 +1,265 @@
+-- Squares of which blocks of 16 by 16 pixels change places with those across the diagonal, pair by pair.
+use Rattle.std.proofs.Common.{◌≡◌, ℕ, ◌+◌, ◌*◌, ◌/◌, ◌<◌, ◌≤◌, ◌⊎◌, Bool, true, false, List, Option, sym, ap, ◌∙◌, arith, inl, inr, nat_lt, if◌then◌else◌, ◌||◌, ◌&&◌, max, min}
+use Rattle.std.proofs.lemmas.Bool.{cases_Bool, cases_lt, cond-true, cond-false, true≢false}
+use Rattle.std.proofs.lemmas.Bool.Decides.{nat_tests}
+use Rattle.image_model.specs.Layout.{pixel}
+use Rattle.image_model.specs.Grid.{grid, grid_of, covers}
+use Rattle.image_model.specs.Tables.{is_before}
+use Rattle.image_model.specs.Turns.{transposed}
+use Rattle.image_model.proofs.Grids.{at_place, covers_decides, pixel_at, same_grids}
+use Rattle.image_model.proofs.Places.{outside_trans}
+use Rattle.image_shape.specs.Shape.{shaped, shaped_grid}
+use Rattle.image_shape.specs.declared.shape.Shape.{Shape}
+use Rattle.image_turns.specs.Blocks.{read_over, is_across, crossed_at, corner_crossed, is_in_strip, strip_crossed}
+use Rattle.image_writes.specs.Written.{Becomes}
+use Rattle.image_turns.proofs.PlacesCrossed.{PlacesCrossed, crossed_pixel, both_false, no_place_crossed, same_places, blocks_crossed}
+use Rattle.image_turns.proofs.Diagonals.{strip_cases, strip_true, strip_past, strip_before}
+
+-- rows that are read in their order
+pub read_plain : {T : Type 0} (w h : ℕ) (f : ℕ → ℕ → Option T) → read_over false (grid w h f) ≡ grid w h f
+read_plain w h f = same_grids w h _ f (λ x y column line. at_place w h f x y column line)
+
+-- ---- pairs of blocks one after the other
+
+-- whether the pair of column a and row b has changed places: its column is one of the first `from`, or one of the first `upto` and comes before column x of row y
+abbrev pub is_done : ℕ → ℕ → ℕ → ℕ → ℕ → ℕ → Bool
+is_done from upto x y a b = nat_lt a from || (nat_lt a upto && is_before x y a b)
+
+-- whether the blocks of a place and of the one across the diagonal have changed places
+abbrev pub block_done : ℕ → ℕ → ℕ → ℕ → ℕ → ℕ → Bool
+block_done from upto x y u v = is_done from upto x y (max (u / 16) (v / 16)) (min (u / 16) (v / 16))
+
+-- these pairs of blocks have changed places, and the padding stays
+abbrev pub BlocksCrossed : {T : Type 0} → ℕ → ℕ → ℕ → ℕ → List T → List T → Shape → Type 0
+BlocksCrossed from upto x y old new s = PlacesCrossed (block_done from upto x y) old new s
+
+-- the other points of the loops, for a column that is not before the row
+at_row_start : (from upto y a b : ℕ) → b ≤ a → is_done from upto 0 y a b ≡ is_done from upto (max from y) y a b
+at_row_start from upto y a b below = grind (arith, nat_tests, below)
+
+at_row_end : (from upto x y a b : ℕ) → b ≤ a → upto ≤ x → is_done from upto x y a b ≡ is_done from upto 0 (y + 1) a b
+at_row_end from upto x y a b below wide = grind (arith, nat_tests, below, wide)
+
+at_strip_end : (from upto x y a b : ℕ) → b ≤ a → upto ≤ y → from ≤ upto → is_done from upto x y a b ≡ is_done upto upto 0 0 a b
+at_strip_end from upto x y a b below high later = grind (arith, nat_tests, below, high, later)
+
+at_strip_start : (from right a b : ℕ) → is_done from from 0 0 a b ≡ is_done from right 0 0 a b
+at_strip_start from right a b = grind (arith, nat_tests)
+
+none_done : (a b : ℕ) → is_done 0 0 0 0 a b ≡ false
+none_done a b = grind (arith, nat_tests)
+
+this_before : (from upto x y : ℕ) → from ≤ x → is_done from upto x y x y ≡ false
+this_before from upto x y after = grind (arith, nat_tests, after)
+
+this_after : (from upto x y : ℕ) → x < upto → is_done from upto (x + 1) y x y ≡ true
+this_after from upto x y here = grind (arith, nat_tests, here)
+
+other_same : (from upto x y a b : ℕ) → ((a ≡ x) × (b ≡ y) → ⊥) → is_done from upto x y a b ≡ is_done from upto (x + 1) y a b
+other_same from upto x y a b other = grind (arith, nat_tests, other)
+
+min_max : (a b : ℕ) → min a b ≤ max a b
+min_max a b = omega arith
+
+max_comm : (a b : ℕ) → max a b ≡ max b a
+max_comm a b = omega arith
+
+min_comm : (a b : ℕ) → min a b ≡ min b a
+min_comm a b = omega arith
+
+-- the block of a place
+column_of : (x u : ℕ) → 16 * x ≤ u → u < 16 * x + 16 → u / 16 ≡ x
+column_of x u from upto = omega (arith, from, upto)
+
+block_from : (x u : ℕ) → u / 16 ≡ x → 16 * x ≤ u
+block_from x u same = omega (arith, same)
+
+block_upto : (x u : ℕ) → u / 16 ≡ x → u < 16 * x + 16
+block_upto x u same = omega (arith, same)
+
+-- a place is in the block or across from it where their pair is this one
+pair_of : (x y u v : ℕ) → y ≤ x → is_across (16 * x) (16 * y) 16 16 u v ≡ true → (max (u / 16) (v / 16) ≡ x) × (min (u / 16) (v / 16) ≡ y)
+pair_of x y u v below hit =
+    elim (cases_Bool (covers (16 * x) (16 * y) 16 16 u v)) [
+      | inl upper ↦
+          let c = (covers_decides (16 * x) (16 * y) 16 16 u v).0 upper in
+          let in_u = column_of x u c.0 c.2 in
+          let in_v = column_of y v c.1 c.3 in
+          (omega (arith, in_u, in_v, below), omega (arith, in_u, in_v, below))
+      | inr not_upper ↦
+          let c = (covers_decides (16 * y) (16 * x) 16 16 u v).0 (ap (λ b. b || covers (16 * y) (16 * x) 16 16 u v) (sym not_upper) ∙ hit) in
+          let in_u = column_of y u c.0 c.2 in
+          let in_v = column_of x v c.1 c.3 in
+          (omega (arith, in_u, in_v, below), omega (arith, in_u, in_v, below))
+    ]
+
+block_covers : (x y u v : ℕ) → u / 16 ≡ x → v / 16 ≡ y → covers (16 * x) (16 * y) 16 16 u v ≡ true
+block_covers x y u v column line = (covers_decides (16 * x) (16 * y) 16 16 u v).1 (block_from x u column, block_from y v line, block_upto x u column, block_upto y v line)
+
+not_pair : (x y u v : ℕ) → is_across (16 * x) (16 * y) 16 16 u v ≡ false → (max (u / 16) (v / 16) ≡ x) × (min (u / 16) (v / 16) ≡ y) → ⊥
+not_pair x y u v miss same =
+    let none = both_false (covers (16 * x) (16 * y) 16 16 u v) (covers (16 * y) (16 * x) 16 16 u v) miss in
+    elim (cases_lt (u / 16) (v / 16)) [
+      | inl above ↦ true≢false (sym (block_covers y x u v (omega (arith, above, same.1)) (omega (arith, above, same.0))) ∙ none.1)
+      | inr below ↦ true≢false (sym (block_covers x y u v (omega (arith, below, same.0)) (omega (arith, below, same.1))) ∙ none.0)
+    ]
+
+module _ {T : Type 0} (s : Shape) where
+  -- no pair yet
+  pub none_crossed : (cells : List T) → BlocksCrossed 0 0 0 0 cells cells s
+  none_crossed cells = no_place_crossed s (block_done 0 0 0 0) (λ u v. none_done (max (u / 16) (v / 16)) (min (u / 16) (v / 16))) cells
+
+  module _ (old now : List T) (from upto x y : ℕ) (so : BlocksCrossed from upto x y old now s) where
+    -- the same pairs, said by another point of the loops
+    same_pairs : (j k m n : ℕ) → ((a b : ℕ) → b ≤ a → is_done from upto x y a b ≡ is_done j k m n a b) → BlocksCrossed j k m n old now s
+    same_pairs j k m n alike =
+        same_places s (block_done from upto x y) old now so (block_done j k m n)
+        (λ u v column line. alike (max (u / 16) (v / 16)) (min (u / 16) (v / 16)) (min_max (u / 16) (v / 16)))
+
+    -- a strip of blocks begins after those before it
+    pub strip_begins : (right : ℕ) → from ≡ upto → x ≡ 0 → y ≡ 0 → BlocksCrossed from right 0 0 old now s
+    strip_begins right none first top = same_pairs from right 0 0 (λ a b below. (λ i. is_done from (sym none i) (first i) (top i) a b) ∙ at_strip_start from right a b)
+
+    -- a row of the strip begins at its first column, and not before the diagonal
+    pub row_begins : (start : ℕ) → x ≡ 0 → start ≡ max from y → BlocksCrossed from upto start y old now s
+    row_begins start first at = same_pairs from upto start y (λ a b below. ap (λ n. is_done from upto n y a b) first ∙ at_row_start from upto y a b below ∙ ap (λ n. is_done from upto n y a b) (sym at))
+
+    -- and is at its end where the next one begins
+    pub row_crossed : upto ≤ x → BlocksCrossed from upto 0 (y + 1) old now s
+    row_crossed wide = same_pairs from upto 0 (y + 1) (λ a b below. at_row_end from upto x y a b below wide)
+
+    -- the strip is at its end after its last row
+    pub strip_done : upto ≤ y → from ≤ upto → BlocksCrossed upto upto 0 0 old now s
+    strip_done high later = same_pairs upto upto 0 0 (λ a b below. at_strip_end from upto x y a b below high later)
+
+    -- one pair more
+    module _ (square : s.width ≡ s.height) (right : y ≤ x) (after : from ≤ x) (here : x < upto) (new : List T) (made : Becomes s now new (crossed_at (16 * x) (16 * y) 16 16 (shaped_grid now s))) where
+      same_done : (u v : ℕ) → block_done from upto x y u v ≡ block_done from upto x y v u
+      same_done u v = (λ i. is_done from upto x y (max_comm (u / 16) (v / 16) i) (min_comm (u / 16) (v / 16) i))
+
+      pub one_pair_more : BlocksCrossed from upto (x + 1) y old new s
+      one_pair_more =
+          blocks_crossed s (block_done from upto x y) old now so (block_done from upto (x + 1) y) square (16 * x) (16 * y) 16 16 new made.grid made.outside
+          (λ u v hit. let pair = pair_of x y u v right hit in sym (same_done u v) ∙ (λ i. is_done from upto x y (pair.0 i) (pair.1 i)) ∙ this_before from upto x y after)
+          (λ u v hit. let pair = pair_of x y u v right hit in (λ i. is_done from upto (x + 1) y (pair.0 i) (pair.1 i)) ∙ this_after from upto x y here)
+          (λ u v miss. other_same from upto x y (max (u / 16) (v / 16)) (min (u / 16) (v / 16)) (not_pair x y u v miss))
+
+-- ---- all pairs of blocks
+
+in_corner : (n u v : ℕ) → u < 16 * n → v < 16 * n → is_done n n 0 0 (max (u / 16) (v / 16)) (min (u / 16) (v / 16)) ≡ true
+in_corner n u v column line =
+    let left : u / 16 < n = omega (arith, column) in
+    let right : v / 16 < n = omega (arith, line) in
+    let both : max (u / 16) (v / 16) < n = omega (arith, left, right) in
+    first_done n (max (u / 16) (v / 16)) (min (u / 16) (v / 16)) both
+  where
+    first_done : (n a b : ℕ) → a < n → is_done n n 0 0 a b ≡ true
+    first_done n a b here = grind (arith, nat_tests, here)
+
+past_corner : (n u v : ℕ) → (16 * n ≤ u) ⊎ (16 * n ≤ v) → is_done n n 0 0 (max (u / 16) (v / 16)) (min (u / 16) (v / 16)) ≡ false
+past_corner n u v past =
+    let far : n ≤ max (u / 16) (v / 16) = elim past [ inl right ↦ omega (arith, right) | inr below ↦ omega (arith, below) ] in
+    later_done n (max (u / 16) (v / 16)) (min (u / 16) (v / 16)) far
+  where
+    later_done : (n a b : ℕ) → n ≤ a → is_done n n 0 0 a b ≡ false
+    later_done n a b here = grind (arith, nat_tests, here)
+
+-- the test of a corner
+corner_true : (n u v : ℕ) → u < n → v < n → nat_lt u n && nat_lt v n ≡ true
+corner_true n u v column line = grind (arith, nat_tests, column, line)
+
+corner_false : (n u v : ℕ) → (n ≤ u) ⊎ (n ≤ v) → nat_lt u n && nat_lt v n ≡ false
+corner_false n u v past = elim past [ inl right ↦ grind (arith, nat_tests, right) | inr below ↦ grind (arith, nat_tests, below) ]
+
+-- a place is in the corner or not
+corner_cases : (n u v : ℕ) → ((u < n) × (v < n)) ⊎ ((n ≤ u) ⊎ (n ≤ v))
+corner_cases n u v =
+    elim (cases_lt u n) [
+      | inl column ↦ elim (cases_lt v n) [ inl line ↦ inl (column, line) | inr below ↦ inr (inr below) ]
+      | inr right ↦ inr (inl right)
+    ]
+
+module _ {T : Type 0} (s : Shape) (old now : List T) where
+  -- these are the first columns and rows
+  pub all_pairs : (n : ℕ) → BlocksCrossed n n 0 0 old now s → shaped_grid now s ≡ corner_crossed (16 * n) (shaped_grid old s)
+  unfolding grid_of
+  all_pairs n so =
+      same_grids s.width s.height (pixel (shaped now s)) (λ u v. if nat_lt u (16 * n) && nat_lt v (16 * n) then (shaped_grid old s).pixel v u else (shaped_grid old s).pixel u v)
+      (λ u v column line.
+      sym (pixel_at (shaped now s) u v column line)
+      ∙ so.each u v column line
+      ∙ elim (corner_cases (16 * n) u v) [
+        | inl inside ↦ ap (λ b. crossed_pixel b (shaped_grid old s) u v) (in_corner n u v inside.0 inside.1) ∙ sym (cond-true (nat_lt u (16 * n) && nat_lt v (16 * n)) _ _ (corner_true (16 * n) u v inside.0 inside.1))
+        | inr past ↦ ap (λ b. crossed_pixel b (shaped_grid old s) u v) (past_corner n u v past) ∙ sym (cond-false (nat_lt u (16 * n) && nat_lt v (16 * n)) _ _ (corner_false (16 * n) u v past))
+      ])
+
+-- ---- strips of columns after a corner
+
+module _ {T : Type 0} (w h : ℕ) (f : ℕ → ℕ → Option T) (square : w ≡ h) where
+  abbrev corner_pixel : ℕ → ℕ → ℕ → Option T
+  corner_pixel n x y = if nat_lt x n && nat_lt y n then (grid w h f).pixel y x else (grid w h f).pixel x y
+
+  crossed_pixel_at : (n u v : ℕ) → u < n → v < n → corner_pixel n u v ≡ (grid w h f).pixel v u
+  crossed_pixel_at n u v column line = cond-true (nat_lt u n && nat_lt v n) _ _ (corner_true n u v column line)
+
+  same_pixel_at : (n u v : ℕ) → (n ≤ u) ⊎ (n ≤ v) → corner_pixel n u v ≡ (grid w h f).pixel u v
+  same_pixel_at n u v past = cond-false (nat_lt u n && nat_lt v n) _ _ (corner_false n u v past)
+
+  -- the corner is larger by the strip
+  pub corner_and_strip : (left right : ℕ) → left ≤ right → strip_crossed left right (corner_crossed left (grid w h f)) ≡ corner_crossed right (grid w h f)
+  corner_and_strip left right more =
+      same_grids w h (λ x y. if is_in_strip left right x y then (corner_crossed left (grid w h f)).pixel y x else (corner_crossed left (grid w h f)).pixel x y) (corner_pixel right)
+      (λ u v column line.
+      elim (strip_cases left right u v) [
+        | inl here ↦
+            cond-true (is_in_strip left right u v) _ _ (strip_true left right u v here.0 here.1 here.2)
+            ∙ at_place w h (corner_pixel left) v u (omega (arith, line, square)) (omega (arith, column, square))
+            ∙ same_pixel_at left v u (elim here.2 [ inl there ↦ inr there | inr there ↦ inl there ])
+            ∙ sym (crossed_pixel_at right u v here.0 here.1)
+        | inr (inl past) ↦
+            cond-false (is_in_strip left right u v) _ _ (strip_past left right u v past)
+            ∙ at_place w h (corner_pixel left) u v column line
+            ∙ same_pixel_at left u v (elim past [ inl there ↦ inl (omega (arith, there, more)) | inr there ↦ inr (omega (arith, there, more)) ])
+            ∙ sym (same_pixel_at right u v past)
+        | inr (inr before) ↦
+            cond-false (is_in_strip left right u v) _ _ (strip_before left right u v before.0 before.1)
+            ∙ at_place w h (corner_pixel left) u v column line
+            ∙ crossed_pixel_at left u v before.0 before.1
+            ∙ sym (crossed_pixel_at right u v (omega (arith, before.0, more)) (omega (arith, before.1, more)))
+      ])
+
+  -- all columns and rows
+  pub whole_corner : (n : ℕ) → w ≤ n → corner_crossed n (grid w h f) ≡ transposed (grid w h f)
+  unfolding transposed
+  whole_corner n all =
+      same_grids w h (corner_pixel n) (λ x y. (grid w h f).pixel y x) (λ u v column line. crossed_pixel_at n u v (omega (arith, column, all)) (omega (arith, line, square, all)))
+      ∙ (λ i. grid (square i) (sym square i) (λ x y. (grid w h f).pixel y x))
+
+  -- a strip of all columns and rows
+  pub whole_strip : (n : ℕ) → w ≤ n → strip_crossed 0 n (grid w h f) ≡ transposed (grid w h f)
+  unfolding transposed
+  whole_strip n all =
+      same_grids w h (λ x y. if is_in_strip 0 n x y then (grid w h f).pixel y x else (grid w h f).pixel x y) (λ x y. (grid w h f).pixel y x)
+      (λ u v column line. cond-true (is_in_strip 0 n u v) _ _ (strip_true 0 n u v (omega (arith, column, all)) (omega (arith, line, square, all)) (inl (omega arith))))
+      ∙ (λ i. grid (square i) (sym square i) (λ x y. (grid w h f).pixel y x))
+
+-- the first columns and rows have changed places, and the padding stays
+abbrev pub CornerCrossed : {T : Type 0} → ℕ → List T → List T → Shape → Type 0
+CornerCrossed upto old new s = Becomes s old new (corner_crossed upto (shaped_grid old s))
+
+module _ {T : Type 0} (s : Shape) (old now : List T) (upto : ℕ) (so : CornerCrossed upto old now s) (square : s.width ≡ s.height) where
+  -- one strip more
+  pub one_strip_more : (right : ℕ) (new : List T) → upto ≤ right → Becomes s now new (strip_crossed upto right (shaped_grid now s)) → CornerCrossed right old new s
+  unfolding grid_of
+  one_strip_more right new more strip = record {
+    grid = strip.grid ∙ ap (strip_crossed upto right) so.grid ∙ corner_and_strip s.width s.height (pixel (shaped old s)) square upto right more;
+    outside = outside_trans (shaped old s) (shaped now s) (shaped new s) so.outside strip.outside;
+  }
+
+  -- all strips
+  pub all_strips : s.height ≤ upto → Becomes s old now (transposed (shaped_grid old s))
+  unfolding grid_of
+  all_strips all = record {
+    grid = so.grid ∙ whole_corner s.width s.height (pixel (shaped old s)) square upto (omega (arith, square, all));
+    outside = so.outside;
+  }

@@ -1,0 +1,12 @@
+-- The rows so far come from the source.
+use Rattle.std.proofs.Common.{◌≡◌, ◌+◌, ◌*◌, ◌/◌, ◌%◌}
+use Rattle.image_model.specs.Layout.{pixel}
+use Rattle.image_shape.specs.Shape.{shape_height, shaped}
+use Rattle.image_turns.specs.Oriented.{source_column, source_row}
+use Rattle.image_writes.proofs.RowsWritten.{RowsDone}
+use Rattle.image_turns.proofs.pixel_turning.orient_rows.Given as goal
+
+abbrev pub invariant-loop-y : goal.invariant-loop-y
+invariant-loop-y g l =
+    RowsDone (λ x y p. p ≡ pixel (shaped l.source l.source_shape) (source_column l.orientation l.columns (l.left + x / g.row.N) y * g.row.N + x % g.row.N) (source_row l.orientation (shape_height l.source_shape) (l.left + x / g.row.N) y))
+    l.initial.cells l.cells l.shape l.y

@@ -1,0 +1,5 @@
+pub mod Gathered
+pub mod Mirrored
+pub mod Mosaic
+pub mod Part
+pub mod Written
