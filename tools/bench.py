@@ -262,7 +262,7 @@ def others():
     first, *lines = (it.split("\t") for it in ran.stdout.splitlines())
     measured = f"Measured on {commit()}, {time.strftime('%Y-%m-%d')}, beside {' '.join(first)}. Load average over a minute before the timing: {before:.2f}, after it: {os.getloadavg()[0]:.2f}."
     rows = [(name, int(channels), int(side), time, quotient) for name, channels, side, time, quotient in lines]
-    return [f"{measured} {others_table(rows, sides)}" for sides in ((512, 2048), sorted({it[2] for it in rows}))]
+    return [f"{measured}\n\n{table}" for table in (others_table(rows, (64, 512, 2048), False), others_table(rows, sorted({it[2] for it in rows})))]
 
 
 def first_line(*words):
@@ -279,12 +279,12 @@ def commit():
 
 
 def conditions(rounds):
-    """What the figures depend on, in one line: the commit, the date, the processor, the compilers, and the load before the timing."""
+    """What the figures depend on, as a list: the commit, the date, the processor, the compilers, and the load before the timing."""
     processor = re.search(r"model name\s*: (.*)", pathlib.Path("/proc/cpuinfo").read_text())
     return (
-        f"Measured on {commit()}, {time.strftime('%Y-%m-%d')}. Processor: {processor.group(1) if processor else 'unknown'}, {os.cpu_count()} logical cores. "
-        f"C: {first_line(*compiler(), '--version')}. Rust: {first_line('rustc', '--version')}. Rattle: {first_line('rt', 'version')}. "
-        f"Rounds: {rounds} in each of {BUILDS} builds. Load average over a minute before the timing: {os.getloadavg()[0]:.2f}"
+        f"- Measured on {commit()}, {time.strftime('%Y-%m-%d')}. Processor: {processor.group(1) if processor else 'unknown'}, {os.cpu_count()} logical cores.\n"
+        f"- C: {first_line(*compiler(), '--version')}. Rust: {first_line('rustc', '--version')}. Rattle: {first_line('rt', 'version')}.\n"
+        f"- Rounds: {rounds} in each of {BUILDS} builds. Load average over a minute before the timing: {os.getloadavg()[0]:.2f}"
     )
 
 

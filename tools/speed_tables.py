@@ -7,12 +7,13 @@ import statistics
 COMPARED = ("vs. loop in C", "vs. plain C call", "vs. loop in Rust", "vs. original crate")
 # Those that do the same work as the call. (The plain call in C has no rows.)
 SAME_WORK = {0: "loop in C", 2: "loop in Rust", 3: "original crate"}
-# The sides of the images in docs/PERFORMANCE.md: of a small one and of a large one. All sides are in bench/tables.md.
-SHOWN = (64, 2048)
-# What the table beside other libraries has.
+# The sides of the images in docs/PERFORMANCE.md: of a tiny one, of a small one and of a large one. All sides are in bench/tables.md.
+SHOWN = (16, 64, 2048)
+# What the table beside other libraries has, in bench/tables.md and in docs/PERFORMANCE.md.
 OTHERS = "Each on one thread, from Python, on square images of these sides. First come the nanoseconds a pixel here. After the dot is this time divided by that of the faster one of the two."
-# A call is faster than a comparison below the first quotient, and slower above the second.
-FASTER, SLOWER = 0.95, 1.05
+OTHERS_SHOWN = "Each on one thread, from Python, on square images. A number is our time divided by that of the faster one of OpenCV and NumPy: below 1 we are faster."
+# A call is faster than a comparison below the first quotient, and slower above the second. Above the third one it is named.
+FASTER, SLOWER, NAMED = 0.95, 1.05, 1.25
 
 
 @dataclasses.dataclass
@@ -67,25 +68,24 @@ def summary_table(rows):
     return markdown(["Beside", "Pixels", "Faster", "The same", "Slower"], cells)
 
 
-def quotient_table(rows):
-    """A row in Markdown for each call that is slower than something, with its middle quotients on the sides of SHOWN. The row with
-    the greatest one comes first."""
+def slower_table(rows):
+    """A row in Markdown for each call that is clearly slower than something, with its greatest middle quotients over all sides and
+    cells. The row with the greatest one comes first."""
     cells = []
     for name in dict.fromkeys(it.name for it in rows):
         of_call = [it for it in rows if it.name == name]
-        found = [middles(of_call, side, k) for side in SHOWN for k in SAME_WORK]
-        texts = [" · ".join(f"{quotient:.2f}" for quotient in it) or "–" for it in found]
-        most = max((quotient for it in found for quotient in it), default=0)
-        if most > SLOWER:
-            cells.append((most, [name, *texts]))
-    heads = [f"{side}: {name}" for side in SHOWN for name in SAME_WORK.values()]
-    return markdown(["Call", *heads], [row for _, row in sorted(cells, key=lambda it: it[0], reverse=True)])
+        found = [max((statistics.median(it.quotients[k]) for it in of_call if it.quotients[k]), default=0) for k in SAME_WORK]
+        if max(found) > NAMED:
+            cells.append((max(found), [name, *(f"{it:.2f}" if it else "–" for it in found)]))
+    return markdown(["Call", *SAME_WORK.values()], [row for _, row in sorted(cells, key=lambda it: it[0], reverse=True)])
 
 
 def calls_shown(rows):
-    """The calls for docs/PERFORMANCE.md: how many are faster and slower, the plot, and the quotients of each."""
-    plotted = "## The calls\n\n![Time of each call, divided by the time of a loop in C](speed.svg)\n\nThese calls are slower than something by more than 5 %:"
-    return "\n\n".join([summary_table(rows), plotted, quotient_table(rows)])
+    """The calls for docs/PERFORMANCE.md: how many are faster and slower, the plot, and the greatest quotients of the slow ones."""
+    sides = sorted({it.side for it in rows})
+    plotted = "![Time of each call, divided by the time of a loop in C](speed.svg)\n\nThese calls take more than 1.25 times as long as something. A number is the greatest quotient on images of"
+    plotted += f" {', '.join(map(str, sides[:-1]))} and {sides[-1]} pixels a side, of one byte and of four:"
+    return "\n\n".join(["## The calls", summary_table(rows), plotted, slower_table(rows)])
 
 
 def call_tables(rows, sides):
@@ -143,11 +143,12 @@ def plot(rows, sides):
     return "\n".join([*drawn, "</svg>", ""])
 
 
-def others_table(rows, sides):
-    """The package for Python beside other libraries: a row for each call, a column for each side and size of a pixel."""
+def others_table(rows, sides, shows_times=True):
+    """The package for Python beside other libraries: a row for each call, a column for each side and size of a pixel. A cell has the
+    quotient, and before it the time where that is wanted."""
     names = {name: None for name, *_ in rows}
-    found = {tuple(it[:3]): f"{it[3]} · {it[4]}" for it in rows}
+    found = {tuple(it[:3]): f"{it[3]} · {it[4]}" if shows_times else it[4] for it in rows}
     columns = [(channels, side) for side in sides for channels in sorted({it[1] for it in rows})]
     head = ["Call", *(f"{side}: {channels} byte{'s' * (channels != 1)}" for channels, side in columns)]
     lines = [[name, *(found.get((name, *it), "–") for it in columns)] for name in names]
-    return f"{OTHERS}\n\n{markdown(head, lines)}"
+    return f"{OTHERS if shows_times else OTHERS_SHOWN}\n\n{markdown(head, lines)}"

@@ -8,7 +8,8 @@
 
 ghost use Rattle.std.specs.Prelude.{◌≡◌};
 
-use image_ops::{are_equal, copy_pixels, fill_pixels, join_rows, joined_clones, move_pixels};
+use image_moves::{join_rows, move_pixels};
+use image_ops::{are_equal, copy_pixels, fill_pixels, joined_clones};
 use image_shape::{Shape, Window};
 use std::alloc::{AllocError, AllocFailed, Global};
 use std::process::ExitCode;
