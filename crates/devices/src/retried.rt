@@ -80,7 +80,21 @@ impl<D: Write> Write for Retried<D> {
         Err(Error::from(ErrorKind::TimedOut))
     }
 
-    fn flush(&mut self) -> Result<()> {
-        self.device.flush()
+    fn flush(&mut self) -> Result<()>
+        ensures bytes { Keeps (D.contents (retried_device self.old))
+            (D.contents (retried_device self.new)) }
+        ensures retried { IfErr result (λ e. error_kind e ≢ ErrorKind.Interrupted) }
+    {
+        for _ in 0..u64::MAX {
+            match self.device.flush() {
+                Ok(()) => return Ok(()),
+                Err(fault) => {
+                    if fault.kind() != ErrorKind::Interrupted {
+                        return Err(fault);
+                    }
+                }
+            }
+        }
+        Err(Error::from(ErrorKind::TimedOut))
     }
 }

@@ -11,12 +11,14 @@ pub(crate) const STORED: &str =
 
 pub(crate) const STORED_OUTPUT: &str = "pixel 7\ndone\npixel 9\nimage 3 2 4 1 2 3 4 5 9 7 8 9\n";
 
-// Gives at most `most` bytes of its text a call, and fails at the call of number `bad_call`, from 1.
+// Gives at most `most` bytes of its text a call, and fails at the call of number `bad_call`, from 1,
+// by an error of its kind.
 #[derive(Drop)]
 pub(crate) struct Source<'a> {
     text: &'a [u8],
     most: usize,
     bad_call: usize,
+    kind: ErrorKind,
     pub(crate) calls: usize,
 }
 
@@ -26,8 +28,14 @@ impl<'a> Source<'a> {
             text: text.as_bytes(),
             most,
             bad_call,
+            kind: ErrorKind::Interrupted,
             calls: 0,
         }
+    }
+
+    // The same with errors of another kind.
+    pub(crate) fn of_kind(self, kind: ErrorKind) -> Self {
+        Source { kind, ..self }
     }
 }
 
@@ -35,7 +43,7 @@ impl<'a> Read for Source<'a> {
     fn read(&mut self, buf: &mut [u8]) -> io::Result<usize> {
         self.calls = self.calls.saturating_add(1);
         if self.calls == self.bad_call {
-            return Err(io::Error::from(ErrorKind::Interrupted));
+            return Err(io::Error::from(self.kind));
         }
         let count = self.text.len().min(self.most).min(buf.len());
         let text = self.text;
@@ -54,6 +62,8 @@ pub(crate) enum Failing {
     // No byte is taken at the write of this number.
     Nothing(usize),
     Flush,
+    // Only the first flush fails.
+    FlushOnce,
 }
 
 // Takes at most `most` bytes a call, takes no memory, and fails as it is told to.
@@ -63,6 +73,7 @@ pub(crate) struct Sink {
     len: usize,
     most: usize,
     failing: Failing,
+    kind: ErrorKind,
     pub(crate) calls: usize,
     pub(crate) flushes: usize,
 }
@@ -74,9 +85,15 @@ impl Sink {
             len: 0,
             most,
             failing,
+            kind: ErrorKind::Interrupted,
             calls: 0,
             flushes: 0,
         }
+    }
+
+    // The same with errors of another kind.
+    pub(crate) fn of_kind(self, kind: ErrorKind) -> Self {
+        Sink { kind, ..self }
     }
 
     pub(crate) fn holds(&self, text: &str) -> bool {
@@ -91,7 +108,7 @@ impl Write for Sink {
     fn write(&mut self, buf: &[u8]) -> io::Result<usize> {
         self.calls = self.calls.saturating_add(1);
         if self.failing == Failing::Error(self.calls) {
-            return Err(io::Error::from(ErrorKind::Interrupted));
+            return Err(io::Error::from(self.kind));
         }
         if self.failing == Failing::Nothing(self.calls) {
             return Ok(0);
@@ -107,8 +124,10 @@ impl Write for Sink {
 
     fn flush(&mut self) -> io::Result<()> {
         self.flushes = self.flushes.saturating_add(1);
-        if self.failing == Failing::Flush {
-            return Err(io::Error::from(ErrorKind::Interrupted));
+        if self.failing == Failing::Flush
+            || self.failing == Failing::FlushOnce && self.flushes == 1
+        {
+            return Err(io::Error::from(self.kind));
         }
         Ok(())
     }

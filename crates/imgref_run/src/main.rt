@@ -9,6 +9,8 @@ mod fixtures;
 mod input;
 mod output;
 mod program;
+#[cfg(test)]
+mod retried_tests;
 
 pub use devices::Counted;
 use devices::Retried;

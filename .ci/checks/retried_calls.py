@@ -1,0 +1,47 @@
+#!/usr/bin/env python3
+"""Shows that the tests refuse what the contracts of `Retried` accept: a call that ends at one interruption, an error of another
+kind, and a flush that never reaches the device.
+
+A contract says which errors a call may end with, and not that it may only end with the device's own. The tests are first run as
+they are, in a copy of the repository, and must pass. Then a bug is planted at the head of each call, and the test of each must fail.
+"""
+import pathlib
+import sys
+
+sys.path.insert(0, str(pathlib.Path(__file__).resolve().parent.parent))
+from always_memory import tests_of
+from checking import Cases, changeable_copy
+from functions import with_function, with_head
+
+# The crate whose tests are run.
+TESTS = "imgref_run"
+ENDED = "let only = self.device.{call}; if let Err(error) = &only {{ if error.kind() == ErrorKind::Interrupted {{ return Err(Error::from(ErrorKind::TimedOut)); }} }} else {{ return only; }}"
+OF_ANOTHER_KIND = "let only = self.device.{call}; match only {{ Ok(count) => return Ok(count), Err(error) => if error.kind() != ErrorKind::Interrupted {{ return Err(Error::from(ErrorKind::Other)); }} }}"
+NOT_HANDED_ON = "if true {{ return Ok(()); }}"
+CALLS = {"read": "read(buf)", "write": "write(buf)", "flush": "flush()"}
+# What is tried at once: a bug in each call. Each call has a test of its own, so three tests must fail.
+CASES = [
+    ("a read that ends at an interruption, a write that loses the kind of an error, a flush that isn't handed on", (ENDED, OF_ANOTHER_KIND, NOT_HANDED_ON)),
+    ("a read that loses the kind of an error, a write and a flush that end at an interruption", (OF_ANOTHER_KIND, ENDED, ENDED)),
+]
+
+
+def main():
+    cases = Cases()
+    with changeable_copy() as copy:
+        path = copy / "crates/devices/src/retried.rt"
+        whole = path.read_text()
+        was = tests_of(copy / "crates" / TESTS)
+        cases.count(f"the tests of {TESTS} pass as they are", was and was[0] > 0 and was[1] == 0, f"passed and failed: {was}")
+        for what, bodies in CASES:
+            text = whole
+            for (name, call), body in zip(CALLS.items(), bodies, strict=True):
+                text = with_function(text, name, lambda it: with_head(it, body.format(call=call)))
+            path.write_text(text)
+            found = tests_of(copy / "crates" / TESTS)
+            cases.count(f"{what}: each is refused by a test", was and found == (was[0] - len(CALLS), len(CALLS)), f"passed and failed: {found}, and unchanged: {was}")
+    return cases.end()
+
+
+if __name__ == "__main__":
+    sys.exit(main())
