@@ -26,7 +26,9 @@ REFUSED = (
     ("-1,1,2,2,4,4", "the frame is -1,"),
     ("1.5,1,2,2,4,4", "the frame is 1.5,"),
     ("01,1,2,2,4,4", "the frame is 01,"),
-    ("18446744073709551616,1,2,2,4,4", "the frame is 18446744073709551616,"),
+    ("18446744073709551616,1,2,2,4,4", "the frame is 18446744073709551616, which is above 18446744073709551615, the greatest number of a frame"),
+    ("1,4294967296,2,2,4,4", "the id is 4294967296, which is above 4294967295, the greatest number of a field"),
+    ("1,1,-99999999999,2,4,4", "the left is -99999999999, which is above 4294967295, the greatest number of a field"),
     ("1,x,2,2,4,4", "the id is x,"),
     ("1,1,1e3,2,4,4", "the left is 1e3, which is no number such as 12 or -3.5"),
     ("1,1,2.,2,4,4", "the left is 2.,"),
@@ -35,14 +37,18 @@ REFUSED = (
     ("1,1,--2,2,4,4", "the left is --2,"),
     ("1,1,+2,2,4,4", "the left is +2,"),
     ("1,1,02,2,4,4", "the left is 02,"),
-    ("1,1,4294967296,2,4,4", "the left is 4294967296,"),
-    ("1,1,0.123456789012345678901,2,4,4", "the left is 0.123456789012345678901,"),
+    ("1,1,4294967296,2,4,4", "the left is 4294967296, which is above 4294967295, the greatest number of a field"),
+    ("1,1,0.123456789012345678901,2,4,4", "the left is 0.123456789012345678901, which is longer than 20 digits after the point"),
     ("1,1,2,nan,4,4", "the top is nan,"),
     ("1,1,2,2,-4,4", "the width is -4, which is no number such as 12 or 3.5"),
     ("1,1,2,2,4,-0.5", "the height is -0.5,"),
-    ("1,1,2,2,4,4 ", "the height is ..,"),
+    ("1,1,2,2,4,4 4", "the height is 4 4, which is no number such as 12 or 3.5"),
+    ("1,1,2,2,4 ,4", "the width is 4 , which is no number such as 12 or 3.5"),
+    ("1,1,2,2,4,4\u00a0", "the height is 4\u00a0, which is no number such as 12 or 3.5"),
+    ("1,1,2,2,4,\x1b[2J4", "the height is \\x1b[2J4, which is no number such as 12 or 3.5"),
     ("1;1;2;2;4;4", "the frame is 1;1;2;2;4;4,"),
-    ("1..2 cover 2,2,4,4", "the frame is ..,"),
+    ("1..2 cover 2,2,4,4", "the frame is 1..2 cover 2, which is no whole number from 1 on"),
+    ("\ufeff1,1,2,2,4,4", "the frame is \ufeff1, which is no whole number from 1 on"),
 )
 
 
@@ -54,21 +60,22 @@ def video(sampling, interlaced=b"p", frames=12, size=(13, 9)):
     return b"YUV4MPEG2 W%d H%d F25:1 I%s C%s\n" % (wide, high, interlaced, sampling) + b"".join(b"FRAME\n" + chance.randbytes(cells) for _ in range(frames))
 
 
+COVER = ("cover", [])
+
+
 def side(start, extent):
-    """The first pixel that is touched and how many are, or none where it ends before the frame."""
-    sign, start, end = start.startswith("-"), Fraction(start), Fraction(start) + Fraction(extent)
-    first = max(0, math.floor(start))
-    return None if sign and end <= 0 else (first, math.ceil(end) - first)
+    """The first pixel that is touched, which may be before the frame, and how many are."""
+    first = math.floor(Fraction(start))
+    return first, math.ceil(Fraction(start) + Fraction(extent)) - first
 
 
-def covers(lines):
-    """The edits that lines become; those of boxes that end before the frame are left out, since they change nothing."""
+def covers(lines, style=COVER, margin=None):
+    """The edits that lines become: this, with a margin."""
     found = []
     for line in lines:
         frame, _, *box = line.split(",")[:6]
         across, down = side(box[0], box[2]), side(box[1], box[3])
-        if across and down:
-            found.append((int(frame) - 1, int(frame), "cover", [across[0], down[0], across[1], down[1]], []))
+        found.append((int(frame) - 1, int(frame), "box", [across[0], down[0], across[1], down[1], margin], style))
     return found
 
 
@@ -93,10 +100,10 @@ def run(program, lines, words, data, ending="\n"):
         return ends(program, ["--boxes", listed.name, *words], data), lines_said(program, ["--boxes", listed.name, *words], data)
 
 
-def by_model(data, lines, words=()):
+def by_model(data, lines, words=(), style=COVER, margin=None):
     """What is to be written: the boxes are first."""
     try:
-        return answer(data, covers(lines) + edits_of(words)), "", 0
+        return answer(data, covers(lines, style, margin) + edits_of(words)), "", 0
     except Fault as fault:
         return fault.written, f"fault {fault.name}", STATUS[fault.name.split()[0]]
 
@@ -130,6 +137,149 @@ def by_tracks(cases, program):
     cases.count("made tracks over pictures", not any(wrong), "\n".join(filter(None, wrong))[:3000])
 
 
+def by_margin(cases, program):
+    """Each margin is the same on all sides, also of boxes that end before the frame or begin after it."""
+    for margin in (0, 1, 2, 3, 5, 40, 2**64 - 1):
+        wrong = []
+        for seed, (sampling, interlaced) in enumerate([(b"mono", b"p"), (b"420jpeg", b"p"), (b"420jpeg", b"t"), (b"422", b"p"), (b"411", b"p"), (b"444", b"p")]):
+            data, lines = video(sampling, interlaced), tracks(random.Random(f"{seed} {margin}"), 12, TEXTS["halves"])
+            lines = [it for it in lines if not any(size.startswith("-") for size in it.split(",")[4:6])]
+            said, _ = run(program, lines, ["--margin", str(margin)], data)
+            if without_note(*said) != by_model(data, lines, margin=margin):
+                wrong.append(f"{said[1:]} for {sampling}\n" + "\n".join(lines))
+        cases.count(f"made tracks with a margin of {margin} are covered as the model says", not any(wrong), "\n".join(wrong)[:3000])
+    data = video(b"mono", size=(16, 16))
+    for name, box, mirrored in (("columns", "17,4,3,3", "-4,4,3,3"), ("rows", "4,17,3,3", "4,-4,3,3")):
+        for margin in (None, 0, 1, 2, 3):
+            words = [] if margin is None else ["--margin", str(margin)]
+            one, other = (differing_pixels(data, run(program, [f"1,1,{it}"], words, data)[0][0]) for it in (box, mirrored))
+            turned = {(15 - x, y) if name == "columns" else (x, 15 - y) for x, y in one}
+            far = 3 if margin is None else margin
+            cases.count(f"{name}: a box after the end and one before the beginning are alike with a margin of {margin}", turned == other and bool(one) == (margin is None or margin > 1), f"{sorted(one)} {sorted(other)} {far}")
+
+
+def differing_pixels(data, out):
+    """Which pixels of the first frame of a grey video of 16 by 16 pixels differ."""
+    start = data.index(b"FRAME\n") + 6
+    return {(at % 16, at // 16) for at in range(256) if data[start + at] != out[start + at]}
+
+
+# What boxes may become: the words of the option, and the word of the edit with what follows its window.
+STYLES = (
+    ("fill 99", ("fill", [99])),
+    ("mosaic 4,4", ("mosaic", [4, 4])),
+    ("mosaic 8,2", ("mosaic", [8, 2])),
+    ("means 4,4", ("means", [4, 4])),
+    ("blur 3", ("blur", [3])),
+    ("blur 0", ("blur", [0])),
+)
+
+
+def by_styles(cases, program):
+    """What each box becomes in the place of a cover."""
+    for words, style in STYLES:
+        wrong = []
+        for seed, (sampling, interlaced) in enumerate([(b"mono", b"p"), (b"420jpeg", b"p"), (b"422", b"p"), (b"411", b"p"), (b"444", b"p")]):
+            data, lines = video(sampling, interlaced), tracks(random.Random(f"{seed} {words}"), 12, TEXTS["halves"])
+            lines = [it for it in lines if not any(size.startswith("-") for size in it.split(",")[4:6])]
+            for margin in (None, 0, 3):
+                more = [] if margin is None else ["--margin", str(margin)]
+                said, _ = run(program, lines, ["--with", *words.split(), *more], data)
+                if without_note(*said) != by_model(data, lines, (), style, margin):
+                    wrong.append(f"{said[1:]} for {sampling} {margin}\n" + "\n".join(lines))
+        cases.count(f"boxes become '{words}' as the model says", not any(wrong), "\n".join(wrong)[:3000])
+    colours = b"P6\n13 9\n255\n" + random.Random(1).randbytes(351)
+    lines = ["1,1,-2,3,5,4", "1,2,9,-1,3.5,3.5"]
+    for words, style in (("fill 9,99,199", ("fill", [9, 99, 199])), *STYLES):
+        said, _ = run(program, lines, ["--with", *words.split()], colours)
+        cases.count(f"boxes of a picture become '{words}'", without_note(*said) == by_model(colours, lines, (), style), str(said[1:]))
+    data = video(b"420jpeg")
+    for words, reason in (("fill 256", "value 256 is above 255"), ("fill 1,2,3", "a colour is only for pictures in colour"), ("mosaic 3,4", "tile width 3 is no multiple of 2"), ("means 0,4", "its size is 0")):
+        said, all_lines = run(program, ["# boxes", "1,1,2,2,4,4"], ["--with", *words.split()], data)
+        cases.count(f"--with {words} is a fault of the first line", said == (b"", "fault outside", 6) and any(it == f"line 2 of the boxes: {reason}" or it.startswith(f"line 2 of the boxes: {reason}") for it in all_lines), str(all_lines[:4]))
+    for words in ("move 4,4", "cover 9", "fill x", "blur 32768", "mosaic 4", "turn half", "fill -1"):
+        said, all_lines = run(program, ["1,1,2,2,4,4"], ["--with", *words.split()], data)
+        cases.count(f"--with {words} is refused", said == (b"", "fault words", 1) and all_lines[1].startswith("--with needs fill V"), str(all_lines[:2]))
+    for words, note in (("blur 3", "a blur hides nothing"), ("mosaic 4,4", "--with mosaic shows"), ("means 4,4", "--with means shows")):
+        said, all_lines = run(program, ["1,1,2,2,4,4"], ["--with", *words.split()], data)
+        cases.count(f"--with {words} is noted", any(it.startswith(f"note: {note}") for it in all_lines), str(all_lines[:3]))
+    for words in ("mosaic 4,4", "means 4,4", "blur 3"):
+        said, all_lines = run(program, ["1,1,2,2,4,4"], ["--strict", "--with", *words.split(), "fill", "2,2,2,2", "9"], data)
+        cases.count(f"a fill after boxes with {words} is a fault where asked", said == (b"", "fault order", 10), str(all_lines[:3]))
+    for words in (["--margin", "3"], ["--with", "fill", "9"], ["--require-box"]):
+        said = lines_said(program, [*words, "fill", "0,0,2,2", "9"], data)
+        cases.count(f"{words[0]} without boxes is refused", said[:2] == ["fault words", f"{words[0]} is for the boxes of a list, so it needs --boxes"], str(said[:2]))
+
+
+def bare_stretches(lines, frames, hold=0):
+    """The frames without a box, from 1, and the first longest stretch of them."""
+    with_box = {int(it.split(",")[0]) + more for it in lines for more in range(-hold, hold + 1)}
+    bare, longest = [it for it in range(1, frames + 1) if it not in with_box], (0, 0)
+    for first in bare:
+        end = first
+        while end + 1 in bare:
+            end += 1
+        if not longest[0] or end - first > longest[1] - longest[0]:
+            longest = first, end
+    return len(bare), longest
+
+
+def by_bare_frames(cases, program):
+    """One line says how many frames have no box, and which stretch of them is the longest."""
+    data = video(b"mono")
+    wrong = []
+    for seed in range(60):
+        chance = random.Random(seed)
+        frames = chance.sample(range(1, 16), chance.randint(1, 12))
+        lines = [f"{it},{it},2,2,4,4" for it in frames]
+        hold = chance.choice((None, None, 1, 2))
+        more = [] if hold is None else ["--hold", str(hold)]
+        count, (first, end) = bare_stretches(lines, 12, hold or 0)
+        line = f"{count} of 12 frames have no box, the longest stretch is {first} to {end}"
+        said, all_lines = run(program, lines, more, data)
+        if said[2] or (f"note: {line}" in all_lines) != bool(count) or sum("have no box" in it for it in all_lines) > 1:
+            wrong.append(f"{sorted(frames)} {hold}: {all_lines[:3]}, not {line}")
+        said, all_lines = run(program, lines, ["--require-box", *more], data)
+        if said[1:] != (("fault box", 12) if count else said[1:2] + (0,)) or bool(count) != (line in all_lines):
+            wrong.append(f"{sorted(frames)} {hold} --require-box: {said[1:]} {all_lines[:3]}")
+    cases.count("the frames without a box are told", not wrong, "\n".join(wrong)[:3000])
+    with tempfile.TemporaryDirectory() as room:
+        name = f"{room}/out.y4m"
+        said, all_lines = run(program, ["1,1,2,2,4,4"], ["--require-box", "-o", name], data)
+        cases.count("with --require-box a video with such a frame gets no name", said[2] == 12 and not list(pathlib.Path(room).iterdir()), str(all_lines[:2]))
+
+
+def by_report(cases, program):
+    """The report has the rectangles as they were drawn: what differs between input and output is inside them, and a fill of them is the output."""
+    for sampling, interlaced in ((b"mono", b"p"), (b"420jpeg", b"p"), (b"420jpeg", b"t"), (b"411", b"p")):
+        data, size = video(sampling, interlaced), (13, 9)
+        lines = [it for it in tracks(random.Random(3), 12, TEXTS["halves"]) if not any(part.startswith("-") for part in it.split(",")[4:6])]
+        for words in ([], ["--margin", "0"], ["--margin", "3"], ["--hold", "2"]):
+            with tempfile.TemporaryDirectory() as room:
+                (pathlib.Path(room) / "boxes.txt").write_text("\n".join(lines) + "\n")
+                said = ends(program, ["--boxes", f"{room}/boxes.txt", *words, "--report", f"{room}/report.csv", "3..5", "cover", "1,1,2,2", "fill", "0,0,4,4", "99"], data)
+                rows = [[int(it) for it in row.split(",")] for row in (pathlib.Path(room) / "report.csv").read_text().splitlines()]
+                names = sorted(it.name for it in pathlib.Path(room).iterdir())
+            again = answer(data, [(row[0] - 1, row[0], "fill", row[1:], [16]) for row in rows] + edits_of("fill 0,0,4,4 99".split()))
+            inside = all(len(row) == 5 and 0 < row[0] <= 12 and row[3] and row[4] and row[1] + row[3] <= size[0] and row[2] + row[4] <= size[1] for row in rows)
+            cases.count(f"the report of {sampling.decode()} {interlaced.decode()} {' '.join(words)} filled is the output", without_note(*said) == (again, "", 0) and inside and rows and [row[0] for row in rows] == sorted(row[0] for row in rows) and names == ["boxes.txt", "report.csv"], f"{said[1:]} {rows[:5]} {names}")
+    sizes = [(13, 9), (13, 9), (4, 4), (13, 9)]
+    pictures = b"".join(b"P5\n%d %d\n255\n" % it + random.Random(str(it)).randbytes(it[0] * it[1]) for it in sizes)
+    with tempfile.TemporaryDirectory() as room:
+        (pathlib.Path(room) / "boxes.txt").write_text("".join(f"{it},1,3,3,4,4\n" for it in range(1, 5)))
+        said = ends(program, ["--boxes", f"{room}/boxes.txt", "--margin", "1", "--report", f"{room}/report.csv"], pictures)
+        text = (pathlib.Path(room) / "report.csv").read_text()
+    cases.count("the report of pictures of several sizes", said[2] == 0 and text == "1,2,2,6,6\n2,2,2,6,6\n3,2,2,2,2\n4,2,2,6,6\n", f"{said[1:]} {text}")
+    data = video(b"mono")
+    for name, status in (("/nowhere/report.csv", 5), ("/", 5)):
+        said, all_lines = run(program, ["1,1,2,2,4,4"], ["--report", name], data)
+        cases.count(f"a report that can't be written is a fault: {name}", said[1:] == ("fault output", status) and any(name in it for it in all_lines), str(all_lines[:3]))
+    said, all_lines = run(program, ["1,1,2,2,4,4"], ["-o", "/nowhere/one", "--report", "/nowhere/one"], data)
+    cases.count("a report and an output of one name are refused", said == (b"", "fault words", 1) and all_lines[1] == "the report and the output need two names", str(all_lines[:2]))
+    said, all_lines = run(program, ["1,1,2,2,4,4"], ["--report", "-"], data)
+    cases.count("a report needs a name", said == (b"", "fault words", 1) and all_lines[1] == "--report needs the name of a file", str(all_lines[:2]))
+
+
 def by_edges(cases, program):
     """Boxes whose edges are at, just before and just after a pixel's edge."""
     parts = ("0", "0.00000000000000000001", "0.5", "0.99999999999999999999", "1", "1.00000000000000000001")
@@ -148,6 +298,9 @@ def by_form(cases, program):
         ("carriage returns", six, "\r\n"),
         ("empty lines, white space and comments", [f"\t {it.replace(',', ', ')}\n \t \n\n# a comment, 1,2,3" for it in six], "\n"),
         ("comments after boxes", [f"{it},# face" for it in six], "\n"),
+        ("comments after fields", [f"{it}# face" if at % 2 else f"{it} \t # 1,2,3" for at, it in enumerate(six)], "\n"),
+        ("white space at the ends of lines", [f"{it} \t" for it in six], "\n"),
+        ("white space before carriage returns", [f"{it}\t " for it in six], "\r\n"),
         ("more fields", [f"{it},x,,nothing at all" for it in six], "\n"),
         ("identities with a sign and a fraction", [it.replace(",", ",-", 1) for it in six], "\n"),
     ):
@@ -174,23 +327,36 @@ def by_faults(cases, program):
             said, all_lines = run(program, lines, words, data)
             cases.count(f"a list with no box is refused: {lines} {words}", said == (b"", "fault words", 1) and "no box" in all_lines[1], str(all_lines[:2]))
     said = lines_said(program, ["--boxes", "/nowhere"], data)
-    cases.count("a list that can't be read is refused", said[:2] == ["fault words", "the file of boxes can't be read"], str(said[:2]))
+    cases.count("a list that can't be read is refused", said[:2] == ["fault words", "the boxes file /nowhere can't be read: No such file or directory (os error 2)"], str(said[:2]))
     for words in (["--boxes", "-"], ["--boxes", "-", "--edits", "-", "-i", "/dev/null"]):
         said = lines_said(program, words, data)
         cases.count(f"{' '.join(words)} would read standard input twice", said[0] == "fault words" and "standard input" in said[1], str(said[:2]))
+
+
+def by_odd_lists(cases, program):
+    """Lists that look as if they were meant otherwise are noted, and name the script."""
+    data = video(b"mono", frames=30)
+    for lines, note in (
+        (["1,1,0.25,0.5,0.1,0.2", "2,1,0,0,1,1.0"], "note: all boxes are from 0 to 1, and are read as pixels: imgref-boxes --size"),
+        (["11,1,2,2,4,4", "30,1,2,2,4,4"], "note: the first box is in frame 11 of the list: imgref-boxes --first-frame"),
+    ):
+        said, all_lines = run(program, lines, [], data)
+        cases.count(f"{lines[0]} is noted", said[2] == 0 and any(it.startswith(note) for it in all_lines), str(all_lines[:3]))
+        said, all_lines = run(program, [lines[0].replace("11,", "10,"), *lines[1:], "12,1,2,2,4,4"], [], data)
+        cases.count(f"{lines[0]} beside another box is not", said[2] == 0 and not any("imgref-boxes" in it for it in all_lines), str(all_lines[:3]))
 
 
 def by_notes(cases, program):
     """A box wholly outside, and one of a frame that there isn't, are noted by their lines."""
     data = video(b"mono")
     inside = "1,1,2,2,4,4"
-    for line in ("3,1,-9,2,4,4", "3,1,2,-9,4,4", "3,1,-4,2,4,4", "3,1,15,2,4,4", "3,1,2,11,4,4", "3,1,2,4294967295,4,4"):
+    for line in ("3,1,-9,2,4,4", "3,1,2,-9,4,4", "3,1,-6,2,4,4", "3,1,15,2,4,4", "3,1,2,11,4,4", "3,1,2,4294967295,4,4"):
         said, all_lines = run(program, [inside, "# comment", line], [], data)
-        cases.count(f"'{line}' is noted", said[2] == 0 and all_lines[0] == "note: line 3 of the boxes: it covers nothing in frame 2, which has 13 by 9 pixels", str(all_lines[:2]))
+        cases.count(f"'{line}' is noted", said[2] == 0 and all_lines[0] == "note: line 3 of the boxes: it covers nothing in frame 3 of the list, which has 13 by 9 pixels", str(all_lines[:2]))
         said, all_lines = run(program, [inside, "# comment", line], ["--strict", "fill", "0,0,1,1", "9"], data)
         cases.count(f"'{line}' is a fault where asked", said[1:] == ("fault cover", 9) and all_lines[1].startswith("line 3 of the boxes: it covers nothing"), str(all_lines[:2]))
     said, all_lines = run(program, [inside, "", "13,1,2,2,4,4"], [], data)
-    cases.count("a box after the last frame is noted", said[2] == 0 and all_lines[0] == "note: line 3 of the boxes: the input has 12 frames, and ends before its range 12..13", str(all_lines[:2]))
+    cases.count("a box after the last frame is noted", said[2] == 0 and all_lines[0] == "note: line 3 of the boxes: the input has 12 frames, and ends before frame 13 of the list", str(all_lines[:2]))
     said, all_lines = run(program, [inside, "", "13,1,2,2,4,4"], ["--strict"], data)
     cases.count("and is a fault where asked", said[1:] == ("fault range", 8), str(all_lines[:2]))
     said, all_lines = run(program, ["13,1,2,2,4,4", "5,1,-9,2,4,4", "", inside, "5,2,-9,3,4,4"], [], data)
@@ -209,9 +375,14 @@ def main():
     cases = Cases()
     for program in both_builds(cases, "imgref_frames"):
         by_tracks(cases, str(program))
+        by_margin(cases, str(program))
+        by_styles(cases, str(program))
+        by_bare_frames(cases, str(program))
+        by_report(cases, str(program))
         by_edges(cases, str(program))
         by_form(cases, str(program))
         by_faults(cases, str(program))
+        by_odd_lists(cases, str(program))
         by_notes(cases, str(program))
     return cases.end()
 

@@ -8,7 +8,7 @@ import tempfile
 
 sys.path.insert(0, str(pathlib.Path(__file__).resolve().parents[2]))
 from checking import Cases, both_builds
-from c_library import VERSION
+from version import VERSION
 from tries import FILL, ends, lines_said, video, wanted
 
 # Three edits with ranges, and a crop.
@@ -20,6 +20,16 @@ EDIT_FILES = (
     ("\n\nfill 0,0,2,2 9\n\n", 0), ("crop 0,0,2,2\n", 0), ("fill  0,0,2,2 9", 0), (" \tfill\t0,0,2,2 9 \t\r\n", 0), ("fill 0,0,2,2 9#a face", 0), ("#\r\ncover 0,0,2,2 #16\r\n\t \r\n# end", 0), ("# a\rb\r\nfill 0,0,2,2 9\r", 0),
 )  # fmt: skip  # fmt: skip
 
+# Lists, and the notes about an edit that may show what a later one hides: by a move, by means or a blur, and by a mosaic.
+MOVED, MIXED, REPEATED = "a move comes before", "means or a blur come before", "a mosaic comes before"
+LATE = (
+    ("mosaic 0,0,8,8 8,8 cover 0,0,1,1", [REPEATED]), ("mosaic 0,0,8,8 8,8 cover 0,0,8,8", []), ("mosaic 0,0,8,8 8,8 cover 2,2,4,4", []), ("mosaic 0,0,8,8 8,8 cover 3,2,4,4", [REPEATED]), ("mosaic 0,0,8,8 8,8 cover 8,0,2,2", []),
+    ("mosaic 0,0,8,8 4,4 fill 0,0,4,4 9", []), ("mosaic 0,0,8,8 4,4 fill 0,0,4,3 9", [REPEATED]), ("mosaic 0,0,8,8 4,4 fill 0,0,3,4 9", [REPEATED]), ("mosaic 0,0,8,8 4,4 fill 1,0,3,4 9", []), ("mosaic 0,0,8,8 4,4 fill 1,0,4,4 9", [REPEATED]), ("mosaic 0,0,8,8 4,4 fill 4,4,4,4 9", []),
+    ("mosaic 0,0,6,6 4,4 fill 4,4,2,2 9", []), ("mosaic 0,0,7,6 4,4 fill 4,4,2,2 9", [REPEATED]), ("mosaic 2,2,6,6 4,4 fill 0,0,6,6 9", []), ("mosaic 2,2,6,6 4,4 fill 0,0,4,4 9", [REPEATED]), ("mosaic 0,0,8,8 8,8 fill 8,0,2,2 9", []), ("mosaic 0,0,4,4 1,1 fill 1,1,2,2 9", []),
+    ("mosaic 0,0,8,8 8,8 cover 0,0,8,8+0", []), ("mosaic 0,0,8,8 8,8 cover 0,0,7,8+0", [REPEATED]), ("mosaic 0,0,8,8 4,8 cover 0,0,4,8+0", []), ("mosaic 0,0,8,8 4,8 cover 0,0,4,8+1", [REPEATED]), ("mosaic 0,0,8,8 4,8 cover 1,0,2,8+1", []), ("fill 0,0,2,2 9 mosaic 0,0,8,8 8,8", []),
+    ("mosaic 0,0,8,8 8,8 mosaic 0,0,4,4 2,2", []), ("0..1 mosaic 0,0,8,8 8,8 1..2 cover 0,0,1,1", []), ("0..2 mosaic 0,0,8,8 8,8 1..2 cover 0,0,1,1", [REPEATED]), ("00:00:00..00:00:01 mosaic 0,0,8,8 8,8 00:00:01..00:00:02 cover 0,0,1,1", []), ("00:00:00..00:00:01 mosaic 0,0,8,8 8,8 2..3 cover 0,0,1,1", [REPEATED]),
+    ("move 0,0,2,2 2,2 fill 0,0,2,2 9", [MOVED]), ("move 0,0,2,2 2,2 means 4,4,2,2 2,2", [MOVED]), ("0..1 move 0,0,2,2 2,2 1.. fill 0,0,2,2 9", []), ("means 0,0,2,2 2,2 fill 0,0,2,2 9", [MIXED]), ("blur 0,0,2,2 1 mosaic 0,0,2,2 1,1", [MIXED]), ("move 0,0,2,2 2,2 blur 0,0,2,2 1 mosaic 0,0,8,8 8,8 cover 0,0,1,1", [MOVED, MIXED, REPEATED]),
+)  # fmt: skip
 # Words, an input, and a part of a line that is printed after the fault.
 REASONS = (
     ("fill 0,0,2,2 9 fill 1,0,2,2 9", "420", "edit 2: column 1 is no multiple of 2"),
@@ -62,7 +72,19 @@ REASONS = (
     ("1...2 fill 0,0,2,2 9", "mono", "at word 1: 1...2 is no range"),
     ("fill 0,0,2,2 9 1..2", "mono", "at word 4: no edit comes after the range"),
     ("5..5 fill 0,0,2,2 9", "mono", "edit 1: its range has no frame"),
-    ("--edits /nowhere", "mono", "the edits file can't be read"),
+    ("--edits /nowhere", "mono", "the edits file /nowhere can't be read: No such file or directory"),
+    ("--edits /", "mono", "the edits file / can't be read: Is a directory"),
+    ("--boxes /nowhere", "mono", "the boxes file /nowhere can't be read: No such file or directory"),
+    ("-i /nowhere fill 0,0,2,2 9", "mono", "the input /nowhere can't be read: No such file or directory"),
+    ("-i / fill 0,0,2,2 9", "mono", "the input / can't be read: Is a directory"),
+    ("-o /nowhere/out fill 0,0,2,2 9", "mono", "the output /nowhere/out can't be written: No such file or directory"),
+    ("-o / fill 0,0,2,2 9", "mono", "the output / can't be written: it is a folder or a device, and only a file is replaced"),
+    ("--boxes x --hold 01", "mono", "--hold needs a whole number, and 01 isn't one: it has no sign, no unit and no zero in front"),
+    ("--limit 1k fill 0,0,2,2 9", "mono", "--limit needs a whole number, and 1k isn't one"),
+    ("--frames -1 fill 0,0,2,2 9", "mono", "--frames needs a whole number, and -1 isn't one"),
+    ("--frames", "mono", "nothing follows --frames"),
+    ("--loud fill 0,0,2,2 9", "mono", "--loud is no option"),
+    ("--edits /dev/null fill", "mono", "fill comes after --edits, which has all edits in its file"),
     ("--limit 100 fill 0,0,2,2 9", "444", "more than 100 bytes"),
 )
 
@@ -97,14 +119,129 @@ def by_words(cases, program):
         cases.count(f"'{words}' has {notes} notes, one of them that a blur hides nothing", len(lines) == notes + 1 and ("note: a blur hides nothing: cover what has to stay secret first" in lines) == (notes > 0), str(lines))
     said = ends(program, "move 0,0,2,2 2,2 fill 0,0,2,2 9".split(), video("mono"))
     cases.count("a move before a fill is noted", said[1].startswith("note: ") and said[2] == 0, str(said))
+    for words, kinds in LATE:
+        lines = [it for it in lines_said(program, words.split(), video("mono", 16, 16)) if not it or "come" in it]
+        cases.count(f"'{words}' has the notes of {len(kinds)} kinds", [it.startswith(f"note: {kind}") for it, kind in zip(lines, kinds)] == [True] * len(kinds) and lines[len(kinds):] == [""], str(lines))
+        said = ends(program, ["--strict", *words.split()], video("mono", 16, 16))
+        cases.count(f"and with --strict it is {'a fault before any output' if kinds else 'none'}", said[::2] == (b"", 10) and said[1] == "fault order" if kinds else said[2] not in (10, 1), str(said[1:]))
+    for words, shown in (("fil 0,0,2,2 9", "at word 1: fil isn't one of"), ("", "there is no edit")):
+        lines = lines_said(program, words.split(), video("mono"))
+        cases.count(f"the reason of '{words}' comes first, and the help only where asked", lines[0] == "fault words" and shown in lines[1] and lines[2:] == ["imgref_frames --help lists the edits and the options", ""], str(lines[:4]))
     for word in ("--help", "-h"):
         said = ends(program, [word], b"")
         cases.count(f"{word} prints the help", said[0].startswith(b"usage: ") and said[2] == 0, str(said))
     said = ends(program, ["--version"], b"")
     cases.count("the version is printed", said == (f"imgref_frames {VERSION}\n".encode(), "", 0), str(said))
+    for shell, cause in ((f'"{program}" {FILL} > /dev/full', "standard output can't be written: No space left on device"), (f'"{program}" {FILL} < /', "standard input can't be read: Is a directory")):
+        done = subprocess.run(["sh", "-c", shell], input=video("mono"), capture_output=True, timeout=120)
+        cases.count(f"the cause of a fault is said: {cause}", done.stderr.decode().split("\n")[1].startswith(cause), str(done))
     for name, shell, status in (("a closed output", f'"{program}" {FILL} >&-', 5), ("a full output", f'"{program}" {FILL} > /dev/full', 5), ("an input that can't be read", f'"{program}" {FILL} < /', 4)):
         done = subprocess.run(["sh", "-c", shell], input=video("mono"), capture_output=True, timeout=120)
         cases.count(f"{name} ends with status {status}", done.returncode == status, str(done))
+
+
+def by_counts(cases, program):
+    """Another number of frames than was asked for, by an option or by a line of a list."""
+    data, pictures = video("mono"), b"P5 2 1 255\nab" * 3
+    for given, words in ((data, FILL), (pictures, "fill 0,0,1,1 9")):
+        out = ends(program, words.split(), given)[0]
+        for count in ("2", "4", "0", "18446744073709551615"):
+            said = ends(program, ["--frames", count, *words.split()], given)
+            cases.count(f"{count} frames asked for is a fault", said == (out, "fault count", 11), str(said[1:]))
+        cases.count("the right number is no fault", ends(program, ["--frames", "3", *words.split()], given) == (out, "", 0))
+        cases.count("the last of two numbers counts", ends(program, ["--frames", "2", "--frames", "3", *words.split()], given) == (out, "", 0))
+    lines = lines_said(program, ["--frames", "2", *FILL.split()], data)
+    cases.count("both numbers of frames are said", lines[:2] == ["fault count", "the input has 3 frames, and --frames asks for 2"], str(lines))
+    cut = ends(program, ["--frames", "3", *FILL.split()], data[:-1])
+    cases.count("a cut frame is its own fault", cut[1:] == ("fault frame 2", 7), str(cut[1:]))
+    with tempfile.TemporaryDirectory() as folder:
+        listed, taken = pathlib.Path(folder, "list"), pathlib.Path(folder, "out")
+        for option, line, note in (("--boxes", "1,1,2,2,4,4", "note: 2 of 3 frames have no box, the longest stretch is 2 to 3"), ("--edits", FILL, "")):
+            for text, status in (
+                (f"# frames 3\n{line}\n", 0), (f"{line}\n# frames 3", 0), (f"{line}\r\n# frames 3\r\n", 0), (f"# frames 2\n{line}\n", 11), (f"{line}\n# frames 4", 11), (f"{line}\r\n# frames 2\r\n", 11), (f"# frames 3\n{line}\n# frames 3\n", 0), (f"# frames 3\n{line}\n# frames 2\n", 11), (f"# frames 0\n{line}\n", 11),
+                (f"#frames 2\n{line}\n", 0), (f"# frames 02\n{line}\n", 0), (f"# frames 2 of 3\n{line}\n", 0), (f"# frames\n{line}\n", 0), (f"{line}# frames 2\n", 0),
+            ):  # fmt: skip
+                listed.write_text(text, newline="")
+                said = ends(program, [option, listed, "-o", taken], data)
+                cases.count(f"{option} with {text!r} ends with status {status}", said[0] == b"" and said[2] == status and said[1] == ("fault count" if status else note) and taken.exists() == (status == 0), str(said))
+                taken.unlink(missing_ok=True)
+        listed.write_text("1,1,2,2,4,4\n# frames 4\n")
+        lines = lines_said(program, ["--boxes", listed], data)
+        cases.count("the line that names another number is said", lines[:2] == ["fault count", "line 2 of the boxes: the input has 3 frames, and the list was made from 4"], str(lines))
+        said = ends(program, ["--boxes", listed, "--frames", "3"], data)
+        cases.count("an option doesn't replace a list's line", said[1:] == ("fault count", 11), str(said[1:]))
+
+
+def by_descriptors(cases, program):
+    """A standard stream that is closed gets no bytes of another: a file that is opened has another number."""
+    made, words = video("mono"), "--strict 0..9 cover 99,99,1,1"
+    out = ends(program, FILL.split(), made)[0]
+    with tempfile.TemporaryDirectory() as folder:
+        given, taken = pathlib.Path(folder, "in"), pathlib.Path(folder, "out")
+        given.write_bytes(made)
+        for closed in ("2>&-", ">&-", "<&-", "<&- >&-", "<&- 2>&-", ">&- 2>&-", "<&- >&- 2>&-"):
+            for options in ("0..9 cover 99,99,1,1 9..10 " + FILL + " ", ""):
+                taken.unlink(missing_ok=True)
+                done = subprocess.run(["sh", "-c", f'"{program}" -i "{given}" -o "{taken}" {options}{FILL} {closed}'], capture_output=True, timeout=120)
+                cases.count(f"{closed}: a file gets the video alone{' beside notes' if options else ''}", done.returncode == 0 and taken.read_bytes() == out, f"{done} {taken.read_bytes()[:60]}")
+            taken.unlink(missing_ok=True)
+            done = subprocess.run(["sh", "-c", f'"{program}" -i "{given}" -o "{taken}" {words} {closed}'], capture_output=True, timeout=120)
+            cases.count(f"{closed}: a fault leaves no file", done.returncode == 9 and not taken.exists(), str(done))
+        for closed, status in ((f"<&- > {taken}", 4), (f">&- < {given}", 5), (f"2>&- > {taken} < {given}", 0)):
+            taken.unlink(missing_ok=True)
+            done = subprocess.run(["sh", "-c", f'"{program}" 7..9 {FILL} {FILL} {closed}'], capture_output=True, timeout=120)
+            cases.count(f"a closed stream ends with status {status}", done.returncode == status and (status or taken.read_bytes() == out), str(done))
+
+
+def by_notes(cases, program):
+    """What is said of several covers and ranges, and after a fault."""
+    sizes = b"".join(b"P5 %d %d 255\n" % (side, side) + bytes(side * side) for side in (8, 4, 16, 4))
+    covers = "cover 9,9,1,1+0 cover 5,5,1,1+0 cover 20,20,1,1+0"
+    named = [f"edit {number}: it covers nothing in frame {frame}, which has {side} by {side} pixels" for number, frame, side in ((1, 0, 8), (2, 1, 4), (3, 0, 8))]
+    lines = lines_said(program, covers.split(), sizes)
+    cases.count("each cover is noted at the first size at which it covers nothing", lines == [f"note: {it}" for it in named] + [""], str(lines))
+    lines = lines_said(program, ["--strict", *covers.split(), *"fill 0,0,8,8 9".split()], sizes)
+    cases.count("in a series whose edits don't suit a picture covers before it are said", lines[0] == "fault outside" and "fault cover" in lines and named[0] in lines, str(lines))
+    strict = lines_said(program, ["--strict", *covers.split(), "9..10", "cover", "0,0,1,1"], sizes)
+    cases.count("covers and ranges that are faults are listed together", strict == ["fault cover", *named, "fault range", "edit 4: the input has 4 frames, and ends before its range 9..10", ""], str(strict))
+    all_three = lines_said(program, ["--strict", "--frames", "7", *covers.split(), "9..10", "cover", "0,0,1,1"], sizes)
+    cases.count("and another number of frames before them", all_three[:3] == ["fault count", "the input has 4 frames, and --frames asks for 7", "fault cover"] and all_three[2:] == strict, str(all_three))
+    cut = sizes[:-1]
+    lines = lines_said(program, [*covers.split(), "9..10", "cover", "0,0,1,1"], cut)
+    cases.count("after a fault covers and ranges are still noted", lines[0] == "fault frame 3" and [it for it in lines if it.startswith("note: ")] == [f"note: {it}" for it in named] + ["note: edit 4: the input has 3 frames, and ends before its range 9..10"], str(lines))
+    lines = lines_said(program, ["1..2", "cover", "99,99,1,1"], video("mono")[:-1])
+    cases.count("and in a video too", lines[0] == "fault frame 2" and "note: edit 1: it covers nothing in frame 1, which has 12 by 8 pixels" in lines, str(lines))
+    many = "cover 99,99,1,1 " * 57
+    lines = lines_said(program, many.split(), video("mono"))
+    cases.count("of a kind 20 notes are printed, and how many more there are", len(lines) == 22 and lines[20] == "note: and 37 more like these", str(lines[-3:]))
+    lines = lines_said(program, ["--strict", *many.split()], video("mono"))
+    cases.count("and of a fault likewise", len(lines) == 23 and lines[0] == "fault cover" and lines[21] == "and 37 more like these", str(lines[-3:]))
+    for words in ("cover 1,1,0,0+0", "cover 3,5,0,4+0", "cover 0,0,0,0+0"):
+        lines = lines_said(program, words.split(), video("420"))
+        cases.count(f"'{words}' has neither a pixel nor a margin, and changes nothing", lines[0].startswith("note: edit 1: it covers nothing") and ends(program, words.split(), video("420"))[0] == video("420"), str(lines))
+
+
+def by_owners(cases, program):
+    """A file of another owner keeps its owner, or is refused, and its permissions don't become another owner's."""
+    if os.geteuid() != 0:
+        print("the owner of an output isn't tried: that needs root")
+        return
+    made, words = video("mono"), FILL.split()
+    out = ends(program, words, made)[0]
+    with tempfile.TemporaryDirectory() as folder:
+        pathlib.Path(folder).chmod(0o777)
+        taken = pathlib.Path(folder, "out")
+        taken.write_bytes(b"old")
+        os.chown(taken, 12345, 12346)
+        taken.chmod(0o6755)
+        said = ends(program, ["-o", taken, *words], made)
+        found = taken.stat()
+        cases.count("root keeps the owner and the group of an output", said == (b"", "", 0) and taken.read_bytes() == out and (found.st_uid, found.st_gid, found.st_mode & 0o7777) == (12345, 12346, 0o6755), str(found))
+        os.chown(taken, 0, 0)
+        taken.chmod(0o4755)
+        done = subprocess.run([program, "-o", taken, *words], input=made, capture_output=True, timeout=120, user=12345, group=12346)
+        found = taken.stat()
+        cases.count("another owner's output is refused and stays", done.returncode == 5 and done.stderr.decode().split("\n")[:2] == ["fault output", f"the output {taken} can't be written: it has another owner or group, which can't be kept"] and found.st_uid == 0 and taken.read_bytes() == out and os.listdir(folder) == ["out"], f"{done} {found}")
 
 
 def by_options(cases, program):
@@ -215,6 +352,10 @@ def main():
     cases = Cases()
     for program in both_builds(cases, "imgref_frames"):
         by_words(cases, str(program))
+        by_counts(cases, str(program))
+        by_descriptors(cases, str(program))
+        by_notes(cases, str(program))
+        by_owners(cases, str(program))
         by_options(cases, str(program))
         by_files(cases, str(program))
     return cases.end()

@@ -8,7 +8,7 @@ import random
 import sys
 from fractions import Fraction
 
-from boxes import TEXTS, run, video
+from boxes import COVER, TEXTS, run, video
 from checking import Cases, both_builds
 from frames import answer
 from tries import without_note
@@ -26,21 +26,15 @@ class Box:
         self.track = ("alone", number) if name.startswith("-") or Fraction(name).denominator > 1 else ("track", Fraction(name))
 
 
-def pixels(low, high, before):
-    """The first pixel of a side and how many it has, or none where it ends before the frame."""
-    if before and high <= 0:
-        return None
-    first = max(0, math.floor(low))
-    return first, math.ceil(high) - first
+def pixels(low, high):
+    """The first pixel of a side, which may be before the frame, and how many it has."""
+    return math.floor(low), math.ceil(high) - math.floor(low)
 
 
 def rectangle(boxes):
-    """The pixels of the smallest box around these, or none."""
-    found = []
-    for at in (0, 1):
-        low, high = min(it.sides[at][0] for it in boxes), max(it.sides[at][1] for it in boxes)
-        found.append(pixels(low, high, low < 0))
-    return None if None in found else [found[0][0], found[1][0], found[0][1], found[1][1]]
+    """The pixels of the smallest box around these."""
+    found = [pixels(min(it.sides[at][0] for it in boxes), max(it.sides[at][1] for it in boxes)) for at in (0, 1)]
+    return [found[0][0], found[1][0], found[0][1], found[1][1], None]
 
 
 def in_frame(tracks, hold, frame):
@@ -62,7 +56,7 @@ def covers(lines, hold, frames=FRAMES):
     for box in sorted(boxes, key=lambda it: it.frame):
         tracks.setdefault(box.track, []).append(box)
     found = [(frame, rectangle(around)) for frame in range(1, frames + 1) for around in in_frame(tracks.values(), hold, frame)]
-    return [(frame - 1, frame, "cover", window, []) for frame, window in found if window]
+    return [(frame - 1, frame, "box", window, COVER) for frame, window in found]
 
 
 def tracks(chance, text, names):
@@ -116,7 +110,7 @@ def by_ends(cases, program):
             lines = [f"{frame},1,2,2,4,4"]
             cases.count(f"frame {frame} held for {hold}", differing(program, data, lines, hold, ["--strict"]) is None)
         said, all_lines = run(program, ["1,1,2,2,4,4", "", f"{greatest},2,2,2,4,4"], ["--hold", str(hold)], data)
-        note = f"note: line 3 of the boxes: the input has {FRAMES} frames, and ends before its range {greatest - 1 - hold}.."
+        note = f"note: line 3 of the boxes: the input has {FRAMES} frames, and ends before frame {max(1, greatest - hold)} of the list"
         cases.count(f"the last frame held for {hold}", said[2] == 0 and (all_lines[0].startswith(note) if hold < FRAMES else not all_lines[0]), str(all_lines[:2]))
 
 
@@ -125,7 +119,7 @@ def by_notes(cases, program):
     data, inside = video(b"mono", frames=FRAMES), "3,1,2,2,4,4"
     said, all_lines = run(program, ["40,2,1,1,2,2", "# comment", inside, "9,3,-9,2,4,4"], ["--hold", "2"], data)
     cases.count("held boxes keep their lines in notes", [it.split(":")[1] for it in all_lines[:2]] == [" line 4 of the boxes", " line 1 of the boxes"], str(all_lines[:3]))
-    cases.count("the note names the first frame that is held", "in frame 6," in all_lines[0], str(all_lines[:1]))
+    cases.count("the note names the first frame that is held", "in frame 7 of the list," in all_lines[0], str(all_lines[:1]))
     said, all_lines = run(program, [inside, "", "33,4,1,1,2,2", "29,4,1,1,2,2"], ["--hold", "4"], data)
     cases.count("a gap has the line before it", all_lines[0].startswith("note: line 4 of the boxes") and all_lines[1].startswith("note: line 4 of the boxes") and all_lines[2].startswith("note: line 3 of the boxes"), str(all_lines[:4]))
     said, all_lines = run(program, [inside], ["--hold", "2", "fill", "0,0,14,1", "9"], data)
@@ -140,7 +134,7 @@ def by_faults(cases, program):
         cases.count(f"{' '.join(words)} without boxes is refused", said[0] == "fault words" and "--hold" in said[1] and "--boxes" in said[1], str(said[:2]))
     for number in ("-1", "x", "1.5", "", "01", "18446744073709551616"):
         said, all_lines = run(program, ["1,1,2,2,4,4"], ["--hold", number], data)
-        cases.count(f"--hold '{number}' is refused", said == (b"", "fault words", 1) and "word 4 is no option" in all_lines[1], str(all_lines[:2]))
+        cases.count(f"--hold '{number}' is refused", said == (b"", "fault words", 1) and all_lines[1].startswith(f"--hold needs a whole number, and {number} isn't one"), str(all_lines[:2]))
     said, all_lines = run(program, ["1,1,2,2,4,4", "1,1,2,2,4"], ["--hold", "2"], data)
     cases.count("a line that is no box is told", said == (b"", "fault words", 1) and "at line 2 of the boxes: the height is missing" in all_lines[1], str(all_lines[:2]))
     said, all_lines = run(program, ["# none"], ["--hold", "2"], data)

@@ -9,3 +9,5 @@ pub mod Times
 pub mod Touched
 mod BothBoxes
 mod HeldEach
+mod LineEnds
+mod NearBoxes

@@ -5,7 +5,7 @@ use Rattle.std.proofs.lemmas.List.{append-nil, at_drop_more, at_drop_all}
 use Rattle.text_model.specs.Reading.{◌>>=◌}
 use Rattle.image_planes.specs.declared.change.Change.{Change}
 use Rattle.image_planes.specs.declared.change.Step.{Step}
-use Rattle.frame_formats.specs.Covers.{frames_for, settled, step_in}
+use Rattle.frame_formats.specs.Covers.{frames_for, settled_by, step_in}
 use Rattle.frame_formats.specs.Plan.{Tells}
 use Rattle.frame_formats.specs.Steps.{all_some, step_by}
 use Rattle.frame_formats.specs.declared.covers.Unit.{Unit}
@@ -52,7 +52,7 @@ pub no_step : {V W : Type 0} (become : Change V → Option (Change W)) (s : Step
 no_step become s e = rw e refl
 
 -- an edit that has these frames, or none
-pub edit_settled : (unit : Unit) (rate : Option Rate) (width height : ℕ) (e : Edit) (first end : ℕ) (change : Change Paint) → frames_for unit rate e ≡ Some (first, end) → change ≡ settled unit width height e.change → step_in unit rate width height e ≡ Some (record { first = first; end = end; change = change })
+pub edit_settled : (unit : Unit) (rate : Option Rate) (width height : ℕ) (e : Edit) (first end : ℕ) (change : Change Paint) → frames_for unit rate e ≡ Some (first, end) → change ≡ settled_by e.scope unit width height e.change → step_in unit rate width height e ≡ Some (record { first = first; end = end; change = change })
 edit_settled unit rate width height e first end change found is = rw (found, is) refl
 
 pub edit_stops : (unit : Unit) (rate : Option Rate) (width height : ℕ) (e : Edit) → frames_for unit rate e ≡ None → step_in unit rate width height e ≡ None

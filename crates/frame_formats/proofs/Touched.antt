@@ -2,7 +2,7 @@
 use Rattle.std.proofs.Common.{◌≡◌, ◌↔◌, ℕ, ◌+◌, ◌-◌, ◌*◌, ◌/◌, ◌<◌, ◌≤◌, ◌&&◌, Bool, true, false, nat_lt, nat_le, if◌then◌else◌, refl, arith}
 use Rattle.std.specs.Prelude.{IsTrue}
 use Rattle.std.proofs.lemmas.Bool.Decides.{nat_tests}
-use Rattle.frame_formats.specs.Boxes.{IsDecimal, IsExtent, IsTracked, IsBox, side_of, is_touched, pixels_up, units_of, window_of_box, TouchesExactly}
+use Rattle.frame_formats.specs.Boxes.{IsDecimal, IsExtent, IsTracked, IsBox, side_of, is_touched, pixels_up, place_of, units_of, window_of_box, TouchesExactly}
 use Rattle.frame_formats.specs.declared.boxes.Decimal.{Decimal}
 use Rattle.frame_formats.specs.declared.boxes.Tracked.{Tracked}
 
@@ -10,20 +10,11 @@ use Rattle.frame_formats.specs.declared.boxes.Tracked.{Tracked}
 abbrev IsIn : ℕ × ℕ → ℕ → Type 0
 IsIn side x = (side.0 ≤ x) × (x < side.0 + side.1)
 
--- from the frame on
-from_inside : (start extent x : ℕ) → IsTrue (nat_lt start ((x + 1) * 100000000000000000000) && nat_lt (x * 100000000000000000000) (start + extent)) ↔ IsIn (start / 100000000000000000000, pixels_up (start + extent) - start / 100000000000000000000) x
-from_inside start extent x = (λ t. (grind (arith, nat_tests), grind (arith, nat_tests)), λ h. grind (arith, nat_tests))
-
--- from before the frame
-from_outside : (start extent x : ℕ) → IsTrue (nat_lt (x * 100000000000000000000 + start) extent) ↔ IsIn (if nat_le extent start then (18446744073709551615, 0) else (0, pixels_up (extent - start))) x
-from_outside start extent x = (λ t. grind (arith, nat_tests), λ h. grind (arith, nat_tests))
-
-by_sign : (minus : Bool) (start extent : Decimal) (x : ℕ) → start.minus ≡ minus → IsTrue (is_touched start extent x) ↔ IsIn (side_of start extent) x
-by_sign true start extent x e = rw e (from_outside (units_of start) (units_of extent) x)
-by_sign false start extent x e = rw e (from_inside (units_of start) (units_of extent) x)
+side_by : (start extent x : ℕ) → IsTrue (nat_lt start ((x + 1) * 100000000000000000000) && nat_lt (x * 100000000000000000000) (start + extent)) ↔ IsIn (start / 100000000000000000000, pixels_up (start + extent) - start / 100000000000000000000) x
+side_by start extent x = (λ t. (grind (arith, nat_tests), grind (arith, nat_tests)), λ h. grind (arith, nat_tests))
 
 pub side_touched : (start extent : Decimal) (x : ℕ) → IsTrue (is_touched start extent x) ↔ IsIn (side_of start extent) x
-side_touched start extent x = by_sign start.minus start extent x refl
+side_touched start extent x = side_by (place_of start) (units_of extent) x
 
 pub touches_exactly : (b : Tracked) → TouchesExactly b (window_of_box b)
 touches_exactly b x y =

@@ -1,12 +1,12 @@
 -- The boxes of a tracker's list, and the covers that they become.
-use Rattle.std.specs.Prelude.{◌≡◌, ◌<◌, ◌≤◌, ◌↔◌, ℕ, ◌+◌, ◌-◌, ◌*◌, ◌/◌, ◌^◌, ◌&&◌, ◌==◌, Bool, false, true, not, nat_lt, nat_le, IsTrue, if◌then◌else◌, List, [], ◌∷◌, ◌++◌, Option, Some, None, length}
+use Rattle.std.specs.Prelude.{◌≡◌, ◌≢◌, ◌<◌, ◌≤◌, ◌↔◌, ℕ, ◌+◌, ◌-◌, ◌*◌, ◌/◌, ◌^◌, ◌&&◌, ◌==◌, Bool, false, true, not, nat_lt, nat_le, IsTrue, if◌then◌else◌, List, [], ◌∷◌, ◌++◌, Option, Some, None, length, reverse}
 use Rattle.std.specs.List.{list_all}
 use Rattle.std.specs.Prelude.{IsPermutation, map}
-use Rattle.std.specs.List.Sorted.{IsNonDecreasingBy}
+use Rattle.std.specs.List.Sorted.{IsNonDecreasingBy, IsStableByKey}
 use Rattle.std.specs.Option.{option_map}
+use Rattle.std.specs.Ordering.{nat_cmp}
 use Rattle.std.specs.Str.Lines.{strip_carriage_return}
 use Rattle.image_shape.specs.declared.window.Window.{Window}
-use Rattle.image_planes.specs.declared.change.Change.TheVariants.{Fill}
 use Rattle.text_model.specs.Parts.{parts_of}
 use Rattle.text_model.specs.Reading.{◌>>=◌, number_of, first_of_parts, is_nil}
 use Rattle.frame_formats.specs.Digits.{is_digit}
@@ -16,7 +16,9 @@ use Rattle.frame_formats.specs.declared.boxes.Decimal.{Decimal}
 use Rattle.frame_formats.specs.declared.boxes.Tracked.{Tracked}
 use Rattle.frame_formats.specs.declared.ranges.Range.{Range}
 use Rattle.frame_formats.specs.declared.ranges.Range.TheVariants.{Frames, Times}
-use Rattle.frame_formats.specs.declared.steps.Paint.TheVariants.{Around}
+use Rattle.frame_formats.specs.Covers.{Has, with_window}
+use Rattle.frame_formats.specs.declared.boxes.BoxStyle.{BoxStyle}
+use Rattle.frame_formats.specs.declared.words.Scope.TheVariants.{Boxed}
 use Rattle.frame_formats.specs.declared.words.Edit.{Edit}
 
 -- ---- numbers
@@ -25,6 +27,10 @@ use Rattle.frame_formats.specs.declared.words.Edit.{Edit}
 abbrev pub without_white : List ℕ → List ℕ
 without_white [] = []
 without_white (b ∷ bs) = if is_white b then without_white bs else b ∷ bs
+
+-- a line without the white space at its end
+abbrev pub ended : List ℕ → List ℕ
+ended line = reverse (without_white (reverse line))
 
 -- what one to twenty digits after a point are worth, in units of which a pixel has 10 ^ 20
 abbrev pub part_of : List ℕ → Option ℕ
@@ -79,6 +85,10 @@ box_of line = box_in (parts_of 44 line)
 abbrev pub units_of : Decimal → ℕ
 units_of d = d.whole * 100000000000000000000 + d.part
 
+-- where a number is, in units after the place that is 2 ^ 32 pixels before the frame
+abbrev pub place_of : Decimal → ℕ
+place_of d = if d.minus then 429496729600000000000000000000 - units_of d else 429496729600000000000000000000 + units_of d
+
 -- how many pixels so many units are at least
 abbrev pub pixels_up : ℕ → ℕ
 pixels_up units = (units + 99999999999999999999) / 100000000000000000000
@@ -106,12 +116,9 @@ pub record IsBox (b : Tracked) : Type 0 where
   pub width : IsExtent b.width
   pub height : IsExtent b.height
 
--- the first pixel that has a part of what begins there and is so long, and how many such pixels there are; where it ends before the frame there is none, and the first one is far outside
+-- the first pixel that has a part of what begins there and is so long, and how many such pixels there are; pixels count from 2 ^ 32 before the frame
 abbrev pub side_of : Decimal → Decimal → ℕ × ℕ
-side_of start extent =
-    if not start.minus then (units_of start / 100000000000000000000, pixels_up (units_of start + units_of extent) - units_of start / 100000000000000000000)
-    else if nat_le (units_of extent) (units_of start) then (18446744073709551615, 0)
-    else (0, pixels_up (units_of extent - units_of start))
+side_of start extent = (place_of start / 100000000000000000000, pixels_up (place_of start + units_of extent) - place_of start / 100000000000000000000)
 
 abbrev pub window_by : ℕ × ℕ → ℕ × ℕ → Window
 window_by across down = record { left = across.0; top = down.0; width = across.1; height = down.1 }
@@ -119,24 +126,18 @@ window_by across down = record { left = across.0; top = down.0; width = across.1
 abbrev pub window_of_box : Tracked → Window
 window_of_box b = window_by (side_of b.left b.width) (side_of b.top b.height)
 
--- a box as the cover of the pixels that it touches, in its frame alone
-abbrev pub cover_of : Tracked → Edit
-cover_of b = record { range = Frames (b.frame - 1) b.frame; change = Fill (window_of_box b) (Around None None) }
+-- a box as the change of the pixels that it touches, in its frame alone
+abbrev pub cover_of : BoxStyle → Tracked → Edit
+cover_of style b = record { range = Frames (b.frame - 1) b.frame; change = with_window style.change (window_of_box b); scope = Boxed style.margin }
 
 -- ---- which pixels a box touches
 
--- the pixel of this number has a part of what begins there and is so long
+-- the pixel of this number, from 2 ^ 32 before the frame, has a part of what begins there and is so long
 abbrev pub is_touched : Decimal → Decimal → ℕ → Bool
-is_touched start extent x =
-    if start.minus then nat_lt (x * 100000000000000000000 + units_of start) (units_of extent)
-    else nat_lt (units_of start) ((x + 1) * 100000000000000000000) && nat_lt (x * 100000000000000000000) (units_of start + units_of extent)
+is_touched start extent x = nat_lt (place_of start) ((x + 1) * 100000000000000000000) && nat_lt (x * 100000000000000000000) (place_of start + units_of extent)
 
 abbrev pub Touches : Tracked → ℕ → ℕ → Type 0
 Touches b x y = IsTrue (is_touched b.left b.width x) × IsTrue (is_touched b.top b.height y)
-
--- the pixel is in the window
-abbrev pub Has : Window → ℕ → ℕ → Type 0
-Has w x y = ((w.left ≤ x) × (x < w.left + w.width)) × ((w.top ≤ y) × (y < w.top + w.height))
 
 -- the pixels of the window are those that the box touches
 abbrev pub TouchesExactly : Tracked → Window → Type 0
@@ -149,8 +150,16 @@ abbrev pub boxes_by : Option Tracked → List ℕ → Option (List Tracked)
 boxes_by (Some b) line = Some (b ∷ [])
 boxes_by None line = if list_all is_white line then Some [] else None
 
+-- a line without its end, its comment and the white space before them
+abbrev pub box_text : List ℕ → List ℕ
+box_text line = ended (uncommented (strip_carriage_return line))
+
 abbrev pub line_boxes : List ℕ → Option (List Tracked)
-line_boxes line = boxes_by (box_of (uncommented (strip_carriage_return line))) (uncommented (strip_carriage_return line))
+line_boxes line = boxes_by (box_of (box_text line)) (box_text line)
+
+-- a line is a box: what it becomes needs memory
+abbrev pub IsBoxLine : List ℕ → Type 0
+IsBoxLine line = box_of (box_text line) ≢ None
 
 -- what boxes become, with that of the box that a line adds, and with those of all lines
 abbrev pub with_box : {X : Type 0} → (Tracked → X) → List X → List ℕ → Option (List X)
@@ -172,9 +181,10 @@ first_in (Times from to) = from
 abbrev pub first_of : Edit → ℕ
 first_of e = first_in e.range
 
--- the covers of all boxes of a text, in the order of their frames
-pub record AreCovers (text : List ℕ) (covers : List Edit) : Type 0 where
+-- the covers of all boxes of a text, in the order of their frames; those of one frame in that of their lines
+pub record AreCovers (style : BoxStyle) (text : List ℕ) (covers : List Edit) : Type 0 where
   pub read : List Edit
-  pub are : each_box cover_of text ≡ Some read
+  pub are : each_box (cover_of style) text ≡ Some read
   pub same : IsPermutation read covers
+  pub stable : IsStableByKey first_of nat_cmp read covers
   pub in_order : IsNonDecreasingBy first_of covers

@@ -18,4 +18,5 @@ pub mod Ranges
 pub mod Words
 pub mod Lists
 pub mod Boxes
+pub mod Counts
 pub mod Holds

@@ -20,6 +20,7 @@ use Rattle.frame_formats.specs.Ranges.{range_of}
 use Rattle.frame_formats.specs.declared.ranges.Range.{Range}
 use Rattle.frame_formats.specs.declared.ranges.Range.TheVariants.{Frames}
 use Rattle.frame_formats.specs.declared.words.Edit.{Edit}
+use Rattle.frame_formats.specs.declared.words.Scope.TheVariants.{Exact}
 
 -- two numbers, and no part more
 unfoldable pub pair_in : List (List ℕ) → Option (ℕ × ℕ)
@@ -64,6 +65,14 @@ change_of word window last =
     else if bytes_eq word (codes "blur") then option_map (λ radius. Blur window radius radius One) (radius_of last)
     else if bytes_eq word (codes "move") then option_map (λ p. Move window p.0 p.1) (pair_of last)
     else None
+
+-- the window of no pixel
+abbrev pub no_window : Window
+no_window = record { left = 0; top = 0; width = 0; height = 0 }
+
+-- what is to become of each box, by its word and what follows it: a change that keeps the pixels in their places
+abbrev pub way_of : List ℕ → List ℕ → Option (Change Paint)
+way_of word last = if bytes_eq word (codes "move") then None else change_of word no_window last
 
 -- a border by its sides and what follows them
 unfoldable pub pad_of : Window → List ℕ → Option Framing
@@ -152,7 +161,7 @@ change_at word numbers words =
 unfoldable pub step_at : Range → List (List ℕ) → Option (Edit × ℕ)
 step_at range [] = None
 step_at range (word ∷ []) = None
-step_at range (word ∷ (numbers ∷ words)) = option_map (λ c. (record { range = range; change = c.0 }, c.1)) (change_at word numbers words)
+step_at range (word ∷ (numbers ∷ words)) = option_map (λ c. (record { range = range; change = c.0; scope = Exact }, c.1)) (change_at word numbers words)
 
 -- the same with the range before it: with no range it is a change of all frames
 abbrev pub ranged_by : Option Range → List ℕ → List (List ℕ) → Option (Edit × ℕ)

@@ -1,19 +1,21 @@
 //! The boxes of a tracker's list, as the covers that they become.
 
-ghost use Rattle.std.specs.Prelude.{◌≡◌, ◌≤◌, ◌<◌, ◌↔◌, ℕ, All, IsPermutation, Some, None, IfSome, IfOk, IfErr, OnOk, true, false, []};
+ghost use Rattle.std.specs.Prelude.{◌≡◌, ◌≤◌, ◌<◌, ◌↔◌, ◌+◌, ◌*◌, ◌^◌, ℕ, All, IsPermutation, Some, None, IfSome, IfOk, IfErr, OnOk, true, false, []};
 ghost use Rattle.std.specs.List.{list_all};
-ghost use Rattle.std.specs.List.Sorted.{IsNonDecreasingBy};
+ghost use Rattle.std.specs.List.Sorted.{IsNonDecreasingBy, IsStableByKey};
+ghost use Rattle.std.specs.Ordering.{nat_cmp};
 ghost use Rattle.text_model.specs.Parts.{parts_of};
 ghost use Rattle.text_model.specs.Reading.{Finds, first_of_parts};
 ghost use Rattle.texts.specs.Parts.{parts_left};
-ghost use Rattle.frame_formats.specs.Boxes.{without_white, part_of, part_in, unsigned_in, signed_of, decimal_of, frame_of, box_of, IsDecimal, IsTracked, side_of, window_of_box, cover_of, with_box, with_boxes, TouchesExactly, IsExtent, IsBox, each_box, first_of, AreCovers};
+ghost use Rattle.frame_formats.specs.Boxes.{without_white, ended, box_text, part_of, part_in, unsigned_in, signed_of, decimal_of, frame_of, box_of, IsDecimal, IsTracked, place_of, side_of, window_of_box, cover_of, with_box, with_boxes, IsBoxLine, TouchesExactly, IsExtent, IsBox, each_box, first_of, AreCovers};
 ghost use Rattle.frame_formats.specs.Lists.{is_white};
 
+use crate::covers::{BEFORE, with_window};
 use crate::digits::is_digit;
 use crate::lists::{WordsFault, before_comment, before_return, is_white};
 use crate::ranges::Range;
 use crate::steps::Paint;
-use crate::words::Edit;
+use crate::words::{Edit, Scope};
 use image_planes::{Change, Window};
 use std::alloc::{AllocError, Global};
 use texts::{Field, Parts, next};
@@ -40,6 +42,27 @@ pub struct Tracked {
     pub height: Decimal,
 }
 
+/// What becomes of each box, and how many pixels more on each side. Without a number they are 2, and
+/// at least a sample. The window of the change isn't used.
+#[derive(Clone, Copy, PartialEq, Eq)]
+pub struct BoxStyle {
+    pub change: Change<Paint>,
+    pub margin: Option<usize>,
+}
+
+impl BoxStyle {
+    /// A cover of this margin: black, and of no colour.
+    pub fn cover(margin: Option<usize>) -> BoxStyle {
+        BoxStyle {
+            change: Change::Fill {
+                window: Window::new(0, 0, 0, 0),
+                value: Paint::Black,
+            },
+            margin,
+        }
+    }
+}
+
 // How many units a pixel has.
 pub(crate) const PIXEL: u128 = 100_000_000_000_000_000_000;
 
@@ -59,6 +82,28 @@ fn without_white(field: &[u8]) -> &[u8]
         rest = others;
     }
     rest
+}
+
+// A line without the white space at its end.
+#[tactic(auto, using(crate::proofs::LineEnds::white_end, crate::proofs::LineEnds::other_end))]
+fn before_white(line: &[u8]) -> &[u8]
+    ensures { result.now ≡ ended line.now }
+{
+    let mut rest = line;
+    while let [others @ .., byte] = rest {
+        if !is_white(*byte) {
+            return rest;
+        }
+        rest = others;
+    }
+    rest
+}
+
+/// A line of a list without its end, its comment, and the white space before them.
+pub fn box_text(line: &[u8]) -> &[u8]
+    ensures { result.now ≡ box_text line.now }
+{
+    before_white(before_comment(before_return(line)))
 }
 
 // What one to twenty digits after a point are worth.
@@ -183,36 +228,46 @@ fn read_box(line: &[u8]) -> Option<Tracked>
     })
 }
 
+// The pixel that a place is in, from 2^32 before the frame, and how far it is after its beginning.
+fn pixel_of(start: Decimal) -> (usize, u128)
+    requires { IsDecimal start }
+    ensures place { place_of start ≡ result.0 * 100000000000000000000 + result.1 }
+    ensures part { result.1 < 100000000000000000000 }
+    ensures small { result.0 < 2 ^ 33 }
+{
+    if !start.minus {
+        (BEFORE + start.whole, start.part)
+    } else if start.part == 0 {
+        (BEFORE - start.whole, 0)
+    } else {
+        (BEFORE - 1 - start.whole, PIXEL - start.part)
+    }
+}
+
 // The first pixel that a side touches, and how many it touches.
 fn side_of(start: Decimal, extent: Decimal) -> (usize, usize)
     requires start { IsDecimal start }
     requires extent { IsExtent extent }
     ensures { result ≡ side_of start extent }
 {
-    if !start.minus {
-        let part = start.part + extent.part;
-        let more = if part == 0 {
-            0
-        } else if part <= PIXEL {
-            1
-        } else {
-            2
-        };
-        return (start.whole, extent.whole + more);
-    }
-    let more = if extent.part > start.part { 1 } else { 0 };
-    if extent.whole + more <= start.whole {
-        return (usize::MAX, 0);
-    }
-    (0, extent.whole + more - start.whole)
+    let (first, part) = pixel_of(start);
+    let part = part + extent.part;
+    let more = if part == 0 {
+        0
+    } else if part <= PIXEL {
+        1
+    } else {
+        2
+    };
+    (first, extent.whole + more)
 }
 
-/// The cover that a box becomes, in its frame alone: of exactly the whole pixels that the box
-/// touches. Where it ends before the first column or row, the cover is far outside.
+/// What a box becomes, in its frame alone: the change of exactly the whole pixels that the box
+/// touches, and of a margin. Columns and rows count from 2^32 before those of the frame.
 #[tactic(auto, using(crate::proofs::Touched::touches_exactly))]
-pub fn cover_of(tracked: Tracked) -> Edit
+pub fn cover_of(style: BoxStyle, tracked: Tracked) -> Edit
     requires { IsBox tracked }
-    ensures cover { result ≡ cover_of tracked }
+    ensures cover { result ≡ cover_of style tracked }
     ensures touched { TouchesExactly tracked (window_of_box tracked) }
 {
     let (left, width) = side_of(tracked.left, tracked.width);
@@ -223,12 +278,9 @@ pub fn cover_of(tracked: Tracked) -> Edit
             first: number.saturating_sub(1),
             end: number,
         },
-        change: Change::Fill {
-            window: Window::new(left, top, width, height),
-            value: Paint::Around {
-                value: None,
-                margin: None,
-            },
+        change: with_window(style.change, Window::new(left, top, width, height)),
+        scope: Scope::Boxed {
+            margin: style.margin,
         },
     }
 }
@@ -244,6 +296,7 @@ fn is_blank(line: &[u8]) -> bool
 fn pass_over(line: &[u8]) -> Result<(), WordsFault>
     ensures blank { OnOk result (list_all is_white line.now ≡ true) }
     ensures none { IfErr result (λ _. list_all is_white line.now ≡ false) }
+    ensures fault { IfErr result (λ e. e ≡ WordsFault.NoEdit) }
 {
     if is_blank(line) {
         Ok(())
@@ -254,15 +307,16 @@ fn pass_over(line: &[u8]) -> Result<(), WordsFault>
 
 // Adds the cover of the box that a line is, where it has a word.
 #[tactic(auto, using(crate::proofs::Touched::is_box))]
-fn take_line(covers: &mut Vec<Edit>, line: &[u8]) -> Result<(), WordsFault>
+fn take_line(covers: &mut Vec<Edit>, style: BoxStyle, line: &[u8]) -> Result<(), WordsFault>
     ensures taken { OnOk result
-        (with_box cover_of covers.old.items line.now ≡ Some covers.new.items) }
+        (with_box (cover_of style) covers.old.items line.now ≡ Some covers.new.items) }
     ensures none { IfErr result
-        (λ e. e ≡ WordsFault.NoEdit → with_box cover_of covers.old.items line.now ≡ None) }
+        (λ e. e ≡ WordsFault.NoEdit → with_box (cover_of style) covers.old.items line.now ≡ None) }
+    ensures memory { IfErr result (λ e. e ≡ WordsFault.Memory → IsBoxLine line.now) }
 {
-    let line = before_comment(before_return(line));
+    let line = box_text(line);
     match read_box(line) {
-        Some(tracked) => match covers.push(cover_of(tracked)) {
+        Some(tracked) => match covers.push(cover_of(style, tracked)) {
             Ok(()) => Ok(()),
             Err(_) => Err(WordsFault::Memory),
         },
@@ -271,15 +325,16 @@ fn take_line(covers: &mut Vec<Edit>, line: &[u8]) -> Result<(), WordsFault>
 }
 
 // The covers of all lines, in their order.
-fn read_all(alloc: Global, text: &[u8]) -> Result<Vec<Edit>, WordsFault>
-    ensures covers { IfOk result (λ covers. each_box cover_of text.now ≡ Some covers.items) }
+fn read_all(alloc: Global, text: &[u8], style: BoxStyle) -> Result<Vec<Edit>, WordsFault>
+    ensures covers { IfOk result
+        (λ covers. each_box (cover_of style) text.now ≡ Some covers.items) }
     ensures none { IfErr result
-        (λ e. e ≡ WordsFault.NoEdit → each_box cover_of text.now ≡ None) }
+        (λ e. e ≡ WordsFault.NoEdit → each_box (cover_of style) text.now ≡ None) }
 {
     let mut covers = Vec::new(alloc);
     let mut lines = Parts::new(text, b'\n');
     while let Some(line) = lines.next_part() {
-        match take_line(&mut covers, line) {
+        match take_line(&mut covers, style, line) {
             Ok(()) => {}
             Err(fault) => return Err(fault),
         }
@@ -295,8 +350,9 @@ fn take_box(boxes: &mut Vec<Tracked>, line: &[u8]) -> Result<(), WordsFault>
     ensures exact { OnOk result (All IsTracked boxes.new.items) }
     ensures none { IfErr result
         (λ e. e ≡ WordsFault.NoEdit → with_box (λ b. b) boxes.old.items line.now ≡ None) }
+    ensures memory { IfErr result (λ e. e ≡ WordsFault.Memory → IsBoxLine line.now) }
 {
-    let line = before_comment(before_return(line));
+    let line = box_text(line);
     match read_box(line) {
         Some(tracked) => match boxes.push(tracked) {
             Ok(()) => Ok(()),
@@ -344,6 +400,7 @@ pub fn first_frame(cover: &Edit) -> u64
 /// No memory was found.
 pub(crate) fn put_in_order(covers: &mut Vec<Edit>) -> Result<(), AllocError>
     ensures same { IsPermutation covers.old.items covers.new.items }
+    ensures stable { IsStableByKey first_of nat_cmp covers.old.items covers.new.items }
     ensures in_order { OnOk result (IsNonDecreasingBy first_of covers.new.items) }
 {
     covers.sort_by_key(|cover| first_frame(cover))?;
@@ -360,12 +417,12 @@ pub(crate) fn put_in_order(covers: &mut Vec<Edit>) -> Result<(), AllocError>
 /// # Errors
 ///
 /// `NoEdit` where a line is no box.
-pub fn read_boxes(alloc: Global, text: &[u8]) -> Result<Vec<Edit>, WordsFault>
-    ensures covers { IfOk result (λ covers. AreCovers text.now covers.items) }
+pub fn read_boxes(alloc: Global, text: &[u8], style: BoxStyle) -> Result<Vec<Edit>, WordsFault>
+    ensures covers { IfOk result (λ covers. AreCovers style text.now covers.items) }
     ensures none { IfErr result
-        (λ e. e ≡ WordsFault.NoEdit → each_box cover_of text.now ≡ None) }
+        (λ e. e ≡ WordsFault.NoEdit → each_box (cover_of style) text.now ≡ None) }
 {
-    let mut covers = match read_all(alloc, text) {
+    let mut covers = match read_all(alloc, text, style) {
         Ok(covers) => covers,
         Err(fault) => return Err(fault),
     };

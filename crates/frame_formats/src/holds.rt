@@ -4,13 +4,13 @@ ghost use Rattle.std.specs.Prelude.{◌≡◌, ◌<◌, ◌≤◌, ◌+◌, ◌�
 ghost use Rattle.std.specs.List.{slice_get};
 ghost use Rattle.std.specs.Option.{option_to_list};
 ghost use Rattle.std.specs.List.Sorted.{IsNonDecreasingBy};
-ghost use Rattle.frame_formats.specs.Boxes.{IsDecimal, IsExtent, IsBox, IsTracked, each_box, units_of};
-ghost use Rattle.frame_formats.specs.Holds.{track_of, missing, continues, goes_on_at, comes_at, kept, kept_on, filled, place_of, size_by, first_start, both_extent, around, HasBoth, between, held_at, held, AreByTracks, AreHeld};
+ghost use Rattle.frame_formats.specs.Boxes.{IsDecimal, IsExtent, IsBox, IsTracked, each_box, place_of, units_of};
+ghost use Rattle.frame_formats.specs.Holds.{track_of, missing, continues, goes_on_at, comes_at, kept, kept_on, filled, size_by, first_start, both_extent, around, HasBoth, between, held_at, held, AreByTracks, AreHeld};
 
-use crate::boxes::{Decimal, PIXEL, Tracked, cover_of, put_in_order, read_tracked};
+use crate::boxes::{BoxStyle, Decimal, PIXEL, Tracked, cover_of, put_in_order, read_tracked};
 use crate::lists::WordsFault;
 use crate::ranges::Range;
-use crate::words::Edit;
+use crate::words::{Edit, Scope};
 use std::alloc::{AllocError, AllocFailed, Global};
 
 // Where the number 0 is, in units after the least number of a field.
@@ -51,9 +51,9 @@ fn goes_on_at(hold: usize, boxes: &[Tracked], at: usize) -> bool
 
 // The cover of a box that is kept for so many frames before its own and after it.
 #[tactic(auto, using(crate::proofs::Touched::is_box))]
-fn kept(before: usize, after: usize, tracked: Tracked) -> Edit
+fn kept(style: BoxStyle, before: usize, after: usize, tracked: Tracked) -> Edit
     requires { IsTracked tracked }
-    ensures { result ≡ kept before after tracked }
+    ensures { result ≡ kept style before after tracked }
 {
     let frame = tracked.frame as u64;
     Edit {
@@ -61,7 +61,10 @@ fn kept(before: usize, after: usize, tracked: Tracked) -> Edit
             first: frame.saturating_sub(1).saturating_sub(before as u64),
             end: frame.saturating_add(after as u64),
         },
-        change: cover_of(tracked).change,
+        change: cover_of(style, tracked).change,
+        scope: Scope::Boxed {
+            margin: style.margin,
+        },
     }
 }
 
@@ -134,17 +137,20 @@ pub fn around(first: &Tracked, next: &Tracked) -> Tracked
 }
 
 // The cover of the box around two, in the frames between them.
-fn between(first: &Tracked, next: &Tracked) -> Edit
+fn between(style: BoxStyle, first: &Tracked, next: &Tracked) -> Edit
     requires first { IsTracked first.now }
     requires next { IsTracked next.now }
-    ensures { result ≡ between first.now next.now }
+    ensures { result ≡ between style first.now next.now }
 {
     Edit {
         range: Range::Frames {
             first: first.frame as u64,
             end: (next.frame as u64).saturating_sub(1),
         },
-        change: cover_of(around(first, next)).change,
+        change: cover_of(style, around(first, next)).change,
+        scope: Scope::Boxed {
+            margin: style.margin,
+        },
     }
 }
 
@@ -164,14 +170,14 @@ fn kept_on(hold: usize, goes: bool) -> usize
 }
 
 // The cover of the gap after a box, where its track goes on.
-fn filled(goes: bool, boxes: &[Tracked], at: usize) -> Option<Edit>
+fn filled(style: BoxStyle, goes: bool, boxes: &[Tracked], at: usize) -> Option<Edit>
     requires at { at < length boxes.now }
     requires tracked { All IsTracked boxes.now }
     ensures { option_to_list result
-        ≡ filled goes (slice_get boxes.now at) (slice_get boxes.now (at + 1)) }
+        ≡ filled style goes (slice_get boxes.now at) (slice_get boxes.now (at + 1)) }
 {
     if goes && boxes.len() - at > 1 && missing(&boxes[at], &boxes[at + 1]) > 0 {
-        Some(between(&boxes[at], &boxes[at + 1]))
+        Some(between(style, &boxes[at], &boxes[at + 1]))
     } else {
         None
     }
@@ -179,15 +185,15 @@ fn filled(goes: bool, boxes: &[Tracked], at: usize) -> Option<Edit>
 
 /// The covers that the box at a place of a list by its tracks becomes: its own, and that of the gap
 /// after it. Its own is kept for so many frames on each side where the track doesn't go on.
-pub fn held_at(hold: usize, boxes: &[Tracked], at: usize) -> (Edit, Option<Edit>)
+pub fn held_at(style: BoxStyle, hold: usize, boxes: &[Tracked], at: usize) -> (Edit, Option<Edit>)
     requires at { at < length boxes.now }
     requires tracked { All IsTracked boxes.now }
-    ensures { result.0 ∷ option_to_list result.1 ≡ held_at hold boxes.now at }
+    ensures { result.0 ∷ option_to_list result.1 ≡ held_at style hold boxes.now at }
 {
     let goes = goes_on_at(hold, boxes, at);
     let before = kept_on(hold, comes_at(hold, boxes, at));
-    let cover = kept(before, kept_on(hold, goes), boxes[at]);
-    (cover, filled(goes, boxes, at))
+    let cover = kept(style, before, kept_on(hold, goes), boxes[at]);
+    (cover, filled(style, goes, boxes, at))
 }
 
 // Adds what a box becomes.
@@ -207,13 +213,18 @@ fn push_held(
 }
 
 // What all boxes become.
-fn hold_all(alloc: Global, hold: usize, boxes: &[Tracked]) -> Result<Vec<Edit>, AllocFailed<Edit>>
+fn hold_all(
+    alloc: Global,
+    style: BoxStyle,
+    hold: usize,
+    boxes: &[Tracked],
+) -> Result<Vec<Edit>, AllocFailed<Edit>>
     requires { All IsTracked boxes.now }
-    ensures { IfOk result (λ covers. covers.items ≡ held hold boxes.now) }
+    ensures { IfOk result (λ covers. covers.items ≡ held style hold boxes.now) }
 {
     let mut covers = Vec::new(alloc);
     for at in 0..boxes.len() {
-        let (cover, gap) = held_at(hold, boxes, at);
+        let (cover, gap) = held_at(style, hold, boxes, at);
         push_held(&mut covers, cover, gap)?;
     }
     Ok(covers)
@@ -246,8 +257,13 @@ pub fn put_by_tracks(boxes: &mut Vec<Tracked>) -> Result<(), AllocError>
 /// # Errors
 ///
 /// `NoEdit` where a line is no box.
-pub fn read_held(alloc: Global, text: &[u8], hold: usize) -> Result<Vec<Edit>, WordsFault>
-    ensures covers { IfOk result (λ covers. AreHeld text.now hold covers.items) }
+pub fn read_held(
+    alloc: Global,
+    text: &[u8],
+    style: BoxStyle,
+    hold: usize,
+) -> Result<Vec<Edit>, WordsFault>
+    ensures covers { IfOk result (λ covers. AreHeld style text.now hold covers.items) }
     ensures none { IfErr result
         (λ e. e ≡ WordsFault.NoEdit → each_box (λ b. b) text.now ≡ None) }
 {
@@ -258,7 +274,7 @@ pub fn read_held(alloc: Global, text: &[u8], hold: usize) -> Result<Vec<Edit>, W
     if put_by_tracks(&mut boxes).is_err() {
         return Err(WordsFault::Memory);
     }
-    let mut covers = match hold_all(alloc, hold, &boxes) {
+    let mut covers = match hold_all(alloc, style, hold, &boxes) {
         Ok(covers) => covers,
         Err(_) => return Err(WordsFault::Memory),
     };

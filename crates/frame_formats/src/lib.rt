@@ -4,6 +4,7 @@
 #![tactic(auto)]
 
 mod boxes;
+mod counts;
 mod covers;
 mod digits;
 mod framing;
@@ -25,9 +26,13 @@ mod steps;
 mod words;
 
 pub use boxes::{
-    Decimal, Tracked, cover_of, first_frame, read_boxes, read_decimal, read_frame, read_tracked,
+    BoxStyle, Decimal, Tracked, box_text, cover_of, first_frame, read_boxes, read_decimal,
+    read_frame, read_tracked,
 };
-pub use covers::{Unit, picture_covers_nothing, turns_over, video_covers_nothing};
+pub use counts::{agrees, read_count, says_none_else};
+pub use covers::{
+    Unit, picture_covers_nothing, picture_window, turns_over, video_covers_nothing, video_window,
+};
 pub use framing::Framing;
 pub use header::{Chroma, Format, read_format, read_size};
 pub use hiding::recipes_hide;
@@ -40,4 +45,4 @@ pub use picture::{Head, Kind, Picture, Scan, heads_end_themselves};
 pub use plans::{Plan, PlanFault};
 pub use ranges::{Range, Rate, read_rate};
 pub use steps::{Paint, Pixel};
-pub use words::Edit;
+pub use words::{Edit, Scope, read_way};

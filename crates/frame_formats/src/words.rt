@@ -3,7 +3,7 @@
 ghost use Rattle.std.specs.Prelude.{◌≡◌, ◌+◌, ◌<◌, ◌≤◌, map, IfSome, length};
 ghost use Rattle.text_model.specs.Parts.{parts_of};
 ghost use Rattle.texts.specs.Parts.{parts_left};
-ghost use Rattle.frame_formats.specs.Words.{pair_of, radius_of, colour_in, paint_of, axes_of, quarter_of, change_of, pad_of, framing_at, margin_in, rectangle_of, cover_at, change_at, step_at, ranged_at};
+ghost use Rattle.frame_formats.specs.Words.{pair_of, radius_of, colour_in, paint_of, axes_of, quarter_of, change_of, way_of, pad_of, framing_at, margin_in, rectangle_of, cover_at, change_at, step_at, ranged_at};
 
 use crate::framing::Framing;
 use crate::ranges::{Range, read_range};
@@ -11,11 +11,23 @@ use crate::steps::Paint;
 use image_planes::{Axes, Change, Quarter, SampleBytes, Window};
 use texts::{Field, Parts, next};
 
+/// Which pixels of a frame the window of an edit has.
+#[derive(Clone, Copy, PartialEq, Eq)]
+pub enum Scope {
+    /// Its own.
+    Exact,
+    /// Those of a box, with a margin, of which a part may be outside the frame. Columns and rows
+    /// count from 2^32 before those of the frame. The margin is in pixels. Without a number it is 2,
+    /// and at least a sample.
+    Boxed { margin: Option<usize> },
+}
+
 /// A change, and the frames that it is for.
 #[derive(Clone, Copy, PartialEq, Eq)]
 pub struct Edit {
     pub range: Range,
     pub change: Change<Paint>,
+    pub scope: Scope,
 }
 
 // Two numbers with a comma between them.
@@ -98,6 +110,18 @@ fn read_change(word: &[u8], window: Window, last: &[u8]) -> Option<Change<Paint>
     } else {
         None
     }
+}
+
+/// What is to become of each box, by two words: `fill V`, `fill R,G,B`, `mosaic TW,TH`, `means TW,TH`
+/// or `blur R`. Its window is empty.
+pub fn read_way(word: &[u8], last: &[u8]) -> Option<Change<Paint>>
+    ensures { result ≡ way_of word.now last.now }
+{
+    let is_move = word == b"move".as_slice();
+    if is_move {
+        return None;
+    }
+    read_change(word, Window::new(0, 0, 0, 0), last)
 }
 
 // A border by the four numbers of its sides and what follows them.
@@ -232,7 +256,12 @@ fn read_step(range: Range, words: &[&[u8]]) -> Option<(Edit, usize)>
     let (word, others) = words.split_first()?;
     let (numbers, others) = others.split_first()?;
     let (change, count) = read_changed(word, numbers, others)?;
-    Some((Edit { range, change }, count))
+    let edit = Edit {
+        range,
+        change,
+        scope: Scope::Exact,
+    };
+    Some((edit, count))
 }
 
 /// The same with a range at the front or none, and how many words there are.

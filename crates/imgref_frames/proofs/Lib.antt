@@ -10,4 +10,3 @@ pub mod Outcomes
 pub mod Hiding
 pub mod CarriedPieces
 pub mod OneOutput
-pub mod Uncovered

@@ -1,6 +1,7 @@
 pub mod Fault
 pub mod Request
 pub mod Words
+pub mod Late
 pub mod Boxes
 pub mod Uncovered
 pub mod Stream

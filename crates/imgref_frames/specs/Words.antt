@@ -1,18 +1,19 @@
 -- The edits that words or the lines of a file are, and which of them are refused.
-use Rattle.std.specs.Prelude.{◌≡◌, ◌&&◌, ℕ, Bool, true, false, not, nat_lt, IsTrue, List, [], ◌∷◌, All, Some, None, if◌then◌else◌}
-use Rattle.std.specs.List.{flat_map, list_any}
-use Rattle.std.specs.Option.{is_none}
+use Rattle.std.specs.Prelude.{◌≡◌, ◌&&◌, ◌<◌, ℕ, Bool, true, false, nat_lt, IsTrue, List, [], All, Some, None, IfSome, length, take}
+use Rattle.std.specs.List.{flat_map, list_any, slice_get}
+use Rattle.std.specs.Option.{is_none, unwrap_or}
 use Rattle.text_model.specs.Reading.{is_nil}
 use Rattle.frame_formats.specs.Edits.{Edits}
 use Rattle.frame_formats.specs.Lists.{AreEdits, framing_after}
 use Rattle.frame_formats.specs.Words.{Named}
 use Rattle.image_planes.specs.Scratch.{is_blur}
-use Rattle.image_planes.specs.declared.change.Change.{Change}
-use Rattle.image_planes.specs.declared.change.Change.TheVariants.{Fill, Mosaic, Mean, Blur, Move, Flip}
 use Rattle.frame_formats.specs.declared.ranges.Range.{Range}
 use Rattle.frame_formats.specs.declared.ranges.Range.TheVariants.{Frames, Times}
-use Rattle.frame_formats.specs.declared.steps.Paint.{Paint}
 use Rattle.frame_formats.specs.declared.words.Edit.{Edit}
+use Rattle.frame_formats.specs.declared.lists.WordsFault.{WordsFault}
+use Rattle.frame_formats.specs.declared.lists.WordsFault.TheVariants.{NoEdit, Memory as NoMemory}
+use Rattle.imgref_frames.specs.declared.words.Refusal.{Refusal}
+use Rattle.imgref_frames.specs.declared.words.Refusal.TheVariants.{Empty, NoFrame, NoEdits, Memory}
 
 -- the words are these edits, one after the other
 pub record AreWords (words : List (List ℕ)) (e : Edits) : Type 0 where
@@ -32,28 +33,26 @@ pub record AreUsable (e : Edits) : Type 0 where
   pub some : is_nil e.steps && is_none e.framing ≡ false
   pub ranges : All (λ s. IsTrue (has_span s.range)) e.steps
 
--- a change that carries pixels away, or with `means` one of means, each of which shows something of its whole tile or box
-abbrev pub spreads : Bool → Change Paint → Bool
-spreads means (Fill w paint) = false
-spreads means (Mosaic w wide high) = false
-spreads means (Mean w wide high bytes) = means
-spreads means (Blur w across down bytes) = means
-spreads means (Move w left top) = not means
-spreads means (Flip axes) = false
+-- the edit of this number is the first whose range has no frame
+pub record IsFirstEmpty (edits : List Edit) (at : ℕ) : Type 0 where
+  pub there : at < length edits
+  pub empty : IfSome (slice_get edits at) (λ s. has_span s.range ≡ false)
+  pub before : All (λ s. IsTrue (has_span s.range)) (take at edits)
 
--- a change that covers some pixels; means cover those that a move may carry away
-abbrev pub covers : Bool → Change Paint → Bool
-covers means (Fill w paint) = true
-covers means (Mosaic w wide high) = true
-covers means (Mean w wide high bytes) = not means
-covers means (Blur w across down bytes) = false
-covers means (Move w left top) = false
-covers means (Flip axes) = false
+-- why edits are refused: there is none, or the range of this one has no frame
+abbrev pub AreRefused : Edits → Refusal → Type 0
+AreRefused e Empty = is_nil e.steps && is_none e.framing ≡ true
+AreRefused e (NoFrame at) = IsFirstEmpty e.steps at
+AreRefused e _ = ⊥
 
--- a change that covers comes after one that spreads
-unfoldable pub covers_late : Bool → List Edit → Bool
-covers_late means [] = false
-covers_late means (s ∷ ss) = if spreads means s.change then list_any (λ t. covers means t.change) ss else covers_late means ss
+-- why words or lines are no edits
+abbrev pub refusal_of : WordsFault → Refusal
+refusal_of NoEdit = NoEdits
+refusal_of NoMemory = Memory
+
+-- the line of this number, from 0
+abbrev pub line_of : List (List ℕ) → ℕ → List ℕ
+line_of lines number = unwrap_or (slice_get lines number) []
 
 -- a change is a blur
 abbrev pub has_blur : List Edit → Bool

@@ -1,6 +1,10 @@
 //! Why words are no edit, in words for standard error. Nothing here changes what is written or the
 //! status.
 
+ghost use Rattle.std.specs.Prelude.{◌≡◌, ◌-◌};
+ghost use Rattle.text_model.specs.Parts.{parts_of};
+ghost use Rattle.imgref_frames.specs.Words.{line_of};
+
 use crate::beginnings::shown;
 use crate::words::{Lines, find_bad_word};
 use frame_formats::{Edits, line_words};
@@ -209,14 +213,16 @@ pub(crate) fn say_bad_word(rt: &HostRuntime, words: &[&[u8]]) {
 }
 
 // The line of this number, from 1.
-fn line_at(text: &[u8], number: usize) -> &[u8] {
+fn line_at(text: &[u8], number: usize) -> &[u8]
+    ensures { result.now ≡ line_of (parts_of 10 text.now) (number - 1) }
+{
     let mut lines = Parts::new(text, b'\n');
-    let mut count: usize = 0;
+    let mut before = number.saturating_sub(1);
     while let Some(line) = lines.next_part() {
-        count = count.saturating_add(1);
-        if count == number {
+        if before == 0 {
             return line;
         }
+        before -= 1;
     }
     &[]
 }

@@ -6,20 +6,25 @@ ghost use Rattle.imgref_frames.specs.Words.{AreUsable};
 ghost use Rattle.frame_formats.specs.Lists.{plain};
 
 use crate::words::{Refusal, refuse_unusable};
-use frame_formats::{Edit, Edits, WordsFault, read_boxes, read_held};
+use frame_formats::{BoxStyle, Edit, Edits, WordsFault, read_boxes, read_held};
 use std::alloc::Global;
 
-// The covers of the boxes of a tracker's list, which are held for so many frames.
-fn covers_of(alloc: Global, text: &[u8], hold: Option<usize>) -> Result<Vec<Edit>, WordsFault>
-    ensures { IfOk result (λ covers. CoverBoxes text.now hold covers.items) }
+// What the boxes of a tracker's list become, which are held for so many frames.
+fn covers_of(
+    alloc: Global,
+    text: &[u8],
+    style: BoxStyle,
+    hold: Option<usize>,
+) -> Result<Vec<Edit>, WordsFault>
+    ensures { IfOk result (λ covers. CoverBoxes style text.now hold covers.items) }
 {
     match hold {
-        None => read_boxes(alloc, text),
-        Some(hold) => read_held(alloc, text, hold),
+        None => read_boxes(alloc, text, style),
+        Some(hold) => read_held(alloc, text, style, hold),
     }
 }
 
-/// The covers of the boxes of a tracker's list, and after them these edits. The boxes are held for so
+/// What the boxes of a tracker's list become, and after that these edits. The boxes are held for so
 /// many frames.
 ///
 /// # Errors
@@ -28,14 +33,15 @@ fn covers_of(alloc: Global, text: &[u8], hold: Option<usize>) -> Result<Vec<Edit
 pub(crate) fn with_boxes(
     alloc: Global,
     text: &[u8],
+    style: BoxStyle,
     hold: Option<usize>,
     edits: &Edits,
 ) -> Result<Edits, Refusal>
     ensures begins { IfOk result
-        (λ made. BeginsWithBoxes text.now hold (plain edits.now) (plain made)) }
+        (λ made. BeginsWithBoxes style text.now hold (plain edits.now) (plain made)) }
     ensures usable { IfOk result (λ made. AreUsable (plain made)) }
 {
-    let mut steps = match covers_of(alloc, text, hold) {
+    let mut steps = match covers_of(alloc, text, style, hold) {
         Ok(covers) => covers,
         Err(WordsFault::NoEdit) => return Err(Refusal::NoBoxes),
         Err(WordsFault::Memory) => return Err(Refusal::Memory),

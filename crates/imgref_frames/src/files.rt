@@ -1,8 +1,12 @@
 //! The input and the output of the program: the standard streams, or files by their names.
 
+ghost use Rattle.std.specs.Io.{WritesAtMost};
+
 use devices::Retried;
 use std::fs::File;
-use std::io::{ErrorKind, Read, Stdin, Stdout, Write};
+use std::io::{Error, ErrorKind, Read, Stdin, Stdout, Write};
+use std::os::fd::AsRawFd;
+use std::os::unix::fs::{MetadataExt, fchown};
 use std::{fs, io};
 
 // So many names beside that of the output are tried.
@@ -30,12 +34,21 @@ impl Read for Input {
     }
 }
 
-/// Where the bytes come from, and the first of them.
+// The same error once more.
+fn same_error(error: &Error) -> Error {
+    match error.raw_os_error() {
+        Some(code) => Error::from_raw_os_error(code),
+        None => Error::from(error.kind()),
+    }
+}
+
+/// Where the bytes come from, the first of them, and why no more come.
 #[derive(Drop)]
 pub(crate) struct Source {
     input: Retried<Input>,
     front: [u8; FRONT],
     len: usize,
+    failure: Option<Error>,
 }
 
 impl Source {
@@ -49,6 +62,7 @@ impl Source {
             input: Retried::new(input),
             front: [0; FRONT],
             len: 0,
+            failure: None,
         })
     }
 
@@ -63,6 +77,11 @@ impl Source {
         }
     }
 
+    /// Why reading failed, where it did.
+    pub(crate) fn failure(&self) -> Option<&Error> {
+        self.failure.as_ref()
+    }
+
     /// The first bytes that were read.
     pub(crate) fn front(&self) -> &[u8] {
         &self.front[..self.len.min(FRONT)]
@@ -71,34 +90,85 @@ impl Source {
 
 impl Read for Source {
     fn read(&mut self, buf: &mut [u8]) -> io::Result<usize> {
-        let count = self.input.read(buf)?;
-        self.keep(&buf[..count]);
-        Ok(count)
+        match self.input.read(buf) {
+            Ok(count) => {
+                self.keep(&buf[..count]);
+                Ok(count)
+            }
+            Err(error) => {
+                self.failure = Some(same_error(&error));
+                Err(error)
+            }
+        }
     }
 }
 
-/// Where the bytes go.
+// The streams that the bytes may go to.
 #[derive(Drop)]
-pub(crate) enum Sink {
+enum Output {
     Standard(Stdout),
     Named(File),
 }
 
+impl Output {
+    fn write(&mut self, buf: &[u8]) -> io::Result<usize>
+        ensures bound { WritesAtMost result buf.now }
+    {
+        match self {
+            Output::Standard(output) => output.write(buf),
+            Output::Named(file) => file.write(buf),
+        }
+    }
+}
+
+/// Where the bytes go, and why no more are taken.
+#[derive(Drop)]
+pub(crate) struct Sink {
+    output: Output,
+    failure: Option<Error>,
+}
+
 impl Sink {
+    /// Standard output.
+    pub(crate) fn standard(rt: &HostRuntime) -> Sink {
+        Sink {
+            output: Output::Standard(rt.stdout()),
+            failure: None,
+        }
+    }
+
+    /// A file.
+    pub(crate) fn named(file: File) -> Sink {
+        Sink {
+            output: Output::Named(file),
+            failure: None,
+        }
+    }
+
+    /// Why writing failed, where it did.
+    pub(crate) fn failure(&self) -> Option<&Error> {
+        self.failure.as_ref()
+    }
+
     /// Waits until a file is on its disk.
     pub(crate) fn sync(&self) -> io::Result<()> {
-        match self {
-            Sink::Standard(_) => Ok(()),
-            Sink::Named(file) => file.sync_all(),
+        match &self.output {
+            Output::Standard(_) => Ok(()),
+            Output::Named(file) => file.sync_all(),
         }
     }
 }
 
 impl Write for Sink {
     fn write(&mut self, buf: &[u8]) -> io::Result<usize> {
-        match self {
-            Sink::Standard(output) => output.write(buf),
-            Sink::Named(file) => file.write(buf),
+        match self.output.write(buf) {
+            Ok(count) => Ok(count),
+            Err(error) => {
+                if error.kind() != ErrorKind::Interrupted {
+                    self.failure = Some(same_error(&error));
+                }
+                Err(error)
+            }
         }
     }
 
@@ -114,7 +184,10 @@ fn check_name(rt: &HostRuntime, name: &str) -> io::Result<()> {
             if found.is_file() {
                 Ok(())
             } else {
-                Err(io::Error::from(ErrorKind::AlreadyExists))
+                Err(Error::new(
+                    ErrorKind::AlreadyExists,
+                    "it is a folder or a device, and only a file is replaced",
+                ))
             }
         }
         Err(error) => {
@@ -127,12 +200,39 @@ fn check_name(rt: &HostRuntime, name: &str) -> io::Result<()> {
     }
 }
 
-// Gives a file the permissions of the one of this name, where there is one.
+// Gives a new file the owner, the group and the permissions of the one of this name, where there is
+// one. The permissions come last: those of another owner's program are never on a file of ours.
 fn copy_permissions(rt: &HostRuntime, file: &File, name: &str) -> io::Result<()> {
-    match fs::metadata(rt, name) {
-        Ok(found) => file.set_permissions(found.permissions()),
-        Err(_) => Ok(()),
+    let Ok(found) = fs::metadata(rt, name) else {
+        return Ok(());
+    };
+    let made = file.metadata()?;
+    let is_same = made.uid() == found.uid() && made.gid() == found.gid();
+    if !is_same && fchown(file, Some(found.uid()), Some(found.gid())).is_err() {
+        return Err(Error::new(
+            ErrorKind::PermissionDenied,
+            "it has another owner or group, which can't be kept",
+        ));
     }
+    file.set_permissions(found.permissions())
+}
+
+// A file that has the number of a standard stream would get what is written there.
+fn check_number(file: &File) -> io::Result<()> {
+    if file.as_raw_fd() > 2 {
+        Ok(())
+    } else {
+        Err(Error::new(
+            ErrorKind::Other,
+            "a standard stream is closed, and /dev/null can't be opened in its place",
+        ))
+    }
+}
+
+// Makes a new file ready to become the one of this name.
+fn prepare(rt: &HostRuntime, file: &File, name: &str) -> io::Result<()> {
+    check_number(file)?;
+    copy_permissions(rt, file, name)
 }
 
 // A new file of this name, or `None` where the name is taken.
@@ -185,7 +285,7 @@ pub(crate) fn create_beside(rt: &HostRuntime, name: &str) -> io::Result<(File, S
     for number in 0..TRIES {
         let beside = format!(in rt.alloc(); "{front}.{number}.part")?;
         if let Some(file) = create_new(rt, beside.as_str())? {
-            match copy_permissions(rt, &file, name) {
+            match prepare(rt, &file, name) {
                 Ok(()) => return Ok((file, beside)),
                 Err(error) => {
                     let _ = fs::remove_file(rt, beside.as_str());
@@ -194,7 +294,21 @@ pub(crate) fn create_beside(rt: &HostRuntime, name: &str) -> io::Result<(File, S
             }
         }
     }
-    Err(io::Error::from(ErrorKind::AlreadyExists))
+    Err(Error::new(
+        ErrorKind::AlreadyExists,
+        "all names beside it, with .0.part to .999.part, are taken",
+    ))
+}
+
+/// Gives a file that is whole its name. Where that fails, the file is removed.
+pub(crate) fn give_name(rt: &HostRuntime, beside: &str, name: &str) -> io::Result<()> {
+    match fs::rename(rt, beside, name) {
+        Ok(()) => Ok(()),
+        Err(error) => {
+            let _ = fs::remove_file(rt, beside);
+            Err(error)
+        }
+    }
 }
 
 /// All bytes of the file of this name, or of standard input where the name is `-`.

@@ -6,38 +6,49 @@ mod bad_edits;
 mod beginnings;
 mod boxes;
 mod cells;
+mod counts;
+mod descriptors;
 mod fault;
 mod files;
 mod frames;
+mod late;
+mod notes;
 mod options;
 mod pictures;
 mod places;
 mod program;
 mod ranges;
 mod reasons;
+mod report;
 mod request;
 mod words;
 
+use bad_boxes::say_odd_boxes;
 use beginnings::say_no_head;
 use boxes::with_boxes;
+pub use counts::is_wanted;
+use counts::say_other_count;
 pub use devices::Counted;
 use devices::Retried;
 pub use fault::RunFault;
-use files::{Sink, Source, create_beside, read_whole, target_of};
-use frame_formats::Edits;
+use files::{Sink, Source, create_beside, give_name, read_whole, target_of};
+use frame_formats::{BoxStyle, Edits};
 pub use frame_formats::{
     Axes, Change, Edit, Format, Framing, Paint, Picture, Range, Rate, Scratch, Window,
 };
+use notes::{say_boxes, say_late};
 use options::{Options, read_options};
 use places::Texts;
 pub use program::run;
 use ranges::{say_uncovered, say_unreached};
 use reasons::{say_no_words, say_reason};
+use report::{say_bare, write_report};
 pub use request::{Seen, Shape, Stretch};
-use std::io::{BufReader, ErrorKind};
+use std::fs::File;
+use std::io::{BufReader, BufWriter, ErrorKind, Write};
 use std::process::ExitCode;
 use std::{fs, io};
-use words::{Refusal, edits_of_lines, edits_of_words, fault_of, words_of};
+use words::{Refusal, edits_of_lines, edits_of_words, words_of};
 
 // What the words are, as docs/FRAMES.md has it.
 const USAGE: &str = "usage: imgref_frames [OPTION..] EDIT.. < video > video
@@ -72,21 +83,40 @@ OPTION:
                          out: lines frame,id,left,top,width,height, with frames from 1
        --hold N          keeps a box for N frames before and after its track (the lines of one
                          id), and fills gaps in it of up to N frames by the box around both sides
-       --strict          a range that the input doesn't reach is a fault, and so is a cover
-                         that covers nothing
+       --margin PX       how many pixels more of each box on each side: without it 2, and at
+                         least a sample
+       --with WORD V     in the place of a cover for each box: fill V, fill R,G,B, mosaic TW,TH,
+                         means TW,TH or blur R; of these only fill hides it
+       --require-box     a frame without a box is a fault, known at the end
+       --report FILE     writes frame,left,top,width,height of each box and each cover as it
+                         was drawn, with frames from 1
+       --frames N        another number of frames is a fault, known at the end; a list may
+                         say it itself, by a line # frames N
+       --strict          what else is a note is a fault: a range that the input doesn't reach,
+                         a cover that covers nothing, and a cover that comes too late
        --limit BYTES     how many bytes all buffers may have: 1073741824 without it
        --help, -h        prints this
        --version         prints the version
-Cover first: a move before a fill may carry pixels away. See docs/FRAMES.md.";
+Cover first: a move, a mosaic, means or a blur before a cover may show what it covers.
+See docs/FRAMES.md.";
 
 // The version of the program and of the library.
-const VERSION: &str = "imgref_frames 0.1.0";
+const VERSION: &str = "imgref_frames 0.2.0";
 
 // The status where a range was not reached, and that is a fault.
 const RANGE: u8 = 8;
 
 // The status where a cover covers nothing, and that is a fault.
 const COVER: u8 = 9;
+
+// The status where a cover comes after an edit that may show what it covers, and that is a fault.
+const ORDER: u8 = 10;
+
+// The status where the input has another number of frames than was asked for.
+const COUNT: u8 = 11;
+
+// The status where a frame has no box, and that is a fault.
+const BOX: u8 = 12;
 
 // No files of edits.
 const NO_TEXTS: Texts<'static> = Texts {
@@ -106,12 +136,44 @@ struct Call<'a> {
     options: Options,
     edits: &'a Edits,
     texts: Texts<'a>,
+    words: &'a [String],
+}
+
+// Prints which file a fault is about, and its cause, where it is known.
+fn say_cause(rt: &HostRuntime, fault: RunFault, name: Option<&str>, cause: Option<&io::Error>) {
+    let (stream, done) = match fault {
+        RunFault::Input => ("input", "read"),
+        _ => ("output", "written"),
+    };
+    let _ = match name {
+        Some(name) => eprint!(rt; "the {stream} {name} can't be {done}"),
+        None => eprint!(rt; "standard {stream} can't be {done}"),
+    };
+    let _ = match cause {
+        Some(error) => eprintln!(rt; ": {error}"),
+        None => eprintln!(rt; ""),
+    };
 }
 
 impl Call<'_> {
+    // The name of the input or of the output that a fault is about, where it has one.
+    fn name_of(&self, fault: RunFault) -> Option<&str> {
+        match fault {
+            RunFault::Input => name_at(self.words, self.options.input),
+            _ => name_at(self.words, self.options.output),
+        }
+    }
+
+    // Prints the fault of a device and its cause.
+    fn fail_device(&self, fault: RunFault, cause: Option<&io::Error>) -> u8 {
+        let _ = eprintln!(self.rt; "{fault}");
+        say_cause(self.rt, fault, self.name_of(fault), cause);
+        fault.status()
+    }
+
     // Prints the fault and why it came. The status tells of the fault even where nothing can be
     // printed.
-    fn fail(&self, fault: RunFault, seen: Seen) -> u8 {
+    fn fail(&self, fault: RunFault, seen: &Seen) -> u8 {
         let _ = eprintln!(self.rt; "{fault}");
         say_reason(
             self.rt,
@@ -127,15 +189,18 @@ impl Call<'_> {
     // The fault of a file that can't be opened, or of memory for it.
     fn fail_at(&self, error: io::Error, fault: RunFault) -> u8 {
         if error.kind() == ErrorKind::OutOfMemory {
-            self.fail(RunFault::Memory(0), Seen::nothing())
+            self.fail(RunFault::Memory(0), &Seen::nothing(self.rt.alloc()))
         } else {
-            self.fail(fault, Seen::nothing())
+            self.fail_device(fault, Some(&error))
         }
     }
 
     // Runs the edits over the input, and returns the status.
     fn pass(&self, input: BufReader<Source>, output: Sink) -> u8 {
-        let mut seen = Seen::nothing();
+        let mut seen = match self.options.report {
+            Some(_) => Seen::for_report(self.rt.alloc()),
+            None => Seen::nothing(self.rt.alloc()),
+        };
         let mut reader = Counted::new(input);
         let mut writer = Counted::new(Retried::new(output));
         let result = run(
@@ -147,33 +212,106 @@ impl Call<'_> {
             &mut reader,
             &mut writer,
         );
-        let count = match result {
-            Ok(count) => count,
-            Err(fault) => {
-                let status = self.fail(fault, seen);
-                if fault == RunFault::Header {
-                    say_no_head(self.rt, reader.device().get_ref().front());
-                }
-                return status;
+        let (source, sink) = (reader.device().get_ref(), writer.device().device());
+        match result {
+            Ok(count) => match sink.sync() {
+                Ok(()) => self.end_whole(&seen, count),
+                Err(error) => self.fail_device(RunFault::Output, Some(&error)),
+            },
+            Err(RunFault::Input) => {
+                let status = self.fail_device(RunFault::Input, source.failure());
+                self.note_covers(&seen, seen.last().saturating_add(1));
+                status
             }
-        };
-        if writer.device().device().sync().is_err() {
-            return self.fail(RunFault::Output, seen);
+            Err(RunFault::Output) => {
+                let status = self.fail_device(RunFault::Output, sink.failure());
+                self.note_covers(&seen, seen.last().saturating_add(1));
+                status
+            }
+            Err(fault) => self.end_early(fault, &seen, source.front()),
+        }
+    }
+
+    // Writes the report, and prints what there is to say of the edits. Returns the status.
+    fn end_whole(&self, seen: &Seen, count: u64) -> u8 {
+        if let Some(name) = name_at(self.words, self.options.report) {
+            if let Err(error) = self.report(seen, count, name) {
+                let _ = eprintln!(self.rt; "{}", RunFault::Output);
+                let _ = eprintln!(self.rt; "the report {name} can't be written: {error}");
+                return RunFault::Output.status();
+            }
         }
         self.note(seen, count)
     }
 
-    // Prints which edits did nothing in so many frames, and returns the status.
-    fn note(&self, seen: Seen, count: u64) -> u8 {
-        let (rt, steps, texts) = (self.rt, &self.edits.steps, self.texts);
-        let strict = self.options.strict;
-        if say_uncovered(rt, seen.uncovered(count, steps), steps, texts, strict) && strict {
-            return COVER;
+    // Writes the report of so many frames into the file of this name, once it is whole.
+    fn report(&self, seen: &Seen, count: u64, name: &str) -> io::Result<()> {
+        let target = target_of(self.rt, name)?;
+        let (file, beside) = create_beside(self.rt, target.as_str())?;
+        match self.write_report(seen, count, file) {
+            Ok(()) => give_name(self.rt, beside.as_str(), target.as_str()),
+            Err(error) => {
+                let _ = fs::remove_file(self.rt, beside.as_str());
+                Err(error)
+            }
         }
-        if say_unreached(rt, count, seen.rate(), steps, texts, strict) && strict {
-            return RANGE;
+    }
+
+    fn write_report(&self, seen: &Seen, count: u64, file: File) -> io::Result<()> {
+        let alloc = self.rt.alloc();
+        let mut writer = BufWriter::new(alloc, file)?;
+        write_report(alloc, seen, count, &self.edits.steps, &mut writer)?;
+        writer.flush()
+    }
+
+    // Prints a fault of what the input has, and what is known of its edits. Returns the status.
+    fn end_early(&self, fault: RunFault, seen: &Seen, front: &[u8]) -> u8 {
+        let status = self.fail(fault, seen);
+        match fault {
+            RunFault::Header => say_no_head(self.rt, front),
+            RunFault::Frame(count) => {
+                self.note_covers(seen, count);
+                self.note_ranges(seen, count);
+            }
+            _ => {
+                self.note_covers(seen, seen.last());
+            }
         }
-        0
+        status
+    }
+
+    // Prints which covers cover nothing in so many frames, and returns whether that is a fault.
+    fn note_covers(&self, seen: &Seen, count: u64) -> bool {
+        let (rt, steps, strict) = (self.rt, &self.edits.steps, self.options.strict);
+        say_uncovered(rt, seen, count, steps, self.texts, strict) && strict
+    }
+
+    // Prints which ranges so many frames don't reach, and returns whether that is a fault.
+    fn note_ranges(&self, seen: &Seen, count: u64) -> bool {
+        let (rt, steps, strict) = (self.rt, &self.edits.steps, self.options.strict);
+        say_unreached(rt, count, seen.rate(), steps, self.texts, strict) && strict
+    }
+
+    // Prints which edits did nothing in so many frames, and whether another number of frames was
+    // asked for. Returns the status of the first fault.
+    fn note(&self, seen: &Seen, count: u64) -> u8 {
+        let counts = say_other_count(self.rt, count, self.options.frames, self.texts);
+        let covers = self.note_covers(seen, count);
+        let ranges = self.note_ranges(seen, count);
+        let bare = self.texts.boxes.is_some()
+            && say_bare(self.rt, &self.edits.steps, count, self.options.require_box)
+            && self.options.require_box;
+        if counts {
+            COUNT
+        } else if bare {
+            BOX
+        } else if covers {
+            COVER
+        } else if ranges {
+            RANGE
+        } else {
+            0
+        }
     }
 
     // The same with an output of this name. On a fault the name stays as it was.
@@ -186,30 +324,30 @@ impl Call<'_> {
             Ok(made) => made,
             Err(error) => return self.fail_at(error, RunFault::Output),
         };
-        let status = self.pass(input, Sink::Named(file));
-        if status == 0 && fs::rename(self.rt, beside.as_str(), target.as_str()).is_ok() {
-            return 0;
+        let status = self.pass(input, Sink::named(file));
+        if status != 0 {
+            let _ = fs::remove_file(self.rt, beside.as_str());
+            return status;
         }
-        let _ = fs::remove_file(self.rt, beside.as_str());
-        if status == 0 {
-            return self.fail(RunFault::Output, Seen::nothing());
+        match give_name(self.rt, beside.as_str(), target.as_str()) {
+            Ok(()) => 0,
+            Err(error) => self.fail_device(RunFault::Output, Some(&error)),
         }
-        status
     }
 
     // The same with the input and the output that the options name.
-    fn run(&self, words: &[String]) -> u8 {
-        let source = match Source::open(self.rt, name_at(words, self.options.input)) {
+    fn run(&self) -> u8 {
+        let source = match Source::open(self.rt, name_at(self.words, self.options.input)) {
             Ok(source) => source,
             Err(error) => return self.fail_at(error, RunFault::Input),
         };
         let input = match BufReader::with_capacity(self.rt.alloc(), AHEAD, source) {
             Ok(input) => input,
-            Err(_) => return self.fail(RunFault::Memory(0), Seen::nothing()),
+            Err(_) => return self.fail(RunFault::Memory(0), &Seen::nothing(self.rt.alloc())),
         };
-        match name_at(words, self.options.output) {
+        match name_at(self.words, self.options.output) {
             Some(name) => self.pass_to(input, name),
-            None => self.pass(input, Sink::Standard(self.rt.stdout())),
+            None => self.pass(input, Sink::standard(self.rt)),
         }
     }
 }
@@ -218,6 +356,9 @@ impl Call<'_> {
 /// a fault, the program prints the fault and its reason to standard error, and exits with its
 /// status.
 fn main(rt: HostRuntime) -> ExitCode {
+    let Ok(_filled) = descriptors::fill(&rt) else {
+        return end(&rt, RunFault::Output);
+    };
     let words = match words_of(&rt) {
         Ok(words) => words,
         Err(refusal) => return refuse(&rt, refusal, &[], NO_TEXTS),
@@ -240,7 +381,7 @@ fn main(rt: HostRuntime) -> ExitCode {
     }
     let options = match read_options(&bytes) {
         Ok(options) => options,
-        Err(at) => return refuse(&rt, Refusal::NoOption(at), &bytes, NO_TEXTS),
+        Err(misread) => return refuse(&rt, Refusal::NoOption(misread), &bytes, NO_TEXTS),
     };
     edit(&rt, options, &words, &bytes)
 }
@@ -270,36 +411,59 @@ fn reads_input_twice(options: Options, words: &[String]) -> bool {
 }
 
 // The edits of the file, or else those of the words, after the boxes of a tracker's list.
-fn edits_of(rt: &HostRuntime, words: &[&[u8]], texts: Texts<'_>) -> Result<Edits, Refusal> {
+fn edits_of(
+    rt: &HostRuntime,
+    words: &[&[u8]],
+    texts: Texts<'_>,
+    style: BoxStyle,
+) -> Result<Edits, Refusal> {
     let edits = match texts.edits {
         Some(text) => edits_of_lines(rt.alloc(), text)?,
         None if words.is_empty() && texts.boxes.is_some() => Edits::new(rt.alloc()),
         None => edits_of_words(rt.alloc(), words)?,
     };
     match texts.boxes {
-        Some(text) => with_boxes(rt.alloc(), text, texts.hold, &edits),
+        Some(text) => with_boxes(rt.alloc(), text, style, texts.hold, &edits),
         None => Ok(edits),
+    }
+}
+
+// What becomes of each box of a list.
+fn style_of(options: Options) -> BoxStyle {
+    let cover = BoxStyle::cover(options.margin);
+    BoxStyle {
+        change: options.with.unwrap_or(cover.change),
+        ..cover
     }
 }
 
 // Finds the edits, and goes on with them.
 fn edit(rt: &HostRuntime, options: Options, words: &[String], bytes: &[&[u8]]) -> ExitCode {
     if options.edits.is_some() && options.first < bytes.len() {
-        return refuse(rt, Refusal::NoOption(options.first), bytes, NO_TEXTS);
+        return refuse(rt, Refusal::Beside(options.first), bytes, NO_TEXTS);
     }
-    if options.hold.is_some() && options.boxes.is_none() {
-        return refuse(rt, Refusal::NoBoxesToHold, bytes, NO_TEXTS);
+    if let Some(name) = options.lacks_boxes() {
+        let _ = eprintln!(rt; "fault words");
+        let _ = eprintln!(rt; "{name} is for the boxes of a list, so it needs --boxes");
+        return say_help(rt);
+    }
+    if options.report.is_some()
+        && name_at(words, options.report) == name_at(words, options.output)
+    {
+        let _ = eprintln!(rt; "fault words");
+        let _ = eprintln!(rt; "the report and the output need two names");
+        return say_help(rt);
     }
     if reads_input_twice(options, words) {
         return refuse(rt, Refusal::OneInput, bytes, NO_TEXTS);
     }
     let boxes = match text_at(rt, words, options.boxes) {
         Ok(text) => text,
-        Err(error) => return refuse(rt, fault_of(error, Refusal::NoBoxFile), bytes, NO_TEXTS),
+        Err(error) => return refuse_file(rt, error, "boxes", name_at(words, options.boxes)),
     };
     let text = match text_at(rt, words, options.edits) {
         Ok(text) => text,
-        Err(error) => return refuse(rt, fault_of(error, Refusal::NoFile), bytes, NO_TEXTS),
+        Err(error) => return refuse_file(rt, error, "edits", name_at(words, options.edits)),
     };
     let texts = Texts {
         boxes: boxes.as_deref(),
@@ -307,7 +471,7 @@ fn edit(rt: &HostRuntime, options: Options, words: &[String], bytes: &[&[u8]]) -
         edits: text.as_deref(),
     };
     let first = options.first.min(bytes.len());
-    match edits_of(rt, &bytes[first..], texts) {
+    match edits_of(rt, &bytes[first..], texts, style_of(options)) {
         Ok(edits) => carry(rt, options, words, &edits, texts),
         Err(refusal) => refuse(rt, refusal, &bytes[first..], texts),
     }
@@ -321,15 +485,14 @@ fn carry(
     edits: &Edits,
     texts: Texts<'_>,
 ) -> ExitCode {
-    if words::covers_late(false, &edits.steps) {
-        let _ = eprintln!(rt;
-            "note: a move comes before a fill or a mosaic, and may carry pixels away"
-        );
+    if say_late(rt, &edits.steps, options.strict) && options.strict {
+        return ExitCode::from(ORDER);
     }
-    if words::covers_late(true, &edits.steps) {
-        let _ = eprintln!(rt;
-            "note: means or a blur come before a fill or a mosaic, and may show something of what that hides"
-        );
+    if let Some(change) = options.with {
+        say_boxes(rt, change);
+    }
+    if let Some(text) = texts.boxes {
+        say_odd_boxes(rt, text);
     }
     if words::has_blur(&edits.steps) {
         let _ = eprintln!(rt; "note: a blur hides nothing: cover what has to stay secret first");
@@ -339,8 +502,9 @@ fn carry(
         options,
         edits,
         texts,
+        words,
     };
-    ExitCode::from(call.run(words))
+    ExitCode::from(call.run())
 }
 
 // The status tells of the fault even where its text can't be printed.
@@ -350,8 +514,26 @@ fn refuse(rt: &HostRuntime, refusal: Refusal, words: &[&[u8]], texts: Texts<'_>)
     }
     let _ = eprintln!(rt; "fault words");
     say_no_words(rt, refusal, words, texts);
-    let _ = eprintln!(rt; "{USAGE}");
+    say_help(rt)
+}
+
+// Names the help after a fault of the words, and returns the status.
+fn say_help(rt: &HostRuntime) -> ExitCode {
+    let _ = eprintln!(rt; "imgref_frames --help lists the edits and the options");
     ExitCode::from(1)
+}
+
+// The same of a file that names edits and can't be read.
+fn refuse_file(rt: &HostRuntime, error: io::Error, list: &str, name: Option<&str>) -> ExitCode {
+    if error.kind() == ErrorKind::OutOfMemory {
+        return end(rt, RunFault::Memory(0));
+    }
+    let _ = eprintln!(rt; "fault words");
+    let _ = eprintln!(rt;
+        "the {list} file {} can't be read: {error}",
+        name.unwrap_or("-")
+    );
+    say_help(rt)
 }
 
 fn end(rt: &HostRuntime, fault: RunFault) -> ExitCode {

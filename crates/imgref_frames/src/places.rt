@@ -2,7 +2,7 @@
 //! among the words.
 
 use crate::words::Lines;
-use frame_formats::{first_frame, held_at, put_by_tracks, read_tracked, track_of};
+use frame_formats::{BoxStyle, first_frame, held_at, put_by_tracks, read_tracked, track_of};
 use std::alloc::{AllocError, Global};
 use texts::Parts;
 
@@ -69,7 +69,7 @@ fn held_lines(
             Some(listed) => listed.line,
             None => 0,
         };
-        let (cover, gap) = held_at(hold, &boxes, at);
+        let (cover, gap) = held_at(BoxStyle::cover(None), hold, &boxes, at);
         found.push((first_frame(&cover), line))?;
         if let Some(gap) = gap {
             found.push((first_frame(&gap), line))?;

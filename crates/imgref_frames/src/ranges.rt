@@ -1,9 +1,9 @@
 //! Edits that did nothing: ranges that the input didn't reach, ranges of times that have no frame, and
 //! covers that cover nothing.
 
-use crate::places::{Texts, say_place};
-use crate::reasons::size_of;
-use crate::request::Stretch;
+use crate::notes::Notes;
+use crate::places::{Place, Texts, say_place};
+use crate::request::Seen;
 use frame_formats::{Edit, Rate};
 
 /// Prints each range of frames that the input, which had so many, didn't reach. Returns whether
@@ -16,68 +16,59 @@ pub(crate) fn say_unreached(
     texts: Texts<'_>,
     strict: bool,
 ) -> bool {
-    let mut found = false;
+    let mut notes = Notes::new(rt, strict, "fault range");
     // The numbers only grow, so all lines are read once.
     let mut places = texts.places(rt.alloc());
     for number in 0..steps.len() {
         let Some((first, end)) = steps[number].range.frames(rate) else {
             continue;
         };
-        if first >= count && (first > 0 || end < u64::MAX) {
-            if strict && !found {
-                let _ = eprintln!(rt; "fault range");
-            }
-            let _ = if strict {
-                Ok(())
-            } else {
-                eprint!(rt; "note: ")
-            };
-            found = true;
-            say_place(rt, places.find(number));
-            let _ = if end < u64::MAX {
-                eprintln!(rt;
-                    "the input has {count} frames, and ends before its range {first}..{end}"
-                )
-            } else {
-                eprintln!(rt; "the input has {count} frames, and ends before its range {first}..")
-            };
+        if first < count || (first == 0 && end == u64::MAX) || !notes.begin() {
+            continue;
         }
+        let place = places.find(number);
+        say_place(rt, place);
+        let _ = eprint!(rt; "the input has {count} frames, and ends before ");
+        let _ = match place {
+            Place::Box(_) => eprintln!(rt; "frame {} of the list", first.saturating_add(1)),
+            _ if end < u64::MAX => eprintln!(rt; "its range {first}..{end}"),
+            _ => eprintln!(rt; "its range {first}.."),
+        };
     }
-    found
+    notes.end()
 }
 
-/// Prints each cover that covers nothing in a frame of these, and returns whether there is one.
+/// Prints each cover that covers nothing in a frame of so many, and returns whether there is one.
 pub(crate) fn say_uncovered(
     rt: &HostRuntime,
-    stretch: Option<Stretch>,
+    seen: &Seen,
+    count: u64,
     steps: &[Edit],
     texts: Texts<'_>,
     strict: bool,
 ) -> bool {
-    let Some(stretch) = stretch else {
-        return false;
-    };
-    if strict {
-        let _ = eprintln!(rt; "fault cover");
-    }
-    let (width, height) = size_of(stretch.shape);
+    let mut notes = Notes::new(rt, strict, "fault cover");
     // The numbers only grow, so all lines are read once.
     let mut places = texts.places(rt.alloc());
     for number in 0..steps.len() {
-        let Some(frame) = stretch.uncovered(&steps[number]) else {
+        let Some(found) = seen.uncovered(number, &steps[number], count) else {
             continue;
         };
-        let _ = if strict {
-            Ok(())
-        } else {
-            eprint!(rt; "note: ")
+        if !notes.begin() {
+            continue;
+        }
+        let place = places.find(number);
+        say_place(rt, place);
+        let _ = match place {
+            Place::Box(_) => eprint!(rt;
+                "it covers nothing in frame {} of the list",
+                found.frame.saturating_add(1)
+            ),
+            _ => eprint!(rt; "it covers nothing in frame {}", found.frame),
         };
-        say_place(rt, places.find(number));
-        let _ = eprintln!(rt;
-            "it covers nothing in frame {frame}, which has {width} by {height} pixels"
-        );
+        let _ = eprintln!(rt; ", which has {} by {} pixels", found.width, found.height);
     }
-    true
+    notes.end()
 }
 
 /// Prints the first range of times that has no frame, and why. Returns whether there is one.

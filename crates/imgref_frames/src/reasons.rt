@@ -2,13 +2,15 @@
 
 use crate::bad_boxes::say_bad_box;
 use crate::bad_edits::{say_bad_line, say_bad_word};
+use crate::beginnings::shown;
 use crate::fault::RunFault;
+use crate::options::Misread;
 use crate::places::{Texts, say_place};
 use crate::ranges::say_no_frames;
 use crate::request::{Seen, Shape};
 use crate::words::Refusal;
 use frame_formats::{
-    Change, Chroma, Edits, Format, Framing, Kind, Paint, Picture, Window, turns_over,
+    Change, Chroma, Edit, Edits, Format, Framing, Kind, Paint, Picture, Scope, Window, turns_over,
 };
 
 // A frame: its size, how many columns and rows of pixels share a chroma sample, and the greatest
@@ -177,6 +179,42 @@ fn check_change(frame: Frame, change: Change<Paint>) -> Option<Wrong> {
     }
 }
 
+// The same of a change of boxes, which are cut where the frame ends.
+fn check_boxed(frame: Frame, change: Change<Paint>) -> Option<Wrong> {
+    match change {
+        Change::Fill { value, .. } => match value {
+            Paint::Grey(value) => check_value(frame, value),
+            Paint::Colour { .. } if !frame.has_colours => Some(Wrong::Colour),
+            Paint::Colour { red, green, blue } => check_value(frame, red.max(green).max(blue)),
+            _ => None,
+        },
+        Change::Mosaic {
+            tile_width,
+            tile_height,
+            ..
+        }
+        | Change::Mean {
+            tile_width,
+            tile_height,
+            ..
+        } => {
+            if tile_width == 0 || tile_height == 0 {
+                return Some(Wrong::NoSize);
+            }
+            let wide = check_corner("tile width", tile_width, frame.across);
+            wide.or(check_corner("tile height", tile_height, frame.down))
+        }
+        _ => None,
+    }
+}
+
+fn check_edit(frame: Frame, edit: Edit) -> Option<Wrong> {
+    match edit.scope {
+        Scope::Exact => check_change(frame, edit.change),
+        Scope::Boxed { .. } => check_boxed(frame, edit.change),
+    }
+}
+
 // Why a frame can't be turned by a quarter.
 fn check_turn(frame: Frame) -> Option<Wrong> {
     if frame.interlaced {
@@ -242,7 +280,7 @@ fn say_wrong(rt: &HostRuntime, wrong: Wrong) {
 fn say_outside(rt: &HostRuntime, frame: Frame, edits: &Edits, texts: Texts<'_>) {
     let _ = eprintln!(rt; "the frame has {} by {} pixels", frame.width, frame.height);
     for number in 0..edits.steps.len() {
-        if let Some(wrong) = check_change(frame, edits.steps[number].change) {
+        if let Some(wrong) = check_edit(frame, edits.steps[number]) {
             say_place(rt, texts.places(rt.alloc()).find(number));
             say_wrong(rt, wrong);
             return;
@@ -265,7 +303,7 @@ fn say_outside(rt: &HostRuntime, frame: Frame, edits: &Edits, texts: Texts<'_>) 
 pub(crate) fn say_reason(
     rt: &HostRuntime,
     fault: RunFault,
-    seen: Seen,
+    seen: &Seen,
     limit: usize,
     edits: &Edits,
     texts: Texts<'_>,
@@ -293,8 +331,35 @@ pub(crate) fn say_reason(
         RunFault::Frame(number) => eprintln!(rt;
             "after {number} frames or pictures the input goes on, and not with a whole one"
         ),
-        RunFault::Input => eprintln!(rt; "the input can't be read"),
-        RunFault::Output => eprintln!(rt; "the output can't be written, or its name is no file's"),
+        // The caller tells the file and the cause.
+        RunFault::Input | RunFault::Output => Ok(()),
+    };
+}
+
+// The word at this place.
+fn word_at<'a>(words: &'a [&'a [u8]], at: usize) -> &'a str {
+    match words.get(at) {
+        Some(word) => shown(word),
+        None => "a word",
+    }
+}
+
+// Prints why a word before the edits is no option, or no number.
+fn say_no_option(rt: &HostRuntime, misread: Misread, words: &[&[u8]]) {
+    let _ = match misread {
+        Misread::Lacks(at) => eprintln!(rt; "nothing follows {}", word_at(words, at)),
+        Misread::NoNumber(at) => eprintln!(rt;
+            "{} needs a whole number, and {} isn't one: it has no sign, no unit and no zero in front, and is below 18446744073709551616",
+            word_at(words, at.saturating_sub(1)),
+            word_at(words, at)
+        ),
+        Misread::NoWay(at) => eprintln!(rt;
+            "--with needs fill V, fill R,G,B, mosaic TW,TH, means TW,TH or blur R, and not {} {}",
+            word_at(words, at),
+            word_at(words, at.saturating_add(1))
+        ),
+        Misread::NoName(at) => eprintln!(rt; "{} needs the name of a file", word_at(words, at)),
+        Misread::Unknown(at) => eprintln!(rt; "{} is no option", word_at(words, at)),
     };
 }
 
@@ -305,21 +370,16 @@ pub(crate) fn say_no_words(rt: &HostRuntime, refusal: Refusal, words: &[&[u8]], 
         Refusal::Empty => {
             let _ = eprintln!(rt; "there is no edit, so nothing would be covered");
         }
-        Refusal::NoFile => {
-            let _ = eprintln!(rt; "the edits file can't be read");
-        }
-        Refusal::NoBoxFile => {
-            let _ = eprintln!(rt; "the file of boxes can't be read");
-        }
         Refusal::EmptyBoxes => {
             let _ = eprintln!(rt; "the file of boxes has no box, so nothing would be covered");
         }
-        Refusal::NoBoxesToHold => {
-            let _ = eprintln!(rt; "--hold is for the boxes of a list, so it needs --boxes");
-        }
         Refusal::NoBoxes => say_bad_box(rt, texts.boxes),
-        Refusal::NoOption(at) => {
-            let _ = eprintln!(rt; "word {at} is no option, or lacks what follows it");
+        Refusal::NoOption(misread) => say_no_option(rt, misread, words),
+        Refusal::Beside(at) => {
+            let _ = eprintln!(rt;
+                "{} comes after --edits, which has all edits in its file",
+                word_at(words, at)
+            );
         }
         Refusal::OneInput => {
             let _ = eprintln!(rt;

@@ -5,9 +5,10 @@ ghost use Rattle.frame_formats.specs.Planned.{recipe_of, plan_room, plan_other_r
 ghost use Rattle.image_planes.specs.Changes.{as_usize};
 ghost use Rattle.image_planes.specs.Scratch.{scratch_len};
 
+use crate::reasons::size_of;
 use frame_formats::{
-    Change, Edit, Format, Framing, Paint, Picture, Plan, Rate, picture_covers_nothing,
-    video_covers_nothing,
+    Edit, Format, Framing, Picture, Plan, Rate, Window, picture_covers_nothing, picture_window,
+    video_covers_nothing, video_window,
 };
 use std::alloc::Global;
 
@@ -33,18 +34,26 @@ pub enum Shape {
 impl Shape {
     ghost use Rattle.imgref_frames.specs.Uncovered.{rate_in, is_empty_in};
 
-    // Whether a change is a cover that covers no pixel of such a frame.
-    fn is_left_by(self, change: Change<Paint>) -> bool
-        ensures { result ≡ is_empty_in self change }
+    // Whether an edit is a cover or a box that has no pixel of such a frame.
+    fn is_left_by(self, edit: Edit) -> bool
+        ensures { result ≡ is_empty_in self edit }
     {
         match self {
-            Shape::Video(format, _) => video_covers_nothing(format, change),
-            Shape::Picture(picture) => picture_covers_nothing(picture, change),
+            Shape::Video(format, _) => video_covers_nothing(format, edit),
+            Shape::Picture(picture) => picture_covers_nothing(picture, edit),
         }
     }
 
-    // The rate of a video, where its line names one.
-    fn rate(self) -> Option<Rate>
+    /// The rectangle that an edit changes in such a frame.
+    pub(crate) fn window(self, edit: Edit) -> Window {
+        match self {
+            Shape::Video(format, _) => video_window(format, edit),
+            Shape::Picture(picture) => picture_window(picture, edit),
+        }
+    }
+
+    /// The rate of a video, where its line names one.
+    pub(crate) fn rate(self) -> Option<Rate>
         ensures { result ≡ rate_in self }
     {
         match self {
@@ -71,7 +80,7 @@ impl Stretch {
         ensures first { IfSome result (λ n. (m : ℕ) → IsUncovered self edit.now m → n ≤ m) }
         ensures none { result ≡ None → (n : ℕ) → IsUncovered self edit.now n → ⊥ }
     {
-        if !self.shape.is_left_by(edit.change) {
+        if !self.shape.is_left_by(*edit) {
             return None;
         }
         let (first, end) = edit.range.frames(self.shape.rate())?;
@@ -82,64 +91,153 @@ impl Stretch {
             None
         }
     }
+
+    // The same with the size of the frame.
+    fn found(self, edit: &Edit) -> Option<Uncovered> {
+        let frame = self.uncovered(edit)?;
+        let (width, height) = size_of(self.shape);
+        Some(Uncovered {
+            frame,
+            width,
+            height,
+        })
+    }
+}
+
+/// The first frame in which a cover covers nothing, and the size of that frame.
+#[derive(Clone, Copy)]
+pub(crate) struct Uncovered {
+    pub(crate) frame: u64,
+    pub(crate) width: usize,
+    pub(crate) height: usize,
 }
 
 /// What was read last, for messages: no clause is about it.
-#[derive(Clone, Copy, PartialEq, Eq)]
+#[derive(Drop)]
 pub struct Seen {
     shape: Option<Shape>,
     // The number of the first frame after which all have this shape.
     first: u64,
-    // The first frames of a shape before it in which a cover covers nothing.
-    uncovered: Option<Stretch>,
+    // The number of the frame or the picture whose line or head was read last.
+    last: u64,
+    // The first cover that was found to cover nothing in a frame of a shape before it.
+    found: Option<(usize, Uncovered)>,
+    // The same of each edit, where one was found.
+    uncovered: Vec<Option<Uncovered>>,
+    // The shapes, each with the number of its first frame. Not where there was no memory for one.
+    shapes: Option<Vec<(u64, Shape)>>,
 }
 
 impl Seen {
     /// No line and no head.
-    pub(crate) fn nothing() -> Seen {
+    pub(crate) fn nothing(alloc: Global) -> Seen {
         Seen {
             shape: None,
             first: 0,
-            uncovered: None,
+            last: 0,
+            found: None,
+            uncovered: Vec::new(alloc),
+            shapes: None,
+        }
+    }
+
+    /// The same, and each shape is kept for a report.
+    pub(crate) fn for_report(alloc: Global) -> Seen {
+        Seen {
+            shapes: Some(Vec::new(alloc)),
+            ..Seen::nothing(alloc)
+        }
+    }
+
+    /// The shapes, each with the number of its first frame, where all were kept.
+    pub(crate) fn shapes(&self) -> Option<&[(u64, Shape)]> {
+        match &self.shapes {
+            Some(shapes) => Some(shapes),
+            None => None,
+        }
+    }
+
+    // Keeps a shape for a report.
+    fn keep_shape(&mut self, number: u64, shape: Shape) {
+        let is_kept = match &mut self.shapes {
+            Some(shapes) => shapes.push((number, shape)).is_ok(),
+            None => true,
+        };
+        if !is_kept {
+            self.shapes = None;
         }
     }
 
     /// The line or the head that was read last.
-    pub(crate) fn shape(self) -> Option<Shape> {
+    pub(crate) fn shape(&self) -> Option<Shape> {
         self.shape
     }
 
+    /// The number of the picture whose head was read last. Of a video it is 0.
+    pub(crate) fn last(&self) -> u64 {
+        self.last
+    }
+
     /// The rate of a video, where its line names one.
-    pub(crate) fn rate(self) -> Option<Rate> {
+    pub(crate) fn rate(&self) -> Option<Rate> {
         self.shape?.rate()
+    }
+
+    // The frames of the last shape, of so many frames.
+    fn stretch(&self, count: u64) -> Option<Stretch> {
+        Some(Stretch {
+            shape: self.shape?,
+            first: self.first,
+            end: count,
+        })
+    }
+
+    // Keeps that the edit of this number, of so many, covers nothing there. Where there is no memory
+    // for that, it is only known of the first.
+    fn keep(&mut self, number: usize, len: usize, uncovered: Uncovered) {
+        if self.found.is_none() {
+            self.found = Some((number, uncovered));
+        }
+        if self.uncovered.is_empty() && self.uncovered.resize(len, None).is_err() {
+            return;
+        }
+        if let Some(place) = self.uncovered.get_mut(number) {
+            if place.is_none() {
+                *place = Some(uncovered);
+            }
+        }
     }
 
     /// The line of a video was read, or the head of the picture of this number.
     pub(crate) fn see(&mut self, number: u64, shape: Shape, steps: &[Edit]) {
+        self.last = number;
         if self.shape == Some(shape) {
             return;
         }
-        self.uncovered = self.uncovered(number, steps);
+        if let Some(stretch) = self.stretch(number) {
+            for at in 0..steps.len() {
+                if let Some(uncovered) = stretch.found(&steps[at]) {
+                    self.keep(at, steps.len(), uncovered);
+                }
+            }
+        }
+        self.keep_shape(number, shape);
         self.shape = Some(shape);
         self.first = number;
     }
 
-    /// Where so many frames were read: the first ones of a shape in which a cover covers nothing.
-    pub(crate) fn uncovered(self, count: u64, steps: &[Edit]) -> Option<Stretch> {
-        if self.uncovered.is_some() {
-            return self.uncovered;
+    /// Where so many frames were read: the first of them in which the edit of this number is a cover
+    /// that covers nothing.
+    pub(crate) fn uncovered(&self, number: usize, edit: &Edit, count: u64) -> Option<Uncovered> {
+        if let Some(Some(uncovered)) = self.uncovered.get(number) {
+            return Some(*uncovered);
         }
-        let stretch = Stretch {
-            shape: self.shape?,
-            first: self.first,
-            end: count,
-        };
-        for step in steps {
-            if stretch.uncovered(step).is_some() {
-                return Some(stretch);
+        if let Some((first, uncovered)) = self.found {
+            if first == number {
+                return Some(uncovered);
             }
         }
-        None
+        self.stretch(count)?.found(edit)
     }
 }
 

@@ -1,13 +1,14 @@
 //! The edits that the words after the program's name denote, or the lines of the file that they
 //! name.
 
-ghost use Rattle.std.specs.Prelude.{◌≡◌, IsTrue, All, IfOk, OnOk, Some, None, map, []};
+ghost use Rattle.std.specs.Prelude.{◌≡◌, IsTrue, All, IfOk, IfErr, IfSome, OnOk, Some, None, map, []};
 ghost use Rattle.frame_formats.specs.Edits.{edits};
 ghost use Rattle.frame_formats.specs.Lists.{with_lines, plain};
-ghost use Rattle.imgref_frames.specs.Words.{AreWords, AreUsable, has_blur, has_span, spreads, covers, covers_late};
+ghost use Rattle.imgref_frames.specs.Words.{AreWords, AreUsable, AreRefused, IsFirstEmpty, has_blur, has_span, refusal_of};
 ghost use Rattle.text_model.specs.Parts.{parts_of};
 
-use frame_formats::{Change, Edit, Edits, Paint, Range, WordsFault};
+use crate::options::Misread;
+use frame_formats::{Change, Edit, Edits, Range, WordsFault};
 use std::alloc::Global;
 use std::{env, io};
 use texts::Parts;
@@ -23,18 +24,14 @@ pub(crate) enum Refusal {
     Empty,
     /// The range of the edit of this number, counted from 0, has no frame.
     NoFrame(usize),
-    /// The file can't be read.
-    NoFile,
-    /// The tracker's list can't be read.
-    NoBoxFile,
     /// A line of the tracker's list is no box.
     NoBoxes,
     /// The tracker's list has no box.
     EmptyBoxes,
-    /// Boxes are to be held, and there is no tracker's list.
-    NoBoxesToHold,
-    /// This word is no option.
-    NoOption(usize),
+    /// The words before the edits are no options.
+    NoOption(Misread),
+    /// The edits are in a file, and this word comes after it.
+    Beside(usize),
     /// Standard input is to be the edits or the boxes, and something else too.
     OneInput,
     /// Out of memory.
@@ -50,7 +47,9 @@ pub(crate) fn fault_of(error: io::Error, other: Refusal) -> Refusal {
     }
 }
 
-fn refusal_of(fault: WordsFault) -> Refusal {
+fn refusal_of(fault: WordsFault) -> Refusal
+    ensures { result ≡ refusal_of fault }
+{
     match fault {
         WordsFault::NoEdit => Refusal::NoEdits,
         WordsFault::Memory => Refusal::Memory,
@@ -86,6 +85,7 @@ fn has_span(range: Range) -> bool
 
 // The first edit whose range has no frame.
 fn find_no_frame(edits: &[Edit]) -> Option<usize>
+    ensures first { IfSome result (IsFirstEmpty edits.now) }
     ensures none { result ≡ None → All (λ s. IsTrue (has_span s.range)) edits.now }
 {
     for at in 0..edits.len() {
@@ -98,7 +98,8 @@ fn find_no_frame(edits: &[Edit]) -> Option<usize>
 
 // Refuses a list with no edit, and a range with no frame: both would show what was to be covered.
 pub(crate) fn refuse_unusable(edits: &Edits) -> Result<(), Refusal>
-    ensures { OnOk result (AreUsable (plain edits.now)) }
+    ensures usable { OnOk result (AreUsable (plain edits.now)) }
+    ensures refused { IfErr result (AreRefused (plain edits.now)) }
 {
     if edits.steps.is_empty() && edits.framing.is_none() {
         return Err(Refusal::Empty);
@@ -157,45 +158,6 @@ pub(crate) fn has_blur(steps: &[Edit]) -> bool
     steps
         .iter()
         .any(|step| matches!(step.change, Change::Blur { .. }))
-}
-
-// Whether a change carries pixels away, or with `means` shows something of its whole tiles or boxes.
-fn spreads(means: bool, change: Change<Paint>) -> bool
-    ensures { result ≡ spreads means change }
-{
-    match change {
-        Change::Move { .. } => !means,
-        Change::Mean { .. } | Change::Blur { .. } => means,
-        Change::Fill { .. } | Change::Mosaic { .. } | Change::Flip(_) => false,
-    }
-}
-
-fn covers(means: bool, change: Change<Paint>) -> bool
-    ensures { result ≡ covers means change }
-{
-    match change {
-        Change::Mean { .. } => !means,
-        Change::Blur { .. } | Change::Move { .. } | Change::Flip(_) => false,
-        Change::Fill { .. } | Change::Mosaic { .. } => true,
-    }
-}
-
-/// Whether a fill or a mosaic comes after a move, which may have carried away what they would hide.
-/// With `means` it is after a mosaic of means or a blur, which may show something of it.
-pub(crate) fn covers_late(means: bool, steps: &[Edit]) -> bool
-    ensures { result ≡ covers_late means steps.now }
-{
-    let mut moved = false;
-    for step in steps {
-        if moved {
-            if covers(means, step.change) {
-                return true;
-            }
-        } else if spreads(means, step.change) {
-            moved = true;
-        }
-    }
-    false
 }
 
 // ---- for messages alone

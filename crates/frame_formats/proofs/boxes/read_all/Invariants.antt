@@ -5,7 +5,7 @@ use Rattle.frame_formats.proofs.boxes.read_all.Given as goal
 
 -- the lines that are left add to the covers so far what all lines add to none
 abbrev pub invariant-loop-line : goal.invariant-loop-line
-invariant-loop-line l = with_boxes cover_of l.covers.items (parts_left l.lines) ≡ each_box cover_of l.text
+invariant-loop-line l = with_boxes (cover_of l.style) l.covers.items (parts_left l.lines) ≡ each_box (cover_of l.style) l.text
 
 abbrev pub decreases-loop-line : goal.decreases-loop-line
 decreases-loop-line l = length (parts_left l.lines)

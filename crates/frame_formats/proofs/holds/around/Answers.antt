@@ -3,4 +3,4 @@ use Rattle.frame_formats.proofs.holds.around.Goals as goal
 
 pub returns-clause-both : goal.returns-clause-both
 returns-clause-both c =
-    rw (c.both_sides.ensures.start, c.both_sides.ensures.extent, c.both_sides-2.ensures.start, c.both_sides-2.ensures.extent) (has_both c.args.first.now c.args.next.now c.requires.first c.requires.next)
+    rw (c.both_sides.ensures.start, c.both_sides.ensures.extent, c.both_sides-2.ensures.start, c.both_sides-2.ensures.extent) (has_both c.args.first.now c.args.next.now)

@@ -5,4 +5,4 @@ use Rattle.frame_formats.proofs.holds.hold_all.Given as goal
 
 -- what the boxes before this place become
 abbrev pub invariant-loop-at : goal.invariant-loop-at
-invariant-loop-at l = l.covers.items ≡ flat_map (held_at l.hold l.boxes) (range_with_len 0 l.at)
+invariant-loop-at l = l.covers.items ≡ flat_map (held_at l.style l.hold l.boxes) (range_with_len 0 l.at)
