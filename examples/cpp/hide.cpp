@@ -1,10 +1,15 @@
-// Hides a window of a grey picture: each tile of it gets one colour, and nothing else of the window
+// Hides a window of a grey picture: every pixel of it gets one value, and nothing of what was there
 // is left.
 //
-//     hide LEFT TOP WIDTH HEIGHT TILE < picture.pgm > hidden.pgm
+//     hide LEFT TOP WIDTH HEIGHT [VALUE] < picture.pgm > hidden.pgm
 //
-// The picture is a PGM file of one byte a pixel (P5), as netpbm writes it. A window that isn't
-// inside is refused by the library: the program says so, and writes nothing.
+// The picture is a PGM file of one byte a pixel (P5), as netpbm writes it. VALUE is 0, black, unless
+// it is given. A window that isn't inside is refused by the library: the program says so, and writes
+// nothing.
+//
+// Why no mosaic: `mosaic` leaves one pixel of each tile as it was, and `mosaic_means` leaves the mean
+// of each tile. Text, a number plate or a face can be found again by such values: one renders what
+// may have been there, and compares. A fill leaves only where the window is, and its size.
 //
 //     c++ -std=c++17 -O2 hide.cpp $(pkg-config --cflags --libs imgref) -o hide
 #include <imgref.hpp>
@@ -23,11 +28,12 @@ static std::size_t number(std::istream &in) {
     return read;
 }
 
-static void hide(const imgref::rect &window, std::size_t tile) {
+static void hide(const imgref::rect &window, unsigned char value) {
     std::string magic(2, ' ');
     std::cin.read(&magic[0], 2);
     const std::size_t width = number(std::cin), height = number(std::cin), most = number(std::cin);
     if (magic != "P5" || most > 255) throw std::invalid_argument("not a PGM file (P5) of one byte a pixel");
+    if (value > most) throw std::invalid_argument("the value is above the picture's greatest");
     std::cin.get();
 
     std::vector<unsigned char> pixels(width * height);
@@ -35,7 +41,7 @@ static void hide(const imgref::rect &window, std::size_t tile) {
     if (!std::cin) throw std::invalid_argument("the picture is cut off");
 
     imgref::view picture(pixels, width, height);
-    picture.mosaic(window, tile, tile);
+    picture.fill(window, value);
 
     std::cout << "P5\n" << width << ' ' << height << '\n' << most << '\n'; // the head of a PGM
     std::cout.write(reinterpret_cast<const char *>(pixels.data()), static_cast<std::streamsize>(pixels.size()));
@@ -50,8 +56,10 @@ int main(int count, char **words) {
             word >> numbers.emplace_back();
             if (!word || !word.eof() || words[at][0] == '-') throw std::invalid_argument(std::string("no number: ") + words[at]);
         }
-        if (numbers.size() != 5) throw std::invalid_argument("usage: hide LEFT TOP WIDTH HEIGHT TILE < picture.pgm > hidden.pgm");
-        hide({numbers[0], numbers[1], numbers[2], numbers[3]}, numbers[4]);
+        if (numbers.size() == 4) numbers.push_back(0);
+        if (numbers.size() != 5) throw std::invalid_argument("usage: hide LEFT TOP WIDTH HEIGHT [VALUE] < picture.pgm > hidden.pgm");
+        if (numbers[4] > 255) throw std::invalid_argument("a value of one byte is at most 255");
+        hide({numbers[0], numbers[1], numbers[2], numbers[3]}, static_cast<unsigned char>(numbers[4]));
     } catch (const std::exception &why) {
         std::cerr << "hide: " << why.what() << '\n';
         return 1;

@@ -1,9 +1,12 @@
 #!/usr/bin/env python3
-"""Shows that a detector's people are covered: a drawn figure walks through a video, and examples/detect_people.py finds it in some of
-the frames. With --hold nothing of the figure is left in any frame.
+"""Shows that what OpenCV finds is covered. A drawn figure walks through a video, and examples/detect_people.py finds it in some of the
+frames: with --hold nothing of the figure is left in any frame. examples/detect_faces.py finds a drawn face.
 
-Both builds are run that `rt ci` leaves. Where no Python of the machine has OpenCV, the cases are left out, and a line says 'skipped'.
+examples/review.py shows the covers, and examples/hide_faces.py does all of it from one file to another. Both builds are run that
+`rt ci` leaves. Where no Python of the machine has OpenCV, or where another tool is missing, cases are left out, and a line says
+'skipped'.
 """
+import os
 import pathlib
 import shutil
 import subprocess
@@ -12,6 +15,8 @@ import tempfile
 
 sys.path.insert(0, str(pathlib.Path(__file__).resolve().parents[2]))
 from checking import ROOT, Cases, both_builds
+from tries import SAMPLINGS
+from tries import video as video_of
 
 WIDTH, HEIGHT, FRAMES = 320, 240, 24
 BACK, DARK, BLACK = 200, 40, 16
@@ -20,6 +25,12 @@ HEAD = ((-0.3, 0), (0.3, 0), (0.45, 0.4), (0.4, 0.9), (0.15, 1.2), (-0.15, 1.2),
 BODY = ((-0.9, 1.4), (0.9, 1.4), (0.7, 4.2), (-0.7, 4.2))
 LIMBS = (((0.9, 1.4), (1.2, 1.7), (1.15, 4.2), (0.85, 4.2)), ((0.05, 4.0), (0.7, 4.0), (0.65, 7.9), (0.2, 7.9)))
 PARTS = (HEAD, BODY, *LIMBS, *(tuple((-x, y) for x, y in limb) for limb in LIMBS))
+
+# The ellipses of a face: its hair and its skin, and then what makes it a face. Each has its middle and its half sizes, in hundredths
+# of the face's size, and its brightness.
+SKIN = ((0, -27, 105, 130, 40), (0, 0, 85, 115, 185))
+BOTH = ((36, -36, 24, 6, 70), (36, -16, 22, 16, 125), (36, -16, 17, 8, 200), (36, -16, 8, 8, 30), (12, 40, 7, 4, 70))
+FEATURES = (*(it for right in BOTH for it in (right, (-right[0], *right[1:]))), (0, 10, 10, 36, 205), (0, 68, 32, 9, 80), (0, 86, 25, 5, 150))
 
 
 def is_inside(corners, x, y):
@@ -49,6 +60,27 @@ def video():
     return out, shown
 
 
+def ellipse(middle, size, part):
+    """The places of an ellipse of a face of this size."""
+    across, down, wide, high, _ = (it * size / 100 for it in part)
+    left, top = middle[0] + across, middle[1] + down
+    rows, columns = range(int(top - high), int(top + high) + 2), range(int(left - wide), int(left + wide) + 2)
+    return [y * WIDTH + x for y in rows for x in columns if ((x - left) / wide) ** 2 + ((y - top) / high) ** 2 < 1]
+
+
+def portrait():
+    """A video of a face that moves to the right, and the places of its eyes, brows, nose and mouth in each frame."""
+    out, shown = b"YUV4MPEG2 W%d H%d F25:1 Ip C420jpeg\n" % (WIDTH, HEIGHT), []
+    for frame in range(FRAMES):
+        plane, middle = bytearray([BACK // 2]) * (WIDTH * HEIGHT), (110 + 4 * frame, 125)
+        for part in (*SKIN, *FEATURES):
+            for at in ellipse(middle, 45, part):
+                plane[at] = part[4]
+        out += b"FRAME\n" + plane + bytes([128]) * (WIDTH * HEIGHT // 2)
+        shown.append([at for part in FEATURES for at in ellipse(middle, 45, part)])
+    return out, shown
+
+
 def planes(made):
     """The plane of brightness of each frame."""
     size, at, found = WIDTH * HEIGHT, made.index(b"\n") + 1, []
@@ -58,9 +90,9 @@ def planes(made):
     return found
 
 
-def python_with_opencv():
+def python_with(module):
     for python in ("python3", "/usr/bin/python3"):
-        if shutil.which(python) and subprocess.run([python, "-c", "import cv2"], capture_output=True).returncode == 0:
+        if shutil.which(python) and subprocess.run([python, "-c", f"import {module}"], capture_output=True).returncode == 0:
             return python
     return None
 
@@ -77,7 +109,9 @@ def by_detector(cases, program, python):
         given.write_bytes(data)
         found = subprocess.run([python, ROOT / "examples/detect_people.py", given], capture_output=True, text=True, timeout=300)
         listed.write_text(found.stdout)
-        frames = {int(line.split(",")[0]) for line in found.stdout.split("\n") if line}
+        first, *lines = found.stdout.splitlines()
+        frames = {int(line.split(",")[0]) for line in lines}
+        cases.count("the list says how many frames the video has", first == f"# frames {FRAMES}", first)
         cases.count("the detector finds the figure in some frames, and misses it in others", 4 < len(frames) < FRAMES, found.stdout + found.stderr)
         plain = subprocess.run([program, "--boxes", listed, "-i", given], capture_output=True, timeout=120)
         cases.count("its boxes cover the figure in their frames alone", uncovered(plain.stdout, shown) == [it for it in range(FRAMES) if it + 1 not in frames], f"{uncovered(plain.stdout, shown)} {sorted(frames)}")
@@ -88,13 +122,94 @@ def by_detector(cases, program, python):
         cases.count("and leave most of each frame", all(it < WIDTH * HEIGHT // 2 for it in before), str(before))
 
 
+def by_faces(cases, program, python):
+    """The drawn face is covered in each frame, and a sheet shows the covers."""
+    data, shown = portrait()
+    with tempfile.TemporaryDirectory() as folder:
+        given, made = pathlib.Path(folder, "in.y4m"), pathlib.Path(folder, "out.y4m")
+        given.write_bytes(data)
+        piped = f"'{python}' '{ROOT}/examples/detect_faces.py' - < in.y4m > faces.txt; '{program}' -i in.y4m -o out.y4m --boxes faces.txt --hold 8 --strict --report covers.csv"
+        done = subprocess.run(["bash", "-e", "-o", "pipefail", "-c", piped], cwd=folder, capture_output=True, text=True, timeout=300)
+        wrote = made.read_bytes() if made.exists() else b""
+        left = [number for number, (plane, places) in enumerate(zip(planes(wrote), shown)) if any(plane[at] != BLACK for at in places)] if wrote else None
+        cases.count("the face that is found is covered in each frame", done.returncode == 0 and len(planes(wrote)) == FRAMES and left == [], f"{left} {done.stderr}")
+        if python_with("PIL"):
+            by_review(cases, folder)
+
+
+def by_review(cases, folder):
+    """The sheet has each frame with its covers outlined."""
+    sheet = [python_with("PIL"), ROOT / "examples/review.py", "out.y4m", "covers.csv", "sheet.png"]
+    done = subprocess.run(sheet, cwd=folder, capture_output=True, text=True, timeout=300)
+    counted = "from PIL import Image; it = Image.open('sheet.png').convert('RGB'); print(*it.size, sum(color == (255, 0, 0) for color in it.getdata()))"
+    wide, high, red = (int(it) for it in subprocess.run([python_with("PIL"), "-c", counted], cwd=folder, capture_output=True, text=True).stdout.split() or [0] * 3)
+    rows = [tuple(map(int, line.split(","))) for line in pathlib.Path(folder, "covers.csv").read_text().splitlines() if line[:1].isdigit()]
+    # A frame has the size of a tile of the sheet: an outline has as many pixels as the border of its cover.
+    borders = sum(2 * (row[3] + row[4]) - 4 for row in rows)
+    cases.count("a sheet shows each frame with its covers outlined", done.returncode == 0 and (wide, high) == (5 * WIDTH, 5 * (HEIGHT + 16)) and 0 < red <= borders and len({row[0] for row in rows}) == FRAMES, f"{wide} {high} {red} of {borders}: {done.stderr}")
+
+
+def by_one_command(cases, program, python):
+    """examples/hide_faces.py, from a file to another. A failure leaves what was there."""
+    data, shown = portrait()
+    with tempfile.TemporaryDirectory() as folder:
+        given, made = pathlib.Path(folder, "in.mp4"), pathlib.Path(folder, "out.mp4")
+        environment = os.environ | {"PATH": f"{folder}:{os.environ['PATH']}"}
+        pathlib.Path(folder, "imgref_frames").symlink_to(program)
+        sound = ["-f", "lavfi", "-i", "sine=duration=1", "-c:a", "aac", "-c:v", "libx264", "-crf", "12"]
+        subprocess.run(["ffmpeg", "-v", "error", "-i", "-", *sound, given], input=data, check=True, capture_output=True, timeout=120)
+        hide = [python, ROOT / "examples/hide_faces.py", given, made]
+        done = subprocess.run(hide, env=environment, capture_output=True, text=True, timeout=300)
+        wrote = subprocess.run(["ffmpeg", "-v", "error", "-i", made, "-f", "yuv4mpegpipe", "-"], capture_output=True, timeout=120).stdout
+        kinds = subprocess.run(["ffprobe", "-v", "error", "-show_entries", "stream=codec_type", "-of", "csv=p=0", made], capture_output=True, text=True).stdout.split()
+        # (the edges of a black area aren't quite black after H.264)
+        brightest = max((plane[at] for plane, places in zip(planes(wrote), shown) for at in places), default=255) if wrote else 255
+        cases.count("one command covers the face in each frame, and keeps the sound", done.returncode == 0 and len(planes(wrote)) == FRAMES and brightest < 40 and kinds == ["video", "audio"], f"{brightest} {kinds} {done.stderr}")
+        before = made.read_bytes()
+        given.write_bytes(given.read_bytes()[:-5000])
+        done = subprocess.run(hide, env=environment, capture_output=True, text=True, timeout=300)
+        cases.count("of a video that is cut off it leaves no output, and what was there stays", done.returncode == 1 and made.read_bytes() == before and "Traceback" not in done.stderr and not [*pathlib.Path(folder).glob("*.part*")], done.stderr)
+        subprocess.run(["ffmpeg", "-v", "error", "-y", "-f", "lavfi", "-i", "color=gray:size=320x240:duration=0.2", given], check=True, timeout=120)
+        done = subprocess.run(hide, env=environment, capture_output=True, text=True, timeout=300)
+        cases.count("where it finds nothing it says so, and leaves no output", done.returncode == 1 and "nothing was found" in done.stderr and made.read_bytes() == before, done.stderr)
+
+
+def by_usage(cases):
+    """Without arguments each script says how it is used, also where OpenCV is missing. Of a file that isn't raw video they say what to do."""
+    for name in ("detect_people", "detect_faces", "hide_faces", "review"):
+        done = subprocess.run([sys.executable, ROOT / f"examples/{name}.py"], capture_output=True, text=True, timeout=60)
+        cases.count(f"{name}.py says how it is used", done.returncode == 2 and f"examples/{name}.py" in done.stderr and "Traceback" not in done.stderr, done.stderr)
+
+
+def by_wrong_files(cases, python):
+    data, _ = portrait()
+    nameless = b"YUV4MPEG2 H8 F25:1\n"
+    wrong = {"a video without a width": (nameless, "its line names no size"), "no raw video": (b"RIFF\n" * 99, "ffmpeg -i FILE -f yuv4mpegpipe -"), "nothing": (b"", "it is cut off"), "a video that is cut off": (data[:-9], f"it is cut off in frame {FRAMES}")}
+    for name in ("detect_people", "detect_faces"):
+        for label, (given, due) in wrong.items():
+            done = subprocess.run([python, ROOT / f"examples/{name}.py", "-"], input=given, capture_output=True, timeout=300)
+            cases.count(f"{name}.py writes no list of {label}", done.returncode == 1 and not done.stdout and due in done.stderr.decode(), done.stderr.decode())
+    for name in SAMPLINGS:
+        done = subprocess.run([python, ROOT / "examples/detect_faces.py", "-"], input=video_of(name, 99, 81), capture_output=True, timeout=300)
+        cases.count(f"the frames of C{name} are counted", (done.stdout.split(b"\n")[0], done.returncode) == (b"# frames 3", 0), done.stderr.decode())
+
+
 def main():
-    cases, python = Cases(), python_with_opencv()
+    cases, python = Cases(), python_with("cv2")
+    by_usage(cases)
+    if python:
+        by_wrong_files(cases, python)
     for program in both_builds(cases, "imgref_frames"):
         if python:
             by_detector(cases, str(program), python)
-        else:
-            print("people that OpenCV finds: skipped, no Python here has cv2", flush=True)
+            by_faces(cases, str(program), python)
+            if shutil.which("ffmpeg"):
+                by_one_command(cases, str(program), python)
+    if not python:
+        print("what OpenCV finds: skipped, no Python here has cv2", flush=True)
+    for it in ("ffmpeg", *(() if python_with("PIL") else ("Python with PIL",))):
+        if not shutil.which(it):
+            print(f"skipped: this machine has no {it}", flush=True)
     return cases.end()
 
 

@@ -74,7 +74,7 @@ def by_h264(cases, program):
         subprocess.run(["sh", "-c", f"ffmpeg -v error {lavfi} {lossless} {first}"], check=True, timeout=120)
         edited = f"ffmpeg -v error -i {first} -f yuv4mpegpipe - | {program} {FILL} | ffmpeg -v error -i -"
         subprocess.run(["sh", "-c", f"{edited} {lossless} {last}"], check=True, timeout=120)
-        subprocess.run(["sh", "-c", f"{edited} -i {first} -map 0:v -map 1:a? -c:a copy {lossless} {loud}"], check=True, timeout=120)
+        subprocess.run(["sh", "-c", f"{edited} -i {first} -map 0:v -map '1:a?' -map_metadata -1 -map_chapters -1 -c:a copy {lossless} {loud}"], check=True, timeout=120)
         (given, line), (found, found_line), (heard, heard_line) = decoded(first), decoded(last), decoded(loud)
         cases.count("the sound goes beside the pipe", heard[heard_line:] == found[found_line:] and sound(loud) == sound(first))
     cases.count("H.264 goes through the pipe", found[found_line:] == wanted(given, FILL.split())[0][line:])
