@@ -22,6 +22,7 @@ import sys
 
 from processes import end_on_signals, run_to_end
 from program import built, say
+from version import VERSION
 from workspace import ROOT, crates, held, is_fresh, room
 
 NAME, KIND = "imgref_c", "wasm64"
@@ -59,15 +60,15 @@ class Failure(Exception):
     """What can't be built, and why."""
 
 
-def bundled(name, done):
+def bundled(name, done, sources):
     """A module of web/ after those that it imports, without the words `import` and `export`."""
     if name in done:
         return ""
     done.add(name)
     if name == "module.js":
         return f'const MODULE = "{packed((OUT / MODULE).read_bytes())}";\n\n'
-    text = (SOURCES / name).read_text()
-    before = "".join(bundled(it, done) for it in IMPORT.findall(text))
+    text = (sources / name).read_text()
+    before = "".join(bundled(it, done, sources) for it in IMPORT.findall(text))
     own = re.sub(r"(?m)^export ", "", IMPORT.sub("", text)).strip()
     return f"{before}{own}\n\n"
 
@@ -129,9 +130,9 @@ def make_module():
         (OUT / MODULE).write_bytes(without_names((folder / "out" / f"{NAME}.wasm").read_bytes()))
 
 
-def sheet(name):
+def sheet(name, sources):
     """A style sheet of web/."""
-    return SPACE.sub(r"\1", slim((SOURCES / name).read_text()))
+    return SPACE.sub(r"\1", slim((sources / name).read_text()))
 
 
 def sum_of(text):
@@ -139,27 +140,28 @@ def sum_of(text):
     return f"'sha256-{base64.b64encode(hashlib.sha256(text.encode()).digest()).decode()}'"
 
 
-def inner(name):
+def inner(name, sources):
     """A page of web/ with its script and styles in it, and these texts."""
-    text = slim((SOURCES / name).read_text())
-    script = slim(bundled(SCRIPT.search(text)[1], set()))
+    text = slim((sources / name).read_text())
+    script = slim(bundled(SCRIPT.search(text)[1], set(), sources))
     if re.search(r"</script|<!--", script):
         raise Failure(f"the script of {name} has a mark of HTML")
-    styles = "".join(map(sheet, STYLE.findall(text)))
+    styles = "".join(sheet(it, sources) for it in STYLE.findall(text))
     text = SCRIPT.sub(lambda _: f'<script type="module">{script}</script>', text)
     text = STYLE.sub("", text).replace("</title>", f"</title>\n<style>{styles}</style>", 1)
     return text, script, styles
 
 
-def page(name, other, goes):
+def page(name, other, goes, sources=SOURCES):
     """A page as a browser loads it."""
-    text, script, styles = inner(name)
-    frame, around = slim((SOURCES / "frame.html").read_text()), sheet("frame.css")
-    own = re.search(r"<script>(.*)</script>", frame)[1]
+    text, script, styles = inner(name, sources)
+    frame, around = slim((sources / "frame.html").read_text()), sheet("frame.css", sources)
+    own = re.search(r"<script>(.*)</script>", frame, re.DOTALL)[1]
     policy = POLICY.format(
         scripts=f"{sum_of(script)} {sum_of(own)}", styles=f"{sum_of(styles)} {sum_of(around)}"
     )
     values = {
+        "VERSION": VERSION,
         "TITLE": re.search("<title>(.*)</title>", text)[1], "CLAIM": CLAIM, "POLICY": policy,
         "STYLE": around, "OTHER": other, "GOES": goes, "PAGE": html.escape(text).replace("&#x27;", "'"),
     }

@@ -3,7 +3,7 @@
 import { find } from "./common.js";
 import { FIELDS } from "./list.js";
 import { PicturePage } from "./picture.js";
-import { colourOf } from "./tools.js";
+import { colourOf, toolOf } from "./tools.js";
 
 /** Starts the page over a library. */
 export function startPicture(library) {
@@ -18,15 +18,16 @@ export function startPicture(library) {
   on("next-picture", "click", () => page.opener.next());
   on("undo", "click", () => page.undo());
   on("redo", "click", () => page.redo());
-  on("save", "click", () => page.saver.save());
+  on("save", "click", () => page.saver.preview());
+  on("hand", "click", () => page.saver.hand());
   on("copy-picture", "click", () => page.saver.copy());
   on("format", "change", ({ target }) => { find("of-jpeg").hidden = target.value !== "jpeg"; });
   on("add", "click", () => page.addInMiddle());
   on("remove", "click", () => page.remove(page.selected));
   on("apply", "click", () => page.applyText());
   on("copy", "click", () => page.copyText());
-  // (a tool is for what is drawn next: no drag moves an earlier rectangle then)
-  on("tools", "change", ({ target }) => (target.name === "tool" ? page.select(-1) : page.render()));
+  // (a tool is for what is drawn next: no key changes an earlier rectangle then)
+  on("tools", "change", ({ target }) => (target.name === "tool" && toolOf() !== "select" ? page.select(-1) : page.render()));
   on("selected", "change", ({ target }) => changeField(page, target));
   on("smaller", "click", () => view.step(-1));
   on("larger", "click", () => view.step(1));
@@ -69,28 +70,38 @@ function changeField(page, field) {
     page.say(`The ${field.dataset.name ?? name} is no whole number from 0 on. Nothing has changed.`, true);
     return page.render();
   }
-  return page.change(page.selected, { [name]: value, ...own });
+  return page.changeSeen({ [name]: value, ...own });
 }
 
-/** What each key does: with Ctrl, and alone. */
+/** What each key does: to the selected rectangle, with Ctrl, and alone. */
 function keys(page, event) {
-  const { view } = page.stage, key = event.key.toLowerCase();
-  const isText = event.target.matches("textarea, select, input:not([type=radio], [type=checkbox])");
+  const { view } = page.stage, key = event.key.toLowerCase(), { target } = event;
+  const isText = target.matches("textarea, select, input:not([type=radio], [type=checkbox])");
+  // (arrow keys in the choice of a tool choose one)
+  const isChoice = target.matches("[type=radio]") && key.startsWith("arrow");
   const withControl = {
     o: () => find("file").click(),
-    s: () => page.saver.save(),
+    s: () => page.saver.preview(),
     z: isText ? null : () => (event.shiftKey ? page.redo() : page.undo()),
     y: isText ? null : () => page.redo(),
   };
   const alone = {
     "+": () => view.step(1), "=": () => view.step(1), "-": () => view.step(-1),
     "0": () => view.fit(), "1": () => view.zoomTo(1),
-    escape: () => (page.stage.drag ? page.stage.cancel() : page.select(-1)),
+    escape: () => (page.stage.drag ? page.stage.cancel() : page.leave()),
   };
-  const isControl = event.ctrlKey || event.metaKey, isOpen = find("ask").open;
+  const isControl = event.ctrlKey || event.metaKey, isOpen = document.querySelector("dialog[open]");
   const act = isControl ? withControl[key] : isText || event.altKey ? null : alone[key];
-  if (act && !isOpen && (page.pixels || key === "o")) {
+  const isDrag = page.stage.drag && key !== "escape";
+  if (isOpen || isDrag) {
+    // (the browser's own Ctrl+S would save the page)
+    return isControl && key === "s" && event.preventDefault();
+  }
+  if (!isText && !isChoice && !event.altKey && page.stage.key(event)) {
+    event.preventDefault();
+  } else if (act && (page.pixels || key === "o")) {
     event.preventDefault();
     act();
   }
+  return undefined;
 }

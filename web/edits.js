@@ -52,6 +52,31 @@ export function covers(edit) {
   return ["fill", "brush"].includes(edit.word) || isMosaic(edit);
 }
 
+/** The rectangles that a cover fills. */
+export function partsOf(edit) {
+  return edit.parts ?? [edit];
+}
+
+/** What of a rectangle is inside another one, or null. */
+export function common(one, other) {
+  const [left, top] = [Math.max(one.left, other.left), Math.max(one.top, other.top)];
+  const width = Math.min(one.left + one.width, other.left + other.width) - left;
+  const height = Math.min(one.top + one.height, other.top + other.height) - top;
+  return width > 0 && height > 0 ? { left, top, width, height } : null;
+}
+
+/** Whether a rectangle has all pixels of another one. */
+export function contains(outer, inner) {
+  const both = common(outer, inner);
+  return both !== null && both.width === inner.width && both.height === inner.height;
+}
+
+/** Whether a pixel of a cover is in the saved file: a crop may leave all of them out. */
+export function isInFile(edit, edits) {
+  const crop = edits.find((it) => it.word === "crop");
+  return !crop || partsOf(edit).some((it) => common(it, crop));
+}
+
 /** Why a cover would hide nothing at all, or a crop leave nothing: else no words. */
 export function futility(edit) {
   const isCrop = edit.word === "crop";

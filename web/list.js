@@ -3,7 +3,7 @@
 import { find } from "./common.js";
 import { textOf } from "./edits.js";
 import { isOnStage } from "./stage.js";
-import { isMosaic, weakness } from "./tile.js";
+import { isMosaic, showsPixels, weakness } from "./tile.js";
 import { wordsOf } from "./words.js";
 
 /** The field of each number of an edit. */
@@ -17,7 +17,7 @@ const KINDS = ["fill", "mosaic", "crop"];
 const MOST_LETTERS = 60;
 
 /** Shows the edits. Their lines stay the same elements, so that the keys stay with one. */
-export function renderList(edits, selected, picture, select) {
+export function renderList(edits, selected, picture, seen, select) {
   const list = find("edits");
   while (list.children.length > edits.length) {
     list.lastChild.remove();
@@ -27,8 +27,8 @@ export function renderList(edits, selected, picture, select) {
   }
   edits.forEach((edit, index) => {
     const button = list.children[index].firstChild, [words, weak, text] = button.children;
-    words.textContent = wordsOf(edit);
-    weak.textContent = weakness(edit, picture) ? "Small tiles: may be read" : "";
+    words.textContent = wordsOf(seen(edit));
+    weak.textContent = showsPixels(edit) ? "Shows single pixels" : weakness(edit, picture) ? "Small tiles: may be read" : "";
     text.textContent = shortened(textOf(edit));
     button.setAttribute("aria-pressed", index === selected);
   });
@@ -48,12 +48,28 @@ function shortened(text) {
   return first.slice(0, MOST_LETTERS) + (count ? ` and ${count} more` : "");
 }
 
-/** Shows the fields of an edit, its warning, and what it can be changed to. */
-export function renderSelected(edit, picture, changeKind) {
+/** Shows which covers are no longer what they were, each with a button that brings it back. */
+export function renderLosses(list, losses, bringBack) {
+  list.replaceChildren(...losses.map((loss) => {
+    const line = document.createElement("li"), button = document.createElement("button");
+    line.append(loss.words);
+    if (loss.form) {
+      button.textContent = "Bring it back";
+      button.setAttribute("aria-label", `Bring it back: ${loss.words}`);
+      button.addEventListener("click", () => bringBack(loss));
+      line.append(" ", button);
+    }
+    return line;
+  }));
+}
+
+/** Shows the fields of an edit as it is seen, its warning, and what it can be changed to. */
+export function renderSelected(edit, picture, seen, changeKind) {
   const canChange = edit && isOnStage(edit), kind = edit && isMosaic(edit) ? "mosaic" : edit?.word;
+  const numbers = seen(edit);
   find("selected").disabled = !edit;
   for (const [name, id] of Object.entries(FIELDS)) {
-    find(id).value = edit?.[name] ?? "";
+    find(id).value = numbers?.[name] ?? "";
     find(id).disabled = !canChange;
   }
   document.querySelectorAll("[data-of]").forEach((it) => { it.hidden = it.dataset.of !== kind; });
@@ -65,7 +81,7 @@ export function renderSelected(edit, picture, changeKind) {
   const kinds = canChange ? KINDS.filter((it) => it !== kind) : [];
   find("changes").replaceChildren(...kinds.map((word) => {
     const button = document.createElement("button");
-    button.textContent = `Change '${wordsOf(edit)}' to a ${word}`;
+    button.textContent = `Change '${wordsOf(numbers)}' to a ${word === "mosaic" ? "mosaic of means" : word}`;
     button.dataset.word = word;
     button.addEventListener("click", () => changeKind(word));
     return button;

@@ -72,6 +72,8 @@ export class Opener {
   take(name, bitmap, found) {
     const { page } = this;
     page.forget();
+    // (a name that a person wanted for one picture may be too much for the next)
+    find("keep-name").checked = false;
     const { top } = page.library;
     try {
       const pixels = new Pixels(page.library, bitmap.width, bitmap.height);

@@ -71,6 +71,36 @@ export class Turned {
     return this.step([x - this.corner[0], y - this.corner[1]]);
   }
 
+  /** Whether columns of the picture are rows on the screen. */
+  get isQuarter() {
+    return this.steps[0] === 0;
+  }
+
+  /** An edit with its numbers as they are seen. */
+  seen(edit) {
+    return this.renumbered(edit, (it) => this.onScreen(it));
+  }
+
+  /** An edit as it is in the picture, from its numbers as they are seen. */
+  unseen(edit) {
+    return this.renumbered(edit, (it) => this.inPicture(it));
+  }
+
+  renumbered(edit, turned) {
+    const { x, y, width, height, tileWidth, tileHeight } = edit, made = { ...edit };
+    if (width !== undefined) {
+      Object.assign(made, turned(edit));
+    }
+    if (x !== undefined) {
+      const { left, top } = turned({ left: x, top: y, width, height });
+      Object.assign(made, { x: left, y: top });
+    }
+    if (tileWidth !== undefined && this.isQuarter) {
+      Object.assign(made, { tileWidth: tileHeight, tileHeight: tileWidth });
+    }
+    return made;
+  }
+
   /** A rectangle of the screen as one of the picture. */
   inPicture({ left, top, width, height }) {
     return between(this.place([left, top]), this.place([left + width, top + height]));

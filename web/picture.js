@@ -2,10 +2,11 @@
 
 import { find } from "./common.js";
 import { BadEdit, covers, editsOf, futility, resizes, textOf, withEdit } from "./edits.js";
+import { BY_TEXT, known, lossesOf, lostAfter, recognized, settled } from "./losses.js";
 import { Opener } from "./open.js";
-import { orients, shortest, turnOf } from "./orientation.js";
+import { Turned, orientationOf, orients, shortest, turnOf } from "./orientation.js";
 import { Saver } from "./save.js";
-import { renderList, renderSelected } from "./list.js";
+import { renderList, renderLosses, renderSelected } from "./list.js";
 import { Stage } from "./stage.js";
 import { isMosaic, tileSide, weakness } from "./tile.js";
 import { colourOf, renderTools, toolOf } from "./tools.js";
@@ -15,10 +16,9 @@ import { coversInWords } from "./words.js";
 const TOGETHER = 1000;
 const LATE =
   "Note: a move comes before a fill or a mosaic. It may carry pixels out of what is covered.";
-const SEEN_AGAIN = "Done. What this cover hid before, and doesn't now, may be seen again.";
 const HOLD_STILL = "Hold a finger still for a moment, then draw. Two fingers zoom.";
 const FOR_A_PICTURE = [
-  "save", "add", "apply", "copy", "copy-picture", "smaller", "larger", "fit", "actual", "turn-left", "turn-right", "mirror",
+  "save", "add", "apply", "copy", "smaller", "larger", "fit", "actual", "turn-left", "turn-right", "mirror",
 ];
 
 /** What a person sees and does on the page. */
@@ -27,7 +27,7 @@ export class PicturePage {
     this.library = library;
     this.forget();
     this.stage = new Stage({
-      draw: (it) => this.add(it),
+      draw: (it) => this.draw(it),
       change: (index, it, by) => this.change(index, it, by),
       select: (index) => this.select(index),
       remove: (index) => this.remove(index),
@@ -40,7 +40,8 @@ export class PicturePage {
   /** No picture, and no edits. */
   forget() {
     this.pixels?.end();
-    Object.assign(this, { pixels: null, edits: [], past: [], future: [], selected: -1, byKeys: -Infinity, kept: "" });
+    Object.assign(this, { pixels: null, edits: [], lost: [], losses: [], past: [], future: [] });
+    Object.assign(this, { selected: -1, byKeys: -Infinity, kept: "" });
   }
 
   say(text, isProblem = false) {
@@ -58,8 +59,15 @@ export class PicturePage {
     return this.edits.map((it) => `${textOf(it)}\n`).join("");
   }
 
+  /** What is seen: rectangles as they are on the screen. */
+  get turned() {
+    return this.stage.view.turned;
+  }
+
+  // (`how` says what happened to a cover that they lack)
+
   /** Shows other edits, and keeps the old ones for undo. Whether they can be carried out. */
-  commit(edits, by = "") {
+  commit(edits, { by = "", how = "deleted" } = {}) {
     const began = performance.now();
     if (!this.show(edits)) {
       return false;
@@ -67,10 +75,13 @@ export class PicturePage {
     const isTogether = by === "keys" && began - this.byKeys < TOGETHER;
     this.byKeys = by === "keys" ? began : -Infinity;
     if (!isTogether) {
-      this.past.push(this.edits);
+      this.past.push({ edits: this.edits, lost: this.lost });
     }
     // (from here on the number of an edit is its line)
-    [this.edits, this.future] = [edits.map((it) => ({ ...it, line: undefined })), []];
+    const next = known(edits.map((it) => ({ ...it, line: undefined })));
+    this.lost = lostAfter(this.lost, this.edits, next, how);
+    [this.edits, this.future] = [next, []];
+    this.compare();
     this.selected = Math.min(this.selected, edits.length - 1);
     this.render();
     return true;
@@ -86,17 +97,44 @@ export class PicturePage {
       this.say(why.message, true);
       return false;
     }
-    const late = edits.findIndex((it) => it.word === "move");
-    const isLate = late >= 0 && edits.slice(late).some(covers);
-    this.say(isLate ? LATE : "Done.");
+    this.say("Done.");
     return true;
   }
 
+  /** Finds which covers are no longer what they were, and a move that may carry pixels out of a cover. */
+  compare() {
+    const late = this.edits.findIndex((it) => it.word === "move");
+    const isLate = late >= 0 && this.edits.slice(late).some(covers);
+    const turned = new Turned(orientationOf(this.edits), this.pixels.width, this.pixels.height);
+    this.losses = [...lossesOf(this.edits, this.lost, (it) => turned.seen(it)), ...(isLate ? [{ words: LATE }] : [])];
+  }
+
+  /** The losses in words, for a line of text. */
+  get lossesInWords() {
+    return this.losses.map((it) => it.words).join(" ");
+  }
+
+  /** Brings a cover back to what it was. */
+  bringBack({ id, form, index, isThere }) {
+    const edit = { ...form, id };
+    this.selected = -1;
+    const place = Math.min(index, withEdit(this.edits, edit).index);
+    if (this.commit(isThere ? this.edits.with(index, edit) : this.edits.toSpliced(place, 0, edit))) {
+      this.say("It is back.");
+    }
+  }
+
+  /** The edits are with the browser as a file: from here on each cover is what it is now. */
+  settle() {
+    [this.edits, this.lost, this.kept] = [settled(this.edits), [], this.text];
+  }
+
   step(from, to) {
-    if (from.length > 0 && this.show(from.at(-1))) {
-      to.push(this.edits);
-      this.edits = from.pop();
-      [this.selected, this.byKeys] = [-1, -Infinity];
+    if (from.length > 0 && this.show(from.at(-1).edits)) {
+      to.push({ edits: this.edits, lost: this.lost });
+      Object.assign(this, from.pop());
+      [this.selected, this.byKeys] = [this.stage.withKeys(this.edits), -Infinity];
+      this.compare();
       this.render();
       this.say(from === this.past ? "Undone." : "Redone.");
     }
@@ -132,29 +170,38 @@ export class PicturePage {
     }
   }
 
-  /** Adds what was drawn. */
+  /** Adds an edit at a rectangle or along a stroke, and returns its index. */
   add(shape, word) {
     const edit = this.made(shape, word), why = futility(edit);
     if (why) {
-      return this.say(why, true);
+      this.say(why, true);
+      return -1;
     }
     const { edits, index } = withEdit(this.edits, edit);
-    if (this.commit(edits)) {
-      this.select(index);
-      const weak = weakness(edit, this.pixels);
-      if (weak) {
-        this.say(weak, true);
-      }
+    if (!this.commit(edits)) {
+      return -1;
     }
+    const weak = weakness(edit, this.pixels);
+    if (weak) {
+      this.say(weak, true);
+    }
+    return index;
+  }
+
+  /** Adds what was drawn. Nothing is selected then: so no key changes it. */
+  draw(shape) {
+    this.add(shape);
+    this.select(-1);
   }
 
   /** Adds a rectangle in the middle, and gives the keys to it. */
   addInMiddle() {
     const { width, height } = this.pixels;
     const [wide, high] = [Math.ceil(width / 4), Math.ceil(height / 4)];
-    const word = toolOf() === "brush" ? "fill" : toolOf();
-    this.add({ left: (width - wide) >> 1, top: (height - high) >> 1, width: wide, height: high }, word);
-    this.stage.focus(this.selected);
+    const word = ["brush", "select"].includes(toolOf()) ? "fill" : toolOf();
+    const index = this.add({ left: (width - wide) >> 1, top: (height - high) >> 1, width: wide, height: high }, word);
+    this.select(index);
+    this.stage.focus(index);
   }
 
   /** Gives an edit another rectangle, colour or tile. */
@@ -166,12 +213,19 @@ export class PicturePage {
     if (why) {
       this.say(why, true);
     } else if (textOf(edit) !== textOf(this.edits[index])) {
-      const old = this.edits[index];
-      if (this.commit(this.edits.with(index, edit), by) && covers(old) && !contains(edit, old)) {
-        this.say(SEEN_AGAIN);
+      const isDone = this.commit(this.edits.with(index, edit), { by });
+      const loss = this.losses.find((it) => it.isThere && it.index === index);
+      if (isDone && loss) {
+        this.say(loss.words);
       }
     }
     this.render();
+  }
+
+  /** Gives the selected edit other numbers, as they are seen. */
+  changeSeen(values) {
+    const edit = this.edits[this.selected];
+    this.change(this.selected, this.turned.unseen({ ...this.turned.seen(edit), ...values }));
   }
 
   /** Turns or mirrors the whole picture, after all that its list has. */
@@ -182,13 +236,15 @@ export class PicturePage {
 
   /** Makes the selected rectangle a cover or a crop of another kind. */
   changeKind(word) {
-    const { selected } = this, old = this.edits[selected], edit = this.made(old, word), why = futility(edit);
+    const { selected } = this, old = this.edits[selected], why = futility(this.made(old, word));
+    // (it stays the same cover)
+    const edit = { ...this.made(old, word), id: old.id, drawn: old.drawn };
     const others = this.edits.toSpliced(selected, 1);
     const { edits, index } = resizes(edit) || resizes(old)
       ? withEdit(others, edit) : { edits: others.toSpliced(selected, 0, edit), index: selected };
     if (why) {
       this.say(why, true);
-    } else if (this.commit(edits)) {
+    } else if (this.commit(edits, { how: `changed to a ${word}` })) {
       this.selected = index;
     }
     this.render();
@@ -196,20 +252,42 @@ export class PicturePage {
 
   remove(index) {
     this.selected = -1;
-    this.commit(this.edits.toSpliced(index, 1));
+    if (this.commit(this.edits.toSpliced(index, 1))) {
+      this.sayLast();
+    }
+  }
+
+  /** Says which cover was lost last. */
+  sayLast() {
+    const loss = this.losses.findLast((it) => it.id !== undefined && !it.isThere);
+    if (loss) {
+      this.say(loss.words);
+    }
   }
 
   select(index) {
+    if (index !== this.selected) {
+      // (keys on another rectangle are undone by themselves)
+      this.byKeys = -Infinity;
+    }
     this.selected = this.edits[index] ? index : -1;
     this.render();
+  }
+
+  /** Selects nothing, and takes the keys from a rectangle. */
+  leave() {
+    if (this.stage.overlay.contains(document.activeElement)) {
+      this.stage.stage.focus({ preventScroll: true });
+    }
+    this.select(-1);
   }
 
   /** The edits of the text in the place of the present ones. */
   applyText() {
     try {
-      const edits = editsOf(find("text").value, this.pixels, this.edits);
+      const edits = recognized(editsOf(find("text").value, this.pixels, this.edits), this.edits);
       this.selected = -1;
-      this.commit(edits);
+      this.commit(edits, { how: BY_TEXT });
     } catch (why) {
       if (!(why instanceof BadEdit)) {
         throw why;
@@ -230,22 +308,18 @@ export class PicturePage {
 
   render() {
     const { edits, selected, pixels } = this;
-    this.stage.render(edits, selected);
+    this.stage.render(edits, selected, edits.filter((it) => isMosaic(it) && weakness(it, pixels)));
     find("undo").disabled = this.past.length === 0;
     find("redo").disabled = this.future.length === 0;
     for (const it of FOR_A_PICTURE) {
       find(it).disabled = !pixels;
     }
     renderTools(pixels);
-    renderList(edits, selected, pixels, (index) => this.select(index));
-    renderSelected(edits[selected], pixels, (word) => this.changeKind(word));
+    const seen = (edit) => edit && this.turned.seen(edit);
+    renderList(edits, selected, pixels, seen, (index) => this.select(index));
+    renderSelected(edits[selected], pixels, seen, (word) => this.changeKind(word));
     find("covers").textContent = pixels ? coversInWords(edits) : "";
+    renderLosses(find("losses"), this.losses, (it) => this.bringBack(it));
     find("text").value = this.text;
   }
-}
-
-/** Whether a rectangle has all pixels of another one. */
-function contains(outer, inner) {
-  return outer.left <= inner.left && outer.left + outer.width >= inner.left + inner.width
-    && outer.top <= inner.top && outer.top + outer.height >= inner.top + inner.height;
 }

@@ -11,6 +11,8 @@ import { wordsOf } from "./words.js";
 const CORNERS = ["left top", "right top", "left bottom", "right bottom"];
 // How far a pointer goes before it draws, and how wide a brush is on the screen.
 const SLACK = 4, BRUSH = 24;
+// How large a number on the picture is.
+const NUMBER_SIZE = 18;
 const ARROWS = { ArrowLeft: [-1, 0], ArrowRight: [1, 0], ArrowUp: [0, -1], ArrowDown: [0, 1] };
 
 /** Whether an edit has a rectangle that can be moved on the picture. */
@@ -19,9 +21,11 @@ export function isOnStage(edit) {
 }
 
 export class Stage {
+  // (with the tool `select` a drag moves or resizes a rectangle; with every other one it draws, wherever it begins)
+
   /** The `acts` are called with what a person does: `draw`, `change`, `select`, `remove`, `swipe`. `tool` gives the tool. */
   constructor(acts, tool) {
-    Object.assign(this, { acts, tool, drag: null, edits: [], selected: -1 });
+    Object.assign(this, { acts, tool, drag: null, edits: [], selected: -1, warned: [] });
     for (const it of ["stage", "frame", "canvas", "overlay", "drop"]) {
       this[it] = find(it);
     }
@@ -31,7 +35,6 @@ export class Stage {
       begin: (event) => this.press(event), move: (event) => this.pull(event),
       end: (event) => this.release(event), cancel: () => this.cancel(), swipe: () => acts.swipe(),
     });
-    this.overlay.addEventListener("keydown", (event) => this.key(event));
     this.overlay.addEventListener("focusin", (event) => this.acts.select(indexOf(event.target)));
   }
 
@@ -59,10 +62,11 @@ export class Stage {
     }
   }
 
-  /** Draws the rectangles of these edits, one of them as the selected one. */
-  render(edits, selected) {
-    [this.edits, this.selected] = [edits, selected];
+  /** Draws the rectangles of these edits, one of them as the selected one. Some of them have their numbers on the picture. */
+  render(edits, selected, warned = this.warned) {
+    Object.assign(this, { edits, selected, warned });
     this.view.orient(orientationOf(edits));
+    this.overlay.classList.toggle("selecting", this.tool() === "select");
     const groups = [...this.overlay.querySelectorAll("g:not(.draft)")];
     groups.slice(edits.length).forEach((it) => it.remove());
     edits.forEach((edit, index) => {
@@ -70,16 +74,27 @@ export class Stage {
       const isShown = isOnStage(edit) || (edit.word === "brush" && index === selected);
       group.style.display = isShown ? "" : "none";
       group.setAttribute("class", `${edit.word}${index === selected ? " selected" : ""}`);
-      group.setAttribute("aria-label", `${wordsOf(edit)}, rectangle ${index + 1}`);
+      group.setAttribute("aria-label", `${wordsOf(this.view.turned.seen(edit))}, rectangle ${index + 1}`);
       if (isShown) {
         this.place(group, edit);
+        this.number(group.querySelector("text"), edit, warned.includes(edit) ? index + 1 : "");
       }
+    });
+  }
+
+  /** Puts a number in the middle of a rectangle, upright on the screen. */
+  number(text, { left, top, width, height }, words) {
+    const [a, b, c, d] = this.view.turned.steps;
+    text.textContent = words;
+    setAll(text, {
+      transform: `translate(${left + width / 2} ${top + height / 2}) matrix(${a} ${c} ${b} ${d} 0 0)`,
+      "font-size": NUMBER_SIZE / this.scale, "stroke-width": NUMBER_SIZE / 4 / this.scale,
     });
   }
 
   place(group, rectangle) {
     const { left, top, width, height } = rectangle;
-    const [under, over, dim, , ...handles] = group.children;
+    const [under, over, dim] = group.children, handles = group.querySelectorAll(".handle");
     for (const it of [under, over]) {
       setAll(it, { x: left, y: top, width, height });
     }
@@ -117,30 +132,36 @@ export class Stage {
     return between(begin, end);
   }
 
+  /** The edit under a pointer, and its corner where the pointer is on it. Of several it is the selected one, else the last. */
+  under(event) {
+    const all = document.elementsFromPoint(event.clientX, event.clientY).filter((it) => it.closest("#overlay g:not(.draft)"));
+    const own = all.find((it) => it.dataset.corner) ?? all.find((it) => indexOf(it) === this.selected) ?? all[0];
+    return own ? { index: indexOf(own), corner: own.dataset.corner } : { index: -1 };
+  }
+
   press(event) {
-    const target = event.target.closest("g"), index = target ? indexOf(target) : -1;
-    const corner = event.target.dataset.corner, from = this.at(event);
-    this.drag = { target, index, corner, from, places: [from], screen: [event.clientX, event.clientY] };
-    // (only the rectangle that is selected already is moved: elsewhere a drag draws)
+    const { index, corner } = this.under(event), from = this.at(event);
+    this.drag = { tool: this.tool(), index, from, places: [from], screen: [event.clientX, event.clientY] };
     this.overlay.classList.add("drawing");
-    if (target && index === this.selected && (corner || this.tool() !== "brush")) {
-      target.focus();
-      this.drag.group = target;
-      this.drag.old = this.edits[index];
+    // (the keys go to what is selected, and not to a button that was pressed before)
+    this.stage.focus({ preventScroll: true });
+    if (this.drag.tool === "select" && index >= 0) {
+      this.acts.select(index);
+      Object.assign(this.drag, { corner, old: this.edits[index], group: this.groupOf(index) });
     }
   }
 
   pull(event) {
     const { drag } = this;
     const far = drag && Math.hypot(event.clientX - drag.screen[0], event.clientY - drag.screen[1]);
-    if (!drag || (!drag.now && far < SLACK)) {
+    if (!drag || (!drag.now && far < SLACK) || (drag.tool === "select" && !drag.old)) {
       return;
     }
     if (!drag.group) {
       drag.group = newGroup(this.overlay, -1);
       drag.group.setAttribute("class", "draft");
     }
-    if (!drag.old && this.tool() === "brush") {
+    if (drag.tool === "brush") {
       this.paint(drag, event);
       return;
     }
@@ -184,7 +205,7 @@ export class Stage {
 
   release(event) {
     this.pull(event);
-    if (this.drag && !this.drag.now && !this.drag.target && this.tool() === "brush") {
+    if (this.drag?.tool === "brush" && !this.drag.now) {
       this.drag.group = newGroup(this.overlay, -1);
       this.paint(this.drag, event);
     }
@@ -199,10 +220,9 @@ export class Stage {
       }
     } else if (drag?.now) {
       this.acts.draw(drag.now);
-    } else if (drag?.target) {
-      drag.target.focus();
     } else if (drag) {
-      this.acts.select(-1);
+      // (a click selects what is there, and draws nothing)
+      this.acts.select(drag.index);
     }
   }
 
@@ -219,32 +239,37 @@ export class Stage {
     return drag;
   }
 
+  /** What a key does to the selected rectangle: whether it does anything. */
   key(event) {
-    const index = indexOf(event.target), edit = this.edits[index], arrow = ARROWS[event.key];
-    if (!edit) {
-      return;
+    const { selected } = this, edit = this.edits[selected], arrow = ARROWS[event.key];
+    if (edit && (event.key === "Delete" || event.key === "Backspace")) {
+      this.stage.focus({ preventScroll: true });
+      this.acts.remove(selected);
+      return true;
     }
-    if (event.key === "Delete" || event.key === "Backspace") {
-      this.acts.remove(index);
-      // (or the keys would be with the next rectangle)
-      this.stage.focus();
-    } else if (event.key === "Escape") {
-      event.target.blur();
-      return;
-    } else if (arrow) {
-      const [dx, dy] = arrow.map((it) => it * (event.ctrlKey || event.metaKey ? 10 : 1));
-      const { turned } = this.view, moved = event.shiftKey ? resized : shifted;
-      const now = moved(turned.onScreen(edit), dx, dy, turned.width, turned.height);
-      this.acts.change(index, turned.inPicture(now), "keys");
-    } else {
-      return;
+    if (!edit || !arrow || !isOnStage(edit)) {
+      return false;
     }
-    event.preventDefault();
+    const [dx, dy] = arrow.map((it) => it * (event.ctrlKey || event.metaKey ? 10 : 1));
+    const { turned } = this.view, moved = event.shiftKey ? resized : shifted;
+    const now = moved(turned.onScreen(edit), dx, dy, turned.width, turned.height);
+    this.acts.change(selected, turned.inPicture(now), "keys");
+    return true;
+  }
+
+  groupOf(index) {
+    return this.overlay.querySelectorAll("g:not(.draft)")[index];
+  }
+
+  /** The index of the rectangle that has the keys, where these edits have one, or -1. */
+  withKeys(edits) {
+    const index = this.overlay.contains(document.activeElement) ? indexOf(document.activeElement) : -1;
+    return edits[index] && isOnStage(edits[index]) ? index : -1;
   }
 
   /** Gives the keys to a rectangle. */
   focus(index) {
-    this.overlay.querySelectorAll("g:not(.draft)")[index]?.focus();
+    this.groupOf(index)?.focus();
   }
 }
 
@@ -254,6 +279,7 @@ function newGroup(overlay, index) {
   addDrawn(group, "rect", { class: "over" });
   addDrawn(group, "path", { class: "dim", "fill-rule": "evenodd" });
   addDrawn(group, "path", { class: "uncovers" });
+  addDrawn(group, "text", { class: "number" });
   CORNERS.forEach((it) => addDrawn(group, "rect", { class: "handle", "data-corner": it }));
   return group;
 }

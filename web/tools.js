@@ -1,7 +1,7 @@
 // The tool for what is drawn next, with its fields.
 
 import { find } from "./common.js";
-import { weakness } from "./tile.js";
+import { toolWeakness } from "./tile.js";
 
 const HINTS = {
   fill: "Leaves nothing of what it covers.",
@@ -9,6 +9,7 @@ const HINTS = {
   mosaic: "Keeps the mean of each tile, so a text can be guessed. Use a fill for secrets. "
     + "Without numbers, tiles are an eighth of the rectangle, and at least a fortieth of the picture.",
   crop: "Only what is inside is saved.",
+  select: "Drag a rectangle to move it, or one of its corners. With every other tool each drag draws.",
 };
 
 /** The name of the tool. */
@@ -26,7 +27,7 @@ export function renderTools(picture) {
   const tool = toolOf(), [tileWidth, tileHeight] = ["tile-width", "tile-height"].map(
     (it) => find(it).valueAsNumber || Infinity
   );
-  const weak = picture && weakness({ word: tool, width: 0, height: 0, tileWidth, tileHeight }, picture);
+  const weak = picture && tool === "mosaic" && toolWeakness({ tileWidth, tileHeight }, picture);
   [find("small-tiles").textContent, find("small-tiles").hidden] = [weak || "", !weak];
   find("hint").textContent = HINTS[tool];
   document.querySelectorAll("[data-for]").forEach(

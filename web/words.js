@@ -1,7 +1,7 @@
 // Edits in words, as a person reads them in the list and on buttons.
 
-import { covers } from "./edits.js";
-import { isMosaic } from "./tile.js";
+import { covers, isInFile } from "./edits.js";
+import { isMosaic, showsPixels } from "./tile.js";
 
 const COLOURS = {
   "0,0,0": "Black", "255,255,255": "White", "255,0,0": "Red", "0,255,0": "Green", "0,0,255": "Blue",
@@ -17,7 +17,7 @@ export function wordsOf(edit) {
     case "brush":
       return `${colourName(edit.colour)} brush, within ${place}`;
     case "means":
-      return `Mosaic of ${edit.tileWidth} by ${edit.tileHeight}, ${place}`;
+      return `Mosaic of means, ${edit.tileWidth} by ${edit.tileHeight}, ${place}`;
     case "mosaic":
       return `Mosaic of corners, ${edit.tileWidth} by ${edit.tileHeight}, ${place}`;
     case "move":
@@ -48,13 +48,15 @@ export function plural(count, word) {
 
 /** What the covers of a list hide, before it is saved: mosaics are named by their number in the list. */
 export function coversInWords(edits) {
-  const numbers = edits.flatMap((it, index) => (isMosaic(it) ? [index + 1] : []));
-  const count = edits.filter(covers).length;
-  if (count === 0) {
-    return "Nothing is covered.";
+  const all = edits.filter(covers), inside = all.filter((it) => isInFile(it, edits));
+  const numbers = (is) => edits.flatMap((it, index) => (inside.includes(it) && is(it) ? [index + 1] : []));
+  const named = (words, them) => (them.length ? ` ${words}: ${them.length === 1 ? "mosaic" : "mosaics"} ${them.join(", ")}.` : "");
+  const outside = all.length - inside.length, cut = outside ? ` Outside the crop: ${`${outside}`}.` : "";
+  if (inside.length === 0) {
+    return `Nothing is covered.${cut}`;
   }
-  const unsure = numbers.length === 1 ? `mosaic ${numbers[0]}` : `mosaics ${numbers.join(", ")}`;
-  return `${plural(count, "cover")}. ${numbers.length ? `Not hidden for sure: ${unsure}.` : "All are fills."}`;
+  const hides = named("Not hidden for sure", numbers(isMosaic)) || " All are fills.";
+  return `${plural(inside.length, "cover")}.${hides}${named("Shows single pixels", numbers(showsPixels))}${cut}`;
 }
 
 /** Names with commas, and 'and' before the last. */

@@ -32,7 +32,7 @@ def check_next_tool(page):
     page.choose("mosaic")
     page.count("the choice of a mosaic changes no cover", page.list() == f"{SECRET}\n")
     page.drag((5.5, 25.5), (10, 30), (16.5, 37.5))
-    page.count("the next one is the mosaic", page.list() == f"{SECRET}\nmeans 5,25,12,13 2,2\n")
+    page.count("the next one is the mosaic", page.list() == f"{SECRET}\nmeans 5,25,12,13 7,7\n")
     page.open()
     page.choose("fill")
     page.drag((20.5, 10.5), (30, 15), (39.5, 21.5))
@@ -52,14 +52,30 @@ def check_next_tool(page):
     page.count("another colour of the tool leaves it too", page.list() == f"{SECRET}\n")
     page.browser.change("colour", "#000000")
     page.browser.click("#edits button")
-    wanted = [f"Change 'Black, 20 by 12 at 20, 10' to a {it}" for it in ("mosaic", "crop")]
+    wanted = [f"Change 'Black, 20 by 12 at 20, 10' to a {it}" for it in ("mosaic of means", "crop")]
     page.count("buttons say what they change", page.browser.run(CHANGES) == wanted, page.browser.run(CHANGES))
     page.browser.run("document.querySelector('#changes [data-word=mosaic]').click()")
-    page.count("one of them changes the cover", page.list() == "means 20,10,20,12 2,2\n")
+    page.count("one of them changes the cover", page.list() == "means 20,10,20,12 4,4\n")
     page.browser.run("document.querySelector('#changes [data-word=fill]').click()")
     page.browser.change("own-colour", "#ff0000")
     page.count("a field of the cover gives it a colour", page.list() == "fill 20,10,20,12 255,0,0\n")
     page.choose("fill")
+
+
+def numbers_of(line):
+    """The rectangle of a mosaic's line, and its tile."""
+    return [[int(it) for it in field.split(",")] for field in line.split()[1:3]]
+
+
+def least_tile(size, side):
+    """How many pixels the smallest of the tiles has, which a rectangle of this size cuts."""
+    wide, high = (min([side, *[it % side] * (it % side > 0), it]) for it in size)
+    return wide * high
+
+
+def enough(numbers, side):
+    """The first side from this one on that leaves no tile of fewer than 16 pixels."""
+    return next(it for it in range(side, max(numbers[2:]) + 1) if least_tile(numbers[2:], it) >= 16)
 
 
 def check_tiles(page):
@@ -68,12 +84,14 @@ def check_tiles(page):
     page.open(png.by_chance(width, height, "photo"), width, height)
     page.choose("mosaic")
     page.drag((300, 300), (500, 500), (700, 600))
-    tile = page.list().split()[-1]
-    numbers = [int(it) for it in page.list().split()[1].split(",")]
-    side = max(-(-min(numbers[2:]) // 8), -(-height // 40))
-    page.count("a tile is an eighth of the rectangle", tile == f"{side},{side}" and side > 23)
+    numbers, tile = numbers_of(page.list())
+    side = enough(numbers, max(-(-min(numbers[2:]) // 8), -(-height // 40)))
+    page.count("a tile is an eighth of the rectangle", tile == [side, side] and side > 23, (numbers, tile))
     page.drag((100, 700), (110, 730), (140, 740))
-    page.count("and at least a fortieth of the picture", page.list().split()[-1] == "23,23")
+    numbers, tile = numbers_of(page.list().splitlines()[-1])
+    side = enough(numbers, 23)
+    page.count("and at least a fortieth of the picture", tile == [side, side], (numbers, tile))
+    page.browser.click("#edits li:nth-child(2) button")
     page.count("these get no warning", page.browser.run(WARNING) == "", page.browser.run(WARNING))
     page.browser.change("own-tile-width", "16")
     page.count("smaller ones get a warning", "may be read. Use at least 23 by 23" in page.browser.run(WARNING), page.browser.run(WARNING))
@@ -91,7 +109,8 @@ def check_tiles(page):
     said = page.browser.text("#small-tiles")
     page.count("the tool warns of small tiles", said.startswith("Small tiles: what is below may be read."), said)
     page.drag((800, 100), (900, 150), (1000, 200))
-    page.count("small typed tiles are drawn with a warning", "8,8\n" in page.list() and "may be read" in page.status())
+    is_told = "may be read" in page.status() or "Shows single pixels" in page.status()
+    page.count("small typed tiles are drawn with a warning", "8,8\n" in page.list() and is_told)
     page.browser.change("tile-width", "")
     page.browser.change("tile-height", "")
     page.choose("fill")
@@ -115,20 +134,26 @@ def check_edges(page):
     page.actual(False)
     page.open()
     page.drag((20.5, 10.5), (30, 15), (39.5, 21.5))
+    page.browser.click("#edits button")
     for field, value, said in TYPED:
         page.browser.change(field, value)
         page.count(f"{field} {value or 'empty'} is refused by name", said in page.status() and page.list() == f"{SECRET}\n")
 
 
 def check_moves(page):
-    """Only a selected rectangle moves. While a cover moves, what it uncovers is outlined."""
+    """Only the tool Select moves a rectangle. While a cover moves, what it uncovers is outlined."""
     page.open()
     page.drag((20.5, 10.5), (30, 15), (39.5, 21.5))
-    page.browser.press("Escape")
     page.drag((30.5, 15.5), (33, 18), (35.5, 20.5))
     page.count("a drag inside another cover draws", page.list().startswith(f"{SECRET}\nfill 30,15,"))
     page.browser.run("document.getElementById('undo').click()")
     page.drag((30, 15), (30.01, 15.01))
+    page.drag((30.5, 15.5), (33, 18), (35.5, 20.5))
+    page.count("also inside the one that a click selected", page.list().startswith(f"{SECRET}\nfill 30,15,") and page.is_off("selected"))
+    page.browser.run("document.getElementById('undo').click()")
+    page.choose("select")
+    page.drag((50, 35), (53, 37), (58, 38))
+    page.count("where nothing is, Select does nothing", page.list() == f"{SECRET}\n" and page.is_off("selected"))
     places = page.on_screen((30, 15), (35, 15))
     page.browser.drag(*places, ends=False)
     path = page.browser.run(OUTLINED)
@@ -136,7 +161,7 @@ def check_moves(page):
     page.browser.act([UP])
     path = page.browser.run(OUTLINED)
     page.count("until the pointer is up", path == "" and page.list() == "fill 25,10,20,12 0\n", path)
-    page.count("and said after it", "may be seen again" in page.status())
+    page.count("and said after it", page.status() == "Cover 1 was moved: 60 pixels are shown again.", page.status())
     page.choose("crop")
     page.drag((30.5, 15.5), (33, 18), (35.5, 20.5))
     page.count("another tool draws also there", page.list() == "fill 25,10,20,12 0\ncrop 30,15,6,6\n")
@@ -144,9 +169,11 @@ def check_moves(page):
     page.choose("fill")
     page.browser.run("document.querySelector('#overlay g').focus()")
     page.browser.press("Right")
-    page.count("a move by keys says so too", page.list() == "fill 26,10,20,12 0\n" and "may be seen again" in page.status())
+    said = "Cover 1 was moved: 72 pixels are shown again."
+    page.count("a move by keys says so too", page.list() == "fill 26,10,20,12 0\n" and page.status() == said, page.status())
     page.browser.press("Shift", "Right")
-    page.count("a larger cover shows nothing again", page.list() == "fill 26,10,21,12 0\n" and page.status() == "Done.")
+    said = said.replace("moved", "moved and resized")
+    page.count("a larger one says what is still shown", page.list() == "fill 26,10,21,12 0\n" and page.status() == said, page.status())
 
 
 def segments():
@@ -164,14 +191,16 @@ def check_said(page):
     """Before and after saving, the page says what is covered, and by name what is dropped."""
     page.open(name="passport of Ada 1990.png")
     page.apply(f"{SECRET}\nmosaic 0,0,9,9 4,4\nmosaic 20,25,9,9 4,4")
-    covers = "3 covers. Not hidden for sure: mosaics 2, 3."
+    covers = "3 covers. Not hidden for sure: mosaics 2, 3. Shows single pixels: mosaics 2, 3."
     page.count("before saving it counts covers and names mosaics", page.browser.text("#covers") == covers, page.browser.text("#covers"))
     page.save()
-    page.count("the saved name has no part of the old one", page.status().startswith("Saved covered.png: 60 by 40 pixels. 3 covers."))
+    page.count("the saved name has no part of the old one", " 60 by 40 pixels. 3 covers." in page.status())
     page.browser.click("#keep-name")
     page.save("passport of Ada 1990-covered.png")
-    page.count("unless the person asks", "Saved passport of Ada 1990-covered.png" in page.status())
-    page.browser.click("#keep-name")
+    page.count("unless the person asks", page.status().startswith("passport of Ada 1990-covered.png was handed to your browser."))
+    page.open(name="next.png")
+    page.count("for the next picture that is off again", not page.browser.run("return document.getElementById('keep-name').checked"))
+    page.save()
     page.count("nothing else is in a plain file", "The file held nothing else." in page.status())
     plain = files.in_browser(page, "jpeg")
     more = {name: (bytes([0xFF, kind]) + struct.pack(">H", len(it) + 2) + it) for kind, it, name in segments()}

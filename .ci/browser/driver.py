@@ -1,6 +1,7 @@
-"""A browser by its driver, over the WebDriver protocol, and a server that notes each request.
+"""Browsers: Chromium by its driver, over the WebDriver protocol, and Firefox by its own protocol, Marionette. A server notes
+each request.
 
-It needs Chromium and its driver (Debian: chromium, chromium-driver), and nothing else.
+It needs Chromium and its driver (Debian: chromium, chromium-driver), or Firefox (Debian: firefox-esr), and nothing else.
 """
 import base64
 import contextlib
@@ -10,6 +11,7 @@ import json
 import os
 import pathlib
 import shutil
+import socket
 import subprocess
 import tempfile
 import threading
@@ -36,6 +38,26 @@ FLAGS = (
     # (the frame of the page in the process of its page, so that what the driver emulates holds in it)
     "--disable-features=IsolateSandboxedIframes",
 )
+FIREFOXES = ("firefox-esr", "firefox")
+FIREFOX_FLAGS = ("--headless", "--no-remote", "--marionette", "--remote-allow-system-access")
+# A free port, the folder for files, and nothing that asks, looks for anything or takes the keys from the page.
+FIREFOX_SETTINGS = {
+    "marionette.port": 0, "browser.download.folderList": 2, "browser.download.useDownloadDir": True,
+    "browser.download.always_ask_before_handling_new_types": False, "browser.download.alwaysOpenPanel": False, "browser.shell.checkDefaultBrowser": False,
+    "datareporting.policy.dataSubmissionEnabled": False, "app.update.enabled": False, "app.normandy.enabled": False,
+    "browser.newtabpage.enabled": False, "browser.aboutwelcome.enabled": False, "network.captive-portal-service.enabled": False,
+    "network.connectivity-service.enabled": False, "browser.safebrowsing.downloads.enabled": False, "dom.disable_beforeunload": True,
+    "browser.safebrowsing.malware.enabled": False, "browser.safebrowsing.phishing.enabled": False,
+    "extensions.getAddons.cache.enabled": False, "services.settings.server": "data:,", "toolkit.telemetry.enabled": False,
+}
+# Paths of WebDriver, and the commands of Marionette that do the same.
+FIREFOX_COMMANDS = {
+    "/url": "Navigate", "/frame": "SwitchToFrame", "/execute/sync": "ExecuteScript", "/execute/async": "ExecuteAsyncScript",
+    "/element": "FindElement", "/element/click": "ElementClick", "/element/value": "ElementSendKeys",
+    "/actions": "PerformActions", "/screenshot": "TakeScreenshot",
+}
+DOWNLOADS = """const done = arguments[0], { Downloads } = ChromeUtils.importESModule("resource://gre/modules/Downloads.sys.mjs");
+Downloads.getList(Downloads.ALL).then((it) => it.getAll()).then((all) => done(all.map((it) => [it.target.path, it.succeeded])));"""
 
 
 # How long a finger holds still, in milliseconds.
@@ -53,52 +75,12 @@ def found(names):
     return next(filter(None, map(shutil.which, names)), None)
 
 
-class Browser:
-    """A session of a browser."""
-
-    def __init__(self, driver, program, folder):
-        self.port_file, self.folder, self.next_save = folder / "driver.log", folder, 0
-        self.is_inside = False
-        self.log = open(self.port_file, "w", encoding="utf-8")
-        self.process = subprocess.Popen(
-            [driver, "--port=0"], stdin=subprocess.DEVNULL, stdout=self.log, stderr=self.log
-        )
-        try:
-            self.base = f"http://127.0.0.1:{until(self.port)}"
-            wanted = {"goog:loggingPrefs": {"performance": "ALL", "browser": "ALL"},
-                      "goog:chromeOptions": {"binary": program, "args": list(FLAGS)}}
-            made = self.ask("POST", "/session", {"capabilities": {"alwaysMatch": wanted}})
-            self.base += f"/session/{made['sessionId']}"
-        except BaseException:
-            self.process.kill()
-            raise
-        self.devtools("Browser.setDownloadBehavior", behavior="allow", downloadPath=str(folder))
-
-    def port(self):
-        """The port that the driver chose, which its log says."""
-        words = self.port_file.read_text().split("successfully on port ")
-        return words[1].split(".")[0] if len(words) > 1 else None
-
-    def end(self):
-        with contextlib.suppress(OSError):
-            self.ask("DELETE", "")
-        self.process.terminate()
-        self.process.wait()
-        self.log.close()
+class Session:
+    """What is done in a browser. Its `ask` carries out a command of WebDriver."""
+    is_inside, next_save, folder = False, 0, None
 
     def ask(self, method, path, body=None):
-        data = None if method != "POST" else json.dumps(body or {}).encode()
-        request = urllib.request.Request(
-            f"{self.base}{path}", data, {"Content-Type": "application/json"}, method=method
-        )
-        try:
-            with urllib.request.urlopen(request, timeout=180) as answer:
-                return json.load(answer)["value"]
-        except urllib.error.HTTPError as why:
-            raise RuntimeError(json.load(why)["value"]["message"]) from None
-
-    def devtools(self, command, **values):
-        return self.ask("POST", "/goog/cdp/execute", {"cmd": command, "params": values})
+        raise NotImplementedError
 
     def open(self, url):
         self.ask("POST", "/url", {"url": url})
@@ -178,6 +160,71 @@ class Browser:
     def screenshot(self):
         return base64.b64decode(self.ask("GET", "/screenshot"))
 
+    def saved(self, name, selector):
+        """The bytes of a file that the page saves after a click, and removes it."""
+        time.sleep(max(0, self.next_save - time.monotonic()))
+        self.next_save = time.monotonic() + PACE
+        self.run("document.querySelector(arguments[0]).click()", selector)
+        return self.handed(name)
+
+    def handed(self, name):
+        """The bytes of a file that the page handed to the browser, and removes it."""
+        path, data = until(lambda: self.come(name), f"for {name}")
+        path.unlink()
+        return data
+
+    def come(self, name):
+        """A file of this name, and its bytes. While a browser ends an earlier one, it gives the next one a number too."""
+        stem, _, kind = name.rpartition(".")
+        paths = [self.folder / name, *self.folder.glob(f"{stem} (*).{kind}"), *self.folder.glob(f"{stem}(*).{kind}")]
+        return next(((it, it.read_bytes()) for it in paths if it.exists() and it.stat().st_size > 0), None)
+
+class Browser(Session):
+    """A session of Chromium."""
+
+    def __init__(self, driver, program, folder):
+        self.port_file, self.folder = folder / "driver.log", folder
+        self.log = open(self.port_file, "w", encoding="utf-8")
+        self.process = subprocess.Popen(
+            [driver, "--port=0"], stdin=subprocess.DEVNULL, stdout=self.log, stderr=self.log
+        )
+        try:
+            self.base = f"http://127.0.0.1:{until(self.port)}"
+            wanted = {"goog:loggingPrefs": {"performance": "ALL", "browser": "ALL"},
+                      "goog:chromeOptions": {"binary": program, "args": list(FLAGS)}}
+            made = self.ask("POST", "/session", {"capabilities": {"alwaysMatch": wanted}})
+            self.base += f"/session/{made['sessionId']}"
+        except BaseException:
+            self.process.kill()
+            raise
+        self.devtools("Browser.setDownloadBehavior", behavior="allow", downloadPath=str(folder))
+
+    def port(self):
+        """The port that the driver chose, which its log says."""
+        words = self.port_file.read_text().split("successfully on port ")
+        return words[1].split(".")[0] if len(words) > 1 else None
+
+    def end(self):
+        with contextlib.suppress(OSError):
+            self.ask("DELETE", "")
+        self.process.terminate()
+        self.process.wait()
+        self.log.close()
+
+    def ask(self, method, path, body=None):
+        data = None if method != "POST" else json.dumps(body or {}).encode()
+        request = urllib.request.Request(
+            f"{self.base}{path}", data, {"Content-Type": "application/json"}, method=method
+        )
+        try:
+            with urllib.request.urlopen(request, timeout=180) as answer:
+                return json.load(answer)["value"]
+        except urllib.error.HTTPError as why:
+            raise RuntimeError(json.load(why)["value"]["message"]) from None
+
+    def devtools(self, command, **values):
+        return self.ask("POST", "/goog/cdp/execute", {"cmd": command, "params": values})
+
     def requests(self):
         """The addresses that the page asked for since the last call, as the browser logged them."""
         said = [
@@ -199,16 +246,6 @@ class Browser:
             ) if it["level"] == "SEVERE"
         ]
 
-    def saved(self, name, selector):
-        """The bytes of a file that the page saves after a click, and removes it."""
-        time.sleep(max(0, self.next_save - time.monotonic()))
-        self.next_save = time.monotonic() + PACE
-        self.run("document.querySelector(arguments[0]).click()", selector)
-        path = self.folder / name
-        data = until(lambda: path.exists() and path.read_bytes(), f"for {name}")
-        path.unlink()
-        return data
-
 
 def until(tells, what=""):
     """What a function gives as soon as it gives something."""
@@ -218,6 +255,107 @@ def until(tells, what=""):
             return value
         time.sleep(0.02)
     raise RuntimeError(f"waited in vain {what}".strip())
+
+
+class Firefox(Session):
+    """A session of Firefox, over its protocol: texts of JSON, each with its length before it, on a port of this machine."""
+
+    def __init__(self, program, folder):
+        self.folder, self.count, self.left = folder / "saved", 0, b""
+        room = folder / "profile"
+        room.mkdir()
+        self.folder.mkdir()
+        (room / "user.js").write_text("".join(f"user_pref({json.dumps(it)}, {json.dumps(value)});\n" for it, value in self.settings().items()))
+        self.log = open(folder / "firefox.log", "w", encoding="utf-8")
+        command = [program, *FIREFOX_FLAGS, "--profile", str(room)]
+        # (without a home of somebody else, in which it would look for other profiles)
+        environment = {**os.environ, "HOME": str(folder), "MOZ_HEADLESS_WIDTH": "1280", "MOZ_HEADLESS_HEIGHT": "1200"}
+        self.process = subprocess.Popen(command, stdin=subprocess.DEVNULL, stdout=self.log, stderr=self.log, env=environment)
+        try:
+            port = room / "MarionetteActivePort"
+            self.link = socket.create_connection(("127.0.0.1", int(until(lambda: port.exists() and port.read_text(), "for Firefox"))), 180)
+            self.receive()
+            self.send("WebDriver:NewSession", {})
+        except BaseException:
+            self.process.kill()
+            raise
+
+    def settings(self):
+        return {**FIREFOX_SETTINGS, "browser.download.dir": str(self.folder)}
+
+    def end(self):
+        with contextlib.suppress(OSError, RuntimeError):
+            self.send("Marionette:Quit", {"flags": ["eForceQuit"]})
+        self.link.close()
+        try:
+            self.process.wait(20)
+        except subprocess.TimeoutExpired:
+            self.process.kill()
+            self.process.wait()
+        self.log.close()
+
+    def receive(self):
+        """The next text of the browser."""
+        while b":" not in self.left:
+            self.left += self.more()
+        size, _, self.left = self.left.partition(b":")
+        while len(self.left) < int(size):
+            self.left += self.more()
+        text, self.left = self.left[:int(size)], self.left[int(size):]
+        return json.loads(text)
+
+    def more(self):
+        data = self.link.recv(1 << 16)
+        if not data:
+            raise RuntimeError("Firefox has ended")
+        return data
+
+    def send(self, command, values):
+        """Carries out a command of the protocol, and returns what it gives."""
+        self.count += 1
+        text = json.dumps([0, self.count, command, values]).encode()
+        self.link.sendall(b"%d:%b" % (len(text), text))
+        _, _, fault, value = self.receive()
+        if fault:
+            raise RuntimeError(fault["message"])
+        return value["value"] if isinstance(value, dict) and set(value) == {"value"} else value
+
+    def ask(self, method, path, body=None):
+        values, parts = dict(body or {}), path.strip("/").split("/")
+        if "script" in values:
+            # (as a script of the page, and not as one beside it)
+            values["sandbox"] = None
+        if parts[0] == "element" and len(parts) > 1:
+            values["id"], path = parts[1], f"/element/{parts[2]}"
+        return self.send(f"WebDriver:{FIREFOX_COMMANDS[path]}", values)
+
+    def corner(self):
+        # (its places are those in the frame)
+        return 0, 0
+
+    def downloads(self):
+        """The list of downloads that a person sees: each with its path, and whether it is complete."""
+        self.send("Marionette:SetContext", {"value": "chrome"})
+        try:
+            return self.send("WebDriver:ExecuteAsyncScript", {"script": DOWNLOADS, "args": [], "sandbox": None})
+        finally:
+            self.send("Marionette:SetContext", {"value": "content"})
+
+
+@contextlib.contextmanager
+def firefox():
+    """Firefox until the end of the block, or None where this machine lacks it."""
+    program = found(FIREFOXES)
+    if not program:
+        print("Firefox (firefox-esr): skipped, it isn't on this machine")
+        yield None
+        return
+    with tempfile.TemporaryDirectory(prefix="firefox-", ignore_cleanup_errors=True) as room:
+        made = Firefox(program, pathlib.Path(room))
+        try:
+            yield made
+        finally:
+            made.end()
 
 
 @contextlib.contextmanager

@@ -7,8 +7,10 @@ from browser.driver import until
 
 # What a file may hold besides pixels: it must not be in the saved one.
 SECRET = b"51.5007N 0.1246W taken by Ada"
-# The chunks of a saved file: its size, the pixels, and at most that they are sRGB.
-CHUNKS = {b"IHDR", b"IDAT", b"IEND", b"sRGB", b"gAMA", b"cHRM", b"sBIT", b"cICP", b"iCCP"}
+# The chunks of a saved PNG: its size and its pixels. The segments of a saved JPEG before its pixels, and how it begins.
+CHUNKS = {b"IHDR", b"IDAT", b"IEND"}
+SEGMENTS = {0xE0, 0xDB, 0xC0, 0xC2, 0xC4, 0xDD}
+JFIF = b"\xff\xd8\xff\xe0\0\x10JFIF\0"
 LARGE = 4000, 3000
 # How many milliseconds an edit of a large picture may take, and how long the page may be busy at a
 # time while it opens or saves one. The machine may be busy too: the fastest of some tries counts.
@@ -161,6 +163,22 @@ def check_dropped(page):
     page.browser.run("document.getElementById('status').textContent = 'Opening'")
     page.give("small.webp", in_browser(page, "webp"))
     page.count("WebP is opened", png.size_of(page.save()) == (32, 16))
+
+
+def check_plain(page):
+    """A saved file has pixels, and nothing that the browser adds to them."""
+    page.open()
+    page.apply("fill 1,1,9,9 3")
+    saved = page.save()
+    kinds = [it for it, _ in png.chunks_of(saved)]
+    page.count("a saved PNG has its pixels alone", set(kinds) == CHUNKS, kinds)
+    page.browser.change("format", "jpeg")
+    saved, at, markers = page.save("covered.jpg"), 2, []
+    page.browser.change("format", "png")
+    while saved[at + 1] != 0xDA:
+        markers.append(saved[at + 1])
+        at += 2 + int.from_bytes(saved[at + 2:at + 4], "big")
+    page.count("a saved JPEG too: it has no profile", saved.startswith(JFIF) and set(markers) <= SEGMENTS, [hex(it) for it in markers])
 
 
 def check_small(page):

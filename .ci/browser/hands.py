@@ -1,6 +1,7 @@
 """Fingers on a phone, and keys alone."""
 from browser import looks, png
 from browser.driver import DOWN, HOLD, UP, move_to, until
+from browser.models import by_model
 
 SIZE = 300, 400
 FOCUSED = "const it = document.activeElement; return it.closest('li') ? [...document.querySelectorAll('#edits li')].indexOf(it.closest('li')) : it.id"
@@ -81,6 +82,21 @@ def check_keys_alone(page):
     page.browser.press("Delete")
     page.browser.press("Backspace")
     page.count("a second one removes nothing else", page.list() == "fill 20,1,9,9 4\nfill 40,1,9,9 5\n")
+
+
+def check_handed(page):
+    """What is opened, drawn and saved by real clicks is in the browser's list of downloads, whole."""
+    page.open()
+    page.drag((10.5, 8.5), (20, 15), (29.5, 19.5))
+    page.browser.click("#save")
+    until(lambda: not page.is_off("hand"))
+    page.browser.click("#hand")
+    listed = until(page.browser.downloads, "for the list of downloads")
+    until(lambda: all(whole for _, whole in page.browser.downloads()), "for the download")
+    page.count("the list of downloads has the file", [it for it, _ in listed] == [str(page.browser.folder / "covered.png")], listed)
+    page.count("its pixels are those of the page", png.ppm_of(page.browser.handed("covered.png")) == by_model("fill 10,8,20,12 0".split()))
+    where = "covered.png was handed to your browser. Look for it in your browser's list of downloads."
+    page.count("the page says where to look", page.status().startswith(where))
 
 
 def check_disk(page, folder):

@@ -51,6 +51,11 @@ def check_names(page):
             )
             faint = page.browser.script("faint")
             page.cases.count(f"{tab}: contrast of each text, {scheme}", not faint, faint)
+            if tab == "index":
+                page.preview()
+                wrong = page.browser.script("faint"), page.browser.script("nameless"), page.browser.script("tiny")
+                page.cases.count(f"the preview: contrast, names and sizes, {scheme}", wrong == ([], [], []), wrong)
+                page.browser.press("Escape")
         page.browser.devtools("Emulation.setEmulatedMedia", features=[])
         page.browser.enter(None)
         named = page.browser.run("return [document.documentElement.lang, document.title]")

@@ -118,9 +118,16 @@ class Page:
     def list(self):
         return self.browser.run("return document.getElementById('text').value")
 
+    def preview(self):
+        """Shows the file that would be saved."""
+        self.browser.run("document.getElementById('save').click()")
+        until(lambda: self.browser.run("return !document.getElementById('hand').disabled"), "for the preview")
+
     def save(self, name="covered.png"):
-        data = self.browser.saved(name, "#save")
-        until(lambda: self.status().startswith("Saved"))
+        """Shows the file, and saves it from there."""
+        self.preview()
+        data = self.browser.saved(name, "#hand")
+        until(lambda: self.status().startswith(f"{name} was handed to your browser."))
         return data
 
     def shown(self):
@@ -157,8 +164,7 @@ def check_lists(page, program):
         said, words = page.apply(text), text.split()
         saved = png.ppm_of(page.save())
         label = text.replace("\n", "; ")
-        is_told = said == "Done." or said.startswith("Note:") and "move" in text
-        page.count(f"{label}: carried out", is_told and page.list() == f"{text}\n", said)
+        page.count(f"{label}: carried out", said == "Done." and page.list() == f"{text}\n", said)
         page.count(f"{label}: by the model", saved == by_model(words))
         if program:
             ran = subprocess.run(
@@ -209,8 +215,10 @@ def check_pointer(page):
     page.drag((10.5, 8.5), (20, 15), (29.5, 19.5))
     page.count("the mouse draws a fill", page.list() == "fill 10,8,20,12 0\n")
     page.count("it is saved", png.ppm_of(page.save()) == by_model("fill 10,8,20,12 0".split()))
+    page.count("nothing is selected then", page.is_off("selected"))
+    page.choose("select")
     page.drag((15, 12), (16, 12), (18, 17))
-    page.count("the mouse moves it", page.list() == "fill 13,13,20,12 0\n")
+    page.count("with the tool Select the mouse moves it", page.list() == "fill 13,13,20,12 0\n")
     page.count(
         "what it covered before is there again",
         png.ppm_of(page.save()) == by_model("fill 13,13,20,12 0".split())
@@ -228,16 +236,20 @@ def check_pointer(page):
     page.browser.click("#changes [data-word=mosaic]")
     page.count("a rectangle becomes a mosaic", page.list() == "means 0,0,5,5 2,16\n")
     page.drag((30, 30), (30.01, 30.01))
-    page.count("a click draws nothing", page.list() == "means 0,0,5,5 2,16\n")
+    page.count("a click draws nothing", page.list() == "means 0,0,5,5 2,16\n" and page.is_off("selected"))
+    page.drag((3, 3), (3.01, 3.01))
+    page.count("a click on a cover selects it", page.list() == "means 0,0,5,5 2,16\n" and not page.is_off("selected"))
     page.drag((49.5, 29.5), (30, 20), (20.5, 10.5), kind="touch")
     page.count(
         "a finger draws a mosaic, from right to left",
         page.list() == "means 0,0,5,5 2,16\nmeans 20,10,30,20 2,16\n"
     )
+    page.browser.click("#edits li:nth-child(2) button")
     page.browser.click("#changes [data-word=crop]")
     page.count(
         "a rectangle becomes a crop", page.list() == "means 0,0,5,5 2,16\ncrop 20,10,30,20\n"
     )
+    page.choose("select")
     page.drag((35, 10), (35, 12), (35, 14.1))
     page.count(
         "a crop is moved by its edge", page.list() == "means 0,0,5,5 2,16\ncrop 20,14,30,20\n"

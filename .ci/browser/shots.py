@@ -12,6 +12,8 @@ compact 0
 EDITS = "means 160,196,130,130 26,26\nfill 588,446,144,42 0"
 # The windows: their width and height, and how many pixels of the screen one of theirs has.
 WINDOWS = {"web.png": (1280, 720, 1), "web_phone.png": (360, 740, 1), "web_large.png": (640, 360, 2)}
+# The window in which the preview is shown too, and its file.
+PREVIEWS = {"web_phone.png": "web_preview.png"}
 
 
 def resize(page, width, height, factor):
@@ -34,6 +36,9 @@ def take(page, folder):
             "document.getElementById('side').scrollTo(0, 0)"
         )
         (folder / name).write_bytes(page.browser.screenshot())
+        if name in PREVIEWS:
+            page.preview()
+            (folder / PREVIEWS[name]).write_bytes(page.browser.screenshot())
     resize(page, 1120, 720, 1)
     page.start("layout.html")
     page.browser.change("script", SCRIPT)

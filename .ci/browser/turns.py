@@ -61,7 +61,7 @@ def check_turns(page, program):
         page.open()
         said = page.apply(text)
         label = text.replace("\n", "; ")
-        page.count(f"{label}: carried out", page.list() == f"{text}\n" and "Done" in said or "move" in text, said)
+        page.count(f"{label}: carried out", page.list() == f"{text}\n" and said == "Done.", said)
         saved = png.ppm_of(page.save())
         page.count(f"{label}: by the model", saved == by_model(text.split()))
         if program and not any(it in text for it in PAGE_ALONE):
@@ -97,8 +97,10 @@ def check_hands(page):
     for line in ("turn right", "turn left", "turn half", "flip columns", "flip rows"):
         page.open()
         page.apply(line)
+        page.choose("fill")
         page.browser.drag(*places(page, line, (10.4, 8.4), (20, 15), (29.6, 19.6)))
         page.count(f"{line}: the mouse draws a fill", page.list() == f"fill 10,8,20,12 0\n{line}\n")
+        page.choose("select")
         page.browser.drag(*places(page, line, (15, 12), (16, 12), (18, 17)))
         page.count(f"{line}: the mouse moves it", page.list() == f"fill 13,13,20,12 0\n{line}\n")
         page.browser.drag(*places(page, line, (33, 25), (36, 28), (40.1, 29.9)))

@@ -18,6 +18,9 @@ return seen('canvas') / (arguments[0] * arguments[1])"""
 IN_VIEW = """return ['open', 'save', 'undo', 'tools'].filter((it) => {
 const box = document.getElementById(it).getBoundingClientRect();
 return box.top < 0 || box.left < 0 || box.bottom > innerHeight || box.right > innerWidth; })"""
+# The same of the file in the preview, and of the buttons there.
+PREVIEW_PART = PART.replace("'canvas'", "'result'")
+PREVIEW_HIDDEN = IN_VIEW.replace("['open', 'save', 'undo', 'tools']", "['hand', 'to-edits', 'copy-picture', 'with-numbers', 'preview-name']")
 WHEEL = """document.getElementById('stage').dispatchEvent(new WheelEvent('wheel', { deltaY: arguments[0], clientX: arguments[1],
 clientY: arguments[2], bubbles: true, cancelable: true }))"""
 COPIED = """const done = arguments[0];
@@ -44,6 +47,15 @@ def check_sizes(page):
         page.browser.press("+")
         hidden = page.browser.run(IN_VIEW)
         page.count(f"{label}: the tools and Save are in view", page.scale() > 0 and hidden == [], hidden)
+        page.choose("fill")
+        page.browser.press("0")
+        page.drag((200, 200), (300, 300), (500, 600), kind="touch" if mobile else "mouse")
+        page.preview()
+        part, hidden = page.browser.run(PREVIEW_PART, width, height), page.browser.run(PREVIEW_HIDDEN)
+        page.count(f"{label}: the preview shows the file, and its buttons are in view", part >= 0.2 and hidden == [], (part, hidden))
+        page.browser.click("#hand")
+        saved = png.size_of(page.browser.handed("covered.png"))
+        page.count(f"{label}: Save is pressed there", saved == size, saved)
     page.browser.devtools("Emulation.clearDeviceMetricsOverride")
     page.start()
 
@@ -137,13 +149,15 @@ def check_copied(page):
     """The result goes to the clipboard, and an edit's line is in words."""
     page.open()
     page.apply("fill 10,8,20,12 200,30,7\nmeans 0,0,9,9 4,4\ncrop 1,1,50,30")
-    words = ["Red 200 green 30 blue 7, 20 by 12 at 10, 8", "Mosaic of 4 by 4, 9 by 9 at 0, 0", "Crop to 50 by 30 at 1, 1"]
+    words = ["Red 200 green 30 blue 7, 20 by 12 at 10, 8", "Mosaic of means, 4 by 4, 9 by 9 at 0, 0", "Crop to 50 by 30 at 1, 1"]
     page.count("the lines are in words", page.browser.run(LINES) == words, page.browser.run(LINES))
     page.browser.enter(None)
     page.browser.devtools("Browser.grantPermissions", permissions=["clipboardReadWrite", "clipboardSanitizedWrite"])
     page.browser.enter()
+    page.preview()
     page.browser.click("#copy-picture")
-    said = until(lambda: page.status() if page.status() != "Copying …" else "")
+    said = until(lambda: page.status() if page.status().startswith("Copied") else "")
+    page.browser.press("Escape")
     page.browser.enter(None)
     page.browser.run("window.focus(); document.body.focus()")
     seen = page.browser.ask("POST", "/execute/async", {"script": COPIED, "args": []})
@@ -152,17 +166,17 @@ def check_copied(page):
 
 
 def check_shortcuts(page):
-    """Ctrl+S saves, Ctrl+O opens, and Escape ends a drag without an edit."""
+    """Ctrl+S shows the file and Enter saves it, Ctrl+O opens, and Escape ends a drag without an edit."""
     page.open()
     page.apply("fill 1,1,9,9 3")
     page.browser.press("Escape")
     page.browser.press("Control", "s")
-    path = page.browser.folder / "covered.png"
-    data = until(lambda: path.exists() and path.read_bytes(), "for Ctrl+S")
-    until(lambda: page.status().startswith("Saved"))
-    path.unlink()
+    until(lambda: page.browser.run("return document.activeElement.id") == "hand")
+    page.browser.press("Enter")
+    data = page.browser.handed("covered.png")
+    until(lambda: page.status().startswith("covered.png was handed"))
     page.browser.next_save = time.monotonic() + 0.2
-    page.count("Ctrl+S saves", png.ppm_of(data) == by_model("fill 1,1,9,9 3".split()))
+    page.count("Ctrl+S and Enter save", png.ppm_of(data) == by_model("fill 1,1,9,9 3".split()))
     page.browser.run("window.opened = 0; document.getElementById('file').addEventListener('click', (it) => { it.preventDefault(); window.opened += 1; }, { once: true })")
     page.browser.press("Control", "o")
     page.count("Ctrl+O opens", page.browser.run("return window.opened") == 1)

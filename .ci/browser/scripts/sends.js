@@ -20,6 +20,14 @@ const clicked = (values) => {
   document.body.append(link);
   return later(() => link.click());
 };
+// (files may be handed over as blobs, so a frame may show one: it has the same policy)
+const paged = (inside) => URL.createObjectURL(new Blob([`<!doctype html>${inside}`], { type: "text/html" }));
+const framed = (inside) => added("iframe", { src: paged(inside) }).then((it) => (it === "LOADED" ? "silence" : it));
+const asking = `<img src="${to}"><link rel="stylesheet" href="${to}"><video src="${to}"></video><iframe src="${to}"></iframe>
+<script src="${to}"></script><script>fetch("${to}"); new Image().src = "${to}"; new Worker("${to}");</script>`;
+const talking = `<script>const it = new RTCPeerConnection({ iceServers: [{ urls: "turn:${new URL(to).host}?transport=tcp", username: "a",
+credential: "b" }] }); it.createDataChannel("pixels"); it.createOffer().then((offer) => it.setLocalDescription(offer));</script>`;
+const leaving = `<script>location = "${to}"; top.location = "${to}"; open("${to}");</script>`;
 const spoken = (maker) => {
   if (!maker) {
     return "blocked";
@@ -78,6 +86,25 @@ const tries = {
   "a frame": () => added("iframe", { src: to }).then((it) => (it === "LOADED" ? "silence" : it)),
   "a link": () => clicked({}),
   "a link with download": () => clicked({ download: "it" }),
+  "a frame with a blob that asks": () => framed(asking),
+  "a frame with a blob that talks": () => framed(talking),
+  "a frame with a blob that leaves": () => framed(leaving),
+  "a frame with a blob that is refreshed": () => framed(`<meta http-equiv="refresh" content="0;url=${to}">`),
+  "RTCPeerConnection of a frame with a blob": () => {
+    const it = made("iframe", { src: paged("") });
+    document.body.append(it);
+    return wait(new Promise((end) => { it.onload = end; })).then(() => {
+      try {
+        return spoken(it.contentWindow.RTCPeerConnection);
+      } catch {
+        return "blocked";
+      }
+    });
+  },
+  "a blob in the place of the page": () => later(() => { location = paged(asking + talking + leaving); }),
+  "a blob in the place of the page that is refreshed": () => later(() => {
+    location = paged(`<meta http-equiv="refresh" content="0;url=${to}">`);
+  }),
   location: () => later(() => { location = to; }),
   "a refresh": () => later(() => document.head.append(made("meta", { httpEquiv: "refresh", content: `0;url=${to}` }))),
   preconnect: () => linked("preconnect"),

@@ -4,22 +4,29 @@
 It builds the page over what the proofs left (tools/web.py), serves it on this machine, and does
 what a person does: opens pictures, covers, undoes and saves. Saved files are compared with a model
 (.ci/frames.py) and with imgref_frames on the same picture. The layouts are compared with a model of
-scripts (.ci/model.py). Where Chromium or its driver isn't on the machine, what needs them is named
-as skipped. With the word --screenshots it writes those of the documents, and checks nothing.
+scripts (.ci/model.py). Strokes, losses, the preview, saving and the ways to send are tried in Firefox
+too. All browsers run at the same time. A page with a wrong rule has to be found out. Where Chromium, its driver or
+Firefox isn't on the machine, what needs it is named as skipped. With the word --screenshots it writes
+those of the documents, and checks nothing.
 """
 import base64
 import gzip
 import pathlib
 import re
 import signal
+import shutil
 import subprocess
 import sys
+import tempfile
+import threading
+import traceback
 import urllib.request
 
 sys.path.insert(0, str(pathlib.Path(__file__).resolve().parents[2]))
-from browser import acts, covers, files, hands, layout, looks, picture, shots, turns, views
-from browser.driver import browser, served
+from browser import acts, covers, files, hands, layout, looks, losses, picture, shots, strokes, turns, views
+from browser.driver import browser, firefox, served
 from checking import ROOT, Cases
+import web
 
 OUT = ROOT / "out/web"
 PAGES = ("index.html", "layout.html")
@@ -90,7 +97,7 @@ def check_text(cases, name, text, module):
     )
     cases.count(f"{name}: the policy allows its own parts alone", re.fullmatch(wanted, policy), policy)
     flags = re.findall(r'<iframe [^>]* sandbox="([^"]*)"', text)
-    cases.count(f"{name}: its frame can't leave", flags == ["allow-scripts allow-downloads allow-modals"], flags)
+    cases.count(f"{name}: its frame can't leave", flags == ["allow-scripts allow-modals"], flags)
     senders = re.findall(
         r"\bfetch\(|XMLHttpRequest|sendBeacon|WebSocket|EventSource|importScripts|import\(|new RTC", text
     )
@@ -145,6 +152,7 @@ def check_page(cases, program):
         files.check_wrong_files(page)
         files.check_given(page)
         files.check_dropped(page)
+        files.check_plain(page)
         files.check_small(page)
         files.check_clear(page)
         files.check_large(page)
@@ -161,6 +169,101 @@ def check_page(cases, program):
         hands.check_disk(page, OUT)
 
 
+def check_strokes(cases):
+    """Strokes, and what is lost and shown, in a browser of their own. Then the same on a page that is wrong."""
+    with served(OUT) as (url, _), browser() as found:
+        if not found:
+            return
+        page = picture.Page(found, url, cases)
+        page.start()
+        losses.check(page)
+        strokes.check_form(page)
+        strokes.check_crop(page)
+        strokes.check_random(page)
+    check_wrong_page(cases)
+
+
+def check_firefox(cases):
+    """What is tried in Firefox: saving, strokes, what is lost and shown, and the ways to send."""
+    with served(OUT) as (url, asked), served(OUT) as (other, other_asked), firefox() as found:
+        if not found:
+            return
+        page = picture.Page(found, url, Prefixed(cases, "Firefox"))
+        page.start()
+        hands.check_handed(page)
+        files.check_plain(page)
+        losses.check(page)
+        strokes.check_form(page)
+        strokes.check_crop(page)
+        strokes.check_random(page)
+        looks.check_sends(page, asked, other, other_asked)
+        hands.check_disk(page, OUT)
+
+
+class Prefixed:
+    """Cases whose labels begin with the name of a browser."""
+
+    def __init__(self, cases, name):
+        self.cases, self.name = cases, name
+
+    def count(self, label, is_well, said=""):
+        self.cases.count(f"{self.name}: {label}", is_well, said)
+
+
+class Faults:
+    """Counts the cases that fail, and prints nothing: for a page that is wrong."""
+
+    def __init__(self):
+        self.failed = 0
+
+    def count(self, _, is_well, said=""):
+        self.failed += not is_well
+
+
+# The old rule for corners: what was drawn stays selected, and a drag that begins there moves it or takes its corner.
+OLD_RULE = (
+    ("stage.js", 'if (this.drag.tool === "select" && index >= 0) {', "if (index >= 0 && index === this.selected) {"),
+    ("picture.js", "    this.add(shape);\n    this.select(-1);", "    this.select(this.add(shape));"),
+    ("picture.css", "#overlay.selecting .selected:not(.brush) .handle", "#overlay .selected:not(.brush) .handle"),
+)
+
+
+def check_wrong_page(cases):
+    """A page with the old rule for corners fails the strokes."""
+    with tempfile.TemporaryDirectory(prefix="page-") as room:
+        sources, out = (pathlib.Path(room) / it for it in ("web", "out"))
+        shutil.copytree(ROOT / "web", sources)
+        out.mkdir()
+        for name, old, new in OLD_RULE:
+            text = (sources / name).read_text()
+            cases.count(f"the old rule is a change of {name}", text.count(old) == 1, old)
+            (sources / name).write_text(text.replace(old, new))
+        (out / "index.html").write_text(web.page(*web.PAGES["index.html"], sources))
+        with served(out) as (url, _), browser() as found:
+            if found:
+                faults = Faults()
+                page = picture.Page(found, url, faults)
+                page.start()
+                strokes.check_form(page, ("mouse",))
+                cases.count("a form that is covered on a page with the old rule is found out", faults.failed > 0, faults.failed)
+                shown = [it for it, _ in strokes.run_random(page, 2 * strokes.ON_ONE)]
+                cases.count("and so are strokes by chance", any(it[0] for it in shown), shown)
+
+
+def beside(cases, check):
+    """A check on a thread of its own. What stops it is a case that failed."""
+
+    def run():
+        try:
+            check(cases)
+        except Exception:
+            cases.count(f"{check.__name__} comes to its end", False, traceback.format_exc())
+
+    thread = threading.Thread(target=run)
+    thread.start()
+    return thread
+
+
 def main(words):
     cases = Cases()
     if made(cases, "web"):
@@ -170,7 +273,13 @@ def main(words):
             return cases.end()
         check_files(cases)
         check_served(cases)
-        check_page(cases, PROGRAM if made(cases, "frames") else None)
+        program = PROGRAM if made(cases, "frames") else None
+        others = [beside(cases, it) for it in (check_firefox, check_strokes)]
+        try:
+            check_page(cases, program)
+        finally:
+            for it in others:
+                it.join()
     return cases.end()
 
 
