@@ -4,7 +4,8 @@
     python_package.py build    proves and builds the library where one of its sources has changed, and builds the wheel
 
 It needs the headers of Python (Debian: python3-dev) and a C compiler, which CC names (cc). The wheel
-is for the Python that runs this; PYTHON names another one. It depends on no other package, so
+is for the Python that runs this, and from 3.11 on for each later one; PYTHON names another one. The
+last line says for which one it is, and on which ones the tests run. It depends on no other package, so
 `pip install --no-index out/python/imgref-..whl` installs it.
 """
 import os
@@ -18,6 +19,8 @@ from workspace import ROOT
 
 SOURCES = ROOT / "bindings/python"
 OUT = ROOT / "out/python"
+# The versions of CPython on which .ci/checks/proofs/bindings.py runs the package's tests, each where the machine has it.
+TRIED = ("3.10", "3.11", "3.12", "3.13")
 # Builds the wheel as pip would: by the package's own hook.
 HOOK = "import sys; sys.path.insert(0, sys.argv[1]); import backend\ntry: print(backend.build_wheel(sys.argv[2]))\nexcept backend.Failure as why: sys.exit(str(why))"
 
@@ -33,10 +36,18 @@ def build(python=os.environ.get("PYTHON") or sys.executable):
     return OUT / ran.stdout.splitlines()[-1]
 
 
+def described(wheel):
+    """For which Python a wheel is, and whether the tests run on it."""
+    _, _, python, abi, _ = wheel.name.split("-")
+    version = f"{python[2]}.{python[3:]}"
+    return f"for CPython {version}{' and each later one' if abi == 'abi3' else ''} (tried on {', '.join(TRIED)}{'' if version in TRIED else ', not on this one'})"
+
+
 def main(words):
     if words != ["build"]:
         sys.exit(__doc__)
-    say(f"{build().relative_to(ROOT)}")
+    wheel = build()
+    say(f"{wheel.relative_to(ROOT)}, {described(wheel)}")
 
 
 if __name__ == "__main__":

@@ -3,6 +3,9 @@
 The header and the archive of the library are found so: in the folders that IMGREF_INCLUDE and
 IMGREF_LIB name, else in the repository that this folder is in, after `make c`, else where
 pkg-config says. CC names the compiler (cc).
+
+From Python 3.11 on the wheel is for this Python and each later one: it keeps to the stable ABI. A
+`platform` among pip's --config-settings is in the wheel's tag in the place of this machine's own.
 """
 from __future__ import annotations
 
@@ -10,6 +13,7 @@ import base64
 import hashlib
 import os
 import pathlib
+import re
 import shlex
 import shutil
 import subprocess
@@ -20,7 +24,10 @@ import tempfile
 import zipfile
 
 HERE = pathlib.Path(__file__).resolve().parent
-NAME, VERSION = "imgref", "0.1.0"
+NAME = "imgref"
+VERSION = re.search(r'(?m)^version = "([^"]+)"', (HERE / "pyproject.toml").read_text(encoding="utf-8"))[1]
+# Buffers are in the stable ABI since 3.11. A Python without its lock has no stable ABI.
+IS_STABLE = sys.version_info >= (3, 11) and not sysconfig.get_config_var("Py_GIL_DISABLED")
 # What goes into the package as it is.
 PARTS = ("*.py", "*.pyi", "py.typed")
 SOURCES = ("pyproject.toml", "backend.py", "native.c", "native.h", "README.md", "LICENSE")
@@ -51,8 +58,8 @@ def library():
     elif not (include and lib) and shutil.which("pkg-config"):
         found = [subprocess.run(["pkg-config", f"--variable={it}", "imgref"], capture_output=True, text=True) for it in ("includedir", "libdir")]
         include, lib = include or found[0].stdout.strip(), lib or found[1].stdout.strip()
-    archive = pathlib.Path(lib or ".") / "libimgref.a"
-    if not (include and pathlib.Path(include, "imgref.h").is_file() and archive.is_file()):
+    include, archive = pathlib.Path(include or ".").resolve(), pathlib.Path(lib or ".").resolve() / "libimgref.a"
+    if not ((include / "imgref.h").is_file() and archive.is_file()):
         raise Failure("the library isn't found: run `make c`, or set IMGREF_INCLUDE and IMGREF_LIB to the folders of imgref.h and libimgref.a")
     return include, archive
 
@@ -63,34 +70,42 @@ def compile_native(room):
     if not (headers[0] / "Python.h").is_file():
         raise Failure(f"the headers of Python aren't installed in {headers[0]}: apt-get install python3-dev")
     include, archive = library()
-    made = room / f"_native{sysconfig.get_config_var('EXT_SUFFIX')}"
+    made = room / f"_native{'.abi3.so' if IS_STABLE else sysconfig.get_config_var('EXT_SUFFIX')}"
     words = [
-        *shlex.split(os.environ.get("CC", "cc")), "-std=c11", "-O2", "-Wall", "-fPIC", "-shared", f"-I{include}", *(f"-I{it}" for it in headers),
-        "-o", made, HERE / "native.c", archive, "-Wl,-z,noexecstack", "-Wl,--exclude-libs,ALL", "-Wl,-s",
+        *shlex.split(os.environ.get("CC", "cc")), "-std=c11", "-O2", "-Wall", "-fPIC", "-shared", *["-DPy_LIMITED_API=0x030B0000"] * IS_STABLE,
+        f"-I{include}", *(f"-I{it}" for it in headers), "-o", made, "native.c", archive,
+        "-Wl,-z,noexecstack", "-Wl,-z,relro", "-Wl,-z,now", "-Wl,--exclude-libs,ALL", "-Wl,-s",
     ]
-    ran = subprocess.run([str(it) for it in words], capture_output=True, text=True)
+    # (the compiler is run here, so that no path of this machine is in what it makes)
+    ran = subprocess.run([str(it) for it in words], capture_output=True, text=True, cwd=HERE)
     if ran.returncode:
         raise Failure(f"{' '.join(map(str, words))}\n{ran.stderr}")
     return made
 
 
-def tag():
+def tag(platform=None):
     """For which Python and which machine a wheel is."""
-    python = f"cp{sys.version_info[0]}{sys.version_info[1]}"
-    platform = sysconfig.get_platform().replace("-", "_").replace(".", "_")
-    return f"{python}-{python}-{platform}"
+    if IS_STABLE:
+        python = "cp311-abi3"
+    else:
+        version = f"cp{sys.version_info[0]}{sys.version_info[1]}"
+        python = f"{version}-{version}{'t' if sysconfig.get_config_var('Py_GIL_DISABLED') else ''}"
+    return f"{python}-{platform or sysconfig.get_platform().replace('-', '_').replace('.', '_')}"
 
 
-def info(folder):
+def info(its_tag):
     """The name of the folder with what describes a wheel, and its files."""
-    wheel = f"Wheel-Version: 1.0\nGenerator: imgref backend\nRoot-Is-Purelib: false\nTag: {tag()}\n"
+    python, abi, platforms = its_tag.split("-")
+    tags = "".join(f"Tag: {python}-{abi}-{it}\n" for it in platforms.split("."))
+    wheel = f"Wheel-Version: 1.0\nGenerator: imgref backend\nRoot-Is-Purelib: false\n{tags}"
     return f"{NAME}-{VERSION}.dist-info", {"METADATA": METADATA, "WHEEL": wheel, "top_level.txt": f"{NAME}\n", "LICENSE": (HERE / "LICENSE").read_text(encoding="utf-8")}
 
 
 def build_wheel(wheel_directory, config_settings=None, metadata_directory=None):
     """Writes the wheel into a folder, and returns its name."""
-    name = f"{NAME}-{VERSION}-{tag()}.whl"
-    described, texts = info(wheel_directory)
+    its_tag = tag((config_settings or {}).get("platform"))
+    name = f"{NAME}-{VERSION}-{its_tag}.whl"
+    described, texts = info(its_tag)
     with tempfile.TemporaryDirectory(prefix="imgref-wheel-") as room:
         made = compile_native(pathlib.Path(room))
         files = {f"{NAME}/{it.name}": it.read_bytes() for part in PARTS for it in sorted((HERE / NAME).glob(part))}

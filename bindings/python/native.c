@@ -1,13 +1,18 @@
 /* The part of the Python package in C: the module `imgref._native`, with the proved library linked into it.
  *
- * A `Cells` is an image of the library over memory that it holds for as long as it lives. Who makes a call has its `Cells`, so
- * the memory stays for the length of the call. All numbers of a call are taken before anything else is looked at: taking a
- * number may run code of the user's. A call that goes over pixels then gives up Python's lock, and works on a copy of the
- * sizes. */
+ * A `Cells` is an image of the library over memory that it holds for as long as it lives, and an image of the package has its
+ * `Cells` for good. Who makes a call has its image, so the memory stays for the length of the call. All numbers of a call are
+ * taken before anything else is looked at: taking a number may run code of the user's. A call that goes over pixels then gives
+ * up Python's lock, and works on a copy of the sizes.
+ *
+ * It compiles with the whole interface of CPython 3.10 or later. With -DPy_LIMITED_API=0x030B0000 the same file makes a module
+ * for 3.11 and all later ones: buffers are in the stable interface from 3.11 on. So types are made from specifications, what
+ * they inherit is asked for by PyType_GetSlot, and no macro looks into an object. */
 #define _DEFAULT_SOURCE
 #define PY_SSIZE_T_CLEAN
 #include <Python.h>
 #include <stddef.h>
+#include <string.h>
 #include <structmember.h>
 #include <sys/mman.h>
 
@@ -35,52 +40,124 @@ static bool numbers_of(PyObject *const *given, Py_ssize_t count, size_t *made) {
     return true;
 }
 
-/* Raises what a status says. */
-static PyObject *refused(imgref_status status) {
-    PyObject *types = PyImport_ImportModule("imgref._types");
-    PyObject *kind = types ? PyObject_GetAttrString(types, "Refused") : NULL;
-    PyObject *made = kind ? PyObject_CallFunction(kind, "I", status) : NULL;
-    if (made) PyErr_SetObject(kind, made);
-    Py_XDECREF(made);
-    Py_XDECREF(kind);
-    Py_XDECREF(types);
-    return NULL;
+/* The numbers of what is no tuple: it is asked for one number after the other, and for one more. */
+static bool listed_in(PyObject *given, size_t *n) {
+    PyObject *items = PyObject_GetIter(given), *item;
+    if (!items) return false;
+    size_t found = 0;
+    bool is_well = true;
+    while (is_well && found <= 4 && (item = PyIter_Next(items))) {
+        is_well = found == 4 || number_of(item, n + found);
+        found++;
+        Py_DECREF(item);
+    }
+    Py_DECREF(items);
+    if (!is_well || PyErr_Occurred()) return false;
+    if (found != 4) PyErr_Format(PyExc_ValueError, "a window is four numbers (left, top, width, height), not %R", given);
+    return found == 4;
 }
 
-static PyObject *done(imgref_status status) {
-    if (status != IMGREF_OK) return refused(status);
-    Py_RETURN_NONE;
+/* The numbers of a window: its corner and its size. */
+static bool window_in(PyObject *given, size_t *n) {
+    if (!PyTuple_Check(given)) return listed_in(given, n);
+    if (PyTuple_Size(given) != 4) {
+        PyErr_Format(PyExc_ValueError, "a window is four numbers (left, top, width, height), not %R", given);
+        return false;
+    }
+    for (Py_ssize_t k = 0; k < 4; k++)
+        if (!number_of(PyTuple_GetItem(given, k), n + k)) return false;
+    return true;
 }
+
+/* Raises what a status says, in the words that a function of imgref._refusals makes of numbers. */
+static PyObject *refused(imgref_status status, const char *words, const size_t *n, size_t count) {
+    PyObject *module = PyImport_ImportModule("imgref._refusals");
+    PyObject *named = module ? PyObject_GetAttrString(module, words) : NULL;
+    PyObject *kind = module ? PyObject_GetAttrString(module, "Refused") : NULL;
+    PyObject *numbers = PyTuple_New(count);
+    for (size_t k = 0; numbers && k < count; k++) {
+        PyObject *number = PyLong_FromSize_t(n[k]);
+        if (!number || PyTuple_SetItem(numbers, k, number)) Py_CLEAR(numbers);
+    }
+    PyObject *text = named && numbers ? PyObject_CallObject(named, numbers) : NULL;
+    PyObject *made = kind && text ? PyObject_CallFunction(kind, "IO", status, text) : NULL;
+    if (made) PyErr_SetObject(kind, made);
+    Py_XDECREF(made);
+    Py_XDECREF(text);
+    Py_XDECREF(numbers);
+    Py_XDECREF(kind);
+    Py_XDECREF(named);
+    Py_XDECREF(module);
+    return NULL;
+}
+#define REFUSED(STATUS, WORDS, ...)                                                                                          \
+    refused(STATUS, WORDS, (const size_t[]){__VA_ARGS__}, sizeof(const size_t[]){__VA_ARGS__} / sizeof(size_t))
 
 /* ---- memory that is held, as an image */
 
-typedef struct {
+typedef struct cells {
     PyObject_HEAD
-    Py_buffer held;  /* the memory; that of a window is held by `parent` */
+    Py_buffer held;       /* the memory; that of a window is held by `parent` */
     PyObject *parent;
+    struct cells *behind; /* of those that wait for their end */
     image shown;
-    size_t channels; /* numbers of a pixel */
+    size_t channels;      /* numbers of a pixel */
+    char is_shown;        /* whether the collector sees the owner of the memory */
     char is_readonly;
-    char format[4]; /* of a number, as a buffer has it */
+    char format[4];       /* of a number, as a buffer has it */
 } Cells;
 
 static PyTypeObject *cells_type;
 
+/* Makes cells that hold nothing yet. */
+static Cells *cells_made(void) { return (Cells *)PyType_GenericAlloc(cells_type, 0); }
+
+/* Whether the collector may see an owner. It clears what is in a cycle, and then the owner has to keep its memory for us. So
+ * the type that gives the memory may have no tp_clear: a memoryview that is cleared can't take a buffer back (CPython 3.10 to
+ * 3.12 end by a signal), and an array of ctypes frees its memory. Classes of the user's clear their attributes alone. */
+static bool may_be_shown(PyObject *owner) {
+    PyTypeObject *type = Py_TYPE(owner), *base;
+    const void *gives = PyType_GetSlot(type, Py_bf_getbuffer);
+    if (!gives) return false;
+    while ((base = PyType_GetSlot(type, Py_tp_base)) && PyType_GetSlot(base, Py_bf_getbuffer) == gives) type = base;
+    return !PyType_GetSlot(type, Py_tp_clear);
+}
+
 static int cells_traverse(Cells *self, visitproc visit, void *arg) {
-    Py_VISIT(self->held.obj);
+    if (self->is_shown) Py_VISIT(self->held.obj);
     Py_VISIT(self->parent);
-    Py_VISIT(Py_TYPE(self));
+    Py_VISIT(Py_TYPE((PyObject *)self));
     return 0;
 }
 
 /* (there is no tp_clear: a cycle has an object besides that clears itself, and so no call finds a `Cells` without memory) */
-static void cells_dealloc(Cells *self) {
-    PyTypeObject *type = Py_TYPE(self);
-    PyObject_GC_UnTrack(self);
+static void cells_end(Cells *self) {
+    PyTypeObject *type = Py_TYPE((PyObject *)self);
     if (self->held.obj) PyBuffer_Release(&self->held);
     Py_XDECREF(self->parent);
-    type->tp_free((PyObject *)self);
-    Py_DECREF(type);
+    PyObject_GC_Del(self);
+    Py_DECREF((PyObject *)type);
+}
+
+/* An image may be over an array over an image, and so on: the end of each is in that of the one above. From so many on they
+ * wait, and end one after the other. */
+static void cells_dealloc(Cells *self) {
+    static Cells *waiting;
+    static int depth;
+    PyObject_GC_UnTrack(self);
+    if (depth > 20) {
+        self->behind = waiting;
+        waiting = self;
+        return;
+    }
+    depth++;
+    cells_end(self);
+    while (depth == 1 && waiting) {
+        self = waiting;
+        waiting = self->behind;
+        cells_end(self);
+    }
+    depth--;
 }
 
 static bool sets_format(Cells *self, const char *format) {
@@ -97,21 +174,62 @@ static bool is_known(const image *i, size_t channels) {
            i->size * i->step % channels == 0;
 }
 
-/* The bytes from the first item of a buffer up to the end of its last one in memory. */
-static size_t reach(const Py_buffer *held) {
-    if (!held->strides) return held->len;
-    size_t end = held->itemsize;
-    for (int k = 0; k < held->ndim; k++) {
-        if (!held->shape[k]) return 0;
-        if (held->strides[k] > 0) end += (held->shape[k] - 1) * held->strides[k];
-    }
-    return end;
+/* The addresses from the lowest item of a buffer to the end of its highest one. */
+typedef struct {
+    uintptr_t from, to;
+} addresses;
+
+static addresses addresses_of(const Py_buffer *held) {
+    addresses made = {(uintptr_t)held->buf, (uintptr_t)held->buf + held->itemsize};
+    if (!held->strides || !held->shape) made.to = made.from + held->len;
+    else
+        for (int k = 0; k < held->ndim; k++) {
+            if (!held->shape[k]) return (addresses){made.from, made.from};
+            const Py_ssize_t way = (held->shape[k] - 1) * held->strides[k];
+            if (way < 0) made.from += way;
+            else made.to += way;
+        }
+    return made;
 }
 
-/* Whether the memory that is held has these cells from byte `at` on. */
+/* Whether a buffer has these cells from byte `at` after its first item on. */
 static bool has_cells(const Py_buffer *held, const image *i, size_t at) {
-    const size_t bytes = reach(held);
+    const size_t bytes = addresses_of(held).to - (uintptr_t)held->buf;
     return !held->suboffsets && i->cells % i->size == 0 && at <= bytes && i->len <= (bytes - at) / i->size;
+}
+
+/* Whether all cells are in the memory of a buffer. */
+static bool is_inside(const image *i, const Py_buffer *held) {
+    const addresses of = addresses_of(held);
+    return !held->suboffsets && of.from <= i->cells && i->cells <= of.to && i->len <= (of.to - i->cells) / i->size;
+}
+
+/* Holds the memory of the cells that a memoryview has: by the object that owns it, where that gives the same memory, and else by
+ * the memoryview. Cells over other cells hold what those hold. */
+static bool holds(Cells *self, PyObject *view) {
+    PyObject *owner = PyObject_GetAttrString(view, "obj");
+    if (!owner) return false;
+    if (Py_TYPE(owner) == cells_type) {
+        Cells *below = (Cells *)owner;
+        self->parent = Py_NewRef(below->parent ? below->parent : owner);
+        Py_DECREF(owner);
+        return true;
+    }
+    if (PyObject_CheckBuffer(owner)) {
+        if (PyObject_GetBuffer(owner, &self->held, PyBUF_FULL_RO)) {
+            if (!PyErr_ExceptionMatches(PyExc_BufferError) && !PyErr_ExceptionMatches(PyExc_TypeError) && !PyErr_ExceptionMatches(PyExc_ValueError)) {
+                Py_DECREF(owner);
+                return false;
+            }
+            PyErr_Clear();
+        } else if (!is_inside(&self->shown, &self->held)) {
+            PyBuffer_Release(&self->held);
+        }
+    }
+    Py_DECREF(owner);
+    if (!self->held.obj && PyObject_GetBuffer(view, &self->held, PyBUF_FULL_RO)) return false;
+    self->is_shown = self->held.obj && may_be_shown(self->held.obj);
+    return true;
 }
 
 /* Cells(view, at, (len, width, height, stride, size, step, channels), format, is_readonly): the cells from byte `at` of a
@@ -121,30 +239,34 @@ static PyObject *cells_new(PyTypeObject *type, PyObject *args, PyObject *named) 
     const char *format;
     int is_readonly;
     size_t start, n[7];
-    if (named && PyDict_GET_SIZE(named)) return PyErr_Format(PyExc_TypeError, "no names");
+    Py_buffer seen;
+    (void)type;
+    if (named && PyDict_Size(named)) return PyErr_Format(PyExc_TypeError, "no names");
     if (!PyArg_ParseTuple(args, "O!OO!sp", &PyMemoryView_Type, &view, &at, &PyTuple_Type, &sizes, &format, &is_readonly)) return NULL;
-    if (PyTuple_GET_SIZE(sizes) != 7) return PyErr_Format(PyExc_TypeError, "seven sizes");
+    if (PyTuple_Size(sizes) != 7) return PyErr_Format(PyExc_TypeError, "seven sizes");
     for (Py_ssize_t k = 0; k < 7; k++)
-        if (!number_of(PyTuple_GET_ITEM(sizes, k), n + k)) return NULL;
+        if (!number_of(PyTuple_GetItem(sizes, k), n + k)) return NULL;
     if (!number_of(at, &start)) return NULL;
-    Cells *self = (Cells *)type->tp_alloc(type, 0);
-    if (!self) return NULL;
-    if (!sets_format(self, format) || PyObject_GetBuffer(view, &self->held, PyBUF_FULL_RO)) {
-        Py_DECREF(self);
+    Cells *self = cells_made();
+    if (!self || !sets_format(self, format) || PyObject_GetBuffer(view, &seen, PyBUF_FULL_RO)) {
+        Py_XDECREF((PyObject *)self);
         return NULL;
     }
-    self->shown = (image){(uintptr_t)self->held.buf + start, n[0], n[1], n[2], n[3], n[4], n[5]};
+    self->shown = (image){(uintptr_t)seen.buf + start, n[0], n[1], n[2], n[3], n[4], n[5]};
     self->channels = n[6];
-    self->is_readonly = is_readonly || self->held.readonly;
+    self->is_readonly = is_readonly || seen.readonly;
+    bool is_well = false;
     if (!is_known(&self->shown, self->channels))
         PyErr_SetString(PyExc_TypeError, "no cells");
-    else if (!has_cells(&self->held, &self->shown, start))
+    else if (!has_cells(&seen, &self->shown, start))
         PyErr_SetString(PyExc_ValueError, "the memory has no such cells");
     else if (!image_is_valid(&self->shown))
-        refused(IMGREF_NOT_AN_IMAGE);
+        REFUSED(IMGREF_NOT_AN_IMAGE, "no_image", n[1], n[2], n[3], n[0]);
     else
-        return (PyObject *)self;
-    Py_DECREF(self);
+        is_well = holds(self, view);
+    PyBuffer_Release(&seen);
+    if (is_well) return (PyObject *)self;
+    Py_DECREF((PyObject *)self);
     return NULL;
 }
 
@@ -226,7 +348,7 @@ static PyTypeObject *holder_type;
 
 static int holder_traverse(Holder *self, visitproc visit, void *arg) {
     Py_VISIT(self->cells);
-    Py_VISIT(Py_TYPE(self));
+    Py_VISIT(Py_TYPE((PyObject *)self));
     return 0;
 }
 
@@ -236,11 +358,11 @@ static int holder_clear(Holder *self) {
 }
 
 static void holder_dealloc(Holder *self) {
-    PyTypeObject *type = Py_TYPE(self);
+    PyTypeObject *type = Py_TYPE((PyObject *)self);
     PyObject_GC_UnTrack(self);
     Py_CLEAR(self->cells);
-    type->tp_free((PyObject *)self);
-    Py_DECREF(type);
+    PyObject_GC_Del(self);
+    Py_DECREF((PyObject *)type);
 }
 
 static int holder_export(Holder *self, Py_buffer *view, int flags) {
@@ -262,12 +384,17 @@ static PyType_Slot holder_slots[] = {
 };
 static PyType_Spec holder_spec = {"imgref._native.Holder", sizeof(Holder), 0, Py_TPFLAGS_DEFAULT | Py_TPFLAGS_BASETYPE | Py_TPFLAGS_HAVE_GC, holder_slots};
 
-/* ---- the arguments of a call: cells first, and then its numbers */
+/* ---- the arguments of a call: an image first, and then its numbers */
 
+/* The cells of an image. It keeps them for good, so they are there for as long as the caller has the image. */
 static Cells *cells_in(PyObject *given) {
-    if (Py_TYPE(given) == cells_type) return (Cells *)given;
-    PyErr_Format(PyExc_TypeError, "no cells of an image: %R", given);
-    return NULL;
+    if (!PyObject_TypeCheck(given, holder_type)) {
+        PyErr_Format(PyExc_TypeError, "no image: %R", given);
+        return NULL;
+    }
+    PyObject *cells = ((Holder *)given)->cells;
+    if (!cells) PyErr_SetString(PyExc_TypeError, "the image isn't made: Image.__init__ wasn't called");
+    return (Cells *)cells;
 }
 
 static Cells *first_in(PyObject *const *given, Py_ssize_t count, Py_ssize_t wanted) {
@@ -277,18 +404,18 @@ static Cells *first_in(PyObject *const *given, Py_ssize_t count, Py_ssize_t want
 }
 
 static bool is_written(const Cells *it) {
-    if (it->is_readonly) PyErr_SetString(PyExc_TypeError, "the memory is read only");
+    if (it->is_readonly) PyErr_SetString(PyExc_TypeError, "the memory of the image is for reading alone: copy() makes an image that can be written");
     return !it->is_readonly;
 }
 
 /* The bits of a pixel: a number, or a list with one for each cell. */
 static bool bits_of(PyObject *given, size_t step, uint64_t *bits) {
-    if (step > 1 && (!PyList_CheckExact(given) || (size_t)PyList_GET_SIZE(given) != step)) {
+    if (step > 1 && (!PyList_CheckExact(given) || (size_t)PyList_Size(given) != step)) {
         PyErr_SetString(PyExc_TypeError, "another number of cells");
         return false;
     }
     for (size_t k = 0; k < step; k++) {
-        bits[k] = PyLong_AsUnsignedLongLong(step > 1 ? PyList_GET_ITEM(given, k) : given);
+        bits[k] = PyLong_AsUnsignedLongLong(step > 1 ? PyList_GetItem(given, k) : given);
         if (bits[k] == (uint64_t)-1 && PyErr_Occurred()) return false;
     }
     return true;
@@ -296,11 +423,27 @@ static bool bits_of(PyObject *given, size_t step, uint64_t *bits) {
 
 static imgref_rect window_of(const size_t *n) { return rect(n[0], n[1], n[2], n[3]); }
 
-/* Gives up Python's lock for a call. */
-#define UNLOCKED(CALL)                                                                                                       \
-    imgref_status status;                                                                                                    \
-    Py_BEGIN_ALLOW_THREADS status = CALL;                                                                                    \
-    Py_END_ALLOW_THREADS
+/* Gives up Python's lock for a call, unless it has few pixels: these take less time than the lock. */
+#define FEW 1024
+#define UNLOCKED(PIXELS, CALL)                                                                                               \
+    PyThreadState *const others = (PIXELS) > FEW ? PyEval_SaveThread() : NULL;                                               \
+    const imgref_status status = CALL;                                                                                       \
+    if (others) PyEval_RestoreThread(others);
+
+/* The columns and the rows, in pixels. */
+#define SIZE(OF) (OF)->width / (OF)->step, (OF)->height
+#define CORNERS(N) (N)[0], (N)[1], (N)[2], (N)[3]
+#define ALL(OF) ((OF)->width * (OF)->height)
+/* (a window with more than 2^64 pixels is refused) */
+#define IN(N) ((N)[2] * (N)[3])
+
+/* What a call on a window gives: nothing, or a refusal of the window, or of the two numbers after it as the size of a tile. */
+static PyObject *done_in(const image *i, imgref_status status, const size_t *n) {
+    if (status == IMGREF_WINDOW_OUTSIDE) return REFUSED(status, "window", CORNERS(n), SIZE(i));
+    if (status == IMGREF_NO_TILE) return REFUSED(status, "tile", n[4], n[5]);
+    if (status != IMGREF_OK) return REFUSED(status, "status", status);
+    Py_RETURN_NONE;
+}
 
 /* ---- the calls */
 
@@ -313,13 +456,12 @@ CALL(call_get) {
     Cells *it = first_in(given, count, 3);
     if (!it || !numbers_of(given + 1, 2, n)) return NULL;
     imgref_status status = image_get(&it->shown, n[0], n[1], bits);
-    if (status != IMGREF_OK) return refused(status);
+    if (status != IMGREF_OK) return REFUSED(status, "place", n[0], n[1], SIZE(&it->shown));
     if (it->shown.step == 1) return PyLong_FromUnsignedLongLong(bits[0]);
     PyObject *made = PyList_New(it->shown.step);
     for (size_t k = 0; made && k < it->shown.step; k++) {
         PyObject *cell = PyLong_FromUnsignedLongLong(bits[k]);
-        if (!cell) Py_CLEAR(made);
-        else PyList_SET_ITEM(made, k, cell);
+        if (!cell || PyList_SetItem(made, k, cell)) Py_CLEAR(made);
     }
     return made;
 }
@@ -330,29 +472,31 @@ CALL(call_put) {
     uint64_t bits[MOST_STEPS];
     Cells *it = first_in(given, count, 4);
     if (!it || !numbers_of(given + 1, 2, n) || !bits_of(given[3], it->shown.step, bits) || !is_written(it)) return NULL;
-    return done(image_put(&it->shown, n[0], n[1], bits));
+    imgref_status status = image_put(&it->shown, n[0], n[1], bits);
+    if (status != IMGREF_OK) return REFUSED(status, "place", n[0], n[1], SIZE(&it->shown));
+    Py_RETURN_NONE;
 }
 
 CALL(call_fill) {
     (void)module;
     size_t n[4];
     uint64_t bits[MOST_STEPS];
-    Cells *it = first_in(given, count, 6);
-    if (!it || !numbers_of(given + 1, 4, n) || !bits_of(given[5], it->shown.step, bits) || !is_written(it)) return NULL;
+    Cells *it = first_in(given, count, 3);
+    if (!it || !window_in(given[1], n) || !bits_of(given[2], it->shown.step, bits) || !is_written(it)) return NULL;
     const image i = it->shown;
-    UNLOCKED(image_fill(&i, window_of(n), bits))
-    return done(status);
+    UNLOCKED(IN(n), image_fill(&i, window_of(n), bits))
+    return done_in(&i, status, n);
 }
 
 CALL(call_count) {
     (void)module;
     size_t n[4], found = 0;
     uint64_t bits[MOST_STEPS];
-    Cells *it = first_in(given, count, 6);
-    if (!it || !numbers_of(given + 1, 4, n) || !bits_of(given[5], it->shown.step, bits)) return NULL;
+    Cells *it = first_in(given, count, 3);
+    if (!it || !window_in(given[1], n) || !bits_of(given[2], it->shown.step, bits)) return NULL;
     const image i = it->shown;
-    UNLOCKED(image_count(&i, window_of(n), bits, &found))
-    return status == IMGREF_OK ? PyLong_FromSize_t(found) : refused(status);
+    UNLOCKED(IN(n), image_count(&i, window_of(n), bits, &found))
+    return status == IMGREF_OK ? PyLong_FromSize_t(found) : done_in(&i, status, n);
 }
 
 /* Both images in cells of one size. */
@@ -368,35 +512,44 @@ static bool as_alike(const Cells *it, const Cells *other, image *i, image *o) {
     return true;
 }
 
+/* The same, where the one is written from the other. */
+static bool are_apart(const Cells *it, const Cells *other, image *i, image *o) {
+    if (!is_written(it) || !as_alike(it, other, i, o)) return false;
+    if (!images_overlap(i, o)) return true;
+    PyErr_SetString(PyExc_ValueError, "both images have the same memory: move_window goes within one image, and copy() gives other memory");
+    return false;
+}
+
 CALL(call_copy) {
     (void)module;
     size_t n[4];
     image i, o;
-    Cells *it = first_in(given, count, 6), *other = it ? cells_in(given[5]) : NULL;
-    if (!other || !numbers_of(given + 1, 4, n) || !is_written(it) || !as_alike(it, other, &i, &o)) return NULL;
-    if (images_overlap(&i, &o)) return PyErr_Format(PyExc_ValueError, "the images share memory: move_window goes within one");
-    UNLOCKED(image_copy(&i, window_of(n), &o))
-    return done(status);
+    Cells *it = first_in(given, count, 3), *other = it ? cells_in(given[2]) : NULL;
+    if (!other || !window_in(given[1], n) || !are_apart(it, other, &i, &o)) return NULL;
+    UNLOCKED(IN(n), image_copy(&i, window_of(n), &o))
+    if (status == IMGREF_SIZES_DIFFER) return REFUSED(status, "source", n[2], n[3], SIZE(&o));
+    return done_in(&i, status, n);
 }
 
 CALL(call_move) {
     (void)module;
     size_t n[8];
-    Cells *it = first_in(given, count, 9);
-    if (!it || !numbers_of(given + 1, 8, n) || !is_written(it)) return NULL;
+    Cells *it = first_in(given, count, 3);
+    if (!it || !window_in(given[1], n) || !window_in(given[2], n + 4) || !is_written(it)) return NULL;
     const image i = it->shown;
-    UNLOCKED(image_move(&i, window_of(n), window_of(n + 4)))
-    return done(status);
+    UNLOCKED(IN(n), image_move(&i, window_of(n), window_of(n + 4)))
+    if (status == IMGREF_SIZES_DIFFER) return REFUSED(status, "windows", n[2], n[3], n[6], n[7]);
+    return done_in(&i, status, imgref_has_window(SIZE(&i), window_of(n)) ? n + 4 : n);
 }
 
 CALL(call_mosaic) {
     (void)module;
     size_t n[6];
-    Cells *it = first_in(given, count, 7);
-    if (!it || !numbers_of(given + 1, 6, n) || !is_written(it)) return NULL;
+    Cells *it = first_in(given, count, 4);
+    if (!it || !window_in(given[1], n) || !numbers_of(given + 2, 2, n + 4) || !is_written(it)) return NULL;
     const image i = it->shown;
-    UNLOCKED(image_mosaic(&i, window_of(n), n[4], n[5]))
-    return done(status);
+    UNLOCKED(IN(n), image_mosaic(&i, window_of(n), n[4], n[5]))
+    return done_in(&i, status, n);
 }
 
 /* The pixels of an image go to another one, turned by so many quarters, or transposed where there are none. */
@@ -405,10 +558,10 @@ CALL(call_turn) {
     size_t quarters;
     image i, o;
     Cells *target = first_in(given, count, 3), *it = target ? cells_in(given[1]) : NULL;
-    if (!it || !number_of(given[2], &quarters) || !is_written(target) || !as_alike(target, it, &i, &o)) return NULL;
-    if (images_overlap(&i, &o)) return PyErr_Format(PyExc_ValueError, "the images share memory");
-    UNLOCKED(image_turn(&i, &o, quarters <= IMGREF_LEFT ? (imgref_turn)quarters : UINT32_MAX))
-    return done(status);
+    if (!it || !number_of(given[2], &quarters) || !are_apart(target, it, &i, &o)) return NULL;
+    UNLOCKED(ALL(&i), image_turn(&i, &o, quarters <= IMGREF_LEFT ? (imgref_turn)quarters : UINT32_MAX))
+    if (status == IMGREF_OK) Py_RETURN_NONE;
+    return quarters == IMGREF_HALF ? REFUSED(status, "target", SIZE(&o), SIZE(&i)) : REFUSED(status, "target", o.height, o.width / o.step, SIZE(&i));
 }
 
 /* The same in place. */
@@ -418,28 +571,29 @@ CALL(call_turn_in_place) {
     Cells *it = first_in(given, count, 2);
     if (!it || !number_of(given[1], &quarters) || !is_written(it)) return NULL;
     const image i = it->shown;
-    UNLOCKED(image_turn_in_place(&i, quarters <= IMGREF_LEFT ? (imgref_turn)quarters : UINT32_MAX))
-    return done(status);
+    UNLOCKED(ALL(&i), image_turn_in_place(&i, quarters <= IMGREF_LEFT ? (imgref_turn)quarters : UINT32_MAX))
+    if (status == IMGREF_OK) Py_RETURN_NONE;
+    return REFUSED(status, "square", SIZE(&i));
 }
 
 CALL(call_flip_rows) {
     (void)module;
     size_t n[4];
-    Cells *it = first_in(given, count, 5);
-    if (!it || !numbers_of(given + 1, 4, n) || !is_written(it)) return NULL;
+    Cells *it = first_in(given, count, 2);
+    if (!it || !window_in(given[1], n) || !is_written(it)) return NULL;
     const image i = it->shown;
-    UNLOCKED(image_flip_rows(&i, window_of(n)))
-    return done(status);
+    UNLOCKED(IN(n), image_flip_rows(&i, window_of(n)))
+    return done_in(&i, status, n);
 }
 
 CALL(call_flip_columns) {
     (void)module;
     size_t n[4];
-    Cells *it = first_in(given, count, 5);
-    if (!it || !numbers_of(given + 1, 4, n) || !is_written(it)) return NULL;
+    Cells *it = first_in(given, count, 2);
+    if (!it || !window_in(given[1], n) || !is_written(it)) return NULL;
     const image i = it->shown;
-    UNLOCKED(image_flip_columns(&i, window_of(n)))
-    return done(status);
+    UNLOCKED(IN(n), image_flip_columns(&i, window_of(n)))
+    return done_in(&i, status, n);
 }
 
 CALL(call_swap_rows) {
@@ -447,18 +601,20 @@ CALL(call_swap_rows) {
     size_t n[2];
     Cells *it = first_in(given, count, 3);
     if (!it || !numbers_of(given + 1, 2, n) || !is_written(it)) return NULL;
-    return done(image_swap_rows(&it->shown, n[0], n[1]));
+    imgref_status status = image_swap_rows(&it->shown, n[0], n[1]);
+    if (status != IMGREF_OK) return REFUSED(status, "row", n[0], n[1], it->shown.height);
+    Py_RETURN_NONE;
 }
 
 /* A cell of several numbers is taken for so many cells. */
 CALL(call_mosaic_means) {
     (void)module;
     size_t n[7];
-    Cells *it = first_in(given, count, 8);
-    if (!it || !numbers_of(given + 1, 7, n) || !is_written(it)) return NULL;
+    Cells *it = first_in(given, count, 5);
+    if (!it || !window_in(given[1], n) || !numbers_of(given + 2, 3, n + 4) || !is_written(it)) return NULL;
     const image i = n[6] > it->shown.step ? with_step(it->shown, n[6]) : it->shown;
-    UNLOCKED(image_mosaic_means(&i, window_of(n), n[4], n[5]))
-    return done(status);
+    UNLOCKED(IN(n), image_mosaic_means(&i, window_of(n), n[4], n[5]))
+    return done_in(&i, status, n);
 }
 
 CALL(call_pack) {
@@ -466,9 +622,9 @@ CALL(call_pack) {
     Cells *it = first_in(given, count, 1);
     if (!it || !is_written(it)) return NULL;
     const image i = it->shown;
-    UNLOCKED(image_pack(&i))
+    UNLOCKED(ALL(&i), image_pack(&i))
     if (status == IMGREF_OK) it->shown.stride = i.width ? i.width : 1;
-    return done(status);
+    return done_in(&i, status, NULL);
 }
 
 CALL(call_equal) {
@@ -477,27 +633,34 @@ CALL(call_equal) {
     bool equal = false;
     Cells *it = first_in(given, count, 2), *other = it ? cells_in(given[1]) : NULL;
     if (!other || !as_alike(it, other, &i, &o)) return NULL;
-    UNLOCKED(image_equal(&i, &o, &equal))
-    return status == IMGREF_OK ? PyBool_FromLong(equal) : refused(status);
+    UNLOCKED(ALL(&i), image_equal(&i, &o, &equal))
+    return status == IMGREF_OK ? PyBool_FromLong(equal) : done_in(&i, status, NULL);
 }
 
-/* A window, whose memory the image's cells hold. */
+/* Whether two images have memory in common. */
+CALL(call_overlap) {
+    (void)module;
+    Cells *it = first_in(given, count, 2), *other = it ? cells_in(given[1]) : NULL;
+    return other ? PyBool_FromLong(images_overlap(&it->shown, &other->shown)) : NULL;
+}
+
+/* (cells, width, height) of a window, whose memory the image's cells hold. */
 CALL(call_window) {
     (void)module;
     size_t n[4];
     image shown;
-    Cells *it = first_in(given, count, 5);
-    if (!it || !numbers_of(given + 1, 4, n)) return NULL;
+    Cells *it = first_in(given, count, 2);
+    if (!it || !window_in(given[1], n)) return NULL;
     imgref_status status = image_window(&it->shown, window_of(n), &shown);
-    if (status != IMGREF_OK) return refused(status);
-    Cells *made = (Cells *)cells_type->tp_alloc(cells_type, 0);
+    if (status != IMGREF_OK) return done_in(&it->shown, status, n);
+    Cells *made = cells_made();
     if (!made) return NULL;
     made->parent = Py_NewRef(it->parent ? it->parent : (PyObject *)it);
     made->shown = shown;
     made->channels = it->channels;
     made->is_readonly = it->is_readonly;
     strcpy(made->format, it->format);
-    return (PyObject *)made;
+    return Py_BuildValue("Nnn", made, (Py_ssize_t)n[2], (Py_ssize_t)n[3]);
 }
 
 /* Asks for large pages where new memory has many: most of the time of a large copy goes into taking pages. (NumPy does the
@@ -518,12 +681,13 @@ CALL(call_joined) {
     const size_t cells = i.width * i.height;
     PyObject *made = PyBytes_FromStringAndSize(NULL, cells * i.size);
     if (!made) return NULL;
-    take_large_pages(PyBytes_AS_STRING(made), cells * i.size);
-    const image joined = {(uintptr_t)PyBytes_AS_STRING(made), cells, i.width, i.height, i.width ? i.width : 1, i.size, i.step};
-    UNLOCKED(image_copy(&joined, whole(&joined), &i))
+    char *bytes = PyBytes_AsString(made);
+    take_large_pages(bytes, cells * i.size);
+    const image joined = {(uintptr_t)bytes, cells, i.width, i.height, i.width ? i.width : 1, i.size, i.step};
+    UNLOCKED(ALL(&i), image_copy(&joined, whole(&joined), &i))
     if (status == IMGREF_OK) return made;
     Py_DECREF(made);
-    return refused(status);
+    return done_in(&i, status, NULL);
 }
 
 /* A bytearray of so many bytes, with no values yet. */
@@ -531,16 +695,15 @@ static PyObject *call_room(PyObject *module, PyObject *given) {
     (void)module;
     Py_ssize_t bytes = PyNumber_AsSsize_t(given, PyExc_ValueError);
     PyObject *made = bytes == -1 && PyErr_Occurred() ? NULL : PyByteArray_FromStringAndSize(NULL, bytes);
-    if (made) take_large_pages(PyByteArray_AS_STRING(made), bytes);
+    if (made) take_large_pages(PyByteArray_AsString(made), bytes);
     return made;
 }
 
 /* The cells become those of an image that hasn't any. */
 CALL(call_hold) {
     (void)module;
-    if (count != 2 || !PyObject_TypeCheck(given[0], holder_type)) return PyErr_Format(PyExc_TypeError, "no image");
+    if (count != 2 || !PyObject_TypeCheck(given[0], holder_type) || Py_TYPE(given[1]) != cells_type) return PyErr_Format(PyExc_TypeError, "no image, or no cells");
     Holder *self = (Holder *)given[0];
-    if (!cells_in(given[1])) return NULL;
     if (self->cells) return PyErr_Format(PyExc_TypeError, "an image is made once, and keeps its memory");
     self->cells = Py_NewRef(given[1]);
     Py_RETURN_NONE;
@@ -562,7 +725,7 @@ CALL(call_tile_count) {
     if (count != 4) return PyErr_Format(PyExc_TypeError, "four numbers");
     if (!numbers_of(given, 4, n)) return NULL;
     imgref_status status = imgref_tile_count(n[0], n[1], n[2], n[3], &tiles);
-    return status == IMGREF_OK ? PyLong_FromSize_t(tiles) : refused(status);
+    return status == IMGREF_OK ? PyLong_FromSize_t(tiles) : REFUSED(status, "tile", n[2], n[3]);
 }
 
 CALL(call_tile) {
@@ -572,15 +735,61 @@ CALL(call_tile) {
     if (count != 5) return PyErr_Format(PyExc_TypeError, "five numbers");
     if (!numbers_of(given, 5, n)) return NULL;
     imgref_status status = imgref_tile(n[0], n[1], n[2], n[3], n[4], &tile);
-    return status == IMGREF_OK ? Py_BuildValue("nnnn", tile.left, tile.top, tile.width, tile.height) : refused(status);
+    if (status != IMGREF_OK) return REFUSED(status, "tile_number", n[0], n[1], n[2], n[3], n[4]);
+    return Py_BuildValue("nnnn", tile.left, tile.top, tile.width, tile.height);
 }
 
+/* The bits of an integer in a cell, or a refusal of one that doesn't fit. */
+static PyObject *encoded(PyObject *given, unsigned bits, bool is_signed, const char *format) {
+    const uint64_t most = UINT64_MAX >> (64 - bits + is_signed);
+    PyObject *number = PyNumber_Index(given);
+    if (!number) return NULL;
+    int outside = 0;
+    const long long low = PyLong_AsLongLongAndOverflow(number, &outside);
+    const bool is_below = outside < 0 || (!outside && low < 0);
+    uint64_t value = low;
+    if (outside > 0) {
+        value = PyLong_AsUnsignedLongLong(number);
+        outside = PyErr_Occurred() ? 1 : 0;
+        PyErr_Clear();
+    }
+    if (outside || (is_below ? !is_signed || ~value > most : value > most)) {
+        PyErr_Format(PyExc_ValueError, "%R doesn't fit into a cell of format '%s'", given, format);
+        Py_DECREF(number);
+        return NULL;
+    }
+    if (!is_below) return number;
+    Py_DECREF(number);
+    return PyLong_FromUnsignedLongLong(value & (most * 2 + 1));
+}
+
+#if __BYTE_ORDER__ == __ORDER_LITTLE_ENDIAN__
+#define OWN "<"
+#else
+#define OWN ">"
+#endif
+#define ENCODE(LETTER, BITS, IS_SIGNED, FORMAT)                                                                              \
+    static PyObject *encode_##LETTER(PyObject *module, PyObject *given) {                                                    \
+        (void)module;                                                                                                        \
+        return encoded(given, BITS, IS_SIGNED, FORMAT);                                                                      \
+    }
+ENCODE(b, 8, true, "b")
+ENCODE(B, 8, false, "B")
+ENCODE(h, 16, true, OWN "h")
+ENCODE(H, 16, false, OWN "H")
+ENCODE(i, 32, true, OWN "i")
+ENCODE(I, 32, false, OWN "I")
+ENCODE(q, 64, true, OWN "q")
+ENCODE(Q, 64, false, OWN "Q")
+
+#define NUMBER(LETTER) {"encode_" #LETTER, encode_##LETTER, METH_O, NULL}
 #define FAST(NAME) {#NAME, (PyCFunction)(void (*)(void))call_##NAME, METH_FASTCALL, NULL}
 static PyMethodDef calls[] = {
     FAST(get),  FAST(put),    FAST(fill),   FAST(copy), FAST(move), FAST(mosaic),     FAST(mosaic_means), FAST(pack), FAST(equal),
-    FAST(hold), FAST(window), FAST(joined), {"room", call_room, METH_O, NULL},        {"address", call_address, METH_O, NULL},
+    FAST(hold), FAST(window), FAST(joined), FAST(overlap), {"room", call_room, METH_O, NULL},        {"address", call_address, METH_O, NULL},
     FAST(count), FAST(turn), FAST(turn_in_place), FAST(flip_rows), FAST(flip_columns), FAST(swap_rows),
-    FAST(tile), FAST(tile_count), {NULL, NULL, 0, NULL},
+    FAST(tile), FAST(tile_count), NUMBER(b), NUMBER(B), NUMBER(h), NUMBER(H), NUMBER(i), NUMBER(I), NUMBER(q), NUMBER(Q),
+    {NULL, NULL, 0, NULL},
 };
 
 static PyModuleDef definition = {PyModuleDef_HEAD_INIT, "imgref._native", "The calls of the library on memory that is held.", -1, calls, NULL, NULL, NULL, NULL};

@@ -18,7 +18,7 @@ overlaps is refused here too, since the library can't see that.
 from ._image import Image
 from ._types import Buffer, Corners, Number, Pixel, Refused, Window
 
-__version__ = "0.1.0"
+__version__ = "0.2.0"
 __all__ = ["Buffer", "Corners", "Image", "Number", "Pixel", "Refused", "Window", "__version__"]
 
 # (a user knows these by the package's name)

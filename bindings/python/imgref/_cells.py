@@ -8,6 +8,7 @@ from math import copysign
 from operator import index
 from typing import Callable
 
+from . import _native
 from ._types import Number
 
 
@@ -71,24 +72,18 @@ def _cell(form: str) -> Cell:
     size = packed.size
     if known in "?efd" or size > 1 and order != OWN_ORDER:
         return Cell(packed.format, size, *_by_struct(packed, known))
-    return Cell(packed.format, size, *_whole(packed.format, known, 8 * size))
+    return Cell(packed.format, size, *_whole(known, 8 * size))
 
 
-def _whole(form: str, letter: str, bits: int) -> tuple[Callable[[Number], int], Callable[[int], Number]]:
+def _whole(letter: str, bits: int) -> tuple[Callable[[Number], int], Callable[[int], Number]]:
     """The functions of an integer in the processor's own byte order."""
-    mask, is_signed = (1 << bits) - 1, letter.islower()
-    least, most = (-1 << bits - 1, (1 << bits - 1) - 1) if is_signed else (0, mask)
-
-    def encode(value: Number) -> int:
-        number = index(value)  # type: ignore[arg-type]
-        if least <= number <= most:
-            return number & mask
-        raise ValueError(f"{value!r} doesn't fit into a cell of format {form!r}")
+    mask = (1 << bits) - 1
 
     def decode(cell: int) -> Number:
-        return cell - mask - 1 if cell > most else cell
+        return cell - mask - 1 if cell > mask >> 1 else cell
 
-    return encode, decode
+    # (`index` of an int is that int)
+    return getattr(_native, f"encode_{letter}"), decode if letter.islower() else index
 
 
 def _by_struct(packed: struct.Struct, letter: str) -> tuple[Callable[[Number], int], Callable[[int], Number]]:

@@ -2,17 +2,23 @@
 from __future__ import annotations
 
 from operator import index
-from typing import Any, Iterator
+from types import EllipsisType
+from typing import Any, Iterator, SupportsIndex, overload
 
 from . import _native
 from ._layout import Layout
 from ._memory import known, memory_of, shaped, sized
-from ._types import Buffer, Corners, Pixel, Turn, Window
+from ._refusals import place
+from ._types import Buffer, Corners, Pixel, Refused, Turn, Window
 
 _get, _put, _fill, _copy = _native.get, _native.put, _native.fill, _native.copy
 _move, _mosaic, _equal, _window, _hold = _native.move, _native.mosaic, _native.equal, _native.window, _native.hold
 # The turns by their names, and how many quarters each is, clockwise.
 _QUARTERS: dict[Turn, int] = {"right": 1, "half": 2, "left": 3}
+# In the place of a value: `fill` got one argument, which is for all pixels.
+_ALL = object()
+# The status of imgref.h for a pixel that isn't there.
+_PLACE_OUTSIDE = 4
 
 
 class Image(Layout):
@@ -29,8 +35,9 @@ class Image(Layout):
     >>> image, list(frame)
     (<imgref.Image of 3 by 2 pixels, stride 4, format 'B'>, [0, 90, 90, 3, 4, 90, 90, 7])
 
-    `==` tells whether two images have one size, one format and pixels of equal bits. Compared with
-    anything else it is False.
+    `==` tells whether two images have one size, one format and pixels of equal bits. A buffer of two
+    or three dimensions, such as a NumPy array, is compared as an image over it; anything else is
+    unequal.
     """
 
     __slots__ = ()
@@ -62,7 +69,7 @@ class Image(Layout):
         """
         memory = memory_of(buffer)
         if len(memory.shape) not in (2, 3):
-            raise TypeError("a copy takes a buffer of two or three dimensions")
+            raise TypeError(f"a copy takes a buffer of two or three dimensions, not of {len(memory.shape)}")
         height, width, channels = (*memory.shape, 1)[:3]
         owned = memory_of(bytearray(memory.view.tobytes()))
         made = cls.__new__(cls)
@@ -75,7 +82,7 @@ class Image(Layout):
         """An image over each plane of a buffer of three dimensions: planes, rows and columns."""
         memory, planes = memory_of(buffer), []
         if len(memory.shape) != 3:
-            raise TypeError("planes go with a buffer of three dimensions")
+            raise TypeError(f"planes go with a buffer of three dimensions, not of {len(memory.shape)}")
         if memory.strides[0] < 0:
             raise ValueError("no images: the planes go backwards (copy_of copies such pixels)")
         plane = memory._replace(shape=memory.shape[1:], strides=memory.strides[1:])
@@ -88,16 +95,25 @@ class Image(Layout):
 
     def get(self, x: int, y: int) -> Any:
         """The pixel in column `x` of row `y`: a number, or a tuple of a colour image's."""
-        return self._pixels.decode(_get(self._cells, x, y))
+        return self._pixels.decode(_get(self, x, y))
 
     def put(self, x: int, y: int, value: Pixel) -> None:
         """The pixel in column `x` of row `y` becomes `value`."""
-        _put(self._cells, x, y, self._pixels.encode(value))
+        _put(self, x, y, self._pixels.encode(value))
 
-    def fill(self, window: Corners, value: Pixel) -> None:
-        """Every pixel of the window becomes `value`."""
-        left, top, width, height = window
-        _fill(self._cells, left, top, width, height, self._pixels.encode(value))
+    @overload
+    def fill(self, value: Pixel, /) -> None: ...
+
+    @overload
+    def fill(self, window: Corners, value: Pixel) -> None: ...
+
+    def fill(self, window: Any, value: Any = _ALL) -> None:
+        """Every pixel of the window becomes `value`. `fill(value)` is for all pixels."""
+        if value is _ALL:
+            if isinstance(window, Window):
+                raise TypeError(f"a value is missing: fill({window}, value)")
+            window, value = (0, 0, self._width, self._height), window
+        _fill(self, window, self._pixels.encode(value))
 
     def count(self, window: Corners, value: Pixel) -> int:
         """How many pixels of the window have the bits of `value`.
@@ -106,18 +122,15 @@ class Image(Layout):
         >>> image.count(image.whole, 1)
         3
         """
-        left, top, width, height = window
-        return _native.count(self._cells, left, top, width, height, self._pixels.encode(value))
+        return _native.count(self, window, self._pixels.encode(value))
 
     def copy_window(self, window: Corners, source: Image | Buffer) -> None:
         """The window gets the pixels of `source`, an image or a buffer of two or three dimensions.
         It has the window's size and this image's format, and is over other memory."""
         if not isinstance(source, Image):
             source = _image_of(source)
-        if self._pixels is not source._pixels and not self._is_alike(source):
-            raise TypeError(f"no image with pixels of {self.channels} numbers of format {self.format!r}: {source!r}")
-        left, top, width, height = window
-        _copy(self._cells, left, top, width, height, source._cells)
+        self._needs_alike(source, "source")
+        _copy(self, window, source)
 
     def copy_from(self, source: Image | Buffer) -> None:
         """Every pixel becomes that of `source`, an image or a buffer, as in `copy_window`."""
@@ -148,9 +161,10 @@ class Image(Layout):
         self._turn_into(target, 0)
 
     def _turn_into(self, target: Image, quarters: int) -> None:
-        if not isinstance(target, Image) or self._pixels is not target._pixels and not self._is_alike(target):
-            raise TypeError(f"no image with pixels of {self.channels} numbers of format {self.format!r}: {target!r}")
-        _native.turn(target._cells, self._cells, quarters)
+        if not isinstance(target, Image):
+            raise TypeError(f"the target is an Image, not {target!r}")
+        self._needs_alike(target, "target")
+        _native.turn(target, self, quarters)
 
     def turned(self, turn: Turn) -> Image:
         """A copy that is turned clockwise: `"right"`, `"half"` or `"left"`.
@@ -182,21 +196,19 @@ class Image(Layout):
         >>> list(image.tobytes())
         [3, 1, 4, 2]
         """
-        _native.turn_in_place(self._cells, _quarters(turn))
+        _native.turn_in_place(self, _quarters(turn))
 
     def transpose(self) -> None:
         """Rows become columns in place. The image has to be a square."""
-        _native.turn_in_place(self._cells, 0)
+        _native.turn_in_place(self, 0)
 
     def flip_rows(self, window: Corners | None = None) -> None:
         """The first row of the window, or of all, changes places with the last, and so on."""
-        left, top, width, height = self.whole if window is None else window
-        _native.flip_rows(self._cells, left, top, width, height)
+        _native.flip_rows(self, self.whole if window is None else window)
 
     def flip_columns(self, window: Corners | None = None) -> None:
         """The first column of the window, or of all, changes places with the last, and so on."""
-        left, top, width, height = self.whole if window is None else window
-        _native.flip_columns(self._cells, left, top, width, height)
+        _native.flip_columns(self, self.whole if window is None else window)
 
     def flipped_rows(self) -> Image:
         """A copy upside down.
@@ -220,34 +232,30 @@ class Image(Layout):
 
     def swap_rows(self, y: int, z: int) -> None:
         """Rows `y` and `z` change places."""
-        _native.swap_rows(self._cells, y, z)
+        _native.swap_rows(self, y, z)
 
     def tobytes(self) -> bytes:
         """The bytes of all pixels, in joined rows. `bytes(image)` is the same."""
-        return _native.joined(self._cells)
+        return _native.joined(self)
 
     __bytes__ = tobytes
 
     def move_window(self, source: Corners, target: Corners) -> None:
         """The window `target` gets the pixels that the window `source` had; they may overlap."""
-        left, top, width, height = source
-        x, y, wide, high = target
-        _move(self._cells, left, top, width, height, x, y, wide, high)
+        _move(self, source, target)
 
     def mosaic(self, window: Corners, tile_width: int, tile_height: int) -> None:
         """Each tile of the window, from its corner on, gets the pixel that was at the tile's
         corner."""
-        left, top, width, height = window
-        _mosaic(self._cells, left, top, width, height, tile_width, tile_height)
+        _mosaic(self, window, tile_width, tile_height)
 
     def mosaic_means(self, window: Corners, tile_width: int, tile_height: int) -> None:
         """Each tile of the window, from its corner on, gets the mean of its pixels, rounded to the
         nearest number. Each number of a colour is a mean of its own. The numbers are unsigned and
         have one or two bytes."""
         if self._pixels.cell.code not in ("B", "H"):
-            raise TypeError(f"no mean is taken of numbers of format {self.format!r}")
-        left, top, width, height = window
-        _native.mosaic_means(self._cells, left, top, width, height, tile_width, tile_height, self.channels)
+            raise TypeError(f"means are of unsigned numbers of one or two bytes, 'B' or 'H', not of format {self.format!r}")
+        _native.mosaic_means(self, window, tile_width, tile_height, self.channels)
 
     def pack(self) -> None:
         """Joins the rows at the front of the memory. The stride is that of joined rows from then
@@ -258,15 +266,72 @@ class Image(Layout):
         """
         if self._is_part:
             raise ValueError("pack on a window or a part of an array would write over pixels beside it: copy() joins the rows")
-        _native.pack(self._cells)
+        _native.pack(self)
 
     def window(self, window: Corners) -> Image:
         """The window as an image over the same memory."""
-        left, top, width, height = map(index, window)
         made = Image.__new__(Image)
-        _hold(made, _window(self._cells, left, top, width, height))
-        made._pixels, made._width, made._height, made._is_part = self._pixels, width, height, True
+        cells, made._width, made._height = _window(self, window)
+        _hold(made, cells)
+        made._pixels, made._is_part = self._pixels, True
         return made
+
+    @overload
+    def __getitem__(self, key: tuple[SupportsIndex, SupportsIndex]) -> Any: ...
+
+    @overload
+    def __getitem__(self, key: slice | EllipsisType | tuple[slice, slice]) -> Image: ...
+
+    def __getitem__(self, key: Any) -> Any:
+        """`image[y, x]` is a pixel, and `image[10:20, 5:50]` is the window of these rows and
+        columns. Numbers below 0 count from the end, and slices end at the edge, as NumPy has it.
+        A step other than 1 is refused.
+
+        >>> image = Image(bytearray(range(12)), 4, 3)
+        >>> image[1, 2], image[-1, -1], list(image[1:, 2:].tobytes())
+        (6, 11, [6, 7, 10, 11])
+        """
+        place = self._part(key)
+        return self.window(place) if isinstance(place, Window) else self.get(*place)
+
+    @overload
+    def __setitem__(self, key: tuple[SupportsIndex, SupportsIndex], value: Pixel) -> None: ...
+
+    @overload
+    def __setitem__(self, key: slice | EllipsisType | tuple[slice, slice], value: Pixel | Image | Buffer) -> None: ...
+
+    def __setitem__(self, key: Any, value: Any) -> None:
+        """`image[y, x] = value` writes a pixel. `image[10:20, 5:50] = value` fills a window, or
+        copies an image or a buffer of two or three dimensions into it."""
+        place = self._part(key)
+        if not isinstance(place, Window):
+            self.put(*place, value)
+        elif isinstance(value, Image) or getattr(value, "ndim", 0) > 1:
+            source = value if isinstance(value, Image) else _image_of(value)
+            # (a part of this image is copied first, as NumPy does)
+            self.copy_window(place, source.copy() if _native.overlap(self, source) else source)
+        else:
+            self.fill(place, value)
+
+    # (else Python would try image[0], image[1] and so on, and would miss an attribute for `del`)
+    __iter__ = __contains__ = __delitem__ = None
+
+    def _part(self, key: Any) -> Window | tuple[int, int]:
+        """The window, or the column and the row of the pixel, that an index means."""
+        if type(key) is tuple and len(key) == 2 and type(key[0]) is type(key[1]) is int and key[0] >= 0 <= key[1]:
+            return key[1], key[0]
+        if key is ... or isinstance(key, slice):
+            key = (slice(None) if key is ... else key, slice(None))
+        if isinstance(key, tuple) and len(key) == 2 and isinstance(key[0], slice) == isinstance(key[1], slice):
+            sizes = (self._height, self._width)
+            if isinstance(key[0], slice):
+                (top, height), (left, width) = map(_piece, key, sizes)
+                return Window(left, top, width, height)
+            y, x = map(index, key)
+            if -sizes[0] <= y and -sizes[1] <= x:
+                return x + sizes[1] * (x < 0), y + sizes[0] * (y < 0)
+            raise Refused(_PLACE_OUTSIDE, place(x, y, self._width, self._height))
+        raise TypeError(f"an image takes image[y, x] or image[top:bottom, left:right], and not {key!r}")
 
     def tiles(self, tile_width: int, tile_height: int) -> Iterator[Window]:
         """The windows of the tiles, line by line."""
@@ -275,9 +340,12 @@ class Image(Layout):
             yield Window(*_native.tile(*sizes, number))
 
     def __eq__(self, other: object) -> bool:
-        if not isinstance(other, Image) or self._pixels is not other._pixels and not self._is_alike(other):
-            return False
-        return _equal(self._cells, other._cells)
+        if not isinstance(other, Image):
+            try:
+                other = _image_of(other)
+            except (ValueError, TypeError):
+                return False
+        return self._is_alike(other) and _equal(self, other)
 
     __hash__ = None  # type: ignore[assignment]
 
@@ -290,6 +358,14 @@ class Image(Layout):
     def __repr__(self) -> str:
         colours = f", {self._pixels.channels} channels" if self._pixels.channels > 1 else ""
         return f"<imgref.Image of {self._width} by {self._height} pixels{colours}, stride {self.stride}, format {self.format!r}>"
+
+
+def _piece(key: slice, count: int) -> tuple[int, int]:
+    """The first of the rows or columns that a slice means, and how many they are."""
+    start, stop, step = key.indices(count)
+    if step != 1:
+        raise ValueError(f"a window has every row and column, and no step of {step}: copy_of copies such pixels of an array")
+    return start, max(stop - start, 0)
 
 
 def _quarters(turn: Turn) -> int:

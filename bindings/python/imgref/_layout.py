@@ -6,7 +6,8 @@ from typing import Any
 from ._memory import Memory
 from ._native import Cells, Holder, hold
 from ._pixels import Pixels, pixels_of, step_of
-from ._types import Window
+from ._refusals import no_image
+from ._types import Refused, Window
 
 
 class Layout(Holder):
@@ -88,14 +89,23 @@ class Layout(Holder):
         that is counted in numbers."""
         cell, start = memory.cell, memory.start + at
         if start % cell.size:
-            raise ValueError("the cells don't lie at a multiple of their size")
+            raise ValueError(f"numbers of {cell.size} bytes lie at multiples of {cell.size}, and the first of these is {start % cell.size} bytes after one")
         step = step_of(cell, channels, start, stride)
         numbers = channels // step
         sizes = (length // numbers, width * step, height, stride // numbers, cell.size * numbers, step, channels)
-        hold(self, Cells(memory.view, at, sizes, cell.code, not memory.is_writable))
+        try:
+            cells = Cells(memory.view, at, sizes, cell.code, not memory.is_writable)
+        except Refused as why:
+            raise Refused(why.status, no_image(width, height, stride, length, channels)) from None
+        hold(self, cells)
         self._pixels, self._width, self._height = pixels_of(cell, channels, step), width, height
         self._is_part = False
 
     def _is_alike(self, other: Layout) -> bool:
         """Whether pixels of both have the same numbers."""
-        return self._pixels.cell is other._pixels.cell and self._pixels.channels == other._pixels.channels
+        return self._pixels is other._pixels or self._pixels.cell is other._pixels.cell and self._pixels.channels == other._pixels.channels
+
+    def _needs_alike(self, other: Layout, name: str) -> None:
+        """Refuses pixels of other numbers than this has."""
+        if not self._is_alike(other):
+            raise TypeError(f"the {name} has pixels of {other._pixels!r}, and the image has pixels of {self._pixels!r}")

@@ -93,15 +93,19 @@ class Sizes(NamedTuple):
 def shaped(memory: Memory) -> Sizes:
     """The sizes of a buffer of two dimensions, or of three for a colour image, with the numbers up
     to its last pixel."""
+    if len(memory.shape) == 1:
+        raise TypeError("a buffer of one dimension needs a width and a height")
     if len(memory.shape) not in (2, 3):
-        raise TypeError("a buffer that hasn't two or three dimensions needs a width and a height")
+        raise TypeError(f"an image takes a buffer of one, two or three dimensions, not of {len(memory.shape)}")
     height, width, channels = (*memory.shape, 1)[:3]
-    size, whole = memory.cell.size, memory.cell.size * known(channels)
+    if not 1 <= channels <= MOST_CHANNELS:
+        raise TypeError(f"a pixel has 1 to {MOST_CHANNELS} numbers, and {channels} in a buffer of shape {memory.shape}: of planes, rows and columns Image.planes_of makes an image for each plane")
+    size, whole = memory.cell.size, memory.cell.size * channels
     line, step = memory.strides[:2]
     if height < 2 or not width:
         line = max(width, 1) * whole
     if width > 1 and step != whole or channels > 1 and memory.strides[2] != size or line % size or line < 0:
-        raise ValueError("no image: the columns have gaps, or the rows go upwards (copy_of copies such pixels)")
+        raise ValueError(f"no image: a buffer of shape {memory.shape} with strides of {memory.strides} bytes has gaps in a row, or rows that go upwards (copy_of copies such pixels)")
     stride = line // size
     return Sizes(width, height, stride, stride * (height - 1) + width * channels if width and height else 0, channels)
 
@@ -109,8 +113,13 @@ def shaped(memory: Memory) -> Sizes:
 def sized(memory: Memory, width: Any, height: Any, stride: Any, channels: Any) -> Sizes:
     """The sizes that are given with a buffer of one dimension, and how many numbers it has."""
     size = memory.cell.size
-    if len(memory.shape) != 1 or memory.bytes > size and memory.strides[0] != size:
-        raise TypeError("sizes go with a buffer of one dimension")
+    if len(memory.shape) != 1:
+        raise TypeError(f"sizes go with a buffer of one dimension, not of {len(memory.shape)}")
+    if memory.bytes > size and memory.strides[0] != size:
+        raise TypeError(f"sizes go with a buffer without gaps, and this one has an item of {size} bytes each {memory.strides[0]} bytes")
+    for name, it in (("width", width), ("height", height)):
+        if it is None:
+            raise TypeError(f"a {name} is missing")
     width, height, channels = index(width), index(height), known(1 if channels is None else index(channels))
     return Sizes(width, height, max(width, 1) * channels if stride is None else index(stride), memory.bytes // size, channels)
 

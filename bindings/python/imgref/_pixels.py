@@ -3,12 +3,15 @@ from __future__ import annotations
 
 import functools
 import sys
+from collections.abc import Mapping, Set
 from typing import Any, Callable
 
 from ._cells import Cell
 from ._types import Number, Pixel
 
 _GROUPS = (1, 2, 4, 8)
+# What gives its values in no order that a colour has.
+_NO_ORDER = (Set, Mapping)
 
 
 class Pixels:
@@ -35,14 +38,19 @@ class Pixels:
     def _numbers(self, value: Pixel) -> list[int]:
         """The bits of each number of a colour. One number stands for all of them."""
         encode = self.cell.encode
+        if isinstance(value, _NO_ORDER):
+            raise TypeError(f"a colour is {self.channels} numbers in their order, and {value!r} has none")
         try:
             values = iter(value)  # type: ignore[arg-type]
         except TypeError:
             return [encode(value)] * self.channels  # type: ignore[arg-type]
         numbers = [encode(it) for it in values]
         if len(numbers) != self.channels:
-            raise ValueError(f"a pixel of {self.channels} numbers: {value!r}")
+            raise ValueError(f"a colour is {self.channels} numbers, and {value!r} has {len(numbers)}")
         return numbers
+
+    def __repr__(self) -> str:
+        return (f"{self.channels} numbers" if self.channels > 1 else "one number") + f" of format {self.cell.format!r}"
 
     def _of_numbers(self, bits: list[int]) -> tuple[Number, ...]:
         return tuple(map(self.cell.decode, bits))

@@ -12,20 +12,19 @@ Turn = Literal["right", "half", "left"]
 # What has the buffer protocol, or `__array_interface__`.
 Buffer = Any
 
-_STATUS = ("done", "not an image", "the window is outside", "sizes differ", "the place is outside", "no such tile", "no such turn")
-
 
 class Refused(ValueError):
-    """The library refused, and nothing has changed. `status` is what it returned (imgref.h)."""
+    """The library refused, and nothing has changed. The text names what was given and what was
+    needed. `status` is what the library returned (imgref.h)."""
 
     status: int
 
-    def __init__(self, status: int):
-        super().__init__(_STATUS[status] if status < len(_STATUS) else f"status {status}")
+    def __init__(self, status: int, text: str = ""):
+        super().__init__(text or f"status {status}")
         self.status = status
 
-    def __reduce__(self) -> tuple[type[Refused], tuple[int]]:
-        return Refused, (self.status,)
+    def __reduce__(self) -> tuple[type[Refused], tuple[int, str]]:
+        return Refused, (self.status, str(self))
 
 
 class Window(NamedTuple):

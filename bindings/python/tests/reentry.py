@@ -1,15 +1,15 @@
 """Code of the user's that runs in the middle of a call: it makes the image again, frees what it can, and takes memory of that
-size for itself. A call on an image must give what it gives without that code, and change nothing else. Prints 'N passed, M
-failed' last.
+size for itself. A call on an image must give what it gives without that code, and change nothing else. Then cycles.py, whose
+cycles the collector takes apart. Prints 'N passed, M failed' last.
 
 Freed memory shows best under a debug allocator: PYTHONMALLOC=debug MALLOC_PERTURB_=165.
 """
 import gc
 import threading
 import time
-import weakref
 
 from counting import check, end, numpy_or_none, raises
+from cycles import all_of
 from imgref import Image, Window
 from imgref._native import Cells
 
@@ -184,25 +184,10 @@ def of_once():
     taken = [bytearray(4096) for _ in range(8)]
     check("a memoryview holds the memory", view.tobytes() == b"\2" * 4096 and taken)
     bare = Image.__new__(Image)
-    check("an image that isn't made", raises(AttributeError, bare.get, 0, 0) and raises(BufferError, memoryview, bare))
+    check("an image that isn't made", raises((TypeError, AttributeError), bare.get, 0, 0) and raises(TypeError, bare.tobytes) and raises(BufferError, memoryview, bare))
     late = Image.__new__(Image)
     late.__init__(frame, 3, 2)
     check("an image that is made late", late == image)
-
-
-def of_cycles():
-    """A frame that has an image over itself is freed."""
-
-    class Frame(bytearray):
-        pass
-
-    frame = Frame(64)
-    frame.image = Image(frame, 8, 8)
-    frame.part = frame.image.window((1, 1, 2, 2))
-    gone = weakref.ref(frame)
-    del frame
-    gc.collect()
-    check("a frame with its image is freed", gone() is None)
 
 
 def of_numpy_memory(numpy):
@@ -263,8 +248,8 @@ def of_threads():
 of_numbers()
 of_lists()
 of_once()
-of_cycles()
 if (numpy := numpy_or_none()) is not None:
     of_numpy_memory(numpy)
 of_threads()
+all_of(1000)
 end()

@@ -53,12 +53,27 @@ def beside_numpy(numpy):
         check(f"both give the same, {label}", (numpy.asarray(image) == other).all())
 
 
-def by_turns(*calls):
+def small_beside_numpy(numpy):
+    """Calls on a pixel and on 8 by 8 pixels beside NumPy's."""
+    array = numpy.zeros((64, 64), numpy.uint8)
+    image, part = Image(array), (slice(8, 16), slice(8, 16))
+    pairs = {
+        "get": (lambda: image.get(3, 4), lambda: array[4, 3]),
+        "put": (lambda: image.put(3, 4, 7), lambda: array.__setitem__((4, 3), 7)),
+        "fill of 8 by 8": (lambda: image.fill((8, 8, 8, 8), 7), lambda: array.__setitem__(part, 7)),
+        "count of 8 by 8": (lambda: image.count((8, 8, 8, 8), 7), lambda: numpy.count_nonzero(array[part] == 7)),
+    }
+    for name, calls in pairs.items():
+        own, numpys = (1e3 * it for it in by_turns(*calls, number=CALLS))
+        check(f"{name}: {own:.2f} microseconds, NumPy {numpys:.2f}", own <= FACTOR * numpys)
+
+
+def by_turns(*calls, number=1):
     """The least times of two calls, in milliseconds."""
     least_of = [float("inf"), float("inf")]
     for _ in range(TURNS):
         for at, call in enumerate(calls):
-            least_of[at] = min(least_of[at], 1e3 * timeit.timeit(call, number=1))
+            least_of[at] = min(least_of[at], 1e3 * timeit.timeit(call, number=number) / number)
         if least_of[0] <= least_of[1]:
             break
     return least_of
@@ -85,6 +100,7 @@ def main(most):
         check(f"{name}: {taken:.2f} microseconds, at most {most:g}", taken <= most)
     if (numpy := numpy_or_none()) is not None:
         beside_numpy(numpy)
+        small_beside_numpy(numpy)
     end()
 
 

@@ -1,0 +1,112 @@
+"""What a user of NumPy types: indexes, slices and a fill of all pixels. Prints 'N passed, M failed'
+last."""
+import array
+import itertools
+
+from counting import check, end, numpy_or_none, raises
+from imgref import Image, Refused, Window
+
+HEIGHT, WIDTH = 4, 5
+ENDS = (None, -9, -4, -1, 0, 1, 3, 4, 5, 9)
+
+
+def made(channels=1):
+    return Image(bytearray(range(WIDTH * HEIGHT * channels)), WIDTH, HEIGHT, channels=channels)
+
+
+def of_pixels():
+    for channels in (1, 3, 4):
+        image = made(channels)
+        rows = [[image.get(x, y) for x in range(WIDTH)] for y in range(HEIGHT)]
+        inside = [image[y, x] == rows[y][x] for y in range(-HEIGHT, HEIGHT) for x in range(-WIDTH, WIDTH)]
+        outside = [(HEIGHT, 0), (0, WIDTH), (-HEIGHT - 1, 0), (0, -WIDTH - 1), (1 << 70, 0), (0, -1 << 70)]
+        check(f"image[y, x], {channels} channels", all(inside) and all(raises(ValueError, image.__getitem__, it) for it in outside))
+        value = (7, 8, 9, 10)[:channels] if channels > 1 else 7
+        image[-1, 2] = value
+        rows[-1][2] = value
+        check(f"image[y, x] = value, {channels} channels", [[image[y, x] for x in range(WIDTH)] for y in range(HEIGHT)] == rows)
+    check("a place before the first is refused", raises(Refused, made().__getitem__, (-5, 0)) and raises(Refused, made().__setitem__, (0, -6), 1))
+
+
+def of_windows():
+    """Each slice of rows and of columns, beside the same slices of a list."""
+    image, rows = made(), [[y * WIDTH + x for x in range(WIDTH)] for y in range(HEIGHT)]
+    is_well = True
+    for top, bottom, left, right in itertools.product(ENDS, repeat=4):
+        part, due = image[top:bottom, left:right], [it[left:right] for it in rows[top:bottom]]
+        size = (len(range(HEIGHT)[top:bottom]), len(range(WIDTH)[left:right]))
+        is_well &= part.shape == size and list(part.tobytes()) == [it for row in due for it in row]
+    check("image[top:bottom, left:right]", is_well)
+    check("rows alone, and all", image[1:3] == image.window((0, 1, WIDTH, 2)) and image[:].whole == image[...].whole == image.whole)
+    image[1:3, 2:4].fill(99)
+    check("it is the same memory", image[1, 2] == image[2, 3] == 99 and image[0, 2] == 2)
+    image[0:2, 0:2] = 50
+    image[:, 4:] = Image(bytes([60, 61, 62, 63]), 1, 4)
+    image[3:, :2] = memoryview(bytes([70, 71])).cast("B", (1, 2))
+    check("image[..] = value", list(image.tobytes()) == [50, 50, 2, 3, 60, 50, 50, 99, 99, 61, 10, 11, 99, 99, 62, 70, 71, 17, 18, 63])
+    colours = made(3)
+    colours[1:3, 1:] = (1, 2, 3)
+    check("a colour", colours[2, 4] == (1, 2, 3) == colours[1, 1] and colours[0, 0] == (0, 1, 2))
+    before = image.tobytes()
+    for key in (slice(0, 4, 2), slice(None, None, -1), (slice(0, 4, 2), slice(None)), (slice(None), slice(0, 5, 3))):
+        check(f"no step: {key}", raises(ValueError, image.__getitem__, key) and raises(ValueError, image.__setitem__, key, 1))
+    for key in (1, None, "x", 1.5, (1,), (1, 2, 3), (slice(None), 1), (1, slice(None)), (1.5, 0), (None, None), (..., 1), (slice("a", None), slice(None)), [0, 1], ()):
+        check(f"no index: {key}", raises(TypeError, image.__getitem__, key) and raises(TypeError, image.__setitem__, key, 1))
+    check("no iteration over rows", raises(TypeError, iter, image) and raises(TypeError, lambda: 3 in image) and raises(TypeError, list, image))
+    check("nothing is written", image.tobytes() == before and raises(TypeError, Image(bytes(4), 2, 2).__setitem__, (0, 0), 1))
+    check("nothing is deleted", raises(TypeError, exec, "del image[0, 0]", {"image": image}))
+
+
+def of_fill():
+    for channels, value in ((1, 7), (3, (7, 8, 9)), (4, (7, 8, 9, 10))):
+        image, other = made(channels), made(channels)
+        image.fill(value)
+        other.fill(other.whole, value)
+        part = made(channels)
+        part[1:, 1:].fill(value)
+        check(f"fill(value), {channels} channels", image == other and image[3, 4] == value and part[0, 0] != value == part[1, 1])
+        image.fill(3)
+        check(f"fill(number), {channels} channels", set(image.tobytes()) == {3})
+    image = made()
+    image.fill(window=(0, 0, 1, 1), value=99)
+    check("by names", image[0, 0] == 99 and image[0, 1] == 1)
+    check("a value is missing", all(raises(TypeError, it.fill, it.whole) for it in (made(), made(4))) and raises(TypeError, image.fill) and raises(TypeError, image.fill, (0, 0, 1, 1)))
+
+
+def of_buffers():
+    """An image and a buffer of its pixels are equal."""
+    image = made()
+    same, wide = memoryview(bytes(range(20))).cast("B", (4, 5)), memoryview(bytes(range(20))).cast("B", (5, 4))
+    check("image == buffer", (image == same, same == image, image != same, image == wide) == (True, True, False, False))
+    signed = memoryview(array.array("b", range(20))).cast("B").cast("b", (4, 5))
+    others = (signed, bytes(range(20)), bytearray(range(20)), "text", 7, None, [1], memoryview(bytes(range(19)) + b"1").cast("B", (4, 5)))
+    check("image == anything else", all(type(image == it) is bool and image != it for it in others))
+
+
+def of_numpy(numpy):
+    frame = numpy.arange(60, dtype=numpy.uint8).reshape(4, 5, 3)
+    grey = frame[:, :, 0].copy()
+    for array_ in (frame, grey):
+        image = Image(array_)
+        check(f"NumPy: image[y, x], {image.channels} channels", all((numpy.array(image[y, x]) == array_[y, x]).all() for y in range(-4, 4) for x in range(-5, 5)))
+        check(f"NumPy: slices, {image.channels} channels", all((numpy.asarray(image[a:b, c:d]) == array_[a:b, c:d]).all() for a, b, c, d in itertools.product(ENDS[::2], repeat=4)))
+        check(f"NumPy: ==, {image.channels} channels", type(image == array_) is bool and image == array_ and array_ == image and image == array_.copy() and image != array_ + 1 and image != array_[:-1] and image != array_.astype("i2"))
+        image[numpy.int64(1), numpy.int64(2)] = array_[3, 4]
+        image[:2, 3:] = array_[2:, :2]
+        check(f"NumPy: image[..] = array, {image.channels} channels", (array_[1, 2] == array_[3, 4]).all() and (array_[:2, 3:] == array_[2:, :2]).all())
+        image[0:1, 0:1] = numpy.uint8(200)
+        check(f"NumPy: image[..] = number, {image.channels} channels", (array_[0, 0] == 200).all())
+    turned = Image.copy_of(grey.T)
+    check("NumPy: == of a transposed array", turned == grey.T and turned == grey.T[:, :] and turned != grey)
+    image = Image(grey)
+    image[:, 1:] = frame[:, 1:, 1]
+    check("NumPy: columns with gaps are copied", (grey[:, 1:] == frame[:, 1:, 1]).all())
+
+
+of_pixels()
+of_windows()
+of_fill()
+of_buffers()
+if (numpy := numpy_or_none()) is not None:
+    of_numpy(numpy)
+end()
