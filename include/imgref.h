@@ -10,6 +10,8 @@
  *
  * Units     Widths, columns and left are counted in pixels, and so are heights, rows and top. Strides and lengths are
  *           counted in cells.
+ * Sizes     Width and height are below 2^32. For a call with `channels` width * channels is below 2^32 too, and at most the
+ *           stride: a row of 2^30 pixels of four cells is IMGREF_NOT_AN_IMAGE.
  * Results   A call returns IMGREF_OK, or which test failed first. Unless it is IMGREF_OK nothing has changed: no cell, and
  *           nothing that a pointer for a result points to.
  * Padding   No call that writes changes padding, except imgref_*_pack, which moves rows over it.
@@ -19,7 +21,7 @@
  *           overlap. imgref_*_move_window goes between two windows of one image, which may overlap.
  * Pointers  No pointer may be null, even where its length is 0. Any other pointer will do there, for example that of a
  *           variable of the cell's type; nothing is read or written there. Cells are aligned to a multiple of their size.
- * Processor x86-64-v2 or later (SSE4.2).
+ * Processor x86-64-v2 or later (SSE4.2), or aarch64.
  * Lengths   A length is the number of cells that may be read (and, where they aren't const, written) from the pointer on.
  *
  * The proofs assume what Overlap, Pointers and Lengths say: no call can test it.
@@ -33,9 +35,9 @@
 
 /* The version of this header, in three numbers and as a text. */
 #define IMGREF_VERSION_MAJOR 0
-#define IMGREF_VERSION_MINOR 1
+#define IMGREF_VERSION_MINOR 2
 #define IMGREF_VERSION_PATCH 0
-#define IMGREF_VERSION "0.1.0"
+#define IMGREF_VERSION "0.2.0"
 
 #ifdef __cplusplus
 extern "C" {
@@ -115,11 +117,12 @@ imgref_status imgref_tile(size_t width, size_t height, size_t tile_width, size_t
  *              IMGREF_HALF. NO_TURN (tested first), NOT_AN_IMAGE, SIZES_DIFFER.
  * transpose    Columns become rows in place: each pixel changes places with the one whose column is its row. The image has to
  *              be a square of pixels of `channels` cells. NOT_AN_IMAGE, SIZES_DIFFER.
- * flip_rows    The first row of the window changes places with its last, and so on. Pixels have `channels` cells.
- *              NOT_AN_IMAGE, WINDOW_OUTSIDE.
+ * flip_rows    The first row of the window changes places with its last, and so on. Pixels have `channels` cells, since the
+ *              window is counted in pixels. NOT_AN_IMAGE, WINDOW_OUTSIDE.
  * flip_columns In each row of the window the first pixel changes places with the last, and so on. Pixels have `channels`
  *              cells. NOT_AN_IMAGE, WINDOW_OUTSIDE.
- * swap_rows    Rows y and z change places. Pixels have `channels` cells. NOT_AN_IMAGE, PLACE_OUTSIDE.
+ * swap_rows    Rows y and z change places. Pixels have `channels` cells, since `width` is counted in pixels. NOT_AN_IMAGE,
+ *              PLACE_OUTSIDE.
  * mosaic_means Each tile of the window gets the mean of its pixels, rounded to the nearest number: a half goes up. Each of the
  *              `channels` cells of a pixel is a mean of its own. A tile that the window's edge cuts has the pixels that are
  *              left of it. Only of u8 and u16. NOT_AN_IMAGE, WINDOW_OUTSIDE, NO_TILE.

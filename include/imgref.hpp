@@ -1,14 +1,21 @@
 // imgref.hpp: the calls of imgref.h for C++17 and later, on a view over memory of the caller's.
 //
-//     std::vector<float> cells(width * height);
-//     imgref::view image(cells, width, height);            // imgref::view<float>
-//     image.fill({8, 8, 64, 64}, 0.5f);                    // a window: left, top, width, height
+//     std::vector<unsigned char> cells(width * height);
+//     imgref::view image(cells, width, height);            // imgref::view<unsigned char>
+//     image.fill({8, 8, 64, 64}, {255});                   // a window: left, top, width, height
 //     image.window({0, 0, 32, 32}).mosaic(4, 4);           // a view over the same memory
 //
 // A view is a pointer, a length, a width, a height and a stride, all counted in pixels. It owns
 // nothing and is copied like a pointer, as std::span. view<const T> is for reading, and each
 // view<T> converts to it. A pixel is any trivially copyable type of 1, 2, 4 or 8 bytes that lies at
 // a multiple of its size. Pixels are compared by their bits.
+//
+// A value of another type is taken as it is where no value of that type is lost, as a float for a
+// double. Else it is written in braces, as {255}: the compiler refuses a constant that doesn't fit.
+// Where the compiler has C++20's consteval, a constant needs no braces.
+//
+// Calls with `channels` take colours of so many elements, next to one another in a row. The width
+// of the view has to be a multiple of `channels`, and windows and tiles are counted in colours.
 //
 // Where the library refuses, a call throws imgref::refused with the status of imgref.h, and nothing
 // has changed. What the library can't see is tested here, and throws std::invalid_argument:
@@ -26,6 +33,7 @@
 #include <iterator>
 #include <stdexcept>
 #include <type_traits>
+#include <utility>
 
 #if defined(__has_include)
 #if __has_include(<version>)
@@ -40,13 +48,19 @@
 
 namespace imgref {
 
-// The column and the row of a window's corner, and its size.
-using rect = imgref_rect;
+// The column and the row of a window's corner, and its size: four numbers, or none for 0, 0, 0, 0.
+struct rect : imgref_rect {
+    constexpr rect() noexcept : imgref_rect{0, 0, 0, 0} {}
+    constexpr rect(std::size_t left, std::size_t top, std::size_t width, std::size_t height) noexcept : imgref_rect{left, top, width, height} {}
+    // (a template, since braces with three numbers would be one of these)
+    template <class Window, class = std::enable_if_t<std::is_same_v<Window, imgref_rect>>> constexpr rect(const Window &other) noexcept : imgref_rect(other) {}
+};
 
 // The library refused, and nothing has changed.
 class refused : public std::invalid_argument {
 public:
-    explicit refused(imgref_status status) : std::invalid_argument(text(status)), status_(status) {}
+    explicit refused(imgref_status status) : refused(status, text(status)) {}
+    refused(imgref_status status, const char *why) : std::invalid_argument(why), status_(status) {}
 
     // What the call returned: one of the statuses of imgref.h.
     imgref_status status() const noexcept { return status_; }
@@ -75,6 +89,22 @@ namespace detail {
 inline void done(imgref_status status) {
     if (status != IMGREF_OK) throw refused(status);
 }
+
+// Whether every value of a type is one of T, as the compiler's rule for braces says.
+template <class T, class From, class = void> struct fits : std::is_same<T, From> {};
+template <class T, class From>
+struct fits<T, From, std::void_t<std::enable_if_t<std::is_convertible_v<const From &, T>>, decltype(T{std::declval<const From &>()})>> : std::true_type {};
+
+#if defined(__cpp_consteval)
+// A constant of another type, which is tested while the program is compiled.
+template <class T> struct constant {
+    T value;
+    template <class From, class = std::enable_if_t<std::is_arithmetic_v<From> && std::is_arithmetic_v<T> && !fits<T, From>::value && (std::is_integral_v<From> || std::is_floating_point_v<T>)>>
+    consteval constant(From from) : value(static_cast<T>(from)) {
+        if (std::is_integral_v<From> && (static_cast<From>(value) != from || (value < T{}) != (from < From{}))) throw "the constant doesn't fit a pixel";
+    }
+};
+#endif
 
 // The calls for cells of so many bytes.
 template <std::size_t Size> struct calls;
@@ -175,6 +205,7 @@ template <class T> class view {
     using calls = detail::calls<sizeof(T)>;
     using cell = typename calls::cell;
     template <class U> friend class view;
+    template <class Value> using if_fits = std::enable_if_t<detail::fits<std::remove_cv_t<T>, Value>::value>;
 
 public:
     using element_type = T;
@@ -226,15 +257,15 @@ public:
     }
 
     // The pixel in column x of row y becomes `pixel`.
-    void put(std::size_t x, std::size_t y, const value_type &pixel) const {
+    template <class Value = value_type, class = if_fits<Value>> void put(std::size_t x, std::size_t y, const Value &pixel) const {
         detail::done(calls::put(written(), len_, width_, height_, stride_, x, y, bits(pixel)));
     }
 
     // Every pixel of the window, or of all, becomes `pixel`.
-    void fill(const rect &window, const value_type &pixel) const {
+    template <class Value = value_type, class = if_fits<Value>> void fill(const rect &window, const Value &pixel) const {
         detail::done(calls::fill_window(written(), len_, width_, height_, stride_, window, bits(pixel)));
     }
-    void fill(const value_type &pixel) const { fill(whole(), pixel); }
+    template <class Value = value_type, class = if_fits<Value>> void fill(const Value &pixel) const { fill(whole(), pixel); }
 
     // The window, or all, gets the pixels of `source`, which has its size and shares no memory with
     // this image.
@@ -257,28 +288,38 @@ public:
     }
     void mosaic(std::size_t tile_width, std::size_t tile_height) const { mosaic(whole(), tile_width, tile_height); }
 
-    // The two for colours of N elements, 1 to 4, next to one another in a row: the width of this view
-    // is N times theirs. Windows and tiles are counted in colours.
+    // The two for colours of N elements, 1 to 4. They throw refused (IMGREF_NOT_AN_IMAGE) for another
+    // number of channels, and where the width is no multiple of it.
     template <std::size_t N> void fill_pixels(const rect &window, const value_type (&pixel)[N]) const {
         cell made[N];
         for (std::size_t k = 0; k < N; ++k) made[k] = bits(pixel[k]);
-        detail::done(calls::fill_pixels(written(), len_, width_ / N, height_, stride_, window, made, N));
+        detail::done(calls::fill_pixels(written(), len_, pixels_of(width_, N), height_, stride_, window, made, N));
     }
-    // Throws refused (IMGREF_NOT_AN_IMAGE) for another number of channels.
     void mosaic_pixels(std::size_t channels, const rect &window, std::size_t tile_width, std::size_t tile_height) const {
         detail::done(calls::mosaic_pixels(written(), len_, pixels_of(width_, channels), height_, stride_, channels, window, tile_width, tile_height));
     }
 
     // How many pixels of the window, or of all, have the value.
-    std::size_t count(const rect &window, const value_type &value) const { return count_pixels<1>(window, {value}); }
-    std::size_t count(const value_type &value) const { return count(whole(), value); }
+    template <class Value = value_type, class = if_fits<Value>> std::size_t count(const rect &window, const Value &value) const {
+        return count_pixels<1>(window, {value});
+    }
+    template <class Value = value_type, class = if_fits<Value>> std::size_t count(const Value &value) const { return count(whole(), value); }
+
+#if defined(__cpp_consteval)
+    // The calls on a value with a constant of another type.
+    void put(std::size_t x, std::size_t y, detail::constant<value_type> pixel) const { put(x, y, pixel.value); }
+    void fill(const rect &window, detail::constant<value_type> pixel) const { fill(window, pixel.value); }
+    void fill(detail::constant<value_type> pixel) const { fill(whole(), pixel.value); }
+    std::size_t count(const rect &window, detail::constant<value_type> value) const { return count(window, value.value); }
+    std::size_t count(detail::constant<value_type> value) const { return count(whole(), value.value); }
+#endif
 
     // The same of colours of N elements, as fill_pixels has them.
     template <std::size_t N> std::size_t count_pixels(const rect &window, const value_type (&value)[N]) const {
         cell made[N];
         std::size_t found = 0;
         for (std::size_t k = 0; k < N; ++k) made[k] = bits(value[k]);
-        detail::done(calls::count(cells(), len_, width_ / N, height_, stride_, window, made, N, &found));
+        detail::done(calls::count(cells(), len_, pixels_of(width_, N), height_, stride_, window, made, N, &found));
         return found;
     }
 
@@ -290,8 +331,7 @@ public:
     }
 
     // Writes this image, turned or transposed, to `target`, which has the size of the turned one and
-    // shares no memory with this image. With `channels` a pixel is so many elements, 1 to 4, next to
-    // one another in a row.
+    // shares no memory with this image.
     void turn_into(view<value_type> target, imgref::turn by, std::size_t channels = 1) const {
         if (target.shares(*this)) throw std::invalid_argument("the images share memory");
         detail::done(calls::turn_into(target.written(), target.len_, pixels_of(target.width_, channels), target.height_, target.stride_, channels,
@@ -312,18 +352,20 @@ public:
         detail::done(calls::transpose(written(), len_, pixels_of(width_, channels), height_, stride_, channels));
     }
 
-    // The first row of the window, or of all, changes places with the last, and so on.
-    void flip_rows(const rect &window) const { detail::done(calls::flip_rows(written(), len_, width_, height_, stride_, 1, window)); }
+    // The first row of the window, or of all, changes places with the last, and so on. Only a window
+    // needs `channels`, by which it is counted: whole rows are the same whatever a pixel is.
+    void flip_rows(const rect &window, std::size_t channels = 1) const {
+        detail::done(calls::flip_rows(written(), len_, pixels_of(width_, channels), height_, stride_, channels, window));
+    }
     void flip_rows() const { flip_rows(whole()); }
 
     // In each row of the window, or of all, the first pixel changes places with the last, and so on.
-    // With `channels` a pixel is so many elements, and the window is counted in pixels.
     void flip_columns(const rect &window, std::size_t channels = 1) const {
         detail::done(calls::flip_columns(written(), len_, pixels_of(width_, channels), height_, stride_, channels, window));
     }
     void flip_columns(std::size_t channels = 1) const { flip_columns({0, 0, pixels_of(width_, channels), height_}, channels); }
 
-    // Rows y and z change places.
+    // Rows y and z change places: whole rows, so it takes no `channels`.
     void swap_rows(std::size_t y, std::size_t z) const { detail::done(calls::swap_rows(written(), len_, width_, height_, stride_, 1, y, z)); }
 
     // The rows are joined at the front of the memory, over what lies between them: after a window
@@ -373,8 +415,11 @@ private:
         return pixels_ ? reinterpret_cast<cell *>(pixels_) : reinterpret_cast<cell *>(&detail::nowhere);
     }
 
-    // The pixels of a row of so many elements.
-    static std::size_t pixels_of(std::size_t width, std::size_t channels) noexcept { return channels ? width / channels : width; }
+    // The colours of a row of so many elements.
+    static std::size_t pixels_of(std::size_t width, std::size_t channels) {
+        if (!channels || width % channels) throw refused(IMGREF_NOT_AN_IMAGE, "the width is no multiple of the channels");
+        return width / channels;
+    }
 
     bool shares(const view<const value_type> &other) const noexcept {
         std::less<const value_type *> before;

@@ -263,8 +263,24 @@ static void by_hand(void) {
     count("by hand: no cell", imgref_u8_fill_window(&pixel, 0, 0, 5, 1, (struct imgref_window){0, 2, 0, 3}, 7) == IMGREF_OK && pixel == 6);
 }
 
+/* The longest row that a call with `channels` takes: width * channels is below 2^32. Its cells are there once they are touched. */
+static void longest_row(void) {
+    const size_t cells = (size_t)1 << 32;
+    uint8_t *row = mmap(NULL, cells, PROT_READ | PROT_WRITE, MAP_PRIVATE | MAP_ANONYMOUS | MAP_NORESERVE, -1, 0);
+    if (row == MAP_FAILED) {
+        printf("the longest row: skipped, it isn't on this machine\n");
+        return;
+    }
+    const uint8_t pixel[4] = {1, 2, 3, 4};
+    const struct imgref_window last = {cells / 4 - 2, 0, 1, 1};
+    count("width * channels is 2^32", imgref_u8_fill_pixels(row, cells, cells / 4, 1, cells, last, pixel, 4) == IMGREF_NOT_AN_IMAGE && !row[cells - 8]);
+    count("width * channels is 2^32 - 4", imgref_u8_fill_pixels(row, cells, cells / 4 - 1, 1, cells, last, pixel, 4) == IMGREF_OK && !memcmp(row + cells - 9, "\0\1\2\3\4\0", 6));
+    munmap(row, cells);
+}
+
 int main(void) {
     by_hand();
+    longest_row();
     series("is_image", one_is_image, 1u << IMGREF_OK | 1u << IMGREF_NOT_AN_IMAGE);
     series("has_window", one_has_window, 1u << IMGREF_OK | 1u << IMGREF_WINDOW_OUTSIDE);
     series("window", one_window, 1u << IMGREF_OK | 1u << IMGREF_NOT_AN_IMAGE | 1u << IMGREF_WINDOW_OUTSIDE);

@@ -77,9 +77,9 @@ static void refusals() {
     const std::size_t most = static_cast<std::size_t>(-1);
     check("no image", is_refused(IMGREF_NOT_AN_IMAGE, [&] { view(pixels, 3, 3, 4); }) && is_refused(IMGREF_NOT_AN_IMAGE, [&] { view(pixels, 3, 2, 2); }) &&
                           is_refused(IMGREF_NOT_AN_IMAGE, [&] { view(pixels, 3, most, most); }));
-    check("no place", is_refused(IMGREF_PLACE_OUTSIDE, [&] { image.get(3, 0); }) && is_refused(IMGREF_PLACE_OUTSIDE, [&] { image.put(0, 2, 7); }) &&
+    check("no place", is_refused(IMGREF_PLACE_OUTSIDE, [&] { image.get(3, 0); }) && is_refused(IMGREF_PLACE_OUTSIDE, [&] { image.put(0, 2, {7}); }) &&
                           is_refused(IMGREF_PLACE_OUTSIDE, [&] { image.row(2); }));
-    check("no window", is_refused(IMGREF_WINDOW_OUTSIDE, [&] { image.fill({2, 0, 2, 2}, 7); }) && is_refused(IMGREF_WINDOW_OUTSIDE, [&] { image.window({most, 0, 2, 2}); }) &&
+    check("no window", is_refused(IMGREF_WINDOW_OUTSIDE, [&] { image.fill({2, 0, 2, 2}, {7}); }) && is_refused(IMGREF_WINDOW_OUTSIDE, [&] { image.window({most, 0, 2, 2}); }) &&
                            is_refused(IMGREF_WINDOW_OUTSIDE, [&] { image.move({0, 0, 1, 1}, {3, 0, 1, 1}); }));
     check("sizes differ", is_refused(IMGREF_SIZES_DIFFER, [&] { image.copy({0, 0, 1, 1}, view(apart, 2, 2)); }));
     check("no tile", is_refused(IMGREF_NO_TILE, [&] { image.mosaic(0, 2); }) && is_refused(IMGREF_NO_TILE, [&] { image.tiles(2, 0); }) &&
@@ -105,22 +105,69 @@ static void empty_images() {
     check("pixels are compared by their bits", view(zeros, 1, 1) != view(negative, 1, 1) && view(nans, 1, 1) == view(same, 1, 1));
 }
 
-// Colours of three elements, next to one another: two and one that is cut off, in two rows.
+// Colours of three elements, next to one another: two in each of two rows, and a cell of padding.
 static void pixels_of_several() {
     using namespace imgref;
     std::array<std::uint16_t, 14> pixels{1, 2, 3, 4, 5, 6, 90, 7, 8, 9, 10, 11, 12, 91};
-    view image(pixels, 7, 2);
+    view image(pixels, 6, 2, 7);
     image.fill_pixels({1, 0, 1, 2}, {600, 601, 602});
     check("fill_pixels", pixels == std::array<std::uint16_t, 14>{1, 2, 3, 600, 601, 602, 90, 7, 8, 9, 600, 601, 602, 91});
     image.mosaic_pixels(3, {0, 0, 2, 2}, 2, 2);
     check("mosaic_pixels", pixels == std::array<std::uint16_t, 14>{1, 2, 3, 1, 2, 3, 90, 1, 2, 3, 1, 2, 3, 91});
     check("count_pixels", image.count_pixels({0, 0, 2, 2}, {1, 2, 3}) == 4 && image.count_pixels({0, 0, 2, 2}, {1, 2, 4}) == 0);
-    check("count", image.count(1) == 4 && image.count({0, 0, 3, 1}, 2) == 1 && is_refused(IMGREF_WINDOW_OUTSIDE, [&] { image.count({0, 0, 8, 1}, 2); }));
+    check("count", image.count({1}) == 4 && image.count({0, 0, 3, 1}, {2}) == 1 && is_refused(IMGREF_WINDOW_OUTSIDE, [&] { image.count({0, 0, 8, 1}, {2}); }));
     std::array<std::uint8_t, 6> bytes{1, 10, 2, 20, 4, 31};
     view(bytes, 6, 1).mosaic_means(2, {0, 0, 3, 1}, 2, 1);
     check("mosaic_means", bytes == std::array<std::uint8_t, 6>{2, 15, 2, 15, 4, 31});
     check("no such colours", is_refused(IMGREF_NOT_AN_IMAGE, [&] { image.mosaic_pixels(0, {0, 0, 1, 1}, 1, 1); }) && is_refused(IMGREF_NOT_AN_IMAGE, [&] { image.mosaic_pixels(5, {0, 0, 1, 1}, 1, 1); }) &&
                                  is_refused(IMGREF_WINDOW_OUTSIDE, [&] { image.fill_pixels({2, 0, 1, 1}, {1, 2, 3}); }) && is_refused(IMGREF_NO_TILE, [&] { image.mosaic_pixels(3, {0, 0, 1, 1}, 0, 1); }));
+}
+
+// A row that colours don't fill is no image of colours, in each call that takes them.
+static void widths_of_no_colours() {
+    using namespace imgref;
+    std::array<std::uint8_t, 14> pixels{1, 2, 3, 4, 5, 6, 7, 8, 9, 10, 11, 12, 13, 14}, room{};
+    const auto before = pixels;
+    view image(pixels, 7, 2), whole(room, 6, 2, 7);
+    const rect first{0, 0, 1, 1};
+    const auto none = [](auto call) { return is_refused(IMGREF_NOT_AN_IMAGE, call); };
+    check("no colours: fill_pixels, mosaic_pixels, mosaic_means, count_pixels",
+          none([&] { image.fill_pixels(first, {1, 2, 3}); }) && none([&] { image.mosaic_pixels(3, first, 1, 1); }) && none([&] { image.mosaic_means(3, first, 1, 1); }) && none([&] { image.count_pixels(first, {1, 2, 3}); }));
+    check("no colours: turn_into, transpose_into, of either image",
+          none([&] { image.turn_into(whole, turn::half, 3); }) && none([&] { whole.turn_into(image, turn::half, 3); }) && none([&] { image.transpose_into(whole, 3); }) && none([&] { whole.transpose_into(image, 3); }));
+    check("no colours: turn, transpose, flip_rows, flip_columns",
+          none([&] { image.turn(turn::half, 3); }) && none([&] { image.transpose(3); }) && none([&] { image.flip_rows(first, 3); }) && none([&] { image.flip_columns(first, 3); }) && none([&] { image.flip_columns(3); }));
+    check("no colours: nothing has changed", pixels == before && room == std::array<std::uint8_t, 14>{});
+    try {
+        image.turn(turn::half, 3);
+    } catch (const refused &why) {
+        check("no colours: the text says why", why.what() == std::string("the width is no multiple of the channels"));
+    }
+    view(pixels, 6, 2, 7).flip_rows({1, 0, 1, 2}, 3);
+    check("flip_rows counts a window in colours", pixels == std::array<std::uint8_t, 14>{1, 2, 3, 11, 12, 13, 7, 8, 9, 10, 4, 5, 6, 14});
+}
+
+// What is taken as a pixel: a type that loses nothing, a constant in braces, and from C++20 on a constant.
+static void values() {
+    using namespace imgref;
+    std::array<double, 2> doubles{};
+    std::array<std::uint16_t, 2> pixels{};
+    const std::uint8_t small = 200;
+    view(doubles, 2, 1).fill(0.5f);
+    view(pixels, 2, 1).fill({0, 0, 1, 1}, small);
+    view(pixels, 2, 1).put(1, 0, {65535});
+    check("values that fit", doubles[1] == 0.5 && pixels[0] == 200 && pixels[1] == 65535 && view(pixels, 2, 1).count(small) == 1);
+#if defined(__cpp_consteval)
+    view(pixels, 2, 1).fill({0, 0, 1, 1}, 7);
+    view(pixels, 2, 1).put(1, 0, 65535);
+    view(doubles, 2, 1).fill(-3);
+    std::array<float, 1> floats{};
+    view(floats, 1, 1).fill(0.1);
+    check("constants that fit", pixels[0] == 7 && pixels[1] == 65535 && view(pixels, 2, 1).count(7) == 1 && doubles[0] == -3 && floats[0] == 0.1f);
+#endif
+    const imgref_rect of_c = {1, 0, 1, 1};
+    const rect none{};
+    check("rectangles", rect(of_c).left == 1 && none.left + none.top + none.width + none.height == 0 && view(pixels, 2, 1).window(of_c).width() == 1);
 }
 
 // An image of 3 by 2 that is turned, transposed and flipped, and colours of three elements.
@@ -215,6 +262,8 @@ int main() {
     refusals();
     empty_images();
     pixels_of_several();
+    widths_of_no_colours();
+    values();
     turns();
     packed_windows();
     tiles();

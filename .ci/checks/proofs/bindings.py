@@ -12,18 +12,25 @@ import re
 import shutil
 import sys
 import tempfile
+import zipfile
 
 sys.path.insert(0, str(pathlib.Path(__file__).resolve().parents[2]))
 from checking import ROOT, Cases
-from c_library import VERSION
+
+import version
 from library import RUST_COUNT, counted, installed, run, say_skipped, skipped
+from python_package import HOOK, TRIED, described
 
 PYTHON = ROOT / "bindings/python"
-# The tests of the package, each a program that counts.
-TESTS = ("calls", "formats", "shapes", "colours", "buffers", "reentry", "speed")
+# The tests of the package, each a program that counts: those of every Python, and those of one.
+QUICK = ("calls", "formats", "shapes", "colours", "buffers", "refusals", "indexes")
+TESTS = (*QUICK, "reentry", "speed")
 # Freed memory is overwritten, so that a read or a write of it shows.
 DEBUGGED = {"PYTHONMALLOC": "debug", "MALLOC_PERTURB_": "165"}
-DOCTEST = "import doctest, sys; failed, tried = doctest.testfile(sys.argv[1], module_relative=False); print(f'{tried - failed} passed, {failed} failed')"
+# A module that is compiled so is for this version of CPython and all later ones.
+STABLE, STABLE_FROM = "-DPy_LIMITED_API=0x030B0000", (3, 11)
+# The pages with examples.
+PAGES = ("docs/PYTHON.md", "bindings/python/README.md")
 
 # A project of cargo's that adds the crate.
 RUST_USER = """use imgref_proved::ImgVec;
@@ -43,7 +50,7 @@ def check_python(cases, room):
     examples of its pages."""
     status, _, said = run(["make", "-s", "python"], cwd=ROOT)
     wheels = [*(ROOT / "out/python").glob("imgref-*.whl")]
-    cases.count("make python", status == 0 and len(wheels) == 1, said)
+    cases.count("make python", status == 0 and len(wheels) == 1 and described(wheels[0]) in said, said)
     if status or run([sys.executable, "-m", "venv", room / "fresh"])[0]:
         skipped("Python's package installed by pip (venv)")
         return
@@ -59,11 +66,93 @@ def check_python(cases, room):
         status, _, said = run([python, f"{it}.py"], cwd=PYTHON / "tests", env=quiet | more)
         say_skipped(said)
         counted(cases, f"Python: {it}{', under a debug allocator' if more else ''}", said, status)
-    for page in ("docs/PYTHON.md", "bindings/python/README.md"):
-        status, _, said = run([python, "-c", DOCTEST, ROOT / page], cwd=room, env=quiet)
-        counted(cases, page, said, status)
+    check_pages(cases, "", python, quiet)
     check_sources(cases, room, python, quiet)
     check_hints(cases, room, python)
+    check_pythons(cases, room, quiet)
+
+
+def pythons():
+    """The Pythons of the machine by their names: the last one of each version on which the package
+    is said to be tried, of pyenv and of the system, and the debug builds."""
+    named = [*(pathlib.Path(os.environ.get("PYENV_ROOT") or "~/.pyenv").expanduser() / "versions").glob("*/bin/python3")]
+    named += [f"/usr/bin/python{more}" for it in ("3", *TRIED) for more in (it, f"{it}-dbg")]
+    asks = "import json, sys, sysconfig; print(json.dumps([sys.version_info[:3], bool(sysconfig.get_config_var('Py_DEBUG')), sys.implementation.name]))"
+    found = {}
+    for it in (str(it) for it in named if os.access(it, os.X_OK)):
+        status, wrote, _ = run([it, "-c", asks])
+        version, is_debug, name = json.loads(wrote) if status == 0 else ([0], False, "")
+        if ".".join(map(str, version[:2])) in TRIED and name == "cpython":
+            origin = "of the system" if it.startswith("/usr/bin") else "of pyenv"
+            key = (*version[:2], origin, is_debug)
+            found[key] = max(found.get(key, ([], "")), (version, it))
+    return {f"CPython {'.'.join(map(str, version))} {key[2]}{', a debug build' if key[3] else ''}": (tuple(version), it) for key, (version, it) in sorted(found.items())}
+
+
+def check_pythons(cases, room, quiet):
+    """The package on every Python of the machine: built for each, and built once for all from 3.11
+    on. Where memory is wrong, a debug allocator, a debug build and valgrind say it."""
+    found, stable = pythons(), None
+    library = {"IMGREF_INCLUDE": str(room / "prefix/include"), "IMGREF_LIB": str(room / "prefix/lib")}
+    for it in TRIED:
+        if not any(f"{version[0]}.{version[1]}" == it for version, _ in found.values()):
+            skipped(f"Python's package on CPython {it}")
+    if not any("debug" in it for it in found):
+        skipped("Python's package on a debug build (python3-dbg)")
+    for name, (version, python) in found.items():
+        built = unpacked(cases, name, python, room, quiet | library)
+        if built:
+            check_python_of(cases, name, python, quiet | {"PYTHONPATH": str(built)}, (*QUICK, "cycles"))
+        if not stable and version[:2] >= STABLE_FROM:
+            stable = unpacked(cases, f"{name}, for all later ones", python, room, quiet | library | {"CC": f"{os.environ.get('CC', 'cc')} {STABLE}"})
+            for module in stable.glob("imgref/_native*.so") if stable else ():
+                module.rename(module.with_name("_native.abi3.so"))
+        if stable and version[:2] >= STABLE_FROM:
+            check_python_of(cases, f"{name}, the module of the stable interface", python, quiet | {"PYTHONPATH": str(stable)}, ("calls", "buffers", "refusals", "cycles"))
+    check_by_valgrind(cases, room, found, quiet | library)
+
+
+def unpacked(cases, name, python, room, env):
+    """The folder with the package that is built for a Python, or None where that has no headers."""
+    folder = pathlib.Path(tempfile.mkdtemp(dir=room))
+    status, _, said = run([python, "-B", "-c", HOOK, PYTHON, folder], env=env)
+    if "python3-dev" in said:
+        skipped(f"{name}: the headers of Python")
+        return None
+    cases.count(f"the package for {name}", status == 0, said)
+    for it in folder.glob("*.whl"):
+        zipfile.ZipFile(it).extractall(folder)
+    return folder if status == 0 else None
+
+
+def check_python_of(cases, name, python, env, tests):
+    for it in tests:
+        # (a debug build is slow, and finds more in each cycle)
+        words = [f"{it}.py", *(["200"] if it == "cycles" and "debug" in name else [])]
+        status, _, said = run([python, "-X", "faulthandler", *words], cwd=PYTHON / "tests", env=env | (DEBUGGED if it == "cycles" else {}))
+        counted(cases, f"{name}: {it}", said, status)
+    check_pages(cases, f"{name}: ", python, env)
+
+
+def check_by_valgrind(cases, room, found, env):
+    """Cycles under valgrind, by the system's Python, or else by the last one of pyenv."""
+    if not found or not shutil.which("valgrind"):
+        skipped("Python's cycles under valgrind")
+        return
+    system = [name for name in found if name.endswith("of the system")]
+    name = (system or [*found])[-1]
+    python = found[name][1]
+    if built := unpacked(cases, f"{name}, under valgrind", python, room, env):
+        words = ["valgrind", "-q", "--error-exitcode=9", "--leak-check=no", python, "cycles.py", "3"]
+        status, _, said = run(words, cwd=PYTHON / "tests", env=env | {"PYTHONPATH": str(built), "PYTHONMALLOC": "malloc"})
+        counted(cases, f"{name}: cycles under valgrind", said, status)
+
+
+def check_pages(cases, name, python, env):
+    for page in PAGES:
+        status, _, said = run([python, "pages.py", ROOT / page], cwd=PYTHON / "tests", env=env)
+        say_skipped(said)
+        counted(cases, f"{name}{page}", said, status)
 
 
 def check_install(cases, venv, wheel, quiet):
@@ -105,6 +194,11 @@ def check_hints(cases, room, python):
         "frame.fill(imgref.Window(0, 0, 1, 1), 0.5)": True,
         "frame.fill((0, 0, 1, 1), (1, 2, 3))": True,
         "frame.copy_from(frame.copy()); height: int = frame.shape[0]; text: str = frame.dtype": True,
+        "view: memoryview = memoryview(frame)": True,
+        "part: imgref.Image = frame[0:1, 1:3]; frame[0, 1] = 7; frame[0:1, 1:3] = frame.copy(); frame[0:1] = (1, 2, 3)": True,
+        "frame.fill(7); frame.fill((1, 2, 3))": True,
+        "frame.fill()": False,
+        "frame['x']": False,
         "pixels: bytes = bytes(frame); planes: list[imgref.Image] = imgref.Image.planes_of(frame)": True,
         'frame.put("0", 0, 1)': False,
         "frame.window((0, 0, 1))": False,
@@ -120,21 +214,10 @@ def check_hints(cases, room, python):
 
 
 def check_versions(cases):
-    """Every file that has the version has the one of tools/c_library.py, which CHANGELOG.md has
-    last."""
-    forms = {
-        "include/imgref.h": r'#define IMGREF_VERSION "([^"]+)"',
-        "bindings/python/pyproject.toml": r'(?m)^version = "([^"]+)"',
-        "bindings/python/backend.py": r'VERSION = "imgref", "([^"]+)"',
-        "bindings/python/imgref/__init__.py": r'__version__ = "([^"]+)"',
-        "bindings/rust/Cargo.toml": r'(?m)^version = "([^"]+)"',
-        "crates/imgref_frames/src/main.rt": r'VERSION: &str = "imgref_frames ([^"]+)"',
-        "CHANGELOG.md": r"(?m)^## \[(\d[^\]]*)\]",
-        **{f"man/{it.name}": r'"imgref ([^"]+)"' for it in (ROOT / "man").iterdir()},
-    }
-    for name, form in forms.items():
-        found = re.search(form, (ROOT / name).read_text())
-        cases.count(f"{name} has the version {VERSION}", found and found[1] == VERSION, str(found))
+    """Every file that holds the version has that of the file VERSION, which CHANGELOG.md has last."""
+    wrong, last = version.differing(), next(iter(version.sections()), "none")
+    cases.count(f"every file that holds the version has {version.VERSION}", not wrong, f"another one: {wrong}; tools/version.py write")
+    cases.count(f"CHANGELOG.md has {version.VERSION} last", last == version.VERSION, last)
 
 
 def check_rust(cases, prefix, room):
@@ -147,6 +230,7 @@ def check_rust(cases, prefix, room):
     for label, words in (("calls from Rust", ["--lib"]), ("Rust's examples", ["--doc"])):
         status, _, said = run(["cargo", "test", "--offline", *words], cwd=crate, env=found)
         counted(cases, label, said, status, RUST_COUNT)
+    check_memory_of_rust(cases, crate, found)
     user = room / "rust_user"
     (user / "src").mkdir(parents=True)
     (user / "src/main.rs").write_text(RUST_USER)
@@ -155,6 +239,17 @@ def check_rust(cases, prefix, room):
         (user / "Cargo.toml").write_text(f'[package]\nname = "user"\nversion = "0.0.0"\nedition = "2021"\n\n[dependencies]\nimgref-proved = {{ path = "{path}" }}\n')
         status, wrote, said = run(["cargo", "run", "--offline", "--quiet"], cwd=user, env=env)
         cases.count(f"a project of cargo by path, {label}", (status, wrote) == (0, b"[1, 7, 7, 4, 7, 7]\n"), said)
+
+
+def check_memory_of_rust(cases, crate, found):
+    """The crate's own tests read no memory that isn't theirs or isn't written, as valgrind sees it."""
+    if not shutil.which("valgrind"):
+        skipped("the memory of the calls from Rust (valgrind)")
+        return
+    _, wrote, said = run(["cargo", "test", "--offline", "--lib", "--no-run", "--message-format=json"], cwd=crate, env=found)
+    programs = [it["executable"] for it in map(json.loads, wrote.decode().splitlines()) if it.get("executable")]
+    status, _, said = run(["valgrind", "--quiet", "--error-exitcode=9", *programs, "--test-threads=1"], env=found) if programs else (1, b"", said)
+    counted(cases, "calls from Rust under valgrind", said, status, RUST_COUNT)
 
 
 def main():

@@ -14,6 +14,7 @@ import tempfile
 sys.path.insert(0, str(pathlib.Path(__file__).resolve().parents[2]))
 from checking import ROOT, Cases
 from library import WARNINGS, counted, installed, run, say_skipped, skipped
+from version import MAJOR, MINOR, PATCH, VERSION
 
 # A picture of 2 by 3 in a frame of 4 by 2: its columns come into the middle, and its last row is cut off.
 PICTURE, FRAME = b"P5\n# two by three\n2 3\n255\nABCDEF", b"P5\n4 2\n255\n\0AB\0\0CD\0"
@@ -46,6 +47,9 @@ def check_names(cases, compiler, prefix):
     cases.count("the shared object shows the header's names alone", shared == declared, str(shared ^ declared))
     static = names(["-g", prefix / "lib/libimgref.a"])
     cases.count("the archive shows the header's names alone", static == declared, str(static ^ declared))
+    for file in (prefix / "include/imgref.h", ROOT / "docs/C.md"):
+        said = re.sub(r"[\s*`]+", " ", file.read_text())
+        cases.count(f"{file.name} says how long a row of colours may be", "width channels is below 2^32" in said, said)
 
 
 def check_c(cases, compiler, prefix, room):
@@ -113,18 +117,59 @@ def check_hide(cases, compiler, prefix, room):
     """The example in C++ hides a window, and writes nothing where it is refused."""
     status, _, said = run([*compiler, "-std=c++17", "-O2", *WARNINGS, f"-I{prefix / 'include'}", ROOT / "examples/cpp/hide.cpp", "-o", room / "hide", prefix / "lib/libimgref.a"])
     cases.count("hide.cpp", status == 0, said)
-    for label, words, given, wanted in (("a window", "1 0 2 2 2", HIDDEN, b"P5\n3 2\n255\nABBDBB"), ("no window", "2 0 2 2 2", HIDDEN, None), ("cut off", "1 0 2 2 2", HIDDEN[:-1], None), ("no number", "1 0 2 -2 2", HIDDEN, None)):
+    for label, words, given, wanted in (("a window", "1 0 2 2 66", HIDDEN, b"P5\n3 2\n255\nABBDBB"), ("black", "1 0 2 2", HIDDEN, b"P5\n3 2\n255\nA\0\0D\0\0"), ("no window", "2 0 2 2", HIDDEN, None), ("cut off", "1 0 2 2", HIDDEN[:-1], None), ("no number", "1 0 2 -2", HIDDEN, None), ("no value of a byte", "1 0 2 2 256", HIDDEN, None)):
         status, wrote, said = run([room / "hide", *words.split()], input=given)
         cases.count(f"hide: {label}", (status, wrote) == ((1, b"") if wanted is None else (0, wanted)), said)
 
 
+# What compiles over a view for reading, one of bytes and one of colours: from which standard on, or in none (0). What needs C++20
+# needs its `consteval`, which a compiler may lack.
+COMPILES = {
+    "return r.get(0, 0);": 17,
+    "r.put(0, 0, one);": 0,
+    "r.fill(one);": 0,
+    "r.pack();": 0,
+    "imgref::view<unsigned char> w = r;": 0,
+    "imgref::view<three> *w = nullptr; return w->empty();": 0,
+    "v.fill({0, 0, 1, 1}, {255}); v.put(0, 0, {255}); v.fill({255}); return v.count({255});": 17,
+    "v.fill({0, 0, 1, 1}, 255); v.put(0, 0, 255); v.fill(255); return v.count(255);": 20,
+    **{f"v.fill({{0, 0, 1, 1}}, {it});": 0 for it in ("300", "-1", "{300}", "{-1}", "0.5", "1.0", "number", "nullptr")},
+    **{f"v.{it};": 0 for it in ("fill(300)", "put(0, 0, 300)", "put(0, 0, -1)", "count(300)", "count(-1)", "fill_pixels({0, 0, 1, 1}, {300, 1, 1})")},
+    "v.fill({0, 0, 1}, {7});": 0,
+    "v.window({0, 0, 1});": 0,
+    "imgref::rect w{0, 0, 1};": 0,
+    "imgref::rect w{0, 0, 1, 1}; imgref_rect same = w; v.fill(same, one);": 17,
+    "p.fill({0, 0, 1, 1}, {1, 2, 3, 4}); p.fill(four{1, 2, 3, 4});": 17,
+    "p.fill({0, 0, 1, 1}, one);": 0,
+    "p.fill({0, 0, 1, 1}, {1, 2, 3, 300});": 0,
+}
+
+
 def check_reading(cases, compiler, prefix, room):
-    """A call that writes through a view for reading doesn't compile, nor does a pixel of three bytes; the other calls do."""
-    head = "#include <imgref.hpp>\nstruct three { char c[3]; };\nint main() { unsigned char c[6] = {}; const unsigned char *r = c; imgref::view<const unsigned char> v(r, 6, 3, 2, 3);"
-    for line, is_well in (("return v.get(0, 0);", True), ("v.put(0, 0, 1);", False), ("v.fill(1);", False), ("v.pack();", False), ("imgref::view<unsigned char> w = v;", False), ("imgref::view<three> *w = nullptr; return w->empty();", False)):
-        (room / "reading.cpp").write_text(f"{head} {line} }}\n")
-        status, _, said = run([*compiler, "-std=c++17", f"-I{prefix / 'include'}", "-fsyntax-only", room / "reading.cpp"])
-        cases.count(f"{'compiles' if is_well else 'is refused'}: {line}", (status == 0) == is_well, said)
+    """What may not be meant doesn't compile: a write through a view for reading, a pixel of three bytes, a value that doesn't fit
+    a pixel, and a rectangle of three numbers. What is meant does."""
+    head = """#include <imgref.hpp>
+struct three { char c[3]; };
+struct four { unsigned char c[4]; };
+int main() {
+    unsigned char c[6] = {}; const unsigned char *reading = c; const unsigned char one = 1; int number = 7; alignas(4) four colours[6] = {};
+    imgref::view<const unsigned char> r(reading, 6, 3, 2, 3); imgref::view<unsigned char> v(c, 3, 2); imgref::view<four> p(colours, 3, 2);
+"""
+    file = room / "reading.cpp"
+    for standard in (17, 20):
+        words = [*compiler, f"-std=c++{standard}", f"-I{prefix / 'include'}", "-fsyntax-only", file]
+        file.write_text(f"#if {standard} > 17 && !defined(__cpp_consteval)\n#error\n#endif\n")
+        if run(words)[0]:
+            skipped(f"what compiles by C++{standard}")
+            continue
+        file.write_text(f"{head}return number; }}\n")
+        status, _, said = run(words)
+        cases.count(f"C++{standard}: the head compiles", status == 0, said)
+        for line, since in COMPILES.items():
+            file.write_text(f"{head}{line} }}\n")
+            status, _, said = run(words)
+            is_well = 0 < since <= standard
+            cases.count(f"C++{standard} {'compiles' if is_well else 'refuses'}: {line}", (status == 0) == is_well, said)
 
 
 def check_cmake(cases, prefix, room):
@@ -139,11 +184,12 @@ def check_cmake(cases, prefix, room):
     moved = shutil.copytree(prefix, room / "moved", symlinks=True)
     for label, where in (("installed", prefix), ("moved", moved)):
         made = room / f"build-{label}"
-        status, _, said = run(["cmake", "-S", project, "-B", made, f"-DCMAKE_PREFIX_PATH={where}", "-DWANTED=0.1"])
+        status, _, said = run(["cmake", "-S", project, "-B", made, f"-DCMAKE_PREFIX_PATH={where}", f"-DWANTED={MAJOR}.{MINOR}"])
         built = run(["cmake", "--build", made]) if status == 0 else (1, b"", said)
         cases.count(f"CMake, {label}", built[0] == 0, built[2])
         cases.count(f"CMake's programs, {label}", built[0] == 0 and all(run([made / it])[0] == 0 for it in ("with_shared", "with_static")))
-    for version, is_well in (("", True), ("0.1.0", True), ("0.1.1", False), ("0.2", False), ("1", False), ("0", True)):
+    later = f"{MAJOR}.{MINOR}.{int(PATCH) + 1}"
+    for version, is_well in (("", True), (VERSION, True), (later, False), (f"{MAJOR}.{int(MINOR) - 1}", False), (f"{MAJOR}.{int(MINOR) + 1}", False), (f"{int(MAJOR) + 1}", False), (MAJOR, True)):
         status, _, said = run(["cmake", "-S", project, "-B", room / f"build-{version}", f"-DCMAKE_PREFIX_PATH={prefix}", f"-DWANTED={version}"])
         cases.count(f"find_package(imgref {version}) {'finds' if is_well else 'refuses'} it", (status == 0) == is_well, said)
 
@@ -151,7 +197,7 @@ def check_cmake(cases, prefix, room):
 def check_man(cases, prefix):
     """The man pages have no fault of form. They name each call of the header, and each edit and command of the programs."""
     pages = {it.name: it.read_text() for it in sorted((prefix / "share/man").glob("*/*"))}
-    cases.count("the man pages", list(pages) == ["imgref_frames.1", "imgref_run.1", "imgref.3"], str(list(pages)))
+    cases.count("the man pages", list(pages) == ["imgref-boxes.1", "imgref_frames.1", "imgref_run.1", "imgref.3"], str(list(pages)))
     if shutil.which("groff"):
         for it in sorted((prefix / "share/man").glob("*/*")):
             status, _, said = run(["groff", "-man", "-Tutf8", "-ww", "-z", it])
@@ -170,6 +216,11 @@ def check_man(cases, prefix):
     options = set(re.findall(r"(?m)`(--\w+)[ `]", (ROOT / "docs/FRAMES.md").read_text()))
     lacking += [it for it in options if it.replace("-", "\\-") not in pages.get("imgref_frames.1", "")]
     cases.count("imgref_frames.1 names each edit and option", len(words) > 4 and len(options) > 3 and not lacking, str(lacking))
+    for name, document, statuses in (("imgref_frames.1", "docs/FRAMES.md", "123456789"), ("imgref_run.1", "docs/SCRIPT.md", "2344")):
+        faults = re.findall(r"(?m)^\| `(fault \w+)[^`]*` \| (\d) \|", (ROOT / document).read_text())
+        shown = pages.get(name, "").partition(".SH EXIT STATUS")[2]
+        lacking = [it for it, number in faults if it not in shown.partition(f"\n.B {number}\n")[2].partition("\n.TP\n")[0]]
+        cases.count(f"{name} lists each status", "".join(it[1] for it in faults) == statuses and not lacking, f"{faults}, not there: {lacking}")
 
 
 def check_programs(cases, prefix):
@@ -178,6 +229,8 @@ def check_programs(cases, prefix):
     cases.count("imgref_run is installed", (status, wrote) == (0, b"done\nimage 2 1 2 1 9\n"), said)
     status, wrote, said = run([prefix / "bin/imgref_frames", "fill", "0,0,1,1", "66"], input=b"P5\n2 1\n255\nAA")
     cases.count("imgref_frames is installed", (status, wrote) == (0, b"P5\n2 1\n255\nBA"), said)
+    status, wrote, said = run([prefix / "bin/imgref-boxes"], input=b"frame,x1,y1,x2,y2\n1,2,3,5,7\n")
+    cases.count("imgref-boxes is installed", (status, wrote) == (0, b"1,-1,2,3,3,4\n"), said)
 
 
 def check_staged(cases, prefix, room):

@@ -1,25 +1,25 @@
 //! What an image may be over.
 
-use crate::Cell;
+use crate::Pixel;
 
-/// What an image may be over: a slice, a mutable slice, a `Vec`, or an array.
+/// What an image may be over: a slice, a mutable slice, a `Vec`, a boxed slice, or an array.
 ///
-/// A buffer whose cells change from call to call loses nothing but its image: each call tests the
+/// A buffer that gives other pixels from call to call loses nothing but its image: each call tests the
 /// sizes again.
 pub trait Buffer {
     /// The type of a pixel.
-    type Pixel: Cell;
-    /// The cells for reading.
+    type Pixel: Pixel;
+    /// The pixels for reading, and the padding.
     fn cells(&self) -> &[Self::Pixel];
 }
 
 /// A [`Buffer`] for writing too.
 pub trait BufferMut: Buffer {
-    /// The cells for writing.
+    /// The same for writing.
     fn cells_mut(&mut self) -> &mut [Self::Pixel];
 }
 
-impl<T: Cell> Buffer for &[T] {
+impl<T: Pixel> Buffer for &[T] {
     type Pixel = T;
 
     fn cells(&self) -> &[T] {
@@ -27,7 +27,7 @@ impl<T: Cell> Buffer for &[T] {
     }
 }
 
-impl<T: Cell> Buffer for &mut [T] {
+impl<T: Pixel> Buffer for &mut [T] {
     type Pixel = T;
 
     fn cells(&self) -> &[T] {
@@ -35,13 +35,13 @@ impl<T: Cell> Buffer for &mut [T] {
     }
 }
 
-impl<T: Cell> BufferMut for &mut [T] {
+impl<T: Pixel> BufferMut for &mut [T] {
     fn cells_mut(&mut self) -> &mut [T] {
         self
     }
 }
 
-impl<T: Cell> Buffer for Vec<T> {
+impl<T: Pixel> Buffer for Vec<T> {
     type Pixel = T;
 
     fn cells(&self) -> &[T] {
@@ -49,13 +49,13 @@ impl<T: Cell> Buffer for Vec<T> {
     }
 }
 
-impl<T: Cell> BufferMut for Vec<T> {
+impl<T: Pixel> BufferMut for Vec<T> {
     fn cells_mut(&mut self) -> &mut [T] {
         self
     }
 }
 
-impl<T: Cell> Buffer for Box<[T]> {
+impl<T: Pixel> Buffer for Box<[T]> {
     type Pixel = T;
 
     fn cells(&self) -> &[T] {
@@ -63,13 +63,13 @@ impl<T: Cell> Buffer for Box<[T]> {
     }
 }
 
-impl<T: Cell> BufferMut for Box<[T]> {
+impl<T: Pixel> BufferMut for Box<[T]> {
     fn cells_mut(&mut self) -> &mut [T] {
         self
     }
 }
 
-impl<T: Cell, const N: usize> Buffer for [T; N] {
+impl<T: Pixel, const N: usize> Buffer for [T; N] {
     type Pixel = T;
 
     fn cells(&self) -> &[T] {
@@ -77,7 +77,7 @@ impl<T: Cell, const N: usize> Buffer for [T; N] {
     }
 }
 
-impl<T: Cell, const N: usize> BufferMut for [T; N] {
+impl<T: Pixel, const N: usize> BufferMut for [T; N] {
     fn cells_mut(&mut self) -> &mut [T] {
         self
     }

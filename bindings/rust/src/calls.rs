@@ -1,4 +1,4 @@
-//! The functions of the library, and the types that a cell may have.
+//! The functions of the library.
 
 use crate::Window;
 
@@ -11,58 +11,26 @@ extern "C" {
     fn imgref_u16_mosaic_means(cells: *mut u16, len: usize, width: usize, height: usize, stride: usize, channels: usize, window: Window, tile_width: usize, tile_height: usize) -> u32;
 }
 
-/// An integer of 1, 2, 4 or 8 bytes: what a pixel may be.
-///
-/// # Safety
-///
-/// `Bits` has the size of this type, and every bit pattern is a value of it.
-pub unsafe trait Cell: Copy + Eq + Default {
-    #[doc(hidden)]
-    type Bits: Bits;
-    #[doc(hidden)]
-    fn to_bits(self) -> Self::Bits;
-    #[doc(hidden)]
-    fn of_bits(bits: Self::Bits) -> Self;
+mod sealed {
+    pub trait Sealed {}
 }
 
-/// A number of one or of two bytes, of which means are taken.
-///
-/// # Safety
-///
-/// The function is that of the library for this very type.
-pub unsafe trait Sample: Cell {
+/// A cell of the library, of which a pixel has 1 to 4: `u8`, `u16`, `u32` or `u64`.
+pub trait Cell: Copy + sealed::Sealed {
     #[doc(hidden)]
-    const MOSAIC_MEANS: unsafe extern "C" fn(*mut Self, usize, usize, usize, usize, usize, Window, usize, usize) -> u32;
-}
-
-// SAFETY: the header declares both functions for these types.
-unsafe impl Sample for u8 {
-    const MOSAIC_MEANS: unsafe extern "C" fn(*mut Self, usize, usize, usize, usize, usize, Window, usize, usize) -> u32 = imgref_u8_mosaic_means;
-}
-
-// SAFETY: the same.
-unsafe impl Sample for u16 {
-    const MOSAIC_MEANS: unsafe extern "C" fn(*mut Self, usize, usize, usize, usize, usize, Window, usize, usize) -> u32 = imgref_u16_mosaic_means;
-}
-
-/// A cell as the library has it, with the functions on it.
-///
-/// # Safety
-///
-/// The functions are those of the library for this very type.
-#[doc(hidden)]
-pub unsafe trait Bits: Copy + Default {
     const CALLS: Calls<Self>;
+    /// The call that only cells of one and of two bytes have.
+    #[doc(hidden)]
+    const MOSAIC_MEANS: Option<MosaicMeans<Self>>;
 }
+
+#[doc(hidden)]
+pub type MosaicMeans<T> = unsafe extern "C" fn(*mut T, usize, usize, usize, usize, usize, Window, usize, usize) -> u32;
 
 #[doc(hidden)]
 pub struct Calls<T> {
-    pub(crate) get: unsafe extern "C" fn(*const T, usize, usize, usize, usize, usize, usize, *mut T) -> u32,
-    pub(crate) put: unsafe extern "C" fn(*mut T, usize, usize, usize, usize, usize, usize, T) -> u32,
-    pub(crate) fill_window: unsafe extern "C" fn(*mut T, usize, usize, usize, usize, Window, T) -> u32,
     pub(crate) copy_window: unsafe extern "C" fn(*mut T, usize, usize, usize, usize, Window, *const T, usize, usize, usize, usize) -> u32,
     pub(crate) move_window: unsafe extern "C" fn(*mut T, usize, usize, usize, usize, Window, Window) -> u32,
-    pub(crate) mosaic: unsafe extern "C" fn(*mut T, usize, usize, usize, usize, Window, usize, usize) -> u32,
     pub(crate) fill_pixels: unsafe extern "C" fn(*mut T, usize, usize, usize, usize, Window, *const T, usize) -> u32,
     pub(crate) mosaic_pixels: unsafe extern "C" fn(*mut T, usize, usize, usize, usize, usize, Window, usize, usize) -> u32,
     pub(crate) count: unsafe extern "C" fn(*const T, usize, usize, usize, usize, Window, *const T, usize, *mut usize) -> u32,
@@ -78,23 +46,16 @@ pub struct Calls<T> {
 }
 
 macro_rules! cells {
-    ($($module:ident $cell:ty, $signed:ty: $get:literal $put:literal $fill_window:literal $copy_window:literal $move_window:literal $mosaic:literal $fill_pixels:literal $mosaic_pixels:literal $count:literal $turn_into:literal $transpose_into:literal $turn:literal $transpose:literal $flip_rows:literal $flip_columns:literal $swap_rows:literal $pack:literal $equal:literal;)*) => {$(
+    ($($module:ident $cell:ty, $means:expr; $copy_window:literal $move_window:literal $fill_pixels:literal $mosaic_pixels:literal $count:literal $turn_into:literal $transpose_into:literal $turn:literal $transpose:literal $flip_rows:literal $flip_columns:literal $swap_rows:literal $pack:literal $equal:literal;)*) => {$(
         mod $module {
-            use super::{Bits, Calls, Cell, Window};
+            use super::{sealed, Calls, Cell, Window};
 
+            // (the header declares these functions for this type)
             extern "C" {
-                #[link_name = $get]
-                fn get(cells: *const $cell, len: usize, width: usize, height: usize, stride: usize, x: usize, y: usize, pixel: *mut $cell) -> u32;
-                #[link_name = $put]
-                fn put(cells: *mut $cell, len: usize, width: usize, height: usize, stride: usize, x: usize, y: usize, value: $cell) -> u32;
-                #[link_name = $fill_window]
-                fn fill_window(cells: *mut $cell, len: usize, width: usize, height: usize, stride: usize, window: Window, value: $cell) -> u32;
                 #[link_name = $copy_window]
                 fn copy_window(cells: *mut $cell, len: usize, width: usize, height: usize, stride: usize, window: Window, source: *const $cell, source_len: usize, source_width: usize, source_height: usize, source_stride: usize) -> u32;
                 #[link_name = $move_window]
                 fn move_window(cells: *mut $cell, len: usize, width: usize, height: usize, stride: usize, from: Window, to: Window) -> u32;
-                #[link_name = $mosaic]
-                fn mosaic(cells: *mut $cell, len: usize, width: usize, height: usize, stride: usize, window: Window, tile_width: usize, tile_height: usize) -> u32;
                 #[link_name = $fill_pixels]
                 fn fill_pixels(cells: *mut $cell, len: usize, width: usize, height: usize, stride: usize, window: Window, pixel: *const $cell, channels: usize) -> u32;
                 #[link_name = $mosaic_pixels]
@@ -121,39 +82,19 @@ macro_rules! cells {
                 fn equal(cells: *const $cell, len: usize, width: usize, height: usize, stride: usize, other: *const $cell, other_len: usize, other_width: usize, other_height: usize, other_stride: usize, equal: *mut bool) -> u32;
             }
 
-            // SAFETY: the header declares these functions for this type.
-            unsafe impl Bits for $cell {
-                const CALLS: Calls<Self> = Calls { get, put, fill_window, copy_window, move_window, mosaic, fill_pixels, mosaic_pixels, count, turn_into, transpose_into, turn, transpose, flip_rows, flip_columns, swap_rows, pack, equal };
-            }
+            impl sealed::Sealed for $cell {}
 
-            // SAFETY: an integer has the size of its bits, and each of them is a value.
-            unsafe impl Cell for $cell {
-                type Bits = Self;
-                fn to_bits(self) -> Self {
-                    self
-                }
-                fn of_bits(bits: Self) -> Self {
-                    bits
-                }
-            }
-
-            // SAFETY: the same.
-            unsafe impl Cell for $signed {
-                type Bits = $cell;
-                fn to_bits(self) -> $cell {
-                    self as $cell
-                }
-                fn of_bits(bits: $cell) -> Self {
-                    bits as $signed
-                }
+            impl Cell for $cell {
+                const MOSAIC_MEANS: Option<super::MosaicMeans<Self>> = $means;
+                const CALLS: Calls<Self> = Calls { copy_window, move_window, fill_pixels, mosaic_pixels, count, turn_into, transpose_into, turn, transpose, flip_rows, flip_columns, swap_rows, pack, equal };
             }
         }
     )*};
 }
 
 cells! {
-    of_u8 u8, i8: "imgref_u8_get" "imgref_u8_put" "imgref_u8_fill_window" "imgref_u8_copy_window" "imgref_u8_move_window" "imgref_u8_mosaic" "imgref_u8_fill_pixels" "imgref_u8_mosaic_pixels" "imgref_u8_count" "imgref_u8_turn_into" "imgref_u8_transpose_into" "imgref_u8_turn" "imgref_u8_transpose" "imgref_u8_flip_rows" "imgref_u8_flip_columns" "imgref_u8_swap_rows" "imgref_u8_pack" "imgref_u8_equal";
-    of_u16 u16, i16: "imgref_u16_get" "imgref_u16_put" "imgref_u16_fill_window" "imgref_u16_copy_window" "imgref_u16_move_window" "imgref_u16_mosaic" "imgref_u16_fill_pixels" "imgref_u16_mosaic_pixels" "imgref_u16_count" "imgref_u16_turn_into" "imgref_u16_transpose_into" "imgref_u16_turn" "imgref_u16_transpose" "imgref_u16_flip_rows" "imgref_u16_flip_columns" "imgref_u16_swap_rows" "imgref_u16_pack" "imgref_u16_equal";
-    of_u32 u32, i32: "imgref_u32_get" "imgref_u32_put" "imgref_u32_fill_window" "imgref_u32_copy_window" "imgref_u32_move_window" "imgref_u32_mosaic" "imgref_u32_fill_pixels" "imgref_u32_mosaic_pixels" "imgref_u32_count" "imgref_u32_turn_into" "imgref_u32_transpose_into" "imgref_u32_turn" "imgref_u32_transpose" "imgref_u32_flip_rows" "imgref_u32_flip_columns" "imgref_u32_swap_rows" "imgref_u32_pack" "imgref_u32_equal";
-    of_u64 u64, i64: "imgref_u64_get" "imgref_u64_put" "imgref_u64_fill_window" "imgref_u64_copy_window" "imgref_u64_move_window" "imgref_u64_mosaic" "imgref_u64_fill_pixels" "imgref_u64_mosaic_pixels" "imgref_u64_count" "imgref_u64_turn_into" "imgref_u64_transpose_into" "imgref_u64_turn" "imgref_u64_transpose" "imgref_u64_flip_rows" "imgref_u64_flip_columns" "imgref_u64_swap_rows" "imgref_u64_pack" "imgref_u64_equal";
+    of_u8 u8, Some(super::imgref_u8_mosaic_means); "imgref_u8_copy_window" "imgref_u8_move_window" "imgref_u8_fill_pixels" "imgref_u8_mosaic_pixels" "imgref_u8_count" "imgref_u8_turn_into" "imgref_u8_transpose_into" "imgref_u8_turn" "imgref_u8_transpose" "imgref_u8_flip_rows" "imgref_u8_flip_columns" "imgref_u8_swap_rows" "imgref_u8_pack" "imgref_u8_equal";
+    of_u16 u16, Some(super::imgref_u16_mosaic_means); "imgref_u16_copy_window" "imgref_u16_move_window" "imgref_u16_fill_pixels" "imgref_u16_mosaic_pixels" "imgref_u16_count" "imgref_u16_turn_into" "imgref_u16_transpose_into" "imgref_u16_turn" "imgref_u16_transpose" "imgref_u16_flip_rows" "imgref_u16_flip_columns" "imgref_u16_swap_rows" "imgref_u16_pack" "imgref_u16_equal";
+    of_u32 u32, None; "imgref_u32_copy_window" "imgref_u32_move_window" "imgref_u32_fill_pixels" "imgref_u32_mosaic_pixels" "imgref_u32_count" "imgref_u32_turn_into" "imgref_u32_transpose_into" "imgref_u32_turn" "imgref_u32_transpose" "imgref_u32_flip_rows" "imgref_u32_flip_columns" "imgref_u32_swap_rows" "imgref_u32_pack" "imgref_u32_equal";
+    of_u64 u64, None; "imgref_u64_copy_window" "imgref_u64_move_window" "imgref_u64_fill_pixels" "imgref_u64_mosaic_pixels" "imgref_u64_count" "imgref_u64_turn_into" "imgref_u64_transpose_into" "imgref_u64_turn" "imgref_u64_transpose" "imgref_u64_flip_rows" "imgref_u64_flip_columns" "imgref_u64_swap_rows" "imgref_u64_pack" "imgref_u64_equal";
 }

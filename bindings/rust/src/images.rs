@@ -2,10 +2,11 @@
 
 use std::ops::Range;
 
-use crate::calls::{imgref_is_image, imgref_tile, imgref_tile_count, imgref_window, Bits, Calls};
-use crate::{done, Buffer, BufferMut, Cell, Refused, Sample, Turn, Window};
+use crate::calls::{imgref_is_image, imgref_tile, imgref_tile_count, imgref_window, Calls};
+use crate::pixels::{Cells, Means};
+use crate::{done, Buffer, BufferMut, Cell, Pixel, Refused, Sample, Turn, Window};
 
-/// A buffer with a width and a height in pixels and a stride in cells.
+/// A buffer with a width, a height and a stride, all in pixels.
 #[derive(Clone, Copy, Debug)]
 pub struct Img<Container> {
     pub(crate) buf: Container,
@@ -14,11 +15,11 @@ pub struct Img<Container> {
     pub(crate) stride: usize,
 }
 
-/// An image over borrowed cells, for reading.
+/// An image over borrowed pixels, for reading.
 pub type ImgRef<'slice, Pixel> = Img<&'slice [Pixel]>;
-/// An image over borrowed cells, for writing.
+/// An image over borrowed pixels, for writing.
 pub type ImgRefMut<'slice, Pixel> = Img<&'slice mut [Pixel]>;
-/// An image that owns its cells.
+/// An image that owns its pixels.
 pub type ImgVec<Pixel> = Img<Vec<Pixel>>;
 
 impl<Container> Img<Container> {
@@ -32,7 +33,7 @@ impl<Container> Img<Container> {
         self.height
     }
 
-    /// How many cells a row begins after the one before it.
+    /// How many pixels a row begins after the one before it.
     pub const fn stride(&self) -> usize {
         self.stride
     }
@@ -72,18 +73,56 @@ impl<Container> Img<Container> {
 }
 
 /// The library's functions on the cells of a buffer.
-pub(crate) const fn calls_on<Container: Buffer>() -> Calls<<Container::Pixel as Cell>::Bits> {
-    <Container::Pixel as Cell>::Bits::CALLS
+pub(crate) const fn calls_on<Container: Buffer>() -> Calls<CellOf<Container>> {
+    <CellOf<Container> as Cell>::CALLS
 }
 
-// How many colours of so many cells two rows have.
-fn columns_of(channels: usize, width: usize, other: usize) -> Result<(usize, usize), Refused> {
-    width.checked_div(channels).zip(other.checked_div(channels)).ok_or(Refused::NotAnImage)
+type CellOf<Container> = <<Container as Buffer>::Pixel as Pixel>::Cell;
+
+/// Pixels as the cells that the library is given: where they are, and how many.
+pub(crate) fn cells_of<P: Pixel>(pixels: &[P]) -> (*const P::Cell, usize) {
+    // (a slice has fewer than 2^63 bytes, so no product overflows)
+    (pixels.as_ptr().cast(), Cells::<P>::EACH * pixels.len())
+}
+
+fn cells_of_mut<P: Pixel>(pixels: &mut [P]) -> (*mut P::Cell, usize) {
+    (pixels.as_mut_ptr().cast(), Cells::<P>::EACH * pixels.len())
+}
+
+/// The sizes of an image as the library takes them.
+pub(crate) struct Sizes {
+    pub(crate) width: usize,
+    pub(crate) height: usize,
+    pub(crate) stride: usize,
+    channels: usize,
+}
+
+impl<Container: Buffer> Img<Container> {
+    // (`new_stride` has tested that no product overflows)
+    const EACH: usize = Cells::<Container::Pixel>::EACH;
+
+    /// The sizes in cells.
+    pub(crate) fn in_cells(&self) -> Sizes {
+        Sizes { width: Self::EACH * self.width, height: self.height, stride: Self::EACH * self.stride, channels: 1 }
+    }
+
+    // The sizes in colours of so many pixels, and how many cells such a colour has.
+    fn in_colours(&self, channels: usize) -> Result<Sizes, Refused> {
+        if channels == 0 || self.width % channels != 0 {
+            return Err(Refused::NotAnImage);
+        }
+        Ok(Sizes { width: self.width / channels, channels: channels.saturating_mul(Self::EACH), ..self.in_cells() })
+    }
+
+    // A window in cells. One whose cells can't be counted is outside.
+    fn window_in_cells(window: Window) -> Window {
+        Window { left: window.left.saturating_mul(Self::EACH), width: window.width.saturating_mul(Self::EACH), ..window }
+    }
 }
 
 // SAFETY of the calls below: a slice is memory of its length that stays for the call, its pointer
-// is never null, also where it is empty, its cells lie at multiples of their size, and a `&mut`
-// shares nothing with any other parameter.
+// is never null, also where it is empty, its cells lie at multiples of their size and are all of it
+// (`Pixel`), and a `&mut` shares nothing with any other parameter.
 impl<Container: Buffer> Img<Container> {
     /// The image of this buffer whose rows are joined.
     ///
@@ -98,11 +137,13 @@ impl<Container: Buffer> Img<Container> {
     ///
     /// # Errors
     ///
-    /// [`Refused::NotAnImage`] where the buffer doesn't reach the last pixel, the stride is 0 or below the width, or a size
-    /// is 2^32 or more.
+    /// [`Refused::NotAnImage`] where the buffer doesn't reach the last pixel, the stride is 0 or below the width, the height
+    /// is 2^32 or more, or a row has so many cells.
     pub fn new_stride(buf: Container, width: usize, height: usize, stride: usize) -> Result<Self, Refused> {
+        let (_, len) = cells_of(buf.cells());
+        let (wide, step) = Self::EACH.checked_mul(width).zip(Self::EACH.checked_mul(stride)).ok_or(Refused::NotAnImage)?;
         // SAFETY: numbers alone.
-        let is_image = unsafe { imgref_is_image(buf.cells().len(), width, height, stride) };
+        let is_image = unsafe { imgref_is_image(len, wide, height, step) };
         is_image.then_some(Img { buf, width, height, stride }).ok_or(Refused::NotAnImage)
     }
 
@@ -118,12 +159,18 @@ impl<Container: Buffer> Img<Container> {
     ///
     /// [`Refused::PlaceOutside`].
     pub fn get(&self, x: usize, y: usize) -> Result<Container::Pixel, Refused> {
-        let (cells, mut bits) = (self.buf.cells(), Default::default());
-        done(unsafe { (calls_on::<Container>().get)(cells.as_ptr().cast(), cells.len(), self.width, self.height, self.stride, x, y, &mut bits) })?;
-        Ok(Container::Pixel::of_bits(bits))
+        Ok(self.buf.cells()[self.place(x, y)?])
     }
 
-    /// How many pixels of the window have the value.
+    // Where the pixel in a column and a row is.
+    pub(crate) fn place(&self, x: usize, y: usize) -> Result<usize, Refused> {
+        match self.stretch(Window::new(x, y, 1, 1)) {
+            Err(Refused::WindowOutside) => Err(Refused::PlaceOutside),
+            stretch => Ok(stretch?.start),
+        }
+    }
+
+    /// How many pixels of the window have the value, by its bytes.
     ///
     /// # Errors
     ///
@@ -136,11 +183,11 @@ impl<Container: Buffer> Img<Container> {
     ///
     /// # Errors
     ///
-    /// [`Refused::NotAnImage`] for a number of cells that isn't 1 to 4, [`Refused::WindowOutside`].
+    /// [`Refused::NotAnImage`] for a number of cells that isn't 1 to 4 or a width that is no multiple,
+    /// [`Refused::WindowOutside`].
     pub fn count_pixels(&self, window: Window, value: &[Container::Pixel]) -> Result<usize, Refused> {
-        let (channels, cells, mut count) = (value.len(), self.buf.cells(), 0);
-        let columns = self.width.checked_div(channels).ok_or(Refused::NotAnImage)?;
-        done(unsafe { (calls_on::<Container>().count)(cells.as_ptr().cast(), cells.len(), columns, self.height, self.stride, window, value.as_ptr().cast(), channels, &mut count) })?;
+        let (is, (cells, len), mut count) = (self.in_colours(value.len())?, cells_of(self.buf.cells()), 0);
+        done(unsafe { (calls_on::<Container>().count)(cells, len, is.width, is.height, is.stride, window, cells_of(value).0, is.channels, &mut count) })?;
         Ok(count)
     }
 
@@ -157,11 +204,11 @@ impl<Container: Buffer> Img<Container> {
     ///
     /// # Errors
     ///
-    /// [`Refused::NotAnImage`] for another number of cells, [`Refused::SizesDiffer`].
+    /// [`Refused::NotAnImage`] as in [`Img::fill_pixels`], [`Refused::SizesDiffer`].
     pub fn turn_pixels_into<Target: BufferMut<Pixel = Container::Pixel>>(&self, channels: usize, target: &mut Img<Target>, turn: Turn) -> Result<(), Refused> {
-        let (from, cells) = (self.buf.cells(), target.buf.cells_mut());
-        let (columns, wide) = columns_of(channels, self.width, target.width)?;
-        done(unsafe { (calls_on::<Container>().turn_into)(cells.as_mut_ptr().cast(), cells.len(), wide, target.height, target.stride, channels, from.as_ptr().cast(), from.len(), columns, self.height, self.stride, turn as u32) })
+        let (is, to) = (self.in_colours(channels)?, target.in_colours(channels)?);
+        let ((from, from_len), (cells, len)) = (cells_of(self.buf.cells()), cells_of_mut(target.buf.cells_mut()));
+        done(unsafe { (calls_on::<Container>().turn_into)(cells, len, to.width, to.height, to.stride, is.channels, from, from_len, is.width, is.height, is.stride, turn as u32) })
     }
 
     /// Writes the pixels to `target` with rows in the place of columns: it is as wide as this image is
@@ -178,14 +225,14 @@ impl<Container: Buffer> Img<Container> {
     ///
     /// # Errors
     ///
-    /// [`Refused::NotAnImage`] for another number of cells, [`Refused::SizesDiffer`].
+    /// [`Refused::NotAnImage`] as in [`Img::fill_pixels`], [`Refused::SizesDiffer`].
     pub fn transpose_pixels_into<Target: BufferMut<Pixel = Container::Pixel>>(&self, channels: usize, target: &mut Img<Target>) -> Result<(), Refused> {
-        let (from, cells) = (self.buf.cells(), target.buf.cells_mut());
-        let (columns, wide) = columns_of(channels, self.width, target.width)?;
-        done(unsafe { (calls_on::<Container>().transpose_into)(cells.as_mut_ptr().cast(), cells.len(), wide, target.height, target.stride, channels, from.as_ptr().cast(), from.len(), columns, self.height, self.stride) })
+        let (is, to) = (self.in_colours(channels)?, target.in_colours(channels)?);
+        let ((from, from_len), (cells, len)) = (cells_of(self.buf.cells()), cells_of_mut(target.buf.cells_mut()));
+        done(unsafe { (calls_on::<Container>().transpose_into)(cells, len, to.width, to.height, to.stride, is.channels, from, from_len, is.width, is.height, is.stride) })
     }
 
-    /// A window as an image over the same cells.
+    /// A window as an image over the same pixels.
     ///
     /// # Errors
     ///
@@ -195,7 +242,7 @@ impl<Container: Buffer> Img<Container> {
         Ok(Img { buf: &self.buf.cells()[stretch], width, height, stride: self.stride })
     }
 
-    /// The cells of a window.
+    /// The pixels from a window's first to its last.
     pub(crate) fn stretch(&self, window: Window) -> Result<Range<usize>, Refused> {
         let (mut start, mut count) = (0, 0);
         // SAFETY: two numbers of this function's own take the result.
@@ -221,7 +268,7 @@ impl<Container: Buffer> Img<Container> {
 }
 
 impl<Container: BufferMut> Img<Container> {
-    /// The same for writing, over the same cells.
+    /// The same for writing, over the same pixels.
     #[allow(clippy::should_implement_trait)]
     pub fn as_mut(&mut self) -> ImgRefMut<'_, Container::Pixel> {
         Img { width: self.width, height: self.height, stride: self.stride, buf: self.buf.cells_mut() }
@@ -233,8 +280,9 @@ impl<Container: BufferMut> Img<Container> {
     ///
     /// [`Refused::PlaceOutside`].
     pub fn put(&mut self, x: usize, y: usize, value: Container::Pixel) -> Result<(), Refused> {
-        let cells = self.buf.cells_mut();
-        done(unsafe { (calls_on::<Container>().put)(cells.as_mut_ptr().cast(), cells.len(), self.width, self.height, self.stride, x, y, value.to_bits()) })
+        let place = self.place(x, y)?;
+        self.buf.cells_mut()[place] = value;
+        Ok(())
     }
 
     /// Every pixel of the window becomes `value`.
@@ -243,8 +291,7 @@ impl<Container: BufferMut> Img<Container> {
     ///
     /// [`Refused::WindowOutside`].
     pub fn fill_window(&mut self, window: Window, value: Container::Pixel) -> Result<(), Refused> {
-        let cells = self.buf.cells_mut();
-        done(unsafe { (calls_on::<Container>().fill_window)(cells.as_mut_ptr().cast(), cells.len(), self.width, self.height, self.stride, window, value.to_bits()) })
+        self.fill_pixels(window, &[value])
     }
 
     /// The window gets the pixels of `source`, which has its size.
@@ -253,10 +300,9 @@ impl<Container: BufferMut> Img<Container> {
     ///
     /// [`Refused::WindowOutside`], [`Refused::SizesDiffer`].
     pub fn copy_window(&mut self, window: Window, source: ImgRef<'_, Container::Pixel>) -> Result<(), Refused> {
-        let (cells, from) = (self.buf.cells_mut(), source.buf);
-        done(unsafe {
-            (calls_on::<Container>().copy_window)(cells.as_mut_ptr().cast(), cells.len(), self.width, self.height, self.stride, window, from.as_ptr().cast(), from.len(), source.width, source.height, source.stride)
-        })
+        let (is, of, part) = (self.in_cells(), source.in_cells(), Self::window_in_cells(window));
+        let ((cells, len), (from, from_len)) = (cells_of_mut(self.buf.cells_mut()), cells_of(source.buf));
+        done(unsafe { (calls_on::<Container>().copy_window)(cells, len, is.width, is.height, is.stride, part, from, from_len, of.width, of.height, of.stride) })
     }
 
     /// The window `to` gets the pixels that the window `from` had; they may overlap.
@@ -265,8 +311,8 @@ impl<Container: BufferMut> Img<Container> {
     ///
     /// [`Refused::WindowOutside`] for either, [`Refused::SizesDiffer`].
     pub fn move_window(&mut self, from: Window, to: Window) -> Result<(), Refused> {
-        let cells = self.buf.cells_mut();
-        done(unsafe { (calls_on::<Container>().move_window)(cells.as_mut_ptr().cast(), cells.len(), self.width, self.height, self.stride, from, to) })
+        let (is, (cells, len)) = (self.in_cells(), cells_of_mut(self.buf.cells_mut()));
+        done(unsafe { (calls_on::<Container>().move_window)(cells, len, is.width, is.height, is.stride, Self::window_in_cells(from), Self::window_in_cells(to)) })
     }
 
     /// Each tile of the window, from its corner on, gets the pixel that was at the tile's corner.
@@ -275,33 +321,31 @@ impl<Container: BufferMut> Img<Container> {
     ///
     /// [`Refused::WindowOutside`], [`Refused::NoTile`].
     pub fn mosaic(&mut self, window: Window, tile_width: usize, tile_height: usize) -> Result<(), Refused> {
-        let cells = self.buf.cells_mut();
-        done(unsafe { (calls_on::<Container>().mosaic)(cells.as_mut_ptr().cast(), cells.len(), self.width, self.height, self.stride, window, tile_width, tile_height) })
+        self.mosaic_pixels(1, window, tile_width, tile_height)
     }
 
-    /// Every colour of the window becomes `pixel`: 1 to 4 cells, next to one another in a row. The
-    /// width of this image is so many times that of the colours, and the window is counted in
-    /// colours.
+    /// Every colour of the window becomes `pixel`, which may be several pixels of this image, next to one
+    /// another in a row. The width of this image is a multiple of their number, and the window is counted
+    /// in colours. A colour has 1 to 4 cells.
     ///
     /// # Errors
     ///
-    /// [`Refused::NotAnImage`] for another number of cells, [`Refused::WindowOutside`].
+    /// [`Refused::NotAnImage`] for another number of cells or a width that is no multiple,
+    /// [`Refused::WindowOutside`].
     pub fn fill_pixels(&mut self, window: Window, pixel: &[Container::Pixel]) -> Result<(), Refused> {
-        let (channels, cells) = (pixel.len(), self.buf.cells_mut());
-        let columns = self.width.checked_div(channels).ok_or(Refused::NotAnImage)?;
-        done(unsafe { (calls_on::<Container>().fill_pixels)(cells.as_mut_ptr().cast(), cells.len(), columns, self.height, self.stride, window, pixel.as_ptr().cast(), channels) })
+        let (is, (cells, len)) = (self.in_colours(pixel.len())?, cells_of_mut(self.buf.cells_mut()));
+        done(unsafe { (calls_on::<Container>().fill_pixels)(cells, len, is.width, is.height, is.stride, window, cells_of(pixel).0, is.channels) })
     }
 
-    /// The same as [`Img::mosaic`] for colours of `channels` cells, as [`Img::fill_pixels`] has them.
+    /// The same as [`Img::mosaic`] for colours of `channels` pixels, as [`Img::fill_pixels`] has them.
     ///
     /// # Errors
     ///
-    /// [`Refused::NotAnImage`] for another number of cells, [`Refused::WindowOutside`],
+    /// [`Refused::NotAnImage`] as in [`Img::fill_pixels`], [`Refused::WindowOutside`],
     /// [`Refused::NoTile`].
     pub fn mosaic_pixels(&mut self, channels: usize, window: Window, tile_width: usize, tile_height: usize) -> Result<(), Refused> {
-        let cells = self.buf.cells_mut();
-        let columns = self.width.checked_div(channels).ok_or(Refused::NotAnImage)?;
-        done(unsafe { (calls_on::<Container>().mosaic_pixels)(cells.as_mut_ptr().cast(), cells.len(), columns, self.height, self.stride, channels, window, tile_width, tile_height) })
+        let (is, (cells, len)) = (self.in_colours(channels)?, cells_of_mut(self.buf.cells_mut()));
+        done(unsafe { (calls_on::<Container>().mosaic_pixels)(cells, len, is.width, is.height, is.stride, is.channels, window, tile_width, tile_height) })
     }
 
     /// Turns the image in place. It has to be a square, unless it is turned by a half.
@@ -317,11 +361,10 @@ impl<Container: BufferMut> Img<Container> {
     ///
     /// # Errors
     ///
-    /// [`Refused::NotAnImage`] for another number of cells, [`Refused::SizesDiffer`].
+    /// [`Refused::NotAnImage`] as in [`Img::fill_pixels`], [`Refused::SizesDiffer`].
     pub fn turn_pixels(&mut self, channels: usize, turn: Turn) -> Result<(), Refused> {
-        let cells = self.buf.cells_mut();
-        let columns = self.width.checked_div(channels).ok_or(Refused::NotAnImage)?;
-        done(unsafe { (calls_on::<Container>().turn)(cells.as_mut_ptr().cast(), cells.len(), columns, self.height, self.stride, channels, turn as u32) })
+        let (is, (cells, len)) = (self.in_colours(channels)?, cells_of_mut(self.buf.cells_mut()));
+        done(unsafe { (calls_on::<Container>().turn)(cells, len, is.width, is.height, is.stride, is.channels, turn as u32) })
     }
 
     /// Rows become columns in place. The image has to be a square.
@@ -337,21 +380,21 @@ impl<Container: BufferMut> Img<Container> {
     ///
     /// # Errors
     ///
-    /// [`Refused::NotAnImage`] for another number of cells, [`Refused::SizesDiffer`].
+    /// [`Refused::NotAnImage`] as in [`Img::fill_pixels`], [`Refused::SizesDiffer`].
     pub fn transpose_pixels(&mut self, channels: usize) -> Result<(), Refused> {
-        let cells = self.buf.cells_mut();
-        let columns = self.width.checked_div(channels).ok_or(Refused::NotAnImage)?;
-        done(unsafe { (calls_on::<Container>().transpose)(cells.as_mut_ptr().cast(), cells.len(), columns, self.height, self.stride, channels) })
+        let (is, (cells, len)) = (self.in_colours(channels)?, cells_of_mut(self.buf.cells_mut()));
+        done(unsafe { (calls_on::<Container>().transpose)(cells, len, is.width, is.height, is.stride, is.channels) })
     }
 
-    /// The first row changes places with the last, and so on.
+    /// The first row changes places with the last, and so on. Whole rows do so, and it is the same
+    /// whatever a colour is: so it takes no `channels`, nor does [`Img::swap_rows`].
     ///
     /// # Errors
     ///
     /// None for a buffer that gives the same cells on each call.
     pub fn flip_rows(&mut self) -> Result<(), Refused> {
-        let (window, cells) = (self.whole(), self.buf.cells_mut());
-        done(unsafe { (calls_on::<Container>().flip_rows)(cells.as_mut_ptr().cast(), cells.len(), self.width, self.height, self.stride, 1, window) })
+        let (is, (cells, len)) = (self.in_cells(), cells_of_mut(self.buf.cells_mut()));
+        done(unsafe { (calls_on::<Container>().flip_rows)(cells, len, is.width, is.height, is.stride, 1, Window::new(0, 0, is.width, is.height)) })
     }
 
     /// The first column changes places with the last, and so on.
@@ -367,12 +410,10 @@ impl<Container: BufferMut> Img<Container> {
     ///
     /// # Errors
     ///
-    /// [`Refused::NotAnImage`] for another number of cells.
+    /// [`Refused::NotAnImage`] as in [`Img::fill_pixels`].
     pub fn flip_pixels(&mut self, channels: usize) -> Result<(), Refused> {
-        let cells = self.buf.cells_mut();
-        let columns = self.width.checked_div(channels).ok_or(Refused::NotAnImage)?;
-        let window = Window::new(0, 0, columns, self.height);
-        done(unsafe { (calls_on::<Container>().flip_columns)(cells.as_mut_ptr().cast(), cells.len(), columns, self.height, self.stride, channels, window) })
+        let (is, (cells, len)) = (self.in_colours(channels)?, cells_of_mut(self.buf.cells_mut()));
+        done(unsafe { (calls_on::<Container>().flip_columns)(cells, len, is.width, is.height, is.stride, is.channels, Window::new(0, 0, is.width, is.height)) })
     }
 
     /// Rows `y` and `z` change places.
@@ -381,12 +422,12 @@ impl<Container: BufferMut> Img<Container> {
     ///
     /// [`Refused::PlaceOutside`].
     pub fn swap_rows(&mut self, y: usize, z: usize) -> Result<(), Refused> {
-        let cells = self.buf.cells_mut();
-        done(unsafe { (calls_on::<Container>().swap_rows)(cells.as_mut_ptr().cast(), cells.len(), self.width, self.height, self.stride, 1, y, z) })
+        let (is, (cells, len)) = (self.in_cells(), cells_of_mut(self.buf.cells_mut()));
+        done(unsafe { (calls_on::<Container>().swap_rows)(cells, len, is.width, is.height, is.stride, 1, y, z) })
     }
 
     /// Each tile of the window, from its corner on, gets the mean of its colours, which have `channels`
-    /// cells. Each cell is a mean of its own, rounded to the nearest number: a half goes up.
+    /// pixels: 1 for pixels such as `[u8; 3]`. Each cell is a mean of its own, rounded to the nearest number: a half goes up.
     ///
     /// # Errors
     ///
@@ -395,28 +436,27 @@ impl<Container: BufferMut> Img<Container> {
     where
         Container::Pixel: Sample,
     {
-        let cells = self.buf.cells_mut();
-        let columns = self.width.checked_div(channels).ok_or(Refused::NotAnImage)?;
-        done(unsafe { Container::Pixel::MOSAIC_MEANS(cells.as_mut_ptr(), cells.len(), columns, self.height, self.stride, channels, window, tile_width, tile_height) })
+        let (is, (cells, len)) = (self.in_colours(channels)?, cells_of_mut(self.buf.cells_mut()));
+        done(unsafe { Means::<Container::Pixel>::CALL(cells, len, is.width, is.height, is.stride, is.channels, window, tile_width, tile_height) })
     }
 
     /// Joins the rows at the front of the buffer, over what lies between them: on a window that is its
     /// parent's pixels.
     ///
     /// The stride is the width from now on, or 1 for width 0. Returns the pixels, the width and the
-    /// height. The cells after them stay. [`Img::to_contiguous_buf`] copies the pixels instead.
+    /// height. What comes after them stays. [`Img::to_contiguous_buf`] copies the pixels instead.
     ///
     /// # Errors
     ///
     /// None for a buffer that gives the same cells on each call.
     pub fn as_contiguous_buf(&mut self) -> Result<(&[Container::Pixel], usize, usize), Refused> {
-        let cells = self.buf.cells_mut();
-        done(unsafe { (calls_on::<Container>().pack)(cells.as_mut_ptr().cast(), cells.len(), self.width, self.height, self.stride) })?;
+        let (is, (cells, len)) = (self.in_cells(), cells_of_mut(self.buf.cells_mut()));
+        done(unsafe { (calls_on::<Container>().pack)(cells, len, is.width, is.height, is.stride) })?;
         self.stride = self.width.max(1);
         Ok((&self.buf.cells()[..self.width * self.height], self.width, self.height))
     }
 
-    /// A window as an image over the same cells.
+    /// A window as an image over the same pixels.
     ///
     /// # Errors
     ///
@@ -438,7 +478,7 @@ impl<Container: BufferMut> Img<Container> {
     }
 }
 
-impl<T: Cell> ImgVec<T> {
+impl<T: Pixel> ImgVec<T> {
     /// The same as [`Img::as_contiguous_buf`], with a `Vec` of exactly the pixels.
     ///
     /// # Errors

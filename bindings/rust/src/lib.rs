@@ -2,7 +2,8 @@
 //!
 //! An image is a buffer with a width, a height and a stride: a slice ([`ImgRef`]), a mutable slice
 //! ([`ImgRefMut`]) or a `Vec` ([`ImgVec`]). The pixel in column `x` of row `y` is `y * stride + x`
-//! of the buffer, and all else is padding. A pixel is an integer of 1, 2, 4 or 8 bytes ([`Cell`]).
+//! of the buffer, and all else is padding. A pixel is an integer, `f32`, `f64`, an array of up to four of
+//! these, or a struct of the caller's that is [`Pixel`] by one line.
 //!
 //! ```
 //! use imgref_proved::{ImgRefMut, Window};
@@ -25,15 +26,17 @@ use std::fmt;
 mod buffers;
 mod calls;
 mod images;
+mod pixels;
 mod places;
 pub use buffers::{Buffer, BufferMut};
-pub use calls::{Cell, Sample};
+pub use calls::Cell;
 pub use images::{Img, ImgRef, ImgRefMut, ImgVec};
+pub use pixels::{Pixel, Sample};
 
 /// What a call was refused for. Nothing has changed then.
 #[derive(Clone, Copy, Debug, PartialEq, Eq)]
 pub enum Refused {
-    /// The cells are no image of that width, height and stride.
+    /// The cells are no image of that width, height and stride, or the width is no multiple of `channels`.
     NotAnImage,
     /// A window isn't inside the image.
     WindowOutside,

@@ -2,17 +2,17 @@
 
 use std::ops::{Index, IndexMut};
 
-use crate::images::calls_on;
-use crate::{done, Buffer, BufferMut, Img, Window};
+use crate::images::{calls_on, cells_of};
+use crate::{done, Buffer, BufferMut, Img};
 
-/// Whether both have one size and equal pixels at every place; strides and padding don't count.
+/// Whether both have one size and pixels of equal bytes at every place; strides and padding don't count.
+/// So `0.0` and `-0.0` differ, and a NaN equals itself.
 impl<Container: Buffer, Other: Buffer<Pixel = Container::Pixel>> PartialEq<Img<Other>> for Img<Container> {
     fn eq(&self, other: &Img<Other>) -> bool {
-        let (one, that, mut equal) = (self.as_ref(), other.as_ref(), false);
-        let (cells, second) = (one.buf, that.buf);
-        let answer = done(unsafe {
-            (calls_on::<Container>().equal)(cells.as_ptr().cast(), cells.len(), one.width, one.height, one.stride, second.as_ptr().cast(), second.len(), that.width, that.height, that.stride, &mut equal)
-        });
+        let (one, that, mut equal) = (self.in_cells(), other.in_cells(), false);
+        let ((cells, len), (second, second_len)) = (cells_of(self.buf.cells()), cells_of(other.buf.cells()));
+        // SAFETY: as of the calls of images.rs.
+        let answer = done(unsafe { (calls_on::<Container>().equal)(cells, len, one.width, one.height, one.stride, second, second_len, that.width, that.height, that.stride, &mut equal) });
         answer.is_ok() && equal
     }
 }
@@ -28,8 +28,8 @@ impl<Container: Buffer> Index<(usize, usize)> for Img<Container> {
     type Output = Container::Pixel;
 
     fn index(&self, (x, y): (usize, usize)) -> &Self::Output {
-        let stretch = self.stretch(Window::new(x, y, 1, 1)).expect("a pixel of the image");
-        &self.buf.cells()[stretch.start]
+        let place = self.place(x, y).expect("a pixel of the image");
+        &self.buf.cells()[place]
     }
 }
 
@@ -40,7 +40,7 @@ impl<Container: Buffer> Index<(usize, usize)> for Img<Container> {
 /// Where there is no such pixel.
 impl<Container: BufferMut> IndexMut<(usize, usize)> for Img<Container> {
     fn index_mut(&mut self, (x, y): (usize, usize)) -> &mut Self::Output {
-        let stretch = self.stretch(Window::new(x, y, 1, 1)).expect("a pixel of the image");
-        &mut self.buf.cells_mut()[stretch.start]
+        let place = self.place(x, y).expect("a pixel of the image");
+        &mut self.buf.cells_mut()[place]
     }
 }

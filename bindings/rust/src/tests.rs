@@ -3,7 +3,7 @@
 use std::cell::Cell as Count;
 use std::panic::{catch_unwind, AssertUnwindSafe};
 
-use super::{Buffer, BufferMut, Cell, Img, ImgRef, ImgRefMut, ImgVec, Refused, Turn, Window};
+use super::{Buffer, BufferMut, Img, ImgRef, ImgRefMut, ImgVec, Pixel, Refused, Sample, Turn, Window};
 
 // 3 by 2 at stride 4: the cells 3, 7 and 8 are padding.
 const CELLS: [u8; 9] = [1, 2, 3, 90, 4, 5, 6, 91, 92];
@@ -113,10 +113,10 @@ fn joins_the_rows_of_a_window_over_its_parent() {
     assert_eq!(image.into_buf(), [1, 2, 4, 5, 5, 6]);
 }
 
-// Two colours of three cells in a row, and a cell that is left over.
+// Two colours of three cells in a row, and a cell of padding.
 #[test]
 fn takes_colours_of_several_cells() {
-    let mut image = ImgVec::new(vec![1u16, 2, 3, 4, 5, 6, 90, 7, 8, 9, 10, 11, 12, 91], 7, 2).unwrap();
+    let mut image = ImgVec::new_stride(vec![1u16, 2, 3, 4, 5, 6, 90, 7, 8, 9, 10, 11, 12, 91], 6, 2, 7).unwrap();
     image.fill_pixels(Window::new(1, 0, 1, 2), &[600, 601, 602]).unwrap();
     assert_eq!(image.buf()[..], [1, 2, 3, 600, 601, 602, 90, 7, 8, 9, 600, 601, 602, 91]);
     image.mosaic_pixels(3, Window::new(0, 0, 2, 2), 2, 2).unwrap();
@@ -129,6 +129,159 @@ fn takes_colours_of_several_cells() {
     assert_eq!(image.fill_pixels(Window::new(2, 0, 1, 1), &[1, 2, 3]), Err(Refused::WindowOutside));
     assert_eq!(image.mosaic_pixels(3, Window::new(0, 0, 1, 1), 0, 1), Err(Refused::NoTile));
     assert_eq!(image.into_buf(), before);
+}
+
+// A row that colours don't fill is no image of colours, in each call that takes them.
+#[test]
+fn refuses_a_width_that_is_no_multiple() {
+    let mut image = ImgVec::new((1..15).collect::<Vec<u8>>(), 7, 2).unwrap();
+    let mut whole = ImgVec::new_stride(vec![0u8; 14], 6, 2, 7).unwrap();
+    let first = Window::new(0, 0, 1, 1);
+    let none = Err(Refused::NotAnImage);
+    assert_eq!(image.fill_pixels(first, &[1, 2, 3]), none);
+    assert_eq!(image.mosaic_pixels(3, first, 1, 1), none);
+    assert_eq!(image.mosaic_means(3, first, 1, 1), none);
+    assert_eq!(image.count_pixels(first, &[1, 2, 3]), Err(Refused::NotAnImage));
+    assert_eq!(image.turn_pixels_into(3, &mut whole, Turn::Half), none);
+    assert_eq!(whole.turn_pixels_into(3, &mut image, Turn::Half), none);
+    assert_eq!(image.transpose_pixels_into(3, &mut whole), none);
+    assert_eq!(whole.transpose_pixels_into(3, &mut image), none);
+    assert_eq!(image.turn_pixels(3, Turn::Half), none);
+    assert_eq!(image.transpose_pixels(3), none);
+    assert_eq!(image.flip_pixels(3), none);
+    assert_eq!(image.into_buf(), (1..15).collect::<Vec<u8>>());
+    assert_eq!(whole.into_buf(), [0; 14]);
+}
+
+#[repr(C)]
+#[derive(Clone, Copy, Debug, Default, PartialEq)]
+struct Rgb8 {
+    red: u8,
+    green: u8,
+    blue: u8,
+}
+
+// SAFETY: three bytes next to one another, without padding, each of which may be any number.
+unsafe impl Pixel for Rgb8 {
+    type Cell = u8;
+}
+unsafe impl Sample for Rgb8 {}
+
+// The colour that a number stands for in the tests below.
+trait Numbered: Pixel + PartialEq + std::fmt::Debug {
+    fn number(it: u8) -> Self;
+}
+
+impl Numbered for Rgb8 {
+    fn number(it: u8) -> Self {
+        Rgb8 { red: it, green: 100 - it, blue: 7 }
+    }
+}
+
+impl Numbered for [u8; 3] {
+    fn number(it: u8) -> Self {
+        [it, 0, it]
+    }
+}
+
+impl Numbered for [u16; 4] {
+    fn number(it: u8) -> Self {
+        [0xff00 + u16::from(it), 1, 2, 3]
+    }
+}
+
+impl Numbered for u32 {
+    fn number(it: u8) -> Self {
+        u32::from(it) << 24
+    }
+}
+
+impl Numbered for char {
+    fn number(it: u8) -> Self {
+        char::from(it)
+    }
+}
+
+fn colours<T: Numbered>(numbers: &[u8]) -> Vec<T> {
+    numbers.iter().map(|it| T::number(*it)).collect()
+}
+
+// By their bytes, so that a NaN equals itself.
+fn are_equal<T: Numbered>(image: &Img<impl Buffer<Pixel = T>>, numbers: &[u8]) {
+    let wanted = ImgVec::new(colours::<T>(numbers), image.width(), image.height()).unwrap();
+    assert!(*image == wanted, "{:?} is not {numbers:?}", image.to_contiguous_buf().0);
+}
+
+// Each call on 3 by 2 pixels at stride 4, where the pixels 3, 7 and 8 are padding.
+fn calls_on_pixels<T: Numbered>() {
+    let mut image = ImgVec::new_stride(colours::<T>(&CELLS), 3, 2, 4).unwrap();
+    let one = T::number(50);
+    assert_eq!((image.width(), image.height(), image.stride(), image.count(image.whole(), T::number(5))), (3, 2, 4, Ok(1)));
+    image.put(2, 1, one).unwrap();
+    assert_eq!(image.put(3, 1, one), Err(Refused::PlaceOutside));
+    image.fill_window(Window::new(1, 0, 1, 2), T::number(7)).unwrap();
+    are_equal(&image, &[1, 7, 3, 4, 7, 50]);
+    for window in [Window::new(2, 0, 2, 1), Window::new(usize::MAX / 2, 0, 1, 1), Window::new(0, 0, usize::MAX, 1)] {
+        assert_eq!(image.fill_window(window, one), Err(Refused::WindowOutside));
+        assert_eq!(image.move_window(window, window), Err(Refused::WindowOutside));
+        assert_eq!(image.copy_window(window, ImgRef::new(&[one][..], 1, 1).unwrap()), Err(Refused::WindowOutside));
+    }
+    image.move_window(Window::new(0, 0, 2, 2), Window::new(1, 0, 2, 2)).unwrap();
+    are_equal(&image, &[1, 1, 7, 4, 4, 7]);
+    image.copy_window(Window::new(0, 1, 3, 1), ImgRef::new(&colours::<T>(&[8, 9, 10])[..], 3, 1).unwrap()).unwrap();
+    image.flip_rows().unwrap();
+    image.flip_columns().unwrap();
+    are_equal(&image, &[10, 9, 8, 7, 1, 1]);
+    image.swap_rows(0, 1).unwrap();
+    let mut upright = ImgVec::new(colours::<T>(&[0; 6]), 2, 3).unwrap();
+    image.turn_into(&mut upright, Turn::Right).unwrap();
+    are_equal(&upright, &[10, 7, 9, 1, 8, 1]);
+    image.transpose_into(&mut upright).unwrap();
+    are_equal(&upright, &[7, 10, 1, 9, 1, 8]);
+    image.turn(Turn::Half).unwrap();
+    image.mosaic(Window::new(0, 0, 3, 1), 2, 1).unwrap();
+    are_equal(&image, &[8, 8, 10, 1, 1, 7]);
+    let mut square = image.sub_image_mut(1, 0, 2, 2).unwrap();
+    square.transpose().unwrap();
+    square.turn(Turn::Left).unwrap();
+    are_equal(&square, &[1, 7, 8, 10]);
+    assert_eq!((square.get(1, 1), square.get(2, 1), square.rows().len()), (Ok(T::number(10)), Err(Refused::PlaceOutside), 2));
+    image.rows_mut().for_each(|row| row[0] = T::number(3));
+    let (buf, width, height) = image.into_contiguous_buf().unwrap();
+    are_equal(&ImgVec::new(buf, width, height).unwrap(), &[3, 1, 7, 3, 8, 10]);
+}
+
+#[test]
+fn takes_pixels_of_the_callers() {
+    calls_on_pixels::<Rgb8>();
+    calls_on_pixels::<[u8; 3]>();
+    calls_on_pixels::<[u16; 4]>();
+    calls_on_pixels::<u32>();
+    calls_on_pixels::<char>();
+    let (numbers, same, negative) = (Img::new([[0.0, f64::NAN]], 1, 1).unwrap(), Img::new([[0.0, f64::NAN]], 1, 1).unwrap(), Img::new([[-0.0, f64::NAN]], 1, 1).unwrap());
+    assert!(numbers == same && numbers != negative && numbers.count(numbers.whole(), [0.0, f64::NAN]) == Ok(1));
+}
+
+// A colour of two pixels of two cells, and means of the caller's colours.
+#[test]
+fn takes_colours_of_pixels_and_their_means() {
+    let mut image = ImgVec::new(vec![[1u8, 2], [3, 4], [5, 6], [7, 8]], 4, 1).unwrap();
+    image.flip_pixels(2).unwrap();
+    assert_eq!(image.buf()[..], [[5, 6], [7, 8], [1, 2], [3, 4]]);
+    assert_eq!(image.flip_pixels(4), Err(Refused::NotAnImage));
+    let grey = |it| Rgb8 { red: it, green: it, blue: 1 };
+    let mut image = ImgVec::new(vec![grey(1), grey(2), grey(9)], 3, 1).unwrap();
+    image.mosaic_means(1, image.whole(), 2, 1).unwrap();
+    assert_eq!(image.into_buf(), [grey(2), grey(2), grey(9)]);
+}
+
+// The longest row has fewer than 2^32 cells, and no product of a size overflows.
+#[test]
+fn refuses_rows_of_too_many_cells() {
+    for (width, height, stride) in [(1 << 31, 0, 1 << 31), (usize::MAX / 2 + 2, 0, usize::MAX), (0, 2, usize::MAX / 2 + 2)] {
+        assert_eq!(ImgRef::<[u8; 2]>::new_stride(&[], width, height, stride).err(), Some(Refused::NotAnImage));
+    }
+    assert!(ImgRef::<[u8; 2]>::new_stride(&[], (1 << 31) - 1, 0, 1 << 31).is_ok());
 }
 
 #[test]
@@ -206,7 +359,7 @@ fn takes_means_of_colours() {
     assert_eq!(long.into_buf(), [65535, 65535, 2, 2]);
 }
 
-fn calls_on<T: Cell + std::fmt::Debug>(least: T, most: T) {
+fn calls_on<T: Pixel + PartialEq + std::fmt::Debug>(least: T, most: T) {
     let mut image = ImgVec::new_stride(vec![least; 7], 3, 2, 4).unwrap();
     image.fill_window(Window::new(1, 0, 2, 2), most).unwrap();
     image.put(0, 0, most).unwrap();
@@ -222,7 +375,7 @@ fn calls_on<T: Cell + std::fmt::Debug>(least: T, most: T) {
 }
 
 #[test]
-fn takes_each_integer() {
+fn takes_each_number() {
     calls_on(0, u8::MAX);
     calls_on(i8::MIN, i8::MAX);
     calls_on(0, u16::MAX);
@@ -231,6 +384,10 @@ fn takes_each_integer() {
     calls_on(i32::MIN, -1);
     calls_on(0, u64::MAX);
     calls_on(i64::MIN, -1);
+    calls_on(-0.5f32, 1e30);
+    calls_on(f64::MIN, f64::MAX);
+    calls_on(false, true);
+    calls_on(0, usize::MAX);
 }
 
 #[test]
