@@ -10,6 +10,7 @@
 CC names the compiler that links (cc). Only names that begin with imgref_ are exported. What the crate needs of the
 toolchain's own C code is linked in, so that a user needs no toolchain.
 """
+import dataclasses
 import os
 import pathlib
 import shutil
@@ -17,6 +18,7 @@ import sys
 
 from processes import end_on_signals, run_to_end
 from program import built, say
+from version import MAJOR, MINOR, VERSION
 from workspace import ROOT, held, is_fresh, product
 
 NAME = "imgref_c"
@@ -25,8 +27,8 @@ HEADERS = [HEADER, ROOT / "include/imgref.hpp"]
 PROGRAMS = ("imgref_run", "imgref_frames")
 MAN = ROOT / "man"
 OUT = ROOT / "out/c"
-# The version of this port (CHANGELOG.md), and the number that changes where a built caller has to be built again.
-VERSION, ABI = "0.1.0", "1"
+# The number that changes where a built caller has to be built again.
+ABI = "1"
 EXPORTS = "imgref_*"
 # Functions begin at multiples of so many bytes.
 APART = 16
@@ -60,11 +62,20 @@ def cmake():
         lines += [f"if(NOT TARGET imgref::{name})", f"  add_library(imgref::{name} {kind} IMPORTED)", f"  set_target_properties(imgref::{name} PROPERTIES {properties})", "endif()"]
     lines += [f'set(imgref_VERSION "{VERSION}")', "unset(_imgref_prefix)", ""]
     # (before 1.0.0 the second number may change what a caller sees)
-    major, minor = VERSION.split(".")[:2]
-    fits = f'PACKAGE_FIND_VERSION VERSION_GREATER "{VERSION}" OR NOT PACKAGE_FIND_VERSION MATCHES "^{major}(\\.{minor}(\\..*)?)?$"'
+    fits = f'PACKAGE_FIND_VERSION VERSION_GREATER "{VERSION}" OR NOT PACKAGE_FIND_VERSION MATCHES "^{MAJOR}(\\.{MINOR}(\\..*)?)?$"'
     version = [f'set(PACKAGE_VERSION "{VERSION}")', f"if({fits})", "  set(PACKAGE_VERSION_COMPATIBLE FALSE)", "else()", "  set(PACKAGE_VERSION_COMPATIBLE TRUE)"]
     version += ["  if(PACKAGE_FIND_VERSION VERSION_EQUAL PACKAGE_VERSION)", "    set(PACKAGE_VERSION_EXACT TRUE)", "  endif()", "endif()", ""]
     return {"imgref-config.cmake": "\n".join(lines), "imgref-config-version.cmake": "\n".join(version)}
+
+
+@dataclasses.dataclass(frozen=True)
+class Tools:
+    """The tools that link for a processor, and the archives of the toolchain's own C code that are linked in."""
+
+    compiler: list
+    objcopy: str
+    archiver: str
+    archives: list
 
 
 def compiler():
@@ -72,7 +83,7 @@ def compiler():
 
 
 def toolchain():
-    """The archives of the toolchain's own C code."""
+    """The archives of the toolchain's own C code, for this machine."""
     kit = pathlib.Path(shutil.which("rt")).resolve().parent.parent
     return sorted(it for it in (kit / "c").glob("lib*.a"))
 
@@ -83,17 +94,15 @@ def shift(file, places):
     return file
 
 
-def link(archive):
-    """Links an archive into one object that exports only the header's names, and makes both libraries from it."""
-    whole, shared, static = OUT / "imgref.o", OUT / f"libimgref.so.{ABI}", OUT / "libimgref.a"
+def link(archive, out, its):
+    """Links an archive into one object that exports only the header's names, and makes both libraries from it in a folder."""
+    whole, shared, static = out / "imgref.o", out / f"libimgref.so.{ABI}", out / "libimgref.a"
     static.unlink(missing_ok=True)
-    command(*compiler(), "-r", "-nostdlib", "-o", whole, "-Wl,--whole-archive", archive, "-Wl,--no-whole-archive", *toolchain())
-    command("objcopy", "--wildcard", f"--keep-global-symbol={EXPORTS}", whole)
-    command(*compiler(), "-shared", "-o", shared, whole, f"-Wl,-soname,{shared.name}", "-Wl,-z,defs", "-Wl,-z,noexecstack", "-Wl,--gc-sections", "-Wl,-s")
-    linked(OUT, is_installed=False)
-    (OUT / "imgref.pc").write_text(package(OUT, HEADER.parent, OUT))
-    # (made last, since its time tells whether all of them are fresh)
-    command("ar", "rcs", static, whole)
+    command(*its.compiler, "-r", "-nostdlib", "-o", whole, "-Wl,--whole-archive", archive, "-Wl,--no-whole-archive", *its.archives)
+    command(its.objcopy, "--wildcard", f"--keep-global-symbol={EXPORTS}", "--strip-debug", whole)
+    command(*its.compiler, "-shared", "-nostartfiles", "-o", shared, whole, f"-Wl,-soname,{shared.name}", "-Wl,-z,defs", "-Wl,-z,noexecstack", "-Wl,-z,relro", "-Wl,-z,now", "-Wl,--gc-sections", "-Wl,-s")
+    # (made last, since its time tells whether all of them are fresh; D leaves out times and owners)
+    command(its.archiver, "rcsD", static, whole)
     whole.unlink()
 
 
@@ -115,18 +124,22 @@ def build():
     OUT.mkdir(parents=True, exist_ok=True)
     with held(OUT):
         if not is_fresh(OUT / "libimgref.a", NAME):
-            link(product(NAME))
+            link(product(NAME), OUT, Tools(compiler(), "objcopy", "ar", toolchain()))
+        linked(OUT, is_installed=False)
+        (OUT / "imgref.pc").write_text(package(OUT, HEADER.parent, OUT))
     say(f"{OUT.relative_to(ROOT)}/libimgref.a, libimgref.so, imgref.pc")
 
 
 def installed():
-    """The folders below a prefix, each with the files that are copied into it."""
-    return {
+    """The files that are copied below a prefix, by their paths there."""
+    folders = {
         "include": HEADERS,
         "lib": [OUT / "libimgref.a", OUT / f"libimgref.so.{ABI}"],
         "bin": [product(it) for it in PROGRAMS],
         **{f"share/man/man{it}": sorted(MAN.glob(f"*.{it}")) for it in (1, 3)},
     }
+    files = {f"{below}/{it.name}": it for below, sources in folders.items() for it in sources}
+    return files | {"bin/imgref-boxes": ROOT / "examples/boxes.py"}
 
 
 def install(prefix, stage=""):
@@ -136,10 +149,9 @@ def install(prefix, stage=""):
         raise Failure("the programs are not proved")
     named = os.path.abspath(prefix)
     prefix = pathlib.Path(os.path.abspath(stage) + named if stage else named)
-    for below, sources in installed().items():
-        (prefix / below).mkdir(parents=True, exist_ok=True)
-        for it in sources:
-            shutil.copy2(it, prefix / below / it.name)
+    for path, source in installed().items():
+        (prefix / path).parent.mkdir(parents=True, exist_ok=True)
+        shutil.copy2(source, prefix / path)
     linked(prefix / "lib", is_installed=True)
     texts = {"lib/pkgconfig/imgref.pc": package(named, "${prefix}/include", "${prefix}/lib")}
     texts |= {f"lib/cmake/imgref/{name}": text for name, text in cmake().items()}

@@ -10,20 +10,23 @@ in crates/NAME/out/build.log, each line with its second and its crate.
 """
 import contextlib
 import os
+import pathlib
 import re
 import shutil
 import subprocess
 import sys
 import tempfile
 import threading
+import time
 
 from processes import end_on_signals, started
-from proving import Progress, all_below, changed, processors, prove_changed, weights_of
+from proving import CORES, Progress, all_below, changed, processors, prove_changed, weights_of
 from workspace import ROOT, crates, product
 
 NAME = "imgref_run"
 FOLDER = ROOT / "crates" / NAME
-# How often a line is written where there is no terminal, in seconds; and what takes a line of a terminal back.
+# How often a line is written where there is no terminal, and the busy processors are counted, in seconds; and what takes a line of
+# a terminal back.
 EVERY, BACK = 10, "\r\033[K"
 FAULT = re.compile(rb"fault line (\d+)\n")
 
@@ -38,7 +41,9 @@ def shown(progress):
     is_terminal, ended = sys.stderr.isatty(), threading.Event()
 
     def show():
+        cores = BusyCores(progress)
         while not ended.wait(1 if is_terminal else EVERY):
+            cores.count()
             say(f"{BACK}{progress.text()[: shutil.get_terminal_size().columns - 1]}" if is_terminal else progress.text(), end="" if is_terminal else "\n")
 
     teller = threading.Thread(target=show, daemon=True)
@@ -49,6 +54,26 @@ def shown(progress):
         ended.set()
         teller.join()
         say(BACK if is_terminal else "", end="")
+
+
+class BusyCores:
+    """Counts how many processors were busy since the last time, and adds that to the log of the proofs."""
+
+    def __init__(self, progress):
+        self.progress, self.last = progress, self.read()
+
+    @staticmethod
+    def read():
+        """The moment, and the seconds that all processors have been busy."""
+        fields = [int(it) for it in pathlib.Path("/proc/stat").read_text().split("\n", 1)[0].split()[1:9]]
+        # (the fourth is idle time, the fifth the time of waiting for a disk)
+        return time.monotonic(), (sum(fields) - fields[3] - fields[4]) / os.sysconf("SC_CLK_TCK")
+
+    def count(self):
+        now = self.read()
+        if now[0] >= self.last[0] + EVERY:
+            self.progress.keep(CORES, f"{(now[1] - self.last[1]) / (now[0] - self.last[0]):.1f} busy")
+            self.last = now
 
 
 def built(*names):
@@ -63,7 +88,8 @@ def built(*names):
     say(f"That takes about {minutes} minute{'s' * (minutes > 1)} on a machine with {processors()} processors, and nothing where no source has changed since.")
     with shown(progress):
         said = prove_changed(names, progress)
-    for it in names:
+    # (what needed nothing keeps the log of its own proofs)
+    for it in names if said is not None else {*names} & {*left}:
         (ROOT / "crates" / it / "out").mkdir(exist_ok=True)
         (ROOT / "crates" / it / "out/build.log").write_text("\n".join([*progress.log, ""]))
     if said is not None:

@@ -31,6 +31,12 @@ def weight(name):
     return 8 + code / 10 + count(".antt") / 50
 
 
+# A share that the weights don't move grows so many times more slowly than one that they do.
+CREEPS = 4
+# In the log of proofs, the name of a line that says how many processors were busy.
+CORES = "cores"
+
+
 class Progress:
     """The progress of the proofs, by what the prover said, and how long they still take.
 
@@ -40,7 +46,7 @@ class Progress:
     def __init__(self, weights, below, clock=time.monotonic):
         self.weights, self.below, self.clock = weights, below, clock
         self.began, self.functions, self.done, self.begun, self.log = clock(), {}, set(), {}, []
-        self.jobs, self.told, self.learnt = {}, 0.0, [0.0, 0.0]
+        self.jobs, self.told, self.asked, self.learnt = {}, 0.0, 0.0, [0.0, 0.0]
 
     def begin(self, name, jobs=1):
         self.keep(name, "begins")
@@ -94,9 +100,11 @@ class Progress:
         return max(found.values(), default=0.0)
 
     def share(self):
-        """How much is done, from 0 to 1. It never falls."""
+        """How much is done, from 0 to 1. It never falls, and where less is told than before, it grows by a part of what is left."""
         seconds, left = self.clock() - self.began, self.left()
-        self.told = max(self.told, seconds / (seconds + left) if left else 1.0)
+        passed, self.asked = seconds - self.asked, seconds
+        creeps = self.told + (1 - self.told) * passed / (CREEPS * (left + passed)) if left else 0.0
+        self.told = max(creeps, seconds / (seconds + left) if left else 1.0)
         return self.told
 
     def text(self):
@@ -104,7 +112,7 @@ class Progress:
         seconds, done = self.clock() - self.began, self.share()
         parts = [f"{name} {checked} of {of}" if of else f"{name} begins" for name, (checked, of) in self.functions.items() if name not in self.done]
         left = f", about {max(round(self.left() / 60), 1)} min left" if done < 1 else ""
-        return f"{int(seconds) // 60}:{int(seconds) % 60:02}  {100 * done:3.0f} %{left}  {'; '.join(parts)}".rstrip()
+        return f"{int(seconds) // 60}:{int(seconds) % 60:02}  {100 * done:5.1f} %{left}  {'; '.join(parts)}".rstrip()
 
 
 def processors():

@@ -2,11 +2,16 @@
 """Seconds of proof a function, longest first: which function to split, and what a crate pays before its first one.
 
     times.py [--tests] [--least SECONDS] [CRATE..]
+    times.py --waits [PROGRAM..]
 
 Each crate is proved from nothing by one job over the cached proofs of the crates below it, which are proved first where they
 have changed. A function's time runs from the one before it, so the first has the start and the loading of libraries in it.
 With --tests the tests of the crates are proved too. Without a crate, all are measured: on an idle machine, since other work
 counts as well.
+
+With --waits nothing is proved: it reads the logs of the last proofs that `make run`, `make frames` or `make c` made of these
+programs (without one of imgref_run and imgref_frames). It prints when each crate began and ended, what it waited for, and how many
+processors were busy meanwhile.
 """
 import argparse
 import importlib.machinery
@@ -18,11 +23,13 @@ import sys
 import time
 
 from processes import end_on_signals
-from proving import Failed, Progress, prove_changed, run, weights_of
-from workspace import crates, room, with_those_below
+from proving import CORES, Failed, Progress, prove_changed, run, weights_of
+from workspace import ROOT, crates, room, with_those_below
 
 ENDED = re.compile(r"checked (\S+), \d+ of \d+")
 AFTER = "(after the last function)"
+# A crate that begins within so many seconds after another ended waited for that one.
+AT_ONCE = 3
 
 
 def toolchain():
@@ -57,12 +64,48 @@ def seconds_of(name, tests, rtlib):
     return [*rows, (AFTER, now - last)], now - began
 
 
+def waits_of(name):
+    """Each crate of the last proofs of a program, in the order of its beginning: when it began and ended, for which crate it
+    waited, and how many processors were busy meanwhile, or 0 where that was not counted."""
+    began, ended, busy = {}, {}, []
+    for line in (ROOT / "crates" / name / "out/build.log").read_text().splitlines():
+        second, crate, said = line.split("\t")
+        if crate == CORES:
+            busy.append((float(second), float(said.split()[0])))
+        elif said in ("begins", "ends"):
+            (began if said == "begins" else ended)[crate] = float(second)
+    for crate, start in sorted(began.items(), key=lambda it: it[1]):
+        before = {ended[it]: it for it in with_those_below(crate)[:-1] if it in ended}
+        last = max(before, default=0)
+        waited = before[last] if before and start <= last + AT_ONCE else "a free processor" if start > AT_ONCE else "nothing"
+        end = ended.get(crate, start)
+        counts = [cores for second, cores in busy if start < second <= end]
+        yield crate, start, end, waited, sum(counts) / len(counts) if counts else 0.0
+
+
+def tell_waits(names):
+    """Prints the waits of these programs."""
+    for name in names:
+        try:
+            rows = [*waits_of(name)]
+        except OSError:
+            print(f"{name}: there is no log of its proofs: they are made by make run, make frames or make c")
+            return 1
+        print(f"{name}: {max((it[2] for it in rows), default=0):.0f} s\n{'crate':20} {'begins':>7} {'ends':>7} {'takes':>7}  {'busy':>5}  waited for")
+        for crate, start, end, waited, cores in rows:
+            print(f"{crate:20} {start:7.0f} {end:7.0f} {end - start:7.0f}  {f'{cores:.1f}' if cores else '':>5}  {waited}")
+    return 0
+
+
 def main():
     asked = argparse.ArgumentParser(description=__doc__, formatter_class=argparse.RawDescriptionHelpFormatter)
     asked.add_argument("crates", nargs="*")
     asked.add_argument("--tests", action="store_true")
+    asked.add_argument("--waits", action="store_true")
     asked.add_argument("--least", type=float, default=2.0, metavar="SECONDS")
     asked = asked.parse_args()
+    if asked.waits:
+        return tell_waits(asked.crates or ["imgref_run", "imgref_frames"])
     names, total = asked.crates or [*crates()], 0
     below = [*dict.fromkeys(it for name in names for it in with_those_below(name)[:-1])]
     said = prove_changed(below, Progress(*weights_of(below)))

@@ -15,6 +15,18 @@ ROOT = pathlib.Path(__file__).resolve().parent.parent
 PARTS = ("src", "specs", "proofs")
 
 
+def fill_streams():
+    """Opens each standard stream that is closed on the null device. Otherwise a file that a tool opens later would get its number,
+    and what a command prints would be written into it."""
+    while (number := os.open(os.devnull, os.O_RDWR)) <= 2:
+        os.set_inheritable(number, True)
+    os.close(number)
+
+
+# Each tool of `make` imports this file before it opens another.
+fill_streams()
+
+
 def entries():
     """Each crate of crates.txt: its line, its name, its kind where it says one, and the crates that it names."""
     for line in (ROOT / "crates.txt").read_text().splitlines():
