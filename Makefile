@@ -2,15 +2,17 @@
 # make run [SCRIPT=path]   proves and builds the program, and runs it on a script
 # make check [CRATE=name]  proves and tests what has changed, of one crate with all below it or of all: what to run while writing
 # make test                runs every test, proves and builds the product, and tries all that was built
-# make gate [BUGS=changed] everything from nothing: also the proofs of the tests, both builds, and the planted bugs
-# make times [TIMES=..]    seconds of proof a function; TIMES: options of tools/times.py, as the names of crates
+# make gate [BUGS=..]      everything from nothing: also the proofs of the tests, both builds, and the planted bugs. BUGS=changed: those
+#                          that a change affects; BUGS=landing: those since the last release, and a tenth of the others
+# make times [TIMES=..]    seconds of proof a function; TIMES: options of tools/times.py, as the names of crates, or --waits
 #
-# make frames              proves and builds the program for video and pictures: crates/imgref_frames/out/imgref_frames
+# make frames              proves and builds both programs: crates/imgref_frames/out/imgref_frames is for video and pictures
 # make c                   proves and builds the library for C: out/c/libimgref.a, libimgref.so, imgref.pc
 # make python              builds the package for Python over it: out/python/imgref-..whl
-# make install PREFIX=..   builds it, and installs it with its header
+# make install PREFIX=..   builds and installs the library with both headers, both programs, man pages, and files for pkg-config and CMake
 # make web                 proves and builds the page that covers parts of a picture: out/web/index.html
 # make web-serve [PORT=..] the same, and serves it on this machine alone
+# make release             proves and builds all that a user has without the toolchain: out/release/ (docs/RELEASE.md)
 # make docs                writes docs/API.md and out/INNER.md: every public call with its contract
 # make exports             writes the exports for cells of 2, 4 and 8 bytes from those for one byte
 # make bench [BENCH=..]    times the calls and the program beside plain loops; BENCH: options of tools/bench.py
@@ -21,7 +23,7 @@ SCRIPT ?= examples/first.script
 PREFIX ?= /usr/local
 export SCRIPT BUGS CRATE
 
-.PHONY: try run check test gate times frames c python install web web-serve docs exports bench
+.PHONY: try run check test gate times frames c python install web web-serve release docs exports bench
 
 try:
 	@python3 tools/program.py try
@@ -42,7 +44,7 @@ times:
 	@python3 tools/times.py $(TIMES)
 
 frames:
-	@python3 tools/program.py build imgref_frames
+	@python3 tools/program.py build imgref_frames imgref_run
 
 c:
 	@python3 tools/c_library.py build
@@ -58,6 +60,9 @@ web:
 
 web-serve:
 	@python3 tools/web.py serve $(PORT)
+
+release:
+	@python3 tools/release.py build
 
 docs:
 	@python3 tools/api_page.py

@@ -15,19 +15,27 @@ class Fault(Exception):
         self.name, self.written = name, written
 
 
-def covered(edit, size, steps, greatest):
-    """A cover as the fill of whole samples that it is in a frame of this size, with black where it has no value; every other
-    edit as it is. Of a cover a fifth number is its margin."""
-    first, last, word, window, more = edit
-    if word != "cover":
-        return edit
+def drawn(window, size, steps):
+    """The window of a cover or a box: outwards to whole samples, in a frame of this size. A fifth number is its margin."""
     sides = []
     for start, count, whole, step in zip(window[:2], window[2:4], size, steps):
-        around = window[4] if len(window) > 4 else max(2, step)
-        begin = max(0, start - around)
-        low, high = begin // step * step, min(whole, -(-(start + count + around) // step) * step)
-        sides.append((low, high - low) if begin < whole else (0, 0))
-    return first, last, "fill", [it[0] for it in sides] + [it[1] for it in sides], more or [(greatest + 1) // 16]
+        around = max(2, step) if len(window) < 5 or window[4] is None else window[4]
+        begin, end = max(0, start - around), max(0, start + count + around)
+        low, high = begin // step * step, min(whole, -(-end // step) * step)
+        sides.append((low, high - low if count + around else 0) if begin < whole else (0, 0))
+    return [it[0] for it in sides] + [it[1] for it in sides]
+
+
+def covered(edit, size, steps, greatest):
+    """A cover as the fill of whole samples that it is in a frame of this size, with black where it has no value. What a box
+    becomes, which its last part says, of such samples. Every other edit as it is."""
+    first, last, word, window, more = edit
+    if word == "box":
+        word, more = more
+        return (first, last, "fill" if word == "cover" else word, drawn(window, size, steps), more or [(greatest + 1) // 16])
+    if word != "cover":
+        return edit
+    return first, last, "fill", drawn(window, size, steps), more or [(greatest + 1) // 16]
 
 
 def samples(pixels, step):

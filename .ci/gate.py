@@ -3,8 +3,9 @@
 
     gate.py test                    what a person runs: every test run with each access checked, the product proved, and all that
                                     can be tried on one build of it
-    gate.py gate [BUGS=changed]     everything from nothing: also the proofs of all tests, both builds, and the planted bugs
-                                    (with BUGS=changed only those of functions that differ from the last landed commit)
+    gate.py gate [BUGS=..]          everything from nothing: also the proofs of all tests, both builds, and the planted bugs
+                                    (with BUGS=changed only those that a difference from the last landed commit affects; with
+                                    BUGS=landing those that one from the last release affects, and a tenth of the others)
     gate.py check [CRATE=name]      proofs and tests of what has changed, over cached proofs: no planted bug is tried. With CRATE
                                     only of that crate and of what it depends on; it may also be the folder of a crate elsewhere
 
@@ -33,7 +34,11 @@ from processes import end_on_signals, started, workers
 CHECKS = ROOT / ".ci/checks"
 # These need the proofs of tests or a program that is only measured, or prove crates again with a change: they run in the gate
 # alone.
-GATE_ALONE = ("always_memory.py", "refused_growths.py", "instructions.py", "strides.py", "layers.py", "row_mover_privacy.py")
+GATE_ALONE = (
+    "always_memory.py", "retried_calls.py", "refused_growths.py", "instructions.py", "strides.py", "layers.py", "row_mover_privacy.py", "release.py",
+)  # fmt: skip
+# This one makes a release over cached proofs, so the gate runs it in the repository.
+RELEASE = "release.py"
 # These time calls or the page, so they come last, with nothing beside them.
 TIMED = ("bindings.py", "web.py")
 # The crates that `test` proves, with those below them: the programs and the library for C.
@@ -44,7 +49,7 @@ COUNT = re.compile(r"(\d+) passed, (\d+) failed")
 # What is shown of a long part while it goes on: each proof that has ended, and what failed.
 ENDED = re.compile(r"== (\w+(?:: its tests)?)$")
 # Proof progress, of which a line is shown now and then.
-PROGRESS, EVERY = re.compile(r"\d+:\d\d +\d+ %"), 30
+PROGRESS, EVERY = re.compile(r"\d+:\d\d +[\d.]+ %"), 20
 TOLD = re.compile(r"rt: .*NOT PROVED|rt: .*FAILED|.*NOT REFUSED|.*FAILED")
 LOGS = ROOT / "out"
 SAID = threading.Lock()
@@ -217,12 +222,13 @@ def gate(parts, only):
     with copied() as top:
         of_ci = Part("rt ci", ["rt", "ci"], top, proofs=sum(1 + says(it, "#[test]") for it in crates()), nice=0)
         # (these run in the copy, where `rt ci` left the programs)
-        built = scripts(CHECKS / "built", top)
+        built = scripts(CHECKS / "built", top, without=(RELEASE,))
+        release = Part(RELEASE, [sys.executable, str(CHECKS / "built" / RELEASE)])
         proofs = Part("cached proofs", building(*(it for it in crates() if (ROOT / "crates" / it / "must-fail").is_dir())), counts=False, nice=0)
         bugs = Part("planted bugs", [sys.executable, str(ROOT / ".ci/planted_bugs.py"), *only], nice=0)
         (cached, timed), beside = cached_checks(), scripts(CHECKS)
-        parts += [of_ci, *built, proofs, bugs, *cached, *beside, *timed]
-        side_by_side([[of_ci, [[it] for it in built]], [proofs, [[bugs], cached]], beside])
+        parts += [of_ci, *built, proofs, bugs, *cached, release, *beside, *timed]
+        side_by_side([[of_ci, [[it] for it in built]], [proofs, [[bugs], [*cached, release]]], beside])
         side_by_side([timed])
         say(f"\n{functions()} functions proved · {tests()} tests · {bugs.passed} planted bugs refused")
 
@@ -251,7 +257,7 @@ def table(parts, most, began):
 
 def main(words):
     ways = {"test": test, "gate": gate, "check": check}
-    only = {"": [], "changed": ["--changed"]}.get(os.environ.get("BUGS", ""))
+    only = {"": [], "changed": ["--changed"], "landing": ["--landing"]}.get(os.environ.get("BUGS", ""))
     if len(words) != 1 or words[0] not in ways or only is None:
         sys.exit(__doc__)
     began, parts = time.monotonic(), []

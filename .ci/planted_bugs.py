@@ -1,7 +1,7 @@
 #!/usr/bin/env python3
 """Tries the planted bugs, crates/*/must-fail/*.edit: the prover must refuse each at a goal of the function that it changes.
 
-    planted_bugs.py [CRATE..] [--only NAME] [--changed [COMMIT]] [--list] [--compile]
+    planted_bugs.py [CRATE..] [--only NAME] [--changed [COMMIT]] [--landing] [--list] [--compile]
 
 A function's proof cites the contracts of others and not their bodies. So many bugs are tried in one check, and each is judged
 by the goals that stay open in its own function. Several bugs of one function are several copies of it, each with a name of its
@@ -13,9 +13,10 @@ it doesn't hold. What shows no goal so is tried by itself, in the function itsel
 then refused by a proof by hand alone is counted and said.
 
 The crates are proved first, where their cached proofs are not fresh, and are only read: each check runs in a room of its own.
-With --changed only those bugs are tried whose own text, or whose function's source, proof files or crate's definitions, differ
-from a commit (the last one that is on origin/main, else HEAD). With --compile nothing is proved: it tells in a few minutes which
-bugs don't compile any more, for example because an item was renamed. The last line counts the bugs.
+With --changed only those bugs are tried that a difference from a commit affects (the last one that is on origin/main, else HEAD),
+as changed.py tells. With --landing it is those that a change since the last release affects, and a tenth of the others. With
+--compile nothing is proved: it tells in a few minutes which bugs don't compile any more, for example because an item was renamed.
+The last line counts the bugs.
 """
 import argparse
 import collections
@@ -27,7 +28,8 @@ import sys
 
 sys.path.insert(0, str(pathlib.Path(__file__).resolve().parent.parent / "tools"))
 from bugs import batches, plant, read
-from processes import end_on_signals, run_to_end, workers
+from changed import affected, for_landing
+from processes import end_on_signals, workers
 from proving import Failed, Progress, all_below, processors, prove_changed, run, weights_of
 from workspace import ROOT, crates, room, with_those_below
 
@@ -155,45 +157,12 @@ def all_bugs(names, only):
     return good, bad
 
 
-def git(*words):
-    """What git says, or None where it fails."""
-    ran = run_to_end(["git", "-C", ROOT, *words])
-    return ran.stdout if ran.returncode == 0 else None
-
-
-def is_changed(bug, commit, paths):
-    """Whether a bug, its function with its contract and proof files, or a definition or lemma of its crate differs from a commit."""
-    crate = bug.path.parent.parent
-    below = lambda it: str(it.relative_to(ROOT))
-    shared = [it for it in paths if it.startswith((f"{below(crate)}/specs/", f"{below(crate)}/proofs/")) and not it.endswith(("/Answers.antt", "/Invariants.antt", "/Proof.antt"))]
-    if below(bug.path) in paths or shared or None in bug.functions:
-        return True
-    for file, function in bug.functions:
-        if below(crate / file) in paths:
-            old = git("show", f"{commit}:{below(crate / file)}") or ""
-            if function.text((crate / file).read_text(encoding="utf-8")) not in old:
-                return True
-        if any(f"/{function.name}/" in it for it in paths if it.startswith(f"{below(crate)}/proofs/")):
-            return True
-    return False
-
-
-def only_changed(bugs, commit):
-    """Those of the bugs that differ from a commit in something that they show."""
-    commit = commit or ("origin/main" if git("rev-parse", "--verify", "-q", "origin/main") else "HEAD")
-    said = git("diff", "--name-only", commit)
-    if said is None:
-        raise Failed("git", f"there is no commit {commit}")
-    paths = {*said.splitlines(), *(git("ls-files", "--others", "--exclude-standard") or "").splitlines()}
-    print(f"only the planted bugs of functions that differ from {commit}", flush=True)
-    return {name: kept for name, found in bugs.items() if (kept := [it for it in found if is_changed(it, commit, paths)])}
-
-
 def main():
     asked = argparse.ArgumentParser(description=__doc__, formatter_class=argparse.RawDescriptionHelpFormatter)
     asked.add_argument("crates", nargs="*")
     asked.add_argument("--only", action="append", default=[], metavar="NAME")
     asked.add_argument("--changed", nargs="?", const="", default=None, metavar="COMMIT")
+    asked.add_argument("--landing", action="store_true", help="those that a change since the last release affects, and a tenth of the others")
     asked.add_argument("--list", action="store_true", help="prints the bugs of each check, and tries none")
     asked.add_argument("--compile", action="store_true", help="compiles the bugs, and proves nothing")
     asked = asked.parse_args()
@@ -202,7 +171,9 @@ def main():
     passed, failed = 0, len(bad)
     try:
         if asked.changed is not None:
-            bugs = only_changed(bugs, asked.changed)
+            bugs = affected(bugs, asked.changed)
+        elif asked.landing:
+            bugs = for_landing(bugs)
         checks = [(name, batch) for name, found in bugs.items() for batch in batches(found)]
         if asked.list:
             print(*(f"{name}: {', '.join(it.path.stem + ('' if it.is_copied else ' (in place)') for it in batch)}" for name, batch in checks), sep="\n")

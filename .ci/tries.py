@@ -6,7 +6,7 @@ import subprocess
 from edits import Fault, edits_of
 from frames import answer
 
-STATUS = {"words": 1, "header": 2, "memory": 3, "input": 4, "output": 5, "outside": 6, "frame": 7, "range": 8}
+STATUS = {"words": 1, "header": 2, "memory": 3, "input": 4, "output": 5, "outside": 6, "frame": 7, "range": 8, "cover": 9, "order": 10, "count": 11}
 SAMPLINGS = ("mono", "420jpeg", "420", "422", "411", "444", "444alpha", "420p10", "422p12", "444p16", "mono9", "mono14")
 FILL = "fill 4,2,6,4 126"
 

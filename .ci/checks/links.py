@@ -1,7 +1,7 @@
 #!/usr/bin/env python3
 """Each link of a page leads somewhere: its file is in the repository, and its anchor is a heading there.
 
-The pages are the documents at the top, those of docs/ and bench/, and that of the Python package. A link to another site is left out.
+The pages are the documents at the top, those of docs/ and bench/, and those of the packages. A link to another site is left out.
 An anchor is made from a heading by GitHub's rules. Marks of Markdown and all signs are dropped, except hyphens and underscores,
 and blanks become hyphens. The second heading of the same name ends in `-1`. The names of `<a id=..>` are anchors too. In a file
 that isn't a page an anchor is `#L` and the number of a line, and the file has that line. What is below out/ is built, so no page
@@ -15,7 +15,7 @@ import sys
 sys.path.insert(0, str(pathlib.Path(__file__).resolve().parent.parent))
 from checking import ROOT, Cases
 
-PAGES = ("*.md", "docs/*.md", "bench/*.md", "bindings/python/README.md")
+PAGES = ("*.md", "docs/*.md", "bench/*.md", "bindings/*/README.md")
 FENCED = re.compile(r"(?ms)^```.*?^```$")
 INDENTED = re.compile(r"(?m)^    .*$")
 SPAN = re.compile(r"``.+?``|`[^`\n]+`")

@@ -8,7 +8,9 @@ sys.path.insert(0, str(pathlib.Path(__file__).resolve().parent.parent))
 from checking import Cases
 from proving import Progress
 
-SHARE = re.compile(r"\d+:\d\d +(\d+) %")
+SHARE = re.compile(r"\d+:\d\d +([\d.]+) %")
+# What is shown moves at least so often, in seconds.
+MOVES = 20
 # Crates that are proved one after the other: how many functions each has, and the seconds before the first and of each.
 CRATES = {"shapes": (34, 20, 0.5), "images": (88, 24, 1.5), "program": (41, 40, 1)}
 
@@ -44,12 +46,12 @@ def shown(lines):
 def main():
     cases = Cases()
     texts = shown([*said()])
-    shares = [int(SHARE.match(it)[1]) for it in texts]
+    shares = [float(SHARE.match(it)[1]) for it in texts]
     cases.count("the share never falls", all(a <= b for a, b in zip(shares, shares[1:])), str(shares))
     cases.count("it ends with the whole", shares[-1] == 100, texts[-1])
     cases.count("a crate is named from the first second on", all(re.search(r" [a-z_]+ (?:begins|\d+ of \d+)", it) for it in texts[1:-2]), "\n".join(texts[:5]))
     longest = max(map(len, runs(shares[:-1])))
-    cases.count("no share stays for longer than a minute", longest <= 60, f"{longest} seconds")
+    cases.count(f"no share stays for longer than {MOVES} seconds", longest <= MOVES, f"{longest} seconds")
     cases.count("functions are counted", any(re.search(r"\d+ of \d+", it) for it in texts))
     cases.count("what is left is shown", any("min left" in it for it in texts))
     return cases.end()

@@ -1,9 +1,18 @@
 #!/usr/bin/env python3
 """The documents are in plain English: short sentences, and no odd words.
 
-A sentence has at most 25 words, also in the `///` and `//!` lines of crates. README.md has at most 80 lines, and all documents
-together have at most 2,000. A paragraph, a list item, a heading and a cell of a table are read as sentences; blocks of code
-are left out. A piece of code within a line counts as one word. A sentence that is too long is shown with its number of words.
+A sentence has at most 25 words, also in the `///` and `//!` lines of crates. A paragraph, a list item, a heading and a cell of a
+table are read as sentences; blocks of code are left out. A piece of code within a line counts as one word. A sentence that is too
+long is shown with its number of words.
+
+A paragraph, a list item and a cell have at most 60 words and five sentences: a longer one is a wall, and a list reads better. A row
+of a table is about one thing: no cell has a semicolon, and the first cell names at most four pieces of code, of which all else is true.
+Each page has its words: LIMITS has the most that it may have, counted as by `wc -w`.
+
+    sentences.py             everything
+    sentences.py PAGE ..     only these pages, by all rules (a path from the top, such as docs/WEB.md)
+    sentences.py --limits    a table: the words of each page, its limit, its walls and its rows of more than one thing
+    sentences.py --loose     the loose sentences
 
 No document, no comment and no text within quotes of a source has a word of TICS: each such line is shown with the better word.
 The page of WRITTEN is left out, since a tool makes it from the lines of the code.
@@ -22,7 +31,45 @@ import tokenize
 sys.path.insert(0, str(pathlib.Path(__file__).resolve().parent.parent))
 from checking import ROOT, Cases
 
-MOST_WORDS, README_LINES, ALL_LINES = 25, 80, 2000
+MOST_WORDS = 25
+# What a paragraph or a cell has at most, and the pieces of code in the first cell of a row.
+MOST_IN_PARAGRAPH, MOST_SENTENCES, MOST_NAMES = 60, 5, 4
+# The most words of each page. A page that isn't here has the last limit.
+LIMITS = {
+    "README.md": 900,
+    "CHANGELOG.md": 2500,
+    "CONTRIBUTING.md": 2500,
+    "bindings/python/README.md": 900,
+    "bindings/rust/README.md": 900,
+    "docs/ARCHITECTURE.md": 1700,
+    "docs/C.md": 1700,
+    "docs/CALLERS.md": 1200,
+    "docs/CALLERS_REFERENCE.md": 3800,
+    "docs/CPP.md": 1000,
+    "docs/DECISIONS.md": 4800,
+    "docs/DIFFERENCES.md": 1750,
+    "docs/FRAMES.md": 3200,
+    "docs/GLOSSARY.md": 1500,
+    "docs/PERF.md": 2200,
+    "docs/PERFORMANCE.md": 1600,
+    "docs/PROMISES.md": 3000,
+    "docs/PYTHON.md": 2000,
+    "docs/RELEASE.md": 700,
+    "docs/RUST.md": 1000,
+    "docs/SCRIPT.md": 1550,
+    "docs/WEB.md": 1500,
+}
+OTHER_PAGE = 600
+# A page with two walls and two rows of more than one thing.
+TRIED = f"""{"It is one word more. " * 6}
+
+- {"word " * 61}
+
+| `a`, `b`, `c`, `d`, `e` | five |
+|---|---|
+| `f; g` | two; things |
+| `a`, `b` | one |
+"""
 # How many sentences of the documents may be loose.
 MOST_LOOSE = 14
 # The page that `make docs` writes, whose sentences are those of the code.
@@ -101,7 +148,28 @@ def sentences_by_paragraph(text):
     """The sentences of each paragraph, with code and links as plain words."""
     for it in paragraphs(text):
         plain = CODE.sub("code", LINK.sub(r"\1", it))
-        yield ENDS.split(re.sub(r"^\s*(?:[-*]|\d+\.|#+) ", "", plain))
+        yield [it for it in ENDS.split(re.sub(r"^\s*(?:[-*]|\d+\.|#+) ", "", plain)) if it.strip()]
+
+
+def walls(text):
+    """Each paragraph, list item or cell with too many words or sentences."""
+    for found in sentences_by_paragraph(text):
+        count = sum(words(it) for it in found)
+        if count > MOST_IN_PARAGRAPH or len(found) > MOST_SENTENCES:
+            yield f"  {count} words, {len(found)} sentences: {' '.join(found)[:100]}"
+
+
+def rows(text):
+    """The rows of the tables of a page, without those of signs alone."""
+    return [it for it in re.sub(r"(?ms)^```.*?^```$", "", text).splitlines() if it.startswith("|") and not re.fullmatch(r"[| :-]+", it)]
+
+
+def crowded(text):
+    """Each row of a table that is about more than one thing."""
+    for row in rows(text):
+        first = row.strip("| ").split(" | ")[0]
+        if ";" in CODE.sub("code", row) or len(CODE.findall(first)) > MOST_NAMES:
+            yield f"  more than one thing: {row[:100]}"
 
 
 def sentences(text):
@@ -154,26 +222,61 @@ def long_in_code(path):
         yield from too_long(re.sub(r"(?m)^ *//[/!] ?", "", block), f"{path.relative_to(ROOT)}: ")
 
 
+def named(path):
+    return str(path.relative_to(ROOT))
+
+
+def documents():
+    """The pages that people write."""
+    found = [it for pattern in ("*.md", "docs/*.md", "bindings/*/README.md") for it in sorted(ROOT.glob(pattern))]
+    return [it for it in found if it.name not in WRITTEN]
+
+
+def limit(path):
+    return LIMITS.get(named(path), OTHER_PAGE)
+
+
+def table(paths):
+    """The words of each page beside its limit, and how many walls and crowded rows it has."""
+    yield f"{'page':30} {'words':>6} {'limit':>6} {'walls':>6} {'rows of two things':>19}"
+    for it in paths:
+        text = it.read_text()
+        yield f"{named(it):30} {len(text.split()):6} {limit(it):6} {len([*walls(text)]):6} {len([*crowded(text)]):19}"
+
+
+def sized(cases, path):
+    """The words of a page, its paragraphs and its rows."""
+    text = path.read_text()
+    count, found = len(text.split()), [*walls(text), *crowded(text)]
+    cases.count(f"{named(path)}: {count} words of at most {limit(path)}", count <= limit(path))
+    label = f"{named(path)}: no paragraph or cell of more than {MOST_IN_PARAGRAPH} words or {MOST_SENTENCES} sentences, no row of two things"
+    cases.count(label, not found, "\n".join(found))
+
+
 def main(words):
     cases = Cases()
-    documents = [it for it in (*sorted(ROOT.glob("*.md")), *sorted((ROOT / "docs").glob("*.md"))) if it.name not in WRITTEN]
     if "--loose" in words:
-        print("\n".join(line for it in documents for line in loose(it)))
+        print("\n".join(line for it in documents() for line in loose(it)))
         return 0
-    sources = [it for pattern in SOURCES for it in sorted(ROOT.glob(pattern)) if it != pathlib.Path(__file__).resolve()]
-    for label, paths in (("the documents", documents), ("the sources", sources)):
+    if "--limits" in words:
+        print("\n".join(table(documents())))
+        return 0
+    pages = [(ROOT / it).resolve() for it in words] or documents()
+    cases.count("walls and rows of two things are found", (len([*walls(TRIED)]), len([*crowded(TRIED)])) == (2, 2))
+    sources = [] if words else [it for pattern in SOURCES for it in sorted(ROOT.glob(pattern)) if it != pathlib.Path(__file__).resolve()]
+    for label, paths in (("the documents", pages), ("the sources", sources)):
         found = [line for it in paths for line in odd(it)]
-        cases.count(f"no odd words in {label}", paths and not found, "\n".join(found))
-    for path in documents:
+        cases.count(f"no odd words in {label}", (paths or words) and not found, "\n".join(found))
+    for path in pages:
         long = list(too_long(path.read_text()))
-        cases.count(f"{path.relative_to(ROOT)}: no sentence of more than {MOST_WORDS} words", not long, "\n".join(long))
+        cases.count(f"{named(path)}: no sentence of more than {MOST_WORDS} words", not long, "\n".join(long))
+        sized(cases, path)
+    found = [line for it in pages for line in loose(it)]
+    cases.count(f"the documents: {len(found)} loose sentences of at most {MOST_LOOSE}", len(found) <= MOST_LOOSE, "\n".join(found))
+    if words:
+        return cases.end()
     long = [line for it in sources if it.suffix == ".rt" for line in long_in_code(it)]
     cases.count(f"doc lines of the crates: no sentence of more than {MOST_WORDS} words", not long, "\n".join(long))
-    found = [line for it in documents for line in loose(it)]
-    cases.count(f"the documents: {len(found)} loose sentences of at most {MOST_LOOSE}", len(found) <= MOST_LOOSE, "\n".join(found))
-    lines = {it.name: len(it.read_text().splitlines()) for it in documents}
-    for label, found, most in (("README.md", lines["README.md"], README_LINES), ("the documents", sum(lines.values()), ALL_LINES)):
-        cases.count(f"{label}: at most {most} lines", found <= most, f"  {found} lines")
     return cases.end()
 
 

@@ -37,9 +37,9 @@ OBJECT, CALL, COST = re.compile(r"(c?)ob=\((\d+)\)(?: (.*))?"), re.compile(r"cal
 
 
 def jobs():
-    """The name of each job, and the words after the program."""
+    """The name of each job, its program's crate, and the words after the program."""
     lines = [line.split() for line in (ROOT / "bench/workloads.txt").read_text().splitlines() if line.strip()]
-    return {name: ["1" if it == "SEED" else it for it in words] for name, _, *words in lines}
+    return {name: (crate, ["1" if it == "SEED" else it for it in words]) for name, crate, *words in lines}
 
 
 def own_costs(lines, program):
@@ -74,12 +74,12 @@ def counted(program, name, words):
     return [costs["Ir"], *([costs["D1mr"] + costs["D1mw"]] if name in CACHED else [])]
 
 
-def all_counted(program, names):
-    """By the name of each of these jobs: what it takes."""
-    wanted = {name: words for name, words in jobs().items() if name in names}
+def all_counted(programs, names):
+    """By the name of each of these jobs whose program is there: what it takes."""
+    wanted = [(programs[crate], name, words) for name, (crate, words) in jobs().items() if name in names and crate in programs]
     with concurrent.futures.ThreadPoolExecutor(os.cpu_count()) as pool:
-        found = pool.map(lambda it: counted(program, *it), wanted.items())
-        return dict(zip(wanted, found))
+        found = pool.map(lambda it: counted(*it), wanted)
+        return {name: costs for (_, name, _), costs in zip(wanted, found)}
 
 
 def written():
@@ -93,17 +93,20 @@ def main(words):
     names = words[words.index("--only") + 1].split(",") if "--only" in words else [*jobs()]
     if unknown := [it for it in names if it not in jobs()]:
         sys.exit(f"no job of bench/workloads.txt: {', '.join(unknown)}")
-    programs = built("bench_jobs", ("",))
-    cases.count("the build of bench_jobs is there", len(programs) == 1, "crates/bench_jobs/out lacks it, or it is older than its sources")
+    needed = dict.fromkeys(crate for name, (crate, _) in jobs().items() if name in names)
+    programs = {crate: path for crate in needed for path in built(crate, ("",))}
+    for crate in needed:
+        cases.count(f"the build of {crate} is there", crate in programs, f"crates/{crate}/out lacks it, or it is older than its sources")
     if not shutil.which("valgrind"):
         skipped("the instructions of the jobs (valgrind)")
         return cases.end()
-    found = all_counted(programs[0], names) if programs else {}
+    found = all_counted(programs, names)
     if "--write" in words and found:
         kept = {**(written() if FILE.exists() else {}), **found}
         FILE.write_text(HEAD + "".join(f"{name} {' '.join(map(str, kept[name]))}\n" for name in jobs() if name in kept))
     for name, counts in found.items():
-        for what, count, before in zip(("instructions", "misses"), counts, written()[name], strict=False):
+        cases.count(f"bench/instructions.txt has a line for {name}", name in written(), "`--write` adds it")
+        for what, count, before in zip(("instructions", "misses"), counts, written().get(name, []), strict=False):
             cases.count(f"{name}: {count} {what}, {count / before:.3f} of those that are written", 0 < count <= before * MARGIN, f"bench/instructions.txt says {before}")
     return cases.end()
 

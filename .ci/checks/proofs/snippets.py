@@ -1,20 +1,25 @@
 #!/usr/bin/env python3
 """The snippets of the documents are true.
 
-A snippet is a run of lines that are indented by four spaces. Those of docs/CALLERS.md, and the code in README.md, are
-in a file of the crates, which the gate proves: the lines are there in that order, however far they are indented. A
-script in README.md or docs/SCRIPT.md gives what the page says, as the model tells (.ci/model.py). Each file that a document
-names by its folders is there, and each definition that docs/GLOSSARY.md names is in its file. docs/CALLERS.md lists the calls of
-an image that don't require a fit, and docs/DIFFERENCES.md names those that only the port has.
+A snippet is a run of lines that are indented by four spaces. Those of docs/CALLERS.md and docs/CALLERS_REFERENCE.md, and the
+code in README.md, are in a file of the crates, which the gate proves: the lines are there in that order, however far they are
+indented. A script in docs/SCRIPT.md gives what the page says, as the model tells (.ci/model.py). Each file that a document names by
+its folders is there, and each definition that docs/GLOSSARY.md names is in its file. docs/CALLERS_REFERENCE.md lists the calls of an
+image that don't require a fit, and docs/DIFFERENCES.md names those that only the port has.
 docs/DECISIONS.md lists each function that is proved by hand. Each name in docs/PROMISES.md and docs/ARCHITECTURE.md is in a
 source.
+
+What the pages show runs (.ci/shown.py): Python, C, C++, Rust, commands of a shell, and the filter of README.md. With the word
+--static nothing of this runs.
 """
 import pathlib
 import re
 import sys
 
-sys.path.insert(0, str(pathlib.Path(__file__).resolve().parent.parent))
+sys.path[:0] = [str(pathlib.Path(__file__).resolve().parents[it]) for it in (2, 1)]
 import model
+import sentences
+import shown
 from checking import ROOT, Cases
 
 import api_page
@@ -24,11 +29,13 @@ SPAN = re.compile(r"`([^`]+)`")
 DEFINED = re.compile(r"`([\w/]+\.antt)`: (`\w+`(?:, `\w+`)*)")
 # The types and traits whose calls are those of an image.
 OF_IMAGES = ("Img", "ImgVec", "ImgRef", "ImgRefMut", "ImgExt", "ImgExtMut")
+# The page that lists them.
+REFERENCE = "docs/CALLERS_REFERENCE.md"
 # Their calls that the Rust crate has by the same name.
 ORIGINAL = set("""as_contiguous_buf as_mut as_ref buf buf_mut clone height height_padded into_buf into_contiguous_buf into_owned
     into_sub_image_mut iter map_buf new new_buf new_stride pixels pixels_mut pixels_ref rows rows_mut rows_padded rows_padded_mut
     stride sub_image sub_image_mut to_contiguous_buf to_owned width width_padded""".split())
-# What docs/CALLERS.md names beside the calls of an image where it lists exceptions.
+# What the reference names beside the calls of an image where it lists exceptions.
 BESIDE = {"HasCell", "hash", "next_tile", "remaining"}
 # Where the names of the documents are.
 SOURCES = ("crates/*/src/**/*.rt", "crates/*/specs/**/*.antt", "crates/*/proofs/**/*.antt", "tools/*.py", ".ci/**/*.py", "include/*", "Makefile")
@@ -102,18 +109,18 @@ def without_fit():
 
 
 def all_named(cases):
-    """docs/CALLERS.md names each call of an image, and docs/DIFFERENCES.md each that the Rust crate doesn't have by this name."""
+    """The reference names each call of an image, and docs/DIFFERENCES.md each that the Rust crate doesn't have by this name."""
     names = {it.name for it in calls_of_images()}
-    for document, needed in (("docs/CALLERS.md", names), ("docs/DIFFERENCES.md", names - ORIGINAL)):
+    for document, needed in ((REFERENCE, names), ("docs/DIFFERENCES.md", names - ORIGINAL)):
         missing = sorted(needed - {*re.findall(r"\w+", (ROOT / document).read_text())})
         cases.count(f"{document}: {len(needed)} calls of images are named", not missing, f"not named: {missing}")
 
 
 def exceptions(cases):
-    """docs/CALLERS.md lists the calls that don't require a fit."""
-    listed = (ROOT / "docs/CALLERS.md").read_text().split("These are the exceptions:\n\n")[-1].split("\n\n")[0]
+    """The reference lists the calls that don't require a fit."""
+    listed = (ROOT / REFERENCE).read_text().split("These are the exceptions:\n\n")[-1].split("\n\n")[0]
     named, found = {it for it in SPAN.findall(listed) if it.isidentifier()} - BESIDE, {*without_fit()}
-    cases.count("docs/CALLERS.md: the calls that don't require a fit", named == found, f"not listed: {sorted(found - named)}, not such: {sorted(named - found)}")
+    cases.count(f"{REFERENCE}: the calls that don't require a fit", named == found, f"not listed: {sorted(found - named)}, not such: {sorted(named - found)}")
 
 
 def by_hand(cases):
@@ -130,7 +137,7 @@ def unknown_names(text, known):
     return sorted({word for it in spans for word in re.findall(r"[A-Za-z_]\w*", it) if word not in known})
 
 
-def main():
+def main(words):
     cases = Cases()
     exceptions(cases)
     all_named(cases)
@@ -147,12 +154,13 @@ def main():
         cases.count(f"{path.relative_to(ROOT)}: the files it names", not missing, f"not there: {', '.join(missing)}")
     files = [it for end in ("src/**/*.rt", "proofs/**/*.antt") for it in (ROOT / "crates").glob(f"*/{end}")]
     texts = [as_lines(it.read_text()) for it in files]
-    for name in ("README.md", "docs/CALLERS.md"):
+    for name in ("README.md", "docs/CALLERS.md", REFERENCE):
         quoted(cases, name, texts)
-    for name in ("README.md", "docs/SCRIPT.md"):
-        tried(cases, name)
+    tried(cases, "docs/SCRIPT.md")
+    if "--static" not in words:
+        shown.run_all(cases, sentences.documents())
     return cases.end()
 
 
 if __name__ == "__main__":
-    sys.exit(main())
+    sys.exit(main(sys.argv[1:]))
