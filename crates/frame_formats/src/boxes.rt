@@ -204,10 +204,10 @@ fn next_frame(fields: &mut Parts<'_>) -> Option<usize>
     read_frame(fields.next_part()?)
 }
 
-// The box that a line is, without its comment and its end.
+/// The box that a line is, without its comment and its end (`box_text`). It takes no memory.
 #[inline(always)]
 #[tactic(auto, unfolding(crate::specs::Boxes::box_in))]
-fn read_box(line: &[u8]) -> Option<Tracked>
+pub fn read_box(line: &[u8]) -> Option<Tracked>
     ensures tracked { result ≡ box_of line.now }
     ensures exact { IfSome result IsTracked }
 {

@@ -26,8 +26,8 @@ mod steps;
 mod words;
 
 pub use boxes::{
-    BoxStyle, Decimal, Tracked, box_text, cover_of, first_frame, read_boxes, read_decimal,
-    read_frame, read_tracked,
+    BoxStyle, Decimal, Tracked, box_text, cover_of, first_frame, read_box, read_boxes,
+    read_decimal, read_frame, read_tracked,
 };
 pub use counts::{agrees, read_count, says_none_else};
 pub use covers::{

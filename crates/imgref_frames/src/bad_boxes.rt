@@ -1,7 +1,9 @@
 //! Why a line is no box, in words for standard error. Nothing here changes what is written or the
 //! status.
 
-use frame_formats::{Tracked, box_text, read_decimal, read_frame, read_tracked};
+use frame_formats::{
+    Tracked, WordsFault, box_text, read_box, read_decimal, read_frame, read_tracked,
+};
 use std::str;
 use texts::Parts;
 
@@ -15,7 +17,8 @@ pub(crate) fn say_bad_box(rt: &HostRuntime, text: Option<&[u8]>) {
     let mut number: usize = 0;
     while let Some(line) = lines.next_part() {
         number = number.saturating_add(1);
-        if read_tracked(alloc, line).is_ok() {
+        // (a box for which no memory was found is not the bad line)
+        if !matches!(read_tracked(alloc, line), Err(WordsFault::NoEdit)) {
             continue;
         }
         let _ = eprint!(rt; "at line {number} of the boxes: ");
@@ -137,19 +140,23 @@ fn is_small(tracked: &Tracked) -> bool {
         .all(|number| is_share(number.minus, number.whole, number.part))
 }
 
-/// Prints what a list of boxes looks as if it were meant otherwise.
+/// Prints what a list of boxes looks as if it were meant otherwise. It takes no memory, so that no
+/// note is lost.
 pub(crate) fn say_odd_boxes(rt: &HostRuntime, text: &[u8]) {
-    let Ok(boxes) = read_tracked(rt.alloc(), text) else {
-        return;
-    };
-    if boxes.iter().all(|tracked| is_small(tracked)) {
+    let mut lines = Parts::new(text, b'\n');
+    let mut first = usize::MAX;
+    let mut are_small = true;
+    while let Some(line) = lines.next_part() {
+        let Some(tracked) = read_box(box_text(line)) else {
+            continue;
+        };
+        first = first.min(tracked.frame);
+        are_small = are_small && is_small(&tracked);
+    }
+    if are_small {
         let _ = eprintln!(rt;
             "note: all boxes are from 0 to 1, and are read as pixels: imgref-boxes --size makes pixels of shares of a frame"
         );
-    }
-    let mut first = usize::MAX;
-    for tracked in &boxes {
-        first = first.min(tracked.frame);
     }
     if first > FIRST {
         let _ = eprintln!(rt;

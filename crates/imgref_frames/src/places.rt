@@ -2,7 +2,9 @@
 //! among the words.
 
 use crate::words::Lines;
-use frame_formats::{BoxStyle, first_frame, held_at, put_by_tracks, read_tracked, track_of};
+use frame_formats::{
+    BoxStyle, box_text, first_frame, held_at, put_by_tracks, read_box, read_tracked, track_of,
+};
 use std::alloc::{AllocError, Global};
 use texts::Parts;
 
@@ -38,12 +40,9 @@ fn list_boxes(alloc: Global, text: &[u8]) -> Result<Vec<Listed>, AllocError> {
     let mut number: usize = 0;
     while let Some(line) = lines.next_part() {
         number = number.saturating_add(1);
-        let Ok(boxes) = read_tracked(alloc, line) else {
-            continue;
-        };
-        if let Some(tracked) = boxes.first() {
+        if let Some(tracked) = read_box(box_text(line)) {
             found.push(Listed {
-                track: track_of(tracked),
+                track: track_of(&tracked),
                 frame: tracked.frame,
                 line: number,
             })?;
@@ -60,8 +59,9 @@ fn held_lines(
     lines: &[Listed],
 ) -> Result<Vec<(u64, usize)>, AllocError> {
     let mut found = Vec::new(alloc);
+    // (the text is a list: it was read before)
     let Ok(mut boxes) = read_tracked(alloc, text) else {
-        return Ok(found);
+        return Err(AllocError);
     };
     put_by_tracks(&mut boxes)?;
     for at in 0..boxes.len() {
