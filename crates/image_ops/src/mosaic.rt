@@ -3,13 +3,13 @@
 ghost use Rattle.std.specs.Prelude.{◌≡◌, ◌<◌, ◌≤◌, ◌+◌, ◌%◌, length};
 ghost use Rattle.image_model.specs.Layout.{Fits, SameOutside};
 ghost use Rattle.image_model.specs.Grid.{grid_of};
-ghost use Rattle.image_model.specs.Shifts.{shifted};
 ghost use Rattle.image_shape.specs.Shape.{shaped, shaped_grid};
 ghost use Rattle.image_writes.specs.Mosaic.{mosaic_by, IsSpread, IsSpreadBy};
 ghost use Rattle.image_writes.specs.Written.{Becomes};
 
 use crate::fill::fill_cells;
-use image_shape::{Shape, Stretch};
+use crate::repeating::repeat_row;
+use image_shape::Shape;
 use std::mem::size_of_val;
 
 // From this width on a tile's part of a row is filled by one call.
@@ -206,27 +206,6 @@ fn are_wide<T>(cells: &[T], width: usize, size: usize, tile_width: usize) -> boo
     width >= 24 && width / 4 >= tile_width && matches!(size_of_val(cell), 1 | 2 | 4)
 }
 
-// Copies a row. It isn't inlined: of two parts of one list the compiler doesn't know that they don't
-// overlap, and would make a second loop over rows for it.
-#[inline(never)]
-fn copy_cells<T: Copy>(cells: &mut [T], source: &[T])
-    requires as_many { length cells.old ≡ length source.now }
-    ensures { cells.new ≡ source.now }
-{
-    cells.copy_from_slice(source);
-}
-
-// The same as `repeating::repeat_row`, by that call.
-#[inline(always)]
-fn copy_down<T: Copy>(cells: &mut [T], row: Stretch, target: usize)
-    requires apart { row.start + row.len ≤ target }
-    requires target { target + row.len ≤ length cells.old }
-    ensures { cells.new ≡ shifted cells.old row.start row.len target }
-{
-    let (front, back) = cells.split_at_mut(target);
-    copy_cells(&mut back[..row.len], &front[row.range()]);
-}
-
 /// The line of a tile that comes after a line, from the first one again after the last.
 #[inline(always)]
 pub fn next_line(line: usize, tile_height: usize) -> usize
@@ -262,7 +241,7 @@ fn mosaic_rows<T: Copy>(
         if line == 0 {
             spread(&mut cells[row.range()], size, tile_width, wide);
         } else {
-            copy_down(cells, shape.row_above(row), row.start);
+            repeat_row(cells, shape.row_above(row), row.start);
         }
         line = next_line(line, tile_height);
     }

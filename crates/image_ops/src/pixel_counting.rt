@@ -11,7 +11,7 @@ use image_rows::RowsIter;
 use image_shape::Shape;
 
 // The number of pixels of a row that have the value of `N` cells.
-fn count_in_row<T: PartialEq, const N: usize>(row: &[T], value: &[T]) -> usize
+fn count_pixels_in_row<T: PartialEq, const N: usize>(row: &[T], value: &[T]) -> usize
     requires some { 0 < N }
     requires size { length value.now ≡ N }
     ensures number { result ≡ times_in_row T.eq value.now row.now }
@@ -36,7 +36,7 @@ fn count_in_rows<T: PartialEq, const N: usize>(cells: &[T], shape: Shape, value:
     let _pixels = shape.pixel_count();
     let mut count = 0;
     for row in RowsIter::new(cells, shape) {
-        count += count_in_row::<T, N>(row, value);
+        count += count_pixels_in_row::<T, N>(row, value);
     }
     count
 }

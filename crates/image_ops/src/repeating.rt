@@ -7,6 +7,7 @@ ghost use Rattle.image_shape.specs.Shape.{shape_width, shape_height, shaped_grid
 ghost use Rattle.image_ops.specs.Repeated.{repeated, IsRepeated};
 
 use image_shape::{Shape, Stretch};
+use row_parts::copy_line;
 
 // The cells become the pattern, again and again.
 fn repeat_cells<T: Copy>(row: &mut [T], pattern: &[T])
@@ -23,14 +24,16 @@ fn repeat_cells<T: Copy>(row: &mut [T], pattern: &[T])
     }
 }
 
-/// Copies a row to a cell after its end.
+/// Copies a row to a cell after its end, by a call. The compiler doesn't know that two parts of one
+/// list don't overlap: without the call it would make a second loop over rows.
+#[inline(always)]
 pub(crate) fn repeat_row<T: Copy>(cells: &mut [T], row: Stretch, target: usize)
     requires apart { row.start + row.len ≤ target }
     requires target { target + row.len ≤ length cells.old }
     ensures { cells.new ≡ shifted cells.old row.start row.len target }
 {
     let (front, back) = cells.split_at_mut(target);
-    back[..row.len].copy_from_slice(&front[row.range()]);
+    copy_line(&mut back[..row.len], &front[row.range()]);
 }
 
 /// Every row of `shape` in `cells` becomes the pattern, again and again; the padding stays. The

@@ -6,33 +6,33 @@ use Rattle.image_shape.specs.Shape.{shaped_grid}
 use Rattle.image_shape.specs.declared.shape.Shape.{Shape}
 use Rattle.image_turns.specs.Quarters.{source_column, source_row, quartered, first_column, reads_back}
 use Rattle.image_writes.specs.Written.{Becomes}
-use Rattle.image_turns.specs.declared.turning.Quarter.{Quarter}
-use Rattle.image_turns.specs.declared.turning.Quarter.TheVariants.{Across, Right, Left}
+use Rattle.image_turns.specs.declared.turning.Crossing.{Crossing}
+use Rattle.image_turns.specs.declared.turning.Crossing.TheVariants.{Across, Right, Left}
 use Rattle.image_turns.proofs.FromPlaces.{rows_back}
 use Rattle.image_turns.proofs.Windowed.{IsBeside, ShowsWhere, shows_all}
 
 -- the source has the place that is shown
-pub source_place : (quarter : Quarter) (width height x y : ℕ) → x < height → y < width → (source_column quarter width x y < width) × (source_row quarter height x y < height)
+pub source_place : (crossing : Crossing) (width height x y : ℕ) → x < height → y < width → (source_column crossing width x y < width) × (source_row crossing height x y < height)
 source_place Across width height x y column line = (line, column)
 source_place Right width height x y column line = (line, omega (arith, column))
 source_place Left width height x y column line = (omega (arith, line), column)
 
 -- the number of the cell that column x of row y shows, counted from the first row that is read
-pub read_forth : (quarter : Quarter) (width height stride x y : ℕ) → reads_back quarter ≡ false
-    → first_column quarter width y 1 + x * stride ≡ source_row quarter height x y * stride + source_column quarter width x y
+pub read_forth : (crossing : Crossing) (width height stride x y : ℕ) → reads_back crossing ≡ false
+    → first_column crossing width y 1 + x * stride ≡ source_row crossing height x y * stride + source_column crossing width x y
 read_forth Across width height stride x y forth = omega arith
 read_forth Right width height stride x y forth = absurd (true≢false forth)
 read_forth Left width height stride x y forth = omega arith
 
 -- and back from the last one
-pub read_back : (quarter : Quarter) (width height stride x y : ℕ) → reads_back quarter ≡ true → x < height
-    → (height - 1) * stride + first_column quarter width y 1 - x * stride ≡ source_row quarter height x y * stride + source_column quarter width x y
+pub read_back : (crossing : Crossing) (width height stride x y : ℕ) → reads_back crossing ≡ true → x < height
+    → (height - 1) * stride + first_column crossing width y 1 - x * stride ≡ source_row crossing height x y * stride + source_column crossing width x y
 read_back Across width height stride x y back below = absurd (true≢false (sym back))
 read_back Right width height stride x y back below = rows_back height stride y x below
 read_back Left width height stride x y back below = absurd (true≢false (sym back))
 
 -- all columns begin with the first
-pub whole_column : (quarter : Quarter) (width : ℕ) → 0 ≡ first_column quarter width 0 width
+pub whole_column : (crossing : Crossing) (width : ℕ) → 0 ≡ first_column crossing width 0 width
 whole_column Across width = refl
 whole_column Right width = refl
 whole_column Left width = omega arith
@@ -81,10 +81,10 @@ before_rows width height top line lines upto x y column below order reach next b
     ]
 
 -- once all places show the source, whose columns are rows, the image becomes that
-module _ {T : Type 0} (quarter : Quarter) (source : List T) (t s : Shape) (columns : s.width ≡ t.height) (lines : s.height ≡ t.width) where
-  pub becomes_quartered : (Done : ℕ → ℕ → Type 0) (old now : List T) → ShowsWhere Done (quartered quarter (shaped_grid source t)) old now s → ((x y : ℕ) → x < s.width → y < s.height → Done x y)
-      → Becomes s old now (quartered quarter (shaped_grid source t))
+module _ {T : Type 0} (crossing : Crossing) (source : List T) (t s : Shape) (columns : s.width ≡ t.height) (lines : s.height ≡ t.width) where
+  pub becomes_quartered : (Done : ℕ → ℕ → Type 0) (old now : List T) → ShowsWhere Done (quartered crossing (shaped_grid source t)) old now s → ((x y : ℕ) → x < s.width → y < s.height → Done x y)
+      → Becomes s old now (quartered crossing (shaped_grid source t))
   unfolding grid_of
   becomes_quartered Done old now so all =
-      let shown : ℕ → ℕ → Option T = λ x y. (shaped_grid source t).pixel (source_column quarter t.width x y) (source_row quarter t.height x y) in
-      shows_all (quartered quarter (shaped_grid source t)) s Done old now so all shown (λ i. grid (sym columns i) (sym lines i) shown)
+      let shown : ℕ → ℕ → Option T = λ x y. (shaped_grid source t).pixel (source_column crossing t.width x y) (source_row crossing t.height x y) in
+      shows_all (quartered crossing (shaped_grid source t)) s Done old now so all shown (λ i. grid (sym columns i) (sym lines i) shown)

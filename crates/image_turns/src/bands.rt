@@ -12,7 +12,7 @@ ghost use Rattle.image_turns.specs.Sizes.{AreCrosswise};
 ghost use Rattle.image_writes.specs.Written.{Becomes};
 
 use crate::blocks::read_rows;
-use crate::turning::{Quarter, blocks_pay, first_column, quarter_blocks, quarter_rows};
+use crate::turning::{Crossing, blocks_pay, first_column, quarter_blocks, quarter_rows};
 use image_flips::{exact_part, padded_part};
 use image_shape::{Shape, Window};
 use std::mem::size_of_val;
@@ -26,7 +26,7 @@ fn quarter_lines<T: Copy>(
     shape: Shape,
     source: &[T],
     source_shape: Shape,
-    quarter: Quarter,
+    crossing: Crossing,
     lines: &mut [T],
 )
     requires sizes { AreCrosswise cells.old shape source.now source_shape }
@@ -35,7 +35,7 @@ fn quarter_lines<T: Copy>(
     requires narrow { shape_width shape ≤ shape_stride source_shape }
     requires room { 16 * shape_stride source_shape ≤ length lines.old }
     ensures becomes { Becomes shape cells.old cells.new
-        (quartered quarter (shaped_grid source.now source_shape)) }
+        (quartered crossing (shaped_grid source.now source_shape)) }
     ensures as_many { length lines.new ≡ length lines.old }
 {
     let (width, height) = (shape.width(), shape.height());
@@ -44,10 +44,10 @@ fn quarter_lines<T: Copy>(
     let mut top = 0;
     while top < height {
         let line = top.min(height - 16);
-        let column = first_column(quarter, columns, line, 16);
+        let column = first_column(crossing, columns, line, 16);
         let place = Window::new(column, 0, 16, rows);
         let (seen, seen_shape) = padded_part(source, source_shape, place);
-        quarter_blocks(lines, band, seen, seen_shape, quarter);
+        quarter_blocks(lines, band, seen, seen_shape, crossing);
         let shown = Window::new(0, line, width, 16);
         let (part, inner) = exact_part(cells.len(), shape, shown);
         read_rows(&mut cells[part], inner, lines, band, false);
@@ -65,7 +65,7 @@ fn quarter_band<T: Copy, const SIDE: usize>(
     height: usize,
     source: &[T],
     source_shape: Shape,
-    quarter: Quarter,
+    crossing: Crossing,
     copy: &mut [T],
     lines: &mut [T],
 )
@@ -76,12 +76,12 @@ fn quarter_band<T: Copy, const SIDE: usize>(
     requires there { top + height ≤ shape_height shape }
     requires room { SIDE * SIDE ≤ length copy.old }
     ensures becomes { Becomes shape cells.old cells.new (patch (shaped_grid cells.old shape) 0 top
-        (view (quartered quarter (shaped_grid source.now source_shape)) 0 top
+        (view (quartered crossing (shaped_grid source.now source_shape)) 0 top
         (shape_width shape) height)) }
     ensures as_many { length copy.new ≡ length copy.old }
     ensures as_many_lines { length lines.new ≡ length lines.old }
 {
-    let column = first_column(quarter, source_shape.width(), top, height);
+    let column = first_column(crossing, source_shape.width(), top, height);
     let place = Window::new(column, 0, height, source_shape.height());
     let (seen, seen_shape) = padded_part(source, source_shape, place);
     let near = Shape::new(height, source_shape.height(), SIDE);
@@ -90,9 +90,9 @@ fn quarter_band<T: Copy, const SIDE: usize>(
     let (part, inner) = exact_part(cells.len(), shape, place);
     let target = &mut cells[part];
     if lines.len() / 16 >= SIDE && blocks_pay(copy, inner) {
-        quarter_lines(target, inner, copy, near, quarter, lines);
+        quarter_lines(target, inner, copy, near, crossing, lines);
     } else {
-        quarter_rows(target, inner, copy, near, quarter);
+        quarter_rows(target, inner, copy, near, crossing);
     }
 }
 
@@ -103,7 +103,7 @@ fn quarter_bands<T: Copy, const SIDE: usize>(
     shape: Shape,
     source: &[T],
     source_shape: Shape,
-    quarter: Quarter,
+    crossing: Crossing,
     copy: &mut [T],
     lines: &mut [T],
 )
@@ -112,7 +112,7 @@ fn quarter_bands<T: Copy, const SIDE: usize>(
     requires narrow { shape_width shape ≤ SIDE }
     requires room { SIDE * SIDE ≤ length copy.old }
     ensures { Becomes shape cells.old cells.new
-        (quartered quarter (shaped_grid source.now source_shape)) }
+        (quartered crossing (shaped_grid source.now source_shape)) }
 {
     let height = shape.height();
     let mut top = 0;
@@ -125,7 +125,7 @@ fn quarter_bands<T: Copy, const SIDE: usize>(
             count,
             source,
             source_shape,
-            quarter,
+            crossing,
             copy,
             lines,
         );
@@ -155,15 +155,15 @@ pub(crate) fn quarter_copied<T: Copy>(
     shape: Shape,
     source: &[T],
     source_shape: Shape,
-    quarter: Quarter,
+    crossing: Crossing,
 )
     requires { AreCrosswise cells.old shape source.now source_shape }
     ensures { Becomes shape cells.old cells.new
-        (quartered quarter (shaped_grid source.now source_shape)) }
+        (quartered crossing (shaped_grid source.now source_shape)) }
 {
     let (from, width) = (source_shape, shape.width());
     let Some(cell) = source.first() else {
-        return quarter_rows(cells, shape, source, from, quarter);
+        return quarter_rows(cells, shape, source, from, crossing);
     };
     let mut lines = [*cell; 1];
     let none = lines.as_mut_slice();
@@ -171,28 +171,28 @@ pub(crate) fn quarter_copied<T: Copy>(
         1 if width <= 144 => {
             let (mut copy, mut lines) = ([*cell; 20_736], [*cell; 2304]);
             let (copy, lines) = (copy.as_mut_slice(), lines.as_mut_slice());
-            quarter_bands::<T, 144>(cells, shape, source, from, quarter, copy, lines);
+            quarter_bands::<T, 144>(cells, shape, source, from, crossing, copy, lines);
         }
         2 if width <= 112 => {
             let mut copy = [*cell; 12_544];
             let copy = copy.as_mut_slice();
-            quarter_bands::<T, 112>(cells, shape, source, from, quarter, copy, none);
+            quarter_bands::<T, 112>(cells, shape, source, from, crossing, copy, none);
         }
         3..=4 if width <= 64 => {
             let mut copy = [*cell; 4096];
             let copy = copy.as_mut_slice();
-            quarter_bands::<T, 64>(cells, shape, source, from, quarter, copy, none);
+            quarter_bands::<T, 64>(cells, shape, source, from, crossing, copy, none);
         }
         5..=8 if width <= 32 => {
             let mut copy = [*cell; 1024];
             let copy = copy.as_mut_slice();
-            quarter_bands::<T, 32>(cells, shape, source, from, quarter, copy, none);
+            quarter_bands::<T, 32>(cells, shape, source, from, crossing, copy, none);
         }
         9..=16 if width <= 16 => {
             let mut copy = [*cell; 256];
             let copy = copy.as_mut_slice();
-            quarter_bands::<T, 16>(cells, shape, source, from, quarter, copy, none);
+            quarter_bands::<T, 16>(cells, shape, source, from, crossing, copy, none);
         }
-        _ => quarter_rows(cells, shape, source, from, quarter),
+        _ => quarter_rows(cells, shape, source, from, crossing),
     }
 }

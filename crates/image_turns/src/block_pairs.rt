@@ -18,7 +18,7 @@ ghost use Rattle.image_writes.specs.Written.{Becomes};
 
 use crate::blocks::read_rows;
 use crate::pixel_turning::{Orientation, orient_rows};
-use crate::turning::{Quarter, quarter_rows};
+use crate::turning::{Crossing, quarter_rows};
 use image_flips::{exact_part, padded_part};
 use image_shape::{Shape, Window};
 
@@ -72,7 +72,13 @@ fn write_across<T: Copy, const N: usize>(
     let count = block_shape.height();
     // Of cells of four bytes the compiler makes vector code here alone.
     if N == 1 {
-        quarter_rows(&mut cells[part], inner, block, block_shape, Quarter::Across);
+        quarter_rows(
+            &mut cells[part],
+            inner,
+            block,
+            block_shape,
+            Crossing::Across,
+        );
         return;
     }
     orient_rows::<T, N>(

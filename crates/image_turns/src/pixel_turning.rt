@@ -165,7 +165,7 @@ fn orient_columns<T: Copy, const N: usize>(
 
 // How many columns are written at a time, where the rows of the source begin so many cells apart. A
 // half turn goes along its rows.
-fn strip_columns<T>(source: &[T], stride: usize, orientation: Orientation) -> usize
+fn pixel_strip_columns<T>(source: &[T], stride: usize, orientation: Orientation) -> usize
     ensures { 0 < result }
 {
     match source.first() {
@@ -191,7 +191,7 @@ fn orient_strips<T: Copy, const N: usize>(
     ensures { Becomes shape cells.old cells.new
         (oriented N orientation (shaped_grid source.now source_shape)) }
 {
-    let most = strip_columns(source, source_shape.stride(), orientation);
+    let most = pixel_strip_columns(source, source_shape.stride(), orientation);
     // An image of no rows would have many strips of nothing.
     if shape.height() == 0 {
         return;

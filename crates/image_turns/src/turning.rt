@@ -70,7 +70,7 @@ pub enum Turn {
 
 // How columns become rows.
 #[derive(Clone, Copy)]
-pub(crate) enum Quarter {
+pub(crate) enum Crossing {
     // The first column becomes the first row: the image is transposed.
     Across,
     // The first row becomes the last column.
@@ -87,17 +87,17 @@ pub(crate) fn quarter_rows<T: Copy>(
     shape: Shape,
     source: &[T],
     source_shape: Shape,
-    quarter: Quarter,
+    crossing: Crossing,
 )
     requires { AreCrosswise cells.old shape source.now source_shape }
     ensures { Becomes shape cells.old cells.new
-        (quartered quarter (shaped_grid source.now source_shape)) }
+        (quartered crossing (shaped_grid source.now source_shape)) }
 {
     for y in 0..shape.row_count() {
         let place = shape.row(cells.len(), y);
         let target = &mut cells[place.range()];
-        let column = first_column(quarter, source_shape.width(), y, 1);
-        if reads_back(quarter) {
+        let column = first_column(crossing, source_shape.width(), y, 1);
+        if reads_back(crossing) {
             let last = source_shape.row(source.len(), source_shape.height() - 1);
             gather_back(target, source, last.start + column, source_shape.stride());
         } else {
@@ -107,44 +107,44 @@ pub(crate) fn quarter_rows<T: Copy>(
 }
 
 // The first of the `width` rows of a source of `height` rows that the columns from `left` on get.
-fn first_row(quarter: Quarter, height: usize, left: usize, width: usize) -> usize
+fn first_row(crossing: Crossing, height: usize, left: usize, width: usize) -> usize
     requires there { left + width ≤ height }
-    ensures { result ≡ first_row quarter height left width }
+    ensures { result ≡ first_row crossing height left width }
 {
-    match quarter {
-        Quarter::Right => height - left - width,
-        Quarter::Across | Quarter::Left => left,
+    match crossing {
+        Crossing::Right => height - left - width,
+        Crossing::Across | Crossing::Left => left,
     }
 }
 
 // The first of the `height` columns of a source of `width` columns that the rows from `top` on get.
-pub(crate) fn first_column(quarter: Quarter, width: usize, top: usize, height: usize) -> usize
+pub(crate) fn first_column(crossing: Crossing, width: usize, top: usize, height: usize) -> usize
     requires there { top + height ≤ width }
-    ensures { result ≡ first_column quarter width top height }
+    ensures { result ≡ first_column crossing width top height }
 {
-    match quarter {
-        Quarter::Left => width - top - height,
-        Quarter::Across | Quarter::Right => top,
+    match crossing {
+        Crossing::Left => width - top - height,
+        Crossing::Across | Crossing::Right => top,
     }
 }
 
 // Whether a block is read from its last row on.
-fn reads_back(quarter: Quarter) -> bool
-    ensures { result ≡ reads_back quarter }
+fn reads_back(crossing: Crossing) -> bool
+    ensures { result ≡ reads_back crossing }
 {
-    match quarter {
-        Quarter::Right => true,
-        Quarter::Across | Quarter::Left => false,
+    match crossing {
+        Crossing::Right => true,
+        Crossing::Across | Crossing::Left => false,
     }
 }
 
 // Whether it is written from its last row on.
-fn writes_back(quarter: Quarter) -> bool
-    ensures { result ≡ writes_back quarter }
+fn writes_back(crossing: Crossing) -> bool
+    ensures { result ≡ writes_back crossing }
 {
-    match quarter {
-        Quarter::Left => true,
-        Quarter::Across | Quarter::Right => false,
+    match crossing {
+        Crossing::Left => true,
+        Crossing::Across | Crossing::Right => false,
     }
 }
 
@@ -157,16 +157,16 @@ fn quarter_at<T: Copy>(
     top: usize,
     source: &[T],
     source_shape: Shape,
-    quarter: Quarter,
+    crossing: Crossing,
 )
     requires sizes { AreCrosswise cells.old shape source.now source_shape }
     requires wide { left + 16 ≤ shape_width shape }
     requires high { top + 16 ≤ shape_height shape }
     ensures { Becomes shape cells.old cells.new (patch (shaped_grid cells.old shape) left top
-        (view (quartered quarter (shaped_grid source.now source_shape)) left top 16 16)) }
+        (view (quartered crossing (shaped_grid source.now source_shape)) left top 16 16)) }
 {
-    let column = first_column(quarter, source_shape.width(), top, 16);
-    let line = first_row(quarter, source_shape.height(), left, 16);
+    let column = first_column(crossing, source_shape.width(), top, 16);
+    let line = first_row(crossing, source_shape.height(), left, 16);
     let place = Window::new(column, line, 16, 16);
     let (seen, seen_shape) = padded_part(source, source_shape, place);
     let square = block_shape();
@@ -176,7 +176,7 @@ fn quarter_at<T: Copy>(
         square,
         seen,
         seen_shape,
-        reads_back(quarter),
+        reads_back(crossing),
     );
     transpose_block(block.as_mut_slice());
     let (part, inner) = exact_part(cells.len(), shape, Window::new(left, top, 16, 16));
@@ -186,7 +186,7 @@ fn quarter_at<T: Copy>(
         inner,
         block.as_slice(),
         square,
-        writes_back(quarter),
+        writes_back(crossing),
     );
 }
 
@@ -199,13 +199,13 @@ pub(crate) fn quarter_blocks<T: Copy>(
     shape: Shape,
     source: &[T],
     source_shape: Shape,
-    quarter: Quarter,
+    crossing: Crossing,
 )
     requires sizes { AreCrosswise cells.old shape source.now source_shape }
     requires wide { 16 ≤ shape_width shape }
     requires high { 16 ≤ shape_height shape }
     ensures { Becomes shape cells.old cells.new
-        (quartered quarter (shaped_grid source.now source_shape)) }
+        (quartered crossing (shaped_grid source.now source_shape)) }
 {
     let (width, height) = (shape.width(), shape.height());
     let mut top = 0;
@@ -214,7 +214,7 @@ pub(crate) fn quarter_blocks<T: Copy>(
         let mut left = 0;
         while left < width {
             let column = left.min(width - 16);
-            quarter_at(cells, shape, column, line, source, source_shape, quarter);
+            quarter_at(cells, shape, column, line, source, source_shape, crossing);
             left += 16;
         }
         top += 16;
@@ -297,11 +297,11 @@ fn quarter_strips<T: Copy>(
     shape: Shape,
     source: &[T],
     source_shape: Shape,
-    quarter: Quarter,
+    crossing: Crossing,
 )
     requires { AreCrosswise cells.old shape source.now source_shape }
     ensures { Becomes shape cells.old cells.new
-        (quartered quarter (shaped_grid source.now source_shape)) }
+        (quartered crossing (shaped_grid source.now source_shape)) }
 {
     let (most, is_copied) = strip_columns(source, source_shape.stride(), shape);
     let (columns, lines) = (shape.width(), shape.height());
@@ -309,18 +309,18 @@ fn quarter_strips<T: Copy>(
     let mut left = 0;
     while left < columns {
         let width = most.min(columns - left);
-        let top = first_row(quarter, source_height, left, width);
+        let top = first_row(crossing, source_height, left, width);
         let rows = Window::new(0, top, source_width, width);
         let (part, part_shape) = padded_part(source, source_shape, rows);
         let strip = Window::new(left, 0, width, lines);
         let (cut, inner) = exact_part(cells.len(), shape, strip);
         let target = &mut cells[cut];
         if is_copied {
-            quarter_copied(target, inner, part, part_shape, quarter);
+            quarter_copied(target, inner, part, part_shape, crossing);
         } else if blocks_pay(part, inner) {
-            quarter_blocks(target, inner, part, part_shape, quarter);
+            quarter_blocks(target, inner, part, part_shape, crossing);
         } else {
-            quarter_rows(target, inner, part, part_shape, quarter);
+            quarter_rows(target, inner, part, part_shape, crossing);
         }
         left += width;
     }
@@ -334,16 +334,16 @@ fn quarter_pixels<T: Copy>(
     shape: Shape,
     source: &[T],
     source_shape: Shape,
-    quarter: Quarter,
+    crossing: Crossing,
 )
     requires { AreCrosswise cells.old shape source.now source_shape }
     ensures { Becomes shape cells.old cells.new
-        (quartered quarter (shaped_grid source.now source_shape)) }
+        (quartered crossing (shaped_grid source.now source_shape)) }
 {
     if is_near(source) && !blocks_pay(source, shape) {
-        quarter_rows(cells, shape, source, source_shape, quarter);
+        quarter_rows(cells, shape, source, source_shape, crossing);
     } else {
-        quarter_strips(cells, shape, source, source_shape, quarter);
+        quarter_strips(cells, shape, source, source_shape, crossing);
     }
 }
 
@@ -358,7 +358,7 @@ pub fn transpose_pixels<T: Copy>(cells: &mut [T], shape: Shape, source: &[T], so
     ensures grid { shaped_grid cells.new shape ≡ transposed (shaped_grid source.now source_shape) }
     ensures outside { SameOutside (shaped cells.old shape) (shaped cells.new shape) }
 {
-    quarter_pixels(cells, shape, source, source_shape, Quarter::Across);
+    quarter_pixels(cells, shape, source, source_shape, Crossing::Across);
 }
 
 // Each cell becomes a cell of the source, which is as long, from its last one on. It is a long row, in
@@ -432,8 +432,8 @@ pub fn turn_pixels<T: Copy>(
     ensures outside { SameOutside (shaped cells.old shape) (shaped cells.new shape) }
 {
     match turn {
-        Turn::Right => quarter_pixels(cells, shape, source, source_shape, Quarter::Right),
+        Turn::Right => quarter_pixels(cells, shape, source, source_shape, Crossing::Right),
         Turn::Half => half_pixels(cells, shape, source, source_shape),
-        Turn::Left => quarter_pixels(cells, shape, source, source_shape, Quarter::Left),
+        Turn::Left => quarter_pixels(cells, shape, source, source_shape, Crossing::Left),
     }
 }

@@ -13,7 +13,7 @@ ghost use Rattle.row_mover.specs.State.{block_at, GoesTo};
 use row_parts::{is_word, read_part, write_part, write_words};
 
 // Copies `N` cells: all are read before one is written.
-fn copy_block<T: Copy, const N: usize>(cells: &mut [T], start: usize, target: usize)
+fn copy_block_within<T: Copy, const N: usize>(cells: &mut [T], start: usize, target: usize)
     requires some { 0 < N }
     requires source { start + N ≤ length cells.old }
     requires target { target + N ≤ length cells.old }
@@ -26,7 +26,7 @@ fn copy_block<T: Copy, const N: usize>(cells: &mut [T], start: usize, target: us
 
 /// Copies `N` to `2 * N` cells, as the first and the last `N`: all are read before one is written.
 #[inline(always)]
-pub(crate) fn copy_ends<T: Copy, const N: usize>(
+pub(crate) fn copy_ends_within<T: Copy, const N: usize>(
     cells: &mut [T],
     start: usize,
     len: usize,
@@ -80,17 +80,17 @@ pub(crate) fn copy_few<T: Copy>(cells: &mut [T], start: usize, len: usize, targe
         return;
     }
     if len > 64 {
-        copy_ends::<T, 64>(cells, start, len, target);
+        copy_ends_within::<T, 64>(cells, start, len, target);
     } else if len > 32 {
-        copy_ends::<T, 32>(cells, start, len, target);
+        copy_ends_within::<T, 32>(cells, start, len, target);
     } else if len > 16 {
-        copy_ends::<T, 16>(cells, start, len, target);
+        copy_ends_within::<T, 16>(cells, start, len, target);
     } else if len > 8 {
-        copy_ends::<T, 8>(cells, start, len, target);
+        copy_ends_within::<T, 8>(cells, start, len, target);
     } else if len > 4 {
-        copy_ends::<T, 4>(cells, start, len, target);
+        copy_ends_within::<T, 4>(cells, start, len, target);
     } else if len > 2 {
-        copy_ends::<T, 2>(cells, start, len, target);
+        copy_ends_within::<T, 2>(cells, start, len, target);
     } else {
         copy_pair(cells, start, len, target);
     }
@@ -117,7 +117,7 @@ fn copy_over<T: Copy, const UP: bool>(cells: &mut [T], start: usize, len: usize,
     while left >= 32 {
         left -= 32;
         let at = block_at::<UP>(len, left, 32);
-        copy_block::<T, 32>(cells, start + at, target + at);
+        copy_block_within::<T, 32>(cells, start + at, target + at);
     }
     let at = block_at::<UP>(len, 0, left);
     copy_few(cells, start + at, left, target + at);

@@ -2,7 +2,7 @@ ghost use Rattle.std.specs.Prelude.{◌≡◌, ◌+◌, ◌*◌, ◌<◌, ◌≤
 ghost use Rattle.image_model.specs.Shifts.{shifted};
 ghost use Rattle.row_mover.specs.State.{IsKnown};
 
-use crate::blocks::{copy_by_blocks, copy_ends, copy_few, copy_to_next, copy_to_previous};
+use crate::blocks::{copy_by_blocks, copy_ends_within, copy_few, copy_to_next, copy_to_previous};
 use row_parts::copy_line;
 use std::marker::Model;
 use std::mem::size_of;
@@ -139,7 +139,7 @@ fn copy_by<T: Copy, const N: usize, const HOW: usize>(
     ensures { cells.new ≡ shifted cells.old start len target }
 {
     if N > 0 {
-        copy_ends::<T, N>(cells, start, len, target);
+        copy_ends_within::<T, N>(cells, start, len, target);
     } else if HOW == NEXT {
         copy_to_next(cells, start, len);
     } else if HOW == PREVIOUS {

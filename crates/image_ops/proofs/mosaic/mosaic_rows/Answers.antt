@@ -27,7 +27,7 @@ loop-y-preserved g c =
         | goal.else-line-eq0 w ↦
             let later : 0 < y % th = omega (arith, so.line, w.if-line-eq0.false) in
             let above = w.row_above in
-            rw (w.cells-is, w.copy_down.ensures) (row_repeated old s c.args.size tw th c.loop-y.cells y so.shown c.requires.fits below above.result row.result c.requires.tile_height later above.ensures.start (above.ensures.len ∙ row.ensures.len) row.ensures.start)
+            rw (w.cells-is, w.repeat_row.ensures) (row_repeated old s c.args.size tw th c.loop-y.cells y so.shown c.requires.fits below above.result row.result c.requires.tile_height later above.ensures.start (above.ensures.len ∙ row.ensures.len) row.ensures.start)
       ];
       line = c.next_line-line.ensures ∙ ap (λ k. (k + 1) % th) so.line ∙ mod-add-mod y th 1;
     }

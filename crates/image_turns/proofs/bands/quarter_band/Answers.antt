@@ -26,8 +26,8 @@ returns-then-blocks_pay-clause-becomes g c =
     let from : Grid g.row.T.Denot = shaped_grid a.source.now a.source_shape in
     let column = c.first_column-column.result in
     let copied = c.read_rows.ensures.grid ∙ ap (read_over false) (c.padded_part.ensures.view ∙ ap (window_view from) c.new-place.ensures) ∙ read_plain a.height c.height.result (λ x y. from.pixel (column + x) (0 + y)) in
-    band_written a.quarter from a.top a.shape.width a.height column c.height.result (omega (arith, c.requires.there, c.requires.sizes.lines)) c.requires.sizes.columns c.height.ensures.value
-    (c.first_column-column.ensures ∙ ap (λ n. first_column a.quarter n a.top a.height) c.width.ensures.value) a.shape a.cells.now _ _ (c.new-place-2.ensures ∙ ap (λ n. window 0 a.top n a.height) c.width-2.ensures.value) _ (ap (quartered a.quarter) copied)
+    band_written a.crossing from a.top a.shape.width a.height column c.height.result (omega (arith, c.requires.there, c.requires.sizes.lines)) c.requires.sizes.columns c.height.ensures.value
+    (c.first_column-column.ensures ∙ ap (λ n. first_column a.crossing n a.top a.height) c.width.ensures.value) a.shape a.cells.now _ _ (c.new-place-2.ensures ∙ ap (λ n. window 0 a.top n a.height) c.width-2.ensures.value) _ (ap (quartered a.crossing) copied)
     (part_becomes _ _ _ _ _ _ c.exact_part.ensures.part _ _ c.quarter_lines.ensures.becomes)
 
 pub returns-else-lines-clause-becomes : goal.returns-else-lines-clause-becomes
@@ -37,6 +37,6 @@ returns-else-lines-clause-becomes g c =
     let from : Grid g.row.T.Denot = shaped_grid a.source.now a.source_shape in
     let column = c.first_column-column.result in
     let copied = c.read_rows.ensures.grid ∙ ap (read_over false) (c.padded_part.ensures.view ∙ ap (window_view from) c.new-place.ensures) ∙ read_plain a.height c.height.result (λ x y. from.pixel (column + x) (0 + y)) in
-    band_written a.quarter from a.top a.shape.width a.height column c.height.result (omega (arith, c.requires.there, c.requires.sizes.lines)) c.requires.sizes.columns c.height.ensures.value
-    (c.first_column-column.ensures ∙ ap (λ n. first_column a.quarter n a.top a.height) c.width.ensures.value) a.shape a.cells.now _ _ (c.new-place-2.ensures ∙ ap (λ n. window 0 a.top n a.height) c.width-2.ensures.value) _ (ap (quartered a.quarter) copied)
+    band_written a.crossing from a.top a.shape.width a.height column c.height.result (omega (arith, c.requires.there, c.requires.sizes.lines)) c.requires.sizes.columns c.height.ensures.value
+    (c.first_column-column.ensures ∙ ap (λ n. first_column a.crossing n a.top a.height) c.width.ensures.value) a.shape a.cells.now _ _ (c.new-place-2.ensures ∙ ap (λ n. window 0 a.top n a.height) c.width-2.ensures.value) _ (ap (quartered a.crossing) copied)
     (part_becomes _ _ _ _ _ _ c.exact_part.ensures.part _ _ c.quarter_rows.ensures)

@@ -11,7 +11,7 @@ loop-left-preserved g c =
     let left = c.loop-left.left in
     let enough : 32 ≤ left = omega (arith, c.loop-left-test.true) in (
       omega (arith, c.loop-left.invariant.0, enough),
-      rw (c.copy_block.ensures, c.block_at-at.ensures.at, c.loop-left.invariant.1)
+      rw (c.copy_block_within.ensures, c.block_at-at.ensures.at, c.loop-left.invariant.1)
           (block_more (not (nat_eq g.row.UP 0)) a.cells.now a.start a.len a.target left 32 c.requires.goes enough c.loop-left.invariant.0),
     )
 

@@ -3,7 +3,7 @@ use Rattle.std.proofs.Common.{◌≡◌, ℕ, ◌+◌, ◌-◌, ◌*◌, ◌/◌
 use Rattle.std.specs.Cmp.Lexicographic.{pointwise}
 use Rattle.image_ops.specs.PixelCounts.{has_value, times_in_row}
 use Rattle.image_ops.proofs.PixelCounts.{more, fewer, all_counted}
-use Rattle.image_ops.proofs.pixel_counting.count_in_row.Goals as goal
+use Rattle.image_ops.proofs.pixel_counting.count_pixels_in_row.Goals as goal
 
 pub loop-x-preserved : goal.loop-x-preserved
 loop-x-preserved g c =

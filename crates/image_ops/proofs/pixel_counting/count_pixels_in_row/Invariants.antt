@@ -2,7 +2,7 @@
 use Rattle.std.proofs.Common.{◌≡◌, ◌≤◌, ◌/◌, length, take, count_by}
 use Rattle.std.specs.List.{range_with_len}
 use Rattle.image_ops.specs.PixelCounts.{has_value}
-use Rattle.image_ops.proofs.pixel_counting.count_in_row.Given as goal
+use Rattle.image_ops.proofs.pixel_counting.count_pixels_in_row.Given as goal
 
 abbrev pub invariant-loop-x : goal.invariant-loop-x
 invariant-loop-x g l = record {
