@@ -138,3 +138,9 @@ module _ {S T : Type 0} (write : S → List ℕ → S) (F : T → HashWrites) (l
   one_fed n s t u r e h k =
       fed_along write s u (flat_map_more (flat_map F) [] (first_rows l n) (row l n) ∙ ap (flat_map (flat_map F)) (sym (one_more l n)))
       (fed_then write s t u (fed_upto n) (flat_map F (row l n)) h (k ∙ ap (λ q. fold write t (flat_map F q)) e))
+
+-- one row more is fed by one write
+pub one_row_fed : {S : Type 0} (write : S → List ℕ → S) (l : Layout ℕ) (n : ℕ) (s t u : S) (r : List ℕ) → r ≡ row l n → t ≡ fold write s (first_rows l n) → u ≡ write t r → u ≡ fold write s (first_rows l (n + 1))
+one_row_fed write l n s t u r e h k =
+    fed_along write s u (sym (one_more l n))
+    (fed_then write s t u (first_rows l n) (row l n ∷ []) h (k ∙ ap (write t) e))

@@ -1,6 +1,7 @@
 pub mod CellAnswers
 pub mod Clones
 pub mod Counting
+pub mod Hashing
 pub mod Joined
 pub mod Made
 pub mod Mapping

@@ -28,7 +28,7 @@ pub use copy::copy_pixels;
 pub use counting::count_pixels;
 pub use equality::{are_equal, are_equal_fitting};
 pub use fill::{fill_cells, fill_pixels};
-pub use hashing::hash_pixels;
+pub use hashing::{hash_pixels, hash_rows};
 pub use making::make_pixels;
 pub use map::map_pixels;
 pub use mosaic::{mosaic_cells, next_line};

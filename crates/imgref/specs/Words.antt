@@ -15,6 +15,7 @@ pub use Rattle.image_model.specs.Counts.{histogram_of, counted, places_with}
 pub use Rattle.image_model.specs.Connected.{beside, IsConnected, AreFilled, AllFilled, Flooding}
 pub use Rattle.image_model.specs.Turns.{columns_swapped, mirrored, transposed, turned_right, turned_half, turned_left}
 pub use Rattle.image_ops.specs.Counting.{Decides, IsCount}
+pub use Rattle.image_ops.specs.Hashing.{fed_by_rows}
 pub use Rattle.image_turns.specs.Turned.{turned, turned_width, turned_height}
 pub use Rattle.image_shape.specs.Window.{as_window}
 pub use Rattle.image_shape.specs.Shape.{shaped, shape_width, shape_height}

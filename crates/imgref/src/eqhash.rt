@@ -1,13 +1,16 @@
 //! Equality and hash of images: they depend on sizes and pixels, and never on stride or padding.
 
-ghost use Rattle.std.specs.Prelude.{◌≡◌, ◌↔◌, IsTrue};
+ghost use Rattle.std.specs.Prelude.{◌≡◌, ◌↔◌, ℕ, IsTrue, nat_eq};
+ghost use Rattle.std.specs.List.{fold};
 ghost use Rattle.image_model.specs.Alike.{Alike, is_alike};
+ghost use Rattle.image_model.specs.Layout.{Layout};
+ghost use Rattle.image_ops.specs.Hashing.{fed_by_rows};
 ghost use Rattle.imgref.specs.Image.{layout_by, ref_layout};
 ghost use Rattle.imgref.specs.Eqhash.{equal_by, equal_per, equal_equiv, equal_fed, fed_image};
 
 use crate::containers::AsSlice;
 use crate::img::{Img, ImgRef};
-use image_ops::{are_equal, hash_pixels};
+use image_ops::{are_equal, hash_pixels, hash_rows};
 use std::hash::{Hash, Hasher};
 
 impl<C: AsSlice> Img<C> {
@@ -74,5 +77,19 @@ where
 
     fn hash<H: Hasher>(&self, state: &mut H) {
         hash_pixels(self.buf.as_slice(), self.shape(), state);
+    }
+}
+
+impl<C: AsSlice<Item = u8>> Img<C> {
+    /// Feeds a hasher the width and the height as `u32` and then, where the image fits, the bytes of
+    /// each row by one write (`rows`). Images of equal pixels feed the same (`alike`). There is no
+    /// condition. It is faster than `hash`, which feeds each pixel by itself, and gives other hashes:
+    /// take one of the two for a table.
+    pub fn hash_rows<H: Hasher>(&self, state: &mut H)
+        ensures rows { state.new ≡ fold H.write state.old (fed_by_rows (layout_by C.cells self.now)) }
+        ensures alike { (other : Layout ℕ) → Alike nat_eq other (layout_by C.cells self.now)
+            → state.new ≡ fold H.write state.old (fed_by_rows other) }
+    {
+        hash_rows(self.buf.as_slice(), self.shape(), state);
     }
 }

@@ -15,7 +15,9 @@ use image_ops::{fill_window, mosaic_window};
 use image_shape::Window;
 
 impl<C: AsSlice> Img<C> {
-    /// The pixel at column `x` of row `y`, or `None` where the image has no such place.
+    /// The pixel at column `x` of row `y`, or `None` where the image has no such place. Each call
+    /// tests the place. In a loop compare the size once, and write `image[(x, y)]`, which tests
+    /// nothing.
     ///
     /// # Requires
     ///

@@ -23,6 +23,7 @@ mod figures;
 mod fills;
 mod floods;
 mod halves;
+mod hashes;
 mod kinds;
 mod lent_turns;
 mod literals;
@@ -62,6 +63,7 @@ pub use crop::{crop_copy, crop_packed};
 pub use drawing::{dot, put_then_get, stripes, three_by_index, three_places};
 pub use floods::flood_fill;
 pub use halves::halve;
+pub use hashes::have_one_hash;
 pub use kinds::{
     draw_any, draw_lent, flip_any, pixel_of_any, pixel_of_ref, pixel_of_vec, put_and_read,
 };

@@ -7,7 +7,7 @@ ghost use Rattle.imgref.specs.Image.{mut_layout, ref_layout, vec_layout};
 
 mod windows;
 
-use imgref::{Img, ImgRef, ImgRefMut, ImgVec};
+use imgref::{AsSlice, Img, ImgRef, ImgRefMut, ImgVec};
 use std::alloc::{AllocError, Global};
 use std::hash::{DefaultHasher, Hash, Hasher};
 use std::iter::{ExactSizeIterator, FusedIterator};
@@ -76,6 +76,12 @@ pub fn small_image(alloc: Global, number: usize) -> Result<ImgVec<u8>, AllocErro
 pub fn hash_of<T: Hash>(value: &T) -> u64 {
     let mut hasher = DefaultHasher::new();
     value.hash(&mut hasher);
+    hasher.finish()
+}
+
+pub fn hash_of_rows<C: AsSlice<Item = u8>>(image: &Img<C>) -> u64 {
+    let mut hasher = DefaultHasher::new();
+    image.hash_rows(&mut hasher);
     hasher.finish()
 }
 

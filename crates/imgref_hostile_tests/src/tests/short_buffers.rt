@@ -2,7 +2,7 @@
 //! them, and are safe.
 
 use imgref::{AsMutSlice, AsSlice, Img, ImgExt, ImgExtMut, ImgRef, ImgVec};
-use imgref_fixtures::{PADDED, hash_of};
+use imgref_fixtures::{PADDED, hash_of, hash_of_rows};
 use std::alloc::{AllocError, Global};
 use std::process::Abort;
 use std::test::Fail;
@@ -68,7 +68,9 @@ fn compares_owners(owner: &ImgVec<u8>, other: &ImgVec<u8>, is_same: bool) -> boo
 
 fn has_one_hash(owner: &ImgVec<u8>, other: &ImgVec<u8>) -> bool {
     let hash = hash_of(owner);
-    hash == hash_of(other) && hash == hash_of(&other.as_ref())
+    hash == hash_of(other)
+        && hash == hash_of(&other.as_ref())
+        && hash_of_rows(owner) == hash_of_rows(&other.as_ref())
 }
 
 // Both images as lent cells.

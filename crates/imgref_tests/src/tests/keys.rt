@@ -1,10 +1,10 @@
 //! Images as keys of a set: a pixel that is written makes another key.
 
 use imgref::{Img, ImgVec};
-use imgref_fixtures::hash_of;
+use imgref_fixtures::{hash_of, hash_of_rows};
 use std::alloc::{AllocError, Global};
 use std::collections::HashSet;
-use std::hash::Hash;
+use std::hash::{DefaultHasher, Hash, Hasher};
 use std::test::Fail;
 
 // Which of four keys a set takes, one after the other.
@@ -58,4 +58,25 @@ fn are_one_key(first: &mut ImgVec<u8>, second: &mut ImgVec<u8>) -> bool {
     lent == hash_of(&second.as_mut())
         && lent == hash_of(&first.as_ref())
         && first.as_mut() == second.as_mut()
+}
+
+// Two by two, packed and with padding: one hash of their rows, which is that of the sizes and of each row by one write. A
+// pixel more or another size gives another hash.
+#[test]
+fn equal_bytes_have_one_hash_of_rows(rt: HostRuntime) -> Result<(), Fail> {
+    let mut padded: ImgVec<u8> = Img::new_stride([0u8, 1, 255, 2, 3].to_vec(rt.alloc())?, 2, 2, 3);
+    let packed: ImgVec<u8> = Img::new([0u8, 1, 2, 3].to_vec(rt.alloc())?, 2, 2);
+    let line: ImgVec<u8> = Img::new([0u8, 1, 2, 3].to_vec(rt.alloc())?, 4, 1);
+    let mut hasher = DefaultHasher::new();
+    hasher.write_u32(2);
+    hasher.write_u32(2);
+    hasher.write(&[0, 1]);
+    hasher.write(&[2, 3]);
+    let due = hasher.finish();
+    assert!(rt; hash_of_rows(&packed) == due);
+    assert!(rt; hash_of_rows(&padded.as_mut()) == due);
+    assert!(rt; hash_of_rows(&line) != due);
+    padded[(1usize, 1usize)] = 4;
+    assert!(rt; hash_of_rows(&padded) != due);
+    Ok(())
 }

@@ -5,4 +5,4 @@ use Rattle.image_ops.proofs.hashing.hash_pixels.Goals as goal
 
 pub loop-y-preserved : goal.loop-y-preserved
 loop-y-preserved g c =
-    one_fed g.H.Hasher.write g.T.Hash.hash_input (shaped c.args.cells.now c.args.shape) c.loop-y.y c.write_u32-2.new.self c.loop-y.state c.hash_slice.new.state c.row.result.now c.row.ensures.value c.loop-y.invariant c.hash_slice.ensures
+    one_fed g.H.Hasher.write g.T.Hash.hash_input (shaped c.args.cells.now c.args.shape) c.loop-y.y c.hash_size.new.state c.loop-y.state c.hash_slice.new.state c.row.result.now c.row.ensures.value c.loop-y.invariant c.hash_slice.ensures
