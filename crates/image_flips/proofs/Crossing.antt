@@ -1,5 +1,5 @@
 -- Cells that change places, and rows of which each cell is taken from the same row.
-use Rattle.std.proofs.Common.{◌≡◌, ℕ, ◌+◌, ◌-◌, ◌*◌, ◌<◌, ◌≤◌, List, ◌++◌, length, set, take, drop, Option, sym, ap, ◌∙◌, arith, length-set, drop-drop, inl, inr, Some}
+use Rattle.std.proofs.Common.{◌≡◌, ℕ, ◌+◌, ◌-◌, ◌*◌, ◌<◌, ◌≤◌, ◌⊎◌, List, length, set, take, drop, Option, sym, ap, ◌∙◌, arith, length-set, inl, inr, Some}
 use Rattle.std.specs.List.{slice_get}
 use Rattle.std.proofs.lemmas.Bool.{cases_lt}
 use Rattle.std.proofs.lemmas.Bool.Decides.{eqb_tells, nat_tests}
@@ -34,11 +34,8 @@ mirrored_twice n from middle upto k first second below = grind (arith, nat_tests
 mirrored_here : (n from upto k : ℕ) → from ≤ from_end n k → from_end n k < upto → mirrored_place n from upto k ≡ n - 1 - k
 mirrored_here n from upto k above below = grind (arith, nat_tests)
 
-mirrored_outer : (n from upto k : ℕ) → from_end n k < from → mirrored_place n from upto k ≡ k
-mirrored_outer n from upto k before = grind (arith, nat_tests)
-
-mirrored_inner : (n from upto k : ℕ) → upto ≤ from_end n k → mirrored_place n from upto k ≡ k
-mirrored_inner n from upto k after = grind (arith, nat_tests)
+mirrored_stays : (n done many last k : ℕ) → last ≡ n - done - many → 2 * done + many ≤ n → k < n → (k < done) ⊎ (done + many ≤ k) → (k < last) ⊎ (last + many ≤ k) → mirrored_place n done (done + many) k ≡ k
+mirrored_stays n done many last k is_last inside here first second = grind (arith, nat_tests)
 
 -- all cells have changed places
 pub mirrored_all : (n k : ℕ) → k < n → mirrored_place n 0 n k ≡ n - 1 - k
@@ -70,65 +67,84 @@ turned_from old block start many upto n is_many is_upto long so j below =
     ∙ ap (λ m. slice_get old (start + (m - 1 - j))) is_upto
 
 -- two blocks are written, one after the other
-module _ {T : Type 0} (old : List T) (done n last : ℕ) (inside : 2 * done + n ≤ length old) (is_last : last ≡ length old - done - n) (front back : List T) (front_many : length front ≡ n) (back_many : length back ≡ n)
-    (front_from : (j : ℕ) → j < n → slice_get front j ≡ slice_get old (done + (n - 1 - j))) (back_from : (j : ℕ) → j < n → slice_get back j ≡ slice_get old (last + (n - 1 - j))) where
+module _ {T : Type 0} (old : List T) (done n last : ℕ) (order : done ≤ last) (inside : last + n ≤ length old) (front back : List T) (front_many : length front ≡ n) (back_many : length back ≡ n) where
   abbrev first : Stretch
   first = record { start = done; len = n }
 
   abbrev second : Stretch
   second = record { start = last; len = n }
 
-  abbrev pub crossed : List T
-  crossed = with_stretch (with_stretch old first back) second front
+  abbrev half : List T
+  half = with_stretch old first back
 
-  half_many : length (with_stretch old first back) ≡ length old
-  half_many = length-with_stretch old first back (omega arith) back_many
+  abbrev pub both_written : List T
+  both_written = with_stretch half second front
 
-  pub crossed_many : length crossed ≡ length old
-  crossed_many = length-with_stretch (with_stretch old first back) second front (omega (arith, half_many)) front_many ∙ half_many
+  half_inside : done + n ≤ length old
+  half_inside = omega (arith, order, inside)
 
-  pub blocks_crossed : AreGathered (mirrored_place (length old) done (done + n)) old crossed
-  blocks_crossed = record {
+  half_many : length half ≡ length old
+  half_many = length-with_stretch old first back half_inside back_many
+
+  in_half : last + n ≤ length half
+  in_half = omega (arith, half_many, inside)
+
+  pub both_many : length both_written ≡ length old
+  both_many = length-with_stretch half second front in_half front_many ∙ half_many
+
+  -- each cell of a block comes from where its place says, and the others stay
+  pub both_gathered : (place : ℕ → ℕ) → ((j : ℕ) → j < n → slice_get front j ≡ slice_get old (place (last + j))) → ((j : ℕ) → j < n → slice_get back j ≡ slice_get old (place (done + j)))
+      → ((k : ℕ) → k < length old → (k < done) ⊎ (done + n ≤ k) → (k < last) ⊎ (last + n ≤ k) → place k ≡ k) → AreGathered place old both_written
+  both_gathered place front_from back_from stays = record {
     each = λ k below.
-        let here : k < length old = omega (arith, below, crossed_many) in
-        let in_half : last + n ≤ length (with_stretch old first back) = omega (arith, half_many) in
+        let here : k < length old = omega (arith, below, both_many) in
         elim (cases_lt k last) [
           | inr upper ↦
               elim (cases_lt k (last + n)) [
                 | inl within ↦
                     let at : last + (k - last) ≡ k = omega (arith, upper) in
-                    let from : done + (n - 1 - (k - last)) ≡ length old - 1 - k = omega (arith, upper, within, is_last, inside) in
-                    ap (slice_get crossed) (sym at)
-                    ∙ with_stretch_at (with_stretch old first back) second front in_half (k - last) (omega (arith, upper, within, front_many))
+                    ap (slice_get both_written) (sym at)
+                    ∙ with_stretch_at half second front in_half (k - last) (omega (arith, upper, within, front_many))
                     ∙ front_from (k - last) (omega (arith, upper, within))
-                    ∙ ap (slice_get old) (from ∙ sym (mirrored_here (length old) done (done + n) k (omega (arith, upper, within, is_last, inside)) (omega (arith, upper, within, is_last, inside))))
+                    ∙ ap (λ m. slice_get old (place m)) at
                 | inr after ↦
-                    with_stretch_beside (with_stretch old first back) second front in_half front_many k (inr after)
-                    ∙ with_stretch_beside old first back (omega (arith, inside)) back_many k (inr (omega (arith, after, is_last, inside)))
-                    ∙ ap (slice_get old) (sym (mirrored_outer (length old) done (done + n) k (omega (arith, after, is_last, inside, here))))
+                    with_stretch_beside half second front in_half front_many k (inr after)
+                    ∙ with_stretch_beside old first back half_inside back_many k (inr (omega (arith, after, order)))
+                    ∙ ap (slice_get old) (sym (stays k here (inr (omega (arith, after, order))) (inr after)))
               ]
           | inl lower ↦
-              with_stretch_beside (with_stretch old first back) second front in_half front_many k (inl lower)
+              with_stretch_beside half second front in_half front_many k (inl lower)
               ∙ elim (cases_lt k done) [
-                | inl before ↦
-                    with_stretch_beside old first back (omega (arith, inside)) back_many k (inl before)
-                    ∙ ap (slice_get old) (sym (mirrored_outer (length old) done (done + n) k (omega (arith, before))))
+                | inl before ↦ with_stretch_beside old first back half_inside back_many k (inl before) ∙ ap (slice_get old) (sym (stays k here (inl before) (inl lower)))
                 | inr from_done ↦
                     elim (cases_lt k (done + n)) [
                       | inl within ↦
                           let at : done + (k - done) ≡ k = omega (arith, from_done) in
-                          let from : last + (n - 1 - (k - done)) ≡ length old - 1 - k = omega (arith, from_done, within, is_last, inside) in
-                          ap (slice_get (with_stretch old first back)) (sym at)
-                          ∙ with_stretch_at old first back (omega (arith, inside)) (k - done) (omega (arith, from_done, within, back_many))
+                          ap (slice_get half) (sym at)
+                          ∙ with_stretch_at old first back half_inside (k - done) (omega (arith, from_done, within, back_many))
                           ∙ back_from (k - done) (omega (arith, from_done, within))
-                          ∙ ap (slice_get old) (from ∙ sym (mirrored_here (length old) done (done + n) k (omega (arith, from_done, within, is_last, inside)) (omega (arith, within))))
-                      | inr between ↦
-                          with_stretch_beside old first back (omega (arith, inside)) back_many k (inr between)
-                          ∙ ap (slice_get old) (sym (mirrored_inner (length old) done (done + n) k (omega (arith, between, lower, is_last, inside))))
+                          ∙ ap (λ m. slice_get old (place m)) at
+                      | inr between ↦ with_stretch_beside old first back half_inside back_many k (inr between) ∙ ap (slice_get old) (sym (stays k here (inr between) (inl lower)))
                     ]
               ]
         ];
   }
+
+-- two blocks are written that were read from their last cell on
+module _ {T : Type 0} (old : List T) (done n last : ℕ) (inside : 2 * done + n ≤ length old) (is_last : last ≡ length old - done - n) (front back : List T) (front_many : length front ≡ n) (back_many : length back ≡ n)
+    (front_from : (j : ℕ) → j < n → slice_get front j ≡ slice_get old (done + (n - 1 - j))) (back_from : (j : ℕ) → j < n → slice_get back j ≡ slice_get old (last + (n - 1 - j))) where
+  pub blocks_crossed : AreGathered (mirrored_place (length old) done (done + n)) old (with_stretch (with_stretch old (record { start = done; len = n }) back) (record { start = last; len = n }) front)
+  blocks_crossed =
+      both_gathered old done n last (omega (arith, is_last, inside)) (omega (arith, is_last, inside)) front back front_many back_many (mirrored_place (length old) done (done + n))
+      (λ j below.
+      let from : done + (n - 1 - j) ≡ length old - 1 - (last + j) = omega (arith, below, is_last, inside) in
+      front_from j below
+      ∙ ap (slice_get old) (from ∙ sym (mirrored_here (length old) done (done + n) (last + j) (omega (arith, below, is_last, inside)) (omega (arith, below, is_last, inside)))))
+      (λ j below.
+      let from : last + (n - 1 - j) ≡ length old - 1 - (done + j) = omega (arith, below, is_last, inside) in
+      back_from j below
+      ∙ ap (slice_get old) (from ∙ sym (mirrored_here (length old) done (done + n) (done + j) (omega (arith, below, is_last, inside)) (omega (arith, below)))))
+      (λ k here first second. mirrored_stays (length old) done n last k is_last inside here first second)
 
 -- ---- rows of which each cell is taken from the same row
 

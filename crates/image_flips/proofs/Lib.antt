@@ -1,3 +1,4 @@
 pub mod Crossing
 pub mod PixelFlips
 pub mod Swaps
+pub mod TriplePlaces

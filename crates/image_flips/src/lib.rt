@@ -8,8 +8,10 @@ mod flipping;
 mod parts;
 mod pixel_flips;
 mod swapping;
+mod triples;
 
 pub use flipping::{copy_back, flip_columns, flip_rows, swap_cells, swap_columns};
 pub use parts::{exact_part, padded_part, padded_stretch_mut};
 pub use pixel_flips::{flip_window_columns, flip_window_rows, mirror_pixels};
 pub use swapping::swap_rows;
+pub use triples::{copy_triples_back, triples_pay};

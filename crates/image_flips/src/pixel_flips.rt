@@ -1,7 +1,7 @@
 //! Windows that are flipped in place: their rows, or the pixels of their rows. A pixel may have several
 //! cells, next to one another in a row.
 
-ghost use Rattle.std.specs.Prelude.{◌≡◌, ◌+◌, ◌-◌, ◌*◌, ◌/◌, ◌%◌, ◌<◌, ◌≤◌, ◌^◌, length};
+ghost use Rattle.std.specs.Prelude.{IsTrue, ◌≡◌, ◌+◌, ◌-◌, ◌*◌, ◌/◌, ◌%◌, ◌<◌, ◌≤◌, ◌^◌, length};
 ghost use Rattle.image_model.specs.Flips.{flipped};
 ghost use Rattle.image_model.specs.Grid.{patch};
 ghost use Rattle.image_model.specs.Layout.{Fits, SameOutside};
@@ -14,6 +14,7 @@ ghost use Rattle.image_writes.specs.Mirrored.{mirrored_by};
 use crate::flipping::{flip_columns, flip_rows};
 use crate::parts::exact_part;
 use crate::swapping::swap_pixels;
+use crate::triples::{reverse_triples, triples_pay};
 use image_shape::{Shape, Window};
 
 /// The first row of the window changes places with its last, and so on; every other cell stays. The
@@ -63,10 +64,15 @@ fn flip_sized<T: Copy, const N: usize>(cells: &mut [T], shape: Shape)
 }
 
 // The pixels of a row in the opposite order, of `N` cells each, or of any number where `N` is 0. As an
-// image with one pixel in each row, the row is upside down then.
+// image with one pixel in each row, the row is upside down then. Pixels of three cells may go by blocks.
 #[inline(always)]
-fn reverse_pixels<T: Copy, const N: usize>(row: &mut [T], size: usize, count: usize)
+fn reverse_pixels<T: Copy, const N: usize, const BLOCKS: bool>(
+    row: &mut [T],
+    size: usize,
+    count: usize,
+)
     requires known { 0 < N → size ≡ N }
+    requires blocks { IsTrue BLOCKS → size ≡ 3 }
     requires some { 0 < size }
     requires many { length row.old ≡ count * size }
     requires size_bound { size < 2 ^ 32 }
@@ -74,12 +80,22 @@ fn reverse_pixels<T: Copy, const N: usize>(row: &mut [T], size: usize, count: us
     ensures as_many { length row.new ≡ length row.old }
     ensures turned { AreGathered (λ k. (count - 1 - k / size) * size + k % size) row.old row.new }
 {
-    flip_sized::<T, N>(row, Shape::new(size, count, size));
+    if BLOCKS {
+        reverse_triples(row);
+    } else {
+        flip_sized::<T, N>(row, Shape::new(size, count, size));
+    }
 }
 
 // In each row the first pixel changes places with the last, and so on.
-fn reverse_rows<T: Copy, const N: usize>(cells: &mut [T], shape: Shape, size: usize, columns: usize)
+fn reverse_rows<T: Copy, const N: usize, const BLOCKS: bool>(
+    cells: &mut [T],
+    shape: Shape,
+    size: usize,
+    columns: usize,
+)
     requires known { 0 < N → size ≡ N }
+    requires blocks { IsTrue BLOCKS → size ≡ 3 }
     requires some { 0 < size }
     requires size_bound { size < 2 ^ 32 }
     requires fits { Fits (shaped cells.old shape) }
@@ -90,7 +106,7 @@ fn reverse_rows<T: Copy, const N: usize>(cells: &mut [T], shape: Shape, size: us
     let _width = shape.width();
     for y in 0..shape.row_count() {
         let row = shape.row(cells.len(), y);
-        reverse_pixels::<T, N>(&mut cells[row.range()], size, columns);
+        reverse_pixels::<T, N, BLOCKS>(&mut cells[row.range()], size, columns);
     }
 }
 
@@ -109,10 +125,13 @@ pub fn mirror_pixels<T: Copy>(cells: &mut [T], shape: Shape, size: usize, column
 {
     match size {
         1 => flip_columns(cells, shape),
-        2 => reverse_rows::<T, 2>(cells, shape, size, columns),
-        3 => reverse_rows::<T, 3>(cells, shape, size, columns),
-        4 => reverse_rows::<T, 4>(cells, shape, size, columns),
-        _ => reverse_rows::<T, 0>(cells, shape, size, columns),
+        2 => reverse_rows::<T, 2, false>(cells, shape, size, columns),
+        3 if triples_pay(cells, columns) => {
+            reverse_rows::<T, 3, true>(cells, shape, size, columns);
+        }
+        3 => reverse_rows::<T, 3, false>(cells, shape, size, columns),
+        4 => reverse_rows::<T, 4, false>(cells, shape, size, columns),
+        _ => reverse_rows::<T, 0, false>(cells, shape, size, columns),
     }
 }
 

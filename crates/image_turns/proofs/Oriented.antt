@@ -1,9 +1,9 @@
 -- Pixels of several cells that come from other places of a source: pixel by pixel, row by row, and strips of columns one after the other.
-use Rattle.std.proofs.Common.{◌≡◌, ℕ, suc, ◌+◌, ◌-◌, ◌*◌, ◌/◌, ◌%◌, ◌<◌, ◌≤◌, List, length, Option, refl, sym, ap, ◌∙◌, subst, arith, inl, inr}
+use Rattle.std.proofs.Common.{◌≡◌, ℕ, ◌+◌, ◌-◌, ◌*◌, ◌/◌, ◌%◌, ◌<◌, ◌≤◌, List, length, Option, refl, sym, ap, ◌∙◌, subst, arith, inl, inr}
 use Rattle.std.specs.List.{slice_get}
 use Rattle.std.proofs.lemmas.Bool.{cases_lt}
 use Rattle.std.proofs.lemmas.Nat.{div-mul-add, mod-mul-add, mod_below, div_below, mul-le}
-use Rattle.std.proofs.Math.Nat.{suc-mul, add-mul, mul-div_cancel, mul-add-div_right, mul-add-mod_self_right}
+use Rattle.std.proofs.Math.Nat.{add-mul, mul-add-div_right, mul-add-mod_self_right}
 use Rattle.image_model.specs.Layout.{Layout, SameOutside, pixel}
 use Rattle.image_model.specs.Grid.{Grid, grid, grid_of, patch, view}
 use Rattle.image_model.specs.Turns.{transposed, turned_right, turned_half, turned_left}

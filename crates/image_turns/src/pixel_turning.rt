@@ -15,7 +15,7 @@ ghost use Rattle.image_writes.specs.Written.{Becomes};
 
 use crate::near::rows_near;
 use crate::turning::{Turn, transpose_pixels, turn_pixels};
-use image_flips::exact_part;
+use image_flips::{copy_triples_back, exact_part, triples_pay};
 use image_shape::{Shape, Window};
 use std::mem::size_of_val;
 
@@ -60,6 +60,32 @@ fn source_place(
     }
 }
 
+// The pixels of three cells in a part of row `y`, from column `left` on, become those of the source that
+// is turned by a half. They come from pixels that are next to one another there.
+fn take_half<T: Copy>(
+    cells: &mut [T],
+    left: usize,
+    count: usize,
+    y: usize,
+    source: &[T],
+    source_shape: Shape,
+    columns: usize,
+)
+    requires some { 0 < count }
+    requires many { length cells.old ≡ count * 3 }
+    requires source_fits { Fits (shaped source.now source_shape) }
+    requires source_width { shape_width source_shape ≡ columns * 3 }
+    requires across { left + count ≤ columns }
+    requires down { y < shape_height source_shape }
+    ensures as_many { length cells.new ≡ length cells.old }
+    ensures taken { AreGathered (source_cell Orientation.Half 3 (shape_stride source_shape) columns
+        (shape_height source_shape) left y) source.now cells.new }
+{
+    let line = source_shape.height() - 1 - y;
+    let from = source_shape.cell((columns - left - count) * 3, line);
+    copy_triples_back(cells, &source[from..from + count * 3]);
+}
+
 // The pixels of a part of row `y`, from column `left` on, become those of the source.
 #[inline(always)]
 fn take_pixels<T: Copy, const N: usize>(
@@ -82,6 +108,10 @@ fn take_pixels<T: Copy, const N: usize>(
     ensures taken { AreGathered (source_cell orientation N (shape_stride source_shape) columns
         (shape_height source_shape) left y) source.now cells.new }
 {
+    if N == 3 && orientation == Orientation::Half && triples_pay(cells, count) {
+        take_half(cells, left, count, y, source, source_shape, columns);
+        return;
+    }
     let rows = source_shape.height();
     for x in 0..count {
         let (column, line) = source_place(orientation, columns, rows, left + x, y);

@@ -7,8 +7,8 @@ use Rattle.image_shape.specs.Shape.{shaped}
 use Rattle.image_flips.proofs.PixelFlips.{row_reversed}
 use Rattle.image_flips.proofs.pixel_flips.reverse_pixels.Goals as goal
 
-pub returns-clause-turned : goal.returns-clause-turned
-returns-clause-turned g c =
+pub returns-else-this-ne0-clause-turned : goal.returns-else-this-ne0-clause-turned
+returns-else-this-ne0-clause-turned g c =
     let a = c.args in
     let made = c.new.ensures in
     let same : (cells : List g.row.T.Denot) → shaped cells c.new.result ≡ layout cells a.size a.count a.size = λ cells i. layout cells (made.width i) (made.height i) (made.stride i) in
