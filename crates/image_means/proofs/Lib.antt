@@ -4,4 +4,5 @@ pub mod ColumnSums
 pub mod Factors
 pub mod MeanTiles
 pub mod Rounding
+pub mod SumsOfTiles
 pub mod Samples

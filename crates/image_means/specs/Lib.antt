@@ -1,3 +1,4 @@
 pub mod Blur
 pub mod Division
+pub mod LineSums
 pub mod Means

@@ -7,6 +7,7 @@
 mod blur;
 mod division;
 mod means;
+mod tile_sums;
 
 pub use blur::blur_samples;
 pub use means::{Sample, SampleBytes, mean_samples, mean_window};

@@ -10,6 +10,7 @@ ghost use Rattle.image_shape.specs.Shape.{shape_width, shape_height, shaped, sha
 ghost use Rattle.image_shape.specs.Window.{as_window};
 ghost use Rattle.image_means.specs.Means.{mean_cell, mean_mosaic_by, mean_of, rounded_mean, row_cell, byte_of, cell_number, sample_cells, sample_in, sample_mosaic, sample_mosaic_by, sample_number, sum_upto, AreBytes, AreTiled, BeginsWith, HasSamples, PutsCells};
 
+use crate::tile_sums::{ROOM, put_by_sums};
 use image_flips::exact_part;
 use image_ops::{mosaic_cells, next_line};
 use image_shape::{Shape, Window, tiles_along};
@@ -29,6 +30,10 @@ pub trait Sample: Copy {
     fn number(self) -> u16
         ensures value { result ≡ number self }
         ensures within { result ≤ greatest };
+
+    /// The greatest number of a cell.
+    fn greatest() -> u16
+        ensures { result ≡ greatest };
 
     /// The cell of a number, which is at most the greatest one of a cell.
     fn sample(value: u16) -> Self
@@ -50,6 +55,10 @@ impl Sample for u8 {
         u16::from(self)
     }
 
+    fn greatest() -> u16 {
+        255
+    }
+
     fn sample(value: u16) -> u8 {
         value as u8
     }
@@ -66,6 +75,10 @@ impl Sample for u16 {
 
     fn number(self) -> u16 {
         self
+    }
+
+    fn greatest() -> u16 {
+        65535
     }
 
     fn sample(value: u16) -> u16 {
@@ -215,9 +228,9 @@ fn corner_of(x: usize, corner: usize, tile: usize) -> usize
 }
 
 // In the row that begins at cell `start`, the first pixel of each tile becomes the mean of the tile's
-// pixels in `lines` rows.
+// pixels in `lines` rows, tile by tile.
 #[inline(always)]
-fn put_row_means<T: Sample>(
+fn put_row_cells<T: Sample>(
     bytes: SampleBytes,
     cells: &mut [T],
     start: usize,
@@ -251,6 +264,39 @@ fn put_row_means<T: Sample>(
             }
             cells[start + x] = T::sample(number_at(bytes, x, mean));
         }
+    }
+}
+
+// In the row that begins at cell `start`, the first pixel of each tile becomes the mean of the tile's
+// pixels in `lines` rows. Cells that are samples go by the sums of columns, unless tiles are too large.
+#[inline(always)]
+fn put_row_means<T: Sample>(
+    bytes: SampleBytes,
+    cells: &mut [T],
+    start: usize,
+    width: usize,
+    lines: usize,
+    stride: usize,
+    size: usize,
+    tile_width: usize,
+)
+    requires samples { HasSamples bytes T.greatest size }
+    requires tile_width { 0 < tile_width }
+    requires lines { 0 < lines }
+    requires narrow { width < 2 ^ 32 }
+    requires whole { width % sample_cells bytes ≡ 0 }
+    requires apart { width ≤ stride }
+    requires inside { start + (stride * (lines - 1) + width) ≤ length cells.old }
+    requires room { length cells.old < 2 ^ 63 }
+    ensures { PutsCells
+        (row_cell bytes T.number T.sample size tile_width lines stride start width cells.old)
+        size tile_width start width cells.old cells.new }
+{
+    let tile = tile_width.saturating_mul(size);
+    if bytes == SampleBytes::One && tile <= ROOM && lines < 65536 {
+        put_by_sums(cells, start, width, lines, stride, size, tile_width);
+    } else {
+        put_row_cells(bytes, cells, start, width, lines, stride, size, tile_width);
     }
 }
 

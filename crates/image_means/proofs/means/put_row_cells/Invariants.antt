@@ -2,7 +2,7 @@
 use Rattle.std.proofs.Common.{◌≡◌, ◌+◌, ◌%◌, ◌<◌, ◌≤◌}
 use Rattle.image_means.specs.Means.{sample_cells, sample_number, sample_start, row_cell, row_mean}
 use Rattle.image_means.proofs.MeanTiles.{PutUpto}
-use Rattle.image_means.proofs.means.put_row_means.Given as goal
+use Rattle.image_means.proofs.means.put_row_cells.Given as goal
 
 abbrev pub invariant-loop-x : goal.invariant-loop-x
 invariant-loop-x g l = record {

@@ -4,8 +4,8 @@ use Rattle.std.proofs.lemmas.Nat.{mul-le}
 use Rattle.image_means.specs.Means.{sample_cells, sample_number, sample_start, cell_number, row_mean, row_cell}
 use Rattle.image_means.proofs.MeanTiles.{PutUpto, next_put, later_stays, cell_put, mean_begun, tile_whole}
 use Rattle.image_means.proofs.Samples.{whole_tile, same_start, cell_within}
-use Rattle.image_means.proofs.means.put_row_means.Goals.{then-x-corner, else-x-corner, then-begins_sample, else-begins_sample}
-use Rattle.image_means.proofs.means.put_row_means.Goals as goal
+use Rattle.image_means.proofs.means.put_row_cells.Goals.{then-x-corner, else-x-corner, then-begins_sample, else-begins_sample}
+use Rattle.image_means.proofs.means.put_row_cells.Goals as goal
 
 pub mean_at-mean-requires-clause-some : goal.mean_at-mean-requires-clause-some
 mean_at-mean-requires-clause-some g c =
