@@ -1,5 +1,5 @@
 -- Edits that are taken from words one after the other.
-use Rattle.std.proofs.Common.{◌≡◌, ℕ, ◌<◌, List, [], ◌∷◌, ◌++◌, Option, Some, None, true, false, eqb, length, take, drop, refl, sym, ap, ◌∙◌, subst, arith, append_assoc, append-nil, inl, inr}
+use Rattle.std.proofs.Common.{◌≡◌, ◌≢◌, ℕ, zero, suc, ◌<◌, List, filter, not, [], ◌∷◌, ◌++◌, Option, Some, None, true, false, eqb, length, take, drop, refl, sym, ap, ◌∙◌, subst, arith, append_assoc, append-nil, inl, inr}
 use Rattle.std.specs.List.{flat_map}
 use Rattle.std.proofs.Math.Seq.{take-append_seam}
 use Rattle.std.specs.Option.{option_map}
@@ -8,9 +8,9 @@ use Rattle.text_model.proofs.Options.{some_is, map_some}
 use Rattle.frame_formats.specs.declared.words.Edit.{Edit}
 use Rattle.frame_formats.specs.declared.framing.Framing.{Framing}
 use Rattle.frame_formats.specs.declared.lists.Edits.{Edits}
-use Rattle.frame_formats.specs.Lists.{AreEdits, Adds, framing_after, edit_of, line_words, with_one, with_words, with_line, with_lines, plain}
+use Rattle.frame_formats.specs.Lists.{AreEdits, Adds, NeedsMemory, framing_after, edit_of, line_words, with_one, with_words, with_line, with_lines, plain}
 use Rattle.frame_formats.specs.Edits.{edits, Edits as Plain}
-use Rattle.text_model.specs.Reading.{◌>>=◌}
+use Rattle.text_model.specs.Reading.{◌>>=◌, is_nil}
 use Rattle.frame_formats.specs.Words.{Named, edit_at, with_edit}
 
 -- what is known of edits before and after one was taken from words
@@ -45,6 +45,39 @@ edits_left words old mid n (e ∷ es) taken some are = grind (arith, some_is, ma
 pub none_at : (words : List (List ℕ)) (old : Edits) (es : List Named) → (old.framing ≡ None → edit_at words ≡ None) → 0 < length words → AreEdits es old.framing words → ⊥
 none_at words old [] none some are = let empty : length words ≡ 0 = ap length are in absurd (omega (arith, empty, some))
 none_at words old (e ∷ es) none some are = let bad : Some e ≡ None = sym are.1 ∙ none are.0 in absurd cc
+
+-- an edit was taken, so there was a place for it
+pub needs_taken : (words : List (List ℕ)) (old new : Edits) (n : ℕ) → Taken words old new n → old.framing ≡ None → NeedsMemory old.framing words
+needs_taken words old new n taken first =
+    let m = map_some (edit_at words) (with_edit old.steps.items) (new.steps.items, (new.framing, n)) taken in
+    (first, λ none. let both : Some m.0 ≡ None = sym m.1 ∙ none in absurd cc)
+
+-- words need it from the first of them on
+pub first_taken : (words : List (List ℕ)) (at : ℕ) (framing before : Option Framing) → (at ≡ 0 → framing ≡ before) → (0 < at → NeedsMemory before words) → NeedsMemory framing (drop at words) → NeedsMemory before words
+first_taken words zero framing before same so_far here = (sym (same refl) ∙ here.0, here.1)
+first_taken words (suc at) framing before same so_far here = so_far (omega arith)
+
+-- ---- words of lines
+
+some_behind : {A : Type 0} (front back : List A) → back ≢ [] → front ++ back ≢ []
+some_behind [] back some = some
+some_behind (x ∷ xs) back some = λ none. absurd cc
+
+some_before : {A : Type 0} (front back : List A) → front ≢ [] → front ++ back ≢ []
+some_before [] back some = absurd (some refl)
+some_before (x ∷ xs) back some = λ none. absurd cc
+
+-- a word among the pieces of a line
+pub word_there : (front : List (List ℕ)) (word : List ℕ) (rest total : List (List ℕ)) → 0 < length word → front ++ filter (λ piece. not (is_nil piece)) (word ∷ rest) ≡ total → total ≢ []
+word_there front [] rest total some is = absurd (omega (arith, some))
+word_there front (b ∷ bs) rest total some is = subst (λ (l : List (List ℕ)). l ≢ []) is (some_behind front ((b ∷ bs) ∷ filter (λ piece. not (is_nil piece)) rest) (λ none. absurd cc))
+
+-- words of this line, or of those after it
+pub words_here : (line : List ℕ) (left lines : List (List ℕ)) → left ≡ line ∷ lines → line_words line ≢ [] → flat_map line_words left ≢ []
+words_here line left lines is some = subst (λ (l : List (List ℕ)). flat_map line_words l ≢ []) (sym is) (some_before (line_words line) (flat_map line_words lines) some)
+
+pub words_behind : (line : List ℕ) (left lines : List (List ℕ)) → left ≡ line ∷ lines → flat_map line_words lines ≢ [] → flat_map line_words left ≢ []
+words_behind line left lines is some = subst (λ (l : List (List ℕ)). flat_map line_words l ≢ []) (sym is) (some_behind (line_words line) (flat_map line_words lines) some)
 
 -- ---- words that are one edit
 

@@ -1,7 +1,10 @@
 -- What boxes become, one after the other.
-use Rattle.std.proofs.Common.{◌≡◌, ℕ, zero, suc, ◌+◌, List, ◌++◌, sym, ap, ◌∙◌, arith, append_assoc, add-one}
+use Rattle.std.proofs.Common.{◌≡◌, ◌<◌, ℕ, zero, suc, ◌+◌, List, [], ◌∷◌, ◌++◌, length, sym, ap, ◌∙◌, arith, append_assoc, add-one}
 use Rattle.std.specs.List.{flat_map, range_with_len}
 use Rattle.std.proofs.lemmas.List.{append-nil}
+use Rattle.frame_formats.specs.Holds.{held}
+use Rattle.frame_formats.specs.declared.boxes.BoxStyle.{BoxStyle}
+use Rattle.frame_formats.specs.declared.boxes.Tracked.{Tracked}
 
 one_more : {A : Type 0} (f : ℕ → List A) (a n at : ℕ) → a + n ≡ at → flat_map f (range_with_len a (suc n)) ≡ flat_map f (range_with_len a n) ++ f at
 one_more f a zero at e = append-nil (f a) ∙ ap f (omega arith)
@@ -9,3 +12,8 @@ one_more f a (suc n) at e = ap (λ l. f a ++ l) (one_more f (a + 1) n at (omega 
 
 pub one_place_more : {A : Type 0} (f : ℕ → List A) (a n at : ℕ) → a + n ≡ at → flat_map f (range_with_len a (n + 1)) ≡ flat_map f (range_with_len a n) ++ f at
 one_place_more f a n at e = rw (add-one n) (one_more f a n at e)
+
+-- what no box becomes is nothing
+pub held_some : (style : BoxStyle) (hold : ℕ) (boxes : List Tracked) → 0 < length (held style hold boxes) → 0 < length boxes
+held_some style hold [] some = absurd (omega (arith, some))
+held_some style hold (b ∷ bs) some = omega arith

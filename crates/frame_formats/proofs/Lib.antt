@@ -8,6 +8,8 @@ pub mod EditsEach
 pub mod Times
 pub mod Touched
 mod BothBoxes
+mod BoxesBegun
 mod HeldEach
 mod LineEnds
 mod NearBoxes
+mod Started

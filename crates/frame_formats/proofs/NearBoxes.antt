@@ -1,6 +1,5 @@
 -- The window of a box has each pixel of the frame that is in the box or in its margin.
-use Rattle.std.proofs.Common.{◌≡◌, ℕ, ◌+◌, ◌-◌, ◌*◌, ◌%◌, ◌<◌, ◌≤◌, ◌&&◌, ◌||◌, ◌==◌, Bool, Option, Some, None, true, false, nat_lt, nat_le, min, max, if◌then◌else◌, refl, arith}
-use Rattle.std.specs.Prelude.{IsTrue}
+use Rattle.std.proofs.Common.{ℕ, ◌+◌, ◌-◌, ◌<◌, ◌≤◌, Option, arith}
 use Rattle.std.proofs.lemmas.Bool.Decides.{nat_tests}
 use Rattle.image_shape.specs.declared.window.Window.{Window}
 use Rattle.frame_formats.specs.Covers.{HasMargin, KeepsMargin, KeepsMarginBy, box_window, cover_count, cover_start, down_to, drawn, drawn_by, margin_of, up_to, window_of}

@@ -1,5 +1,5 @@
 -- Which pixels a box touches: those of its cover's rectangle.
-use Rattle.std.proofs.Common.{◌≡◌, ◌↔◌, ℕ, ◌+◌, ◌-◌, ◌*◌, ◌/◌, ◌<◌, ◌≤◌, ◌&&◌, Bool, true, false, nat_lt, nat_le, if◌then◌else◌, refl, arith}
+use Rattle.std.proofs.Common.{◌↔◌, ℕ, ◌+◌, ◌-◌, ◌*◌, ◌/◌, ◌<◌, ◌≤◌, ◌&&◌, nat_lt, arith}
 use Rattle.std.specs.Prelude.{IsTrue}
 use Rattle.std.proofs.lemmas.Bool.Decides.{nat_tests}
 use Rattle.frame_formats.specs.Boxes.{IsDecimal, IsExtent, IsTracked, IsBox, side_of, is_touched, pixels_up, place_of, units_of, window_of_box, TouchesExactly}

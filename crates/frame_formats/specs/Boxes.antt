@@ -1,5 +1,5 @@
 -- The boxes of a tracker's list, and the covers that they become.
-use Rattle.std.specs.Prelude.{◌≡◌, ◌≢◌, ◌<◌, ◌≤◌, ◌↔◌, ℕ, ◌+◌, ◌-◌, ◌*◌, ◌/◌, ◌^◌, ◌&&◌, ◌==◌, Bool, false, true, not, nat_lt, nat_le, IsTrue, if◌then◌else◌, List, [], ◌∷◌, ◌++◌, Option, Some, None, length, reverse}
+use Rattle.std.specs.Prelude.{◌≡◌, ◌≢◌, ◌<◌, ◌↔◌, ℕ, ◌+◌, ◌-◌, ◌*◌, ◌/◌, ◌^◌, ◌&&◌, ◌==◌, Bool, false, true, not, nat_lt, nat_le, IsTrue, if◌then◌else◌, List, [], ◌∷◌, ◌++◌, Option, Some, None, length, reverse}
 use Rattle.std.specs.List.{list_all}
 use Rattle.std.specs.Prelude.{IsPermutation, map}
 use Rattle.std.specs.List.Sorted.{IsNonDecreasingBy, IsStableByKey}
@@ -172,6 +172,20 @@ with_boxes become old (line ∷ lines) = with_box become old line >>= λ new. wi
 -- what the boxes of a text become, in the order of its lines
 abbrev pub each_box : {X : Type 0} → (Tracked → X) → List ℕ → Option (List X)
 each_box become text = with_boxes become [] (parts_of 10 text)
+
+-- whether there is a box: those of the lines so far, or one of the rest
+abbrev pub begun : {X : Type 0} → List X → Bool → Bool
+begun [] rest = rest
+begun (x ∷ xs) rest = true
+
+abbrev pub begun_by : Option (List Tracked) → Bool → Bool
+begun_by None rest = false
+begun_by (Some boxes) rest = begun boxes rest
+
+-- whether the first line with a word is a box: what it becomes needs memory, and nothing before it does
+abbrev pub begins_with_box : List (List ℕ) → Bool
+begins_with_box [] = false
+begins_with_box (line ∷ lines) = begun_by (line_boxes line) (begins_with_box lines)
 
 -- the first frame, or the first time, of an edit
 abbrev pub first_in : Range → ℕ

@@ -10,7 +10,7 @@ use Rattle.image_planes.specs.declared.target.Resize.{Resize}
 use Rattle.image_planes.specs.declared.target.Resize.TheVariants.{Crop, Pad, Turn}
 use Rattle.text_model.specs.Reading.{◌>>=◌}
 use Rattle.frame_formats.specs.Format.{samples, change_under, resize_under}
-use Rattle.frame_formats.specs.Steps.{all_some, step_by, change_in, opaque, pixel_size}
+use Rattle.frame_formats.specs.Steps.{StartsWell, all_some, step_by, change_in, opaque, pixel_size}
 use Rattle.frame_formats.specs.declared.header.Chroma.{Chroma}
 use Rattle.frame_formats.specs.declared.header.Chroma.TheVariants.{Mono, Small, Wide, Quarter, Whole, WholeAlpha}
 use Rattle.frame_formats.specs.Pam.{tuple}
@@ -89,6 +89,11 @@ change_on pixel (Samples x y) width height change = change_in pixel change >>= c
 -- the plane under steps in pixels, or nothing where one has a colour, reaches outside the plane or doesn't fall on whole samples
 abbrev pub job_on : Pixel → Layer → ℕ → ℕ → List (Step Paint) → Option Job
 job_on pixel layer width height steps = all_some (step_by (change_on pixel layer width height)) steps >>= job_for (pixel_size pixel) (layer_width layer width) (layer_height layer height)
+
+-- there is a plane, and the first step is one of the first plane, where there is a step
+abbrev pub StartsOn : Pixel → List Layer → ℕ → ℕ → List (Step Paint) → Type 0
+StartsOn pixel [] width height steps = ⊥
+StartsOn pixel (layer ∷ layers) width height steps = StartsWell (step_by (change_on pixel layer width height)) steps
 
 abbrev pub jobs_on : Pixel → List Layer → ℕ → ℕ → List (Step Paint) → Option (List Job)
 jobs_on pixel layers width height steps = all_some (λ layer. job_on pixel layer width height steps) layers

@@ -1,5 +1,5 @@
 -- Which edits a list of words is, and which the lines of a file are.
-use Rattle.std.specs.Prelude.{◌≡◌, ◌==◌, ◌||◌, ℕ, Bool, not, filter, List, [], ◌∷◌, ◌++◌, Option, Some, None, drop, length, if◌then◌else◌}
+use Rattle.std.specs.Prelude.{◌≡◌, ◌≢◌, ◌==◌, ◌||◌, ℕ, Bool, not, filter, List, [], ◌∷◌, ◌++◌, Option, Some, None, drop, length, if◌then◌else◌}
 use Rattle.std.specs.List.{flat_map, slice_split}
 use Rattle.std.specs.Borrow.{Bor}
 use Rattle.std.specs.Str.Lines.{strip_carriage_return}
@@ -31,6 +31,10 @@ pub record Adds (words : List (List ℕ)) (old new : Edits) : Type 0 where
 -- words are no edits
 abbrev pub AddsNone : List (List ℕ) → Edits → Type 0
 AddsNone words old = (edits : List Named) → AreEdits edits old.framing words → ⊥
+
+-- the first of some words are an edit, and there is no crop or pad yet: a place for it needs memory
+abbrev pub NeedsMemory : Option Framing → List (List ℕ) → Type 0
+NeedsMemory framing words = (framing ≡ None) × (edit_at words ≢ None)
 
 -- ---- lines
 

@@ -1,5 +1,5 @@
 -- What is done to the pixels of frames, as what is done to each plane.
-use Rattle.std.specs.Prelude.{ℕ, ◌+◌, ◌*◌, ◌/◌, ◌%◌, ◌&&◌, false, nat_lt, nat_le, if◌then◌else◌, List, [], ◌∷◌, ◌++◌, Option, Some, None, take, replicate}
+use Rattle.std.specs.Prelude.{◌≢◌, ◌<◌, ℕ, length, ◌+◌, ◌*◌, ◌/◌, ◌%◌, ◌&&◌, false, nat_lt, nat_le, if◌then◌else◌, List, [], ◌∷◌, ◌++◌, Option, Some, None, take, replicate}
 use Rattle.std.specs.List.{flat_map}
 use Rattle.std.specs.Option.{option_map}
 use Rattle.image_planes.specs.Samples.{SampleBytes, One, LowFirst, HighFirst}
@@ -19,6 +19,15 @@ all_some f (x ∷ xs) = do
   y ← f x
   ys ← all_some f xs
   Some (y ∷ ys)
+
+-- what the first item becomes, where there is one and it becomes something
+abbrev pub first_made : {A B : Type 0} → (A → Option B) → List A → Option B
+first_made f [] = None
+first_made f (x ∷ xs) = f x
+
+-- there is no item, or the first becomes something
+abbrev pub StartsWell : {A B : Type 0} → (A → Option B) → List A → Type 0
+StartsWell f xs = 0 < length xs → first_made f xs ≢ None
 
 -- a step of the same frames, by what its change becomes
 abbrev pub step_by : {V W : Type 0} → (Change V → Option (Change W)) → Step V → Option (Step W)

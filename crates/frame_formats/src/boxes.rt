@@ -1,13 +1,13 @@
 //! The boxes of a tracker's list, as the covers that they become.
 
-ghost use Rattle.std.specs.Prelude.{◌≡◌, ◌≤◌, ◌<◌, ◌↔◌, ◌+◌, ◌*◌, ◌^◌, ℕ, All, IsPermutation, Some, None, IfSome, IfOk, IfErr, OnOk, true, false, []};
+ghost use Rattle.std.specs.Prelude.{◌≡◌, ◌≤◌, ◌<◌, ◌↔◌, ◌+◌, ◌*◌, ◌^◌, ℕ, All, IsPermutation, Some, None, IfSome, IfOk, IfErr, IsOk, OnOk, IsTrue, length, true, false, []};
 ghost use Rattle.std.specs.List.{list_all};
 ghost use Rattle.std.specs.List.Sorted.{IsNonDecreasingBy, IsStableByKey};
 ghost use Rattle.std.specs.Ordering.{nat_cmp};
 ghost use Rattle.text_model.specs.Parts.{parts_of};
 ghost use Rattle.text_model.specs.Reading.{Finds, first_of_parts};
 ghost use Rattle.texts.specs.Parts.{parts_left};
-ghost use Rattle.frame_formats.specs.Boxes.{without_white, ended, box_text, part_of, part_in, unsigned_in, signed_of, decimal_of, frame_of, box_of, IsDecimal, IsTracked, place_of, side_of, window_of_box, cover_of, with_box, with_boxes, IsBoxLine, TouchesExactly, IsExtent, IsBox, each_box, first_of, AreCovers};
+ghost use Rattle.frame_formats.specs.Boxes.{without_white, ended, box_text, part_of, part_in, unsigned_in, signed_of, decimal_of, frame_of, box_of, IsDecimal, IsTracked, place_of, side_of, window_of_box, cover_of, with_box, with_boxes, IsBoxLine, TouchesExactly, IsExtent, IsBox, each_box, begun, begins_with_box, first_of, AreCovers};
 ghost use Rattle.frame_formats.specs.Lists.{is_white};
 
 use crate::covers::{BEFORE, with_window};
@@ -325,11 +325,16 @@ fn take_line(covers: &mut Vec<Edit>, style: BoxStyle, line: &[u8]) -> Result<(),
 }
 
 // The covers of all lines, in their order.
+#[tactic(auto, using(crate::proofs::BoxesBegun::begun_more, crate::proofs::BoxesBegun::begun_here))]
 fn read_all(alloc: Global, text: &[u8], style: BoxStyle) -> Result<Vec<Edit>, WordsFault>
     ensures covers { IfOk result
         (λ covers. each_box (cover_of style) text.now ≡ Some covers.items) }
     ensures none { IfErr result
         (λ e. e ≡ WordsFault.NoEdit → each_box (cover_of style) text.now ≡ None) }
+    ensures begun { IfOk result
+        (λ covers. begun covers.items false ≡ begins_with_box (parts_of 10 text.now)) }
+    ensures memory { IfErr result
+        (λ e. e ≡ WordsFault.Memory → IsTrue (begins_with_box (parts_of 10 text.now))) }
 {
     let mut covers = Vec::new(alloc);
     let mut lines = Parts::new(text, b'\n');
@@ -366,12 +371,17 @@ fn take_box(boxes: &mut Vec<Tracked>, line: &[u8]) -> Result<(), WordsFault>
 ///
 /// # Errors
 ///
-/// `NoEdit` where a line is no box.
+/// `NoEdit` where a line is no box. `Memory` only where the first line with a word is one.
+#[tactic(auto, using(crate::proofs::BoxesBegun::begun_more, crate::proofs::BoxesBegun::begun_here))]
 pub fn read_tracked(alloc: Global, text: &[u8]) -> Result<Vec<Tracked>, WordsFault>
     ensures boxes { IfOk result (λ boxes. each_box (λ b. b) text.now ≡ Some boxes.items) }
     ensures exact { IfOk result (λ boxes. All IsTracked boxes.items) }
     ensures none { IfErr result
         (λ e. e ≡ WordsFault.NoEdit → each_box (λ b. b) text.now ≡ None) }
+    ensures begun { IfOk result
+        (λ boxes. begun boxes.items false ≡ begins_with_box (parts_of 10 text.now)) }
+    ensures memory { IfErr result
+        (λ e. e ≡ WordsFault.Memory → IsTrue (begins_with_box (parts_of 10 text.now))) }
 {
     let mut boxes = Vec::new(alloc);
     let mut lines = Parts::new(text, b'\n');
@@ -402,6 +412,7 @@ pub(crate) fn put_in_order(covers: &mut Vec<Edit>) -> Result<(), AllocError>
     ensures same { IsPermutation covers.old.items covers.new.items }
     ensures stable { IsStableByKey first_of nat_cmp covers.old.items covers.new.items }
     ensures in_order { OnOk result (IsNonDecreasingBy first_of covers.new.items) }
+    ensures few { length covers.old.items ≤ 20 → IsOk result }
 {
     covers.sort_by_key(|cover| first_frame(cover))?;
     Ok(())
@@ -416,11 +427,14 @@ pub(crate) fn put_in_order(covers: &mut Vec<Edit>) -> Result<(), AllocError>
 ///
 /// # Errors
 ///
-/// `NoEdit` where a line is no box.
+/// `NoEdit` where a line is no box. `Memory` only where the first line with a word is one.
+#[tactic(auto, using(crate::proofs::BoxesBegun::begun_some))]
 pub fn read_boxes(alloc: Global, text: &[u8], style: BoxStyle) -> Result<Vec<Edit>, WordsFault>
     ensures covers { IfOk result (λ covers. AreCovers style text.now covers.items) }
     ensures none { IfErr result
         (λ e. e ≡ WordsFault.NoEdit → each_box (cover_of style) text.now ≡ None) }
+    ensures memory { IfErr result
+        (λ e. e ≡ WordsFault.Memory → IsTrue (begins_with_box (parts_of 10 text.now))) }
 {
     let mut covers = match read_all(alloc, text, style) {
         Ok(covers) => covers,

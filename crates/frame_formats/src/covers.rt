@@ -1,8 +1,8 @@
 //! What a cover is in a frame: a fill of whole samples, with a margin.
 
-ghost use Rattle.std.specs.Prelude.{◌≡◌, ◌<◌, ◌+◌, ◌-◌, min, IfOk, IfErr, Some, None};
+ghost use Rattle.std.specs.Prelude.{◌≡◌, ◌≢◌, ◌<◌, ◌+◌, ◌-◌, ◌++◌, ◌∷◌, [], min, IfSome, IfOk, IfErr, OnOk, Some, None};
 ghost use Rattle.frame_formats.specs.Plan.{Tells};
-ghost use Rattle.frame_formats.specs.Steps.{all_some};
+ghost use Rattle.frame_formats.specs.Steps.{all_some, first_made};
 ghost use Rattle.frame_formats.specs.Covers.{chroma_unit, video_unit, margin_of, cover_start, cover_count, window_from, box_window, changes_nothing, covers_nothing, fill_in, frames_for, has_no_pixel, one_pixel, settled, settled_by, drawn, KeepsMargin, step_in, turns_over, window_of, with_window};
 
 use crate::header::{Chroma, Format};
@@ -358,10 +358,42 @@ fn frames_of(unit: Unit, rate: Option<Rate>, edit: Edit) -> Option<(u64, u64)>
     edit.range.frames(rate)
 }
 
+// An edit as a step of a frame of this size, where it has frames.
+#[tactic(auto, using(crate::proofs::StepsEach::edit_settled, crate::proofs::StepsEach::edit_stops))]
+fn step_of(
+    unit: Unit,
+    rate: Option<Rate>,
+    width: usize,
+    height: usize,
+    edit: Edit,
+) -> Option<Step<Paint>>
+    requires across { 0 < unit.across }
+    requires down { 0 < unit.down }
+    ensures { result ≡ step_in unit rate width height edit }
+{
+    let (first, end) = frames_of(unit, rate, edit)?;
+    let change = settle_edit(unit, width, height, edit);
+    Some(Step { first, end, change })
+}
+
+// Adds a step, where there is one.
+fn push_step(steps: &mut Vec<Step<Paint>>, step: Option<Step<Paint>>) -> Result<(), PlanFault>
+    ensures pushed { OnOk result (IfSome step (λ step. steps.new.items ≡ steps.old.items ++ step ∷ [])) }
+    ensures some { OnOk result (step ≢ None) }
+    ensures fault { IfErr result (Tells (step ≡ None)) }
+    ensures memory { IfErr result (λ e. e ≡ PlanFault.Memory → step ≢ None) }
+{
+    let Some(step) = step else {
+        return Err(PlanFault::Outside);
+    };
+    steps.push(step)?;
+    Ok(())
+}
+
 /// The edits as steps of a frame of this size. A cover is the fill that it is there, and a range of
 /// times has the frames that are in it at this rate. An interlaced video takes no change that
 /// exchanges its fields.
-#[tactic(auto, using(crate::proofs::StepsEach::one_more, crate::proofs::StepsEach::one_stops, crate::proofs::StepsEach::edit_settled, crate::proofs::StepsEach::edit_stops))]
+#[tactic(auto, using(crate::proofs::StepsEach::one_more, crate::proofs::StepsEach::one_stops, crate::proofs::StepsEach::first_more))]
 pub(crate) fn settle_all(
     alloc: Global,
     unit: Unit,
@@ -376,15 +408,12 @@ pub(crate) fn settle_all(
         (λ all. all_some (step_in unit rate width height) edits.now ≡ Some all.items) }
     ensures fault { IfErr result
         (Tells (all_some (step_in unit rate width height) edits.now ≡ None)) }
+    ensures memory { IfErr result (λ e. e ≡ PlanFault.Memory
+        → first_made (step_in unit rate width height) edits.now ≢ None) }
 {
     let mut all = Vec::new(alloc);
     for edit in edits {
-        let (first, end) = frames_of(unit, rate, *edit).ok_or(PlanFault::Outside)?;
-        all.push(Step {
-            first,
-            end,
-            change: settle_edit(unit, width, height, *edit),
-        })?;
+        push_step(&mut all, step_of(unit, rate, width, height, *edit))?;
     }
     Ok(all)
 }

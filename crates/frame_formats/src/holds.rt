@@ -1,10 +1,11 @@
 //! The boxes of tracks, which are kept for some frames before and after a track, and over its gaps.
 
-ghost use Rattle.std.specs.Prelude.{◌≡◌, ◌<◌, ◌≤◌, ◌+◌, ◌∷◌, ◌++◌, length, All, Some, None, IsPermutation, IfOk, IfErr, OnOk, max, min};
+ghost use Rattle.std.specs.Prelude.{◌≡◌, ◌<◌, ◌≤◌, ◌+◌, ◌∷◌, ◌++◌, length, All, Some, None, IsPermutation, IfOk, IfErr, IsOk, IsTrue, OnOk, max, min};
 ghost use Rattle.std.specs.List.{slice_get};
 ghost use Rattle.std.specs.Option.{option_to_list};
 ghost use Rattle.std.specs.List.Sorted.{IsNonDecreasingBy};
-ghost use Rattle.frame_formats.specs.Boxes.{IsDecimal, IsExtent, IsBox, IsTracked, each_box, place_of, units_of};
+ghost use Rattle.text_model.specs.Parts.{parts_of};
+ghost use Rattle.frame_formats.specs.Boxes.{IsDecimal, IsExtent, IsBox, IsTracked, begins_with_box, each_box, place_of, units_of};
 ghost use Rattle.frame_formats.specs.Holds.{track_of, missing, continues, goes_on_at, comes_at, kept, kept_on, filled, size_by, first_start, both_extent, around, HasBoth, between, held_at, held, AreByTracks, AreHeld};
 
 use crate::boxes::{BoxStyle, Decimal, PIXEL, Tracked, cover_of, put_in_order, read_tracked};
@@ -220,7 +221,8 @@ fn hold_all(
     boxes: &[Tracked],
 ) -> Result<Vec<Edit>, AllocFailed<Edit>>
     requires { All IsTracked boxes.now }
-    ensures { IfOk result (λ covers. covers.items ≡ held style hold boxes.now) }
+    ensures covers { IfOk result (λ covers. covers.items ≡ held style hold boxes.now) }
+    ensures none { length boxes.now ≡ 0 → IsOk result }
 {
     let mut covers = Vec::new(alloc);
     for at in 0..boxes.len() {
@@ -239,6 +241,8 @@ pub fn put_by_tracks(boxes: &mut Vec<Tracked>) -> Result<(), AllocError>
     ensures same { IsPermutation boxes.old.items boxes.new.items }
     ensures tracked { All IsTracked boxes.old.items → All IsTracked boxes.new.items }
     ensures by_tracks { OnOk result (AreByTracks boxes.new.items) }
+    ensures as_many { length boxes.new.items ≡ length boxes.old.items }
+    ensures few { length boxes.old.items ≤ 20 → IsOk result }
 {
     boxes.sort_by_key(|tracked| tracked.frame)?;
     boxes.sort_by_key(|tracked| track_of(tracked))?;
@@ -256,7 +260,8 @@ pub fn put_by_tracks(boxes: &mut Vec<Tracked>) -> Result<(), AllocError>
 ///
 /// # Errors
 ///
-/// `NoEdit` where a line is no box.
+/// `NoEdit` where a line is no box. `Memory` only where the first line with a word is one.
+#[tactic(auto, using(crate::proofs::BoxesBegun::begun_some, crate::proofs::HeldEach::held_some))]
 pub fn read_held(
     alloc: Global,
     text: &[u8],
@@ -266,6 +271,8 @@ pub fn read_held(
     ensures covers { IfOk result (λ covers. AreHeld style text.now hold covers.items) }
     ensures none { IfErr result
         (λ e. e ≡ WordsFault.NoEdit → each_box (λ b. b) text.now ≡ None) }
+    ensures memory { IfErr result
+        (λ e. e ≡ WordsFault.Memory → IsTrue (begins_with_box (parts_of 10 text.now))) }
 {
     let mut boxes = match read_tracked(alloc, text) {
         Ok(boxes) => boxes,

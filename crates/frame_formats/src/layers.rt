@@ -1,12 +1,13 @@
 //! The planes of a frame or a picture: what the pixels of each are, its changes, and the change of
 //! its size.
 
-ghost use Rattle.std.specs.Prelude.{◌≡◌, All, map, Some, None, IfOk, IfErr};
+ghost use Rattle.std.specs.Prelude.{◌≡◌, ◌≢◌, All, map, Some, None, IfOk, IfErr};
 ghost use Rattle.std.specs.Option.{option_map};
 ghost use Rattle.image_planes.specs.Planes.{job_of};
 ghost use Rattle.image_planes.specs.Targets.{resizing_of};
-ghost use Rattle.frame_formats.specs.Layers.{StandsForPixels, picture_pixel, picture_layers, video_layers, layer_width, layer_height, opaque_change, opaque_resize, change_on, job_on, jobs_on, resizing_on, resizings_on};
+ghost use Rattle.frame_formats.specs.Layers.{StandsForPixels, picture_pixel, picture_layers, video_layers, layer_width, layer_height, opaque_change, opaque_resize, change_on, job_on, jobs_on, StartsOn, resizing_on, resizings_on};
 ghost use Rattle.frame_formats.specs.Plan.{Tells};
+ghost use Rattle.frame_formats.specs.Steps.{StartsWell, first_made, step_by};
 
 use crate::header::Chroma;
 use crate::pam::Tuples;
@@ -143,7 +144,7 @@ fn size_on(layer: Layer, width: usize, height: usize) -> (usize, usize)
 }
 
 // The plane in a frame of this size, with what is done to it.
-#[tactic(auto, using(crate::proofs::StepsEach::one_more, crate::proofs::StepsEach::one_stops, crate::proofs::StepsEach::step_made, crate::proofs::StepsEach::no_step))]
+#[tactic(auto, using(crate::proofs::StepsEach::one_more, crate::proofs::StepsEach::one_stops, crate::proofs::StepsEach::step_made, crate::proofs::StepsEach::no_step, crate::proofs::StepsEach::first_more))]
 fn plane_on(
     alloc: Global,
     pixel: Pixel,
@@ -156,6 +157,8 @@ fn plane_on(
     ensures plane { IfOk result
         (λ plane. job_on pixel layer width height steps.now ≡ Some (job_of plane)) }
     ensures fault { IfErr result (Tells (job_on pixel layer width height steps.now ≡ None)) }
+    ensures memory { IfErr result (λ e. e ≡ PlanFault.Memory
+        → StartsWell (step_by (change_on pixel layer width height)) steps.now) }
 {
     let mut made = Vec::new(alloc);
     for step in steps {
@@ -209,6 +212,8 @@ pub(crate) fn planes_of(
     ensures planes { IfOk result
         (λ planes. jobs_on pixel layers.now width height steps.now ≡ Some (map job_of planes.items)) }
     ensures fault { IfErr result (Tells (jobs_on pixel layers.now width height steps.now ≡ None)) }
+    ensures memory { IfErr result
+        (λ e. e ≡ PlanFault.Memory → StartsOn pixel layers.now width height steps.now) }
 {
     let mut planes = Vec::new(alloc);
     for layer in layers {
@@ -230,6 +235,8 @@ pub(crate) fn targets_of(
     ensures targets { IfOk result (λ targets.
         resizings_on pixel layers.now width height resize ≡ Some (map resizing_of targets.items)) }
     ensures fault { IfErr result (Tells (resizings_on pixel layers.now width height resize ≡ None)) }
+    ensures memory { IfErr result (λ e. e ≡ PlanFault.Memory
+        → first_made (λ layer. resizing_on pixel layer width height resize) layers.now ≢ None) }
 {
     let mut targets = Vec::new(alloc);
     for layer in layers {

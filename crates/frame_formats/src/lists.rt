@@ -1,11 +1,11 @@
 //! The edits that words name one after the other, and the lines of a text.
 
-ghost use Rattle.std.specs.Prelude.{◌≡◌, ◌<◌, ◌≤◌, map, take as list_take, [], ◌∷◌, position, Some, None, IfOk, IfErr, OnOk, length};
-ghost use Rattle.std.specs.List.{slice_split};
+ghost use Rattle.std.specs.Prelude.{◌≡◌, ◌≢◌, ◌<◌, ◌≤◌, map, take as list_take, [], ◌∷◌, position, Some, None, IfOk, IfErr, OnOk, length};
+ghost use Rattle.std.specs.List.{slice_split, flat_map};
 ghost use Rattle.std.specs.Str.Lines.{strip_carriage_return};
 ghost use Rattle.std.specs.Option.{option_map};
 ghost use Rattle.text_model.specs.Parts.{parts_of};
-ghost use Rattle.frame_formats.specs.Lists.{Adds, AddsNone, is_white, pieces_left, uncommented, line_words, with_one, with_line, with_lines, plain};
+ghost use Rattle.frame_formats.specs.Lists.{Adds, AddsNone, NeedsMemory, is_white, pieces_left, uncommented, line_words, with_one, with_line, with_lines, plain};
 ghost use Rattle.frame_formats.specs.Words.{edit_at, with_edit};
 
 use crate::framing::Framing;
@@ -57,9 +57,11 @@ fn next_piece(line: &[u8]) -> (&[u8], Option<&[u8]>)
     }
 }
 
-/// The words of a line of edits, without its comment.
+/// The words of a line of edits, without its comment. Without a word no memory is allocated.
+#[tactic(auto, using(crate::proofs::EditsEach::word_there))]
 pub fn line_words<'a>(alloc: Global, line: &'a [u8]) -> Result<Vec<&'a [u8]>, AllocError>
-    ensures { IfOk result (λ words. map (λ w. w.now) words.items ≡ line_words line.now) }
+    ensures words { IfOk result (λ words. map (λ w. w.now) words.items ≡ line_words line.now) }
+    ensures memory { IfErr result (λ _. line_words line.now ≢ []) }
 {
     let mut words = Vec::new(alloc);
     let mut rest = Some(before_comment(before_return(line)));
@@ -118,6 +120,8 @@ impl Edits {
         ensures last { IfOk result (λ _. self.old.framing ≡ None) }
         ensures none { IfErr result (λ e. e ≡ WordsFault.NoEdit → self.old.framing ≡ None
             → edit_at (map (λ w. w.now) words.now) ≡ None) }
+        ensures memory { IfErr result (λ e. e ≡ WordsFault.Memory
+            → NeedsMemory self.old.framing (map (λ w. w.now) words.now)) }
         ensures same_steps { IfErr result (λ _. self.new.steps.items ≡ self.old.steps.items) }
         ensures same_framing { IfErr result (λ _. self.new.framing ≡ self.old.framing) }
         ensures some { IfOk result (λ n. 0 < n) }
@@ -158,6 +162,8 @@ impl Edits {
         ensures adds { OnOk result (Adds (map (λ w. w.now) words.now) self.old self.new) }
         ensures none { IfErr result
             (λ e. e ≡ WordsFault.NoEdit → AddsNone (map (λ w. w.now) words.now) self.old) }
+        ensures memory { IfErr result (λ e. e ≡ WordsFault.Memory
+            → NeedsMemory self.old.framing (map (λ w. w.now) words.now)) }
         ensures same { IfErr result (λ _. plain self.new ≡ plain self.old) }
     {
         let (steps, framing) = (self.steps.len(), self.framing);
@@ -181,6 +187,8 @@ impl Edits {
             (with_one (plain self.old) (map (λ w. w.now) words.now) ≡ Some (plain self.new)) }
         ensures none { IfErr result (λ e. e ≡ WordsFault.NoEdit
             → with_one (plain self.old) (map (λ w. w.now) words.now) ≡ None) }
+        ensures memory { IfErr result (λ e. e ≡ WordsFault.Memory
+            → NeedsMemory self.old.framing (map (λ w. w.now) words.now)) }
         ensures same { IfErr result (λ _. plain self.new ≡ plain self.old) }
     {
         let (steps, framing) = (self.steps.len(), self.framing);
@@ -202,6 +210,7 @@ impl Edits {
         ensures taken { OnOk result (with_line (plain self.old) line.now ≡ Some (plain self.new)) }
         ensures none { IfErr result
             (λ e. e ≡ WordsFault.NoEdit → with_line (plain self.old) line.now ≡ None) }
+        ensures memory { IfErr result (λ e. e ≡ WordsFault.Memory → line_words line.now ≢ []) }
         ensures same { IfErr result (λ _. plain self.new ≡ plain self.old) }
     {
         let Ok(words) = line_words(alloc, line) else {
@@ -226,6 +235,8 @@ impl Edits {
             (with_lines (plain self.old) (parts_of 10 text.now) ≡ Some (plain self.new)) }
         ensures none { IfErr result (λ e. e ≡ WordsFault.NoEdit
             → with_lines (plain self.old) (parts_of 10 text.now) ≡ None) }
+        ensures memory { IfErr result (λ e. e ≡ WordsFault.Memory
+            → flat_map line_words (parts_of 10 text.now) ≢ []) }
         ensures same { IfErr result (λ _. plain self.new ≡ plain self.old) }
     {
         let (steps, framing) = (self.steps.len(), self.framing);

@@ -6,7 +6,10 @@ ghost use Rattle.image_planes.specs.Planes.{job_of};
 ghost use Rattle.image_planes.specs.Scratch.{scratch_len, room_len, HasRoom, KeepsRoom};
 ghost use Rattle.frame_formats.specs.Format.{format_of};
 ghost use Rattle.frame_formats.specs.Plan.{Tells};
+ghost use Rattle.frame_formats.specs.Covers.{one_pixel, step_in, video_unit};
 ghost use Rattle.frame_formats.specs.Edits.{edits};
+ghost use Rattle.frame_formats.specs.Ranges.{rate_of};
+ghost use Rattle.frame_formats.specs.Steps.{StartsWell};
 ghost use Rattle.frame_formats.specs.Recipe.{recipe, video_recipe, picture_recipe, new_len, resized_len, resizings_of};
 
 use crate::covers::{Unit, settle_all, unit_of_video};
@@ -104,7 +107,7 @@ impl Plan {
     /// # Errors
     ///
     /// `Outside` where the edits aren't valid for such a video, or no row would be left.
-    #[tactic(auto, using(crate::proofs::Sizes::same_sizes))]
+    #[tactic(auto, using(crate::proofs::Sizes::same_sizes, crate::proofs::StepsEach::starts_made, crate::proofs::StepsEach::starts_first))]
     pub fn for_video(
         alloc: Global,
         line: &[u8],
@@ -117,6 +120,8 @@ impl Plan {
             (λ plan. video_recipe (edits steps.now framing) line.now ≡ Some (recipe_of plan)) }
         ensures fault { IfErr result
             (Tells (video_recipe (edits steps.now framing) line.now ≡ None)) }
+        ensures memory { IfErr result (λ e. e ≡ PlanFault.Memory → StartsWell
+            (step_in (video_unit format) (rate_of line.now) format.width format.height) steps.now) }
     {
         let (pixel, width, height) = (format.pixel, format.width, format.height);
         let layers = video_layers(format.chroma);
@@ -142,7 +147,7 @@ impl Plan {
     /// # Errors
     ///
     /// `Outside` where the edits aren't valid for such a picture, or no row would be left.
-    #[tactic(auto, using(crate::proofs::Sizes::same_sizes))]
+    #[tactic(auto, using(crate::proofs::Sizes::same_sizes, crate::proofs::StepsEach::starts_made, crate::proofs::StepsEach::starts_first))]
     pub fn for_picture(
         alloc: Global,
         picture: Picture,
@@ -153,6 +158,8 @@ impl Plan {
             (λ plan. picture_recipe (edits steps.now framing) picture ≡ Some (recipe_of plan)) }
         ensures fault { IfErr result
             (Tells (picture_recipe (edits steps.now framing) picture ≡ None)) }
+        ensures memory { IfErr result (λ e. e ≡ PlanFault.Memory → StartsWell
+            (step_in one_pixel None picture.width picture.height) steps.now) }
     {
         let (pixel, width, height) = (picture_pixel(picture), picture.width, picture.height);
         let layers = picture_layers();

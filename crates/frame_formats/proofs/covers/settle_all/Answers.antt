@@ -6,4 +6,4 @@ use Rattle.frame_formats.proofs.covers.settle_all.Goals as goal
 
 pub returns-clause-steps : goal.returns-clause-steps
 returns-clause-steps c =
-    all_done (step_in c.args.unit c.args.rate c.args.width c.args.height) c.loop-edit.all.items c.args.edits.now c.loop-edit.edit-index _ (omega arith) c.loop-edit.invariant
+    all_done (step_in c.args.unit c.args.rate c.args.width c.args.height) c.loop-edit.all.items c.args.edits.now c.loop-edit.edit-index _ (omega arith) c.loop-edit.invariant.left

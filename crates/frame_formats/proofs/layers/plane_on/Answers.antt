@@ -8,4 +8,8 @@ use Rattle.frame_formats.proofs.layers.plane_on.Goals as goal
 
 pub returns-clause-plane : goal.returns-clause-plane
 returns-clause-plane c =
-    rw (all_done (step_by (change_on c.args.pixel c.args.layer c.args.width c.args.height)) c.loop-step.made.items c.args.steps.now c.loop-step.step-index _ (omega arith) c.loop-step.invariant) (grind (arith, common_steps))
+    rw (all_done (step_by (change_on c.args.pixel c.args.layer c.args.width c.args.height)) c.loop-step.made.items c.args.steps.now c.loop-step.step-index _ (omega arith) c.loop-step.invariant.left) (grind (arith, common_steps))
+
+pub returns-clause-fault : goal.returns-clause-fault
+returns-clause-fault c =
+    rw (all_done (step_by (change_on c.args.pixel c.args.layer c.args.width c.args.height)) c.loop-step.made.items c.args.steps.now c.loop-step.step-index _ (omega arith) c.loop-step.invariant.left) (grind (arith, common_steps))

@@ -1,5 +1,5 @@
-use Rattle.std.proofs.Common.{◌-◌, ◌≤◌, List, length, map, drop}
-use Rattle.frame_formats.specs.Lists.{AreEdits, Adds, plain}
+use Rattle.std.proofs.Common.{◌≡◌, ◌-◌, ◌≤◌, ◌<◌, List, length, map, drop}
+use Rattle.frame_formats.specs.Lists.{AreEdits, Adds, NeedsMemory, plain}
 use Rattle.frame_formats.specs.Words.{Named}
 use Rattle.frame_formats.specs.declared.lists.Edits.{Edits}
 use Rattle.frame_formats.proofs.EditsEach.{Begins}
@@ -10,6 +10,8 @@ abbrev pub invariant-loop-at : goal.invariant-loop-at
 invariant-loop-at l = record {
   front : Begins (plain l.initial.self) (plain l.self);
   within : l.at ≤ length l.words;
+  same : l.at ≡ 0 → l.self.framing ≡ l.initial.self.framing;
+  first : 0 < l.at → NeedsMemory l.initial.self.framing (map (λ w. w.now) l.words);
   more : (new : Edits) → Adds (drop l.at (map (λ w. w.now) l.words)) l.self new → Adds (map (λ w. w.now) l.words) l.initial.self new;
   less : (edits : List Named) → AreEdits edits l.initial.self.framing (map (λ w. w.now) l.words) → (rest : List Named) × AreEdits rest l.self.framing (drop l.at (map (λ w. w.now) l.words));
 }

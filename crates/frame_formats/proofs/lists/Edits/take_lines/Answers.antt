@@ -3,17 +3,21 @@ use Rattle.std.proofs.Common.{sym, ap, take, ◌∙◌, arith}
 use Rattle.std.proofs.lemmas.Grind.{common_steps}
 use Rattle.frame_formats.specs.Edits.{Edits}
 use Rattle.frame_formats.specs.Lists.{plain, with_lines}
-use Rattle.frame_formats.proofs.EditsEach.{one_line_more, bad_line, begins_line, restored}
+use Rattle.frame_formats.proofs.EditsEach.{words_here, words_behind, one_line_more, bad_line, begins_line, restored}
 use Rattle.frame_formats.proofs.lists.Edits.take_lines.Goals as goal
 
 pub loop-line-preserved : goal.loop-line-preserved
 loop-line-preserved c = record {
   front = begins_line (plain c.args.self.now) (plain c.loop-line.self) (plain c.take_line.new.self) c.in-Some.line.now c.loop-line.invariant.front c.in-Ok.ensures.taken;
+  some = λ more. c.loop-line.invariant.some (words_behind c.in-Some.line.now _ _ c.in-Some.ensures more);
   left = grind (arith, one_line_more);
 }
 
 pub returns-in-Err-clause-none : goal.returns-in-Err-clause-none
 returns-in-Err-clause-none c fault = grind (arith, bad_line)
+
+pub returns-in-Err-clause-memory : goal.returns-in-Err-clause-memory
+returns-in-Err-clause-memory c fault = c.loop-line.invariant.some (words_here c.in-Some.line.now _ _ c.in-Some.ensures (c.in-Err.ensures.memory fault))
 
 pub returns-clause-taken : goal.returns-clause-taken
 returns-clause-taken c = sym c.loop-line.invariant.left ∙ ap (with_lines (plain c.loop-line.self)) c.in_default.ensures

@@ -1,7 +1,8 @@
-use Rattle.std.proofs.Common.{◌≡◌, length}
+use Rattle.std.proofs.Common.{◌≡◌, ◌≢◌, [], length}
+use Rattle.std.specs.List.{flat_map}
 use Rattle.text_model.specs.Parts.{parts_of}
 use Rattle.texts.specs.Parts.{parts_left}
-use Rattle.frame_formats.specs.Lists.{with_lines, plain}
+use Rattle.frame_formats.specs.Lists.{line_words, with_lines, plain}
 use Rattle.frame_formats.proofs.EditsEach.{Begins}
 use Rattle.frame_formats.proofs.lists.Edits.take_lines.Given as goal
 
@@ -9,6 +10,7 @@ use Rattle.frame_formats.proofs.lists.Edits.take_lines.Given as goal
 abbrev pub invariant-loop-line : goal.invariant-loop-line
 invariant-loop-line l = record {
   front : Begins (plain l.initial.self) (plain l.self);
+  some : flat_map line_words (parts_left l.lines) ≢ [] → flat_map line_words (parts_of 10 l.text) ≢ [];
   left : with_lines (plain l.self) (parts_left l.lines) ≡ with_lines (plain l.initial.self) (parts_of 10 l.text);
 }
 
