@@ -10,3 +10,4 @@ pub mod Outcomes
 pub mod Hiding
 pub mod CarriedPieces
 pub mod OneOutput
+pub mod BareFrames

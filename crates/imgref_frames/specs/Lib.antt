@@ -11,3 +11,4 @@ pub mod Passing
 pub mod Kept
 pub mod Program
 pub mod Alike
+pub mod Bare

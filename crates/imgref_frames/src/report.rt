@@ -1,7 +1,10 @@
 //! The rectangles as they were drawn, and the frames in which there is no box.
 
+ghost use Rattle.std.specs.Prelude.{◌≡◌, ◌<◌, ◌+◌, ◌-◌, min, nat_lt, if◌then◌else◌, IfSome};
+ghost use Rattle.imgref_frames.specs.Bare.{AreCounted, AreInOrder, box_span, is_bare};
+
 use crate::request::{Seen, Shape};
-use frame_formats::{Change, Edit, Paint, Scope};
+use frame_formats::{Change, Edit, Paint, Range, Scope};
 use std::alloc::{AllocError, Global};
 use std::io;
 use std::io::Write;
@@ -133,8 +136,15 @@ pub(crate) struct Bare {
 }
 
 impl Bare {
-    // Adds a stretch, which is after those before.
-    fn add(&mut self, first: u64, end: u64) {
+    // Adds a stretch, which is after those before. It may have no frame.
+    fn add(&mut self, first: u64, end: u64)
+        ensures frames { self.new.frames
+            ≡ min (self.old.frames + (end - first)) 18446744073709551615 }
+        ensures first { self.new.first
+            ≡ if nat_lt (self.old.end - self.old.first) (end - first) then first else self.old.first }
+        ensures end { self.new.end
+            ≡ if nat_lt (self.old.end - self.old.first) (end - first) then end else self.old.end }
+    {
         let len = end.saturating_sub(first);
         self.frames = self.frames.saturating_add(len);
         if len > self.end.saturating_sub(self.first) {
@@ -144,8 +154,21 @@ impl Bare {
     }
 }
 
+// The frames of a box of a list, where an edit is one and has a frame.
+fn box_span(edit: &Edit) -> Option<(u64, u64)>
+    ensures span { result ≡ box_span edit.now }
+    ensures some { IfSome result (λ span. span.0 < span.1) }
+{
+    match (edit.scope, edit.range) {
+        (Scope::Boxed { .. }, Range::Frames { first, end }) if first < end => Some((first, end)),
+        _ => None,
+    }
+}
+
 /// The frames without a box, of so many. Boxes are in the order of their first frames.
-pub(crate) fn bare_of(steps: &[Edit], count: u64) -> Bare {
+pub(crate) fn bare_of(steps: &[Edit], count: u64) -> Bare
+    ensures { AreInOrder steps.now → AreCounted (is_bare steps.now) count result }
+{
     let mut bare = Bare {
         frames: 0,
         first: 0,
@@ -153,19 +176,12 @@ pub(crate) fn bare_of(steps: &[Edit], count: u64) -> Bare {
     };
     let mut reached: u64 = 0;
     for edit in steps {
-        if !is_box(edit) {
-            continue;
-        }
-        if let Some((first, end)) = edit.range.frames(None) {
-            if first > reached {
-                bare.add(reached, first.min(count));
-            }
+        if let Some((first, end)) = box_span(edit) {
+            bare.add(reached, first.min(count));
             reached = reached.max(end);
         }
     }
-    if reached < count {
-        bare.add(reached, count);
-    }
+    bare.add(reached, count);
     bare
 }
 
