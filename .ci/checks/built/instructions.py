@@ -25,7 +25,7 @@ from library import skipped
 
 FILE = ROOT / "bench/instructions.txt"
 # The jobs whose time is waiting for memory, of which misses count too.
-CACHED = ("turns", "windows", "narrow")
+CACHED = ("turns", "windows", "narrow", "strips")
 CACHE = ("--cache-sim=yes", "--D1=32768,8,64", "--I1=32768,8,64", "--LL=8388608,16,64")
 # What a build may take more.
 MARGIN = 1.03

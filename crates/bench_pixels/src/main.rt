@@ -1,4 +1,4 @@
-//! Jobs on pixels of three cells, and on means of pixels. Each goes over input that a number
+//! Jobs on pixels of three cells, on means of pixels, on rows, and on strips. Each goes over input that a number
 //! determines. The program prints a digest of all results, and no times: `bench/run` times it.
 //!
 //! Its words are a job, a size and a number below 2^32. Each number gives other input of the same
@@ -11,6 +11,8 @@ mod numbers;
 mod photos;
 mod pixels;
 mod request;
+mod rows;
+mod strips;
 
 use digest::Digest;
 use numbers::Numbers;
@@ -27,6 +29,15 @@ fn digest_of(rt: &HostRuntime) -> Result<u64, Fault> {
     }
     if request.includes(Job::Means) {
         means::run(rt.alloc(), request.size, &mut numbers, &mut digest)?;
+    }
+    if request.includes(Job::Rows) {
+        rows::run(rt.alloc(), request.size, &mut numbers, &mut digest)?;
+    }
+    if request.includes(Job::Equal) {
+        rows::compare(rt.alloc(), request.size, &mut numbers, &mut digest)?;
+    }
+    if request.includes(Job::Strips) {
+        strips::run(rt.alloc(), request.size, &mut numbers, &mut digest)?;
     }
     Ok(digest.value())
 }

@@ -10,6 +10,12 @@ pub(crate) enum Job {
     Three,
     /// Means and blurs.
     Means,
+    /// Rows that are cloned and compared.
+    Rows,
+    /// Long rows that are compared.
+    Equal,
+    /// Turns by strips, and half turns, which have none.
+    Strips,
 }
 
 /// How large the input of a job is.
@@ -69,6 +75,9 @@ fn read_job(word: &str) -> Result<Option<Job>, Fault> {
         "all" => Ok(None),
         "three" => Ok(Some(Job::Three)),
         "means" => Ok(Some(Job::Means)),
+        "rows" => Ok(Some(Job::Rows)),
+        "equal" => Ok(Some(Job::Equal)),
+        "strips" => Ok(Some(Job::Strips)),
         _ => Err(Fault::Words),
     }
 }
