@@ -1,5 +1,6 @@
-//! Jobs on pixels of three cells, on means of pixels, on rows, and on strips. Each goes over input that a number
-//! determines. The program prints a digest of all results, and no times: `bench/run` times it.
+//! Jobs on pixels of three cells, on means of pixels, on rows, and on strips. Each goes over input
+//! that a number determines. The program prints a digest of all results, and no times: `bench/run`
+//! times it.
 //!
 //! Its words are a job, a size and a number below 2^32. Each number gives other input of the same
 //! kind and size.
