@@ -30,4 +30,7 @@ pub mod Boxes
 pub mod Folds
 pub mod Puts
 pub mod Connected
+pub mod Regions
+pub mod Sums
+pub mod Ranges
 pub mod Laws

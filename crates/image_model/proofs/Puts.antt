@@ -1,11 +1,12 @@
 -- One pixel put: what each place shows then, and how many places still show a value.
-use Rattle.std.proofs.Common.{zero, suc, ◌≡◌, ◌≢◌, ℕ, ◌+◌, ◌<◌, ◌⊎◌, inl, inr, Bool, true, false, Some, refl, sym, ap, ◌∙◌, arith, ⊎_elim, if◌then◌else◌}
+use Rattle.std.proofs.Common.{zero, suc, ◌≡◌, ◌≢◌, ℕ, ◌+◌, ◌<◌, ◌⊎◌, inl, inr, Bool, true, false, Option, Some, refl, sym, ap, ◌∙◌, arith, ⊎_elim, if◌then◌else◌}
 use Rattle.std.proofs.lemmas.Bool.Decides.{eqb_tells, nat_tests}
 use Rattle.image_model.specs.Layout.{Layout}
 use Rattle.image_model.specs.Grid.{grid_of, patch, uniform}
 use Rattle.image_model.proofs.Patches.{put_pixel, beside_patch}
 use Rattle.image_model.proofs.Reading.{is_a_place}
-use Rattle.image_model.specs.Counts.{is_value, hits, place_hits, places_with}
+use Rattle.std.specs.Option.{option_map_or}
+use Rattle.image_model.specs.Counts.{is_value, hits, place_hits, places_with, places_where}
 
 -- a place shows what it showed, or it is the one that was put and shows the value
 pub put_cases : {T : Type 0} (l : Layout T) (x y : ℕ) (value : T) → x < l.width → y < l.height → (u v : ℕ)
@@ -75,3 +76,15 @@ one_fewer l x y seed value other had =
     let miss : is_value seed ((patch (grid_of l) x y (uniform 1 1 value)).pixel x y) ≡ false = ap (is_value seed) (put_pixel l x y value place.0 place.1) ∙ grind (arith, nat_tests, other) in
     sym (one_place_fewer (λ u v. is_value seed ((grid_of l).pixel u v)) (λ u v. is_value seed ((patch (grid_of l) x y (uniform 1 1 value)).pixel u v)) x y l.width l.height place.0 place.1 hit miss
     (λ u v o. ap (is_value seed) (sym (beside_patch l x y (uniform 1 1 value) u v (grind (arith, o))))))
+
+-- the same of the places that pass a test
+pub one_fewer_where : {T : Type 0} (test : T → Bool) (l : Layout T) (x y : ℕ) (p value : T) → (grid_of l).pixel x y ≡ Some p → test p ≡ true → test value ≡ false
+    → places_where test (patch (grid_of l) x y (uniform 1 1 value)) + 1 ≡ places_where test (grid_of l)
+unfolding grid_of patch uniform places_where
+one_fewer_where {T} test l x y p value had passes fails =
+    let place = is_a_place l x y p had in
+    let shows : Option T → Bool = λ o. option_map_or test o false in
+    let hit : shows ((grid_of l).pixel x y) ≡ true = ap shows had ∙ passes in
+    let miss : shows ((patch (grid_of l) x y (uniform 1 1 value)).pixel x y) ≡ false = ap shows (put_pixel l x y value place.0 place.1) ∙ fails in
+    sym (one_place_fewer (λ u v. shows ((grid_of l).pixel u v)) (λ u v. shows ((patch (grid_of l) x y (uniform 1 1 value)).pixel u v)) x y l.width l.height place.0 place.1 hit miss
+    (λ u v o. ap shows (sym (beside_patch l x y (uniform 1 1 value) u v (grind (arith, o))))))

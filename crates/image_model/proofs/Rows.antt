@@ -68,11 +68,11 @@ some_pixel width height y below = grind (arith, row_count-le)
 
 -- ---- the rows of a grid
 
-filter_map-same : {X : Type 0} (f g : ℕ → Option X) (a n : ℕ) → ((x : ℕ) → x < a + n → f x ≡ g x) → filter_map f (range_with_len a n) ≡ filter_map g (range_with_len a n)
+pub filter_map-same : {X : Type 0} (f g : ℕ → Option X) (a n : ℕ) → ((x : ℕ) → x < a + n → f x ≡ g x) → filter_map f (range_with_len a n) ≡ filter_map g (range_with_len a n)
 filter_map-same f g a zero each = refl
 filter_map-same f g a (suc n) each = grind (arith, filter_map-same f g (a + 1) n)
 
-map-same : {X : Type 0} (f g : ℕ → X) (a n : ℕ) → ((x : ℕ) → x < a + n → f x ≡ g x) → map f (range_with_len a n) ≡ map g (range_with_len a n)
+pub map-same : {X : Type 0} (f g : ℕ → X) (a n : ℕ) → ((x : ℕ) → x < a + n → f x ≡ g x) → map f (range_with_len a n) ≡ map g (range_with_len a n)
 map-same f g a zero each = refl
 map-same f g a (suc n) each = grind (arith, map-same f g (a + 1) n)
 

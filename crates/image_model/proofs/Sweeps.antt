@@ -1,5 +1,5 @@
 -- Loops that write the places one after the other: how far they have come.
-use Rattle.std.proofs.Common.{◌≡◌, ℕ, ◌+◌, ◌-◌, ◌<◌, ◌≤◌, ◌⊎◌, inl, true, false, Option, Some, refl, sym, ap, ◌∙◌, arith, if◌then◌else◌}
+use Rattle.std.proofs.Common.{◌≡◌, ℕ, ◌+◌, ◌-◌, ◌<◌, ◌≤◌, ◌⊎◌, inl, true, false, Option, Some, refl, sym, ap, ◌∙◌, arith, ⊎_elim, if◌then◌else◌}
 use Rattle.std.proofs.lemmas.Bool.{cond-true, cond-false, true≢false}
 use Rattle.std.proofs.lemmas.Bool.Decides.{nat_tests}
 use Rattle.image_model.specs.Layout.{Layout, pixel}
@@ -38,6 +38,10 @@ module _ {T : Type 0} (f : ℕ → ℕ → Option T) where
   unfolding grid_of table_upto
   upto_at x y l k e u v column line =
       ap (λ g. g.pixel u v) e ∙ at_place l.width l.height (λ m n. if is_before x y m n then f m n else (grid_of l).pixel m n) u v column line
+
+  -- an earlier place shows what was written there
+  pub read_before : (x y : ℕ) (l k : Layout T) → grid_of k ≡ table_upto f x y (grid_of l) → (u v : ℕ) → u < l.width → v < l.height → (v < y) ⊎ ((v ≡ y) × (u < x)) → (grid_of k).pixel u v ≡ f u v
+  read_before x y l k e u v column line before = upto_at x y l k e u v column line ∙ cond-true (is_before x y u v) _ _ (⊎_elim (λ b. grind (arith, nat_tests, b)) (λ b. grind (arith, nat_tests, b)) before)
 
   -- an image that has these pixels shows this grid
   pub upto_from_places : (x y : ℕ) (l n : Layout T) → n.width ≡ l.width → n.height ≡ l.height

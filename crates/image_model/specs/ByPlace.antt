@@ -51,6 +51,10 @@ TakesPlacesOf pre width height = (x y : ℕ) → x < width → y < height → pr
 unfoldable pub from_places : {T : Type 0} → ℕ → ℕ → (ℕ → ℕ → T) → Grid T
 from_places width height f = table width height (λ x y. Some (f x y))
 
+-- each place of a size has one of the results for it
+abbrev pub HasResults : {T : Type 0} → (ℕ → ℕ → T → Type 0) → ℕ → ℕ → Layout T → Type 0
+HasResults {T} answers width height new = (x y : ℕ) (q : T) → x < width → y < height → pixel new x y ≡ Some q → answers x y q
+
 -- for every function that gives the results for the places of a size, the grid shows it
 abbrev pub IsFromPlaces : {T : Type 0} → (ℕ → ℕ → T → Type 0) → ℕ → ℕ → Layout T → Type 0
 IsFromPlaces {T} answers width height new = (f : ℕ → ℕ → T) → ((x y : ℕ) (q : T) → x < width → y < height → answers x y q → q ≡ f x y) → grid_of new ≡ from_places width height f

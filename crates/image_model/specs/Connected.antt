@@ -27,7 +27,7 @@ AllFilled x y value old new = (u v : ℕ) → IsConnected old x y u v → new.pi
 -- ---- while they are filled
 
 -- a fill that began in g at column x of row y has come to h: the pending places have to be looked at
-pub record Flooding (g : Grid ℕ) (x y value : ℕ) (h : Grid ℕ) (pending : List (ℕ × ℕ)) : Type 0 where
+pub record Flooding {T : Type 0} (g : Grid T) (x y : ℕ) (value : T) (h : Grid T) (pending : List (ℕ × ℕ)) : Type 0 where
   pub filled : AreFilled x y value g h
   pub connected : (u v : ℕ) → Contains pending (u, v) → g.pixel u v ≡ g.pixel x y → IsConnected g x y u v
   pub waiting : (u v m n : ℕ) → IsConnected g x y u v → h.pixel u v ≡ Some value → Beside u v m n → h.pixel m n ≡ g.pixel x y → Contains pending (m, n)

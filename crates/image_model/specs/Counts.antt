@@ -1,6 +1,7 @@
 -- Counts of the values of pixels: in a table with a number for each value, and of the places that show one value.
 use Rattle.std.specs.Prelude.{ℕ, zero, suc, ◌+◌, ◌==◌, Bool, false, if◌then◌else◌, Option, Some, None, List, map, slice_index}
 use Rattle.std.specs.List.{count_by, range_with_len}
+use Rattle.std.specs.Option.{option_map_or}
 use Rattle.image_model.specs.Grid.{Grid}
 
 -- how many items of a list are v
@@ -35,3 +36,7 @@ place_hits test width (suc n) = place_hits test width n + hits (λ x. test x n) 
 -- how many places of a grid show the value
 unfoldable pub places_with : ℕ → Grid ℕ → ℕ
 places_with value g = place_hits (λ x y. is_value value (g.pixel x y)) g.width g.height
+
+-- how many places of a grid show a pixel that passes a test
+unfoldable pub places_where : {T : Type 0} → (T → Bool) → Grid T → ℕ
+places_where test g = place_hits (λ x y. option_map_or test (g.pixel x y) false) g.width g.height

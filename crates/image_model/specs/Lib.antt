@@ -17,3 +17,6 @@ pub mod Boxes
 pub mod Counts
 pub mod Folds
 pub mod Connected
+pub mod Regions
+pub mod Sums
+pub mod Ranges

@@ -5,3 +5,4 @@ pub mod FedRows
 pub mod ImageValues
 pub mod Writes
 pub mod Made
+pub mod Each

@@ -2,7 +2,7 @@
 use Rattle.std.proofs.Common.{◌≡◌, ℕ, ◌+◌, ◌*◌, ◌-◌, max, List, sym, ap, ◌∙◌, arith}
 use Rattle.std.specs.List.{slice_get}
 use Rattle.image_model.specs.Layout.{Fits, layout}
-use Rattle.image_model.specs.ByPlace.{IsFromPlaces}
+use Rattle.image_model.specs.ByPlace.{HasResults, IsFromPlaces}
 use Rattle.image_model.specs.Compaction.{least_stride}
 use Rattle.image_model.proofs.ByPlace.{is_from_places}
 use Rattle.image_ops.specs.Made.{AreMade}
@@ -20,9 +20,10 @@ module _ {T : Type 0} (answers : ℕ → ℕ → T → Type 0) (width height : �
       let all : stride * k + width ≡ height * width = ap (λ n. n * k + width) s ∙ next ∙ ap (λ n. n * width) up in
       omega (arith, all, so.as_many)
 
+  pub made_results : HasResults answers width height (layout pixels width height stride)
+  made_results x y q column line there = let s : stride ≡ width = omega (arith, is, column) in so.each x y q column line (ap (λ n. slice_get pixels (y * n + x)) (sym s) ∙ there)
+
   pub made_grid : IsFromPlaces answers width height (layout pixels width height stride)
-  made_grid = is_from_places answers (layout pixels width height stride) made_fits (λ x y q column line there.
-      let s : stride ≡ width = omega (arith, is, column) in
-      so.each x y q column line (ap (λ n. slice_get pixels (y * n + x)) (sym s) ∙ there))
+  made_grid = is_from_places answers (layout pixels width height stride) made_fits made_results
 
 pub ruleset made_images = (least_is, made_fits, made_grid)

@@ -8,11 +8,14 @@ pub use Rattle.image_model.specs.Mapped.{mapped}
 pub use Rattle.image_model.specs.Swaps.{rows_swapped}
 pub use Rattle.image_model.specs.Flips.{flipped, flipped_upto}
 pub use Rattle.image_model.specs.Tables.{table, table_upto, is_before}
-pub use Rattle.image_model.specs.ByPlace.{mapped_places, zipped, from_places, scaled}
+pub use Rattle.image_model.specs.ByPlace.{mapped_places, zipped, from_places, scaled, HasResults}
 pub use Rattle.image_model.specs.Boxes.{IsNowhere, IsBoundingBox, sides, sides_upto}
 pub use Rattle.image_model.specs.Folds.{fold_upto}
-pub use Rattle.image_model.specs.Counts.{histogram_of, counted, places_with}
+pub use Rattle.image_model.specs.Counts.{histogram_of, counted, places_with, places_where}
 pub use Rattle.image_model.specs.Connected.{beside, IsConnected, AreFilled, AllFilled, Flooding}
+pub use Rattle.image_model.specs.Regions.{TellsApart, AreRegions}
+pub use Rattle.image_model.specs.Sums.{area_sum, line_sum}
+pub use Rattle.image_model.specs.Ranges.{AreBelow, HoldsOfEach}
 pub use Rattle.image_model.specs.Turns.{columns_swapped, mirrored, transposed, turned_right, turned_half, turned_left}
 pub use Rattle.image_ops.specs.Counting.{Decides, IsCount}
 pub use Rattle.image_ops.specs.Hashing.{fed_by_rows}

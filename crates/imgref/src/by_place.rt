@@ -3,7 +3,7 @@
 
 ghost use Rattle.std.specs.Prelude.{◌≡◌, ◌*◌, ◌^◌, ◌<◌, IsOk, IfOk};
 ghost use Rattle.image_model.specs.Layout.{Fits, SameOutside};
-ghost use Rattle.image_model.specs.ByPlace.{TakesEachPlace, HasPlaceAnswers, IsMappedByPlace, TakesBothPixels, HasZipAnswers, IsZipped, TakesPlacesOf, IsFromPlaces};
+ghost use Rattle.image_model.specs.ByPlace.{TakesEachPlace, HasPlaceAnswers, IsMappedByPlace, TakesBothPixels, HasZipAnswers, IsZipped, TakesPlacesOf, HasResults, IsFromPlaces};
 ghost use Rattle.image_model.specs.Compaction.{least_stride};
 ghost use Rattle.imgref.specs.Image.{width_of, height_of, layout_by, stride_of, OnlyCellsChange, ref_layout, vec_layout};
 
@@ -94,6 +94,7 @@ impl<T> ImgVec<T> {
         requires width_bound { width < 2 ^ 32 }
         requires height_bound { height < 2 ^ 32 }
         requires callable { TakesPlacesOf (F.pre f) width height }
+        ensures answers { IfOk result (λ i. HasResults (F.post f) width height (vec_layout i)) }
         ensures grid { IfOk result (λ i. IsFromPlaces (F.post f) width height (vec_layout i)) }
         ensures width { IfOk result (λ i. width_of i ≡ width) }
         ensures height { IfOk result (λ i. height_of i ≡ height) }

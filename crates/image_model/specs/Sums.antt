@@ -1,0 +1,12 @@
+-- Sums of the pixels of a grid.
+use Rattle.std.specs.Prelude.{ℕ, sum}
+use Rattle.image_model.specs.Grid.{Grid, view}
+use Rattle.image_model.specs.Rows.{grid_pixels}
+
+-- the sum of the pixels of the first columns in the first rows
+unfoldable pub area_sum : Grid ℕ → ℕ → ℕ → ℕ
+area_sum g columns lines = sum (grid_pixels (view g 0 0 columns lines))
+
+-- the sum of the first pixels of row y
+unfoldable pub line_sum : Grid ℕ → ℕ → ℕ → ℕ
+line_sum g columns y = sum (grid_pixels (view g 0 y columns 1))
