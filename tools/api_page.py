@@ -25,7 +25,7 @@ API, INNER = "docs/API.md", "out/INNER.md"
 PAGES = {
     API: (
         "Calls and contracts",
-        ["imgref", "image_tiles", "imgref_replay"],
+        ["imgref", "image_tiles", "image_regions", "imgref_replay"],
         "Every public call for users, with its contract. [CALLERS.md](CALLERS.md) shows how to use them. `make docs` writes this page, and `out/INNER.md` with the calls that users don't need.",
     ),
     INNER: (

@@ -1,5 +1,5 @@
 -- Boxes around the places that show one value: the least window with all of them, and the sides of a box that a loop over places has found so far.
-use Rattle.std.specs.Prelude.{◌≡◌, ◌≢◌, ℕ, ◌+◌, ◌<◌, ◌≤◌, ◌==◌, Bool, false, if◌then◌else◌, min, max, Some}
+use Rattle.std.specs.Prelude.{◌≡◌, ◌≢◌, ℕ, ◌+◌, ◌<◌, ◌≤◌, Bool, false, if◌then◌else◌, min, max, Some}
 use Rattle.std.specs.Option.{option_map_or}
 use Rattle.image_model.specs.Layout.{Layout, pixel}
 use Rattle.image_model.specs.Grid.{Grid}
@@ -38,18 +38,18 @@ pub record Sides : Type 0 where
 abbrev pub sides : ℕ → ℕ → ℕ → ℕ → Sides
 sides left top right bottom = record { left = left; top = top; right = right; bottom = bottom }
 
--- whether a place shows the value
-abbrev pub shows : Layout ℕ → ℕ → ℕ → ℕ → Bool
-shows l value x y = option_map_or (λ p. p == value) (pixel l x y) false
+-- whether a place shows the value, by a test of equality
+abbrev pub shows : {T : Type 0} → (T → T → Bool) → Layout T → T → ℕ → ℕ → Bool
+shows eq l value x y = option_map_or (λ p. eq p value) (pixel l x y) false
 
 -- the sides with a place
 abbrev pub with_place : Sides → ℕ → ℕ → Sides
 with_place s x y = sides (min s.left x) (min s.top y) (max s.right (x + 1)) (max s.bottom (y + 1))
 
 -- the sides of the places with the value before column x of row y; while there is none, the box ends before it begins
-unfoldable pub sides_upto : Layout ℕ → ℕ → ℕ → ℕ → Sides
-sides_upto l value x y = fold_upto (λ s u v. if shows l value u v then with_place s u v else s) (sides l.width l.height 0 0) l.width x y
+unfoldable pub sides_upto : {T : Type 0} → (T → T → Bool) → Layout T → T → ℕ → ℕ → Sides
+sides_upto eq l value x y = fold_upto (λ s u v. if shows eq l value u v then with_place s u v else s) (sides l.width l.height 0 0) l.width x y
 
 -- the sides of all such places
-unfoldable pub sides_of : Layout ℕ → ℕ → Sides
-sides_of l value = sides_upto l value 0 l.height
+unfoldable pub sides_of : {T : Type 0} → (T → T → Bool) → Layout T → T → Sides
+sides_of eq l value = sides_upto eq l value 0 l.height

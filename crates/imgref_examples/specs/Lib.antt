@@ -8,3 +8,4 @@ pub mod Brightness
 pub mod Rows
 pub mod Pixels
 pub mod Scenes
+pub mod Gauss

@@ -2,7 +2,7 @@
 
 ghost use Rattle.std.specs.Prelude.{◌≡◌, nat_lt};
 ghost use Rattle.std.specs.List.{count_by};
-ghost use Rattle.imgref.specs.Words.{Fits, grid_pixels, histogram_of, ref_grid, ref_layout};
+ghost use Rattle.imgref.specs.Words.{Fits, grid_pixels, ref_grid, ref_layout};
 
 use imgref::ImgRef;
 
@@ -12,17 +12,4 @@ pub fn count_above(image: ImgRef<'_, u8>, limit: u8) -> usize
     ensures { result ≡ count_by (λ p. nat_lt limit p) (grid_pixels (ref_grid image.entry)) }
 {
     image.count_where(|p| *p > limit)
-}
-
-/// How many pixels have each value.
-#[tactic(auto, using(image_model::proofs::Counts::counting))]
-pub fn histogram(image: ImgRef<'_, u8>) -> [u64; 256]
-    requires { Fits (ref_layout image) }
-    ensures { result ≡ histogram_of 256 (grid_pixels (ref_grid image.entry)) }
-{
-    let mut counts = [0u64; 256];
-    for pixel in image.pixels() {
-        counts[usize::from(pixel)] += 1;
-    }
-    counts
 }

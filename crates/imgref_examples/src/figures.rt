@@ -3,8 +3,8 @@
 ghost use Rattle.imgref.specs.Words.{Fits, vec_layout};
 
 use crate::{
-    blend, bounding_box, count_above, exchange_and_mirror, fill_disc, halve, histogram, ramp,
-    turn_into_window, turn_lent, turn_right, window_sum,
+    blend, bounding_box, count_above, exchange_and_mirror, fill_disc, gaussian_3x3, halve,
+    histogram, ramp, turn_into_window, turn_lent, turn_right, window_sum,
 };
 use imgref::{Img, ImgRef, ImgVec, Window};
 use std::alloc::{AllocError, Global};
@@ -41,6 +41,8 @@ fn values_are_counted_and_framed(rt: HostRuntime) -> Result<(), Fail> {
     let half = halve(rt.alloc(), image)?;
     assert!(rt; half.width() == 2 && half.height() == 1);
     assert!(rt; half.into_buf().as_slice() == [6u8, 66].as_slice());
+    let smooth = gaussian_3x3(rt.alloc(), Img::new([0u8, 0, 64, 0, 0].as_slice(), 5, 1))?;
+    assert!(rt; smooth.into_buf().as_slice() == [0u8, 16, 32, 16, 0].as_slice());
     Ok(())
 }
 

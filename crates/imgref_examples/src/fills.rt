@@ -1,6 +1,6 @@
-//! What scaled images, sprites with masks and flood fills leave, by values worked out by hand.
+//! What scaled images and sprites with masks leave, by values worked out by hand.
 
-use crate::{blend_masked, flood_fill, half_ramp, resize_nearest};
+use crate::{blend_masked, half_ramp, resize_nearest};
 use imgref::{Img, ImgRefMut, ImgVec};
 use std::test::Fail;
 
@@ -34,44 +34,5 @@ fn a_mask_shows_parts_of_a_sprite(rt: HostRuntime) -> Result<(), Fail> {
     assert!(rt; sprite.is_valid() && mask.is_valid() && image.is_valid());
     blend_masked(&mut image, sprite, mask, 1, 1);
     assert!(rt; image.buf().as_slice() == [50u8, 50, 50, 50, 50, 100, 80, 50].as_slice());
-    Ok(())
-}
-
-// Five by four, with a cell of padding after each row but the last: a ring of ones around a hole.
-const RING: [u8; 23] = [
-    1, 1, 1, 0, 1, 1, 1, 0, 1, 0, 0, 1, 1, 1, 1, 1, 0, 1, 0, 0, 1, 0, 0,
-];
-
-#[test]
-fn a_fill_goes_to_what_is_connected(rt: HostRuntime) -> Result<(), Fail> {
-    let mut image: ImgVec<u8> = Img::new_stride(RING.to_vec(rt.alloc())?, 5, 4, 6);
-    assert!(rt; image.is_valid());
-    flood_fill(rt.alloc(), &mut image, 2, 2, 7)?;
-    assert!(rt;
-        image.buf().as_slice()
-            == [
-                7u8, 7, 7, 0, 1, 1, 7, 0, 7, 0, 0, 1, 7, 7, 7, 7, 0, 1, 0, 0, 7, 0, 0
-            ]
-            .as_slice()
-    );
-    assert!(rt; image.is_valid());
-    flood_fill(rt.alloc(), &mut image, 1, 1, 0)?;
-    flood_fill(rt.alloc(), &mut image, 4, 0, 1)?;
-    assert!(rt;
-        image.buf().as_slice()
-            == [
-                7u8, 7, 7, 0, 1, 1, 7, 0, 7, 0, 0, 1, 7, 7, 7, 7, 0, 1, 0, 0, 7, 0, 0
-            ]
-            .as_slice()
-    );
-    assert!(rt; image.is_valid());
-    flood_fill(rt.alloc(), &mut image, 4, 3, 9)?;
-    assert!(rt;
-        image.buf().as_slice()
-            == [
-                7u8, 7, 7, 9, 1, 1, 7, 0, 7, 9, 9, 1, 7, 7, 7, 7, 9, 1, 0, 0, 7, 9, 9
-            ]
-            .as_slice()
-    );
     Ok(())
 }

@@ -1,5 +1,5 @@
 //! Frames of video: code as a user of `imgref` writes it, with contracts by the grid. Sums,
-//! brightness, crops, blurs, rectangles, luma planes, scaled images, sprites with masks, flood fills,
+//! brightness, crops, blurs, rectangles, luma planes, scaled images, sprites with masks,
 //! and drawings by places. docs/CALLERS.md explains them.
 //!
 //! Other callers show what a contract says to another crate. They write through nested windows, and
@@ -11,7 +11,6 @@ mod beside;
 mod blits;
 mod blur;
 mod border;
-mod boxes;
 mod brightness;
 mod conditions;
 mod counts;
@@ -21,7 +20,7 @@ mod drawing;
 mod figures;
 #[cfg(test)]
 mod fills;
-mod floods;
+mod gauss;
 mod halves;
 mod hashes;
 mod kinds;
@@ -50,7 +49,6 @@ pub use beside::put_above_fill;
 pub use blits::{copy_across, copy_but_one, copy_over_cells, scroll_up};
 pub use blur::box_blur_3x3;
 pub use border::draw_border;
-pub use boxes::bounding_box;
 pub use brightness::{brighten, brighten_places, brighten_rows};
 pub use conditions::{
     add_same_size, cells_of_last_columns, clear_start_of_last_row, column_bound,
@@ -58,12 +56,13 @@ pub use conditions::{
     padding_of_first_row, pixels_if_it_fits, second_row_far_behind, start_of_last_row,
     transpose_a_square, transpose_three_columns, turn_by_a_half, widest,
 };
-pub use counts::{count_above, histogram};
+pub use counts::count_above;
 pub use crop::{crop_copy, crop_packed};
 pub use drawing::{dot, put_then_get, stripes, three_by_index, three_places};
-pub use floods::flood_fill;
+pub use gauss::gaussian_3x3;
 pub use halves::halve;
 pub use hashes::have_one_hash;
+pub use image_regions::{bounding_box, flood_fill, histogram};
 pub use kinds::{
     draw_any, draw_lent, flip_any, pixel_of_any, pixel_of_ref, pixel_of_vec, put_and_read,
 };

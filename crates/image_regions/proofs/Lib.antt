@@ -1,0 +1,4 @@
+mod LevelTables
+mod Pending
+mod SumsAbove
+mod Zeros

@@ -1,0 +1,71 @@
+//! How often each value occurs.
+
+ghost use Rattle.std.specs.Prelude.{◌≡◌, ◌≤◌, ◌^◌, IfOk, length, replicate};
+ghost use Rattle.imgref.specs.Words.{Fits, grid_pixels, histogram_of, ref_grid, ref_layout};
+
+use imgref::ImgRef;
+use std::alloc::{AllocError, Global};
+
+/// How many pixels have each value: item `v` of the result counts the pixels that are `v`.
+///
+/// # Requires
+///
+/// The image fits: `is_valid`.
+#[tactic(auto, using(image_model::proofs::Counts::counting))]
+pub fn histogram(image: ImgRef<'_, u8>) -> [u64; 256]
+    requires { Fits (ref_layout image) }
+    ensures { result ≡ histogram_of 256 (grid_pixels (ref_grid image.entry)) }
+{
+    let mut counts = [0u64; 256];
+    for pixel in image.pixels() {
+        counts[usize::from(pixel)] += 1;
+    }
+    counts
+}
+
+// The same of words, for so many values, in a table of zeros.
+#[tactic(auto, using(image_model::proofs::Counts::counting))]
+fn count_words(image: ImgRef<'_, u16>, counts: &mut [u64], values: usize)
+    requires fits { Fits (ref_layout image) }
+    requires all { 2 ^ 16 ≤ values }
+    requires size { length counts.old ≡ values }
+    requires zeros { counts.old ≡ replicate values 0 }
+    ensures { counts.new ≡ histogram_of values (grid_pixels (ref_grid image.entry)) }
+{
+    for word in image.pixels() {
+        counts[usize::from(word)] += 1;
+    }
+}
+
+// The same in a table of its own.
+fn table_of_words(
+    alloc: Global,
+    image: ImgRef<'_, u16>,
+    values: usize,
+) -> Result<Vec<u64>, AllocError>
+    requires fits { Fits (ref_layout image) }
+    requires all { 2 ^ 16 ≤ values }
+    ensures { IfOk result
+        (λ v. v.items ≡ histogram_of values (grid_pixels (ref_grid image.entry))) }
+{
+    let mut counts = vec![in alloc; 0u64; values]?;
+    count_words(image, counts.as_mut_slice(), values);
+    Ok(counts)
+}
+
+/// The same of words: 65536 counts.
+///
+/// # Requires
+///
+/// The image fits: `is_valid`.
+///
+/// # Errors
+///
+/// Out of memory.
+pub fn histogram_u16(alloc: Global, image: ImgRef<'_, u16>) -> Result<Vec<u64>, AllocError>
+    requires { Fits (ref_layout image) }
+    ensures { IfOk result
+        (λ v. v.items ≡ histogram_of (2 ^ 16) (grid_pixels (ref_grid image.entry))) }
+{
+    table_of_words(alloc, image, 1 << 16)
+}

@@ -1,0 +1,24 @@
+//! Values, sums and regions of images: histograms, equalization, summed areas, flood fills, and
+//! labels of connected regions with their boxes and their sizes. Each call takes time in proportion
+//! to the pixels. Memory is allocated by the calls that take `alloc`, and where there is none they
+//! return `AllocError`.
+//!
+//! Two places are connected if a path leads from one to the other over sides, and all its places
+//! show equal pixels.
+#![tactic(auto)]
+
+mod areas;
+mod boxes;
+mod counting;
+mod equalizing;
+mod floods;
+mod labels;
+#[cfg(test)]
+mod tests;
+
+pub use areas::{integral, sums_fit};
+pub use boxes::{area, bounding_box};
+pub use counting::{histogram, histogram_u16};
+pub use equalizing::equalize;
+pub use floods::flood_fill;
+pub use labels::{Regions, components};
