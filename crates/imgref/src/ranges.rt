@@ -55,7 +55,11 @@ pub fn bound_u8(image: ImgRef<'_, u8>)
     requires { Fits (ref_layout image) }
     ensures { AreBelow (2 ^ 8) (ref_grid image.entry) }
 {
-    image.each_pixel(|_pixel| ensures { _pixel < 2 ^ 8 } {});
+    image.each_pixel(
+        |_pixel|
+            ensures { _pixel < 2 ^ 8 }
+        {},
+    );
 }
 
 /// The same for pixels of two bytes: each is below 65536.
@@ -68,7 +72,11 @@ pub fn bound_u16(image: ImgRef<'_, u16>)
     requires { Fits (ref_layout image) }
     ensures { AreBelow (2 ^ 16) (ref_grid image.entry) }
 {
-    image.each_pixel(|_pixel| ensures { _pixel < 2 ^ 16 } {});
+    image.each_pixel(
+        |_pixel|
+            ensures { _pixel < 2 ^ 16 }
+        {},
+    );
 }
 
 /// The same for pixels of four bytes: each is below 2^32.
@@ -81,7 +89,11 @@ pub fn bound_u32(image: ImgRef<'_, u32>)
     requires { Fits (ref_layout image) }
     ensures { AreBelow (2 ^ 32) (ref_grid image.entry) }
 {
-    image.each_pixel(|_pixel| ensures { _pixel < 2 ^ 32 } {});
+    image.each_pixel(
+        |_pixel|
+            ensures { _pixel < 2 ^ 32 }
+        {},
+    );
 }
 
 /// The same for pixels of eight bytes: each is below 2^64.
@@ -94,5 +106,9 @@ pub fn bound_u64(image: ImgRef<'_, u64>)
     requires { Fits (ref_layout image) }
     ensures { AreBelow (2 ^ 64) (ref_grid image.entry) }
 {
-    image.each_pixel(|_pixel| ensures { _pixel < 2 ^ 64 } {});
+    image.each_pixel(
+        |_pixel|
+            ensures { _pixel < 2 ^ 64 }
+        {},
+    );
 }
