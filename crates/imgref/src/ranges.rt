@@ -44,8 +44,8 @@ where
     }
 }
 
-/// Lets a proof know that each pixel is below 256. The compiler leaves out the loop, so that it
-/// takes no time. (The original crate has no such call.)
+/// Lets a proof know that each pixel is below 256. Its loop over the pixels does nothing, so the
+/// compiler may leave it out: no clause says so. (The original crate has no such call.)
 ///
 /// # Requires
 ///
