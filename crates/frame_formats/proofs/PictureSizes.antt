@@ -7,10 +7,11 @@ use Rattle.image_planes.specs.Resized.{Resizing, is_resizing}
 use Rattle.image_planes.specs.declared.change.Step.{Step}
 use Rattle.image_planes.specs.declared.target.Resize.{Resize}
 use Rattle.frame_formats.specs.Layers.{picture_layers, jobs_on, resizing_on, resizings_on}
-use Rattle.frame_formats.specs.Steps.{all_some, pixel_size}
+use Rattle.frame_formats.specs.Steps.{all_some}
+use Rattle.frame_heads.specs.Pixels.{pixel_size}
 use Rattle.frame_formats.specs.declared.layers.Layer.TheVariants.{Pixels}
-use Rattle.frame_formats.specs.declared.steps.Pixel.{Pixel}
-use Rattle.frame_formats.specs.declared.steps.Paint.{Paint}
+use Rattle.frame_heads.specs.declared.pixel.Pixel.{Pixel}
+use Rattle.frame_edits.specs.declared.paint.Paint.{Paint}
 use Rattle.frame_formats.proofs.Sizes.{job_size, target_size}
 
 -- what is known of a plane's size

@@ -4,10 +4,11 @@ use Rattle.image_planes.specs.Changes.{Job, job_for}
 use Rattle.image_planes.specs.declared.change.Step.{Step}
 use Rattle.text_model.specs.Reading.{◌>>=◌}
 use Rattle.frame_formats.specs.Layers.{StartsOn, change_on, job_on, layer_height, layer_width}
-use Rattle.frame_formats.specs.Steps.{StartsWell, all_some, pixel_size, step_by}
+use Rattle.frame_formats.specs.Steps.{StartsWell, all_some, step_by}
+use Rattle.frame_heads.specs.Pixels.{pixel_size}
 use Rattle.frame_formats.specs.declared.layers.Layer.{Layer}
-use Rattle.frame_formats.specs.declared.steps.Paint.{Paint}
-use Rattle.frame_formats.specs.declared.steps.Pixel.{Pixel}
+use Rattle.frame_edits.specs.declared.paint.Paint.{Paint}
+use Rattle.frame_heads.specs.declared.pixel.Pixel.{Pixel}
 use Rattle.frame_formats.proofs.StepsEach.{starts_made}
 
 -- this plane is the first, or comes after it

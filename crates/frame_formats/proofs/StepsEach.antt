@@ -5,15 +5,16 @@ use Rattle.std.proofs.lemmas.List.{append-nil, at_drop_more, at_drop_all}
 use Rattle.text_model.specs.Reading.{◌>>=◌}
 use Rattle.image_planes.specs.declared.change.Change.{Change}
 use Rattle.image_planes.specs.declared.change.Step.{Step}
-use Rattle.frame_formats.specs.Covers.{frames_for, settled_by, step_in}
+use Rattle.frame_edits.specs.Covers.{frames_for, settled_by}
+use Rattle.frame_formats.specs.Steps.{step_in}
 use Rattle.frame_formats.specs.Plan.{Tells}
 use Rattle.frame_formats.specs.Steps.{StartsWell, all_some, first_made, step_by}
-use Rattle.frame_formats.specs.declared.covers.Unit.{Unit}
+use Rattle.frame_edits.specs.declared.covers.Unit.{Unit}
 use Rattle.frame_formats.specs.declared.plans.PlanFault.{PlanFault}
 use Rattle.frame_formats.specs.declared.plans.PlanFault.TheVariants.{Outside, Memory}
-use Rattle.frame_formats.specs.declared.ranges.Rate.{Rate}
-use Rattle.frame_formats.specs.declared.steps.Paint.{Paint}
-use Rattle.frame_formats.specs.declared.words.Edit.{Edit}
+use Rattle.frame_heads.specs.declared.rate.Rate.{Rate}
+use Rattle.frame_edits.specs.declared.paint.Paint.{Paint}
+use Rattle.frame_edits.specs.declared.words.Edit.{Edit}
 
 -- what is made, after what was made before
 abbrev pub with_front : {B : Type 0} → List B → Option (List B) → Option (List B)

@@ -8,17 +8,16 @@ use Rattle.image_planes.specs.Changes.{Job}
 use Rattle.image_planes.specs.Resized.{Resizing, is_resizing, new_width, new_height}
 use Rattle.image_planes.specs.declared.target.Resize.{Resize}
 use Rattle.image_planes.specs.declared.target.Resize.TheVariants.{Crop, Pad, Turn}
-use Rattle.frame_formats.specs.Format.{resize_for}
+use Rattle.frame_formats.specs.Framings.{resize_for}
 use Rattle.frame_formats.specs.Layers.{picture_pixel, picture_layers, resizings_on}
-use Rattle.frame_formats.specs.Steps.{pixel_size}
-use Rattle.frame_formats.specs.Heads.{head_text}
-use Rattle.frame_formats.specs.Picture.{picture_of, is_greatest}
-use Rattle.frame_formats.specs.Edits.{Edits}
-use Rattle.frame_formats.specs.Recipe.{Recipe, recipe, finished_picture, picture_recipe, resized_picture}
+use Rattle.frame_heads.specs.Pixels.{pixel_size}
+use Rattle.frame_heads.specs.Heads.{head_text, ReadsBack}
+use Rattle.frame_heads.specs.Picture.{picture_of, is_greatest}
+use Rattle.frame_edits.specs.Edits.{Edits}
+use Rattle.frame_formats.specs.Recipe.{HeadsAreRead, Recipe, recipe, finished_picture, picture_recipe, resized_picture}
 use Rattle.frame_formats.proofs.PictureSizes.{picture_size, picture_resized}
-use Rattle.frame_formats.proofs.HeadTexts.{reads_back}
-use Rattle.frame_formats.specs.declared.framing.Framing.{Framing}
-use Rattle.frame_formats.specs.declared.picture.Picture.{Picture}
+use Rattle.frame_edits.specs.declared.framing.Framing.{Framing}
+use Rattle.frame_heads.specs.declared.picture.Picture.{Picture}
 
 -- numbers for which the test holds are one
 same_number : (a b : ℕ) → eqb a b ≡ true → a ≡ b
@@ -49,11 +48,11 @@ with_rows : (b : Bool) (o : Option Recipe) (r : Recipe) → cond b None o ≡ So
 with_rows true o r e = absurd cc
 with_rows false o r e = (refl, e)
 
-finished_head : (p : Picture) (jobs : List Job) (f : Option Framing) (r : Recipe) → 0 < p.width → p.width < 2 ^ 32 → 0 < p.height → p.height < 2 ^ 32 → is_greatest p.greatest ≡ true → finished_picture p jobs f ≡ Some r → HasHead r
-finished_head p jobs None r columns width_bound rows height_bound great made =
+finished_head : ReadsBack → (p : Picture) (jobs : List Job) (f : Option Framing) (r : Recipe) → 0 < p.width → p.width < 2 ^ 32 → 0 < p.height → p.height < 2 ^ 32 → is_greatest p.greatest ≡ true → finished_picture p jobs f ≡ Some r → HasHead r
+finished_head back p jobs None r columns width_bound rows height_bound great made =
     let same : recipe (head_text p) jobs None ≡ r = cc in
-    (p, ap (λ (x : Recipe). picture_of x.head) (sym same) ∙ reads_back p columns width_bound rows height_bound great)
-finished_head p jobs (Some framing) r columns width_bound rows height_bound great made =
+    (p, ap (λ (x : Recipe). picture_of x.head) (sym same) ∙ back p columns width_bound rows height_bound great)
+finished_head back p jobs (Some framing) r columns width_bound rows height_bound great made =
     let step = bind_some (resize_for true (picture_pixel p) p.width p.height framing) (λ resize. cond (eqb (new_height resize) 0) None (option_map (resized_recipe p jobs resize) (resizings_on (picture_pixel p) picture_layers p.width p.height resize))) r made in
     let resize : Resize = step.0 in
     let left = with_rows (eqb (new_height resize) 0) (option_map (resized_recipe p jobs resize) (resizings_on (picture_pixel p) picture_layers p.width p.height resize)) r step.2 in
@@ -61,7 +60,7 @@ finished_head p jobs (Some framing) r columns width_bound rows height_bound grea
     let found = map_some (resizings_on (picture_pixel p) picture_layers p.width p.height resize) (resized_recipe p jobs resize) r left.1 in
     let size = new_size (pixel_size (picture_pixel p)) p.width p.height resize (picture_resized (picture_pixel p) p.width p.height resize found.0 found.1) in
     let q : Picture = resized_picture p (new_width resize) (new_height resize) in
-    (q, ap (λ (x : Recipe). picture_of x.head) (sym found.2) ∙ reads_back q size.0 size.1 some size.2 great)
+    (q, ap (λ (x : Recipe). picture_of x.head) (sym found.2) ∙ back q size.0 size.1 some size.2 great)
 
-pub heads_are_read : (e : Edits) (p : Picture) (r : Recipe) → 0 < p.height → is_greatest p.greatest ≡ true → picture_recipe e p ≡ Some r → HasHead r
-heads_are_read e p r rows great made = grind (arith, bind_some, picture_size, finished_head)
+pub heads_are_read : ReadsBack → HeadsAreRead
+heads_are_read back e p r rows great made = grind (arith, bind_some, picture_size, finished_head, back)

@@ -9,19 +9,21 @@ use Rattle.image_planes.specs.declared.change.Step.{Step}
 use Rattle.image_planes.specs.declared.target.Resize.{Resize}
 use Rattle.image_planes.specs.declared.target.Resize.TheVariants.{Crop, Pad, Turn}
 use Rattle.text_model.specs.Reading.{◌>>=◌}
-use Rattle.frame_formats.specs.Format.{samples, change_under, resize_under}
-use Rattle.frame_formats.specs.Steps.{StartsWell, all_some, step_by, change_in, opaque, pixel_size}
-use Rattle.frame_formats.specs.declared.header.Chroma.{Chroma}
-use Rattle.frame_formats.specs.declared.header.Chroma.TheVariants.{Mono, Small, Wide, Quarter, Whole, WholeAlpha}
-use Rattle.frame_formats.specs.Pam.{tuple}
-use Rattle.frame_formats.specs.declared.pam.Tuples.{Tuples}
-use Rattle.frame_formats.specs.declared.picture.Kind.{Kind}
-use Rattle.frame_formats.specs.declared.picture.Kind.TheVariants.{Plain, Pam}
-use Rattle.frame_formats.specs.declared.picture.Picture.{Picture}
+use Rattle.frame_formats.specs.Sampling.{samples, change_under}
+use Rattle.frame_formats.specs.Framings.{resize_under}
+use Rattle.frame_formats.specs.Steps.{StartsWell, all_some, step_by, change_in, opaque}
+use Rattle.frame_heads.specs.Pixels.{pixel_size}
+use Rattle.frame_heads.specs.declared.header.Chroma.{Chroma}
+use Rattle.frame_heads.specs.declared.header.Chroma.TheVariants.{Mono, Small, Wide, Quarter, Whole, WholeAlpha}
+use Rattle.frame_heads.specs.Pam.{tuple}
+use Rattle.frame_heads.specs.declared.pam.Tuples.{Tuples}
+use Rattle.frame_heads.specs.declared.picture.Kind.{Kind}
+use Rattle.frame_heads.specs.declared.picture.Kind.TheVariants.{Plain, Pam}
+use Rattle.frame_heads.specs.declared.picture.Picture.{Picture}
 use Rattle.frame_formats.specs.declared.layers.Layer.{Layer}
 use Rattle.frame_formats.specs.declared.layers.Layer.TheVariants.{Pixels, Samples, Alpha}
-use Rattle.frame_formats.specs.declared.steps.Pixel.{Pixel}
-use Rattle.frame_formats.specs.declared.steps.Paint.{Paint}
+use Rattle.frame_heads.specs.declared.pixel.Pixel.{Pixel}
+use Rattle.frame_edits.specs.declared.paint.Paint.{Paint}
 
 abbrev pub kind_tuple : Kind → Tuples
 kind_tuple (Plain colour) = tuple colour false

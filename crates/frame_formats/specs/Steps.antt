@@ -1,16 +1,19 @@
 -- What is done to the pixels of frames, as what is done to each plane.
-use Rattle.std.specs.Prelude.{◌≢◌, ◌<◌, ℕ, length, ◌+◌, ◌*◌, ◌/◌, ◌%◌, ◌&&◌, false, nat_lt, nat_le, if◌then◌else◌, List, [], ◌∷◌, ◌++◌, Option, Some, None, take, replicate}
+use Rattle.std.specs.Prelude.{◌≢◌, ◌<◌, ℕ, length, ◌+◌, ◌/◌, ◌%◌, ◌&&◌, nat_lt, nat_le, if◌then◌else◌, List, [], ◌∷◌, ◌++◌, Option, Some, None, take, replicate}
 use Rattle.std.specs.List.{flat_map}
 use Rattle.std.specs.Option.{option_map}
+use Rattle.text_model.specs.Reading.{◌>>=◌}
 use Rattle.image_planes.specs.Samples.{SampleBytes, One, LowFirst, HighFirst}
 use Rattle.image_planes.specs.declared.change.Change.{Change}
 use Rattle.image_planes.specs.declared.change.Change.TheVariants.{Fill, Mosaic, Mean, Blur, Move, Flip}
 use Rattle.image_planes.specs.declared.change.Step.{Step}
-use Rattle.text_model.specs.Reading.{◌>>=◌}
-use Rattle.frame_formats.specs.Pam.{tuple, tuple_depth}
-use Rattle.frame_formats.specs.declared.steps.Pixel.{Pixel}
-use Rattle.frame_formats.specs.declared.steps.Paint.{Paint}
-use Rattle.frame_formats.specs.declared.steps.Paint.TheVariants.{Grey, Black, Colour, Around}
+use Rattle.frame_heads.specs.declared.pixel.Pixel.{Pixel}
+use Rattle.frame_edits.specs.declared.paint.Paint.{Paint}
+use Rattle.frame_edits.specs.declared.paint.Paint.TheVariants.{Grey, Black, Colour, Around}
+use Rattle.frame_heads.specs.declared.rate.Rate.{Rate}
+use Rattle.frame_edits.specs.declared.words.Edit.{Edit}
+use Rattle.frame_edits.specs.declared.covers.Unit.{Unit as Samples}
+use Rattle.frame_edits.specs.Covers.{settled_by, frames_for}
 
 -- what each item becomes, where each becomes something
 unfoldable pub all_some : {A B : Type 0} → (A → Option B) → List A → Option (List B)
@@ -32,14 +35,6 @@ StartsWell f xs = 0 < length xs → first_made f xs ≢ None
 -- a step of the same frames, by what its change becomes
 abbrev pub step_by : {V W : Type 0} → (Change V → Option (Change W)) → Step V → Option (Step W)
 step_by become s = option_map (λ change. record { first = s.first; end = s.end; change = change }) (become s.change)
-
--- a sample of a video: the low byte comes first where it has two
-abbrev pub video_pixel : ℕ → Pixel
-video_pixel greatest = record { tuples = tuple false false; greatest = greatest; high_first = false }
-
--- how many bytes a pixel has: one for each sample, or two where a value may be above 255
-abbrev pub pixel_size : Pixel → ℕ
-pixel_size p = if nat_lt p.greatest 256 then tuple_depth p.tuples else 2 * tuple_depth p.tuples
 
 -- which bytes a sample has
 abbrev pub bytes_of : Pixel → SampleBytes
@@ -99,3 +94,7 @@ change_in pixel (Mean w tile_width tile_height bytes) = Some (Mean w tile_width 
 change_in pixel (Blur w across down bytes) = Some (Blur w across down (bytes_of pixel))
 change_in pixel (Move w left top) = Some (Move w left top)
 change_in pixel (Flip axes) = Some (Flip axes)
+
+-- an edit as a step of a frame of this size, where it has frames
+abbrev pub step_in : Samples → Option Rate → ℕ → ℕ → Edit → Option (Step Paint)
+step_in s rate width height e = option_map (λ span. record { first = span.0; end = span.1; change = settled_by e.scope s width height e.change }) (frames_for s rate e)

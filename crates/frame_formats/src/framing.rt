@@ -1,27 +1,12 @@
-//! The change of the size of frames.
+//! The change of the size of frames, as that of a plane of pixels.
 
 ghost use Rattle.std.specs.Prelude.{◌≡◌};
-ghost use Rattle.frame_formats.specs.Format.{padded_size, resize_for};
+ghost use Rattle.frame_formats.specs.Framings.{padded_size, resize_for};
 
-use crate::steps::{Pixel, grey_of};
-use image_planes::{Quarter, Resize, Window};
-
-/// The change of the size of frames, in pixels.
-#[derive(Clone, Copy, PartialEq, Eq)]
-pub enum Framing {
-    /// Only the window is kept.
-    Crop(Window),
-    /// The frame gets a border of so many columns and rows, of one brightness and without colour.
-    Pad {
-        left: usize,
-        top: usize,
-        right: usize,
-        bottom: usize,
-        value: usize,
-    },
-    /// The frame is turned by a quarter.
-    Turn(Quarter),
-}
+use crate::steps::grey_of;
+use frame_edits::Framing;
+use frame_heads::Pixel;
+use image_planes::Resize;
 
 // How many pixels there are with those before and after.
 fn padded_size(before: usize, pixels: usize, behind: usize) -> Option<usize>
@@ -34,7 +19,7 @@ fn padded_size(before: usize, pixels: usize, behind: usize) -> Option<usize>
 /// The change of the size of a plane of pixels, for a frame of this size. `None` where its new size
 /// is too large, or its pixels lack the value. A quarter turn needs rows that can be columns
 /// (`upright`).
-#[tactic(auto, unfolding(crate::specs::Format::resize_for))]
+#[tactic(auto, unfolding(crate::specs::Framings::resize_for))]
 pub(crate) fn resize_of(
     upright: bool,
     pixel: Pixel,

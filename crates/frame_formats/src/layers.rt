@@ -9,12 +9,11 @@ ghost use Rattle.frame_formats.specs.Layers.{StandsForPixels, picture_pixel, pic
 ghost use Rattle.frame_formats.specs.Plan.{Tells};
 ghost use Rattle.frame_formats.specs.Steps.{StartsWell, first_made, step_by};
 
-use crate::header::Chroma;
-use crate::pam::Tuples;
-use crate::picture::{Kind, Picture};
 use crate::plans::PlanFault;
 use crate::samples::{change_of_samples, count_samples, resize_of_samples};
-use crate::steps::{Paint, Pixel, change_in, opaque};
+use crate::steps::{change_in, opaque};
+use frame_edits::Paint;
+use frame_heads::{Chroma, Kind, Picture, Pixel, Tuples};
 use image_planes::{Change, Plane, Resize, Step, Target, Value};
 use std::alloc::Global;
 

@@ -1,26 +1,22 @@
 //! The changes of each frame of a video, or of a picture.
 
-ghost use Rattle.std.specs.Prelude.{◌≡◌, ◌≤◌, ◌⊎◌, ◌^◌, ℕ, true, false, Some, None, IfOk, IfErr, length, map, max, take, if◌then◌else◌};
+ghost use Rattle.std.specs.Prelude.{◌≡◌, ◌≤◌, ◌⊎◌, ◌^◌, true, false, Some, None, IfOk, IfErr, length, map, take};
 ghost use Rattle.image_planes.specs.Changes.{as_usize, jobs_len};
 ghost use Rattle.image_planes.specs.Planes.{job_of};
 ghost use Rattle.image_planes.specs.Scratch.{scratch_len, room_len, HasRoom, KeepsRoom};
-ghost use Rattle.frame_formats.specs.Format.{format_of};
+ghost use Rattle.frame_heads.specs.Format.{format_of};
 ghost use Rattle.frame_formats.specs.Plan.{Tells};
-ghost use Rattle.frame_formats.specs.Covers.{one_pixel, step_in, video_unit};
-ghost use Rattle.frame_formats.specs.Edits.{edits};
-ghost use Rattle.frame_formats.specs.Ranges.{rate_of};
-ghost use Rattle.frame_formats.specs.Steps.{StartsWell};
+ghost use Rattle.frame_edits.specs.Covers.{one_pixel, video_unit};
+ghost use Rattle.frame_formats.specs.Steps.{step_in, StartsWell};
+ghost use Rattle.frame_edits.specs.Edits.{edits};
+ghost use Rattle.frame_heads.specs.Rates.{rate_of};
 ghost use Rattle.frame_formats.specs.Recipe.{recipe, video_recipe, picture_recipe, new_len, resized_len, resizings_of};
 
-use crate::covers::{Unit, settle_all, unit_of_video};
-use crate::framing::{Framing, resize_of};
-use crate::header::Format;
-use crate::heads::picture_head;
+use crate::framing::resize_of;
 use crate::layers::{picture_layers, picture_pixel, planes_of, targets_of, video_layers};
-use crate::line::{ended_line, resized_line};
-use crate::picture::Picture;
-use crate::ranges::read_rate;
-use crate::words::Edit;
+use crate::settling::settle_all;
+use frame_edits::{Edit, Framing, Unit, unit_of_video};
+use frame_heads::{Format, Picture, ended_line, picture_head, read_rate, resized_line};
 use image_planes::{
     Plane, Scratch, Target, change_planes, planes_len, resize_planes, scratch_len, targets_len,
 };

@@ -1,9 +1,11 @@
 //! Numbers, windows and changes of pixels as those of chroma samples.
 
 ghost use Rattle.std.specs.Prelude.{◌≡◌, ◌<◌};
-ghost use Rattle.frame_formats.specs.Format.{samples, ends_on_sample, window_under, exact_samples, at_corner, change_under, resize_under};
+ghost use Rattle.frame_formats.specs.Sampling.{samples, ends_on_sample, window_under, exact_samples, change_under};
+ghost use Rattle.frame_formats.specs.Framings.{resize_under};
 
-use crate::steps::{Pixel, no_colour};
+use crate::steps::no_colour;
+use frame_heads::Pixel;
 use image_planes::{Change, Resize, Value, Window};
 
 // The number of samples for so many pixels, where it is a whole one.
@@ -38,7 +40,7 @@ fn ends_on_sample(step: usize, pixels: usize, start: usize, count: usize) -> boo
 }
 
 // The window of samples under one of a frame of so many pixels.
-#[tactic(auto, unfolding(crate::specs::Format::window_under))]
+#[tactic(auto, unfolding(crate::specs::Sampling::window_under))]
 fn window_of_samples(
     x: usize,
     y: usize,
@@ -64,7 +66,7 @@ fn window_of_samples(
 }
 
 // The change of chroma samples under a change of pixels.
-#[tactic(auto, unfolding(crate::specs::Format::change_under))]
+#[tactic(auto, unfolding(crate::specs::Sampling::change_under))]
 pub(crate) fn change_of_samples(
     pixel: Pixel,
     x: usize,
@@ -128,7 +130,7 @@ pub(crate) fn change_of_samples(
 }
 
 // What becomes of a plane of chroma samples.
-#[tactic(auto, unfolding(crate::specs::Format::resize_under))]
+#[tactic(auto, unfolding(crate::specs::Framings::resize_under))]
 pub(crate) fn resize_of_samples(
     pixel: Pixel,
     x: usize,

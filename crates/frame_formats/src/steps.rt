@@ -1,72 +1,11 @@
-//! Changes of the pixels of frames, and what they are on each plane.
+//! What changes of pixels are on the plane of a kind of pixel.
 
 ghost use Rattle.std.specs.Prelude.{◌≡◌, ◌∷◌, ◌<◌, ◌%◌, ◌/◌, []};
-ghost use Rattle.frame_formats.specs.Steps.{video_pixel, bytes_of, pixel_size, pixel_bytes, black, grey_of, colour_of, no_colour, opaque, value_in, change_in};
+ghost use Rattle.frame_formats.specs.Steps.{bytes_of, pixel_bytes, black, grey_of, colour_of, no_colour, opaque, value_in, change_in};
 
-use crate::pam::Tuples;
+use frame_edits::Paint;
+use frame_heads::Pixel;
 use image_planes::{Change, SampleBytes, Value};
-
-/// The value that pixels get. Its numbers are in units of the samples.
-#[derive(Clone, Copy, PartialEq, Eq)]
-pub enum Paint {
-    /// This brightness and no colour. Where pixels may be transparent, each value is opaque.
-    Grey(usize),
-    /// A sixteenth of the values of a sample: 16 of 256, which is black in a video. And no colour.
-    Black,
-    /// A colour, for pixels of three samples.
-    Colour {
-        red: usize,
-        green: usize,
-        blue: usize,
-    },
-    /// This brightness and no colour, also of the samples around the window. Without a number it is
-    /// `Black`. The margin is in pixels. Without a number it is 2, and at least a sample.
-    Around {
-        value: Option<usize>,
-        margin: Option<usize>,
-    },
-}
-
-/// What the bytes of a pixel are: samples of one byte each, or of two where a value may be above
-/// 255.
-#[derive(Clone, Copy, PartialEq, Eq)]
-pub struct Pixel {
-    pub tuples: Tuples,
-    /// The greatest value of a sample.
-    pub greatest: u16,
-    /// Whether the high one of two bytes comes first.
-    pub high_first: bool,
-}
-
-impl Pixel {
-    /// A sample of a video.
-    pub(crate) fn of_video(greatest: u16) -> Pixel
-        ensures { result ≡ video_pixel greatest }
-    {
-        let tuples = Tuples {
-            colour: false,
-            alpha: false,
-        };
-        Pixel {
-            tuples,
-            greatest,
-            high_first: false,
-        }
-    }
-
-    /// The number of its bytes.
-    pub(crate) fn size(self) -> usize
-        ensures size { result ≡ pixel_size self }
-        ensures some { 0 < result }
-    {
-        let samples = self.tuples.depth();
-        if self.greatest < 256 {
-            samples
-        } else {
-            2 * samples
-        }
-    }
-}
 
 // The low byte of a number, and the high one.
 fn halves(value: u16) -> (u8, u8)

@@ -1,10 +1,14 @@
 -- Steps block by block: a block whose span lacks a frame changes nothing of it.
-use Rattle.std.proofs.Common.{◌≡◌, ℕ, zero, suc, ◌+◌, ◌<◌, ◌≤◌, ◌&&◌, Bool, true, false, cond, List, [], ◌∷◌, ◌++◌, length, get_or, take, drop, max, min, refl, ap, sym, ◌∙◌, arith, inl, inr, add-one, append_assoc, drop-cons, drop-drop, zero-mul, suc-mul, ◌*◌, subst}
+use Rattle.std.proofs.Common.{◌≡◌, ℕ, zero, suc, ◌+◌, ◌<◌, ◌≤◌, ◌&&◌, Bool, true, false, cond, List, [], ◌∷◌, ◌++◌, length, get_or, take, drop, max, min, refl, ap, ap₂, sym, ◌∙◌, ◌/◌, arith, inl, inr, add-one, append_assoc, drop-cons, drop-drop, zero-mul, suc-mul, ◌*◌, subst}
 use Rattle.std.proofs.Math.Nat.{min-eq_left, min-eq_right}
 use Rattle.std.proofs.lemmas.Bool.{cases_lt}
 use Rattle.std.proofs.lemmas.List.{take_all, drop_all, drop-take}
 use Rattle.std.proofs.lemmas.List.Folds.{list_all_more}
-use Rattle.image_model.specs.Grid.{Grid}
+use Rattle.image_model.specs.Grid.{Grid, grid_of}
+use Rattle.image_model.specs.Layout.{SameOutside}
+use Rattle.image_model.proofs.Places.{outside_trans}
+use Rattle.imgref.specs.Shape.{shaped, shape_width, shape_height}
+use Rattle.image_shape.specs.declared.shape.Shape.{Shape}
 use Rattle.image_planes.specs.Changes.{are_inside, changed, names, stepped}
 use Rattle.image_planes.specs.Scratch.{have_room}
 use Rattle.image_planes.specs.Spans.{has, has_all, are_spans_by}
@@ -105,3 +109,20 @@ spans_in_parts many (suc k) (span ∷ spans) steps are =
           (ap (has_all span) (front_of many (many + k * many) steps (omega arith)) ∙ parts.0) (ap (are_spans_by many (take k spans)) (drop-take many (k * many) steps) ∙ more.0),
       ap (are_spans_by many (drop k spans)) (sym (drop-drop (k * many) many steps)) ∙ more.1,
     )
+
+-- the steps that are left make of what is there what all of them make of what was there
+pub record StepsLeft (s : Shape) (size number copy sums : ℕ) (steps left : List (Step (List ℕ))) (old now : List ℕ) : Type 0 where
+  pub grid : stepped size number left (grid_of (shaped now s)) ≡ stepped size number steps (grid_of (shaped old s))
+  pub outside : SameOutside (shaped old s) (shaped now s)
+  pub inside : are_inside (shape_width s / size) (shape_height s) left ≡ true
+  pub room : have_room (length old) (shape_width s) copy sums left ≡ true
+
+-- a block of them is skipped or done, and the others are left
+pub block_done : (s : Shape) (size number copy sums n : ℕ) (steps left others : List (Step (List ℕ))) (old now new : List ℕ) → StepsLeft s size number copy sums steps left old now → others ≡ drop n left
+    → grid_of (shaped new s) ≡ stepped size number (take n left) (grid_of (shaped now s)) → SameOutside (shaped now s) (shaped new s) → StepsLeft s size number copy sums steps others old new
+block_done s size number copy sums n steps left others old now new so back done outside = record {
+  grid = ap₂ (λ ss g. stepped size number ss g) back done ∙ in_parts size number n left (grid_of (shaped now s)) ∙ so.grid;
+  outside = outside_trans _ _ _ so.outside outside;
+  inside = ap (are_inside (shape_width s / size) (shape_height s)) back ∙ (inside_parts (shape_width s / size) (shape_height s) n left so.inside).1;
+  room = ap (have_room (length old) (shape_width s) copy sums) back ∙ (room_parts (length old) (shape_width s) copy sums n left so.room).1;
+}

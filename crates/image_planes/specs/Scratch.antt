@@ -1,20 +1,19 @@
 -- The room that blurs need besides the planes.
-use Rattle.std.specs.Prelude.{◌≤◌, ◌+◌, ◌*◌, ◌&&◌, ℕ, Bool, true, false, nat_le, if◌then◌else◌, List, [], ◌∷◌, vec_capacity, max}
+use Rattle.std.specs.Prelude.{◌≡◌, ◌≤◌, ◌+◌, ◌*◌, ◌/◌, ◌&&◌, ℕ, length, Bool, true, false, nat_le, if◌then◌else◌, List, [], ◌∷◌, vec_capacity, max}
 use Rattle.std.specs.List.{list_all, list_any}
-use Rattle.image_planes.specs.Changes.{Job, job_len}
+use Rattle.imgref.specs.Shape.{shape_width, shape_height}
+use Rattle.image_shape.specs.declared.shape.Shape.{Shape}
+use Rattle.image_planes.specs.Changes.{Job, job_len, are_inside}
+use Rattle.image_planes.specs.Pixels.{HavePixels}
 use Rattle.image_planes.specs.declared.change.Change.{Change}
-use Rattle.image_planes.specs.declared.change.Change.TheVariants.{Fill, Mosaic, Mean, Blur, Move, Flip}
+use Rattle.image_planes.specs.declared.change.Change.TheVariants.{Blur}
 use Rattle.image_planes.specs.declared.change.Step.{Step}
 use Rattle.image_planes.specs.declared.scratch.Scratch.{Scratch}
 
 -- whether a change is a blur
 abbrev pub is_blur : {V : Type 0} → Change V → Bool
-is_blur (Fill w value) = false
-is_blur (Mosaic w tile_width tile_height) = false
-is_blur (Mean w tile_width tile_height bytes) = false
 is_blur (Blur w across down bytes) = true
-is_blur (Move w left top) = false
-is_blur (Flip axes) = false
+is_blur _ = false
 
 -- whether a step is one
 abbrev pub have_blur : List (Step (List ℕ)) → Bool
@@ -63,3 +62,9 @@ has_room len row copy sums change = if is_blur change then nat_le len copy && na
 
 abbrev pub have_room : ℕ → ℕ → ℕ → ℕ → List (Step (List ℕ)) → Bool
 have_room len row copy sums steps = list_all (λ s. has_room len row copy sums s.change) steps
+
+-- steps are valid for the pixels of an image, and blurs have the room that they need
+pub record AreFor (cells : List ℕ) (s : Shape) (size copy sums : ℕ) (steps : List (Step (List ℕ))) : Type 0 where
+  pub pixels : HavePixels cells s size
+  pub inside : are_inside (shape_width s / size) (shape_height s) steps ≡ true
+  pub room : have_room (length cells) (shape_width s) copy sums steps ≡ true

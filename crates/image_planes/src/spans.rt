@@ -1,12 +1,11 @@
 //! Blocks of steps, and the frames that each names, so that a frame passes over the blocks of others.
 
-ghost use Rattle.std.specs.Prelude.{◌≡◌, ◌<◌, ◌/◌, length, IfOk, IsTrue};
+ghost use Rattle.std.specs.Prelude.{◌≡◌, ◌<◌, length, IfOk, IsTrue};
 ghost use Rattle.image_model.specs.Grid.{grid_of};
-ghost use Rattle.imgref.specs.Shape.{shaped, shape_width, shape_height};
+ghost use Rattle.imgref.specs.Shape.{shaped};
 ghost use Rattle.image_writes.specs.Written.{Becomes};
-ghost use Rattle.image_planes.specs.Changes.{are_inside, stepped};
-ghost use Rattle.image_planes.specs.Pixels.{HavePixels};
-ghost use Rattle.image_planes.specs.Scratch.{have_room};
+ghost use Rattle.image_planes.specs.Changes.{stepped};
+ghost use Rattle.image_planes.specs.Scratch.{AreFor};
 ghost use Rattle.image_planes.specs.Spans.{has, has_all, are_spans_by, are_spans, are_groups};
 
 use crate::change::{Step, Value};
@@ -87,11 +86,7 @@ fn do_blocks(
     copy: &mut [u8],
     sums: &mut [u32],
 )
-    requires pixels { HavePixels cells.old shape size }
-    requires inside { IsTrue
-        (are_inside (shape_width shape / size) (shape_height shape) steps.now) }
-    requires room { IsTrue (have_room (length cells.old) (shape_width shape)
-        (length copy.old) (length sums.old) steps.now) }
+    requires steps { AreFor cells.old shape size (length copy.old) (length sums.old) steps.now }
     requires spans { IsTrue (are_spans spans.now steps.now) }
     ensures { Becomes shape cells.old cells.new
         (stepped size number steps.now (grid_of (shaped cells.old shape))) }
@@ -121,11 +116,7 @@ pub(crate) fn do_groups(
     copy: &mut [u8],
     sums: &mut [u32],
 )
-    requires pixels { HavePixels cells.old shape size }
-    requires inside { IsTrue
-        (are_inside (shape_width shape / size) (shape_height shape) steps.now) }
-    requires room { IsTrue (have_room (length cells.old) (shape_width shape)
-        (length copy.old) (length sums.old) steps.now) }
+    requires steps { AreFor cells.old shape size (length copy.old) (length sums.old) steps.now }
     requires spans { IsTrue (are_spans spans.now steps.now) }
     requires groups { IsTrue (are_groups groups.now steps.now) }
     ensures { Becomes shape cells.old cells.new

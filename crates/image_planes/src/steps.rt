@@ -1,12 +1,11 @@
 //! Changes that are applied one after the other, each to some frames of a video.
 
-ghost use Rattle.std.specs.Prelude.{◌≡◌, ◌/◌, length, IsTrue};
+ghost use Rattle.std.specs.Prelude.{◌≡◌, length};
 ghost use Rattle.image_model.specs.Grid.{grid_of};
-ghost use Rattle.imgref.specs.Shape.{shaped, shape_width, shape_height};
+ghost use Rattle.imgref.specs.Shape.{shaped};
 ghost use Rattle.image_writes.specs.Written.{Becomes};
 ghost use Rattle.image_planes.specs.Changes.{are_inside, stepped};
-ghost use Rattle.image_planes.specs.Pixels.{HavePixels};
-ghost use Rattle.image_planes.specs.Scratch.{have_room};
+ghost use Rattle.image_planes.specs.Scratch.{AreFor};
 
 use crate::change::{Step, Value, change_cells};
 use crate::plane::is_inside;
@@ -32,11 +31,7 @@ pub(crate) fn do_steps(
     copy: &mut [u8],
     sums: &mut [u32],
 )
-    requires pixels { HavePixels cells.old shape size }
-    requires inside { IsTrue
-        (are_inside (shape_width shape / size) (shape_height shape) steps.now) }
-    requires room { IsTrue (have_room (length cells.old) (shape_width shape)
-        (length copy.old) (length sums.old) steps.now) }
+    requires steps { AreFor cells.old shape size (length copy.old) (length sums.old) steps.now }
     ensures { Becomes shape cells.old cells.new
         (stepped size number steps.now (grid_of (shaped cells.old shape))) }
 {

@@ -14,7 +14,7 @@ pub use Rattle.image_model.specs.Folds.{fold_upto}
 pub use Rattle.image_model.specs.Counts.{histogram_of, counted, places_with, places_where}
 pub use Rattle.image_model.specs.Connected.{beside, IsConnected, AreFilled, AllFilled, Flooding}
 pub use Rattle.image_model.specs.Regions.{TellsApart, AreRegions}
-pub use Rattle.image_model.specs.Sums.{area_sum, line_sum}
+pub use Rattle.image_model.specs.Sums.{area_sum, area_at, line_sum}
 pub use Rattle.image_model.specs.Ranges.{AreBelow, HoldsOfEach}
 pub use Rattle.image_model.specs.Turns.{columns_swapped, mirrored, transposed, turned_right, turned_half, turned_left}
 pub use Rattle.image_ops.specs.Counting.{Decides, IsCount}

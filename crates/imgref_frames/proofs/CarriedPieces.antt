@@ -2,8 +2,8 @@
 use Rattle.std.proofs.Common.{◌≡◌, ℕ, ◌+◌, ◌⊎◌, Bool, true, false, List, [], ◌∷◌, ◌++◌, Some, None, length, refl, sym, ap, ◌∙◌, subst, arith, append_assoc, append-nil, length-append, inl, inr}
 use Rattle.std.specs.List.{AllByRecursion}
 use Rattle.std.proofs.lemmas.List.Elements.{recursion_from_All}
-use Rattle.frame_formats.specs.Edits.{Edits}
-use Rattle.frame_formats.specs.Format.{format_of}
+use Rattle.frame_edits.specs.Edits.{Edits}
+use Rattle.frame_heads.specs.Format.{format_of}
 use Rattle.frame_formats.specs.Recipe.{Recipe, video_recipe}
 use Rattle.imgref_frames.specs.Alike.{BeginsWith}
 use Rattle.imgref_frames.specs.Passing.{IsNotEditedNext}

@@ -6,10 +6,10 @@ use Rattle.std.proofs.lemmas.List.{append-nil}
 use Rattle.std.proofs.lemmas.List.Elements.{recursion_from_All}
 use Rattle.devices.specs.Whole.{AppendsBeginning, IsNoLine}
 use Rattle.frame_formats.specs.Plan.{Tells}
-use Rattle.frame_formats.specs.Format.{format_of}
-use Rattle.frame_formats.specs.Edits.{Edits}
+use Rattle.frame_heads.specs.Format.{format_of}
+use Rattle.frame_edits.specs.Edits.{Edits}
 use Rattle.frame_formats.specs.Recipe.{Recipe, video_recipe}
-use Rattle.frame_formats.specs.declared.header.Format.{Format}
+use Rattle.frame_heads.specs.declared.header.Format.{Format}
 use Rattle.frame_formats.specs.declared.plans.PlanFault.{PlanFault}
 use Rattle.frame_formats.specs.declared.plans.PlanFault.TheVariants.{Outside as NoPlan, Memory as NoMemory}
 use Rattle.imgref_frames.specs.Stream.{Piece, IsPiece, piece_text, pieces_text, made_text, all_made}
@@ -17,8 +17,8 @@ use Rattle.imgref_frames.specs.Pictures.{PictureHead, behind_letter}
 use Rattle.imgref_frames.specs.Passing.{Passed, PassedSome, PassedPart, Anything, AtHead, IsNotEditedNext, PassesFrames, PassesPictures}
 use Rattle.imgref_frames.specs.Program.{Stream, IsStream, begins_picture, are_pictures, front, made_front, heads_of, Carries, CarriesUpTo, CarriesSome, IsCounted, IsNoMore, BeginsVideo, IsNoStream, StopsOutside, StopsForMemory, Writes, Follows, fault_of_plan}
 use Rattle.imgref_frames.specs.Program.Stream.{video, pictures}
-use Rattle.imgref_frames.specs.declared.fault.RunFault.{RunFault}
-use Rattle.imgref_frames.specs.declared.fault.RunFault.TheVariants.{Header, Outside, Frame, Memory, Input, Output}
+use Rattle.frame_messages.specs.declared.fault.RunFault.{RunFault}
+use Rattle.frame_messages.specs.declared.fault.RunFault.TheVariants.{Header, Outside, Frame, Memory, Input, Output}
 use Rattle.imgref_frames.proofs.FrameLines.{one_front, begun}
 use Rattle.imgref_frames.proofs.OneMore.{all_snoc, length_snoc, text_snoc, made_snoc}
 

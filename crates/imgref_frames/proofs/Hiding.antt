@@ -3,9 +3,9 @@ use Rattle.std.proofs.Common.{◌≡◌, ◌⊎◌, ℕ, ◌+◌, Bool, true, fa
 use Rattle.std.specs.List.{AllByRecursion}
 use Rattle.std.proofs.lemmas.List.Elements.{recursion_from_All}
 use Rattle.text_model.proofs.Options.{some_is}
-use Rattle.frame_formats.specs.Picture.{ApartHeads, BeginsWithLetter}
-use Rattle.frame_formats.specs.Format.{format_of}
-use Rattle.frame_formats.specs.Edits.{Edits}
+use Rattle.frame_heads.specs.Picture.{ApartHeads, BeginsWithLetter}
+use Rattle.frame_heads.specs.Format.{format_of}
+use Rattle.frame_edits.specs.Edits.{Edits}
 use Rattle.frame_formats.specs.Recipe.{Recipe, HidesAlike, VideosHide, PicturesHide, video_recipe}
 use Rattle.imgref_frames.specs.Alike.{Alike, CutAlike, PieceAlike, PiecesAlike, Hides}
 use Rattle.imgref_frames.specs.Passing.{IsCut, IsNotEditedNext, AtHead, Anything}
@@ -14,8 +14,8 @@ use Rattle.imgref_frames.specs.Program.{Stream, IsStream, begins_picture, are_pi
 use Rattle.imgref_frames.specs.Program.Stream.{video, pictures}
 use Rattle.imgref_frames.specs.Video.{FrameHead}
 use Rattle.imgref_frames.specs.Stream.{Piece, IsPiece, piece_text, pieces_text, made_text, all_made}
-use Rattle.imgref_frames.specs.declared.fault.RunFault.{RunFault}
-use Rattle.imgref_frames.specs.declared.fault.RunFault.TheVariants.{Header, Outside, Frame, Memory, Input, Output}
+use Rattle.frame_messages.specs.declared.fault.RunFault.{RunFault}
+use Rattle.frame_messages.specs.declared.fault.RunFault.TheVariants.{Header, Outside, Frame, Memory, Input, Output}
 use Rattle.imgref_frames.proofs.FrameLines.{one_front}
 use Rattle.imgref_frames.proofs.Pieces.{Readable, frames_readable, pictures_readable, one_piece, some_text, not_cut, cut_some, begins_piece, begins_cut, no_begin, edited_piece, edited_cut}
 

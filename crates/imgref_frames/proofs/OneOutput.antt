@@ -1,15 +1,15 @@
 -- An input has one result and one output, except where a device or memory ends a run early.
 use Rattle.std.proofs.Common.{◌≡◌, ℕ, ◌⊎◌, Bool, true, false, List, [], ◌∷◌, ◌++◌, Some, None, Result, Ok, Err, length, take, drop, refl, sym, ap, ◌∙◌, subst, arith, append_assoc, append-nil, length-append, inl, inr}
 use Rattle.std.proofs.lemmas.List.{take-append-drop}
-use Rattle.frame_formats.specs.Edits.{Edits}
+use Rattle.frame_edits.specs.Edits.{Edits}
 use Rattle.imgref_frames.specs.Alike.{Agree, BeginsWith, OneOutput, is_broken_off}
 use Rattle.imgref_frames.specs.Passing.{IsNoNext, IsNotEditedNext}
 use Rattle.imgref_frames.specs.Pictures.{BeginsPicture, IsNoPicture, IsPictureNotEdited}
 use Rattle.imgref_frames.specs.Program.{Stream, begins_picture, are_pictures, heads_of, Carries, IsCounted, IsNoMore, IsNoStream, IsNotEdited, StopsOutside, StopsForMemory, Writes}
 use Rattle.imgref_frames.specs.Program.Stream.{video, pictures}
 use Rattle.imgref_frames.specs.Stream.{Piece, IsPiece, piece_text}
-use Rattle.imgref_frames.specs.declared.fault.RunFault.{RunFault}
-use Rattle.imgref_frames.specs.declared.fault.RunFault.TheVariants.{Header, Outside, Frame, Memory, Input, Output}
+use Rattle.frame_messages.specs.declared.fault.RunFault.{RunFault}
+use Rattle.frame_messages.specs.declared.fault.RunFault.TheVariants.{Header, Outside, Frame, Memory, Input, Output}
 use Rattle.imgref_frames.proofs.Heads.{either_begins}
 use Rattle.imgref_frames.proofs.Hiding.{Laws, readable, hides}
 use Rattle.imgref_frames.proofs.Pieces.{cut_some, begins_cut, no_begin, edited_cut}

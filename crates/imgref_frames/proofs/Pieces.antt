@@ -2,14 +2,14 @@
 use Rattle.std.proofs.Common.{◌≡◌, ◌≢◌, ℕ, ◌<◌, List, [], ◌∷◌, ◌++◌, Option, Some, None, length, refl, sym, ap, ◌∙◌, arith, append_assoc, length-append, append-nil, IfSome}
 use Rattle.std.specs.Io.KnownBytes.{Consumes, IsAtEnd}
 use Rattle.text_model.proofs.Options.{some_is}
-use Rattle.frame_formats.specs.Picture.{picture_of, ApartHeads, BeginsWithLetter}
-use Rattle.frame_formats.specs.Edits.{Edits}
+use Rattle.frame_heads.specs.Picture.{picture_of, ApartHeads, BeginsWithLetter}
+use Rattle.frame_edits.specs.Edits.{Edits}
 use Rattle.frame_formats.specs.Recipe.{Recipe, picture_recipe}
 use Rattle.imgref_frames.specs.Stream.{Piece, piece, IsPiece, piece_text}
 use Rattle.imgref_frames.specs.Video.{FrameHead, frame_line, with_head}
 use Rattle.imgref_frames.specs.Pictures.{IsHead, PictureHead, BeginsPicture, IsNoPicture, IsPictureNotEdited}
 use Rattle.imgref_frames.specs.Passing.{IsCut}
-use Rattle.frame_formats.specs.declared.picture.Picture.{Picture}
+use Rattle.frame_heads.specs.declared.picture.Picture.{Picture}
 use Rattle.imgref_frames.proofs.FrameLines.{one_line}
 
 -- no head begins another, and each has one recipe

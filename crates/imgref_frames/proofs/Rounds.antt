@@ -3,10 +3,10 @@ use Rattle.std.proofs.Common.{◌≡◌, ◌≢◌, ℕ, ◌+◌, ◌<◌, List,
 use Rattle.std.specs.Io.KnownBytes.{Consumes, Appends, Keeps}
 use Rattle.std.proofs.KnownBytes.{Consumes-trans}
 use Rattle.devices.specs.Whole.{AppendsBeginning}
-use Rattle.frame_formats.specs.Picture.{ApartHeads, BeginsWithLetter}
-use Rattle.frame_formats.specs.Edits.{Edits}
+use Rattle.frame_heads.specs.Picture.{ApartHeads, BeginsWithLetter}
+use Rattle.frame_edits.specs.Edits.{Edits}
 use Rattle.frame_formats.specs.Recipe.{Recipe, picture_recipe}
-use Rattle.frame_formats.specs.declared.picture.Picture.{Picture}
+use Rattle.frame_heads.specs.declared.picture.Picture.{Picture}
 use Rattle.imgref_frames.specs.Stream.{Piece, piece, pieces_text, all_made}
 use Rattle.imgref_frames.specs.Video.{FrameHead, with_head}
 use Rattle.imgref_frames.specs.Pictures.{IsHead, PictureHead, IsNoPicture, IsPictureNotEdited, behind_letter}
@@ -14,8 +14,8 @@ use Rattle.imgref_frames.specs.Passing.{LineRead, IsNoFrameLine, IsNoFrame, IsNo
 use Rattle.imgref_frames.specs.Kept.{HasNoPlan, NeedsMemory, PictureStops, PicturesStop, Stops, PassedLast, LastIs, last_piece}
 use Rattle.imgref_frames.specs.declared.pictures.Kept.{Kept}
 use Rattle.text_model.proofs.Options.{some_is}
-use Rattle.imgref_frames.specs.declared.fault.RunFault.{RunFault}
-use Rattle.imgref_frames.specs.declared.fault.RunFault.TheVariants.{Header, Outside, Frame, Memory, Input, Output}
+use Rattle.frame_messages.specs.declared.fault.RunFault.{RunFault}
+use Rattle.frame_messages.specs.declared.fault.RunFault.TheVariants.{Header, Outside, Frame, Memory, Input, Output}
 use Rattle.imgref_frames.proofs.Pieces.{frames_readable, pictures_readable, cut_piece, cut_some}
 use Rattle.imgref_frames.proofs.OneMore.{none_passed, one_more, part_more, passed_on}
 

@@ -1,12 +1,12 @@
 -- Inputs that differ only in what an edit hides, and runs that can't tell them apart.
 use Rattle.std.specs.Prelude.{◌≡◌, ◌<◌, ◌⊎◌, ℕ, ◌+◌, Bool, true, false, List, [], ◌∷◌, ◌++◌, length, Option, Some, IfSome, Result, Ok, Err}
 use Rattle.image_planes.specs.Unseen.{PlanesAlike}
-use Rattle.frame_formats.specs.Edits.{Edits}
+use Rattle.frame_edits.specs.Edits.{Edits}
 use Rattle.frame_formats.specs.Recipe.{Recipe}
 use Rattle.imgref_frames.specs.Program.{Stream, IsStream, begins_picture, are_pictures, front, heads_of, Writes}
 use Rattle.imgref_frames.specs.Stream.{Piece, IsPiece, pieces_text}
-use Rattle.imgref_frames.specs.declared.fault.RunFault.{RunFault}
-use Rattle.imgref_frames.specs.declared.fault.RunFault.TheVariants.{Header, Outside, Frame, Memory, Input, Output}
+use Rattle.frame_messages.specs.declared.fault.RunFault.{RunFault}
+use Rattle.frame_messages.specs.declared.fault.RunFault.TheVariants.{Header, Outside, Frame, Memory, Input, Output}
 
 -- two frames or pictures of this number have the same head, and differ only in what the steps of their number hide
 pub record PieceAlike (heads : List ℕ → Recipe → Type 0) (number : ℕ) (p q : Piece) : Type 0 where

@@ -3,19 +3,19 @@ use Rattle.std.specs.Prelude.{◌≡◌, ◌≢◌, ◌≤◌, ◌⊎◌, ℕ, L
 use Rattle.std.specs.List.{AllByRecursion}
 use Rattle.std.specs.Option.{option_map}
 use Rattle.std.specs.Io.KnownBytes.{Consumes}
-use Rattle.frame_formats.specs.Edits.{Edits}
-use Rattle.frame_formats.specs.Format.{format_of}
+use Rattle.frame_edits.specs.Edits.{Edits}
+use Rattle.frame_heads.specs.Format.{format_of}
 use Rattle.frame_formats.specs.Planned.{recipe_of, plan_room, plan_other_room}
 use Rattle.frame_formats.specs.Recipe.{picture_recipe}
 use Rattle.image_planes.specs.Scratch.{HasRoom}
-use Rattle.frame_formats.specs.declared.header.Format.{Format}
-use Rattle.frame_formats.specs.declared.picture.Picture.{Picture}
+use Rattle.frame_heads.specs.declared.header.Format.{Format}
+use Rattle.frame_heads.specs.declared.picture.Picture.{Picture}
 use Rattle.imgref_frames.specs.Stream.{Piece, IsPiece, pieces_text}
 use Rattle.imgref_frames.specs.Pictures.{IsHead, PictureHead}
 use Rattle.imgref_frames.specs.Passing.{Passed}
 use Rattle.imgref_frames.specs.declared.pictures.Kept.{Kept}
-use Rattle.imgref_frames.specs.declared.fault.RunFault.{RunFault}
-use Rattle.imgref_frames.specs.declared.fault.RunFault.TheVariants.{Header, Outside, Frame, Memory, Input, Output}
+use Rattle.frame_messages.specs.declared.fault.RunFault.{RunFault}
+use Rattle.frame_messages.specs.declared.fault.RunFault.TheVariants.{Header, Outside, Frame, Memory, Input, Output}
 
 -- the plan is that of the edits for its picture, buffers of these capacities are enough for it, and so is its room for blurs
 pub record IsKept (edit : Edits) (room_there other_there : ℕ) (k : Kept) : Type 0 where

@@ -3,18 +3,18 @@ use Rattle.std.specs.Prelude.{◌≡◌, ◌≢◌, ◌⊎◌, ℕ, ◌<◌, ◌
 use Rattle.std.specs.List.{AllByRecursion}
 use Rattle.std.specs.Io.KnownBytes.{Consumes, Appends, Keeps, IsAtEnd}
 use Rattle.devices.specs.Whole.{AppendsBeginning}
-use Rattle.frame_formats.specs.Edits.{Edits}
+use Rattle.frame_edits.specs.Edits.{Edits}
 use Rattle.frame_formats.specs.Recipe.{Recipe}
 use Rattle.imgref_frames.specs.Stream.{Piece, IsPiece, piece_text, pieces_text, made_text, all_made}
 use Rattle.imgref_frames.specs.Video.{AreParameters, FrameHead, frame_line}
 use Rattle.imgref_frames.specs.Pictures.{PictureHead, BeginsPicture, IsNoPicture, IsPictureNotEdited}
-use Rattle.frame_formats.specs.declared.picture.Picture.{Picture}
+use Rattle.frame_heads.specs.declared.picture.Picture.{Picture}
 use Rattle.imgref_frames.specs.declared.frames.Begin.{Begin}
 use Rattle.imgref_frames.specs.declared.frames.Begin.TheVariants.{Whole, Open, End as AtEnd, Other as NoWord}
 use Rattle.imgref_frames.specs.declared.frames.Found.{Found}
 use Rattle.imgref_frames.specs.declared.frames.Found.TheVariants.{Frame, End, Other}
-use Rattle.imgref_frames.specs.declared.fault.RunFault.{RunFault}
-use Rattle.imgref_frames.specs.declared.fault.RunFault.TheVariants.{Header, Outside, Frame as BadFrame, Memory, Input, Output}
+use Rattle.frame_messages.specs.declared.fault.RunFault.{RunFault}
+use Rattle.frame_messages.specs.declared.fault.RunFault.TheVariants.{Header, Outside, Frame as BadFrame, Memory, Input, Output}
 
 -- the bytes are some, and don't begin with the line of a frame
 pub record IsNoFrameLine (bytes : List ℕ) : Type 0 where

@@ -2,13 +2,13 @@
 use Rattle.std.specs.Prelude.{◌≡◌, ◌≤◌, ◌+◌, ℕ, List, [], ◌∷◌, ◌++◌, Option, Some, None, Result, Ok, Err, IfSome, length}
 use Rattle.std.specs.Option.{option_map}
 use Rattle.std.specs.Io.KnownBytes.{Consumes}
-use Rattle.frame_formats.specs.Picture.{picture_of, scanned, start}
-use Rattle.frame_formats.specs.Edits.{Edits}
+use Rattle.frame_heads.specs.Picture.{picture_of, scanned, start}
+use Rattle.frame_edits.specs.Edits.{Edits}
 use Rattle.frame_formats.specs.Recipe.{Recipe, picture_recipe}
-use Rattle.frame_formats.specs.declared.picture.Picture.{Picture}
-use Rattle.frame_formats.specs.declared.picture.Scan.{Scan}
-use Rattle.imgref_frames.specs.declared.fault.RunFault.{RunFault}
-use Rattle.imgref_frames.specs.declared.fault.RunFault.TheVariants.{Input}
+use Rattle.frame_heads.specs.declared.picture.Picture.{Picture}
+use Rattle.frame_heads.specs.declared.picture.Scan.{Scan}
+use Rattle.frame_messages.specs.declared.fault.RunFault.{RunFault}
+use Rattle.frame_messages.specs.declared.fault.RunFault.TheVariants.{Input}
 
 -- the head of a picture, of at most 64 KiB
 pub record IsHead (head : List ℕ) (picture : Picture) : Type 0 where

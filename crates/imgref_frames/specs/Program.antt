@@ -7,14 +7,14 @@ use Rattle.imgref_frames.specs.Stream.{Piece, IsPiece, pieces_text, all_made}
 use Rattle.imgref_frames.specs.Video.{FrameHead}
 use Rattle.imgref_frames.specs.Pictures.{PictureHead, IsNoPicture}
 use Rattle.imgref_frames.specs.Passing.{IsNoFrame, IsNoNext, IsNotEditedNext, AtHead, Anything}
-use Rattle.frame_formats.specs.Format.{format_of}
-use Rattle.frame_formats.specs.Edits.{Edits}
+use Rattle.frame_heads.specs.Format.{format_of}
+use Rattle.frame_edits.specs.Edits.{Edits}
 use Rattle.frame_formats.specs.Recipe.{Recipe, video_recipe}
-use Rattle.frame_formats.specs.declared.header.Format.{Format}
+use Rattle.frame_heads.specs.declared.header.Format.{Format}
 use Rattle.frame_formats.specs.declared.plans.PlanFault.{PlanFault}
 use Rattle.frame_formats.specs.declared.plans.PlanFault.TheVariants.{Outside as NoPlan, Memory as NoMemory}
-use Rattle.imgref_frames.specs.declared.fault.RunFault.{RunFault}
-use Rattle.imgref_frames.specs.declared.fault.RunFault.TheVariants.{Header, Outside, Frame, Memory, Input, Output}
+use Rattle.frame_messages.specs.declared.fault.RunFault.{RunFault}
+use Rattle.frame_messages.specs.declared.fault.RunFault.TheVariants.{Header, Outside, Frame, Memory, Input, Output}
 
 -- what an input is: a video with this line and recipe, or pictures
 pub data Stream : Type 0 where

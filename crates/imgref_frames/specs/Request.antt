@@ -1,5 +1,5 @@
 -- A request of the code as the definitions see it.
-use Rattle.frame_formats.specs.Edits.{Edits, edits}
+use Rattle.frame_edits.specs.Edits.{Edits, edits}
 use Rattle.imgref_frames.specs.declared.request.Request.{Request}
 
 abbrev pub edits_of : Request → Edits

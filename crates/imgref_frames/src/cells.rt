@@ -6,13 +6,14 @@ ghost use Rattle.devices.specs.Device.{device_of, failures_of, errors};
 ghost use Rattle.devices.specs.Whole.{AppendsBeginning};
 ghost use Rattle.frame_formats.specs.Planned.{recipe_of, plan_room, plan_other_room};
 ghost use Rattle.image_planes.specs.Scratch.{HasRoom, KeepsRoom};
-ghost use Rattle.imgref_frames.specs.Fault.{reader_failures, writer_failures};
+ghost use Rattle.imgref_frames.specs.Fault.{CanCount, Counts};
 ghost use Rattle.imgref_frames.specs.Passing.{PassesCells};
 ghost use Rattle.imgref_frames.specs.Video.{with_head};
 
-use crate::fault::RunFault;
 use devices::{Counted, ReadFailed, WriteFailed, fill_front, lengthen, write_all};
-use frame_formats::{Plan, Scratch};
+use frame_formats::Plan;
+use frame_messages::RunFault;
+use image_planes::Scratch;
 use std::io::{Read, Write};
 
 // Writes a head, and cells after it.
@@ -107,18 +108,15 @@ pub(crate) fn pass_cells<R: Read, W: Write>(
     requires room { plan_room plan.now ≤ vec_capacity cells.old }
     requires other_room { plan_other_room plan.now ≤ vec_capacity other.old }
     requires scratch { HasRoom (recipe_of plan.now).jobs scratch.old }
-    requires reader_counts { failures_of reader.old < u64.MAX }
-    requires writer_counts { failures_of writer.old < u64.MAX }
+    requires counts { CanCount (failures_of reader.old) (failures_of writer.old) }
     ensures passes { PassesCells result (with_head head.now (recipe_of plan.now))
         number (R.remaining (device_of reader.old)) (R.remaining (device_of reader.new))
         (W.contents (device_of writer.old)) (W.contents (device_of writer.new)) }
     ensures same_room { vec_capacity cells.old ≤ vec_capacity cells.new }
     ensures same_other_room { vec_capacity other.old ≤ vec_capacity other.new }
     ensures same_scratch { KeepsRoom scratch.old scratch.new }
-    ensures reader_count { failures_of reader.new
-        ≡ failures_of reader.old + reader_failures result }
-    ensures writer_count { failures_of writer.new
-        ≡ failures_of writer.old + writer_failures result }
+    ensures counts { Counts result (failures_of reader.old) (failures_of reader.new)
+        (failures_of writer.old) (failures_of writer.new) }
 {
     let count = take_cells(reader, plan, cells, other)?;
     if count < plan.room() {

@@ -4,13 +4,14 @@ ghost use Rattle.std.specs.Prelude.{◌≡◌, ◌+◌, ◌≤◌, ◌<◌, leng
 ghost use Rattle.devices.specs.Device.{device_of, failures_of};
 ghost use Rattle.frame_formats.specs.Planned.{recipe_of, plan_room, plan_other_room};
 ghost use Rattle.image_planes.specs.Scratch.{HasRoom};
-ghost use Rattle.imgref_frames.specs.Fault.{reader_failures, writer_failures};
+ghost use Rattle.imgref_frames.specs.Fault.{CanCount, Counts, reader_failures};
 ghost use Rattle.imgref_frames.specs.Passing.{WordIs, LineIs, PassesFrames};
 
 use crate::cells::pass_cells;
-use crate::fault::RunFault;
 use devices::{Counted, LineFault, fill, read_line};
-use frame_formats::{Plan, Scratch};
+use frame_formats::Plan;
+use frame_messages::RunFault;
+use image_planes::Scratch;
 use std::io::{Read, Write};
 
 /// What was found in place of a frame's line.
@@ -98,15 +99,12 @@ pub(crate) fn pass_frames<R: Read, W: Write>(
     requires cells_room { plan_room plan.now ≤ vec_capacity cells.old }
     requires other_room { plan_other_room plan.now ≤ vec_capacity other.old }
     requires scratch { HasRoom (recipe_of plan.now).jobs scratch.old }
-    requires reader_counts { failures_of reader.old < u64.MAX }
-    requires writer_counts { failures_of writer.old < u64.MAX }
+    requires counts { CanCount (failures_of reader.old) (failures_of writer.old) }
     ensures passes { PassesFrames result (recipe_of plan.now)
         (R.remaining (device_of reader.old)) (R.remaining (device_of reader.new))
         (W.contents (device_of writer.old)) (W.contents (device_of writer.new)) }
-    ensures reader_count { failures_of reader.new
-        ≡ failures_of reader.old + reader_failures result }
-    ensures writer_count { failures_of writer.new
-        ≡ failures_of writer.old + writer_failures result }
+    ensures counts { Counts result (failures_of reader.old) (failures_of reader.new)
+        (failures_of writer.old) (failures_of writer.new) }
 {
     for number in 0..u64::MAX {
         let len = match read_frame_line(reader, line)? {

@@ -1,54 +1,36 @@
 //! Edits frames of raw video or pictures, one by one, from standard input to standard output.
 #![tactic(auto)]
 
-mod bad_boxes;
-mod bad_edits;
-mod beginnings;
-mod boxes;
 mod cells;
-mod counts;
 mod descriptors;
-mod fault;
 mod files;
 mod frames;
-mod late;
-mod notes;
-mod options;
 mod pictures;
-mod places;
 mod program;
-mod ranges;
-mod reasons;
-mod report;
 mod request;
-mod words;
 
-use bad_boxes::say_odd_boxes;
-use beginnings::say_no_head;
-use boxes::with_boxes;
-pub use counts::is_wanted;
-use counts::say_other_count;
 pub use devices::Counted;
 use devices::Retried;
-pub use fault::RunFault;
 use files::{Sink, Source, create_beside, give_name, read_whole, target_of};
-use frame_formats::{BoxStyle, Edits};
-pub use frame_formats::{
-    Axes, Change, Edit, Format, Framing, Paint, Picture, Range, Rate, Scratch, Window,
+use frame_edits::{BoxStyle, Edits};
+pub use frame_edits::{Edit, Framing, Paint};
+pub use frame_heads::{Format, Picture, Rate};
+pub use frame_lists::Range;
+use frame_messages::{
+    Noted, Texts, say_bare, say_boxes, say_late, say_no_head, say_no_words, say_odd_boxes,
+    say_other_count, say_reason, write_report,
 };
-use notes::{say_boxes, say_late};
-use options::{Options, read_options};
-use places::Texts;
+pub use frame_messages::{RunFault, is_wanted};
+use frame_requests::{
+    Options, Refusal, edits_asked, has_blur, read_options, words_of,
+};
+pub use frame_requests::{Seen, Shape, Stretch};
+pub use image_planes::{Axes, Change, Scratch, Window};
 pub use program::run;
-use ranges::{say_uncovered, say_unreached};
-use reasons::{say_no_words, say_reason};
-use report::{say_bare, write_report};
-pub use request::{Seen, Shape, Stretch};
 use std::fs::File;
 use std::io::{BufReader, BufWriter, ErrorKind, Write};
 use std::process::ExitCode;
 use std::{fs, io};
-use words::{Refusal, edits_of_lines, edits_of_words, words_of};
 
 // What the words are, as docs/FRAMES.md has it.
 const USAGE: &str = "usage: imgref_frames [OPTION..] EDIT.. < video > video
@@ -101,7 +83,7 @@ Cover first: a move, a mosaic, means or a blur before a cover may show what it c
 See docs/FRAMES.md.";
 
 // The version of the program and of the library.
-const VERSION: &str = "imgref_frames 0.2.0";
+const VERSION: &str = "imgref_frames 0.3.0";
 
 // The status where a range was not reached, and that is a fault.
 const RANGE: u8 = 8;
@@ -280,16 +262,24 @@ impl Call<'_> {
         status
     }
 
+    // The edits, for notes about them.
+    fn noted(&self) -> Noted<'_> {
+        Noted {
+            rt: self.rt,
+            steps: &self.edits.steps,
+            texts: self.texts,
+            strict: self.options.strict,
+        }
+    }
+
     // Prints which covers cover nothing in so many frames, and returns whether that is a fault.
     fn note_covers(&self, seen: &Seen, count: u64) -> bool {
-        let (rt, steps, strict) = (self.rt, &self.edits.steps, self.options.strict);
-        say_uncovered(rt, seen, count, steps, self.texts, strict) && strict
+        self.noted().say_uncovered(seen, count) && self.options.strict
     }
 
     // Prints which ranges so many frames don't reach, and returns whether that is a fault.
     fn note_ranges(&self, seen: &Seen, count: u64) -> bool {
-        let (rt, steps, strict) = (self.rt, &self.edits.steps, self.options.strict);
-        say_unreached(rt, count, seen.rate(), steps, self.texts, strict) && strict
+        self.noted().say_unreached(count, seen.rate()) && self.options.strict
     }
 
     // Prints which edits did nothing in so many frames, and whether another number of frames was
@@ -410,24 +400,6 @@ fn reads_input_twice(options: Options, words: &[String]) -> bool {
     (edits && boxes) || ((edits || boxes) && options.input.is_none())
 }
 
-// The edits of the file, or else those of the words, after the boxes of a tracker's list.
-fn edits_of(
-    rt: &HostRuntime,
-    words: &[&[u8]],
-    texts: Texts<'_>,
-    style: BoxStyle,
-) -> Result<Edits, Refusal> {
-    let edits = match texts.edits {
-        Some(text) => edits_of_lines(rt.alloc(), text)?,
-        None if words.is_empty() && texts.boxes.is_some() => Edits::new(rt.alloc()),
-        None => edits_of_words(rt.alloc(), words)?,
-    };
-    match texts.boxes {
-        Some(text) => with_boxes(rt.alloc(), text, style, texts.hold, &edits),
-        None => Ok(edits),
-    }
-}
-
 // What becomes of each box of a list.
 fn style_of(options: Options) -> BoxStyle {
     let cover = BoxStyle::cover(options.margin);
@@ -471,9 +443,11 @@ fn edit(rt: &HostRuntime, options: Options, words: &[String], bytes: &[&[u8]]) -
         edits: text.as_deref(),
     };
     let first = options.first.min(bytes.len());
-    match edits_of(rt, &bytes[first..], texts, style_of(options)) {
+    let words_left = &bytes[first..];
+    let (boxes, file) = (texts.boxes, texts.edits);
+    match edits_asked(rt.alloc(), style_of(options), boxes, texts.hold, file, words_left) {
         Ok(edits) => carry(rt, options, words, &edits, texts),
-        Err(refusal) => refuse(rt, refusal, &bytes[first..], texts),
+        Err(refusal) => refuse(rt, refusal, words_left, texts),
     }
 }
 
@@ -494,7 +468,7 @@ fn carry(
     if let Some(text) = texts.boxes {
         say_odd_boxes(rt, text);
     }
-    if words::has_blur(&edits.steps) {
+    if has_blur(&edits.steps) {
         let _ = eprintln!(rt; "note: a blur hides nothing: cover what has to stay secret first");
     }
     let call = Call {

@@ -1,21 +1,24 @@
 //! Pictures, one after the other, read, edited and written one by one.
 
-ghost use Rattle.std.specs.Prelude.{◌≡◌, ◌≢◌, ◌+◌, ◌≤◌, ◌<◌, max, vec_capacity, None, true, false, IfOk, IfErr, IfSome, OnOk, OnErr};
+ghost use Rattle.std.specs.Prelude.{◌≡◌, ◌≢◌, ◌+◌, ◌≤◌, ◌<◌, max, vec_capacity, None, true, false, IfOk, IfErr, IfSome, OnOk};
 ghost use Rattle.devices.specs.Device.{device_of, failures_of};
 ghost use Rattle.frame_formats.specs.Planned.{recipe_of};
 ghost use Rattle.frame_formats.specs.Recipe.{picture_recipe};
 ghost use Rattle.image_planes.specs.Scratch.{scratch_len};
-ghost use Rattle.imgref_frames.specs.Fault.{reader_failures, writer_failures};
+ghost use Rattle.imgref_frames.specs.Fault.{CanCount, Counts, reader_failures};
 ghost use Rattle.imgref_frames.specs.Kept.{IsKept, kept_picture, picture_in, HasNoPlan, NeedsMemory, PictureStops, PicturesStop};
 ghost use Rattle.imgref_frames.specs.Passing.{PassesPicture, PassesPictures};
 ghost use Rattle.imgref_frames.specs.Pictures.{HeadIs, behind_letter};
 ghost use Rattle.imgref_frames.specs.Request.{edits_of};
 
 use crate::cells::pass_cells;
-use crate::fault::{RunFault, fault_of_plan};
-use crate::request::{Request, Seen, Shape, is_over};
+use crate::request::{Request, fault_of_plan, is_over};
 use devices::{Counted, read_byte};
-use frame_formats::{Picture, Plan, Scan, Scratch, heads_end_themselves};
+use frame_formats::Plan;
+use frame_heads::{Picture, Scan, heads_end_themselves};
+use frame_messages::RunFault;
+use frame_requests::{Seen, Shape};
+use image_planes::Scratch;
 use std::alloc::{AllocError, Global};
 use std::io::{Read, Write};
 
@@ -182,8 +185,7 @@ fn pass_picture<R: Read, W: Write>(
 ) -> Result<Kept, RunFault>
     requires kept { IfSome kept
         (IsKept (edits_of request) (vec_capacity cells.old) (vec_capacity other.old)) }
-    requires reader_counts { failures_of reader.old < u64.MAX }
-    requires writer_counts { failures_of writer.old < u64.MAX }
+    requires counts { CanCount (failures_of reader.old) (failures_of writer.old) }
     requires numbers { number < u64.MAX }
     ensures passes { PassesPicture (picture_in result) (edits_of request.entry) number
         (behind_letter (R.remaining (device_of reader.old))) (R.remaining (device_of reader.new))
@@ -193,10 +195,8 @@ fn pass_picture<R: Read, W: Write>(
     ensures stops { PictureStops result (kept_picture kept)
         (behind_letter (R.remaining (device_of reader.old)))
         (R.remaining (device_of reader.new)) }
-    ensures reader_count { failures_of reader.new
-        ≡ failures_of reader.old + reader_failures result }
-    ensures writer_count { failures_of writer.new
-        ≡ failures_of writer.old + writer_failures result }
+    ensures counts { Counts result (failures_of reader.old) (failures_of reader.new)
+        (failures_of writer.old) (failures_of writer.new) }
 {
     heads_end_themselves();
     let Some(picture) = read_head(reader)? else {
@@ -221,18 +221,15 @@ pub(crate) fn pass_pictures<R: Read, W: Write>(
     reader: &mut Counted<R>,
     writer: &mut Counted<W>,
 ) -> Result<u64, RunFault>
-    requires reader_counts { failures_of reader.old < u64.MAX }
-    requires writer_counts { failures_of writer.old < u64.MAX }
+    requires counts { CanCount (failures_of reader.old) (failures_of writer.old) }
     ensures passes { PassesPictures result (edits_of request.entry)
         (behind_letter (R.remaining (device_of reader.old))) (R.remaining (device_of reader.new))
         (W.contents (device_of writer.old)) (W.contents (device_of writer.new)) }
     ensures stops { PicturesStop result (edits_of request.entry)
         (behind_letter (R.remaining (device_of reader.old)))
         (R.remaining (device_of reader.new)) }
-    ensures reader_count { failures_of reader.new
-        ≡ failures_of reader.old + reader_failures result }
-    ensures writer_count { failures_of writer.new
-        ≡ failures_of writer.old + writer_failures result }
+    ensures counts { Counts result (failures_of reader.old) (failures_of reader.new)
+        (failures_of writer.old) (failures_of writer.new) }
 {
     heads_end_themselves();
     let mut cells = Vec::new(request.alloc);

@@ -2,21 +2,22 @@
 
 ghost use Rattle.std.specs.Prelude.{◌≡◌, ◌≢◌, ◌<◌, ◌+◌, ◌++◌, ◌∷◌, [], All, length, false};
 ghost use Rattle.devices.specs.Device.{device_of, failures_of};
-ghost use Rattle.imgref_frames.specs.Fault.{reader_failures, writer_failures};
-ghost use Rattle.frame_formats.specs.Edits.{edits};
+ghost use Rattle.imgref_frames.specs.Fault.{CanCount, Counts, reader_failures, writer_failures};
+ghost use Rattle.frame_edits.specs.Edits.{edits};
 ghost use Rattle.imgref_frames.specs.Alike.{Hides, OneOutput};
 ghost use Rattle.imgref_frames.specs.Kept.{Stops, VideoStopsAfter};
 ghost use Rattle.imgref_frames.specs.Request.{edits_of};
 ghost use Rattle.imgref_frames.specs.Program.{Follows, Writes, begins_picture};
 
-use crate::fault::{RunFault, fault_of_plan};
 use crate::frames::pass_frames;
 use crate::pictures::pass_pictures;
-use crate::request::{Request, Seen, Shape, is_over};
+use crate::request::{Request, fault_of_plan, is_over};
 use devices::{Counted, LineFault, read_byte, read_line, write_all};
-use frame_formats::{
-    Edit, Framing, Plan, heads_end_themselves, read_format, read_rate, recipes_hide,
-};
+use frame_edits::{Edit, Framing};
+use frame_formats::{Plan, recipes_hide};
+use frame_heads::{heads_end_themselves, read_format, read_rate};
+use frame_messages::RunFault;
+use frame_requests::{Seen, Shape};
 use std::alloc::Global;
 use std::io::{Read, Write};
 
@@ -34,17 +35,14 @@ fn run_video<R: Read, W: Write>(
     requires one_line { All (λ b. b ≢ 10) line.now }
     requires short { length line.now < 256 }
     requires kind { begins_picture (line.now ++ 10 ∷ []) ≡ false }
-    requires reader_counts { failures_of reader.old < u64.MAX }
-    requires writer_counts { failures_of writer.old < u64.MAX }
+    requires counts { CanCount (failures_of reader.old) (failures_of writer.old) }
     ensures follows { Follows result (edits_of request.entry) (line.now ++ 10 ∷ [])
         (R.remaining (device_of reader.old)) (W.contents (device_of writer.old))
         (W.contents (device_of writer.new)) }
     ensures stops { VideoStopsAfter result (line.now ++ 10 ∷ []) (R.remaining (device_of reader.old))
         (R.remaining (device_of reader.new)) }
-    ensures reader_count { failures_of reader.new
-        ≡ failures_of reader.old + reader_failures result }
-    ensures writer_count { failures_of writer.new
-        ≡ failures_of writer.old + writer_failures result }
+    ensures counts { Counts result (failures_of reader.old) (failures_of reader.new)
+        (failures_of writer.old) (failures_of writer.new) }
 {
     let alloc = request.alloc;
     let Some(format) = read_format(line) else {
@@ -91,17 +89,14 @@ fn carry_video<R: Read, W: Write>(
     writer: &mut Counted<W>,
 ) -> Result<u64, RunFault>
     requires kind { first ≢ 80 }
-    requires reader_counts { failures_of reader.old < u64.MAX }
-    requires writer_counts { failures_of writer.old < u64.MAX }
+    requires counts { CanCount (failures_of reader.old) (failures_of writer.old) }
     ensures follows { Follows result (edits_of request.entry) (first ∷ [])
         (R.remaining (device_of reader.old)) (W.contents (device_of writer.old))
         (W.contents (device_of writer.new)) }
     ensures stops { VideoStopsAfter result (first ∷ []) (R.remaining (device_of reader.old))
         (R.remaining (device_of reader.new)) }
-    ensures reader_count { failures_of reader.new
-        ≡ failures_of reader.old + reader_failures result }
-    ensures writer_count { failures_of writer.new
-        ≡ failures_of writer.old + writer_failures result }
+    ensures counts { Counts result (failures_of reader.old) (failures_of reader.new)
+        (failures_of writer.old) (failures_of writer.new) }
 {
     if first == b'\n' {
         return Err(RunFault::Header);

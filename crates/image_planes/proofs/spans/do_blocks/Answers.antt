@@ -7,7 +7,7 @@ use Rattle.image_planes.specs.Changes.{are_inside, stepped}
 use Rattle.image_planes.specs.Scratch.{have_room}
 use Rattle.image_planes.specs.Spans.{has_all, are_spans}
 use Rattle.image_planes.specs.declared.change.Step.{Step}
-use Rattle.image_planes.proofs.Blocks.{block_skipped, in_parts, inside_parts, room_parts, span_at, take_upto, drop_upto}
+use Rattle.image_planes.proofs.Blocks.{block_done, block_skipped, span_at, take_upto, drop_upto}
 use Rattle.image_planes.proofs.spans.do_blocks.Goals as goal
 use Rattle.image_planes.proofs.spans.do_blocks.Goals.{then-has, else-has}
 
@@ -27,9 +27,6 @@ loop-span-preserved c =
       | else-has w ↦ rw w.cells-is (sym (block_skipped a.size a.number _ c.split_at.result.0.now old (ap (has_all _) front ∙ here.0) (sym c.has.ensures ∙ w.if-has.false)), search rules)
     ] in
     record {
-      grid = ap₂ (λ ss g. stepped a.size a.number ss g) c.split_at.ensures.back (done.0 ∙ ap (λ ss. stepped a.size a.number ss old) c.split_at.ensures.front) ∙ in_parts a.size a.number n left old ∙ inv.grid;
-      outside = search (rules, done.1);
-      inside = ap (are_inside (shape_width a.shape / a.size) (shape_height a.shape)) c.split_at.ensures.back ∙ (inside_parts (shape_width a.shape / a.size) (shape_height a.shape) n left inv.inside).1;
-      room = ap (have_room (length a.cells.now) (shape_width a.shape) (length a.copy.now) (length a.sums.now)) c.split_at.ensures.back ∙ (room_parts (length a.cells.now) (shape_width a.shape) (length a.copy.now) (length a.sums.now) n left inv.room).1;
+      steps = block_done a.shape a.size a.number (length a.copy.now) (length a.sums.now) 64 a.steps.now left c.split_at.result.1.now a.cells.now c.loop-span.cells c.if-has.cells inv.steps (c.split_at.ensures.back ∙ back) (done.0 ∙ ap (λ ss. stepped a.size a.number ss old) front) done.1;
       spans = ap (are_spans (drop (c.loop-span.span-index + 1) a.spans.now)) (c.split_at.ensures.back ∙ back) ∙ here.1;
     }

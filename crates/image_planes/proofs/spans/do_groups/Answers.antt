@@ -8,7 +8,7 @@ use Rattle.image_planes.specs.Scratch.{have_room}
 use Rattle.image_planes.specs.Spans.{are_spans, are_groups}
 use Rattle.image_planes.specs.declared.change.Step.{Step}
 use Rattle.image_planes.specs.declared.spans.Span.{Span}
-use Rattle.image_planes.proofs.Blocks.{block_skipped, in_parts, inside_parts, room_parts, span_at, spans_in_parts, take_upto, drop_upto}
+use Rattle.image_planes.proofs.Blocks.{block_done, block_skipped, span_at, spans_in_parts, take_upto, drop_upto}
 use Rattle.image_planes.proofs.spans.do_groups.Goals as goal
 use Rattle.image_planes.proofs.spans.do_groups.Goals.{then-has, else-has}
 
@@ -37,10 +37,7 @@ loop-group-preserved c =
       | else-has w ↦ rw w.cells-is (sym (block_skipped a.size a.number _ (take 4096 left) old here.0 (sym c.has.ensures ∙ w.if-has.false)), search rules)
     ] in
     record {
-      grid = ap₂ (λ ss g. stepped a.size a.number ss g) back done.0 ∙ in_parts a.size a.number 4096 left old ∙ inv.grid;
-      outside = search (rules, done.1);
-      inside = ap (are_inside (shape_width a.shape / a.size) (shape_height a.shape)) back ∙ (inside_parts (shape_width a.shape / a.size) (shape_height a.shape) 4096 left inv.inside).1;
-      room = ap (have_room (length a.cells.now) (shape_width a.shape) (length a.copy.now) (length a.sums.now)) back ∙ (room_parts (length a.cells.now) (shape_width a.shape) (length a.copy.now) (length a.sums.now) 4096 left inv.room).1;
+      steps = block_done a.shape a.size a.number (length a.copy.now) (length a.sums.now) 4096 a.steps.now left c.split_at.result.1.now a.cells.now c.loop-group.cells c.if-has.cells inv.steps back done.0 done.1;
       spans = ap₂ are_spans more back ∙ (spans_in_parts 64 64 its_spans left inv.spans).1;
       groups = ap (are_groups (drop (c.loop-group.group-index + 1) a.groups.now)) back ∙ here.1;
     }

@@ -1,19 +1,12 @@
-use Rattle.std.proofs.Common.{◌≡◌, ◌/◌, true, drop, length}
-use Rattle.image_model.specs.Grid.{grid_of}
-use Rattle.image_model.specs.Layout.{SameOutside}
-use Rattle.imgref.specs.Shape.{shaped, shape_width, shape_height}
-use Rattle.image_planes.specs.Changes.{are_inside, stepped}
+use Rattle.std.proofs.Common.{◌≡◌, true, drop, length}
 use Rattle.image_planes.specs.Spans.{are_spans, are_groups}
-use Rattle.image_planes.specs.Scratch.{have_room}
+use Rattle.image_planes.proofs.Blocks.{StepsLeft}
 use Rattle.image_planes.proofs.spans.do_groups.Given as goal
 
--- the steps that are left make of what is there what all of them make of what was there
+-- some steps are left, with their spans
 abbrev pub invariant-loop-group : goal.invariant-loop-group
 invariant-loop-group l = record {
-  grid : stepped l.size l.number l.left (grid_of (shaped l.cells l.shape)) ≡ stepped l.size l.number l.steps (grid_of (shaped l.initial.cells l.shape));
-  outside : SameOutside (shaped l.initial.cells l.shape) (shaped l.cells l.shape);
-  inside : are_inside (shape_width l.shape / l.size) (shape_height l.shape) l.left ≡ true;
-  room : have_room (length l.initial.cells) (shape_width l.shape) (length l.initial.copy) (length l.initial.sums) l.left ≡ true;
+  steps : StepsLeft l.shape l.size l.number (length l.initial.copy) (length l.initial.sums) l.steps l.left l.initial.cells l.cells;
   spans : are_spans l.spans_left l.left ≡ true;
   groups : are_groups (drop l.group-index l.groups) l.left ≡ true;
 }

@@ -6,7 +6,7 @@ use Rattle.devices.specs.Whole.{AppendsBeginning}
 use Rattle.frame_formats.specs.Planned.{recipe_of}
 use Rattle.imgref_frames.specs.Passing.{PassesCells}
 use Rattle.imgref_frames.specs.Video.{with_head}
-use Rattle.imgref_frames.specs.declared.fault.RunFault.TheVariants.{Output}
+use Rattle.frame_messages.specs.declared.fault.RunFault.TheVariants.{Output}
 use Rattle.imgref_frames.proofs.HandedOn.{handed_on}
 use Rattle.imgref_frames.proofs.CellsRead.{cells_passed}
 use Rattle.imgref_frames.proofs.cells.pass_cells.Goals as goal

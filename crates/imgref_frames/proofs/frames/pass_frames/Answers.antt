@@ -4,7 +4,7 @@ use Rattle.devices.specs.Device.{device_of}
 use Rattle.frame_formats.specs.Planned.{recipe_of}
 use Rattle.std.proofs.lemmas.Grind.{common_steps}
 use Rattle.imgref_frames.specs.Passing.{PassesFrames}
-use Rattle.imgref_frames.specs.declared.fault.RunFault.{RunFault}
+use Rattle.frame_messages.specs.declared.fault.RunFault.{RunFault}
 use Rattle.imgref_frames.proofs.HandedOn.{handed_on}
 use Rattle.imgref_frames.proofs.Rounds.{frame_passed, frame_stopped, no_frame, last_frame, nothing_said}
 use Rattle.imgref_frames.proofs.frames.pass_frames.Goals as goal

@@ -7,7 +7,7 @@ use Rattle.imgref_frames.specs.Request.{edits_of}
 use Rattle.imgref_frames.specs.Pictures.{PictureHead, behind_letter}
 use Rattle.imgref_frames.specs.Kept.{PicturesStop}
 use Rattle.imgref_frames.specs.Passing.{Passed, PassesPictures}
-use Rattle.imgref_frames.specs.declared.fault.RunFault.TheVariants.{Input}
+use Rattle.frame_messages.specs.declared.fault.RunFault.TheVariants.{Input}
 use Rattle.imgref_frames.proofs.HandedOn.{handed_on}
 use Rattle.imgref_frames.proofs.Heads.{other_letter, last_letter}
 use Rattle.imgref_frames.proofs.OneMore.{passed_on}

@@ -2,8 +2,8 @@
 use Rattle.std.proofs.Common.{◌+◌, arith, sym, ap, ◌∙◌, subst}
 use Rattle.std.proofs.lemmas.Grind.{common_steps}
 use Rattle.devices.specs.Device.{device_of}
-use Rattle.frame_formats.specs.Picture.{pushed, done_as}
-use Rattle.frame_formats.specs.declared.picture.Scan.{Scan}
+use Rattle.frame_heads.specs.Picture.{pushed, done_as}
+use Rattle.frame_heads.specs.declared.picture.Scan.{Scan}
 use Rattle.imgref_frames.specs.Pictures.{HeadBegun}
 use Rattle.imgref_frames.proofs.Heads.{begun_letter, begun_more, head_bad, head_long}
 use Rattle.imgref_frames.proofs.pictures.read_head.Goals as goal

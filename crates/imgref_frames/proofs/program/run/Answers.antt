@@ -3,9 +3,9 @@ use Rattle.std.proofs.Common.{◌∷◌, [], Err, subst, arith, rules}
 use Rattle.std.proofs.lemmas.Grind.{common_steps}
 use Rattle.std.specs.Io.KnownBytes.{Consumes}
 use Rattle.devices.specs.Device.{device_of}
-use Rattle.frame_formats.specs.Edits.{edits}
+use Rattle.frame_edits.specs.Edits.{edits}
 use Rattle.imgref_frames.specs.Program.{Writes}
-use Rattle.imgref_frames.specs.declared.fault.RunFault.TheVariants.{Header}
+use Rattle.frame_messages.specs.declared.fault.RunFault.TheVariants.{Header}
 use Rattle.imgref_frames.proofs.Carrying.{behind_first}
 use Rattle.imgref_frames.proofs.Hiding.{Laws, hides}
 use Rattle.imgref_frames.proofs.OneOutput.{one_output}

@@ -7,7 +7,7 @@ use Rattle.frame_formats.specs.Planned.{recipe_of}
 use Rattle.imgref_frames.specs.Request.{edits_of}
 use Rattle.frame_formats.specs.Recipe.{Recipe}
 use Rattle.imgref_frames.specs.Program.{Writes}
-use Rattle.imgref_frames.specs.declared.fault.RunFault.{RunFault}
+use Rattle.frame_messages.specs.declared.fault.RunFault.{RunFault}
 use Rattle.std.proofs.Common.{Err}
 use Rattle.frame_formats.specs.declared.plans.PlanFault.TheVariants.{Memory as NoMemory}
 use Rattle.imgref_frames.proofs.Outcomes.{at_ok, at_err}

@@ -1,6 +1,7 @@
 -- The first edit has its frames wherever memory is asked for.
 use Rattle.std.proofs.Common.{None}
-use Rattle.frame_formats.specs.Covers.{one_pixel, step_in}
+use Rattle.frame_edits.specs.Covers.{one_pixel}
+use Rattle.frame_formats.specs.Steps.{step_in}
 use Rattle.frame_formats.proofs.StepsEach.{at_memory, starts_made}
 use Rattle.frame_formats.proofs.plans.Plan.for_picture.Goals as goal
 

@@ -1,0 +1,6 @@
+pub mod BoxCovers
+pub mod Covers
+pub mod Edits
+pub mod Holds
+pub mod Lists
+pub mod Words

@@ -1,0 +1,10 @@
+pub mod Digits
+pub mod Format
+pub mod Heads
+pub mod Line
+pub mod Names
+pub mod Pam
+pub mod PamWords
+pub mod Picture
+pub mod Pixels
+pub mod Rates

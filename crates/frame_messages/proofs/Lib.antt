@@ -1,0 +1,2 @@
+pub mod BareFrames
+pub mod LateNotes

@@ -1,0 +1,6 @@
+use Rattle.std.proofs.Common.{length}
+use Rattle.texts.specs.Parts.{parts_left}
+use Rattle.frame_messages.proofs.lines.Lines.find.Given as goal
+
+abbrev pub decreases-loop-line : goal.decreases-loop-line
+decreases-loop-line l = length (parts_left l.self.lines)

@@ -1,0 +1,98 @@
+//! Edits that did nothing: ranges that the input didn't reach, ranges of times that have no frame, and
+//! covers that cover nothing.
+
+use crate::notes::Notes;
+use crate::places::{Place, Texts, say_place};
+use frame_edits::Edit;
+use frame_heads::Rate;
+use frame_requests::Seen;
+
+/// The edits of a run and where each is named, for what is said of those that did nothing.
+#[derive(Clone, Copy)]
+pub struct Noted<'a> {
+    pub rt: &'a HostRuntime,
+    pub steps: &'a [Edit],
+    pub texts: Texts<'a>,
+    /// Whether it is a fault.
+    pub strict: bool,
+}
+
+impl Noted<'_> {
+    /// Prints each range of frames that the input, which had so many, didn't reach. Returns whether
+    /// there is one.
+    pub fn say_unreached(self, count: u64, rate: Option<Rate>) -> bool {
+        let rt = self.rt;
+        let mut notes = Notes::new(rt, self.strict, "fault range");
+        // The numbers only grow, so all lines are read once.
+        let mut places = self.texts.places(rt.alloc());
+        for number in 0..self.steps.len() {
+            let Some((first, end)) = self.steps[number].range.frames(rate) else {
+                continue;
+            };
+            if first < count || (first == 0 && end == u64::MAX) || !notes.begin() {
+                continue;
+            }
+            let place = places.find(number);
+            say_place(rt, place);
+            let _ = eprint!(rt; "the input has {count} frames, and ends before ");
+            let _ = match place {
+                Place::Box(_) => eprintln!(rt; "frame {} of the list", first.saturating_add(1)),
+                _ if end < u64::MAX => eprintln!(rt; "its range {first}..{end}"),
+                _ => eprintln!(rt; "its range {first}.."),
+            };
+        }
+        notes.end()
+    }
+
+    /// Prints each cover that covers nothing in a frame of so many, and returns whether there is one.
+    pub fn say_uncovered(self, seen: &Seen, count: u64) -> bool {
+        let rt = self.rt;
+        let mut notes = Notes::new(rt, self.strict, "fault cover");
+        let mut places = self.texts.places(rt.alloc());
+        for number in 0..self.steps.len() {
+            let Some(found) = seen.uncovered(number, &self.steps[number], count) else {
+                continue;
+            };
+            if !notes.begin() {
+                continue;
+            }
+            let place = places.find(number);
+            say_place(rt, place);
+            let _ = match place {
+                Place::Box(_) => eprint!(rt;
+                    "it covers nothing in frame {} of the list",
+                    found.frame.saturating_add(1)
+                ),
+                _ => eprint!(rt; "it covers nothing in frame {}", found.frame),
+            };
+            let _ = eprintln!(rt; ", which has {} by {} pixels", found.width, found.height);
+        }
+        notes.end()
+    }
+}
+
+/// Prints the first range of times that has no frame, and why. Returns whether there is one.
+pub(crate) fn say_no_frames(
+    rt: &HostRuntime,
+    rate: Option<Rate>,
+    steps: &[Edit],
+    texts: Texts<'_>,
+) -> bool {
+    for number in 0..steps.len() {
+        if steps[number].range.frames(rate).is_some() {
+            continue;
+        }
+        say_place(rt, texts.places(rt.alloc()).find(number));
+        let _ = match rate {
+            Some(rate) if rate.frames > 0 && rate.seconds > 0 => eprintln!(rt;
+                "no frame is in its range of times, with F{}:{}",
+                rate.frames, rate.seconds
+            ),
+            _ => eprintln!(rt;
+                "its range is of times, and the input names no rate of frames, as F25:1 does"
+            ),
+        };
+        return true;
+    }
+    false
+}

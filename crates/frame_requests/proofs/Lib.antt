@@ -1,0 +1,2 @@
+pub mod OptionsRead
+pub mod Refusals

@@ -1,0 +1,46 @@
+-- The edits that a person asks for: those of a file or of words, after the boxes of a list.
+use Rattle.std.specs.Prelude.{◌≡◌, ◌⊎◌, ℕ, Bool, true, false, List, [], Option, Some, None}
+use Rattle.text_model.specs.Parts.{parts_of}
+use Rattle.frame_edits.specs.Edits.{Edits, edits}
+use Rattle.frame_edits.specs.Lists.{with_lines}
+use Rattle.frame_edits.specs.declared.box_covers.BoxStyle.{BoxStyle}
+use Rattle.frame_requests.specs.Boxes.{BeginsWithBoxes, BoxesAreRefused}
+use Rattle.frame_requests.specs.Words.{AreWords, RefusesLines, RefusesWords}
+use Rattle.frame_requests.specs.declared.words.Refusal.{Refusal}
+
+-- the edits of the words; beside a list of boxes there may be no word
+abbrev pub AreSaid : List (List ℕ) → Bool → Edits → Type 0
+AreSaid [] true e = e ≡ edits [] None
+AreSaid words boxed e = AreWords words e
+
+-- the edits of the lines of a file, where there is one, and else of the words
+abbrev pub AreNamed : Option (List ℕ) → List (List ℕ) → Bool → Edits → Type 0
+AreNamed (Some text) words boxed e = with_lines (edits [] None) (parts_of 10 text) ≡ Some e
+AreNamed None words boxed e = AreSaid words boxed e
+
+-- why these are refused
+abbrev pub NamedAreRefused : Option (List ℕ) → List (List ℕ) → Refusal → Type 0
+NamedAreRefused (Some text) words why = RefusesLines text why
+NamedAreRefused None words why = RefusesWords words why
+
+-- edits are those of a file or of words, and after the boxes of a list of this text these become others
+pub record AreAfterBoxes (style : BoxStyle) (boxes : List ℕ) (hold : Option ℕ) (file : Option (List ℕ)) (words : List (List ℕ)) (e : Edits) : Type 0 where
+  pub others : Edits
+  pub are : AreNamed file words true others
+  pub begins : BeginsWithBoxes style boxes hold others e
+
+-- the edits asked for: after the boxes of a list, where there is one
+abbrev pub AreAsked : BoxStyle → Option (List ℕ) → Option ℕ → Option (List ℕ) → List (List ℕ) → Edits → Type 0
+AreAsked style None hold file words e = AreNamed file words false e
+AreAsked style (Some boxes) hold file words e = AreAfterBoxes style boxes hold file words e
+
+-- the edits of a file or of words are there, and the boxes before them are refused for this
+pub record BoxesBeforeAreRefused (style : BoxStyle) (boxes : List ℕ) (hold : Option ℕ) (file : Option (List ℕ)) (words : List (List ℕ)) (why : Refusal) : Type 0 where
+  pub others : Edits
+  pub are : AreNamed file words true others
+  pub refused : BoxesAreRefused style boxes hold others why
+
+-- why what is asked for is refused
+abbrev pub AskedIsRefused : BoxStyle → Option (List ℕ) → Option ℕ → Option (List ℕ) → List (List ℕ) → Refusal → Type 0
+AskedIsRefused style None hold file words why = NamedAreRefused file words why
+AskedIsRefused style (Some boxes) hold file words why = NamedAreRefused file words why ⊎ BoxesBeforeAreRefused style boxes hold file words why

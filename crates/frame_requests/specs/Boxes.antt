@@ -1,0 +1,45 @@
+-- Edits that begin with the boxes of a tracker's list.
+use Rattle.std.specs.Prelude.{◌≡◌, false, ℕ, IsTrue, List, [], ◌++◌, Option, Some, None}
+use Rattle.text_model.specs.Parts.{parts_of}
+use Rattle.text_model.specs.Reading.{is_nil}
+use Rattle.frame_lists.specs.Boxes.{begins_with_box, each_box}
+use Rattle.frame_edits.specs.BoxCovers.{AreCovers, cover_of}
+use Rattle.frame_edits.specs.Edits.{Edits}
+use Rattle.frame_edits.specs.Holds.{AreHeld}
+use Rattle.frame_edits.specs.declared.box_covers.BoxStyle.{BoxStyle}
+use Rattle.frame_edits.specs.declared.words.Edit.{Edit}
+use Rattle.frame_requests.specs.Words.{IsFirstEmpty}
+use Rattle.frame_requests.specs.declared.words.Refusal.{Refusal}
+use Rattle.frame_requests.specs.declared.words.Refusal.TheVariants.{NoBoxes, EmptyBoxes, NoFrame, Memory}
+
+-- the covers of all boxes of a text, each in its own frame, or held for so many
+abbrev pub CoverBoxes : BoxStyle → List ℕ → Option ℕ → List Edit → Type 0
+CoverBoxes style text None covers = AreCovers style text covers
+CoverBoxes style text (Some hold) covers = AreHeld style text hold covers
+
+-- a line of the text is no box
+abbrev pub NoBoxList : BoxStyle → List ℕ → Option ℕ → Type 0
+NoBoxList style text None = each_box (cover_of style) text ≡ None
+NoBoxList style text (Some hold) = each_box (λ b. b) text ≡ None
+
+-- the covers of all boxes of a text, of which there is one, and after them the edits
+pub record BeginsWithBoxes (style : BoxStyle) (text : List ℕ) (hold : Option ℕ) (others new : Edits) : Type 0 where
+  pub covers : List Edit
+  pub are : CoverBoxes style text hold covers
+  pub some : is_nil covers ≡ false
+  pub steps : new.steps ≡ covers ++ others.steps
+  pub framing : new.framing ≡ others.framing
+
+-- the edit of this number, counted with the covers before the edits, is the first whose range has no frame
+pub record HasEmptyRange (style : BoxStyle) (text : List ℕ) (hold : Option ℕ) (others : Edits) (at : ℕ) : Type 0 where
+  pub covers : List Edit
+  pub are : CoverBoxes style text hold covers
+  pub first : IsFirstEmpty (covers ++ others.steps) at
+
+-- why boxes and the edits after them are refused: a line is no box, there is no box, a range has no frame, or there was no memory, which is needed only where the first line with a word is a box
+abbrev pub BoxesAreRefused : BoxStyle → List ℕ → Option ℕ → Edits → Refusal → Type 0
+BoxesAreRefused style text hold others NoBoxes = NoBoxList style text hold
+BoxesAreRefused style text hold others EmptyBoxes = CoverBoxes style text hold []
+BoxesAreRefused style text hold others (NoFrame at) = HasEmptyRange style text hold others at
+BoxesAreRefused style text hold others Memory = IsTrue (begins_with_box (parts_of 10 text))
+BoxesAreRefused style text hold others _ = ⊥

@@ -1,0 +1,6 @@
+pub mod Asked
+pub mod Boxes
+pub mod Late
+pub mod Options
+pub mod Uncovered
+pub mod Words

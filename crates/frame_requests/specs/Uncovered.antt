@@ -1,0 +1,29 @@
+-- Covers that cover nothing in a frame that they are for.
+use Rattle.std.specs.Prelude.{◌≡◌, ◌≤◌, ◌<◌, ℕ, Bool, true, Option, Some, None}
+use Rattle.frame_edits.specs.Covers.{changes_nothing, one_pixel, video_unit}
+use Rattle.frame_lists.specs.Ranges.{frames_in}
+use Rattle.frame_heads.specs.declared.rate.Rate.{Rate}
+use Rattle.frame_edits.specs.declared.words.Edit.{Edit}
+use Rattle.frame_requests.specs.declared.seen.Shape.{Shape}
+use Rattle.frame_requests.specs.declared.seen.Shape.TheVariants.{Video, Picture}
+use Rattle.frame_requests.specs.declared.seen.Stretch.{Stretch}
+
+abbrev pub rate_in : Shape → Option Rate
+rate_in (Video format rate) = rate
+rate_in (Picture picture) = None
+
+-- a cover or a box that has no pixel of a frame of this shape
+abbrev pub is_empty_in : Shape → Edit → Bool
+is_empty_in (Video format rate) e = changes_nothing (video_unit format) format.width format.height e
+is_empty_in (Picture picture) e = changes_nothing one_pixel picture.width picture.height e
+
+-- the frame is one of these that the edit names, and the edit covers nothing in it
+pub record IsUncovered (s : Stretch) (e : Edit) (n : ℕ) : Type 0 where
+  pub empty : is_empty_in s.shape e ≡ true
+  pub first : ℕ
+  pub end : ℕ
+  pub frames : frames_in (rate_in s.shape) e.range ≡ Some (first, end)
+  pub from : first ≤ n
+  pub before : n < end
+  pub here : s.first ≤ n
+  pub still : n < s.end

@@ -1,0 +1,73 @@
+//! A tracker's list, whose boxes are covered before other edits.
+
+ghost use Rattle.std.specs.Prelude.{◌≡◌, ◌<◌, IfErr, IfOk, IsTrue, length};
+ghost use Rattle.frame_requests.specs.Boxes.{BeginsWithBoxes, BoxesAreRefused, CoverBoxes, NoBoxList};
+ghost use Rattle.frame_lists.specs.Boxes.{begins_with_box};
+ghost use Rattle.text_model.specs.Parts.{parts_of};
+ghost use Rattle.frame_requests.specs.Words.{AreUsable};
+ghost use Rattle.frame_edits.specs.Lists.{plain};
+
+use crate::words::{Refusal, refuse_unusable};
+use frame_edits::{BoxStyle, Edit, Edits, read_boxes, read_held};
+use frame_lists::WordsFault;
+use std::alloc::Global;
+
+// What the boxes of a tracker's list become, which are held for so many frames.
+fn covers_of(
+    alloc: Global,
+    text: &[u8],
+    style: BoxStyle,
+    hold: Option<usize>,
+) -> Result<Vec<Edit>, WordsFault>
+    ensures covers { IfOk result (λ covers. CoverBoxes style text.now hold covers.items) }
+    ensures some { IfOk result (λ covers. 0 < length covers.items
+        → IsTrue (begins_with_box (parts_of 10 text.now))) }
+    ensures none { IfErr result (λ e. e ≡ WordsFault.NoEdit → NoBoxList style text.now hold) }
+    ensures memory { IfErr result
+        (λ e. e ≡ WordsFault.Memory → IsTrue (begins_with_box (parts_of 10 text.now))) }
+{
+    match hold {
+        None => read_boxes(alloc, text, style),
+        Some(hold) => read_held(alloc, text, style, hold),
+    }
+}
+
+/// What the boxes of a tracker's list become, and after that these edits. The boxes are held for so
+/// many frames.
+///
+/// # Errors
+///
+/// `NoBoxes` where a line is no box, `EmptyBoxes` where there is none, and `NoFrame` where the range of
+/// an edit has no frame. `Memory` only where the first line with a word is a box.
+pub fn with_boxes(
+    alloc: Global,
+    text: &[u8],
+    style: BoxStyle,
+    hold: Option<usize>,
+    edits: &Edits,
+) -> Result<Edits, Refusal>
+    ensures begins { IfOk result
+        (λ made. BeginsWithBoxes style text.now hold (plain edits.now) (plain made)) }
+    ensures usable { IfOk result (λ made. AreUsable (plain made)) }
+    ensures refused { IfErr result (BoxesAreRefused style text.now hold (plain edits.now)) }
+{
+    let mut steps = match covers_of(alloc, text, style, hold) {
+        Ok(covers) => covers,
+        Err(WordsFault::NoEdit) => return Err(Refusal::NoBoxes),
+        Err(WordsFault::Memory) => return Err(Refusal::Memory),
+    };
+    if steps.is_empty() {
+        return Err(Refusal::EmptyBoxes);
+    }
+    if steps.extend_from_slice(&edits.steps).is_err() {
+        return Err(Refusal::Memory);
+    }
+    let made = Edits {
+        steps,
+        framing: edits.framing,
+    };
+    match refuse_unusable(&made) {
+        Ok(()) => Ok(made),
+        Err(refusal) => Err(refusal),
+    }
+}

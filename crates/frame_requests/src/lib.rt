@@ -1,0 +1,17 @@
+//! What a person asks for by words and lists: options, edits, and which of them are refused. And what
+//! was found of the input of a run.
+#![tactic(auto)]
+
+mod asked;
+mod boxes;
+mod late;
+mod options;
+mod seen;
+mod words;
+
+pub use asked::edits_asked;
+pub use boxes::with_boxes;
+pub use late::{Early, covers_late};
+pub use options::{Misread, Options, read_options};
+pub use seen::{Seen, Shape, Stretch, Uncovered};
+pub use words::{Refusal, edits_of_lines, edits_of_words, has_blur, words_of};

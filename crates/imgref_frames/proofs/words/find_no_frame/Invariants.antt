@@ -1,7 +1,0 @@
-use Rattle.std.proofs.Common.{◌≡◌, All, take, true}
-use Rattle.imgref_frames.specs.Words.{has_span}
-use Rattle.imgref_frames.proofs.words.find_no_frame.Given as goal
-
--- each range so far begins before its end
-abbrev pub invariant-loop-at : goal.invariant-loop-at
-invariant-loop-at l = All (λ s. has_span s.range ≡ true) (take l.at l.edits)
