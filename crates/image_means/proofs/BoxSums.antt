@@ -1,5 +1,5 @@
 -- Sums up to a pixel.
-use Rattle.std.proofs.Common.{◌≡◌, ℕ, zero, suc, ◌+◌, ◌-◌, ◌*◌, ◌/◌, ◌<◌, ◌≤◌, List, length, sym, ap, ◌∙◌, arith}
+use Rattle.std.proofs.Common.{◌≡◌, ℕ, zero, suc, ◌+◌, ◌-◌, ◌*◌, ◌/◌, ◌<◌, ◌≤◌, ◌⊎◌, inl, inr, min, List, length, sym, ap, ◌∙◌, arith}
 use Rattle.std.proofs.lemmas.Nat.{div-mul-add}
 use Rattle.std.proofs.Math.Nat.{add-mul, mul-le-mul_right, lt_of_mul-lt-mul_right}
 use Rattle.image_means.specs.Blur.{sum_at, pixels_upto, box_first, box_end, box_sum}
@@ -13,6 +13,34 @@ pixels_next sums per at n = sum_next n (λ p. sum_at sums (p * per + at))
 pub pixels_more : (sums : List ℕ) (per at n more : ℕ) → pixels_upto sums per at n ≤ pixels_upto sums per at (n + more)
 pixels_more sums per at n zero = let e : n + 0 ≡ n = omega arith in omega (arith, ap (pixels_upto sums per at) e)
 pixels_more sums per at n (suc more) = let e : n + suc more ≡ n + more + 1 = omega arith in omega (arith, ap (pixels_upto sums per at) e, pixels_more sums per at n more, pixels_next sums per at (n + more))
+
+-- ---- the box around the next pixel
+
+module _ (sums : List ℕ) (per at across p : ℕ) where
+  -- the sum after the pixel that comes in, where there is one
+  pub comes_in : (before sum : ℕ) → before + pixels_upto sums per at (p - (across + 1)) ≡ pixels_upto sums per at (min (length sums / per) (p + across))
+      → ((p + across < length sums / per) × (sum ≡ before + sum_at sums ((p + across) * per + at))) ⊎ ((length sums / per ≤ p + across) × (sum ≡ before))
+      → sum + pixels_upto sums per at (p - (across + 1)) ≡ pixels_upto sums per at (min (length sums / per) (p + across + 1))
+  comes_in before sum so (inl it) =
+      omega (
+        arith,
+        so,
+        it.1,
+        pixels_next sums per at (p + across),
+        ap (pixels_upto sums per at) (let e : min (length sums / per) (p + across) ≡ p + across = omega (arith, it.0) in e),
+        ap (pixels_upto sums per at) (let e : min (length sums / per) (p + across + 1) ≡ p + across + 1 = omega (arith, it.0) in e),
+      )
+  comes_in before sum so (inr none) = omega (arith, so, none.1, ap (pixels_upto sums per at) (let e : min (length sums / per) (p + across) ≡ min (length sums / per) (p + across + 1) = omega (arith, none.0) in e))
+
+  -- the pixel that goes out is a part of it
+  pub goes_out : across < p → pixels_upto sums per at (p - across) ≡ pixels_upto sums per at (p - (across + 1)) + sum_at sums ((p - across - 1) * per + at)
+  goes_out later =
+      omega (
+        arith,
+        pixels_next sums per at (p - across - 1),
+        ap (pixels_upto sums per at) (let e : p - across - 1 + 1 ≡ p - across = omega (arith, later) in e),
+        ap (pixels_upto sums per at) (let e : p - across - 1 ≡ p - (across + 1) = omega (arith, later) in e),
+      )
 
 -- the pixel of a sample that is there
 pub pixel_of : (count per p at : ℕ) → count ≡ count / per * per → p * per + at < count → p < count / per

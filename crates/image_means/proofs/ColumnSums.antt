@@ -67,6 +67,12 @@ row_sample bytes cells from upto start len stride y count k first last begins lo
 pub column_next : (bytes : SampleBytes) (cells : List ℕ) (stride k n : ℕ) → column_upto bytes cells stride k (n + 1) ≡ column_upto bytes cells stride k n + sample_in bytes (λ i. i) cells (n * stride + k * sample_cells bytes)
 column_next bytes cells stride k n = sum_next n (λ j. sample_in bytes (λ i. i) cells (j * stride + k * sample_cells bytes))
 
+-- the sum of a column, up to one row more, by the row's own sample
+pub column_more : (bytes : SampleBytes) (cells : List ℕ) (from upto start len stride y count k : ℕ) → from ≡ start → upto ≡ start + len → start ≡ y * stride → len ≡ count * sample_cells bytes → k < count
+    → column_upto bytes cells stride k (y + 1) ≡ column_upto bytes cells stride k y + sample_in bytes (λ n. n) (take (upto - from) (drop from cells)) (k * sample_cells bytes)
+column_more bytes cells from upto start len stride y count k first last begins long below =
+    omega (arith, column_next bytes cells stride k y, row_sample bytes cells from upto start len stride y count k first last begins long below)
+
 pub column_grows : (bytes : SampleBytes) (cells : List ℕ) (stride k m n : ℕ) → m ≤ n → column_upto bytes cells stride k m ≤ column_upto bytes cells stride k n
 column_grows bytes cells stride k m n order = sum_grows (λ j. sample_in bytes (λ i. i) cells (j * stride + k * sample_cells bytes)) m n order
 

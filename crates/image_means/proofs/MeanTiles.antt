@@ -12,15 +12,15 @@ use Rattle.image_model.specs.Tiles.{tile_count, tile_start}
 use Rattle.image_model.proofs.Cells.{slice_get-take, slice_get-drop, slice_get-set_same, slice_get-set_other}
 use Rattle.image_model.proofs.Grids.{same_grids, pixel_at}
 use Rattle.image_model.proofs.Rows.{row_count-wide, some_column, row_reached}
-use Rattle.image_model.proofs.Tiles.{tile_begins}
+use Rattle.image_model.proofs.Tiles.{tile_begins, tile_counted}
 use Rattle.image_shape.specs.Shape.{shaped, shaped_grid}
 use Rattle.image_shape.specs.declared.shape.Shape.{Shape}
 use Rattle.image_writes.specs.Mosaic.{mosaic_by, shown_column}
 use Rattle.image_means.specs.Means.{sum_upto, mean_of, tile_columns, sample_cells, sample_start, cell_number, sample_in, sample_at, sample_mean, mean_cell, sample_mosaic_by, row_mean, row_cell, PutsCells, BeginsWith}
 use Rattle.image_means.specs.declared.means.SampleBytes.{SampleBytes}
 use Rattle.image_means.proofs.Samples.{whole_pixels, second_within, sum_whole, starts_here, start_whole, start_within, sample_same}
-use Rattle.image_writes.proofs.Corners.{first_start, next_start, start_of, start_starts}
-use Rattle.image_means.proofs.Rounding.{sum_same, sum_within, mean_same}
+use Rattle.image_writes.proofs.Corners.{start_of, start_starts, IsReached, none_reached, later_reached, next_reached}
+use Rattle.image_means.proofs.Rounding.{sum_same, sum_within, mean_same, some_pixels, divided_within}
 use Rattle.image_writes.proofs.Parts.{shown_before, shows_itself}
 use Rattle.image_writes.proofs.RowsWritten.{RowsDone, all_right}
 
@@ -54,6 +54,15 @@ pub line_added : {T : Type 0} (cells : List T) (size len start line lines greate
 line_added cells size len start line lines greatest before more some below inside so here =
     sum_within lines some line (tile_count size len) greatest before more below so (subst (λ n. more ≤ tile_count size n * greatest) (line_length cells start len inside) here)
 
+-- what is divided of it is no greater than the greatest number
+pub line_divided : {T : Type 0} (cells : List T) (size len start line lines greatest mean sum more columns : ℕ) → 0 < size → 0 < len → 0 < lines → line < lines → start + len ≤ length cells → columns ≡ tile_count size len
+    → mean * (columns * lines) + sum ≤ line * (tile_count size len * greatest) → more ≤ tile_count size (length (take (start + len - start) (drop start cells))) * greatest → mean + (sum + more) / (columns * lines) ≤ greatest
+line_divided cells size len start line lines greatest mean sum more columns some wide high below inside here so line_bound =
+    let count : ℕ = columns * lines in
+    let many : 0 < count = some_pixels lines high columns (omega (arith, here, tile_counted size len 0 some (omega (arith, wide)))) in
+    let all = line_added cells size len start line lines greatest (mean * count + sum) more high below inside so line_bound in
+    divided_within (sum + more) count many mean greatest (mean * count + (sum + more)) refl (subst (λ n. mean * count + (sum + more) ≤ n * lines * greatest) (sym here) (omega (arith, all.1)))
+
 -- ---- in one row
 
 -- the first pixels of tiles before column x have their cells, and all other cells are as before; the tile of that column begins with this pixel
@@ -61,11 +70,7 @@ pub record PutUpto {T : Type 0} (what : ℕ → T) (size tile start : ℕ) (old 
   pub as_many : length now ≡ length old
   pub each : (u : ℕ) → u < x → shown_column size tile u ≡ u → slice_get now (start + u) ≡ Some (what u)
   pub others : (k : ℕ) → (k < start) ⊎ (start + x ≤ k) → slice_get now k ≡ slice_get old k
-  pub pixel : ℕ
-  pub starts : tile_start tile pixel ≡ pixel
-  pub at : corner ≡ pixel * size
-  pub from : corner ≤ x
-  pub within : x ≤ corner + tile * size
+  pub reached : IsReached size tile corner x
 
 module _ {T : Type 0} (what : ℕ → T) (size tile start : ℕ) (some : 0 < size) (wide : 0 < tile) (old : List T) where
   -- none yet
@@ -74,11 +79,7 @@ module _ {T : Type 0} (what : ℕ → T) (size tile start : ℕ) (some : 0 < siz
     as_many = refl;
     each = λ u below own. absurd (omega (arith, below));
     others = λ k beside. refl;
-    pixel = 0;
-    starts = first_start tile;
-    at = omega arith;
-    from = omega arith;
-    within = omega arith;
+    reached = none_reached size tile;
   }
 
   module _ (now : List T) (corner x : ℕ) (so : PutUpto what size tile start old now corner x) where
@@ -96,19 +97,15 @@ module _ {T : Type 0} (what : ℕ → T) (size tile start : ℕ) (some : 0 < siz
       as_many = so.as_many;
       each = so.each;
       others = so.others;
-      pixel = so.pixel + tile;
-      starts = next_start tile so.pixel wide so.starts;
-      at = omega (arith, so.at, ends, add-mul so.pixel tile size);
-      from = omega arith;
-      within = omega arith;
+      reached = next_reached size tile corner x so.reached wide ends;
     }
 
     -- a later pixel of a tile stays
     pub later_stays : corner + size ≤ x → x < corner + tile * size → PutUpto what size tile start old now corner (x + 1)
     later_stays after below =
         let q : ℕ = x / size in
-        let here : tile_start tile q ≡ so.pixel = start_of tile so.pixel wide so.starts q (le-div so.pixel x size some (omega (arith, so.at, so.from))) (div_below x size (so.pixel + tile) some (omega (arith, so.at, below, add-mul so.pixel tile size))) in
-        let shown : shown_column size tile x ≡ so.pixel * size + x % size = ap (λ n. n * size + x % size) here in
+        let here : tile_start tile q ≡ so.reached.pixel = start_of tile so.reached.pixel wide so.reached.starts q (le-div so.reached.pixel x size some (omega (arith, so.reached.at, so.reached.from))) (div_below x size (so.reached.pixel + tile) some (omega (arith, so.reached.at, below, add-mul so.reached.pixel tile size))) in
+        let shown : shown_column size tile x ≡ so.reached.pixel * size + x % size = ap (λ n. n * size + x % size) here in
         record {
           as_many = so.as_many;
           each = λ u upto own.
@@ -117,14 +114,10 @@ module _ {T : Type 0} (what : ℕ → T) (size tile start : ℕ) (some : 0 < siz
                 | inr last ↦
                     let this : u ≡ x = omega (arith, upto, last) in
                     let mine : shown_column size tile x ≡ x = subst (λ n. shown_column size tile n ≡ n) this own in
-                    absurd (omega (arith, mine, shown, mod_below x size some, so.at, after))
+                    absurd (omega (arith, mine, shown, mod_below x size some, so.reached.at, after))
               ];
           others = λ k beside. elim beside [ inl before ↦ so.others k (inl before) | inr behind ↦ so.others k (inr (omega (arith, behind))) ];
-          pixel = so.pixel;
-          starts = so.starts;
-          at = so.at;
-          from = omega (arith, so.from);
-          within = omega (arith, below);
+          reached = later_reached size tile corner x so.reached (x + 1) (omega arith) (omega (arith, below));
         }
 
     -- a cell of the first pixel of a tile is written
@@ -142,11 +135,7 @@ module _ {T : Type 0} (what : ℕ → T) (size tile start : ℕ) (some : 0 < siz
         | inl before ↦ slice_get-set_other now (start + x) k value (λ e. omega (arith, e, before)) ∙ so.others k (inl before)
         | inr behind ↦ slice_get-set_other now (start + x) k value (λ e. omega (arith, e, behind)) ∙ so.others k (inr (omega (arith, behind)))
       ];
-      pixel = so.pixel;
-      starts = so.starts;
-      at = so.at;
-      from = omega (arith, so.from);
-      within = omega (arith, below, room);
+      reached = later_reached size tile corner x so.reached (x + 1) (omega arith) (omega (arith, below, room));
     }
 
     -- a mean of cells that are as before
@@ -166,7 +155,7 @@ module _ {T : Type 0} (what : ℕ → T) (size tile start : ℕ) (some : 0 < siz
 
     -- the corner lies where a sample begins
     pub corner_whole : (bytes : SampleBytes) → size % sample_cells bytes ≡ 0 → corner % sample_cells bytes ≡ 0
-    corner_whole bytes pixels = ap (λ n. n % sample_cells bytes) so.at ∙ whole_pixels bytes so.pixel size pixels
+    corner_whole bytes pixels = ap (λ n. n % sample_cells bytes) so.reached.at ∙ whole_pixels bytes so.reached.pixel size pixels
 
     -- where the next tile begins, so does a sample
     pub tile_whole : (bytes : SampleBytes) → size % sample_cells bytes ≡ 0 → x ≡ corner + tile * size → x % sample_cells bytes ≡ 0

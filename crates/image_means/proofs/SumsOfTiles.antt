@@ -1,12 +1,14 @@
 -- Stretches of a row, one after the other, of which the first pixels of tiles get cells: tiles by their sums, and stretches by their tiles.
-use Rattle.std.proofs.Common.{◌≡◌, ℕ, ◌+◌, ◌-◌, ◌*◌, ◌/◌, ◌%◌, ◌<◌, ◌≤◌, ◌⊎◌, inl, inr, min, List, length, take, drop, length-take, length-drop, Some, refl, sym, ap, ◌∙◌, arith}
+use Rattle.std.proofs.Common.{◌≡◌, ℕ, ◌+◌, ◌-◌, ◌*◌, ◌/◌, ◌%◌, ◌<◌, ◌≤◌, ◌⊎◌, inl, inr, min, List, length, take, drop, length-take, length-drop, set, Some, get_or, refl, sym, ap, ◌∙◌, arith}
 use Rattle.std.specs.List.{slice_get}
 use Rattle.std.specs.Option.{option_map_or}
 use Rattle.std.proofs.lemmas.Bool.{cases_lt}
+use Rattle.std.proofs.lemmas.List.{length-set}
 use Rattle.std.proofs.lemmas.Nat.{mod_below, le-div, div_below, div-add-mod', mul-le}
-use Rattle.std.proofs.Math.Nat.{add-mul, mul_assoc, mul-add-div_right, mul-add-mod_self_right}
+use Rattle.std.proofs.lemmas.Option.{slice_get-get_or}
+use Rattle.std.proofs.Math.Nat.{add-mul, mul_assoc, mul-add-div_right, mul-add-mod_self_right, mul-mod_left}
 use Rattle.image_model.specs.Tiles.{tile_count, tile_start}
-use Rattle.image_model.proofs.Cells.{slice_get-take, slice_get-drop}
+use Rattle.image_model.proofs.Cells.{slice_get-take, slice_get-drop, slice_get-set_same, slice_get-set_other}
 use Rattle.image_model.proofs.Tiles.{tile_begins}
 use Rattle.image_writes.specs.Mosaic.{shown_column}
 use Rattle.image_means.specs.LineSums.{lines_sum, pixels_sum, sums_cell, AreLineSums}
@@ -14,6 +16,11 @@ use Rattle.image_means.specs.Means.{number_in, rounded_mean, sum_upto, tile_colu
 use Rattle.image_means.specs.declared.means.SampleBytes.TheVariants.{One}
 use Rattle.image_means.proofs.ColumnSums.{sum_exchanged}
 use Rattle.image_means.proofs.Rounding.{sum_same}
+
+-- ---- the longest stretch of whole tiles
+
+pub whole_multiple : (room tile : ℕ) → 0 < tile → (room / tile * tile % tile ≡ 0) × (room < room / tile * tile + tile)
+whole_multiple room tile some = (mul-mod_left (room / tile) tile, omega (arith, div-add-mod' room tile, mod_below room tile some))
 
 -- ---- the columns of tiles
 
@@ -47,7 +54,7 @@ module _ (size tile : ℕ) (some : 0 < size) (wide : 0 < tile) where
       omega (arith, own, shown, add-mul (q * tile) (tile_start tile p) size, is)
 
   -- a whole tile has so many pixels, counted by any of the first pixel's cells
-  full_columns : (len : ℕ) → tile * size < len + size → len ≤ tile * size → tile_count size len ≡ tile
+  pub full_columns : (len : ℕ) → tile * size < len + size → len ≤ tile * size → tile_count size len ≡ tile
   full_columns len above within =
       let least : tile ≤ (len + (size - 1)) / size = le-div tile (len + (size - 1)) size some (omega (arith, above, some)) in
       let most : (len + (size - 1)) / size < tile + 1 = div_below (len + (size - 1)) size (tile + 1) some (omega (arith, within, add-mul tile 1 size, some)) in
@@ -76,6 +83,41 @@ module _ (size tile : ℕ) (some : 0 < size) (wide : 0 < tile) where
         | inl last ↦ ap (λ k. tile_columns size tile k u) (let e : n ≡ more = omega (arith, cut, last) in e)
         | inr whole ↦ whole_columns m n more u (let e : n ≡ step = omega (arith, cut, whole) in e ∙ is) (omega (arith, cut)) below own
       ]
+
+-- ---- cell by cell
+
+-- so many cells from one on are these, and all others are as before
+pub record FirstCells {T : Type 0} (what : ℕ → T) (start : ℕ) (old now : List T) (c : ℕ) : Type 0 where
+  pub as_many : length now ≡ length old
+  pub each : (u : ℕ) → u < c → slice_get now (start + u) ≡ Some (what u)
+  pub others : (k : ℕ) → (k < start) ⊎ (start + c ≤ k) → slice_get now k ≡ slice_get old k
+
+-- one cell more
+pub one_cell_more : {T : Type 0} (what : ℕ → T) (start c : ℕ) (old now : List T) (value : T) → FirstCells what start old now c → start + c < length old → value ≡ what c → FirstCells what start old (set now (start + c) value) (c + 1)
+one_cell_more what start c old now value so inside is =
+    let here : start + c < length now = omega (arith, inside, so.as_many) in
+    record {
+      as_many = length-set now (start + c) value ∙ so.as_many;
+      each = λ u below.
+          elim (cases_lt u c) [
+            | inl before ↦ slice_get-set_other now (start + c) (start + u) value (λ e. omega (arith, e, before)) ∙ so.each u before
+            | inr at ↦
+                let this : c ≡ u = omega (arith, below, at) in
+                ap (λ n. slice_get (set now (start + c) value) (start + n)) (sym this) ∙ slice_get-set_same now (start + c) value here ∙ ap Some (is ∙ ap what this)
+          ];
+      others = λ k beside. elim beside [
+        | inl before ↦ slice_get-set_other now (start + c) k value (λ e. omega (arith, e, before)) ∙ so.others k (inl before)
+        | inr after ↦ slice_get-set_other now (start + c) k value (λ e. omega (arith, e, after)) ∙ so.others k (inr (omega (arith, after)))
+      ];
+    }
+
+-- the cells of the first pixel of a row with one tile
+pub first_pixel : {T : Type 0} (what : ℕ → T) (size tile start width c : ℕ) (old now : List T) → 0 < size → 0 < tile → width ≤ tile * size → c ≡ min size width → FirstCells what start old now c → PutsCells what size tile start width old now
+first_pixel what size tile start width c old now some wide one is so = record {
+  as_many = so.as_many;
+  each = λ x below own. so.each x (omega (arith, own_first size tile some wide x width own below one, below, is));
+  others = λ k beside. elim beside [ inl before ↦ so.others k (inl before) | inr after ↦ so.others k (inr (omega (arith, after, is))) ];
+}
 
 -- ---- stretch by stretch
 
@@ -145,6 +187,10 @@ puts_same what other size tile start width old new same put = record {
 }
 
 -- ---- by the sums
+
+-- the sum of a column is one of the sums
+pub column_sum : {C : Type 0} (tally : C → ℕ) (sums : List C) (k : ℕ) (it : C) (sum : ℕ) → k < length sums → it ≡ get_or sums k it → sum ≡ tally it → number_in tally sums k ≡ sum
+column_sum tally sums k it sum below is tells = ap (λ o. option_map_or tally o 0) (slice_get-get_or sums k it below ∙ ap Some (sym is)) ∙ sym tells
 
 -- the numbers of a part of the sums
 part_number : {C : Type 0} (tally : C → ℕ) (sums : List C) (at n k : ℕ) → k < n → number_in tally (take n (drop at sums)) k ≡ number_in tally sums (at + k)

@@ -1,7 +1,14 @@
 -- A grid of which each pixel is the mean of the box around it, cut at the grid's edges.
-use Rattle.std.specs.Prelude.{◌≡◌, ℕ, ◌+◌, ◌-◌, ◌*◌, ◌/◌, ◌%◌, ◌<◌, ◌≤◌, ◌⊎◌, min, Some, List, length, slice_get, slice_index_or}
+use Rattle.std.specs.Prelude.{◌≡◌, ℕ, true, ◌+◌, ◌-◌, ◌*◌, ◌/◌, ◌%◌, ◌^◌, ◌<◌, ◌≤◌, ◌⊎◌, min, Some, List, length, slice_get, slice_index_or}
 use Rattle.image_model.specs.Grid.{Grid, grid}
-use Rattle.image_means.specs.Means.{mean_of, rounded_mean, sample_at, sample_cells, sample_in, sample_start, cell_number, sum_upto}
+use Rattle.image_model.specs.Layout.{Fits}
+use Rattle.image_model.specs.Rows.{row_count}
+use Rattle.image_shape.specs.Shape.{shape_width, shape_height, shaped}
+use Rattle.image_shape.specs.declared.shape.Shape.{Shape}
+use Rattle.image_means.specs.Division.{factor_of}
+use Rattle.image_means.specs.Means.{mean_of, rounded_mean, sample_at, sample_cells, sample_in, sample_number, sample_start, cell_number, sum_upto}
+use Rattle.image_means.specs.declared.blur.Blur.{Blur}
+use Rattle.image_means.specs.declared.blur.Span.{Span}
 use Rattle.image_means.specs.declared.means.SampleBytes.{SampleBytes}
 
 -- where the box around a place begins
@@ -51,6 +58,28 @@ pub record PutsSample (bytes : SampleBytes) (at value : ℕ) (old new : List ℕ
   pub each : (c : ℕ) → c < sample_cells bytes → slice_get new (at + c) ≡ Some (cell_number bytes c value)
   pub others : (k : ℕ) → (k < at) ⊎ (at + sample_cells bytes ≤ k) → slice_get new k ≡ slice_get old k
 
+-- the sum of the box around the pixel before one: what the box around this one loses is still in it, and what that one gains isn't
+abbrev pub IsSumBefore : List ℕ → ℕ → ℕ → ℕ → ℕ → ℕ → Type 0
+IsSumBefore sums per at across p sum = sum + pixels_upto sums per at (p - (across + 1)) ≡ pixels_upto sums per at (min (length sums / per) (p + across))
+
+-- the factors of boxes of so many lines, by their columns
+pub record AreFactors (factors : List ℕ) (lines : ℕ) : Type 0 where
+  pub each : (c : ℕ) → 0 < c → c < length factors → slice_index_or factors c 0 ≡ factor_of (c * lines)
+
+-- some of so many pixels: where it says so, the row's ends cut no box around them
+pub record IsSpan (span : Span) (across pixels : ℕ) : Type 0 where
+  pub order : span.from ≤ span.end
+  pub inside : span.end ≤ pixels
+  pub whole : span.whole ≡ true → span.from < span.end → (across < span.from) × (span.end + across ≤ pixels)
+
+-- the samples at one place of these pixels are means of boxes, and all others are as they were
+pub record BlursSpan (bytes : SampleBytes) (sums : List ℕ) (per at across lines from end : ℕ) (old new : List ℕ) : Type 0 where
+  pub as_many : length new ≡ length old
+  pub each : (p c : ℕ) → from ≤ p → p < end → c < sample_cells bytes
+      → slice_get new ((p * per + at) * sample_cells bytes + c) ≡ Some (cell_number bytes c (sums_mean sums per across lines p at))
+  pub others : (p a c : ℕ) → a < per → p * per + a < length sums → c < sample_cells bytes → (a ≡ at → (p < from) ⊎ (end ≤ p))
+      → slice_get new ((p * per + a) * sample_cells bytes + c) ≡ slice_get old ((p * per + a) * sample_cells bytes + c)
+
 -- the samples at one place of each pixel of a row are means of boxes, and those at the places before it are as they were
 pub record BlursPlace (bytes : SampleBytes) (sums : List ℕ) (per at across lines : ℕ) (old new : List ℕ) : Type 0 where
   pub as_many : length new ≡ length old
@@ -73,3 +102,32 @@ column_upto bytes cells stride k n = sum_upto n (λ j. sample_in bytes (λ n. n)
 pub record AddsRows (bytes : SampleBytes) (cells : List ℕ) (stride from upto : ℕ) (old new : List ℕ) : Type 0 where
   pub as_many : length new ≡ length old
   pub each : (k : ℕ) → k < length old → sum_at new k + column_upto bytes cells stride k from ≡ sum_at old k + column_upto bytes cells stride k upto
+
+-- ---- what the code needs
+
+-- the sums of so many lines, for a row of so many cells, whose pixels have so many samples
+pub record AreSumsFor (bytes : SampleBytes) (per lines : ℕ) (sums : List ℕ) (width : ℕ) : Type 0 where
+  pub whole : length sums ≡ length sums / per * per
+  pub row : width ≡ length sums * sample_cells bytes
+  pub room : width < 2 ^ 32
+  pub some : 0 < lines
+  pub few : lines < 2 ^ 17
+  pub bounds : (k : ℕ) → k < length sums → sum_at sums k ≤ lines * sample_number bytes 255 255
+
+-- the rows from one up to another, of which each has so many samples
+pub record HaveRows (bytes : SampleBytes) (cells : List ℕ) (s : Shape) (from upto samples : ℕ) : Type 0 where
+  pub fits : Fits (shaped cells s)
+  pub room : length cells < 2 ^ 63
+  pub order : from ≤ upto
+  pub rows : upto ≤ row_count (shape_width s) (shape_height s)
+  pub row : shape_width s ≡ samples * sample_cells bytes
+
+-- rows of so many samples, and of whole pixels; the box is below 2^15 to each side
+pub record CanBeBlurred (blur : Blur) (cells : List ℕ) (s : Shape) (samples : ℕ) : Type 0 where
+  pub fits : Fits (shaped cells s)
+  pub room : length cells < 2 ^ 63
+  pub per : 0 < blur.per
+  pub whole : samples ≡ samples / blur.per * blur.per
+  pub row : shape_width s ≡ samples * sample_cells blur.bytes
+  pub across : blur.across < 2 ^ 15
+  pub down : blur.down < 2 ^ 15

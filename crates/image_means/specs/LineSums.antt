@@ -1,6 +1,8 @@
 -- Sums of the numbers in each column of some lines, of which the means of tiles are made.
-use Rattle.std.specs.Prelude.{◌≡◌, ℕ, ◌+◌, ◌*◌, ◌<◌, ◌≤◌, List, length}
-use Rattle.image_means.specs.Means.{number_in, rounded_mean, sum_upto, tile_columns}
+use Rattle.std.specs.Prelude.{◌≡◌, ℕ, ◌+◌, ◌*◌, ◌^◌, ◌<◌, ◌≤◌, List, length}
+use Rattle.image_means.specs.Means.{number_in, rounded_mean, sum_upto, tile_columns, AreLines}
+use Rattle.image_means.specs.declared.lines.Lines.{Lines}
+use Rattle.image_means.specs.declared.lines.Tile.{Tile}
 
 -- the sum of the numbers in a column of so many lines, of which the first begins at a cell
 abbrev pub lines_sum : {T : Type 0} → (T → ℕ) → List T → ℕ → ℕ → ℕ → ℕ → ℕ
@@ -25,3 +27,11 @@ pixels_sum tally sums size columns x = sum_upto columns (λ i. number_in tally s
 abbrev pub sums_cell : {T C : Type 0} → (C → ℕ) → (ℕ → T) → ℕ → ℕ → ℕ → List C → ℕ → T
 sums_cell tally sample size tile lines sums x =
     sample (rounded_mean (pixels_sum tally sums size (tile_columns size tile (length sums) x) x) (tile_columns size tile (length sums) x * lines))
+
+-- fewer than 2^16 lines, inside so many cells, have tiles of at most 512 cells in a row
+pub record HaveNarrowTiles (lines : Lines) (tile : Tile) (count : ℕ) : Type 0 where
+  pub inside : AreLines lines count
+  pub few : lines.count < 2 ^ 16
+  pub some : 0 < tile.size
+  pub wide : 0 < tile.width
+  pub narrow : tile.width * tile.size ≤ 512

@@ -2,11 +2,10 @@
 use Rattle.std.specs.Prelude.{◌≡◌, ℕ, zero, suc, ◌+◌, ◌-◌, ◌*◌, ◌/◌, ◌%◌, ◌^◌, ◌==◌, ◌<◌, ◌≤◌, ◌⊎◌, min, Bool, true, false, Some, List, length, slice_get}
 use Rattle.std.specs.Option.{option_map_or}
 use Rattle.image_model.specs.Grid.{Grid, grid}
-use Rattle.image_model.specs.Layout.{Fits}
 use Rattle.image_model.specs.Tiles.{tile_count, tile_start}
-use Rattle.image_shape.specs.Shape.{shape_width, shaped}
-use Rattle.image_shape.specs.declared.shape.Shape.{Shape}
 use Rattle.image_writes.specs.Mosaic.{shown_column}
+use Rattle.image_means.specs.declared.lines.Lines.{Lines}
+use Rattle.image_means.specs.declared.lines.Tile.{Tile}
 use Rattle.image_means.specs.declared.means.SampleBytes.{SampleBytes}
 use Rattle.image_means.specs.declared.means.SampleBytes.TheVariants.{One, LowFirst, HighFirst}
 
@@ -84,13 +83,12 @@ pub record HasSamples (bytes : SampleBytes) (greatest size : ℕ) : Type 0 where
   pub some : 0 < size
   pub whole : size % sample_cells bytes ≡ 0
 
--- fewer than 2^63 cells fit a shape, whose rows have whole samples, and a tile has columns and rows
-pub record AreTiled {T : Type 0} (bytes : SampleBytes) (cells : List T) (s : Shape) (tile_width tile_height : ℕ) : Type 0 where
-  pub fits : Fits (shaped cells s)
-  pub room : length cells < 2 ^ 63
-  pub whole : shape_width s % sample_cells bytes ≡ 0
-  pub wide : 0 < tile_width
-  pub high : 0 < tile_height
+-- rows of so many cells have whole samples, and so has a pixel of a tile, which has columns and rows
+pub record CanBeTiled (bytes : SampleBytes) (greatest width : ℕ) (tile : Tile) : Type 0 where
+  pub samples : HasSamples bytes greatest tile.size
+  pub whole : width % sample_cells bytes ≡ 0
+  pub wide : 0 < tile.width
+  pub high : 0 < tile.height
 
 -- the number of the sample that begins at a column and a line
 abbrev pub sample_at : {T : Type 0} → SampleBytes → (T → ℕ) → Grid T → ℕ → ℕ → ℕ
@@ -134,11 +132,29 @@ abbrev pub row_cell : {T : Type 0} → SampleBytes → (T → ℕ) → (ℕ → 
 row_cell bytes number sample size tile lines stride start width cells x =
     sample (cell_number bytes x (row_mean bytes number size tile lines stride start width cells (sample_start bytes x)))
 
+-- there are lines, inside so many cells
+pub record AreLines (lines : Lines) (count : ℕ) : Type 0 where
+  pub some : 0 < lines.count
+  pub narrow : lines.first.len < 2 ^ 32
+  pub apart : lines.first.len ≤ lines.stride
+  pub inside : lines.first.start + (lines.stride * (lines.count - 1) + lines.first.len) ≤ count
+  pub room : count < 2 ^ 63
+
 -- in the row that begins at a cell, each column of the first pixel of a tile gets a cell
 pub record PutsCells {T : Type 0} (what : ℕ → T) (size tile start width : ℕ) (old new : List T) : Type 0 where
   pub as_many : length new ≡ length old
   pub each : (x : ℕ) → x < width → shown_column size tile x ≡ x → slice_get new (start + x) ≡ Some (what x)
   pub others : (k : ℕ) → (k < start) ⊎ (start + width ≤ k) → slice_get new k ≡ slice_get old k
+
+-- lines inside so many cells can have tiles
+pub record HaveTiles (bytes : SampleBytes) (greatest : ℕ) (rows : Lines) (tile : Tile) (count : ℕ) : Type 0 where
+  pub tiled : CanBeTiled bytes greatest rows.first.len tile
+  pub lines : AreLines rows count
+
+-- in the first of these lines, the first pixel of each tile becomes the mean of the tile's pixels in all of them
+abbrev pub PutsMeans : {T : Type 0} → SampleBytes → (T → ℕ) → (ℕ → T) → Lines → Tile → List T → List T → Type 0
+PutsMeans bytes number sample lines tile old new =
+    PutsCells (row_cell bytes number sample tile.size tile.width lines.count lines.stride lines.first.start lines.first.len old) tile.size tile.width lines.first.start lines.first.len old new
 
 -- each place of the first pixel of a tile has a cell
 pub record BeginsWith {T : Type 0} (what : ℕ → ℕ → T) (size tile_width tile_height : ℕ) (g : Grid T) (width height : ℕ) : Type 0 where

@@ -6,9 +6,10 @@ ghost use Rattle.image_model.specs.Layout.{Fits, SameOutside};
 ghost use Rattle.image_model.specs.Grid.{patch};
 ghost use Rattle.image_model.specs.Windows.{window_view, IsInside};
 ghost use Rattle.image_shape.specs.Window.{as_window};
-ghost use Rattle.image_model.specs.Rows.{row_count};
 ghost use Rattle.image_shape.specs.Shape.{shape_height, shape_stride, shape_width, shaped, shaped_grid};
-ghost use Rattle.image_means.specs.Blur.{blurred, column_upto, pixels_upto, sum_at, AddsSamples, AddsRows, BlursPlace, BlursRow, PutsSample};
+ghost use Rattle.image_writes.specs.Written.{Becomes};
+ghost use Rattle.image_means.specs.Blur.{blurred, column_upto, pixels_upto, sum_at, AddsSamples, AddsRows, AreFactors, AreSumsFor, BlursPlace, BlursRow, BlursSpan, CanBeBlurred, HaveRows, IsSpan, IsSumBefore, PutsSample};
+ghost use Rattle.image_means.specs.Division.{factor_of};
 ghost use Rattle.image_means.specs.Means.{sample_cells, sample_in, sample_number};
 
 use crate::division::{factor_of, mean_by};
@@ -16,6 +17,7 @@ use crate::means::{SampleBytes, sample_from};
 use image_flips::exact_part;
 use image_ops::fill_cells;
 use image_shape::{Shape, Window};
+use std::ops::Range;
 
 // Each sum of a column gets the sample of this row.
 pub(crate) fn add_row(bytes: SampleBytes, row: &[u8], sums: &mut [u32])
@@ -93,6 +95,25 @@ fn next_box(sums: &[u32], per: usize, at: usize, across: usize, p: usize, before
     sum
 }
 
+// The same for a box that the row's ends don't cut.
+#[inline(always)]
+fn next_whole_box(sums: &[u32], per: usize, at: usize, across: usize, p: usize, before: u64) -> u64
+    requires place { at < per }
+    requires whole { length sums.now ≡ length sums.now / per * per }
+    requires room { length sums.now < 2 ^ 32 }
+    requires across { across < 2 ^ 15 }
+    requires first { across < p }
+    requires last { p + across < length sums.now / per }
+    requires before { before + pixels_upto sums.now per at (p - (across + 1))
+        ≡ pixels_upto sums.now per at (min (length sums.now / per) (p + across)) }
+    ensures { result + pixels_upto sums.now per at (p - across)
+        ≡ pixels_upto sums.now per at (min (length sums.now / per) (p + across + 1)) }
+{
+    let gained = u64::from(sums[(p + across) * per + at]);
+    let lost = u64::from(sums[(p - across - 1) * per + at]);
+    before + gained - lost
+}
+
 // Writes the cells of a sample.
 fn put_sample(bytes: SampleBytes, cells: &mut [u8], at: usize, value: u16)
     requires inside { at + sample_cells bytes ≤ length cells.old }
@@ -113,183 +134,234 @@ fn put_sample(bytes: SampleBytes, cells: &mut [u8], at: usize, value: u16)
     }
 }
 
-// The samples at one place of each pixel get the means of boxes that have these sums of columns over
-// so many lines.
-fn blur_place(
+// A blur of pixels of `per` samples. The box around a pixel has `across` pixels on the left and on the
+// right, and `down` above and below.
+#[derive(Clone, Copy)]
+struct Blur {
     bytes: SampleBytes,
-    sums: &[u32],
-    row: &mut [u8],
     per: usize,
-    at: usize,
     across: usize,
-    lines: usize,
-)
-    requires place { at < per }
-    requires whole { length sums.now ≡ length sums.now / per * per }
-    requires row { length row.old ≡ length sums.now * sample_cells bytes }
-    requires room { length row.old < 2 ^ 32 }
-    requires across { across < 2 ^ 15 }
-    requires lines { 0 < lines }
+    down: usize,
+}
+
+// For so many columns at most a factor is found once for all rows with boxes of as many lines.
+const FACTORS: usize = 512;
+
+// The factors of boxes of so many lines, by their columns, where they aren't those of as many lines.
+fn find_factors(factors: &mut [u64], known: usize, lines: usize)
+    requires known { 0 < known → AreFactors factors.old known }
+    requires short { length factors.old ≤ 512 }
+    requires some { 0 < lines }
     requires few { lines < 2 ^ 17 }
-    requires bounds { (k : ℕ) → k < length sums.now
-        → sum_at sums.now k ≤ lines * sample_number bytes 255 255 }
-    ensures means { BlursPlace bytes sums.now per at across lines row.old row.new }
+    ensures as_many { length factors.new ≡ length factors.old }
+    ensures found { AreFactors factors.new lines }
 {
-    let cells = cells_of(bytes);
-    let pixels = sums.len() / per;
-    let mut sum = sum_before(sums, per, at, pixels.min(across));
-    let mut count = lines as u64;
-    let mut factor = factor_of(count);
-    for p in 0..pixels {
-        sum = next_box(sums, per, at, across, p, sum);
-        let columns = pixels.min(p + across + 1) - p.saturating_sub(across);
-        if count != (columns * lines) as u64 {
-            count = (columns * lines) as u64;
-            factor = factor_of(count);
-        }
-        let mean = mean_by(sum, count, factor);
-        put_sample(bytes, row, (p * per + at) * cells, mean as u16);
+    if lines == known {
+        return;
+    }
+    for columns in 1..factors.len() {
+        factors[columns] = factor_of((columns * lines) as u64);
     }
 }
 
-// The row gets the means of boxes that have these sums of columns over so many lines.
-fn blur_row(
-    bytes: SampleBytes,
+// The factor of a box of so many columns and lines.
+#[inline(always)]
+fn factor_for(factors: &[u64], columns: usize, lines: usize) -> u64
+    requires known { AreFactors factors.now lines }
+    requires some { 0 < columns }
+    requires some_lines { 0 < lines }
+    requires room { columns * lines < 2 ^ 64 }
+    ensures { result ≡ factor_of (columns * lines) }
+{
+    if columns < factors.len() {
+        factors[columns]
+    } else {
+        factor_of((columns * lines) as u64)
+    }
+}
+
+// The samples at one place of each pixel of a row, whose boxes have so many lines.
+#[derive(Clone, Copy)]
+struct Place {
+    blur: Blur,
+    at: usize,
+    lines: usize,
+}
+
+// Some pixels of a row, and whether the row's ends cut no box around them.
+#[derive(Clone, Copy)]
+struct Span {
+    from: usize,
+    end: usize,
+    whole: bool,
+}
+
+// The samples at one place of these pixels get the means of boxes that have these sums of columns. The sum
+// of the box before them becomes that of the last one. Whole boxes have one factor.
+#[inline(always)]
+fn blur_span(
+    place: Place,
     sums: &[u32],
     row: &mut [u8],
-    per: usize,
-    across: usize,
-    lines: usize,
-)
-    requires whole { length sums.now ≡ length sums.now / per * per }
-    requires row { length row.old ≡ length sums.now * sample_cells bytes }
-    requires room { length row.old < 2 ^ 32 }
-    requires across { across < 2 ^ 15 }
-    requires lines { 0 < lines }
-    requires few { lines < 2 ^ 17 }
-    requires bounds { (k : ℕ) → k < length sums.now
-        → sum_at sums.now k ≤ lines * sample_number bytes 255 255 }
-    ensures means { BlursRow bytes sums.now per across lines row.old row.new }
+    factors: &[u64],
+    span: Span,
+    before: u64,
+) -> u64
+    requires place { place.at < place.blur.per }
+    requires across { place.blur.across < 2 ^ 15 }
+    requires sums { AreSumsFor place.blur.bytes place.blur.per place.lines sums.now (length row.old) }
+    requires factors { AreFactors factors.now place.lines }
+    requires span { IsSpan span place.blur.across (length sums.now / place.blur.per) }
+    requires before { IsSumBefore sums.now place.blur.per place.at place.blur.across span.from before }
+    ensures sum { IsSumBefore sums.now place.blur.per place.at place.blur.across span.end result }
+    ensures means { BlursSpan place.blur.bytes sums.now place.blur.per place.at place.blur.across place.lines
+        span.from span.end row.old row.new }
 {
-    for at in 0..per {
-        blur_place(bytes, sums, row, per, at, across, lines);
+    let Place { blur, at, lines } = place;
+    let per = blur.per;
+    let across = blur.across;
+    let cells = cells_of(blur.bytes);
+    let pixels = sums.len() / per;
+    let mut sum = before;
+    let mut count = ((2 * across + 1) * lines) as u64;
+    let mut factor = factor_for(factors, 2 * across + 1, lines);
+    for p in span.from..span.end {
+        if span.whole {
+            sum = next_whole_box(sums, per, at, across, p, sum);
+        } else {
+            sum = next_box(sums, per, at, across, p, sum);
+            let columns = pixels.min(p + across + 1) - p.saturating_sub(across);
+            count = (columns * lines) as u64;
+            factor = factor_for(factors, columns, lines);
+        }
+        let mean = mean_by(sum, count, factor);
+        put_sample(blur.bytes, row, (p * per + at) * cells, mean as u16);
+    }
+    sum
+}
+
+// The samples at one place of each pixel get the means of boxes that have these sums of columns over
+// so many lines.
+#[inline(always)]
+fn blur_place(place: Place, sums: &[u32], row: &mut [u8], factors: &[u64])
+    requires place { place.at < place.blur.per }
+    requires across { place.blur.across < 2 ^ 15 }
+    requires sums { AreSumsFor place.blur.bytes place.blur.per place.lines sums.now (length row.old) }
+    requires factors { AreFactors factors.now place.lines }
+    ensures means { BlursPlace place.blur.bytes sums.now place.blur.per place.at place.blur.across place.lines
+        row.old row.new }
+{
+    let Blur { per, across, .. } = place.blur;
+    let pixels = sums.len() / per;
+    let from = pixels.min(across + 1);
+    let end = from.max(pixels.saturating_sub(across));
+    let span = |from, end, whole| Span { from, end, whole };
+    let sum = sum_before(sums, per, place.at, pixels.min(across));
+    let sum = blur_span(place, sums, row, factors, span(0, from, false), sum);
+    let sum = blur_span(place, sums, row, factors, span(from, end, true), sum);
+    blur_span(place, sums, row, factors, span(end, pixels, false), sum);
+}
+
+// The row gets the means of boxes that have these sums of columns over so many lines.
+#[inline(always)]
+fn blur_places(blur: Blur, sums: &[u32], row: &mut [u8], lines: usize, factors: &[u64])
+    requires across { blur.across < 2 ^ 15 }
+    requires sums { AreSumsFor blur.bytes blur.per lines sums.now (length row.old) }
+    requires factors { AreFactors factors.now lines }
+    ensures means { BlursRow blur.bytes sums.now blur.per blur.across lines row.old row.new }
+{
+    for at in 0..blur.per {
+        blur_place(Place { blur, at, lines }, sums, row, factors);
+    }
+}
+
+// The same with a loop of its own for pixels of one, three and four bytes: the compiler knows the sizes.
+fn blur_row(blur: Blur, sums: &[u32], row: &mut [u8], lines: usize, factors: &[u64])
+    requires across { blur.across < 2 ^ 15 }
+    requires sums { AreSumsFor blur.bytes blur.per lines sums.now (length row.old) }
+    requires factors { AreFactors factors.now lines }
+    ensures means { BlursRow blur.bytes sums.now blur.per blur.across lines row.old row.new }
+{
+    let bytes = SampleBytes::One;
+    let of = |per| Blur { bytes, per, ..blur };
+    match (blur.bytes, blur.per) {
+        (SampleBytes::One, 1) => blur_places(of(1), sums, row, lines, factors),
+        (SampleBytes::One, 3) => blur_places(of(3), sums, row, lines, factors),
+        (SampleBytes::One, 4) => blur_places(of(4), sums, row, lines, factors),
+        _ => blur_places(blur, sums, row, lines, factors),
     }
 }
 
 // Each sum of a column gets the samples of the rows from one up to another.
-fn add_rows(
-    bytes: SampleBytes,
-    cells: &[u8],
-    shape: Shape,
-    sums: &mut [u32],
-    from: usize,
-    to: usize,
-)
-    requires fits { Fits (shaped cells.now shape) }
-    requires room { length cells.now < 2 ^ 63 }
-    requires order { from ≤ to }
-    requires rows { to ≤ row_count (shape_width shape) (shape_height shape) }
-    requires row { shape_width shape ≡ length sums.old * sample_cells bytes }
-    requires bounds { (k n : ℕ) → k < length sums.old → from ≤ n → n ≤ to
+fn add_rows(bytes: SampleBytes, cells: &[u8], shape: Shape, rows: Range<usize>, sums: &mut [u32])
+    requires rows { HaveRows bytes cells.now shape rows.start rows.end (length sums.old) }
+    requires bounds { (k n : ℕ) → k < length sums.old → rows.start ≤ n → n ≤ rows.end
         → sum_at sums.old k + column_upto bytes cells.now (shape_stride shape) k n
-        < 2 ^ 32 + column_upto bytes cells.now (shape_stride shape) k from }
-    ensures { AddsRows bytes cells.now (shape_stride shape) from to sums.old sums.new }
+        < 2 ^ 32 + column_upto bytes cells.now (shape_stride shape) k rows.start }
+    ensures { AddsRows bytes cells.now (shape_stride shape) rows.start rows.end
+        sums.old sums.new }
 {
-    for y in from..to {
+    for y in rows.start..rows.end {
         add_row(bytes, &cells[shape.row(cells.len(), y).range()], sums);
     }
 }
 
 // Each sum of a column loses the samples of these rows, which are parts of it.
-fn take_rows(
-    bytes: SampleBytes,
-    cells: &[u8],
-    shape: Shape,
-    sums: &mut [u32],
-    from: usize,
-    to: usize,
-)
-    requires fits { Fits (shaped cells.now shape) }
-    requires room { length cells.now < 2 ^ 63 }
-    requires order { from ≤ to }
-    requires rows { to ≤ row_count (shape_width shape) (shape_height shape) }
-    requires row { shape_width shape ≡ length sums.old * sample_cells bytes }
+fn take_rows(bytes: SampleBytes, cells: &[u8], shape: Shape, rows: Range<usize>, sums: &mut [u32])
+    requires rows { HaveRows bytes cells.now shape rows.start rows.end (length sums.old) }
     requires parts { (k : ℕ) → k < length sums.old
-        → column_upto bytes cells.now (shape_stride shape) k to
-        ≤ sum_at sums.old k + column_upto bytes cells.now (shape_stride shape) k from }
-    ensures { AddsRows bytes cells.now (shape_stride shape) from to sums.new sums.old }
+        → column_upto bytes cells.now (shape_stride shape) k rows.end
+        ≤ sum_at sums.old k + column_upto bytes cells.now (shape_stride shape) k rows.start }
+    ensures { AddsRows bytes cells.now (shape_stride shape) rows.start rows.end
+        sums.new sums.old }
 {
-    for y in from..to {
+    for y in rows.start..rows.end {
         take_row(bytes, &cells[shape.row(cells.len(), y).range()], sums);
     }
 }
 
 // The image gets the means of boxes of another one, which has its shape.
-fn blur_from(
-    bytes: SampleBytes,
-    source: &[u8],
-    cells: &mut [u8],
-    shape: Shape,
-    per: usize,
-    across: usize,
-    down: usize,
-    sums: &mut [u32],
-)
+fn blur_from(blur: Blur, source: &[u8], cells: &mut [u8], shape: Shape, sums: &mut [u32])
     requires source { Fits (shaped source.now shape) }
-    requires fits { Fits (shaped cells.old shape) }
-    requires room { length source.now < 2 ^ 63 }
-    requires room_too { length cells.old < 2 ^ 63 }
-    requires per { 0 < per }
-    requires whole { length sums.old ≡ length sums.old / per * per }
-    requires row { shape_width shape ≡ length sums.old * sample_cells bytes }
-    requires across { across < 2 ^ 15 }
-    requires down { down < 2 ^ 15 }
-    ensures grid { shaped_grid cells.new shape
-        ≡ blurred bytes (per * sample_cells bytes) across down (shaped_grid source.now shape) }
-    ensures outside { SameOutside (shaped cells.old shape) (shaped cells.new shape) }
+    requires source_room { length source.now < 2 ^ 63 }
+    requires image { CanBeBlurred blur cells.old shape (length sums.old) }
+    ensures { Becomes shape cells.old cells.new
+        (blurred blur.bytes (blur.per * sample_cells blur.bytes) blur.across blur.down
+        (shaped_grid source.now shape)) }
 {
     fill_cells(sums, 0);
+    let mut table = [0u64; FACTORS];
+    let factors = &mut table[..FACTORS.min(2 * blur.across + 2)];
     let rows = shape.row_count();
+    let mut known = 0;
     let mut first = 0;
     let mut end = 0;
     for y in 0..rows {
-        let next_first = y.saturating_sub(down);
-        let next_end = rows.min(y + down + 1);
-        add_rows(bytes, source, shape, sums, end, next_end);
-        take_rows(bytes, source, shape, sums, first, next_first);
+        let next_first = y.saturating_sub(blur.down);
+        let next_end = rows.min(y + blur.down + 1);
+        add_rows(blur.bytes, source, shape, end..next_end, sums);
+        take_rows(blur.bytes, source, shape, first..next_first, sums);
         first = next_first;
         end = next_end;
+        let lines = end - first;
+        find_factors(factors, known, lines);
+        known = lines;
         let row = shape.row(cells.len(), y).range();
-        blur_row(bytes, sums, &mut cells[row], per, across, end - first);
+        blur_row(blur, sums, &mut cells[row], lines, factors);
     }
 }
 
 // The image gets the means of its own boxes, by a copy of its cells.
-fn blur_cells(
-    bytes: SampleBytes,
-    cells: &mut [u8],
-    shape: Shape,
-    per: usize,
-    across: usize,
-    down: usize,
-    copy: &mut [u8],
-    sums: &mut [u32],
-)
-    requires fits { Fits (shaped cells.old shape) }
-    requires room { length cells.old < 2 ^ 63 }
-    requires per { 0 < per }
-    requires whole { length sums.old ≡ length sums.old / per * per }
-    requires row { shape_width shape ≡ length sums.old * sample_cells bytes }
+fn blur_cells(blur: Blur, cells: &mut [u8], shape: Shape, copy: &mut [u8], sums: &mut [u32])
+    requires image { CanBeBlurred blur cells.old shape (length sums.old) }
     requires copy { length cells.old ≤ length copy.old }
-    requires across { across < 2 ^ 15 }
-    requires down { down < 2 ^ 15 }
-    ensures grid { shaped_grid cells.new shape
-        ≡ blurred bytes (per * sample_cells bytes) across down (shaped_grid cells.old shape) }
-    ensures outside { SameOutside (shaped cells.old shape) (shaped cells.new shape) }
+    ensures { Becomes shape cells.old cells.new
+        (blurred blur.bytes (blur.per * sample_cells blur.bytes) blur.across blur.down
+        (shaped_grid cells.old shape)) }
 {
     let source = &mut copy[..cells.len()];
     source.copy_from_slice(cells);
-    blur_from(bytes, source, cells, shape, per, across, down, sums);
+    blur_from(blur, source, cells, shape, sums);
 }
 
 /// Each sample of the window becomes the mean of the samples around it, rounded to the nearest
@@ -331,14 +403,11 @@ pub fn blur_samples(
 {
     let (part, inner) = exact_part(cells.len(), shape, window);
     let per = size / cells_of(bytes);
-    blur_cells(
+    let blur = Blur {
         bytes,
-        &mut cells[part],
-        inner,
         per,
         across,
         down,
-        copy,
-        sums,
-    );
+    };
+    blur_cells(blur, &mut cells[part], inner, copy, sums);
 }

@@ -6,6 +6,7 @@
 
 mod blur;
 mod division;
+mod lines;
 mod means;
 mod tile_sums;
 

@@ -8,12 +8,14 @@ ghost use Rattle.image_model.specs.Tiles.{tile_count};
 ghost use Rattle.image_model.specs.Windows.{window_view, IsInside};
 ghost use Rattle.image_shape.specs.Shape.{shape_width, shape_height, shaped, shaped_grid};
 ghost use Rattle.image_shape.specs.Window.{as_window};
-ghost use Rattle.image_means.specs.Means.{mean_cell, mean_mosaic_by, mean_of, rounded_mean, row_cell, byte_of, cell_number, sample_cells, sample_in, sample_mosaic, sample_mosaic_by, sample_number, sum_upto, AreBytes, AreTiled, BeginsWith, HasSamples, PutsCells};
+ghost use Rattle.image_means.specs.Means.{mean_cell, mean_mosaic_by, mean_of, rounded_mean, byte_of, cell_number, sample_cells, sample_in, sample_mosaic, sample_mosaic_by, sample_number, sum_upto, AreBytes, AreLines, BeginsWith, CanBeTiled, HasSamples, HaveTiles, PutsMeans};
+ghost use Rattle.image_writes.specs.Written.{Becomes};
 
+use crate::lines::{Lines, Tile};
 use crate::tile_sums::{ROOM, put_by_sums};
 use image_flips::exact_part;
 use image_ops::{mosaic_cells, next_line};
-use image_shape::{Shape, Window, tiles_along};
+use image_shape::{Shape, Stretch, Window, tiles_along};
 
 /// A cell that is a number of at most 16 bits, of which a mean can be taken.
 pub trait Sample: Copy {
@@ -181,35 +183,23 @@ pub(crate) fn rounded(sum: u64, count: u64) -> u64
     }
 }
 
-// The mean of the first sample of each pixel in `lines` rows of `len` cells, of which the first
-// begins at cell `from`.
-fn mean_at<T: Sample>(
-    bytes: SampleBytes,
-    cells: &[T],
-    from: usize,
-    len: usize,
-    lines: usize,
-    stride: usize,
-    size: usize,
-) -> u16
+// The mean of the first sample of each pixel in these lines.
+fn mean_at<T: Sample>(bytes: SampleBytes, cells: &[T], lines: Lines, size: usize) -> u16
     requires samples { HasSamples bytes T.greatest size }
-    requires some { 0 < len }
-    requires whole { len % sample_cells bytes ≡ 0 }
-    requires lines { 0 < lines }
-    requires narrow { len < 2 ^ 32 }
-    requires apart { len ≤ stride }
-    requires inside { from + (stride * (lines - 1) + len) ≤ length cells.now }
-    requires room { length cells.now < 2 ^ 63 }
-    ensures value { result ≡ mean_of (tile_count size len) lines
-        (λ i j. sample_in bytes T.number cells.now (from + (j * stride + i * size))) }
+    requires some { 0 < lines.first.len }
+    requires whole { lines.first.len % sample_cells bytes ≡ 0 }
+    requires lines { AreLines lines (length cells.now) }
+    ensures value { result ≡ mean_of (tile_count size lines.first.len) lines.count
+        (λ i j. sample_in bytes T.number cells.now
+        (lines.first.start + (j * lines.stride + i * size))) }
     ensures within { result ≤ sample_number bytes T.greatest T.greatest }
 {
-    let count = (tiles_along(len, size) * lines) as u64;
+    let count = (tiles_along(lines.first.len, size) * lines.count) as u64;
     let mut mean = 0;
     let mut sum = 0;
-    for line in 0..lines {
-        let start = from + line * stride;
-        sum += sum_of(bytes, &cells[start..start + len], size);
+    for line in 0..lines.count {
+        let start = lines.first.start + line * lines.stride;
+        sum += sum_of(bytes, &cells[start..start + lines.first.len], size);
         if sum >= LARGE {
             mean += sum / count;
             sum %= count;
@@ -227,136 +217,81 @@ fn corner_of(x: usize, corner: usize, tile: usize) -> usize
     if x - corner == tile { x } else { corner }
 }
 
-// In the row that begins at cell `start`, the first pixel of each tile becomes the mean of the tile's
-// pixels in `lines` rows, tile by tile.
+// In the first of these lines, the first pixel of each tile becomes the mean of the tile's pixels in all
+// of them, tile by tile.
 #[inline(always)]
-fn put_row_cells<T: Sample>(
-    bytes: SampleBytes,
-    cells: &mut [T],
-    start: usize,
-    width: usize,
-    lines: usize,
-    stride: usize,
-    size: usize,
-    tile_width: usize,
-)
-    requires samples { HasSamples bytes T.greatest size }
-    requires tile_width { 0 < tile_width }
-    requires lines { 0 < lines }
-    requires narrow { width < 2 ^ 32 }
-    requires whole { width % sample_cells bytes ≡ 0 }
-    requires apart { width ≤ stride }
-    requires inside { start + (stride * (lines - 1) + width) ≤ length cells.old }
-    requires room { length cells.old < 2 ^ 63 }
-    ensures { PutsCells
-        (row_cell bytes T.number T.sample size tile_width lines stride start width cells.old)
-        size tile_width start width cells.old cells.new }
+fn put_row_cells<T: Sample>(bytes: SampleBytes, cells: &mut [T], lines: Lines, tile: Tile)
+    requires { HaveTiles bytes T.greatest lines tile (length cells.old) }
+    ensures { PutsMeans bytes T.number T.sample lines tile cells.old cells.new }
 {
-    let tile = tile_width.saturating_mul(size);
+    let across = tile.width.saturating_mul(tile.size);
     let mut corner = 0;
     let mut mean = 0;
-    for x in 0..width {
-        corner = corner_of(x, corner, tile);
-        if x - corner < size {
+    for x in 0..lines.first.len {
+        corner = corner_of(x, corner, across);
+        if x - corner < tile.size {
             if begins_sample(bytes, x) {
-                let len = tile.min(width - x);
-                mean = mean_at(bytes, cells, start + x, len, lines, stride, size);
+                let start = lines.first.start + x;
+                let len = across.min(lines.first.len - x);
+                let first = Stretch { start, len };
+                mean = mean_at(bytes, cells, Lines { first, ..lines }, tile.size);
             }
-            cells[start + x] = T::sample(number_at(bytes, x, mean));
+            cells[lines.first.start + x] = T::sample(number_at(bytes, x, mean));
         }
     }
 }
 
-// In the row that begins at cell `start`, the first pixel of each tile becomes the mean of the tile's
-// pixels in `lines` rows. Cells that are samples go by the sums of columns, unless tiles are too large.
+// The same. Cells that are samples go by the sums of columns, unless tiles are too large.
 #[inline(always)]
-fn put_row_means<T: Sample>(
-    bytes: SampleBytes,
-    cells: &mut [T],
-    start: usize,
-    width: usize,
-    lines: usize,
-    stride: usize,
-    size: usize,
-    tile_width: usize,
-)
-    requires samples { HasSamples bytes T.greatest size }
-    requires tile_width { 0 < tile_width }
-    requires lines { 0 < lines }
-    requires narrow { width < 2 ^ 32 }
-    requires whole { width % sample_cells bytes ≡ 0 }
-    requires apart { width ≤ stride }
-    requires inside { start + (stride * (lines - 1) + width) ≤ length cells.old }
-    requires room { length cells.old < 2 ^ 63 }
-    ensures { PutsCells
-        (row_cell bytes T.number T.sample size tile_width lines stride start width cells.old)
-        size tile_width start width cells.old cells.new }
+fn put_row_means<T: Sample>(bytes: SampleBytes, cells: &mut [T], lines: Lines, tile: Tile)
+    requires { HaveTiles bytes T.greatest lines tile (length cells.old) }
+    ensures { PutsMeans bytes T.number T.sample lines tile cells.old cells.new }
 {
-    let tile = tile_width.saturating_mul(size);
-    if bytes == SampleBytes::One && tile <= ROOM && lines < 65536 {
-        put_by_sums(cells, start, width, lines, stride, size, tile_width);
+    let across = tile.width.saturating_mul(tile.size);
+    if bytes == SampleBytes::One && across <= ROOM && lines.count < 65536 {
+        put_by_sums(cells, lines, tile);
     } else {
-        put_row_cells(bytes, cells, start, width, lines, stride, size, tile_width);
+        put_row_cells(bytes, cells, lines, tile);
     }
 }
 
 // The first pixel of each tile becomes the mean of the tile's pixels.
 #[inline(always)]
-fn put_means<T: Sample>(
-    bytes: SampleBytes,
-    cells: &mut [T],
-    shape: Shape,
-    size: usize,
-    tile_width: usize,
-    tile_height: usize,
-)
-    requires samples { HasSamples bytes T.greatest size }
-    requires image { AreTiled bytes cells.old shape tile_width tile_height }
-    ensures grid { BeginsWith (mean_cell bytes T.number T.sample size tile_width tile_height
-        (shaped_grid cells.old shape)) size tile_width tile_height
+fn put_means<T: Sample>(bytes: SampleBytes, cells: &mut [T], shape: Shape, tile: Tile)
+    requires fits { Fits (shaped cells.old shape) }
+    requires room { length cells.old < 2 ^ 63 }
+    requires tiled { CanBeTiled bytes T.greatest (shape_width shape) tile }
+    ensures grid { BeginsWith (mean_cell bytes T.number T.sample tile.size tile.width tile.height
+        (shaped_grid cells.old shape)) tile.size tile.width tile.height
         (shaped_grid cells.new shape) (shape_width shape) (shape_height shape) }
     ensures outside { SameOutside (shaped cells.old shape) (shaped cells.new shape) }
 {
     let mut line = 0;
     for y in 0..shape.row_count() {
         if line == 0 {
-            let row = shape.row(cells.len(), y);
-            let lines = tile_height.min(shape.height() - y);
-            put_row_means(
-                bytes,
-                cells,
-                row.start,
-                row.len,
-                lines,
-                shape.stride(),
-                size,
-                tile_width,
-            );
+            let lines = Lines {
+                first: shape.row(cells.len(), y),
+                stride: shape.stride(),
+                count: tile.height.min(shape.height() - y),
+            };
+            put_row_means(bytes, cells, lines, tile);
         }
-        line = next_line(line, tile_height);
+        line = next_line(line, tile.height);
     }
 }
 
 // Each tile of the image shows the mean of its pixels: its first pixel becomes it, and the others
 // become the first one.
 #[inline(always)]
-fn mean_cells<T: Sample>(
-    bytes: SampleBytes,
-    cells: &mut [T],
-    shape: Shape,
-    size: usize,
-    tile_width: usize,
-    tile_height: usize,
-)
-    requires samples { HasSamples bytes T.greatest size }
-    requires image { AreTiled bytes cells.old shape tile_width tile_height }
-    ensures grid { shaped_grid cells.new shape
-        ≡ sample_mosaic_by bytes T.number T.sample size tile_width tile_height
-        (shaped_grid cells.old shape) }
-    ensures outside { SameOutside (shaped cells.old shape) (shaped cells.new shape) }
+fn mean_cells<T: Sample>(bytes: SampleBytes, cells: &mut [T], shape: Shape, tile: Tile)
+    requires fits { Fits (shaped cells.old shape) }
+    requires room { length cells.old < 2 ^ 63 }
+    requires tiled { CanBeTiled bytes T.greatest (shape_width shape) tile }
+    ensures { Becomes shape cells.old cells.new (sample_mosaic_by bytes T.number T.sample
+        tile.size tile.width tile.height (shaped_grid cells.old shape)) }
 {
-    put_means(bytes, cells, shape, size, tile_width, tile_height);
-    mosaic_cells(cells, shape, size, tile_width, tile_height);
+    put_means(bytes, cells, shape, tile);
+    mosaic_cells(cells, shape, tile.size, tile.width, tile.height);
 }
 
 // The same in a window of the image.
@@ -366,32 +301,19 @@ fn mean_part<T: Sample>(
     cells: &mut [T],
     shape: Shape,
     window: Window,
-    size: usize,
-    tile_width: usize,
-    tile_height: usize,
+    tile: Tile,
 )
-    requires samples { HasSamples bytes T.greatest size }
     requires fits { Fits (shaped cells.old shape) }
-    requires room { length cells.old < 2 ^ 63 }
     requires inside { IsInside (shape_width shape) (shape_height shape) (as_window window) }
-    requires whole { window.width % sample_cells bytes ≡ 0 }
-    requires tile_width { 0 < tile_width }
-    requires tile_height { 0 < tile_height }
-    ensures grid { shaped_grid cells.new shape
-        ≡ patch (shaped_grid cells.old shape) window.left window.top
-        (sample_mosaic_by bytes T.number T.sample size tile_width tile_height
-        (window_view (shaped_grid cells.old shape) (as_window window))) }
-    ensures outside { SameOutside (shaped cells.old shape) (shaped cells.new shape) }
+    requires room { length cells.old < 2 ^ 63 }
+    requires tiled { CanBeTiled bytes T.greatest window.width tile }
+    ensures { Becomes shape cells.old cells.new
+        (patch (shaped_grid cells.old shape) window.left window.top
+        (sample_mosaic_by bytes T.number T.sample tile.size tile.width tile.height
+        (window_view (shaped_grid cells.old shape) (as_window window)))) }
 {
     let (part, inner) = exact_part(cells.len(), shape, window);
-    mean_cells(
-        bytes,
-        &mut cells[part],
-        inner,
-        size,
-        tile_width,
-        tile_height,
-    );
+    mean_cells(bytes, &mut cells[part], inner, tile);
 }
 
 /// Writes, at every place of the window, the mean of its tile, rounded to the nearest number: a half
@@ -424,8 +346,12 @@ pub fn mean_window<T: Sample>(
         (window_view (shaped_grid cells.old shape) (as_window window))) }
     ensures outside { SameOutside (shaped cells.old shape) (shaped cells.new shape) }
 {
-    let one = SampleBytes::One;
-    mean_part(one, cells, shape, window, size, tile_width, tile_height);
+    let tile = Tile {
+        size,
+        width: tile_width,
+        height: tile_height,
+    };
+    mean_part(SampleBytes::One, cells, shape, window, tile);
 }
 
 /// The same for samples of one byte or of two. Each sample of a pixel becomes the mean of such samples
@@ -461,7 +387,12 @@ pub fn mean_samples(
     match bytes {
         SampleBytes::One => mean_window(cells, shape, window, size, tile_width, tile_height),
         SampleBytes::LowFirst | SampleBytes::HighFirst => {
-            mean_part(bytes, cells, shape, window, size, tile_width, tile_height);
+            let tile = Tile {
+                size,
+                width: tile_width,
+                height: tile_height,
+            };
+            mean_part(bytes, cells, shape, window, tile);
         }
     }
 }

@@ -2,17 +2,18 @@
 //! line of the tiles is added. The compiler makes vector code of that. A tile then adds up some of the
 //! sums, and divides once.
 
-ghost use Rattle.std.specs.Prelude.{◌≡◌, ◌<◌, ◌≤◌, ◌+◌, ◌-◌, ◌*◌, ◌^◌, ℕ, length};
+ghost use Rattle.std.specs.Prelude.{◌≡◌, ◌<◌, ◌≤◌, ◌+◌, ◌-◌, ◌*◌, ◌%◌, ◌^◌, ℕ, length};
 ghost use Rattle.image_model.specs.Tiles.{tile_count};
 ghost use Rattle.image_means.specs.Division.{factor_of};
-ghost use Rattle.image_means.specs.LineSums.{pixels_sum, sums_cell, AddsNumbers, AreLineSums};
-ghost use Rattle.image_means.specs.Means.{number_in, rounded_mean, row_cell, PutsCells};
+ghost use Rattle.image_means.specs.LineSums.{pixels_sum, sums_cell, AddsNumbers, AreLineSums, HaveNarrowTiles};
+ghost use Rattle.image_means.specs.Means.{number_in, rounded_mean, AreLines, PutsCells, PutsMeans};
 ghost use Rattle.image_means.specs.declared.means.SampleBytes.{SampleBytes};
 
 use crate::division::{factor_of, mean_by};
+use crate::lines::{Lines, Tile};
 use crate::means::Sample;
 use image_ops::fill_cells;
-use image_shape::tiles_along;
+use image_shape::{Stretch, tiles_along};
 
 /// A number in which samples are added up.
 pub(crate) trait Tally: Copy {
@@ -89,30 +90,24 @@ fn add_line<T: Sample, C: Tally>(row: &[T], sums: &mut [C])
     }
 }
 
-// The sums get the numbers of so many lines, of which the first begins at cell `start`.
+// The sums get the numbers of these lines.
 #[inline(always)]
-fn add_lines<T: Sample, C: Tally>(
-    cells: &[T],
-    start: usize,
-    lines: usize,
-    stride: usize,
-    sums: &mut [C],
-)
+fn add_lines<T: Sample, C: Tally>(cells: &[T], lines: Lines, sums: &mut [C])
     requires none { (k : ℕ) → k < length sums.old → number_in C.tally sums.old k ≡ 0 }
-    requires some { 0 < lines }
-    requires fit { lines * T.greatest ≤ C.most }
-    requires inside { start + (stride * (lines - 1) + length sums.old) ≤ length cells.now }
-    requires room { length cells.now < 2 ^ 63 }
+    requires width { length sums.old ≡ lines.first.len }
+    requires fit { lines.count * T.greatest ≤ C.most }
+    requires inside { AreLines lines (length cells.now) }
     ensures as_many { length sums.new ≡ length sums.old }
-    ensures sums { AreLineSums T.number C.tally T.greatest cells.now start stride lines sums.new }
+    ensures sums { AreLineSums T.number C.tally T.greatest cells.now
+        lines.first.start lines.stride lines.count sums.new }
 {
-    for line in 0..lines {
-        let from = start + line * stride;
+    for line in 0..lines.count {
+        let from = lines.first.start + line * lines.stride;
         add_line(&cells[from..from + sums.len()], sums);
     }
 }
 
-// The mean of so many columns of pixels, by their sums from one on. The factor is that of the count.
+// The mean of so many columns of pixels, by their sums from one on.
 #[inline(always)]
 fn mean_of_sums<T: Sample, C: Tally>(
     sums: &[C],
@@ -120,7 +115,6 @@ fn mean_of_sums<T: Sample, C: Tally>(
     size: usize,
     columns: usize,
     lines: usize,
-    count: u64,
     factor: u64,
 ) -> u16
     requires there { (i : ℕ) → i < columns → x + i * size < length sums.now }
@@ -130,7 +124,7 @@ fn mean_of_sums<T: Sample, C: Tally>(
     requires few { columns ≤ 512 }
     requires lines { 0 < lines }
     requires few_lines { lines < 2 ^ 16 }
-    requires factor { factor ≡ factor_of count }
+    requires factor { factor ≡ factor_of (columns * lines) }
     ensures value { result
         ≡ rounded_mean (pixels_sum C.tally sums.now size columns x) (columns * lines) }
     ensures within { result ≤ T.greatest }
@@ -139,9 +133,7 @@ fn mean_of_sums<T: Sample, C: Tally>(
     for i in 0..columns {
         sum += sums[x + i * size].sum();
     }
-    let all = (columns * lines) as u64;
-    let factor = if all == count { factor } else { factor_of(all) };
-    mean_by(sum, all, factor) as u16
+    mean_by(sum, (columns * lines) as u64, factor) as u16
 }
 
 // The first pixel of a tile becomes the mean of the tile, which has these sums.
@@ -151,211 +143,189 @@ fn put_tile<T: Sample, C: Tally>(
     start: usize,
     sums: &[C],
     lines: usize,
-    size: usize,
-    tile_width: usize,
-    count: u64,
+    tile: Tile,
     factor: u64,
 )
-    requires some { 0 < size }
-    requires wide { 0 < tile_width }
-    requires one { length sums.now ≤ tile_width * size }
+    requires some { 0 < tile.size }
+    requires wide { 0 < tile.width }
+    requires whole { length sums.now ≡ tile.width * tile.size }
+    requires pixel { tile.size ≤ length sums.now }
     requires short { length sums.now ≤ 512 }
     requires within { (k : ℕ) → k < length sums.now
         → number_in C.tally sums.now k ≤ lines * T.greatest }
     requires lines { 0 < lines }
     requires few_lines { lines < 2 ^ 16 }
-    requires factor { factor ≡ factor_of count }
+    requires factor { factor ≡ factor_of (tile.width * lines) }
     requires inside { start + length sums.now ≤ length cells.old }
-    ensures { PutsCells (sums_cell C.tally T.sample size tile_width lines sums.now) size tile_width
-        start (length sums.now) cells.old cells.new }
+    ensures { PutsCells (sums_cell C.tally T.sample tile.size tile.width lines sums.now)
+        tile.size tile.width start (length sums.now) cells.old cells.new }
 {
-    let _tile_width = tile_width;
-    for c in 0..size.min(sums.len()) {
-        let columns = tiles_along(sums.len() - c, size);
-        let mean = mean_of_sums::<T, C>(sums, c, size, columns, lines, count, factor);
+    for c in 0..tile.size {
+        let mean = mean_of_sums::<T, C>(sums, c, tile.size, tile.width, lines, factor);
         cells[start + c] = T::sample(mean);
     }
 }
 
-// The same for each tile of a stretch, which begins with a tile.
+// The same for a tile that the row's end cuts.
 #[inline(always)]
-fn put_tiles<T: Sample, C: Tally>(
+fn put_cut_tile<T: Sample, C: Tally>(
     cells: &mut [T],
     start: usize,
     sums: &[C],
     lines: usize,
-    size: usize,
-    tile_width: usize,
+    tile: Tile,
 )
-    requires some { 0 < size }
-    requires wide { 0 < tile_width }
-    requires narrow { tile_width * size ≤ 512 }
+    requires some { 0 < tile.size }
+    requires wide { 0 < tile.width }
+    requires one { length sums.now ≤ tile.width * tile.size }
+    requires short { length sums.now ≤ 512 }
     requires within { (k : ℕ) → k < length sums.now
         → number_in C.tally sums.now k ≤ lines * T.greatest }
     requires lines { 0 < lines }
     requires few_lines { lines < 2 ^ 16 }
     requires inside { start + length sums.now ≤ length cells.old }
-    ensures { PutsCells (sums_cell C.tally T.sample size tile_width lines sums.now) size tile_width
-        start (length sums.now) cells.old cells.new }
+    ensures { PutsCells (sums_cell C.tally T.sample tile.size tile.width lines sums.now)
+        tile.size tile.width start (length sums.now) cells.old cells.new }
 {
-    let tile = tile_width * size;
-    let count = (tile_width * lines) as u64;
-    let factor = factor_of(count);
-    let mut at = 0;
-    while at < sums.len() {
-        let width = tile.min(sums.len() - at);
-        let part = &sums[at..at + width];
-        put_tile::<T, C>(
-            cells,
-            start + at,
-            part,
-            lines,
-            size,
-            tile_width,
-            count,
-            factor,
-        );
-        at += width;
+    for c in 0..tile.size.min(sums.len()) {
+        let columns = tiles_along(sums.len() - c, tile.size);
+        let factor = factor_of((columns * lines) as u64);
+        let mean = mean_of_sums::<T, C>(sums, c, tile.size, columns, lines, factor);
+        cells[start + c] = T::sample(mean);
     }
 }
 
-// How many cells a pixel has, which the compiler knows where `SIZE` isn't 0.
-#[inline(always)]
-fn known_size<const SIZE: usize>(size: usize) -> usize
-    requires known { 0 < SIZE → size ≡ SIZE }
-    ensures { result ≡ size }
-{
-    if SIZE > 0 { SIZE } else { size }
-}
-
-// In a stretch of a row the first pixel of each tile becomes the mean of the tile's pixels. The stretch
-// begins with a tile, and has as many cells as there are sums. What these were is lost.
-#[inline(always)]
-fn put_stretch<T: Sample, C: Tally, const SIZE: usize>(
-    cells: &mut [T],
-    start: usize,
-    lines: usize,
-    stride: usize,
-    size: usize,
-    tile_width: usize,
-    sums: &mut [C],
-)
-    requires known { 0 < SIZE → size ≡ SIZE }
+// The same for each tile of two columns of two lines, by vectors: each cell becomes the mean of a tile that begins
+// with it, and those that begin no tile are free.
+fn put_quads<T: Sample, C: Tally>(cells: &mut [T], start: usize, size: usize, sums: &[C])
     requires some { 0 < size }
-    requires wide { 0 < tile_width }
-    requires narrow { tile_width * size ≤ 512 }
-    requires lines { 0 < lines }
-    requires few_lines { lines < 2 ^ 16 }
-    requires fit { lines * T.greatest ≤ C.most }
-    requires inside { start + (stride * (lines - 1) + length sums.old) ≤ length cells.old }
-    requires room { length cells.old < 2 ^ 63 }
-    ensures as_many { length sums.new ≡ length sums.old }
-    ensures put { PutsCells (row_cell SampleBytes.One T.number T.sample size tile_width lines stride
-        start (length sums.old) cells.old) size tile_width start (length sums.old)
+    requires within { (k : ℕ) → k < length sums.now → number_in C.tally sums.now k ≤ 2 * T.greatest }
+    requires inside { start + length sums.now ≤ length cells.old }
+    ensures { PutsCells (sums_cell C.tally T.sample size 2 2 sums.now) size 2 start (length sums.now)
         cells.old cells.new }
 {
-    let size = known_size::<SIZE>(size);
-    fill_cells(sums, C::none());
-    add_lines(cells, start, lines, stride, sums);
-    put_tiles::<T, C>(cells, start, sums, lines, size, tile_width);
+    let pairs = sums.len().saturating_sub(size);
+    for k in 0..pairs {
+        cells[start + k] = T::sample(((sums[k].sum() + sums[k + size].sum() + 2) / 4) as u16);
+    }
+    for last in pairs..sums.len() {
+        cells[start + last] = T::sample(((sums[last].sum() + 1) / 2) as u16);
+    }
 }
 
-// The same for a row, stretch by stretch.
+// The same for each tile of these lines. There are as many sums as a line has cells, and whole tiles have one
+// factor.
 #[inline(always)]
-fn put_row<T: Sample, C: Tally, const SIZE: usize>(
-    cells: &mut [T],
-    start: usize,
-    width: usize,
-    lines: usize,
-    stride: usize,
-    size: usize,
-    tile_width: usize,
-    sums: &mut [C],
-)
-    requires known { 0 < SIZE → size ≡ SIZE }
-    requires some { 0 < size }
-    requires wide { 0 < tile_width }
-    requires narrow { tile_width * size ≤ 512 }
-    requires lines { 0 < lines }
-    requires few_lines { lines < 2 ^ 16 }
-    requires fit { lines * T.greatest ≤ C.most }
-    requires inside { start + (stride * (lines - 1) + width) ≤ length cells.old }
-    requires room { length cells.old < 2 ^ 63 }
-    requires sums { length sums.old ≡ 512 }
-    ensures { PutsCells (row_cell SampleBytes.One T.number T.sample size tile_width lines stride start
-        width cells.old) size tile_width start width cells.old cells.new }
+fn put_tiles<T: Sample, C: Tally>(cells: &mut [T], lines: Lines, tile: Tile, sums: &[C])
+    requires lines { HaveNarrowTiles lines tile (length cells.old) }
+    requires sums { length sums.now ≡ lines.first.len }
+    requires within { (k : ℕ) → k < length sums.now
+        → number_in C.tally sums.now k ≤ lines.count * T.greatest }
+    ensures { PutsCells (sums_cell C.tally T.sample tile.size tile.width lines.count sums.now)
+        tile.size tile.width lines.first.start (length sums.now) cells.old cells.new }
 {
-    let tile = tile_width * size;
-    let most = ROOM / tile * tile;
+    if tile.width == 2 && lines.count == 2 {
+        put_quads(cells, lines.first.start, tile.size, sums);
+        return;
+    }
+    let across = tile.width * tile.size;
+    let factor = factor_of((tile.width * lines.count) as u64);
+    let mut at = 0;
+    while sums.len() - at >= across {
+        let start = lines.first.start + at;
+        let part = &sums[at..at + across];
+        put_tile::<T, C>(cells, start, part, lines.count, tile, factor);
+        at += across;
+    }
+    if at < sums.len() {
+        let start = lines.first.start + at;
+        put_cut_tile::<T, C>(cells, start, &sums[at..sums.len()], lines.count, tile);
+    }
+}
+
+// In the first of these lines, the first pixel of each tile becomes the mean of the tile's pixels in all
+// of them. There are as many sums as a line has cells. What these were is lost.
+#[inline(always)]
+fn put_stretch<T: Sample, C: Tally>(cells: &mut [T], lines: Lines, tile: Tile, sums: &mut [C])
+    requires lines { HaveNarrowTiles lines tile (length cells.old) }
+    requires fit { lines.count * T.greatest ≤ C.most }
+    requires sums { length sums.old ≡ lines.first.len }
+    ensures as_many { length sums.new ≡ length sums.old }
+    ensures put { PutsMeans SampleBytes.One T.number T.sample lines tile cells.old cells.new }
+{
+    fill_cells(sums, C::none());
+    add_lines(cells, lines, sums);
+    put_tiles::<T, C>(cells, lines, tile, sums);
+}
+
+// The most sums of a stretch that cuts no tile, where a tile has so many cells.
+#[inline(always)]
+#[tactic(auto, using(crate::proofs::SumsOfTiles::whole_multiple))]
+fn whole_tiles(tile: usize) -> usize
+    requires some { 0 < tile }
+    requires room { tile ≤ 512 }
+    ensures whole { result % tile ≡ 0 }
+    ensures most { 512 < result + tile }
+    ensures room { result ≤ 512 }
+{
+    ROOM / tile * tile
+}
+
+// The means of tiles, stretch by stretch. There are as many sums as there is room for.
+#[inline(always)]
+fn put_row<T: Sample, C: Tally>(cells: &mut [T], lines: Lines, tile: Tile, sums: &mut [C])
+    requires lines { HaveNarrowTiles lines tile (length cells.old) }
+    requires fit { lines.count * T.greatest ≤ C.most }
+    requires sums { length sums.old ≡ 512 }
+    ensures { PutsMeans SampleBytes.One T.number T.sample lines tile cells.old cells.new }
+{
+    let most = whole_tiles(tile.width * tile.size);
     let mut from = 0;
-    while from < width {
-        let len = most.min(width - from);
-        let part = &mut sums[..len];
-        put_stretch::<T, C, SIZE>(cells, start + from, lines, stride, size, tile_width, part);
+    while from < lines.first.len {
+        let start = lines.first.start + from;
+        let len = most.min(lines.first.len - from);
+        let first = Stretch { start, len };
+        put_stretch(cells, Lines { first, ..lines }, tile, &mut sums[..len]);
         from += len;
     }
 }
 
-// The same with a loop of its own for pixels of one, three and four cells.
-fn put_sized<T: Sample, C: Tally>(
-    cells: &mut [T],
-    start: usize,
-    width: usize,
-    lines: usize,
-    stride: usize,
-    size: usize,
-    tile_width: usize,
-    sums: &mut [C],
-)
-    requires some { 0 < size }
-    requires wide { 0 < tile_width }
-    requires narrow { tile_width * size ≤ 512 }
-    requires lines { 0 < lines }
-    requires few_lines { lines < 2 ^ 16 }
-    requires fit { lines * T.greatest ≤ C.most }
-    requires inside { start + (stride * (lines - 1) + width) ≤ length cells.old }
-    requires room { length cells.old < 2 ^ 63 }
+// The same with a loop of its own for pixels of one, three and four cells, and for tiles of two columns of
+// them: the compiler knows the sizes.
+fn put_sized<T: Sample, C: Tally>(cells: &mut [T], lines: Lines, tile: Tile, sums: &mut [C])
+    requires lines { HaveNarrowTiles lines tile (length cells.old) }
+    requires fit { lines.count * T.greatest ≤ C.most }
     requires sums { length sums.old ≡ 512 }
-    ensures { PutsCells (row_cell SampleBytes.One T.number T.sample size tile_width lines stride start
-        width cells.old) size tile_width start width cells.old cells.new }
+    ensures { PutsMeans SampleBytes.One T.number T.sample lines tile cells.old cells.new }
 {
-    match size {
-        1 => put_row::<T, C, 1>(cells, start, width, lines, stride, size, tile_width, sums),
-        3 => put_row::<T, C, 3>(cells, start, width, lines, stride, size, tile_width, sums),
-        4 => put_row::<T, C, 4>(cells, start, width, lines, stride, size, tile_width, sums),
-        _ => put_row::<T, C, 0>(cells, start, width, lines, stride, size, tile_width, sums),
+    let of = |size, width| Tile {
+        size,
+        width,
+        ..tile
+    };
+    match (tile.size, tile.width) {
+        (1, 2) => put_row(cells, lines, of(1, 2), sums),
+        (3, 2) => put_row(cells, lines, of(3, 2), sums),
+        (4, 2) => put_row(cells, lines, of(4, 2), sums),
+        (1, width) => put_row(cells, lines, of(1, width), sums),
+        (3, width) => put_row(cells, lines, of(3, width), sums),
+        (4, width) => put_row(cells, lines, of(4, width), sums),
+        _ => put_row(cells, lines, tile, sums),
     }
 }
 
-/// In the row that begins at cell `start`, the first pixel of each tile becomes the mean of the tile's
-/// pixels in `lines` rows. A tile has at most as many cells in a row as there is room for.
-pub(crate) fn put_by_sums<T: Sample>(
-    cells: &mut [T],
-    start: usize,
-    width: usize,
-    lines: usize,
-    stride: usize,
-    size: usize,
-    tile_width: usize,
-)
-    requires some { 0 < size }
-    requires wide { 0 < tile_width }
-    requires narrow { tile_width * size ≤ 512 }
-    requires lines { 0 < lines }
-    requires few_lines { lines < 2 ^ 16 }
-    requires inside { start + (stride * (lines - 1) + width) ≤ length cells.old }
-    requires room { length cells.old < 2 ^ 63 }
-    ensures { PutsCells (row_cell SampleBytes.One T.number T.sample size tile_width lines stride start
-        width cells.old) size tile_width start width cells.old cells.new }
+/// In the first of these lines, the first pixel of each tile becomes the mean of the tile's pixels in
+/// all of them. A tile has at most as many cells in a row as there is room for.
+pub(crate) fn put_by_sums<T: Sample>(cells: &mut [T], lines: Lines, tile: Tile)
+    requires { HaveNarrowTiles lines tile (length cells.old) }
+    ensures { PutsMeans SampleBytes.One T.number T.sample lines tile cells.old cells.new }
 {
     // A sum of 16 bits takes half as long. It holds 257 lines of bytes.
-    if lines * usize::from(T::greatest()) < 65536 {
+    if lines.count * usize::from(T::greatest()) < 65536 {
         let mut sums = [0u16; ROOM];
-        let sums = sums.as_mut_slice();
-        put_sized(cells, start, width, lines, stride, size, tile_width, sums);
+        put_sized(cells, lines, tile, sums.as_mut_slice());
     } else {
         let mut sums = [0u32; ROOM];
-        let sums = sums.as_mut_slice();
-        put_sized(cells, start, width, lines, stride, size, tile_width, sums);
+        put_sized(cells, lines, tile, sums.as_mut_slice());
     }
 }

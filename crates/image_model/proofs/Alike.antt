@@ -65,6 +65,22 @@ module _ {T : Type 0} (eq : T → T → Bool) where
 
   -- ---- fed alike
 
+  -- alike layouts feed a hasher alike, where rows that are alike do
+  pub alike_shown : (made : List (List T) → HashWrites) → ((xss yss : List (List T)) → AllZip (PixelsAlike eq) xss yss → made xss ≡ made yss) → (k l : Layout T) → Alike eq k l
+      → fed.u32 k.width ++ (fed.u32 k.height ++ (if is_fitting k then made (rows k) else [])) ≡ fed.u32 l.width ++ (fed.u32 l.height ++ (if is_fitting l then made (rows l) else []))
+  alike_shown made same k l a =
+      let shown : (if is_fitting k then made (rows k) else []) ≡ (if is_fitting l then made (rows l) else []) = elim a.same_pixels [
+        | inl both ↦
+            cond-true (is_fitting k) _ _ ((is_fitting_decides k).1 both.0)
+            ∙ same (rows k) (rows l) (rows_from_agree eq k l both.2)
+            ∙ sym (cond-true (is_fitting l) _ _ ((is_fitting_decides l).1 both.1))
+        | inr neither ↦
+            cond-false (is_fitting k) _ _ (unfit k neither.0) ∙ sym (cond-false (is_fitting l) _ _ (unfit l neither.1))
+      ] in
+      let wide = ap fed.u32 a.same_width in
+      let high = ap fed.u32 a.same_height in
+      λ i. wide i ++ (high i ++ shown i)
+
   module _ (feed : T → HashWrites) (lawful : fed.Alike eq feed) where
     fed_pixels : (xs ys : List T) → PixelsAlike eq xs ys → flat_map feed xs ≡ flat_map feed ys
     fed_pixels (x ∷ xs) (y ∷ ys) h = let one = lawful.fed x y h.0 in let rest = fed_pixels xs ys h.1 in λ i. one i ++ rest i
@@ -76,18 +92,7 @@ module _ {T : Type 0} (eq : T → T → Bool) where
 
     -- alike layouts of a pixel that is fed alike feed a hasher alike
     pub alike_fed : (k l : Layout T) → Alike eq k l → fed_by feed k ≡ fed_by feed l
-    alike_fed k l a =
-        let pixels : (if is_fitting k then flat_map (flat_map feed) (rows k) else []) ≡ (if is_fitting l then flat_map (flat_map feed) (rows l) else []) = elim a.same_pixels [
-          | inl both ↦
-              cond-true (is_fitting k) _ _ ((is_fitting_decides k).1 both.0)
-              ∙ fed_rows (rows k) (rows l) (rows_from_agree eq k l both.2)
-              ∙ sym (cond-true (is_fitting l) _ _ ((is_fitting_decides l).1 both.1))
-          | inr neither ↦
-              cond-false (is_fitting k) _ _ (unfit k neither.0) ∙ sym (cond-false (is_fitting l) _ _ (unfit l neither.1))
-        ] in
-        let wide = ap fed.u32 a.same_width in
-        let high = ap fed.u32 a.same_height in
-        λ i. wide i ++ (high i ++ pixels i)
+    alike_fed = alike_shown (flat_map (flat_map feed)) fed_rows
 
     -- and so does the test say
     pub is_alike_fed : fed.Alike (is_alike eq) (fed_by feed)

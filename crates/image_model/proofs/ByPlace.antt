@@ -2,32 +2,18 @@
 use Rattle.std.proofs.Common.{◌≡◌, ℕ, ◌<◌, Some, sym, ap, ◌∙◌, arith}
 use Rattle.std.specs.Option.{option_map, option_zip}
 use Rattle.image_model.specs.Layout.{Layout, Fits, SameOutside, pixel}
-use Rattle.image_model.specs.Grid.{grid, grid_of}
+use Rattle.image_model.specs.Grid.{grid_of}
 use Rattle.image_model.specs.Tables.{table}
-use Rattle.image_model.specs.ByPlace.{mapped_places, zipped, HasPlaceAnswers, HasZipAnswers, IsMappedByPlace, IsZipped, from_places, scaled, IsFromPlaces}
+use Rattle.image_model.specs.ByPlace.{zipped, HasZipAnswers, IsZipped, from_places, scaled, IsFromPlaces}
 use Rattle.image_model.proofs.Places.{outside_fits}
 use Rattle.image_model.proofs.Grids.{pixel_at, same_grids}
-use Rattle.image_model.proofs.Mapped.{has_pixel}
+use Rattle.image_model.proofs.Mapped.{grid_decided, has_pixel}
 
--- the results at each place decide the grid
-pub is_mapped_by_place : {T : Type 0} (answers : ℕ → ℕ → T → T → Type 0) (old new : Layout T) → Fits old → SameOutside old new → HasPlaceAnswers answers old new → IsMappedByPlace answers old new
-unfolding grid_of mapped_places
-is_mapped_by_place answers old new fits same has f gives =
-    ap (λ w. grid w new.height (pixel new)) same.width_stays
-    ∙ ap (λ h. grid old.width h (pixel new)) same.height_stays
-    ∙ same_grids old.width old.height (pixel new) _ (λ x y column line.
-    let before = has_pixel old fits x y column line in
-    let after = has_pixel new (outside_fits old new same fits) x y (omega (arith, column, same.width_stays)) (omega (arith, line, same.height_stays)) in
-    let value = gives x y before.0 after.0 column line before.1 (has x y before.0 after.0 column line before.1 after.1) in
-    after.1 ∙ ap Some value ∙ sym (ap (option_map (f x y)) (pixel_at old x y column line ∙ before.1)))
-
--- the same of two images
+-- the results for two images' pixels at each place decide the grid
 pub is_zipped : {T U : Type 0} (answers : T → U → T → Type 0) (old : Layout T) (other : Layout U) (new : Layout T) → Fits old → Fits other → other.width ≡ old.width → other.height ≡ old.height → SameOutside old new → HasZipAnswers answers old other new → IsZipped answers old other new
 unfolding grid_of zipped
 is_zipped {T} {U} answers old other new fits other_fits wide high same has f gives =
-    ap (λ w. grid w new.height (pixel new)) same.width_stays
-    ∙ ap (λ h. grid old.width h (pixel new)) same.height_stays
-    ∙ same_grids old.width old.height (pixel new) _ (λ x y column line.
+    grid_decided old new _ same (λ x y column line.
     let first = has_pixel old fits x y column line in
     let in_u : x < other.width = omega (arith, column, wide) in
     let in_v : y < other.height = omega (arith, line, high) in

@@ -1,29 +1,28 @@
--- Labels of regions: one region gets its label place by place, and one region after the other gets its own.
-use Rattle.std.proofs.Common.{◌≡◌, ◌≢◌, ℕ, ◌+◌, ◌<◌, ◌≤◌, ◌⊎◌, inl, inr, ◌==◌, ◌&&◌, Bool, true, false, Option, Some, None, List, [], ◌∷◌, ◌++◌, length, refl, sym, ap, ap₂, ◌∙◌, subst, arith, ⊎_elim}
+-- Labels of regions: places without a label, and one region after the other that gets its own.
+use Rattle.std.proofs.Common.{◌≡◌, ◌≢◌, ℕ, ◌+◌, ◌<◌, ◌≤◌, inl, inr, ◌==◌, ◌&&◌, Bool, true, false, Option, Some, None, refl, sym, ap, ap₂, ◌∙◌, subst, arith, ⊎_elim}
+use Rattle.std.specs.Prelude.{IsTrue, nat_eq, ◌↔◌}
 use Rattle.std.specs.Option.{option_map, option_zip}
-use Rattle.std.proofs.lemmas.Bool.{cases_Bool, cond-true, cond-false, true≢false}
+use Rattle.std.proofs.lemmas.Bool.{cases_Bool, cond-true, cond-false}
 use Rattle.std.proofs.lemmas.Bool.Decides.{eqb_tells, nat_tests}
-use Rattle.image_model.specs.Layout.{Layout, Fits}
-use Rattle.image_model.specs.Grid.{Grid, grid_of, is_place, patch, uniform}
+use Rattle.image_model.specs.Layout.{Layout, Fits, pixel}
+use Rattle.image_model.specs.Grid.{Grid, grid_of, is_place}
 use Rattle.image_model.specs.ByPlace.{zipped}
-use Rattle.image_model.specs.Connected.{beside, IsConnected, start, next}
-use Rattle.image_model.specs.Regions.{TellsApart, AreRegions, Labelled, HasLabel, AreDone, KeepsLabels, unlabelled, Labelling, HasRegion, IsLabelStep}
-use Rattle.image_model.proofs.Connected.{connected_same, connected_onward, connected_back, flood_begins, flood_skips, flood_marks, flood_ends}
+use Rattle.image_model.specs.Connected.{IsConnected, start, next}
+use Rattle.image_model.specs.Regions.{TellsApart, AreRegions, Labelled, HasLabel, AreDone, KeepsLabels, unlabelled, HasRegion, IsLabelStep}
+use Rattle.image_model.proofs.Connected.{connected_same, connected_onward, connected_back}
 use Rattle.image_model.proofs.Grids.{pixel_at}
 use Rattle.image_model.proofs.Mapped.{has_pixel}
-use Rattle.image_model.proofs.Patches.{put_pixel}
-use Rattle.image_model.proofs.Puts.{put_cases}
 use Rattle.image_model.proofs.Reading.{is_a_place}
 
 module _ {T : Type 0} (test : T → Bool) (g : Grid T) where
   -- ---- places without a label
 
   -- a label and a pixel together
-  abbrev open_by : Option ℕ → Option T → Option Bool
+  abbrev pub open_by : Option ℕ → Option T → Option Bool
   open_by label p = option_map (λ (q : ℕ × T). (q.0 == 0) && test q.1) (option_zip label p)
 
   -- what a grid of such places shows
-  open_at : (l : Layout ℕ) (u v : ℕ) → (unlabelled test g (grid_of l)).pixel u v ≡ open_by ((grid_of l).pixel u v) (g.pixel u v)
+  pub open_at : (l : Layout ℕ) (u v : ℕ) → (unlabelled test g (grid_of l)).pixel u v ≡ open_by ((grid_of l).pixel u v) (g.pixel u v)
   unfolding unlabelled zipped grid_of
   open_at l u v = ⊎_elim
       (λ hit. cond-true (is_place l.width l.height u v) _ None hit)
@@ -31,15 +30,15 @@ module _ {T : Type 0} (test : T → Bool) (g : Grid T) where
       (cases_Bool (is_place l.width l.height u v))
 
   -- a place is open exactly if it has no label and its pixel passes
-  open_is : (l : Layout ℕ) (u v : ℕ) (p : T) → (grid_of l).pixel u v ≡ Some 0 → g.pixel u v ≡ Some p → test p ≡ true → (unlabelled test g (grid_of l)).pixel u v ≡ Some true
+  pub open_is : (l : Layout ℕ) (u v : ℕ) (p : T) → (grid_of l).pixel u v ≡ Some 0 → g.pixel u v ≡ Some p → test p ≡ true → (unlabelled test g (grid_of l)).pixel u v ≡ Some true
   open_is l u v p free shows passes = open_at l u v ∙ ap₂ open_by free shows ∙ ap Some passes
 
-  closed_is : (l : Layout ℕ) (u v n : ℕ) (p : T) → (grid_of l).pixel u v ≡ Some n → n ≢ 0 → g.pixel u v ≡ Some p → (unlabelled test g (grid_of l)).pixel u v ≡ Some false
+  pub closed_is : (l : Layout ℕ) (u v n : ℕ) (p : T) → (grid_of l).pixel u v ≡ Some n → n ≢ 0 → g.pixel u v ≡ Some p → (unlabelled test g (grid_of l)).pixel u v ≡ Some false
   closed_is l u v n p has some shows =
       let no : (n == 0) ≡ false = grind (arith, nat_tests, some) in
       open_at l u v ∙ ap₂ open_by has shows ∙ ap (λ b. Some (b && test p)) no
 
-  open_tells : (label : Option ℕ) (p : Option T) → open_by label p ≡ Some true → (label ≡ Some 0) × ((q : T) × ((p ≡ Some q) × (test q ≡ true)))
+  pub open_tells : (label : Option ℕ) (p : Option T) → open_by label p ≡ Some true → (label ≡ Some 0) × ((q : T) × ((p ≡ Some q) × (test q ≡ true)))
   open_tells None p is = absurd (cc is)
   open_tells (Some n) None is = absurd (cc is)
   open_tells (Some n) (Some q) is = ⊎_elim
@@ -50,94 +49,9 @@ module _ {T : Type 0} (test : T → Bool) (g : Grid T) where
       (λ z. let rest : Some ((n == 0) && test q) ≡ Some false = ap (λ b. Some (b && test q)) z in absurd (let wrong : Some false ≡ Some true = sym rest ∙ is in cc wrong))
       (cases_Bool (n == 0))
 
-  -- ---- one region
-
-  -- the first place has to be looked at
-  pub labelling_begins : (l : Layout ℕ) (x y n : ℕ) (p : T) (pending : List (ℕ × ℕ)) → (grid_of l).pixel x y ≡ Some 0 → g.pixel x y ≡ Some p → test p ≡ true → pending ≡ (x, y) ∷ [] → Labelling test g x y n (grid_of l) (grid_of l) pending
-  labelling_begins l x y n p pending free shows passes is = record {
-    first = open_is l x y p free shows passes;
-    flooding = flood_begins (unlabelled test g (grid_of l)) x y true false (open_is l x y p free shows passes) true≢false pending is;
-    marked = λ u v. inl refl;
-  }
-
-  -- a place with a label isn't open, nor is one with another pixel
+  -- a place with a label isn't open
   pub labelled_place : (l : Layout ℕ) (u v : ℕ) → (grid_of l).pixel u v ≢ Some 0 → (unlabelled test g (grid_of l)).pixel u v ≢ Some true
   labelled_place l u v has = λ e. has (open_tells ((grid_of l).pixel u v) (g.pixel u v) (sym (open_at l u v) ∙ e)).0
-
-  pub other_place : (l : Layout ℕ) (u v : ℕ) (p : T) → g.pixel u v ≡ Some p → test p ≡ false → (unlabelled test g (grid_of l)).pixel u v ≢ Some true
-  other_place l u v p shows fails = λ e.
-      let told = open_tells ((grid_of l).pixel u v) (g.pixel u v) (sym (open_at l u v) ∙ e) in
-      let same : Some p ≡ Some told.1.0 = sym shows ∙ told.1.1.0 in
-      let is : p ≡ told.1.0 = cc same in true≢false (sym told.1.1.1 ∙ ap test (sym is) ∙ fails)
-
-  module _ (x y n : ℕ) (some : 0 < n) (begun : Grid ℕ) where
-    -- a place is taken that has a label, or another pixel
-    pub labelling_skips : (labels : Grid ℕ) (p : List (ℕ × ℕ)) (i j : ℕ) → (unlabelled test g labels).pixel i j ≢ Some true → Labelling test g x y n begun labels (p ++ (i, j) ∷ []) → Labelling test g x y n begun labels p
-    labelling_skips labels p i j miss f = record {
-      first = f.first;
-      flooding = flood_skips (unlabelled test g begun) x y true false f.first true≢false (unlabelled test g labels) p i j miss f.flooding;
-      marked = f.marked;
-    }
-
-    -- a place is taken that has none, and gets it
-    pub labelling_marks : (l k : Layout ℕ) (p q : List (ℕ × ℕ)) (i j : ℕ) (pixel : T) → (grid_of l).pixel i j ≡ Some 0 → g.pixel i j ≡ Some pixel → test pixel ≡ true
-        → grid_of k ≡ patch (grid_of l) i j (uniform 1 1 n) → q ≡ p ++ beside i j → Labelling test g x y n begun (grid_of l) (p ++ (i, j) ∷ []) → Labelling test g x y n begun (grid_of k) q
-    labelling_marks l k p q i j pixel free shows passes put noted f = record {
-      first = f.first;
-      flooding = flood_marks (unlabelled test g begun) x y true false f.first true≢false (unlabelled test g (grid_of l)) (unlabelled test g (grid_of k)) p q i j open_now both closed_now noted f.flooding;
-      marked = λ u v. ⊎_elim
-          (λ same. ⊎_elim (λ e. inl (same ∙ e)) (λ r. inr (r.0, same ∙ r.1)) (f.marked u v))
-          (λ at. inr (subst (λ a. (unlabelled test g begun).pixel a v ≡ Some true) (sym at.0) (subst (λ b. (unlabelled test g begun).pixel i b ≡ Some true) (sym at.1) was_open), at.2))
-          (cases u v);
-    }
-      where
-        open_now : (unlabelled test g (grid_of l)).pixel i j ≡ Some true
-        open_now = open_is l i j pixel free shows passes
-
-        place : (i < l.width) × (j < l.height)
-        place = is_a_place l i j 0 free
-
-        cases : (u v : ℕ) → ((grid_of k).pixel u v ≡ (grid_of l).pixel u v) ⊎ ((u ≡ i) × (v ≡ j) × ((grid_of k).pixel u v ≡ Some n))
-        cases u v = subst (λ h. (h.pixel u v ≡ (grid_of l).pixel u v) ⊎ ((u ≡ i) × (v ≡ j) × (h.pixel u v ≡ Some n))) (sym put) (put_cases l i j n place.0 place.1 u v)
-
-        closed_now : (unlabelled test g (grid_of k)).pixel i j ≡ Some false
-        closed_now = closed_is k i j n pixel (ap (λ h. h.pixel i j) put ∙ put_pixel l i j n place.0 place.1) (λ e. omega (arith, e, some)) shows
-
-        both : (u v : ℕ) → ((unlabelled test g (grid_of k)).pixel u v ≡ (unlabelled test g (grid_of l)).pixel u v) ⊎ ((u ≡ i) × (v ≡ j) × ((unlabelled test g (grid_of k)).pixel u v ≡ Some false))
-        both u v = ⊎_elim
-            (λ same. inl (open_at k u v ∙ ap (λ o. open_by o (g.pixel u v)) same ∙ sym (open_at l u v)))
-            (λ at. inr (at.0, at.1, ap (λ a. (unlabelled test g (grid_of k)).pixel a v) at.0 ∙ ap (λ b. (unlabelled test g (grid_of k)).pixel i b) at.1 ∙ closed_now))
-            (cases u v)
-
-        was_open : (unlabelled test g begun).pixel i j ≡ Some true
-        was_open = ⊎_elim (λ e. sym e ∙ open_now) (λ r. absurd (true≢false (let e : Some true ≡ Some false = sym open_now ∙ r.1 in cc e))) (f.flooding.filled i j)
-
-  -- no place has to be looked at: the region has its label
-  pub labelling_ends : (l k : Layout ℕ) (x y n : ℕ) (p : List (ℕ × ℕ)) → (grid_of l).pixel x y ≡ Some 0 → (q : T) → g.pixel x y ≡ Some q → test q ≡ true → 0 < n
-      → Labelling test g x y n (grid_of l) (grid_of k) p → length p ≡ 0 → HasRegion test g x y n (grid_of l) (grid_of k)
-  labelling_ends l k x y n p free q shows passes some f none = record { each = each; all = all }
-    where
-      m : Grid Bool
-      m = unlabelled test g (grid_of l)
-
-      first : m.pixel x y ≡ Some true
-      first = open_is l x y q free shows passes
-
-      not_open : (u v : ℕ) → m.pixel u v ≡ Some true → (grid_of k).pixel u v ≡ Some n → (unlabelled test g (grid_of k)).pixel u v ≡ Some false
-      not_open u v was has = let told = open_tells ((grid_of l).pixel u v) (g.pixel u v) (sym (open_at l u v) ∙ was) in closed_is k u v n told.1.0 has (λ e. omega (arith, e, some)) told.1.1.0
-
-      each : (u v : ℕ) → ((grid_of k).pixel u v ≡ (grid_of l).pixel u v) ⊎ (IsConnected m x y u v × ((grid_of k).pixel u v ≡ Some n))
-      each u v = ⊎_elim inl
-          (λ r. inr (⊎_elim (λ e. absurd (true≢false (let w : Some true ≡ Some false = sym r.0 ∙ sym e ∙ not_open u v r.0 r.1 in cc w))) (λ c. c.0) (f.flooding.filled u v), r.1))
-          (f.marked u v)
-
-      all : (u v : ℕ) → IsConnected m x y u v → (grid_of k).pixel u v ≡ Some n
-      all u v path =
-          let was = connected_same m x y u v path ∙ first in
-          ⊎_elim
-          (λ same. absurd (true≢false (let w : Some true ≡ Some false = sym was ∙ open_at l u v ∙ sym (ap (λ o. open_by o (g.pixel u v)) same) ∙ sym (open_at k u v) ∙ flood_ends m x y false (unlabelled test g (grid_of k)) p f.flooding none u v path in cc w)))
-          (λ r. r.1)
-          (f.marked u v)
 
 -- ---- one region after the other
 
@@ -280,6 +194,26 @@ module _ {T : Type 0} (eq : T → T → Bool) (tells : TellsApart eq) (i : Layou
           let has = done u v (omega (arith, place, wide)) (inl (omega (arith, place, high, below))) in
           let same : Some n ≡ Some has.0 = sym one ∙ has.1 in
           let is : n ≡ has.0 = cc same in omega (arith, is, has.2)
+
+-- ---- labelled regions
+
+-- two places have one label exactly if they are connected
+pub label_tells : {T : Type 0} (i : Layout T) (l : Layout ℕ) (count x y u v a b : ℕ) → AreRegions (grid_of i) (grid_of l) count → x < i.width → y < i.height → u < i.width → v < i.height → pixel l x y ≡ Some a → pixel l u v ≡ Some b
+    → IsTrue (nat_eq a b) ↔ IsConnected (grid_of i) x y u v
+unfolding grid_of
+label_tells i l count x y u v a b r column line other_column other_line one two = (joined, apart)
+  where
+    first : (grid_of l).pixel x y ≡ Some a
+    first = pixel_at l x y (omega (arith, column, r.same_width)) (omega (arith, line, r.same_height)) ∙ one
+
+    second : (grid_of l).pixel u v ≡ Some b
+    second = pixel_at l u v (omega (arith, other_column, r.same_width)) (omega (arith, other_line, r.same_height)) ∙ two
+
+    joined : IsTrue (nat_eq a b) → IsConnected (grid_of i) x y u v
+    joined same = let e : b ≡ a = grind (arith, nat_tests, same) in r.apart x y u v a first (second ∙ ap Some e)
+
+    apart : IsConnected (grid_of i) x y u v → IsTrue (nat_eq a b)
+    apart path = let same : Some a ≡ Some b = sym (r.together x y u v a first path) ∙ second in let e : a ≡ b = cc same in grind (arith, nat_tests, e)
 
 -- these laws, for a caller's `using`
 pub ruleset labelling = (none_labelled, step_stays, done_none, done_more, done_row_ends, all_labelled)

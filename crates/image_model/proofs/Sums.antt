@@ -1,17 +1,23 @@
 -- Sums of the pixels of a grid: one column and one row more, and their bounds.
-use Rattle.std.proofs.Common.{zero, suc, ◌≡◌, ℕ, ◌+◌, ◌*◌, ◌<◌, ◌≤◌, List, [], ◌∷◌, ◌++◌, map, sum, Option, Some, None, unwrap_or, refl, sym, ap, ◌∙◌, subst, arith, add-one, add-zero}
+use Rattle.std.proofs.Common.{zero, suc, ◌≡◌, ◌≢◌, ℕ, ◌+◌, ◌-◌, ◌*◌, ◌^◌, ◌<◌, ◌≤◌, ◌==◌, inl, ⊎_elim, if◌then◌else◌, List, [], ◌∷◌, ◌++◌, map, sum, Option, Some, None, unwrap_or, refl, sym, ap, ◌∙◌, subst, arith, add-one, add-zero}
+use Rattle.std.proofs.Math.Nat.{mul-le-mul}
+use Rattle.std.proofs.lemmas.Bool.{cond-true, cond-false}
+use Rattle.std.proofs.lemmas.Bool.Decides.{eqb_tells}
 use Rattle.std.specs.List.{filter_map, flat_map, range_with_len}
 use Rattle.std.proofs.lemmas.List.{append-nil, map-id}
 use Rattle.std.proofs.lemmas.List.Concat.{flat_map-append}
 use Rattle.std.proofs.lemmas.List.Elements.{filter_map-append}
 use Rattle.std.proofs.lemmas.List.FromFn.{map-range_with_len_more}
 use Rattle.std.proofs.lemmas.List.Sums.{sum_by-append}
-use Rattle.image_model.specs.Grid.{Grid, view, shown}
+use Rattle.image_model.specs.Layout.{Layout}
+use Rattle.image_model.specs.Grid.{Grid, grid_of, view, shown}
 use Rattle.image_model.specs.Rows.{grid_row}
-use Rattle.image_model.specs.Sums.{area_sum, line_sum}
+use Rattle.image_model.specs.Sums.{area_at, area_sum, line_sum}
+use Rattle.image_model.specs.Tables.{table_upto}
 use Rattle.image_model.specs.Ranges.{AreBelow}
 use Rattle.image_model.proofs.Patches.{in_view}
 use Rattle.image_model.proofs.Rows.{filter_map-same, map-same, row_count-wide}
+use Rattle.image_model.proofs.Sweeps.{read_before}
 
 -- one number more
 range_more : (n : ℕ) → range_with_len 0 (n + 1) ≡ range_with_len 0 n ++ n ∷ []
@@ -114,5 +120,25 @@ module _ (g : Grid ℕ) where
     area_bound x zero = omega (arith, area_none x)
     area_bound x (suc y) = subst (λ n. area_sum g x n ≤ greatest * (x * n)) (add-one y) (grind (arith, area_more x y, line_bound x y, area_bound x y))
 
+-- ---- while a loop writes the sums of areas
+
+-- an earlier row has the sum above a place, and above the first one there is nothing
+pub sum_above : (g : Grid ℕ) (l k : Layout ℕ) (x y : ℕ) → grid_of k ≡ table_upto (area_at g) x y (grid_of l) → x < l.width → y < l.height
+    → (if y == 0 then 0 else shown (grid_of k) x (y - 1)) ≡ area_sum g (x + 1) y
+sum_above g l k x y e column line = ⊎_elim
+    (λ s. cond-true (y == 0) _ _ s.0 ∙ sym (area_none g (x + 1)) ∙ sym (ap (area_sum g (x + 1)) s.1))
+    (λ o. let some : y ≢ 0 = o.1 in cond-false (y == 0) _ _ o.0
+    ∙ ap (λ p. unwrap_or p 0) (read_before (area_at g) x y l k e x (y - 1) column (omega (arith, line)) (inl (omega (arith, some))))
+    ∙ ap (area_sum g (x + 1)) (omega (arith, some)))
+    (eqb_tells y 0)
+
+-- a sum of bytes fits
+pub sum_fits : (g : Grid ℕ) (width height x y : ℕ) → AreBelow 256 g → width * height < 2 ^ 56 → x < width → y < height → area_sum g (x + 1) y + line_sum g (x + 1) y < 2 ^ 64
+sum_fits g width height x y below few column line =
+    let most : (x + 1) * (y + 1) ≤ width * height = mul-le-mul (omega (arith, column)) (omega (arith, line)) in
+    omega (arith, most, few, area_bound g 255 below (x + 1) (y + 1), area_more g (x + 1) y)
+
 -- these laws, for a caller's `using`
 pub ruleset sums = (line_none, line_more, area_none, area_more)
+
+pub ruleset areas = (line_none, line_more, line_bound, area_none, area_more, sum_above, sum_fits)

@@ -7,32 +7,21 @@ use Rattle.image_model.specs.ByPlace.{mapped_places, zipped}
 use Rattle.image_model.specs.Turns.{columns_swapped, mirrored, transposed, turned_right, turned_half, turned_left}
 use Rattle.image_model.proofs.Examples.{padded}
 
--- the image has the rows 1 2 3 and 5 6 7
+-- the image has the rows 1 2 3 and 5 6 7; its first two columns exchanged, its mirror image, and the transposed one
+mirrored_pixels :
+    (grid_pixels (columns_swapped 0 1 (grid_of padded)) ≡ 2 ∷ 1 ∷ 3 ∷ 6 ∷ 5 ∷ 7 ∷ [])
+    × (grid_pixels (mirrored (grid_of padded)) ≡ 3 ∷ 2 ∷ 1 ∷ 7 ∷ 6 ∷ 5 ∷ [])
+    × (grid_pixels (transposed (grid_of padded)) ≡ 1 ∷ 5 ∷ 2 ∷ 6 ∷ 3 ∷ 7 ∷ [])
+unfolding grid_of columns_swapped mirrored transposed
+mirrored_pixels = (refl, refl, refl)
 
-swapped_pixels : grid_pixels (columns_swapped 0 1 (grid_of padded)) ≡ 2 ∷ 1 ∷ 3 ∷ 6 ∷ 5 ∷ 7 ∷ []
-unfolding grid_of columns_swapped
-swapped_pixels = refl
-
-mirrored_pixels : grid_pixels (mirrored (grid_of padded)) ≡ 3 ∷ 2 ∷ 1 ∷ 7 ∷ 6 ∷ 5 ∷ []
-unfolding grid_of mirrored
-mirrored_pixels = refl
-
-transposed_pixels : grid_pixels (transposed (grid_of padded)) ≡ 1 ∷ 5 ∷ 2 ∷ 6 ∷ 3 ∷ 7 ∷ []
-unfolding grid_of transposed
-transposed_pixels = refl
-
--- clockwise: the first row becomes the last column
-right_pixels : grid_pixels (turned_right (grid_of padded)) ≡ 5 ∷ 1 ∷ 6 ∷ 2 ∷ 7 ∷ 3 ∷ []
-unfolding grid_of turned_right
-right_pixels = refl
-
-half_pixels : grid_pixels (turned_half (grid_of padded)) ≡ 7 ∷ 6 ∷ 5 ∷ 3 ∷ 2 ∷ 1 ∷ []
-unfolding grid_of turned_half
-half_pixels = refl
-
-left_pixels : grid_pixels (turned_left (grid_of padded)) ≡ 3 ∷ 7 ∷ 2 ∷ 6 ∷ 1 ∷ 5 ∷ []
-unfolding grid_of turned_left
-left_pixels = refl
+-- turned clockwise, where the first row becomes the last column, by a half, and anticlockwise
+turned_pixels :
+    (grid_pixels (turned_right (grid_of padded)) ≡ 5 ∷ 1 ∷ 6 ∷ 2 ∷ 7 ∷ 3 ∷ [])
+    × (grid_pixels (turned_half (grid_of padded)) ≡ 7 ∷ 6 ∷ 5 ∷ 3 ∷ 2 ∷ 1 ∷ [])
+    × (grid_pixels (turned_left (grid_of padded)) ≡ 3 ∷ 7 ∷ 2 ∷ 6 ∷ 1 ∷ 5 ∷ [])
+unfolding grid_of turned_right turned_half turned_left
+turned_pixels = (refl, refl, refl)
 
 -- the column, twice the row and the pixel, added
 mapped_pixels : grid_pixels (mapped_places (λ x y p. x + (y + y) + p) (grid_of padded)) ≡ 1 ∷ 3 ∷ 5 ∷ 7 ∷ 9 ∷ 11 ∷ []

@@ -1,9 +1,9 @@
 -- Regions of connected places, and their labels.
-use Rattle.std.specs.Prelude.{◌≡◌, ℕ, ◌<◌, ◌≤◌, ◌⊎◌, ◌==◌, ◌&&◌, Bool, true, false, Some, List}
+use Rattle.std.specs.Prelude.{◌≡◌, ℕ, ◌<◌, ◌≤◌, ◌⊎◌, ◌==◌, ◌&&◌, Bool, Some}
 use Rattle.std.specs.Bool.{Decides}
 use Rattle.image_model.specs.Grid.{Grid}
 use Rattle.image_model.specs.ByPlace.{zipped}
-use Rattle.image_model.specs.Connected.{IsConnected, Flooding}
+use Rattle.image_model.specs.Connected.{IsConnected}
 
 -- pixels are equal by a test exactly if they are one
 abbrev pub TellsApart : {T : Type 0} → (T → T → Bool) → Type 0
@@ -43,13 +43,7 @@ KeepsLabels old new = (u v n : ℕ) → 0 < n → old.pixel u v ≡ Some n → n
 unfoldable pub unlabelled : {T : Type 0} → (T → Bool) → Grid T → Grid ℕ → Grid Bool
 unlabelled test g labels = zipped (λ label p. (label == 0) && test p) labels g
 
--- one region gets label n, from column x of row y on: the pending places have to be looked at
-pub record Labelling {T : Type 0} (test : T → Bool) (g : Grid T) (x y n : ℕ) (begun labels : Grid ℕ) (pending : List (ℕ × ℕ)) : Type 0 where
-  pub first : (unlabelled test g begun).pixel x y ≡ Some true
-  pub flooding : Flooding (unlabelled test g begun) x y false (unlabelled test g labels) pending
-  pub marked : (u v : ℕ) → (labels.pixel u v ≡ begun.pixel u v) ⊎ (((unlabelled test g begun).pixel u v ≡ Some true) × (labels.pixel u v ≡ Some n))
-
--- it has got the label: each place is as before, or it is connected and has the label, as each connected place has
+-- one region got label n, from column x of row y on: each place is as before, or it is connected and has the label, as each connected place has
 pub record HasRegion {T : Type 0} (test : T → Bool) (g : Grid T) (x y n : ℕ) (old new : Grid ℕ) : Type 0 where
   pub each : (u v : ℕ) → (new.pixel u v ≡ old.pixel u v) ⊎ (IsConnected (unlabelled test g old) x y u v × (new.pixel u v ≡ Some n))
   pub all : (u v : ℕ) → IsConnected (unlabelled test g old) x y u v → new.pixel u v ≡ Some n

@@ -3,7 +3,6 @@ pub mod CountedUpto
 pub mod Elements
 pub mod EqualClones
 pub mod FirstRows
-pub mod Mapping
 pub mod Mosaics
 pub mod Patterns
 pub mod PixelCounts

@@ -4,32 +4,22 @@ use Rattle.std.specs.List.{slice_get}
 use Rattle.std.proofs.lemmas.Bool.{cases_lt}
 use Rattle.std.proofs.lemmas.List.{length-set}
 use Rattle.std.proofs.lemmas.Option.{slice_get-get_or}
-use Rattle.std.proofs.Math.Nat.{add-mul}
-use Rattle.image_model.specs.Tiles.{tile_start}
 use Rattle.image_model.proofs.Cells.{slice_get-set_other}
 use Rattle.image_writes.specs.Mosaic.{shown_column, IsSpread, IsSpreadBy}
 use Rattle.image_writes.proofs.CellByCell.{one_set}
-use Rattle.image_writes.proofs.Corners.{first_start, next_start}
-use Rattle.image_writes.proofs.Parts.{of_one_cell, of_one_pixel, shows_itself, shows_before}
+use Rattle.image_writes.proofs.Corners.{IsReached, none_reached, later_reached, next_reached}
+use Rattle.image_writes.proofs.Parts.{of_one_cell, shows_itself, shows_before}
 
 -- cells that are pixels themselves
 pub spread_cells : {T : Type 0} (size tile : ℕ) (old new : List T) → size ≡ 1 → IsSpread tile old new → IsSpreadBy size tile old new
 spread_cells size tile old new one so = record { as_many = so.as_many; each = λ x below. so.each x below ∙ ap (slice_get old) (sym (ap (λ n. shown_column n tile x) one ∙ of_one_cell tile x)) }
-
--- tiles of one pixel are spread as they are
-pub single_pixels : {T : Type 0} (size tile : ℕ) (old : List T) → tile ≡ 1 → IsSpreadBy size tile old old
-single_pixels size tile old one = record { as_many = refl; each = λ x below. ap (slice_get old) (sym (ap (λ n. shown_column size n x) one ∙ of_one_pixel size x)) }
 
 -- the cells before number x are spread, and those from it on are as before; the tile begins with this pixel
 pub record SpreadByUpto {T : Type 0} (size tile : ℕ) (old now : List T) (corner x : ℕ) : Type 0 where
   pub as_many : length now ≡ length old
   pub each : (k : ℕ) → k < x → slice_get now k ≡ slice_get old (shown_column size tile k)
   pub others : (k : ℕ) → x ≤ k → slice_get now k ≡ slice_get old k
-  pub pixel : ℕ
-  pub starts : tile_start tile pixel ≡ pixel
-  pub at : corner ≡ pixel * size
-  pub from : corner ≤ x
-  pub within : x ≤ corner + tile * size
+  pub reached : IsReached size tile corner x
 
 -- the tiles before a cell are spread: that is all, or another tile begins there
 pub record TilesSpread {T : Type 0} (size tile : ℕ) (old now : List T) (corner : ℕ) : Type 0 where
@@ -44,11 +34,7 @@ module _ {T : Type 0} (size tile : ℕ) (some : 0 < size) (wide : 0 < tile) (old
     as_many = refl;
     each = λ k below. absurd (omega (arith, below));
     others = λ k above. refl;
-    pixel = 0;
-    starts = first_start tile;
-    at = omega arith;
-    from = omega arith;
-    within = omega arith;
+    reached = none_reached size tile;
   }
 
   -- all
@@ -66,14 +52,10 @@ module _ {T : Type 0} (size tile : ℕ) (some : 0 < size) (wide : 0 < tile) (old
       each = λ k upto.
           elim (cases_lt k corner) [
             | inl before ↦ so.each k before
-            | inr here ↦ so.others k here ∙ ap (slice_get old) (sym (shows_itself size tile so.pixel k some so.starts (omega (arith, so.at, here)) (omega (arith, so.at, upto))))
+            | inr here ↦ so.others k here ∙ ap (slice_get old) (sym (shows_itself size tile so.reached.pixel k some so.reached.starts (omega (arith, so.reached.at, here)) (omega (arith, so.reached.at, upto))))
           ];
       others = λ k above. so.others k (omega (arith, above));
-      pixel = so.pixel;
-      starts = so.starts;
-      at = so.at;
-      from = omega arith;
-      within = omega (arith, room);
+      reached = later_reached size tile corner corner so.reached (corner + size) (omega arith) (omega (arith, room));
     }
 
   module _ (now : List T) (corner x : ℕ) (so : SpreadByUpto size tile old now corner x) where
@@ -83,11 +65,7 @@ module _ {T : Type 0} (size tile : ℕ) (some : 0 < size) (wide : 0 < tile) (old
       as_many = so.as_many;
       each = so.each;
       others = so.others;
-      pixel = so.pixel + tile;
-      starts = next_start tile so.pixel wide so.starts;
-      at = omega (arith, so.at, ends, add-mul so.pixel tile size);
-      from = omega arith;
-      within = omega arith;
+      reached = next_reached size tile corner x so.reached wide ends;
     }
 
     -- a cell of the first pixel of a tile stays
@@ -101,13 +79,9 @@ module _ {T : Type 0} (size tile : ℕ) (some : 0 < size) (wide : 0 < tile) (old
     pub first_pixel_cell : x < corner + size → size ≤ tile * size → SpreadByUpto size tile old now corner (x + 1)
     first_pixel_cell below room = record {
       as_many = so.as_many;
-      each = λ k upto. stays k upto (shows_itself size tile so.pixel x some so.starts (omega (arith, so.at, so.from)) (omega (arith, so.at, below)));
+      each = λ k upto. stays k upto (shows_itself size tile so.reached.pixel x some so.reached.starts (omega (arith, so.reached.at, so.reached.from)) (omega (arith, so.reached.at, below)));
       others = λ k above. so.others k (omega (arith, above));
-      pixel = so.pixel;
-      starts = so.starts;
-      at = so.at;
-      from = omega (arith, so.from);
-      within = omega (arith, below, room);
+      reached = later_reached size tile corner x so.reached (x + 1) (omega arith) (omega (arith, below, room));
     }
 
     -- so does the first cell of the next tile
@@ -116,13 +90,9 @@ module _ {T : Type 0} (size tile : ℕ) (some : 0 < size) (wide : 0 < tile) (old
         let next = next_tile ends in
         record {
           as_many = so.as_many;
-          each = λ k upto. stays k upto (shows_itself size tile next.pixel x some next.starts (omega (arith, next.at)) (omega (arith, next.at, some)));
+          each = λ k upto. stays k upto (shows_itself size tile next.reached.pixel x some next.reached.starts (omega (arith, next.reached.at)) (omega (arith, next.reached.at, some)));
           others = λ k above. so.others k (omega (arith, above));
-          pixel = next.pixel;
-          starts = next.starts;
-          at = next.at;
-          from = omega arith;
-          within = omega (arith, some, room);
+          reached = later_reached size tile x x next.reached (x + 1) (omega arith) (omega (arith, some, room));
         }
 
     -- another pixel gets the cells of the one before it
@@ -134,13 +104,9 @@ module _ {T : Type 0} (size tile : ℕ) (some : 0 < size) (wide : 0 < tile) (old
           (ap Some is
           ∙ sym (slice_get-get_or now (x - size) value (omega (arith, here, so.as_many)))
           ∙ so.each (x - size) (omega (arith, some, after))
-          ∙ ap (slice_get old) (shows_before size tile so.pixel x some so.starts (omega (arith, so.at, so.from)) (omega (arith, so.at, after)) (omega (arith, so.at, below))));
+          ∙ ap (slice_get old) (shows_before size tile so.reached.pixel x some so.reached.starts (omega (arith, so.reached.at, so.reached.from)) (omega (arith, so.reached.at, after)) (omega (arith, so.reached.at, below))));
       others = λ k above. slice_get-set_other now x k value (λ e. omega (arith, e, above)) ∙ so.others k (omega (arith, above));
-      pixel = so.pixel;
-      starts = so.starts;
-      at = so.at;
-      from = omega (arith, so.from);
-      within = omega (arith, below);
+      reached = later_reached size tile corner x so.reached (x + 1) (omega arith) (omega (arith, below));
     }
 
   -- a whole tile, or the last one
@@ -149,7 +115,7 @@ module _ {T : Type 0} (size tile : ℕ) (some : 0 < size) (wide : 0 < tile) (old
     as_many = so.as_many;
     going = λ more. elim ends [
       | inl whole ↦
-          let same : corner + x ≡ corner + len = omega (arith, whole, past, so.within) in
+          let same : corner + x ≡ corner + len = omega (arith, whole, past, so.reached.within) in
           subst (λ k. SpreadByUpto size tile old now k k) same (next_tile now corner (corner + x) so (omega (arith, same, whole)))
       | inr end ↦ absurd (omega (arith, more, end))
     ];

@@ -2,10 +2,13 @@
 use Rattle.std.proofs.Common.{◌≡◌, ℕ, ◌+◌, ◌-◌, ◌*◌, ◌<◌, ◌≤◌, List, length, set, take, drop, Option, Some, subst, ◌∙◌, arith, length-set}
 use Rattle.std.specs.List.{slice_get}
 use Rattle.image_model.proofs.Cells.{slice_get-set_other}
+use Rattle.image_model.specs.Rows.{row_count}
+use Rattle.image_model.specs.ByPlace.{HasPlaceAnswers}
+use Rattle.image_shape.specs.Shape.{shaped}
 use Rattle.image_shape.specs.declared.shape.Shape.{Shape}
 use Rattle.image_ops.specs.CellAnswers.{AreAnswersAt}
 use Rattle.image_writes.proofs.CellByCell.{one_set}
-use Rattle.image_writes.proofs.RowsWritten.{RowsDone, RowRange, cell_of_row}
+use Rattle.image_writes.proofs.RowsWritten.{RowsDone, RowRange, cell_of_row, all_right}
 
 -- the first n cells are answers, and the others are as before
 pub record AnsweredTo {T : Type 0} (answers : ℕ → T → T → Type 0) (old new : List T) (n : ℕ) : Type 0 where
@@ -24,6 +27,10 @@ pub row_answers_at : {T : Type 0} (answers : ℕ → ℕ → T → T → Type 0)
     → IsAnswerAt answers old s.stride x y (slice_get line x)
 row_answers_at answers old now line s y from upto x so at column made p q was is =
     made.each x p q (cell_of_row _ old now s y so from upto x at column ∙ was) is
+
+-- where all rows are, each place has an answer
+pub all_answered : {T : Type 0} (answers : ℕ → ℕ → T → T → Type 0) (old now : List T) (s : Shape) (y : ℕ) → RowsDone (IsAnswerAt answers old s.stride) old now s y → y ≡ row_count s.width s.height → HasPlaceAnswers answers (shaped old s) (shaped now s)
+all_answered answers old now s y so all x j p q column line was is = all_right (IsAnswerAt answers old s.stride) old now s y so all x j column line p q was is
 
 -- one cell more
 pub answered_more : {T : Type 0} (answers : ℕ → T → T → Type 0) (old now : List T) (n : ℕ) (value : T) → AnsweredTo answers old now n → n < length old

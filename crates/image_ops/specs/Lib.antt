@@ -4,7 +4,7 @@ pub mod Counting
 pub mod Hashing
 pub mod Joined
 pub mod Made
-pub mod Mapping
 pub mod Pairs
 pub mod PixelCounts
 pub mod Repeated
+pub mod Tiled

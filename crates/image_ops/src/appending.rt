@@ -58,6 +58,18 @@ fn push_sixteen<T: Clone>(buf: &mut Vec<T>, cells: &[T]) -> Result<(), AllocErro
     Ok(())
 }
 
+// Appends the clones of thirty-two cells.
+#[inline(always)]
+fn push_thirty_two<T: Clone>(buf: &mut Vec<T>, cells: &[T]) -> Result<(), AllocError>
+    requires thirty_two { length cells.now ≡ 32 }
+    requires room { vec_len buf.old + 32 ≤ vec_capacity buf.old }
+    ensures { OnOk result (GetsClones T.is_clone buf.old buf.new cells.now) }
+{
+    push_sixteen(buf, &cells[..16])?;
+    push_sixteen(buf, &cells[16..])?;
+    Ok(())
+}
+
 // Appends the clones of fewer than four cells.
 #[inline(always)]
 fn push_below_four<T: Clone>(buf: &mut Vec<T>, cells: &[T]) -> Result<(), AllocError>
@@ -145,7 +157,7 @@ fn push_below_thirty_two<T: Clone>(buf: &mut Vec<T>, cells: &[T]) -> Result<(), 
     push_below_sixteen(buf, &cells[done..])
 }
 
-// Appends the clones of any cells, by two sixteens at once.
+// Appends the clones of any cells, by thirty-two at once.
 #[inline(always)]
 fn push_sixteens<T: Clone>(buf: &mut Vec<T>, cells: &[T]) -> Result<(), AllocError>
     requires room { vec_len buf.old + length cells.now ≤ vec_capacity buf.old }
@@ -153,8 +165,7 @@ fn push_sixteens<T: Clone>(buf: &mut Vec<T>, cells: &[T]) -> Result<(), AllocErr
 {
     let mut done = 0;
     while cells.len() - done >= 32 {
-        push_sixteen(buf, &cells[done..done + 16])?;
-        push_sixteen(buf, &cells[done + 16..done + 32])?;
+        push_thirty_two(buf, &cells[done..done + 32])?;
         done += 32;
     }
     push_below_thirty_two(buf, &cells[done..])
@@ -175,7 +186,7 @@ fn push_whole<T: Clone>(buf: &mut Vec<T>, cells: &[T]) -> Result<(), AllocError>
     Ok(())
 }
 
-// The same of a multiple of 64, by four sixteens at once.
+// The same of a multiple of 64, by two times thirty-two at once.
 #[inline(always)]
 fn push_many<T: Clone>(buf: &mut Vec<T>, cells: &[T]) -> Result<(), AllocError>
     requires whole { length cells.now ≡ 64 * (length cells.now / 64) }
@@ -184,10 +195,8 @@ fn push_many<T: Clone>(buf: &mut Vec<T>, cells: &[T]) -> Result<(), AllocError>
 {
     let mut done = 0;
     while done < cells.len() {
-        push_sixteen(buf, &cells[done..done + 16])?;
-        push_sixteen(buf, &cells[done + 16..done + 32])?;
-        push_sixteen(buf, &cells[done + 32..done + 48])?;
-        push_sixteen(buf, &cells[done + 48..done + 64])?;
+        push_thirty_two(buf, &cells[done..done + 32])?;
+        push_thirty_two(buf, &cells[done + 32..done + 64])?;
         done += 64;
     }
     Ok(())

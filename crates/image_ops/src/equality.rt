@@ -59,8 +59,9 @@ fn are_equal_lines<T: PartialEq, const N: usize, const BY_BLOCKS: bool>(
     }
 }
 
-// The same by the rows' width, which is looked at once. Cells of more than 16 bytes may hold
-// pointers, and then what they point to: they are compared in turn, up to the first that differs.
+// The same by the rows' width, which is looked at once: short rows by their ends, and others by blocks.
+// Cells of more than 16 bytes may hold pointers, and then what they point to: they are compared in turn,
+// up to the first that differs.
 fn are_equal_by_width<T: PartialEq>(
     first: &[T],
     first_shape: Shape,
@@ -71,38 +72,25 @@ fn are_equal_by_width<T: PartialEq>(
     ensures { result ≡ pointwise (pointwise T.eq) (rows_of (shaped first.now first_shape))
         (rows_of (shaped second.now second_shape)) }
 {
-    match part_to_compare(first, first_shape.width()) {
+    let width = first_shape.width();
+    match part_to_compare(first, width) {
         32 => have_equal_rows::<T, 32, false>(first, first_shape, second, second_shape),
         16 => have_equal_rows::<T, 16, false>(first, first_shape, second, second_shape),
         8 => have_equal_rows::<T, 8, false>(first, first_shape, second, second_shape),
         4 => have_equal_rows::<T, 4, false>(first, first_shape, second, second_shape),
-        _ => are_equal_by_blocks(first, first_shape, second, second_shape),
-    }
-}
-
-// The same of long rows, and of rows of up to four cells.
-fn are_equal_by_blocks<T: PartialEq>(
-    first: &[T],
-    first_shape: Shape,
-    second: &[T],
-    second_shape: Shape,
-) -> bool
-    requires sizes { HaveSameSize first.now first_shape second.now second_shape }
-    ensures { result ≡ pointwise (pointwise T.eq) (rows_of (shaped first.now first_shape))
-        (rows_of (shaped second.now second_shape)) }
-{
-    match block_of_row(first, first_shape.width()) {
-        256 => have_equal_rows::<T, 256, true>(first, first_shape, second, second_shape),
-        128 => have_equal_rows::<T, 128, true>(first, first_shape, second, second_shape),
-        64 => have_equal_rows::<T, 64, true>(first, first_shape, second, second_shape),
-        32 => have_equal_rows::<T, 32, true>(first, first_shape, second, second_shape),
-        16 => have_equal_rows::<T, 16, true>(first, first_shape, second, second_shape),
-        8 => have_equal_rows::<T, 8, true>(first, first_shape, second, second_shape),
-        4 => have_equal_rows::<T, 4, true>(first, first_shape, second, second_shape),
-        3 => have_equal_rows::<T, 3, true>(first, first_shape, second, second_shape),
-        2 => have_equal_rows::<T, 2, true>(first, first_shape, second, second_shape),
-        1 => have_equal_rows::<T, 1, true>(first, first_shape, second, second_shape),
-        _ => have_equal_rows::<T, 0, false>(first, first_shape, second, second_shape),
+        _ => match block_of_row(first, width) {
+            256 => have_equal_rows::<T, 256, true>(first, first_shape, second, second_shape),
+            128 => have_equal_rows::<T, 128, true>(first, first_shape, second, second_shape),
+            64 => have_equal_rows::<T, 64, true>(first, first_shape, second, second_shape),
+            32 => have_equal_rows::<T, 32, true>(first, first_shape, second, second_shape),
+            16 => have_equal_rows::<T, 16, true>(first, first_shape, second, second_shape),
+            8 => have_equal_rows::<T, 8, true>(first, first_shape, second, second_shape),
+            4 => have_equal_rows::<T, 4, true>(first, first_shape, second, second_shape),
+            3 => have_equal_rows::<T, 3, true>(first, first_shape, second, second_shape),
+            2 => have_equal_rows::<T, 2, true>(first, first_shape, second, second_shape),
+            1 => have_equal_rows::<T, 1, true>(first, first_shape, second, second_shape),
+            _ => have_equal_rows::<T, 0, false>(first, first_shape, second, second_shape),
+        },
     }
 }
 

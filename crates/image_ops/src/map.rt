@@ -3,14 +3,14 @@
 ghost use Rattle.image_model.specs.Layout.{Fits, SameOutside};
 ghost use Rattle.image_model.specs.Mapped.{HasAnswers, IsMapped};
 ghost use Rattle.image_shape.specs.Shape.{shaped};
-ghost use Rattle.image_ops.specs.Mapping.{AreAnswers};
+ghost use Rattle.image_ops.specs.CellAnswers.{AreAnswersAt};
 
 use image_shape::Shape;
 
 // Every cell becomes what `f` makes of it.
 fn map_cells<T: Copy, F: Fn(T) -> T>(cells: &mut [T], f: &F)
     requires { F.IsAlwaysCallable f.now }
-    ensures { AreAnswers (F.post f.now) cells.old cells.new }
+    ensures { AreAnswersAt (λ _. F.post f.now) cells.old cells.new }
 {
     for cell in cells.iter_mut() {
         *cell = f(*cell);

@@ -6,6 +6,7 @@ ghost use Rattle.image_model.specs.Grid.{grid_of};
 ghost use Rattle.image_shape.specs.Shape.{shaped, shaped_grid};
 ghost use Rattle.image_writes.specs.Mosaic.{mosaic_by, IsSpread, IsSpreadBy};
 ghost use Rattle.image_writes.specs.Written.{Becomes};
+ghost use Rattle.image_ops.specs.Tiled.{AreTiles};
 
 use crate::fill::fill_cells;
 use crate::repeating::repeat_row;
@@ -115,8 +116,7 @@ fn spread_by_tiles<T: Copy>(row: &mut [T], tile_width: usize)
 // Each pixel of so many cells becomes the first one of its tile. A pixel that isn't the first gets
 // the cells of the one before it.
 fn spread_by_pixels<T: Copy>(row: &mut [T], size: usize, tile_width: usize)
-    requires size { 0 < size }
-    requires tile_width { 0 < tile_width }
+    requires { AreTiles size tile_width }
     ensures { IsSpreadBy size tile_width row.old row.new }
 {
     let tile = tile_width.saturating_mul(size);
@@ -133,8 +133,7 @@ fn spread_by_pixels<T: Copy>(row: &mut [T], size: usize, tile_width: usize)
 // The same by a loop for each tile, with no test of a cell. That is faster in wide rows.
 #[inline(never)]
 fn spread_tiles_of_pixels<T: Copy>(row: &mut [T], size: usize, tile_width: usize)
-    requires size { 0 < size }
-    requires tile_width { 0 < tile_width }
+    requires { AreTiles size tile_width }
     ensures { IsSpreadBy size tile_width row.old row.new }
 {
     let tile = size.saturating_mul(tile_width);
@@ -148,33 +147,51 @@ fn spread_tiles_of_pixels<T: Copy>(row: &mut [T], size: usize, tile_width: usize
     }
 }
 
+// The same for tiles of two pixels of `N` cells, whole ones by a loop of known length.
+#[inline(never)]
+fn spread_pixel_pairs<T: Copy, const N: usize>(row: &mut [T])
+    requires some { 0 < N }
+    requires few { N ≤ 4 }
+    ensures { IsSpreadBy N 2 row.old row.new }
+{
+    let mut corner = 0;
+    while row.len() - corner >= 2 * N {
+        for x in N..2 * N {
+            row[corner + x] = row[corner + x - N];
+        }
+        corner += 2 * N;
+    }
+    if corner < row.len() {
+        for last in N..row.len() - corner {
+            row[corner + last] = row[corner + last - N];
+        }
+    }
+}
+
 // The same for wide rows, wide tiles and tiles of one pixel, by what is faster for such tiles. A tile
 // of one pixel shows that pixel.
 //
 // It isn't inlined: it would take registers from the loop over rows.
 #[inline(never)]
 fn spread_wide<T: Copy>(row: &mut [T], size: usize, tile_width: usize)
-    requires size { 0 < size }
-    requires tile_width { 0 < tile_width }
+    requires { AreTiles size tile_width }
     ensures { IsSpreadBy size tile_width row.old row.new }
 {
-    if tile_width == 1 {
-        return;
-    }
-    if size >= 2 {
-        spread_tiles_of_pixels(row, size, tile_width);
-    } else if tile_width < FILLED_WIDTH {
-        spread_narrow(row, tile_width);
-    } else {
-        spread_by_tiles(row, tile_width);
+    match (size, tile_width) {
+        (_, 1) => {}
+        (2, 2) => spread_pixel_pairs::<T, 2>(row),
+        (3, 2) => spread_pixel_pairs::<T, 3>(row),
+        (4, 2) => spread_pixel_pairs::<T, 4>(row),
+        (1, 0..FILLED_WIDTH) => spread_narrow(row, tile_width),
+        (1, _) => spread_by_tiles(row, tile_width),
+        _ => spread_tiles_of_pixels(row, size, tile_width),
     }
 }
 
 // The same for any row, which is taken for a wide one or not.
 #[inline(always)]
 fn spread<T: Copy>(row: &mut [T], size: usize, tile_width: usize, wide: bool)
-    requires size { 0 < size }
-    requires tile_width { 0 < tile_width }
+    requires { AreTiles size tile_width }
     ensures { IsSpreadBy size tile_width row.old row.new }
 {
     if wide {
@@ -192,7 +209,7 @@ fn are_wide<T>(cells: &[T], width: usize, size: usize, tile_width: usize) -> boo
         return true;
     }
     if size >= 2 {
-        return width >= 32 && (size >= 3 || tile_width >= 3);
+        return width >= 32;
     }
     if tile_width == 2 {
         return width >= 8;

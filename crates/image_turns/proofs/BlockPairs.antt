@@ -5,6 +5,7 @@ use Rattle.std.proofs.lemmas.Bool.Decides.{nat_tests}
 use Rattle.std.proofs.lemmas.Nat.{mod_below, div_below, div-add-mod', div-mul-add, mod-mul-add, mul-le}
 use Rattle.std.proofs.Math.Nat.{add-mul, mul-div_cancel, le-div_iff_mul-le, div-lt_iff_lt-mul}
 use Rattle.image_model.specs.Layout.{SameOutside, pixel}
+use Rattle.image_model.specs.Windows.{IsInside, Window, window}
 use Rattle.image_model.specs.Grid.{Grid, grid, grid_of, covers, patch, view}
 use Rattle.image_model.proofs.Grids.{at_place, pixel_at, covers_decides, same_grids, is_patch}
 use Rattle.image_model.proofs.Patches.{in_view}
@@ -93,9 +94,12 @@ pub record PairsCrossed {T : Type 0} (size top below left : ℕ) (old new : List
   pub outside : SameOutside (shaped old s) (shaped new s)
   pub each : (u v : ℕ) → u < s.width → v < s.height → (shaped_grid new s).pixel u v ≡ crossed_pixel size (pair_done top below left (u / size) v) (shaped_grid old s) u v
 
--- a window of pixels is inside where its columns are
-pub pixels_within : (size columns width a b left count : ℕ) → width ≡ columns * size → a ≡ left * size → b ≡ count * size → left + count ≤ columns → a + b ≤ width
-pixels_within size columns width a b left count square begins wide inside = omega (arith, square, begins, wide, mul-le (left + count) size columns size inside (omega arith), add-mul left count size)
+-- a window of pixels is inside where its columns and rows are
+pub pixels_inside : (size side width left top count lines : ℕ) (w : Window) → width ≡ side * size → w ≡ window (left * size) top (count * size) lines → left + count ≤ side → top + lines ≤ side → IsInside width side w
+pixels_inside size side width left top count lines w square is across down = (
+  omega (arith, square, ap (λ w. w.left) is, ap (λ w. w.width) is, mul-le (left + count) size side size across (omega arith), add-mul left count size),
+  omega (arith, ap (λ w. w.top) is, ap (λ w. w.height) is, down),
+)
 
 -- the whole of a transposed image
 pub whole_across : {T : Type 0} (size : ℕ) (g : Grid T) (left columns lines : ℕ) → left ≡ 0 → columns ≡ g.height * size → lines ≡ g.width / size → view (oriented size Transposed g) left 0 columns lines ≡ oriented size Transposed g

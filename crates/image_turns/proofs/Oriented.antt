@@ -3,8 +3,8 @@ use Rattle.std.proofs.Common.{◌≡◌, ℕ, ◌+◌, ◌-◌, ◌*◌, ◌/◌
 use Rattle.std.specs.List.{slice_get}
 use Rattle.std.proofs.lemmas.Bool.{cases_lt}
 use Rattle.std.proofs.lemmas.Nat.{div-mul-add, mod-mul-add, mod_below, div_below, mul-le}
-use Rattle.std.proofs.Math.Nat.{add-mul, mul-add-div_right, mul-add-mod_self_right}
-use Rattle.image_model.specs.Layout.{Layout, SameOutside, pixel}
+use Rattle.std.proofs.Math.Nat.{add-mul, mul_comm, mul-add-div_right, mul-add-mod_self_right}
+use Rattle.image_model.specs.Layout.{Layout, Reaches, SameOutside, pixel}
 use Rattle.image_model.specs.Grid.{Grid, grid, grid_of, patch, view}
 use Rattle.image_model.specs.Turns.{transposed, turned_right, turned_half, turned_left}
 use Rattle.image_model.specs.Windows.{Stretch, with_stretch}
@@ -72,13 +72,23 @@ cell_of_pixel o size stride columns rows left y x c here =
     ∙ ap (λ n. source_row o rows (left + x) y * stride + (source_column o columns (left + x) y * size + n)) (mod-mul-add x size c here)
     ∙ omega arith
 
--- one pixel more
-pub one_pixel_more : {T : Type 0} (size : ℕ) (from : ℕ → ℕ) (source old now : List T) (x start : ℕ) (block : List T) → GatheredTo from source old now (x * size) → length block ≡ size → x * size + size ≤ length old
+-- a row of the source has so many pixels from a column on, and so do the cells
+pub pixels_reach : (size len width height stride columns column count line : ℕ) → Reaches len width height stride → width ≡ columns * size → 0 < size → 0 < count → column + count ≤ columns → line < height
+    → line * stride + column * size + count * size ≤ len
+pixels_reach size len width height stride columns column count line fits wide some many across down =
+    let far : (column + count) * size ≤ columns * size = mul-le (column + count) size columns size across (omega arith) in
+    let one : 1 * size ≤ count * size = mul-le 1 size count size many (omega arith) in
+    let above : line * stride ≤ (height - 1) * stride = mul-le line stride (height - 1) stride (omega (arith, down)) (omega arith) in
+    let reach = fits (omega (arith, wide, far, one, some, add-mul column count size)) (omega (arith, down)) in
+    omega (arith, far, add-mul column count size, above, reach, wide, mul_comm stride (height - 1))
+
+-- one pixel more, with the cells after it that were written, too
+pub one_pixel_more : {T : Type 0} (size many : ℕ) (from : ℕ → ℕ) (source old now : List T) (x start : ℕ) (block : List T) → GatheredTo from source old now (x * size) → length block ≡ many → size ≤ many → x * size + many ≤ length old
     → ((c : ℕ) → c < size → slice_get block c ≡ slice_get source (start + c)) → ((c : ℕ) → c < size → from (x * size + c) ≡ start + c)
-    → GatheredTo from source old (with_stretch now (record { start = x * size; len = size }) block) ((x + 1) * size)
-one_pixel_more size from source old now x start block so long inside shows comes =
-    let s : Stretch = record { start = x * size; len = size } in
-    let within : x * size + size ≤ length now = omega (arith, inside, so.as_many) in
+    → GatheredTo from source old (with_stretch now (record { start = x * size; len = many }) block) ((x + 1) * size)
+one_pixel_more size many from source old now x start block so long enough inside shows comes =
+    let s : Stretch = record { start = x * size; len = many } in
+    let within : x * size + many ≤ length now = omega (arith, inside, so.as_many) in
     let next : (x + 1) * size ≡ x * size + size = omega arith in
     record {
       as_many = length-with_stretch now s block within long ∙ so.as_many;
@@ -90,7 +100,7 @@ one_pixel_more size from source old now x start block so long inside shows comes
                 let at : x * size + c ≡ k = omega (arith, here) in
                 let few : c < size = omega (arith, here, below, next) in
                 ap (slice_get (with_stretch now s block)) (sym at)
-                ∙ with_stretch_at now s block within c (omega (arith, few, long))
+                ∙ with_stretch_at now s block within c (omega (arith, few, long, enough))
                 ∙ shows c few
                 ∙ ap (slice_get source) (sym (comes c few) ∙ ap from at)
           ];

@@ -1,5 +1,5 @@
 -- Grids of pixels of several cells, next to one another in a row, that are transposed or turned.
-use Rattle.std.specs.Prelude.{ℕ, ◌+◌, ◌-◌, ◌*◌, ◌/◌, ◌%◌}
+use Rattle.std.specs.Prelude.{ℕ, ◌+◌, ◌-◌, ◌*◌, ◌/◌, ◌%◌, ◌<◌}
 use Rattle.image_model.specs.Grid.{Grid, grid}
 use Rattle.image_turns.specs.declared.pixel_turning.Orientation.{Orientation}
 use Rattle.image_turns.specs.declared.pixel_turning.Orientation.TheVariants.{Transposed, Right, Half, Left}
@@ -42,3 +42,7 @@ oriented size o g =
 abbrev pub source_cell : Orientation → ℕ → ℕ → ℕ → ℕ → ℕ → ℕ → ℕ → ℕ
 source_cell o size stride columns rows left y k =
     source_row o rows (left + k / size) y * stride + (source_column o columns (left + k / size) y * size + k % size)
+
+-- so many pixels of row y, from column `left` on, come from pixels that have another one after them in their row
+abbrev pub AreFollowed : Orientation → ℕ → ℕ → ℕ → ℕ → Type 0
+AreFollowed o columns left y count = (x : ℕ) → x < count → source_column o columns (left + x) y + 1 < columns

@@ -17,8 +17,8 @@ ghost use Rattle.image_turns.specs.Sizes.{AreBlocks, IsPixelSquare};
 ghost use Rattle.image_writes.specs.Written.{Becomes};
 
 use crate::blocks::read_rows;
-use crate::pixel_turning::{Orientation, orient_rows};
-use crate::turning::{Crossing, quarter_rows};
+use crate::pixel_turning::{Orientation, Origin, orient_rows};
+use crate::turning::{CrossedShape, Crossing, quarter_rows};
 use image_flips::{exact_part, padded_part};
 use image_shape::{Shape, Window};
 
@@ -46,7 +46,7 @@ pub(crate) fn copy_block<T: Copy, const WIDTH: usize, const HEIGHT: usize>(
 {
     let (part, part_shape) = padded_part(cells, shape, window);
     let near = Shape::new(window.width, window.height, WIDTH);
-    read_rows(block, near, part, part_shape, false);
+    read_rows::<T, 0>(block, near, part, part_shape, false);
     near
 }
 
@@ -72,25 +72,19 @@ fn write_across<T: Copy, const N: usize>(
     let count = block_shape.height();
     // Of cells of four bytes the compiler makes vector code here alone.
     if N == 1 {
-        quarter_rows(
-            &mut cells[part],
-            inner,
-            block,
-            block_shape,
-            Crossing::Across,
-        );
+        let from = CrossedShape {
+            shape: block_shape,
+            crossing: Crossing::Across,
+        };
+        quarter_rows(&mut cells[part], inner, block, from);
         return;
     }
-    orient_rows::<T, N>(
-        &mut cells[part],
-        inner,
-        0,
-        count,
-        block,
-        block_shape,
-        window.height,
-        Orientation::Transposed,
-    );
+    let origin = Origin {
+        shape: block_shape,
+        columns: window.height,
+        orientation: Orientation::Transposed,
+    };
+    orient_rows::<T, N>(&mut cells[part], inner, 0, count, block, origin);
 }
 
 // The pixels of the window change places with those across the diagonal. The window is counted in

@@ -8,6 +8,7 @@ ghost use Rattle.image_writes.specs.Gathered.{AreGathered};
 ghost use Rattle.image_writes.specs.Written.{Becomes, HaveSameSize};
 
 use image_shape::Shape;
+use row_parts::{read_part, write_part};
 
 // The shape of a block of 256 cells.
 pub(crate) fn block_shape() -> Shape
@@ -54,18 +55,36 @@ fn line_read(back: bool, height: usize, y: usize) -> usize
     if back { height - 1 - y } else { y }
 }
 
-// Every pixel of `shape` in `cells` becomes the pixel of the source at its place, or, where `back`
-// says so, at its place in the source upside down. The padding stays. It is inlined, so that the
-// compiler knows that a block has 16 rows of 16 cells.
+// The cells of a row become those of another one. There are `W` of them, or any number where `W` is 0.
+// Known ones go by registers, without a test whether the rows overlap.
 #[inline(always)]
-pub(crate) fn read_rows<T: Copy>(
+fn copy_row<T: Copy, const W: usize>(cells: &mut [T], source: &[T])
+    requires as_many { length source.now ≡ length cells.old }
+    requires known { 0 < W → length cells.old ≡ W }
+    ensures as_many { length cells.new ≡ length cells.old }
+    ensures after { cells.new ≡ source.now }
+{
+    if W > 0 {
+        let row = read_part::<T, W>(source);
+        write_part::<T, W>(cells, row);
+    } else {
+        cells.copy_from_slice(source);
+    }
+}
+
+// Every pixel of `shape` in `cells` becomes the pixel of the source at its place, or, where `back`
+// says so, at its place in the source upside down. The padding stays. A row has `W` pixels, or any
+// number where `W` is 0. It is inlined, so that the compiler knows that a block has 16 rows.
+#[inline(always)]
+pub(crate) fn read_rows<T: Copy, const W: usize>(
     cells: &mut [T],
     shape: Shape,
     source: &[T],
     source_shape: Shape,
     back: bool,
 )
-    requires { HaveSameSize cells.old shape source.now source_shape }
+    requires sizes { HaveSameSize cells.old shape source.now source_shape }
+    requires known { 0 < W → shape_width shape ≡ W }
     ensures { Becomes shape cells.old cells.new
         (read_over back (shaped_grid source.now source_shape)) }
 {
@@ -73,6 +92,6 @@ pub(crate) fn read_rows<T: Copy>(
         let row = shape.row(cells.len(), y);
         let line = line_read(back, source_shape.height(), y);
         let from = source_shape.row(source.len(), line);
-        cells[row.range()].copy_from_slice(&source[from.range()]);
+        copy_row::<T, W>(&mut cells[row.range()], &source[from.range()]);
     }
 }

@@ -59,7 +59,7 @@ fn read_across<T: Copy>(block: &mut [T], cells: &[T], shape: Shape, left: usize,
         ≡ transposed (view (shaped_grid cells.now shape) left top 16 16) }
 {
     let (part, part_shape) = padded_part(cells, shape, Window::new(left, top, 16, 16));
-    read_rows(block, block_shape(), part, part_shape, false);
+    read_rows::<T, 16>(block, block_shape(), part, part_shape, false);
     transpose_block(block);
 }
 
@@ -75,7 +75,7 @@ fn write_block<T: Copy>(cells: &mut [T], shape: Shape, left: usize, top: usize, 
         (patch (shaped_grid cells.old shape) left top (block_grid block.now)) }
 {
     let (part, inner) = exact_part(cells.len(), shape, Window::new(left, top, 16, 16));
-    read_rows(&mut cells[part], inner, block, block_shape(), false);
+    read_rows::<T, 16>(&mut cells[part], inner, block, block_shape(), false);
 }
 
 // The 16 by 16 pixels from column `left` of row `top` on change places with those across the

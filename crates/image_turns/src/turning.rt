@@ -79,29 +79,30 @@ pub(crate) enum Crossing {
     Left,
 }
 
+// The shape of a source, and how its columns become rows.
+#[derive(Clone, Copy)]
+pub(crate) struct CrossedShape {
+    pub(crate) shape: Shape,
+    pub(crate) crossing: Crossing,
+}
+
 // Every pixel of `shape` in `cells` becomes the pixel of the source whose columns are rows, row by
 // row.
 #[inline(always)]
-pub(crate) fn quarter_rows<T: Copy>(
-    cells: &mut [T],
-    shape: Shape,
-    source: &[T],
-    source_shape: Shape,
-    crossing: Crossing,
-)
-    requires { AreCrosswise cells.old shape source.now source_shape }
+pub(crate) fn quarter_rows<T: Copy>(cells: &mut [T], shape: Shape, source: &[T], from: CrossedShape)
+    requires { AreCrosswise cells.old shape source.now from.shape }
     ensures { Becomes shape cells.old cells.new
-        (quartered crossing (shaped_grid source.now source_shape)) }
+        (quartered from.crossing (shaped_grid source.now from.shape)) }
 {
     for y in 0..shape.row_count() {
         let place = shape.row(cells.len(), y);
         let target = &mut cells[place.range()];
-        let column = first_column(crossing, source_shape.width(), y, 1);
-        if reads_back(crossing) {
-            let last = source_shape.row(source.len(), source_shape.height() - 1);
-            gather_back(target, source, last.start + column, source_shape.stride());
+        let column = first_column(from.crossing, from.shape.width(), y, 1);
+        if reads_back(from.crossing) {
+            let last = from.shape.row(source.len(), from.shape.height() - 1);
+            gather_back(target, source, last.start + column, from.shape.stride());
         } else {
-            gather(target, source, column, source_shape.stride());
+            gather(target, source, column, from.shape.stride());
         }
     }
 }
@@ -156,37 +157,36 @@ fn quarter_at<T: Copy>(
     left: usize,
     top: usize,
     source: &[T],
-    source_shape: Shape,
-    crossing: Crossing,
+    from: CrossedShape,
 )
-    requires sizes { AreCrosswise cells.old shape source.now source_shape }
+    requires sizes { AreCrosswise cells.old shape source.now from.shape }
     requires wide { left + 16 ≤ shape_width shape }
     requires high { top + 16 ≤ shape_height shape }
     ensures { Becomes shape cells.old cells.new (patch (shaped_grid cells.old shape) left top
-        (view (quartered crossing (shaped_grid source.now source_shape)) left top 16 16)) }
+        (view (quartered from.crossing (shaped_grid source.now from.shape)) left top 16 16)) }
 {
-    let column = first_column(crossing, source_shape.width(), top, 16);
-    let line = first_row(crossing, source_shape.height(), left, 16);
+    let column = first_column(from.crossing, from.shape.width(), top, 16);
+    let line = first_row(from.crossing, from.shape.height(), left, 16);
     let place = Window::new(column, line, 16, 16);
-    let (seen, seen_shape) = padded_part(source, source_shape, place);
+    let (seen, seen_shape) = padded_part(source, from.shape, place);
     let square = block_shape();
     let mut block = [seen[0]; 256];
-    read_rows(
+    read_rows::<T, 16>(
         block.as_mut_slice(),
         square,
         seen,
         seen_shape,
-        reads_back(crossing),
+        reads_back(from.crossing),
     );
     transpose_block(block.as_mut_slice());
     let (part, inner) = exact_part(cells.len(), shape, Window::new(left, top, 16, 16));
     let target = &mut cells[part];
-    read_rows(
+    read_rows::<T, 16>(
         target,
         inner,
         block.as_slice(),
         square,
-        writes_back(crossing),
+        writes_back(from.crossing),
     );
 }
 
@@ -198,14 +198,13 @@ pub(crate) fn quarter_blocks<T: Copy>(
     cells: &mut [T],
     shape: Shape,
     source: &[T],
-    source_shape: Shape,
-    crossing: Crossing,
+    from: CrossedShape,
 )
-    requires sizes { AreCrosswise cells.old shape source.now source_shape }
+    requires sizes { AreCrosswise cells.old shape source.now from.shape }
     requires wide { 16 ≤ shape_width shape }
     requires high { 16 ≤ shape_height shape }
     ensures { Becomes shape cells.old cells.new
-        (quartered crossing (shaped_grid source.now source_shape)) }
+        (quartered from.crossing (shaped_grid source.now from.shape)) }
 {
     let (width, height) = (shape.width(), shape.height());
     let mut top = 0;
@@ -214,7 +213,7 @@ pub(crate) fn quarter_blocks<T: Copy>(
         let mut left = 0;
         while left < width {
             let column = left.min(width - 16);
-            quarter_at(cells, shape, column, line, source, source_shape, crossing);
+            quarter_at(cells, shape, column, line, source, from);
             left += 16;
         }
         top += 16;
@@ -241,7 +240,7 @@ pub(crate) fn blocks_pay<T>(source: &[T], shape: Shape) -> bool
 }
 
 // Whether a source stays in the nearest cache, however it is read.
-fn is_near<T>(source: &[T]) -> bool {
+pub(crate) fn is_near<T>(source: &[T]) -> bool {
     source.len() * size_of::<T>() <= NEAR
 }
 
@@ -292,35 +291,33 @@ fn strip_columns<T>(source: &[T], stride: usize, shape: Shape) -> (usize, bool)
 // columns at a time; the padding stays. It isn't inlined, so that small images take no longer than
 // without it.
 #[inline(never)]
-fn quarter_strips<T: Copy>(
-    cells: &mut [T],
-    shape: Shape,
-    source: &[T],
-    source_shape: Shape,
-    crossing: Crossing,
-)
-    requires { AreCrosswise cells.old shape source.now source_shape }
+fn quarter_strips<T: Copy>(cells: &mut [T], shape: Shape, source: &[T], from: CrossedShape)
+    requires { AreCrosswise cells.old shape source.now from.shape }
     ensures { Becomes shape cells.old cells.new
-        (quartered crossing (shaped_grid source.now source_shape)) }
+        (quartered from.crossing (shaped_grid source.now from.shape)) }
 {
-    let (most, is_copied) = strip_columns(source, source_shape.stride(), shape);
+    let (most, is_copied) = strip_columns(source, from.shape.stride(), shape);
     let (columns, lines) = (shape.width(), shape.height());
-    let (source_width, source_height) = (source_shape.width(), source_shape.height());
+    let (source_width, source_height) = (from.shape.width(), from.shape.height());
     let mut left = 0;
     while left < columns {
         let width = most.min(columns - left);
-        let top = first_row(crossing, source_height, left, width);
+        let top = first_row(from.crossing, source_height, left, width);
         let rows = Window::new(0, top, source_width, width);
-        let (part, part_shape) = padded_part(source, source_shape, rows);
+        let (part, part_shape) = padded_part(source, from.shape, rows);
+        let part_from = CrossedShape {
+            shape: part_shape,
+            crossing: from.crossing,
+        };
         let strip = Window::new(left, 0, width, lines);
         let (cut, inner) = exact_part(cells.len(), shape, strip);
         let target = &mut cells[cut];
         if is_copied {
-            quarter_copied(target, inner, part, part_shape, crossing);
+            quarter_copied(target, inner, part, part_from);
         } else if blocks_pay(part, inner) {
-            quarter_blocks(target, inner, part, part_shape, crossing);
+            quarter_blocks(target, inner, part, part_from);
         } else {
-            quarter_rows(target, inner, part, part_shape, crossing);
+            quarter_rows(target, inner, part, part_from);
         }
         left += width;
     }
@@ -340,10 +337,16 @@ fn quarter_pixels<T: Copy>(
     ensures { Becomes shape cells.old cells.new
         (quartered crossing (shaped_grid source.now source_shape)) }
 {
-    if is_near(source) && !blocks_pay(source, shape) {
-        quarter_rows(cells, shape, source, source_shape, crossing);
+    let from = CrossedShape {
+        shape: source_shape,
+        crossing,
+    };
+    if !is_near(source) {
+        quarter_strips(cells, shape, source, from);
+    } else if blocks_pay(source, shape) {
+        quarter_blocks(cells, shape, source, from);
     } else {
-        quarter_strips(cells, shape, source, source_shape, crossing);
+        quarter_rows(cells, shape, source, from);
     }
 }
 

@@ -1,7 +1,7 @@
 -- Where the tiles along one side begin.
 use Rattle.std.proofs.Common.{◌≡◌, ℕ, suc, ◌+◌, ◌-◌, ◌*◌, ◌/◌, ◌%◌, ◌<◌, ◌≤◌, sym, ap, ◌∙◌, arith}
 use Rattle.std.proofs.lemmas.Nat.{mod_below, div-mul-add}
-use Rattle.std.proofs.Math.Nat.{suc-mul}
+use Rattle.std.proofs.Math.Nat.{add-mul, suc-mul}
 use Rattle.image_model.specs.Tiles.{tile_start}
 use Rattle.image_model.proofs.Tiles.{tile_start-is}
 
@@ -39,3 +39,33 @@ start_before size y some within =
 -- a tile of one number begins with it
 pub own_start : (x : ℕ) → tile_start 1 x ≡ x
 own_start x = omega arith
+
+-- ---- tiles of pixels of several cells
+
+-- a cell of a row up to which a loop has come: the tile that it is in, or that ends there, begins with this pixel, at the corner
+pub record IsReached (size tile corner x : ℕ) : Type 0 where
+  pub pixel : ℕ
+  pub starts : tile_start tile pixel ≡ pixel
+  pub at : corner ≡ pixel * size
+  pub from : corner ≤ x
+  pub within : x ≤ corner + tile * size
+
+module _ (size tile : ℕ) where
+  -- the first cell
+  pub none_reached : IsReached size tile 0 0
+  none_reached = record { pixel = 0; starts = first_start tile; at = omega arith; from = omega arith; within = omega arith }
+
+  module _ (corner x : ℕ) (so : IsReached size tile corner x) where
+    -- a later cell of the tile, or its end
+    pub later_reached : (y : ℕ) → x ≤ y → y ≤ corner + tile * size → IsReached size tile corner y
+    later_reached y after upto = record { pixel = so.pixel; starts = so.starts; at = so.at; from = omega (arith, so.from, after); within = upto }
+
+    -- where a tile ends, the next one begins
+    pub next_reached : 0 < tile → x ≡ corner + tile * size → IsReached size tile x x
+    next_reached wide ends = record {
+      pixel = so.pixel + tile;
+      starts = next_start tile so.pixel wide so.starts;
+      at = omega (arith, so.at, ends, add-mul so.pixel tile size);
+      from = omega arith;
+      within = omega arith;
+    }

@@ -2,3 +2,4 @@
 
 mod flips;
 mod means;
+mod turns;

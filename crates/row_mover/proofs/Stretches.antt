@@ -1,5 +1,5 @@
 -- A stretch that is copied by blocks of n cells, each read before any block overwrites it.
-use Rattle.std.proofs.Common.{◌≡◌, refl, ap, subst, ◌∙◌, ℕ, ◌+◌, ◌-◌, ◌*◌, ◌≤◌, Bool, true, false, List, ◌++◌, length, take, drop, arith}
+use Rattle.std.proofs.Common.{◌≡◌, refl, ap, subst, ◌∙◌, ℕ, ◌+◌, ◌-◌, ◌*◌, ◌≤◌, Bool, true, false, List, ◌++◌, length, take, drop, length-take, length-drop, arith}
 use Rattle.std.proofs.lemmas.List.{same_lists, places}
 use Rattle.image_model.specs.Shifts.{shifted}
 use Rattle.row_mover.specs.State.{block_at, GoesTo}
@@ -45,6 +45,10 @@ none_copied false cells start len target goes = same_lists _ _ (grind (arith, pl
 
 -- a stretch and the cells next to it, as a list of their own
 module _ {T : Type 0} (cells : List T) (start len by : ℕ) (inside : start + (len + by) ≤ length cells) where
+  -- how many cells it has
+  pub part_counted : (start + (len + by) - start ≡ len + by) × (length (take (len + by) (drop start cells)) - by ≡ len)
+  part_counted = (omega arith, omega (arith, length-take (len + by) (drop start cells), length-drop start cells, inside))
+
   pub next_shifted : with_block cells start (len + by) (shifted (take (len + by) (drop start cells)) 0 len by) ≡ shifted cells start len (start + by)
   next_shifted = same_lists _ _ (grind (arith, places)) (λ k d below. grind (arith, places))
 

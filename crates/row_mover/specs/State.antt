@@ -2,7 +2,7 @@
 use Rattle.std.specs.Prelude.{ℕ, List, ◌++◌, length, drop, Bool, true, false, ◌≡◌, ◌+◌, ◌-◌, ◌*◌, ◌<◌, ◌≤◌}
 use Rattle.image_model.specs.Layout.{layout, Fits}
 use Rattle.image_model.specs.Rows.{joined_rows}
-use Rattle.image_model.specs.Shifts.{rows_compacted, rows_moved, MovesRows}
+use Rattle.image_model.specs.Shifts.{rows_compacted, rows_moved, shifted, MovesRows}
 
 -- the cells now, the number of shifts so far, and the ghost name of the borrowed list
 pub record State (T : Type 0) : Type 0 where
@@ -30,6 +30,13 @@ pub record GoesTo (up : Bool) (start len target count : ℕ) : Type 0 where
 abbrev pub block_at : Bool → ℕ → ℕ → ℕ → ℕ
 block_at true len left n = left
 block_at false len left n = len - n - left
+
+-- a stretch has gone to another place, by one shift
+pub record IsShifted {T : Type 0} (old new : State T) (start len target : ℕ) : Type 0 where
+  pub cells : new.cells ≡ shifted old.cells start len target
+  pub as_many : length new.cells ≡ length old.cells
+  pub shifts : new.shifts ≡ old.shifts + 1
+  pub lender : new.lender ≡ old.lender
 
 -- ---- rows
 

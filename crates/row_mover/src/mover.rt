@@ -1,6 +1,6 @@
 ghost use Rattle.std.specs.Prelude.{◌≡◌, ◌+◌, ◌*◌, ◌<◌, ◌≤◌, IsTrue, length};
 ghost use Rattle.image_model.specs.Shifts.{shifted};
-ghost use Rattle.row_mover.specs.State.{IsKnown};
+ghost use Rattle.row_mover.specs.State.{IsKnown, IsShifted};
 
 use crate::blocks::{copy_by_blocks, copy_ends_within, copy_few, copy_to_next, copy_to_previous};
 use row_parts::copy_line;
@@ -88,10 +88,7 @@ impl<'a, T: Copy> RowMover<'a, T> {
         requires source { start + len ≤ length self.old.cells }
         requires target { target + len ≤ length self.old.cells }
         requires count { self.old.shifts + 1 ≤ u64.MAX }
-        ensures cells { self.new.cells ≡ shifted self.old.cells start len target }
-        ensures length { length self.new.cells ≡ length self.old.cells }
-        ensures shifts { self.new.shifts ≡ self.old.shifts + 1 }
-        ensures lender { self.new.lender ≡ self.old.lender }
+        ensures { IsShifted self.old self.new start len target }
     {
         let RowMover { cells, shifts } = self;
         *shifts += 1;

@@ -170,44 +170,33 @@ fn check_joined<T: Copy + PartialEq>(rt: &impl Abort, old: &[T], cells: &mut [T]
 }
 
 // Rows of each width up to 69 go within themselves, down, up and across.
-fn check_bytes<const N: usize>(rt: &impl Abort) {
+fn check_widths<T: Copy + PartialEq, const N: usize>(rt: &impl Abort, old: &[T; N]) {
     assert!(rt; N == 500);
-    let mut old = [0u8; N];
-    for k in 0..N {
-        old[k] = (k % 251) as u8;
-    }
     for width in 1..70 {
         for (from, to) in [(0, 1), (1, 0), (0, width + 1), (width + 1, 0), (2, 5)] {
-            let mut cells = old;
-            check_move(rt, &old, &mut cells, width, from, to);
+            let mut cells = *old;
+            check_move(rt, old, &mut cells, width, from, to);
         }
-        let mut cells = old;
-        check_joined(rt, &old, &mut cells, width);
+        let mut cells = *old;
+        check_joined(rt, old, &mut cells, width);
     }
 }
 
-fn check_words<const N: usize>(rt: &impl Abort) {
-    assert!(rt; N == 500);
-    let mut old = [0u32; N];
-    for k in 0..N {
-        old[k] = (k % 251) as u32;
+// Cells that are their own numbers, from 0 again after 250.
+fn numbered<T: Copy + From<u8>>() -> [T; 500] {
+    let mut cells = [T::from(0u8); 500];
+    for k in 0..500 {
+        cells[k] = T::from((k % 251) as u8);
     }
-    for width in 1..70 {
-        for (from, to) in [(0, 1), (1, 0), (0, width + 1), (width + 1, 0), (2, 5)] {
-            let mut cells = old;
-            check_move(rt, &old, &mut cells, width, from, to);
-        }
-        let mut cells = old;
-        check_joined(rt, &old, &mut cells, width);
-    }
+    cells
 }
 
 #[test]
 fn moves_and_joins_bytes_of_each_width(rt: HostRuntime) {
-    check_bytes::<500>(&rt);
+    check_widths(&rt, &numbered::<u8>());
 }
 
 #[test]
 fn moves_and_joins_words_of_each_width(rt: HostRuntime) {
-    check_words::<500>(&rt);
+    check_widths(&rt, &numbered::<u32>());
 }

@@ -1,5 +1,5 @@
 -- The image shows at the window what was written there.
-use Rattle.std.proofs.Common.{◌/◌, ◌*◌, length, ap, ap₂, ◌∙◌}
+use Rattle.std.proofs.Common.{◌/◌, ◌*◌, length, ap, ap₂, ◌∙◌, ◌≡◌, rules}
 use Rattle.image_model.specs.Grid.{grid_of, patch}
 use Rattle.image_means.specs.Blur.{blurred}
 use Rattle.image_means.specs.Means.{sample_cells}
@@ -8,10 +8,19 @@ use Rattle.image_means.proofs.BoxMeans.{size_is, row_whole}
 use Rattle.image_writes.proofs.WindowWrites.{part_shows, part_grid, part_outside}
 use Rattle.image_means.proofs.blur.blur_samples.Goals as goal
 
-pub blur_cells-requires-clause-whole : goal.blur_cells-requires-clause-whole
-blur_cells-requires-clause-whole c =
+pub blur_cells-requires-clause-image : goal.blur_cells-requires-clause-image
+blur_cells-requires-clause-image c =
     let a = c.args in
-    row_whole a.bytes (length a.sums.now) a.size (a.size / c.cells_of.result) a.window.width c.requires.size (ap (λ n. a.size / n * sample_cells a.bytes) c.cells_of.ensures ∙ size_is a.bytes a.size c.requires.pixels) c.requires.whole c.requires.sums
+    let pixel : a.size / c.cells_of.result * sample_cells a.bytes ≡ a.size = ap (λ n. a.size / n * sample_cells a.bytes) c.cells_of.ensures ∙ size_is a.bytes a.size c.requires.pixels in
+    record {
+      fits = search rules;
+      room = search rules;
+      per = search rules;
+      whole = row_whole a.bytes (length a.sums.now) a.size (a.size / c.cells_of.result) a.window.width c.requires.size pixel c.requires.whole c.requires.sums;
+      row = search rules;
+      across = c.requires.across;
+      down = c.requires.down;
+    }
 
 pub returns-clause-grid : goal.returns-clause-grid
 returns-clause-grid c =

@@ -1,41 +1,9 @@
 -- A pixel comes in, and one goes out.
-use Rattle.std.proofs.Common.{◌≡◌, ℕ, ◌+◌, ◌-◌, ◌*◌, ◌/◌, ◌<◌, ◌≤◌, ◌⊎◌, ◌^◌, min, List, length, ap, arith, inl, inr}
-use Rattle.image_means.specs.Blur.{pixels_upto, sum_at}
-use Rattle.image_means.proofs.BoxSums.{pixels_next, between_bound, upto_grows}
+use Rattle.std.proofs.Common.{◌≡◌, ℕ, ◌+◌, ◌-◌, ◌*◌, ◌/◌, ◌^◌, min, length, ap, arith, inl, inr}
+use Rattle.image_means.specs.Blur.{pixels_upto}
+use Rattle.image_means.proofs.BoxSums.{between_bound, comes_in, goes_out, upto_grows}
 use Rattle.image_means.proofs.blur.next_box.Goals.{then-p-across, else-p-across}
 use Rattle.image_means.proofs.blur.next_box.Goals as goal
-
-module _ (sums : List ℕ) (per at across p : ℕ) where
-  abbrev upto : ℕ → ℕ
-  upto n = pixels_upto sums per at n
-
-  abbrev pixels : ℕ
-  pixels = length sums / per
-
-  -- the sum after the pixel that comes in, where there is one
-  comes_in : (before sum : ℕ) → before + upto (p - (across + 1)) ≡ upto (min pixels (p + across))
-      → ((p + across < pixels) × (sum ≡ before + sum_at sums ((p + across) * per + at))) ⊎ ((pixels ≤ p + across) × (sum ≡ before))
-      → sum + upto (p - (across + 1)) ≡ upto (min pixels (p + across + 1))
-  comes_in before sum so (inl it) =
-      omega (
-        arith,
-        so,
-        it.1,
-        pixels_next sums per at (p + across),
-        ap upto (let e : min pixels (p + across) ≡ p + across = omega (arith, it.0) in e),
-        ap upto (let e : min pixels (p + across + 1) ≡ p + across + 1 = omega (arith, it.0) in e),
-      )
-  comes_in before sum so (inr none) = omega (arith, so, none.1, ap upto (let e : min pixels (p + across) ≡ min pixels (p + across + 1) = omega (arith, none.0) in e))
-
-  -- the pixel that goes out is a part of it
-  goes_out : across < p → upto (p - across) ≡ upto (p - (across + 1)) + sum_at sums ((p - across - 1) * per + at)
-  goes_out later =
-      omega (
-        arith,
-        pixels_next sums per at (p - across - 1),
-        ap upto (let e : p - across - 1 + 1 ≡ p - across = omega (arith, later) in e),
-        ap upto (let e : p - across - 1 ≡ p - (across + 1) = omega (arith, later) in e),
-      )
 
 pub overflow_add-sum : goal.overflow_add-sum
 overflow_add-sum c =

@@ -6,12 +6,14 @@ use Rattle.image_shape.specs.Shape.{shaped}
 use Rattle.image_writes.proofs.WindowWrites.{part_shows, part_grid, part_outside}
 use Rattle.image_means.proofs.means.mean_part.Goals as goal
 
-pub returns-clause-grid : goal.returns-clause-grid
-returns-clause-grid g c =
+pub returns : goal.returns
+returns g c =
     let a = c.args in
-    part_grid _ _ _ _ _ _ c.exact_part.ensures.part c.mean_cells.new.cells c.mean_cells.ensures.outside
-    ∙ ap (patch (grid_of (shaped a.cells.now a.shape)) a.window.left a.window.top)
-    (c.mean_cells.ensures.grid ∙ ap (sample_mosaic_by a.bytes g.T.Sample.number g.T.Sample.sample a.size a.tile_width a.tile_height) (part_shows _ _ _ _ _ _ c.exact_part.ensures.part))
-
-pub returns-clause-outside : goal.returns-clause-outside
-returns-clause-outside g c = part_outside _ _ _ _ _ _ c.exact_part.ensures.part c.mean_cells.new.cells c.mean_cells.ensures.outside
+    let part = c.exact_part.ensures.part in
+    record {
+      grid =
+          part_grid _ _ _ _ _ _ part c.mean_cells.new.cells c.mean_cells.ensures.outside
+          ∙ ap (patch (grid_of (shaped a.cells.now a.shape)) a.window.left a.window.top)
+          (c.mean_cells.ensures.grid ∙ ap (sample_mosaic_by a.bytes g.T.Sample.number g.T.Sample.sample a.tile.size a.tile.width a.tile.height) (part_shows _ _ _ _ _ _ part));
+      outside = part_outside _ _ _ _ _ _ part c.mean_cells.new.cells c.mean_cells.ensures.outside;
+    }

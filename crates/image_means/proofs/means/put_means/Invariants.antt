@@ -8,6 +8,6 @@ use Rattle.image_means.proofs.means.put_means.Given as goal
 
 abbrev pub invariant-loop-y : goal.invariant-loop-y
 invariant-loop-y g l = record {
-  put : RowsDone (IsBegun (mean_cell l.bytes g.T.Sample.number g.T.Sample.sample l.size l.tile_width l.tile_height (shaped_grid l.initial.cells l.shape)) l.initial.cells l.shape l.size l.tile_width l.tile_height) l.initial.cells l.cells l.shape l.y;
-  line : l.line ≡ l.y % l.tile_height;
+  put : RowsDone (IsBegun (mean_cell l.bytes g.T.Sample.number g.T.Sample.sample l.tile.size l.tile.width l.tile.height (shaped_grid l.initial.cells l.shape)) l.initial.cells l.shape l.tile.size l.tile.width l.tile.height) l.initial.cells l.cells l.shape l.y;
+  line : l.line ≡ l.y % l.tile.height;
 }

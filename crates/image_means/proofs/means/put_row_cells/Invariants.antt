@@ -6,7 +6,7 @@ use Rattle.image_means.proofs.means.put_row_cells.Given as goal
 
 abbrev pub invariant-loop-x : goal.invariant-loop-x
 invariant-loop-x g l = record {
-  put : PutUpto (row_cell l.bytes g.T.Sample.number g.T.Sample.sample l.size l.tile_width l.lines l.stride l.start l.width l.fn.cells) l.size l.tile_width l.start l.fn.cells l.cells l.corner l.x;
-  mean : 0 < l.x % sample_cells l.bytes → l.x ≤ l.corner + l.size → l.mean ≡ row_mean l.bytes g.T.Sample.number l.size l.tile_width l.lines l.stride l.start l.width l.fn.cells (sample_start l.bytes l.x);
+  put : PutUpto (row_cell l.bytes g.T.Sample.number g.T.Sample.sample l.tile.size l.tile.width l.lines.count l.lines.stride l.lines.first.start l.lines.first.len l.fn.cells) l.tile.size l.tile.width l.lines.first.start l.fn.cells l.cells l.corner l.x;
+  mean : 0 < l.x % sample_cells l.bytes → l.x ≤ l.corner + l.tile.size → l.mean ≡ row_mean l.bytes g.T.Sample.number l.tile.size l.tile.width l.lines.count l.lines.stride l.lines.first.start l.lines.first.len l.fn.cells (sample_start l.bytes l.x);
   within : l.mean ≤ sample_number l.bytes g.T.Sample.greatest g.T.Sample.greatest;
 }

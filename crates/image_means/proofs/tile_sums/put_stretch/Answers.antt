@@ -14,12 +14,12 @@ returns-clause-put g c =
     let tally = g.C.Tally.tally in
     let sample = g.T.Sample.sample in
     let sums : List g.row.C.Denot = c.add_lines.new.sums in
-    let width : ℕ = length a.sums.now in
+    let width : ℕ = a.lines.first.len in
     let old = a.cells.now in
     let new = c.put_tiles.new.cells in
-    let long : length sums ≡ width = c.add_lines.ensures.as_many ∙ ap length c.fill_cells.ensures ∙ length-replicate width _ in
-    let put : PutsCells (sums_cell tally sample a.size a.tile_width a.lines sums) a.size a.tile_width a.start width old new =
-    subst (λ n. PutsCells (sums_cell tally sample a.size a.tile_width a.lines sums) a.size a.tile_width a.start n old new) long
-    (subst (λ n. PutsCells (sums_cell tally sample n a.tile_width a.lines sums) n a.tile_width a.start (length sums) old new) c.known_size-size.ensures c.put_tiles.ensures) in
-    puts_same (sums_cell tally sample a.size a.tile_width a.lines sums) (row_cell One number sample a.size a.tile_width a.lines a.stride a.start width old) a.size a.tile_width a.start width old new
-    (sums_are number tally sample g.T.Sample.greatest a.size a.tile_width a.lines a.stride a.start width c.requires.some old sums c.add_lines.ensures.sums long) put
+    let long : length sums ≡ width = c.add_lines.ensures.as_many ∙ ap length c.fill_cells.ensures ∙ length-replicate (length a.sums.now) _ ∙ c.requires.sums in
+    let put : PutsCells (sums_cell tally sample a.tile.size a.tile.width a.lines.count sums) a.tile.size a.tile.width a.lines.first.start width old new =
+    subst (λ n. PutsCells (sums_cell tally sample a.tile.size a.tile.width a.lines.count sums) a.tile.size a.tile.width a.lines.first.start n old new) long
+    c.put_tiles.ensures in
+    puts_same (sums_cell tally sample a.tile.size a.tile.width a.lines.count sums) (row_cell One number sample a.tile.size a.tile.width a.lines.count a.lines.stride a.lines.first.start width old) a.tile.size a.tile.width a.lines.first.start width old new
+    (sums_are number tally sample g.T.Sample.greatest a.tile.size a.tile.width a.lines.count a.lines.stride a.lines.first.start width c.requires.lines.some old sums c.add_lines.ensures.sums long) put

@@ -1,8 +1,9 @@
--- One tile more.
-use Rattle.std.proofs.Common.{◌≡◌, ℕ, ◌+◌, ◌-◌, ◌*◌, List, length, length-take, length-drop, take, drop, subst, arith}
+-- One tile more, and the one that the row's end cuts.
+use Rattle.std.proofs.Common.{◌≡◌, ◌<◌, ℕ, ◌+◌, ◌-◌, ◌*◌, min, List, length, length-take, length-drop, take, drop, subst, arith}
+use Rattle.std.proofs.lemmas.Nat.{mul-le}
 use Rattle.image_means.specs.LineSums.{sums_cell}
 use Rattle.image_means.specs.Means.{PutsCells}
-use Rattle.image_means.proofs.SumsOfTiles.{put_next, part_cell}
+use Rattle.image_means.proofs.SumsOfTiles.{all_before, put_next, part_cell}
 use Rattle.image_means.proofs.tile_sums.put_tiles.Goals as goal
 
 pub loop-at-preserved : goal.loop-at-preserved
@@ -11,13 +12,34 @@ loop-at-preserved g c =
     let r = c.requires in
     let sums : List g.row.C.Denot = a.sums.now in
     let at : ℕ = c.loop-at.at in
-    let n : ℕ = c.min-width.result in
+    let n : ℕ = a.tile.width * a.tile.size in
     let now = c.loop-at.cells in
     let new = c.put_tile.new.cells in
-    let cell : List g.row.C.Denot → ℕ → g.row.T.Denot = sums_cell g.C.Tally.tally g.T.Sample.sample a.size a.tile_width a.lines in
-    let long : length (take n (drop at sums)) ≡ n = omega (arith, c.min-width.ensures, length-take n (drop at sums), length-drop at sums) in
-    let put : PutsCells (cell (take n (drop at sums))) a.size a.tile_width (a.start + at) n now new =
-    subst (λ k. PutsCells (cell (take n (drop at sums))) a.size a.tile_width (a.start + at) k now new) long
-    (subst (λ k. PutsCells (cell (take k (drop at sums))) a.size a.tile_width (a.start + at) (length (take k (drop at sums))) now new) (let e : at + n - at ≡ n = omega arith in e) c.put_tile.ensures) in
-    put_next (cell sums) a.size a.tile_width a.start (length sums) r.some r.wide a.cells.now now at c.loop-at.invariant (cell (take n (drop at sums))) 1 (a.tile_width * a.size) n new c.loop-at-test.true (omega arith) c.min-width.ensures put
-    (λ u below own. part_cell g.C.Tally.tally g.T.Sample.sample a.size a.tile_width a.lines r.some r.wide sums at n c.min-width.ensures u below own)
+    let cell : List g.row.C.Denot → ℕ → g.row.T.Denot = sums_cell g.C.Tally.tally g.T.Sample.sample a.tile.size a.tile.width a.lines.count in
+    let cut : n ≡ min n (length sums - at) = omega (arith, c.loop-at-test.true) in
+    let more : at < length sums = omega (arith, c.loop-at-test.true, mul-le 1 a.tile.size a.tile.width a.tile.size r.lines.wide (omega arith), r.lines.some) in
+    let long : length (take n (drop at sums)) ≡ n = omega (arith, cut, length-take n (drop at sums), length-drop at sums) in
+    let put : PutsCells (cell (take n (drop at sums))) a.tile.size a.tile.width (a.lines.first.start + at) n now new =
+    subst (λ k. PutsCells (cell (take n (drop at sums))) a.tile.size a.tile.width (a.lines.first.start + at) k now new) long
+    (subst (λ k. PutsCells (cell (take k (drop at sums))) a.tile.size a.tile.width (a.lines.first.start + at) (length (take k (drop at sums))) now new) (let e : at + n - at ≡ n = omega arith in e) c.put_tile.ensures) in
+    put_next (cell sums) a.tile.size a.tile.width a.lines.first.start (length sums) r.lines.some r.lines.wide a.cells.now now at c.loop-at.invariant (cell (take n (drop at sums))) 1 n n new more (omega arith) cut put
+    (λ u below own. part_cell g.C.Tally.tally g.T.Sample.sample a.tile.size a.tile.width a.lines.count r.lines.some r.lines.wide sums at n cut u below own)
+
+pub returns-then-at-sums : goal.returns-then-at-sums
+returns-then-at-sums g c =
+    let a = c.args in
+    let r = c.requires in
+    let sums : List g.row.C.Denot = a.sums.now in
+    let at : ℕ = c.loop-at.at in
+    let across : ℕ = a.tile.width * a.tile.size in
+    let n : ℕ = length sums - at in
+    let now = c.loop-at.cells in
+    let new = c.put_cut_tile.new.cells in
+    let cell : List g.row.C.Denot → ℕ → g.row.T.Denot = sums_cell g.C.Tally.tally g.T.Sample.sample a.tile.size a.tile.width a.lines.count in
+    let cut : n ≡ min across (length sums - at) = omega (arith, c.loop-at-test.false) in
+    let long : length (take n (drop at sums)) ≡ n = omega (arith, length-take n (drop at sums), length-drop at sums) in
+    let put : PutsCells (cell (take n (drop at sums))) a.tile.size a.tile.width (a.lines.first.start + at) n now new =
+    subst (λ k. PutsCells (cell (take n (drop at sums))) a.tile.size a.tile.width (a.lines.first.start + at) k now new) long c.put_cut_tile.ensures in
+    let all = put_next (cell sums) a.tile.size a.tile.width a.lines.first.start (length sums) r.lines.some r.lines.wide a.cells.now now at c.loop-at.invariant (cell (take n (drop at sums))) 1 across n new c.if-at-sums.true (omega arith) cut put
+    (λ u below own. part_cell g.C.Tally.tally g.T.Sample.sample a.tile.size a.tile.width a.lines.count r.lines.some r.lines.wide sums at n cut u below own) in
+    all_before (cell sums) a.tile.size a.tile.width a.lines.first.start (length sums) r.lines.some r.lines.wide a.cells.now new (at + n) all (omega arith)

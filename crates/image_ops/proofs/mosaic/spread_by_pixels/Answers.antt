@@ -19,7 +19,7 @@ loop-x-preserved g c =
     let room : size ≤ wide * size = omega (arith, mul-le 1 size wide size (omega arith) (omega arith)) in
     let tile = c.saturating_mul-tile.ensures in
     elim c.if-x-corner.branch [
-      | goal.then-x-corner w ↦ rw (w.row-is, w.corner-is) (next_tile_cell size wide some many old now corner x so (omega (arith, w.if-x-corner.true, tile, so.from, here, so.within)) room)
-      | goal.else-x-corner+then-x-corner-2 w ↦ rw (w.row-is, w.corner-is) (other_pixel size wide some many old now corner x so w.index-row-x.result (omega (arith, w.if-x-corner-2.true, so.from)) (omega (arith, w.if-x-corner.false, tile, so.from, so.within, here)) here w.index-row-x.is)
-      | goal.else-x-corner+else-x-corner-2 w ↦ rw (w.row-is, w.corner-is) (first_pixel_cell size wide some many old now corner x so (omega (arith, w.if-x-corner-2.false, so.from)) room)
+      | goal.then-x-corner w ↦ rw (w.row-is, w.corner-is) (next_tile_cell size wide some many old now corner x so (omega (arith, w.if-x-corner.true, tile, so.reached.from, here, so.reached.within)) room)
+      | goal.else-x-corner+then-x-corner-2 w ↦ rw (w.row-is, w.corner-is) (other_pixel size wide some many old now corner x so w.index-row-x.result (omega (arith, w.if-x-corner-2.true, so.reached.from)) (omega (arith, w.if-x-corner.false, tile, so.reached.from, so.reached.within, here)) here w.index-row-x.is)
+      | goal.else-x-corner+else-x-corner-2 w ↦ rw (w.row-is, w.corner-is) (first_pixel_cell size wide some many old now corner x so (omega (arith, w.if-x-corner-2.false, so.reached.from)) room)
     ]

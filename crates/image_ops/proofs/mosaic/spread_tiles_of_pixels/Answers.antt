@@ -1,5 +1,5 @@
 -- The first pixel of a tile, then one cell more of the others; and one tile more.
-use Rattle.std.proofs.Common.{◌≡◌, ◌+◌, ◌*◌, ◌<◌, ◌≤◌, ◌⊎◌, inl, inr, length, subst, arith}
+use Rattle.std.proofs.Common.{◌≡◌, ℕ, ◌+◌, ◌*◌, ◌<◌, ◌≤◌, ◌⊎◌, inl, inr, length, subst, arith}
 use Rattle.std.proofs.lemmas.Bool.{cases_lt}
 use Rattle.std.proofs.lemmas.Nat.{mul-le}
 use Rattle.std.specs.List.{slice_set}
@@ -37,16 +37,11 @@ loop-x-preserved g c =
 
 pub loop-corner-preserved : goal.loop-corner-preserved
 loop-corner-preserved g c =
-    let size = c.args.size in
-    let wide = c.args.tile_width in
-    let old = c.args.row.now in
-    let corner = c.loop-corner.corner in
-    let len = c.min-len.result in
-    let tile = c.saturating_mul-tile.ensures in
-    let is = c.min-len.ensures in
-    let ends : (len ≡ wide * size) ⊎ (length old ≤ corner + len) =
-    elim (cases_lt (corner + len) (length old)) [
-      | inl more ↦ inl (omega (arith, more, is, tile, c.loop-corner.invariant.as_many))
-      | inr end ↦ inr end
+    let tile : ℕ = c.args.tile_width * c.args.size in
+    let end : ℕ = c.loop-corner.corner + c.min-len.result in
+    let ends : (c.min-len.result ≡ tile) ⊎ (length c.args.row.now ≤ end) =
+    elim (cases_lt end (length c.args.row.now)) [
+      | inl more ↦ inl (omega (arith, more, c.min-len.ensures, c.saturating_mul-tile.ensures, c.loop-corner.invariant.as_many))
+      | inr over ↦ inr over
     ] in
-    one_tile_of_pixels size wide c.requires.size c.requires.tile_width old c.loop-x.row corner c.loop-x.x len c.loop-x.invariant.1 (omega (arith, c.loop-x-test.false)) ends
+    one_tile_of_pixels c.args.size c.args.tile_width c.requires.size c.requires.tile_width c.args.row.now c.loop-x.row c.loop-corner.corner c.loop-x.x c.min-len.result c.loop-x.invariant.1 (omega (arith, c.loop-x-test.false)) ends

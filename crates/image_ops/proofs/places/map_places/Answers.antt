@@ -2,11 +2,11 @@
 use Rattle.std.proofs.Common.{◌<◌, ◌∙◌, sym, arith, rules}
 use Rattle.image_model.specs.Rows.{row_count}
 use Rattle.image_shape.specs.Shape.{shaped}
-use Rattle.image_model.proofs.ByPlace.{is_mapped_by_place}
+use Rattle.image_model.proofs.Mapped.{is_mapped_by_place}
 use Rattle.image_model.proofs.Rows.{row_count-le}
-use Rattle.image_ops.proofs.PlaceAnswers.{row_answers_at}
+use Rattle.image_ops.proofs.PlaceAnswers.{row_answers_at, all_answered}
 use Rattle.image_ops.proofs.Elements.{in_row}
-use Rattle.image_writes.proofs.RowsWritten.{row_range, row_length, cell_of_row, row_written, all_right}
+use Rattle.image_writes.proofs.RowsWritten.{row_range, row_length, cell_of_row, row_written}
 use Rattle.image_ops.proofs.places.map_places.Goals as goal
 
 pub map_row-requires : goal.map_row-requires
@@ -26,9 +26,7 @@ loop-y-preserved g c =
     (λ x column here. row_answers_at (goal.F-post g c.args.f.now) _ _ c.map_row.new.cells c.args.shape c.loop-y.y _ _ x c.loop-y.invariant at column c.map_row.ensures)
 
 pub returns-clause-answers : goal.returns-clause-answers
-returns-clause-answers g c = λ x j p q column line was is.
-    all_right _ _ _ c.args.shape c.loop-y.y c.loop-y.invariant (omega (arith, c.row_count-y-end.ensures.value)) x j column line p q was is
+returns-clause-answers g c = all_answered _ _ _ c.args.shape c.loop-y.y c.loop-y.invariant (omega (arith, c.row_count-y-end.ensures.value))
 
 pub returns-clause-grid : goal.returns-clause-grid
-returns-clause-grid g c =
-    is_mapped_by_place _ (shaped c.args.cells.now c.args.shape) (shaped c.loop-y.cells c.args.shape) c.requires.fits (search rules) (returns-clause-answers g c)
+returns-clause-grid g c = is_mapped_by_place _ (shaped c.args.cells.now c.args.shape) (shaped c.loop-y.cells c.args.shape) c.requires.fits (search rules) (returns-clause-answers g c)

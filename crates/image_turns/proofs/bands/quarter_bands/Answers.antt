@@ -11,7 +11,7 @@ pub loop-top-preserved : goal.loop-top-preserved
 loop-top-preserved g c =
     let a = c.args in
     let s = a.shape in
-    let q : Grid g.row.T.Denot = quartered a.crossing (shaped_grid a.source.now a.source_shape) in
+    let q : Grid g.row.T.Denot = quartered a.from.crossing (shaped_grid a.source.now a.from.shape) in
     let top = c.loop-top.top in
     let count = c.min-count.result in
     let there : top + count ≤ s.height = omega (arith, c.min-count.ensures, c.loop-top-test.true, c.height-height.ensures.value) in (
@@ -23,5 +23,5 @@ loop-top-preserved g c =
 pub returns : goal.returns
 returns g c =
     let a = c.args in
-    becomes_quartered a.crossing a.source.now a.source_shape a.shape c.requires.sizes.columns c.requires.sizes.lines (InRows c.loop-top.top) a.cells.now c.loop-top.cells c.loop-top.invariant.0
+    becomes_quartered a.from.crossing a.source.now a.from.shape a.shape c.requires.sizes.columns c.requires.sizes.lines (InRows c.loop-top.top) a.cells.now c.loop-top.cells c.loop-top.invariant.0
     (λ x y column line. omega (arith, line, c.loop-top-test.false, c.height-height.ensures.value))

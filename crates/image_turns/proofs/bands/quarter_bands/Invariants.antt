@@ -6,7 +6,7 @@ use Rattle.image_turns.proofs.Windowed.{ShowsWhere}
 use Rattle.image_turns.proofs.bands.quarter_bands.Given as goal
 
 abbrev pub invariant-loop-top : goal.invariant-loop-top
-invariant-loop-top g l = ShowsWhere (InRows l.top) (quartered l.crossing (shaped_grid l.source l.source_shape)) l.initial.cells l.cells l.shape × ((length l.copy ≡ length l.initial.copy) × (l.top ≤ shape_height l.shape))
+invariant-loop-top g l = ShowsWhere (InRows l.top) (quartered l.from.crossing (shaped_grid l.source l.from.shape)) l.initial.cells l.cells l.shape × ((length l.copy ≡ length l.initial.copy) × (l.top ≤ shape_height l.shape))
 
 abbrev pub decreases-loop-top : goal.decreases-loop-top
 decreases-loop-top g l = l.height - l.top

@@ -17,18 +17,18 @@ unfolding grid_of view
 loop-top-preserved g c =
     let a = c.args in
     let s = a.shape in
-    let from : Grid g.row.T.Denot = shaped_grid a.source.now a.source_shape in
-    let q = quartered a.crossing from in
+    let from : Grid g.row.T.Denot = shaped_grid a.source.now a.from.shape in
+    let q = quartered a.from.crossing from in
     let top = c.loop-top.top in
     let line = c.min-line.result in
     let column = c.first_column-column.result in
     let rows = c.height-rows.result in
     let is_line = c.min-line.ensures ∙ ap (λ n. min top (n - 16)) c.height-height.ensures.value in
     let there : line + 16 ≤ from.width = omega (arith, is_line, c.requires.high, c.requires.sizes.lines) in
-    let is_column = c.first_column-column.ensures ∙ ap (λ n. first_column a.crossing n line 16) c.width-columns.ensures.value in
+    let is_column = c.first_column-column.ensures ∙ ap (λ n. first_column a.from.crossing n line 16) c.width-columns.ensures.value in
     let is_shown = c.new-shown.ensures ∙ ap (λ n. window 0 line n 16) c.width-width.ensures.value in
-    let blocks = c.quarter_blocks.ensures.grid ∙ ap (quartered a.crossing) (c.padded_part.ensures.view ∙ ap (window_view from) c.new-place.ensures) in
-    let read = ap (read_over false) (blocks ∙ band_quartered a.crossing from line s.width 16 column rows there c.requires.sizes.columns c.height-rows.ensures.value is_column)
+    let blocks = c.quarter_blocks.ensures.grid ∙ ap (quartered a.from.crossing) (c.padded_part.ensures.view ∙ ap (window_view from) c.new-place.ensures) in
+    let read = ap (read_over false) (blocks ∙ band_quartered a.from.crossing from line s.width 16 column rows there c.requires.sizes.columns c.height-rows.ensures.value is_column)
     ∙ read_plain s.width 16 (λ x y. q.pixel (0 + x) (line + y)) in
     let became =
     window_becomes q s c.loop-top.cells _ _ 0 line s.width 16 is_shown _ (read ∙ sym (ap (window_view q) is_shown))
@@ -41,5 +41,5 @@ loop-top-preserved g c =
 pub returns-clause-becomes : goal.returns-clause-becomes
 returns-clause-becomes g c =
     let a = c.args in
-    becomes_quartered a.crossing a.source.now a.source_shape a.shape c.requires.sizes.columns c.requires.sizes.lines (InRows c.loop-top.top) a.cells.now c.loop-top.cells c.loop-top.invariant.0
+    becomes_quartered a.from.crossing a.source.now a.from.shape a.shape c.requires.sizes.columns c.requires.sizes.lines (InRows c.loop-top.top) a.cells.now c.loop-top.cells c.loop-top.invariant.0
     (λ x y column line. omega (arith, line, c.loop-top-test.false, c.height-height.ensures.value))

@@ -1,5 +1,5 @@
 -- Both blocks are copied before one is written.
-use Rattle.std.proofs.Common.{ap, ◌∙◌, arith}
+use Rattle.std.proofs.Common.{ap, ◌∙◌}
 use Rattle.image_model.specs.Grid.{grid_of, patch}
 use Rattle.image_model.specs.Layout.{pixel}
 use Rattle.image_model.specs.Windows.{window_view}
@@ -7,36 +7,20 @@ use Rattle.image_model.proofs.Places.{outside_trans}
 use Rattle.image_shape.specs.Shape.{shaped, shaped_grid}
 use Rattle.image_turns.specs.Oriented.{oriented}
 use Rattle.image_turns.specs.declared.pixel_turning.Orientation.TheVariants.{Transposed}
-use Rattle.image_turns.proofs.BlockPairs.{pixels_within, both_pixels_crossed}
+use Rattle.image_turns.proofs.BlockPairs.{pixels_inside, both_pixels_crossed}
 use Rattle.image_turns.proofs.block_pairs.cross_pair.Goals as goal
 
 pub copy_block-upper_shape-requires-clause-inside : goal.copy_block-upper_shape-requires-clause-inside
-copy_block-upper_shape-requires-clause-inside g c =
-    let s = c.args.shape in
-    let w = c.args.window in
-    let is = c.new-here.ensures in
-    (pixels_within g.row.N s.height s.width _ _ w.left w.width c.requires.image.square (ap (λ w. w.left) is) (ap (λ w. w.width) is) c.requires.column, omega (arith, ap (λ w. w.top) is, ap (λ w. w.height) is, c.requires.line))
+copy_block-upper_shape-requires-clause-inside g c = pixels_inside g.row.N c.args.shape.height c.args.shape.width _ _ _ _ _ c.requires.image.square c.new-here.ensures c.requires.column c.requires.line
 
 pub copy_block-lower_shape-requires-clause-inside : goal.copy_block-lower_shape-requires-clause-inside
-copy_block-lower_shape-requires-clause-inside g c =
-    let s = c.args.shape in
-    let w = c.args.window in
-    let is = c.new-across.ensures in
-    (pixels_within g.row.N s.height s.width _ _ w.top w.height c.requires.image.square (ap (λ w. w.left) is) (ap (λ w. w.width) is) c.requires.line, omega (arith, ap (λ w. w.top) is, ap (λ w. w.height) is, c.requires.column))
+copy_block-lower_shape-requires-clause-inside g c = pixels_inside g.row.N c.args.shape.height c.args.shape.width _ _ _ _ _ c.requires.image.square c.new-across.ensures c.requires.line c.requires.column
 
 pub write_across-requires-clause-inside : goal.write_across-requires-clause-inside
-write_across-requires-clause-inside g c =
-    let s = c.args.shape in
-    let w = c.args.window in
-    let is = c.new-across.ensures in
-    (pixels_within g.row.N s.height s.width _ _ w.top w.height c.requires.image.square (ap (λ w. w.left) is) (ap (λ w. w.width) is) c.requires.line, omega (arith, ap (λ w. w.top) is, ap (λ w. w.height) is, c.requires.column))
+write_across-requires-clause-inside g c = pixels_inside g.row.N c.args.shape.height c.args.shape.width _ _ _ _ _ c.requires.image.square c.new-across.ensures c.requires.line c.requires.column
 
 pub write_across-requires-2-clause-inside : goal.write_across-requires-2-clause-inside
-write_across-requires-2-clause-inside g c =
-    let s = c.args.shape in
-    let w = c.args.window in
-    let is = c.new-here.ensures in
-    (pixels_within g.row.N s.height s.width _ _ w.left w.width c.requires.image.square (ap (λ w. w.left) is) (ap (λ w. w.width) is) c.requires.column, omega (arith, ap (λ w. w.top) is, ap (λ w. w.height) is, c.requires.line))
+write_across-requires-2-clause-inside g c = pixels_inside g.row.N c.args.shape.height c.args.shape.width _ _ _ _ _ c.requires.image.square c.new-here.ensures c.requires.column c.requires.line
 
 pub returns-clause-crossed : goal.returns-clause-crossed
 unfolding grid_of

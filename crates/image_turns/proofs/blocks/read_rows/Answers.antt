@@ -20,15 +20,15 @@ loop-y-preserved g c =
     let read = c.range-in-loop-y in
     let at = row_range c.args.shape y c.range.ensures.start c.range.ensures.end c.row-row.ensures.start c.row-row.ensures.len in
     let many : read.result.end - read.result.start ≡ from.width = omega (arith, read.ensures.start, read.ensures.end, c.row-from.ensures.len) in
-    let cells : c.copy_from_slice.new.self ≡ row from line =
-    c.copy_from_slice.ensures.after ∙ (λ i. take (many i) (drop ((read.ensures.start ∙ c.row-from.ensures.start) i) from.cells)) ∙ sym (row_stretch from line) in
-    row_written _ _ _ c.args.shape y c.loop-y.invariant c.requires.fits (omega (arith, c.row_count-y-end.ensures.value)) _ _ at c.copy_from_slice.new.self
-    c.copy_from_slice.ensures.len
-    (λ x column here. ap (λ r. slice_get r x) cells ∙ row_pixel from x line (omega (arith, column, c.requires.width)) ∙ ap (pixel from x) (c.line_read-line.ensures ∙ ap (λ n. line_read c.args.back n y) c.height.ensures.value))
+    let cells : c.copy_row.new.cells ≡ row from line =
+    c.copy_row.ensures.after ∙ (λ i. take (many i) (drop ((read.ensures.start ∙ c.row-from.ensures.start) i) from.cells)) ∙ sym (row_stretch from line) in
+    row_written _ _ _ c.args.shape y c.loop-y.invariant c.requires.sizes.fits (omega (arith, c.row_count-y-end.ensures.value)) _ _ at c.copy_row.new.cells
+    c.copy_row.ensures.as_many
+    (λ x column here. ap (λ r. slice_get r x) cells ∙ row_pixel from x line (omega (arith, column, c.requires.sizes.width)) ∙ ap (pixel from x) (c.line_read-line.ensures ∙ ap (λ n. line_read c.args.back n y) c.height.ensures.value))
 
 pub returns : goal.returns
 unfolding grid_of
 returns g c =
     let from = shaped c.args.source.now c.args.source_shape in
-    becomes_places from (λ x _. x) (λ _ y. line_read c.args.back from.height y) _ _ c.args.shape c.loop-y.y c.loop-y.invariant _ _ c.requires.width c.requires.height (omega (arith, c.row_count-y-end.ensures.value))
+    becomes_places from (λ x _. x) (λ _ y. line_read c.args.back from.height y) _ _ c.args.shape c.loop-y.y c.loop-y.invariant _ _ c.requires.sizes.width c.requires.sizes.height (omega (arith, c.row_count-y-end.ensures.value))
     (λ x y column line. (column, line_within c.args.back from.height y line))

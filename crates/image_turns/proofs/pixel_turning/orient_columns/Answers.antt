@@ -13,7 +13,7 @@ pub exact_part-requires-clause-inside : goal.exact_part-requires-clause-inside
 exact_part-requires-clause-inside g c =
     let a = c.args in
     let strip = c.new-strip.ensures in
-    let far = mul-le (a.left + a.count) g.row.N (oriented_width a.orientation a.columns a.source_shape.height) g.row.N c.requires.across (omega arith) in (
+    let far = mul-le (a.left + a.count) g.row.N (oriented_width a.origin.orientation a.origin.columns a.origin.shape.height) g.row.N c.requires.across (omega arith) in (
       omega (arith, ap (λ w. w.left) strip, ap (λ w. w.width) strip, far, add-mul a.left a.count g.row.N, c.requires.image.width),
       omega (arith, ap (λ w. w.top) strip, ap (λ w. w.height) strip, c.height.ensures.value),
     )
@@ -23,7 +23,7 @@ returns g c =
     let a = c.args in
     let strip = c.new-strip.ensures in
     let from = shaped_grid a.cells.now a.shape in
-    let q = oriented g.row.N a.orientation (shaped_grid a.source.now a.source_shape) in
+    let q = oriented g.row.N a.origin.orientation (shaped_grid a.source.now a.origin.shape) in
     let high = c.exact_part.ensures.part.height ∙ ap (λ w. w.height) strip ∙ c.height.ensures.value in
     subst (Becomes a.shape _ _)
     ((λ i. patch from (strip i).left (strip i).top (view q (a.left * g.row.N) 0 (a.count * g.row.N) (high i))))

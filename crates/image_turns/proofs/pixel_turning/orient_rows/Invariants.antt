@@ -8,5 +8,5 @@ use Rattle.image_turns.proofs.pixel_turning.orient_rows.Given as goal
 
 abbrev pub invariant-loop-y : goal.invariant-loop-y
 invariant-loop-y g l =
-    RowsDone (λ x y p. p ≡ pixel (shaped l.source l.source_shape) (source_column l.orientation l.columns (l.left + x / g.row.N) y * g.row.N + x % g.row.N) (source_row l.orientation (shape_height l.source_shape) (l.left + x / g.row.N) y))
+    RowsDone (λ x y p. p ≡ pixel (shaped l.source l.origin.shape) (source_column l.origin.orientation l.origin.columns (l.left + x / g.row.N) y * g.row.N + x % g.row.N) (source_row l.origin.orientation (shape_height l.origin.shape) (l.left + x / g.row.N) y))
     l.initial.cells l.cells l.shape l.y

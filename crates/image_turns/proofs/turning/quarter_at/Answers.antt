@@ -22,12 +22,12 @@ returns g c =
     let read = ap block_grid c.as_mut_slice-2.ensures.value ∙ sym (as_blocks c.read_rows.new.cells) ∙ c.read_rows.ensures.grid ∙ ap (λ back. read_over back seen) c.reads_back.ensures in
     let crossed = as_blocks c.as_slice.result.now ∙ ap block_grid c.as_slice.ensures ∙ c.transpose_block.ensures.grid ∙ ap transposed read in
     let written =
-    c.read_rows-2.ensures.grid ∙ ap (λ back. read_over back (shaped_grid c.as_slice.result.now square.result)) c.writes_back.ensures ∙ ap (read_over (writes_back a.crossing)) crossed ∙ read_transposed a.crossing seen in
-    let from : Grid g.row.T.Denot = shaped_grid a.source.now a.source_shape in
-    let is_column = c.first_column-column.ensures ∙ ap (λ n. first_column a.crossing n a.top 16) c.width.ensures.value in
-    let is_line = c.first_row-line.ensures ∙ ap (λ n. first_row a.crossing n a.left 16) c.height.ensures.value in
-    let shown = ap (quartered a.crossing) (c.padded_part.ensures.view ∙ ap (window_view from) c.new-place.ensures)
-    ∙ view_quartered a.crossing from a.left a.top 16 16 c.first_column-column.result c.first_row-line.result (omega (arith, c.requires.wide, c.requires.sizes.columns)) (omega (arith, c.requires.high, c.requires.sizes.lines)) is_column is_line in
+    c.read_rows-2.ensures.grid ∙ ap (λ back. read_over back (shaped_grid c.as_slice.result.now square.result)) c.writes_back.ensures ∙ ap (read_over (writes_back a.from.crossing)) crossed ∙ read_transposed a.from.crossing seen in
+    let from : Grid g.row.T.Denot = shaped_grid a.source.now a.from.shape in
+    let is_column = c.first_column-column.ensures ∙ ap (λ n. first_column a.from.crossing n a.top 16) c.width.ensures.value in
+    let is_line = c.first_row-line.ensures ∙ ap (λ n. first_row a.from.crossing n a.left 16) c.height.ensures.value in
+    let shown = ap (quartered a.from.crossing) (c.padded_part.ensures.view ∙ ap (window_view from) c.new-place.ensures)
+    ∙ view_quartered a.from.crossing from a.left a.top 16 16 c.first_column-column.result c.first_row-line.result (omega (arith, c.requires.wide, c.requires.sizes.columns)) (omega (arith, c.requires.high, c.requires.sizes.lines)) is_column is_line in
     subst (Becomes a.shape _ _)
-    (ap (λ w. patch (shaped_grid a.cells.now a.shape) w.left w.top (quartered a.crossing seen)) c.new.ensures ∙ ap (patch (shaped_grid a.cells.now a.shape) a.left a.top) shown)
+    (ap (λ w. patch (shaped_grid a.cells.now a.shape) w.left w.top (quartered a.from.crossing seen)) c.new.ensures ∙ ap (patch (shaped_grid a.cells.now a.shape) a.left a.top) shown)
     (part_becomes _ _ _ _ _ _ c.exact_part.ensures.part _ _ (record { grid = written; outside = c.read_rows-2.ensures.outside }))

@@ -11,7 +11,7 @@ pub loop-left-preserved : goal.loop-left-preserved
 loop-left-preserved g c =
     let a = c.args in
     let s = a.shape in
-    let q : Grid g.row.T.Denot = quartered a.crossing (shaped_grid a.source.now a.source_shape) in
+    let q : Grid g.row.T.Denot = quartered a.from.crossing (shaped_grid a.source.now a.from.shape) in
     let left = c.loop-left.left in
     let top = c.loop-top.top in
     let is_column = c.min-column.ensures ∙ ap (λ n. min left (n - 16)) c.width-width.ensures.value in
@@ -23,5 +23,5 @@ loop-left-preserved g c =
 pub returns : goal.returns
 returns g c =
     let a = c.args in
-    becomes_quartered a.crossing a.source.now a.source_shape a.shape c.requires.sizes.columns c.requires.sizes.lines (InBlocks 0 c.loop-top.top) a.cells.now c.loop-top.cells c.loop-top.invariant
+    becomes_quartered a.from.crossing a.source.now a.from.shape a.shape c.requires.sizes.columns c.requires.sizes.lines (InBlocks 0 c.loop-top.top) a.cells.now c.loop-top.cells c.loop-top.invariant
     (λ x y column line. inl (omega (arith, line, c.loop-top-test.false, c.height-height.ensures.value)))

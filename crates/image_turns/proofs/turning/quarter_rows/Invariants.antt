@@ -7,4 +7,4 @@ use Rattle.image_turns.proofs.turning.quarter_rows.Given as goal
 
 abbrev pub invariant-loop-y : goal.invariant-loop-y
 invariant-loop-y g l =
-    RowsDone (λ x y p. p ≡ pixel (shaped l.source l.source_shape) (source_column l.crossing (shape_width l.source_shape) x y) (source_row l.crossing (shape_height l.source_shape) x y)) l.initial.cells l.cells l.shape l.y
+    RowsDone (λ x y p. p ≡ pixel (shaped l.source l.from.shape) (source_column l.from.crossing (shape_width l.from.shape) x y) (source_row l.from.crossing (shape_height l.from.shape) x y)) l.initial.cells l.cells l.shape l.y

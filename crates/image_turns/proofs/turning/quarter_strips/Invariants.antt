@@ -6,7 +6,7 @@ use Rattle.image_turns.proofs.Windowed.{ShowsWhere}
 use Rattle.image_turns.proofs.turning.quarter_strips.Given as goal
 
 abbrev pub invariant-loop-left : goal.invariant-loop-left
-invariant-loop-left g l = ShowsWhere (InStrips l.left) (quartered l.crossing (shaped_grid l.source l.source_shape)) l.initial.cells l.cells l.shape
+invariant-loop-left g l = ShowsWhere (InStrips l.left) (quartered l.from.crossing (shaped_grid l.source l.from.shape)) l.initial.cells l.cells l.shape
 
 abbrev pub decreases-loop-left : goal.decreases-loop-left
 decreases-loop-left g l = l.columns - l.left

@@ -6,8 +6,5 @@ use Rattle.row_mover.proofs.blocks.push_back.Goals as goal
 
 pub loop-done-preserved : goal.loop-done-preserved
 loop-done-preserved g c =
-    let some = c.requires.some in
-    let less = c.loop-done-test.true in
-    let inv = c.loop-done.invariant in
-    let cell = c.index-cells-at.is in
-    same_lists _ _ (grind (arith, places, length-set, inv, some, less)) (λ k d below. grind (arith, places, length-set, get_or-set_at, inv, cell, some, less, below))
+    same_lists _ _ (grind (arith, places, length-set, c.loop-done.invariant, c.requires.some, c.loop-done-test.true))
+    (λ k d below. grind (arith, places, length-set, get_or-set_at, c.loop-done.invariant, c.index-cells-at.is, c.requires.some, c.loop-done-test.true, below))
