@@ -1,4 +1,5 @@
 mod LevelTables
+mod LookedAt
 mod Pending
-mod SumsAbove
+mod Runs
 mod Zeros

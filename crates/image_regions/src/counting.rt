@@ -1,6 +1,6 @@
 //! How often each value occurs.
 
-ghost use Rattle.std.specs.Prelude.{◌≡◌, ◌≤◌, ◌^◌, IfOk, length, replicate};
+ghost use Rattle.std.specs.Prelude.{◌≡◌, ◌<◌, ◌≤◌, ◌+◌, ◌^◌, ℕ, IfOk, length, replicate, slice_index, sum, take};
 ghost use Rattle.imgref.specs.Words.{Fits, grid_pixels, histogram_of, ref_grid, ref_layout};
 
 use imgref::ImgRef;
@@ -23,6 +23,24 @@ pub fn histogram(image: ImgRef<'_, u8>) -> [u64; 256]
     counts
 }
 
+/// The sums of a histogram: item `v` of the result is how many pixels are at most `v`. They need
+/// more than 64 bits where the counts are any numbers.
+#[tactic(auto, using(crate::proofs::LevelTables::level_tables))]
+pub fn cumulative(counts: &[u64; 256]) -> [u128; 256]
+    ensures sums { (v : ℕ) → v < 256 → slice_index result v ≡ sum (take (v + 1) counts.now) }
+    ensures whole { slice_index result 255 ≡ sum counts.now }
+    ensures part { (v : ℕ) → v < 256 → slice_index result v ≤ slice_index result 255 }
+    ensures small { sum counts.now < 2 ^ 72 }
+{
+    let mut sums = [0u128; 256];
+    let mut sum = 0u128;
+    for v in 0..256usize {
+        sum += u128::from(counts[v]);
+        sums[v] = sum;
+    }
+    sums
+}
+
 // The same of words, for so many values, in a table of zeros.
 #[tactic(auto, using(image_model::proofs::Counts::counting))]
 fn count_words(image: ImgRef<'_, u16>, counts: &mut [u64], values: usize)
@@ -35,6 +53,32 @@ fn count_words(image: ImgRef<'_, u16>, counts: &mut [u64], values: usize)
     for word in image.pixels() {
         counts[usize::from(word)] += 1;
     }
+}
+
+// The same, whatever the table had.
+fn count_all_words(image: ImgRef<'_, u16>, counts: &mut [u64], values: usize)
+    requires fits { Fits (ref_layout image) }
+    requires all { 2 ^ 16 ≤ values }
+    requires size { length counts.old ≡ values }
+    ensures { counts.new ≡ histogram_of values (grid_pixels (ref_grid image.entry)) }
+{
+    counts.fill(0);
+    count_words(image, counts, values);
+}
+
+/// How many pixels have each value of two bytes, in a table of the caller's. Its item `v` becomes
+/// the number of pixels that are `v`.
+///
+/// # Requires
+///
+/// The image fits (`is_valid`), and the table has 65536 items: compare its length.
+pub fn histogram_u16_into(image: ImgRef<'_, u16>, counts: &mut [u64])
+    requires fits { Fits (ref_layout image) }
+    requires size { length counts.old ≡ 2 ^ 16 }
+    ensures { counts.new ≡ histogram_of (2 ^ 16) (grid_pixels (ref_grid image.entry)) }
+{
+    let values = counts.len();
+    count_all_words(image, counts, values);
 }
 
 // The same in a table of its own.
@@ -53,7 +97,7 @@ fn table_of_words(
     Ok(counts)
 }
 
-/// The same of words: 65536 counts.
+/// The same in a table of its own.
 ///
 /// # Requires
 ///

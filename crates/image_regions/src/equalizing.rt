@@ -1,20 +1,29 @@
 //! Histogram equalization.
 
 ghost use Rattle.std.specs.Prelude.{◌≡◌, ◌<◌, ◌≤◌, ◌*◌, ◌/◌, ◌^◌, ℕ, max, slice_index};
-ghost use Rattle.imgref.specs.Words.{Fits, SameOutside, grid_pixels, histogram_of, mapped, vec_grid, vec_layout};
-ghost use Rattle.image_regions.specs.Levels.{level};
+ghost use Rattle.imgref.specs.Words.{Fits, OnlyCellsChange, SameOutside, grid_by, layout_by};
+ghost use Rattle.image_regions.specs.Levels.{equalized, level};
 
-use crate::counting::histogram;
-use imgref::{ImgExt, ImgVec};
+use crate::counting::{cumulative, histogram};
+use imgref::{AsMutSlice, Img};
 
-// Which part of 255 this is.
+// Which part of 255 this is, by one that is no greater. It needs no division, which would be a call for 128 bits.
 #[tactic(auto, using(crate::proofs::LevelTables::level_tables))]
-fn share(part: u128, total: u128) -> u8
+fn share(from: u8, part: u128, total: u128) -> u8
     requires within { part ≤ total }
     requires small { total < 2 ^ 100 }
-    ensures { result ≡ 255 * part / max total 1 }
+    requires from { from * max total 1 ≤ 255 * part }
+    ensures value { result ≡ 255 * part / max total 1 }
+    ensures reached { result * max total 1 ≤ 255 * part }
 {
-    (255 * part / total.max(1)) as u8
+    let whole = total.max(1);
+    let mut level = from;
+    let mut next = (u128::from(from) + 1) * whole;
+    while level < 255 && next <= 255 * part {
+        level += 1;
+        next += whole;
+    }
+    level
 }
 
 // What each value becomes.
@@ -22,15 +31,12 @@ fn share(part: u128, total: u128) -> u8
 fn levels(counts: &[u64; 256]) -> [u8; 256]
     ensures { (v : ℕ) → v < 256 → slice_index result v ≡ level counts.now v }
 {
-    let mut total = 0u128;
-    for v in 0..256usize {
-        total += u128::from(counts[v]);
-    }
+    let sums = cumulative(counts);
     let mut table = [0u8; 256];
-    let mut sum = 0u128;
+    let mut level = 0;
     for v in 0..256usize {
-        sum += u128::from(counts[v]);
-        table[v] = share(sum, total);
+        level = share(level, sums[v], sums[255]);
+        table[v] = level;
     }
     table
 }
@@ -42,13 +48,12 @@ fn levels(counts: &[u64; 256]) -> [u8; 256]
 /// # Requires
 ///
 /// The image fits: `is_valid`.
-pub fn equalize(image: &mut ImgVec<u8>)
-    requires fits { Fits (vec_layout image.old) }
-    ensures grid { vec_grid image.new
-        ≡ mapped (level (histogram_of 256 (grid_pixels (vec_grid image.old))))
-        (vec_grid image.old) }
-    ensures outside { SameOutside (vec_layout image.old) (vec_layout image.new) }
-    ensures fits { Fits (vec_layout image.new) }
+pub fn equalize<C: AsMutSlice<Item = u8>>(image: &mut Img<C>)
+    requires fits { Fits (layout_by C.cells image.old) }
+    ensures grid { grid_by C.cells image.new ≡ equalized (grid_by C.cells image.old) }
+    ensures outside { SameOutside (layout_by C.cells image.old) (layout_by C.cells image.new) }
+    ensures fits { Fits (layout_by C.cells image.new) }
+    ensures container { OnlyCellsChange C.cells C.with_cells image.old image.new }
 {
     let table = levels(&histogram(image.as_ref()));
     image.map_pixels(|p| table[usize::from(p)]);

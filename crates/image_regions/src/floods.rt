@@ -1,57 +1,167 @@
 //! A flood fill: a place and everything connected with it get a value.
 
-ghost use Rattle.std.specs.Prelude.{◌≡◌, ◌≢◌, ◌<◌, ◌≤◌, ◌+◌, ◌*◌, ◌∷◌, ◌++◌, [], ℕ, IfOk, IfErr, Some, length};
+ghost use Rattle.std.specs.Prelude.{◌≡◌, ◌≢◌, ◌<◌, ◌≤◌, ◌+◌, ◌*◌, ◌/◌, ◌%◌, ◌∷◌, ◌++◌, [], ℕ, IfOk, IfErr, List, Some, length, take};
 ghost use Rattle.image_model.specs.Grid.{Grid};
-ghost use Rattle.imgref.specs.Words.{AllFilled, AreFilled, Fits, Flooding, SameOutside, TellsApart, places_where, height_of, vec_grid, vec_layout, width_of};
+ghost use Rattle.imgref.specs.Words.{AllFilled, AreFilled, Fits, Flooding, SameOutside, TellsApart, beside, grid_of, places_where, height_of, shape_height, shape_width, shaped, vec_grid, vec_layout, width_of};
+ghost use Rattle.image_regions.specs.Pending.{ArePlaces, around};
 
-use imgref::ImgVec;
+use crate::pixels::{at, get, put};
+use imgref::{ImgVec, Shape};
 use std::alloc::{AllocError, Global};
 
-// A place that shows the seed gets the value, and the places beside it are noted.
+// A place that shows the seed gets the value, and is pending from then on: the places beside it have
+// to be looked at. So a place is pending at most once. Returns how many places are.
 #[tactic(auto, using(image_model::proofs::Laws::reads, image_model::proofs::Laws::writes))]
 fn fill_one<T: Copy + PartialEq>(
-    image: &mut ImgVec<T>,
-    pending: &mut Vec<(usize, usize)>,
+    cells: &mut [T],
+    shape: Shape,
+    room: &mut [usize],
+    count: usize,
     seed: T,
     value: T,
-    x: usize,
-    y: usize,
-) -> Result<(), AllocError>
-    requires fits { Fits (vec_layout image.old) }
+    place: (usize, usize),
+) -> usize
+    requires fits { Fits (shaped cells.old shape) }
     requires tells { TellsApart T.eq }
     requires other { seed ≢ value }
-    ensures goes_on { IfOk result (λ _. (g : Grid T) (left top : ℕ) → g.pixel left top ≡ Some seed
-        → Flooding g left top value (vec_grid image.old) (pending.old.items ++ (x, y) ∷ [])
-        → Flooding g left top value (vec_grid image.new) pending.new.items) }
-    ensures fewer { IfOk result (λ _.
-        5 * places_where (λ p. T.eq p seed) (vec_grid image.new) + length pending.new.items
-        ≤ 5 * places_where (λ p. T.eq p seed) (vec_grid image.old) + length pending.old.items) }
-    ensures failed { IfErr result (λ _. vec_grid image.new ≡ vec_grid image.old) }
-    ensures outside { SameOutside (vec_layout image.old) (vec_layout image.new) }
-    ensures fits { Fits (vec_layout image.new) }
+    requires room { count + places_where (λ p. T.eq p seed) (grid_of (shaped cells.old shape))
+        ≤ length room.old }
+    requires places { ArePlaces (shape_width shape * shape_height shape) count room.old }
+    ensures goes_on { (g : Grid T) (left top : ℕ) (rest : List (ℕ × ℕ))
+        → g.pixel left top ≡ Some seed
+        → Flooding g left top value (grid_of (shaped cells.old shape))
+        (around (shape_width shape) (take count room.old) ++ rest ++ (place.0, place.1) ∷ [])
+        → Flooding g left top value (grid_of (shaped cells.new shape))
+        (around (shape_width shape) (take result room.new) ++ rest) }
+    ensures fewer { result + places_where (λ p. T.eq p seed) (grid_of (shaped cells.new shape))
+        ≡ count + places_where (λ p. T.eq p seed) (grid_of (shaped cells.old shape)) }
+    ensures more { count ≤ result }
+    ensures places { ArePlaces (shape_width shape * shape_height shape) result room.new }
+    ensures room { length room.new ≡ length room.old }
+    ensures outside { SameOutside (shaped cells.old shape) (shaped cells.new shape) }
+    ensures fits { Fits (shaped cells.new shape) }
 {
-    // The sizes are below 2^32, which `width` and `height` say.
-    let _columns = image.width();
-    let _rows = image.height();
-    let Some(pixel) = image.get(x, y) else {
-        return Ok(());
+    let (x, y) = place;
+    let Some(pixel) = get(cells, shape, x, y) else {
+        return count;
     };
     if pixel != seed {
-        return Ok(());
+        return count;
     }
-    let beside = [
-        (x + 1, y),
-        (x, y + 1),
-        (x.saturating_sub(1), y),
-        (x, y.saturating_sub(1)),
-    ];
-    pending.extend_from_slice(beside.as_slice())?;
-    image.put(x, y, value);
-    Ok(())
+    put(cells, shape, x, y, value);
+    // (both sizes are below 2^32, so the number fits)
+    let _rows = shape.height();
+    room[count] = y * shape.width() + x;
+    count + 1
+}
+
+// The places beside a pending one are looked at, which is taken off before.
+fn fill_around<T: Copy + PartialEq>(
+    cells: &mut [T],
+    shape: Shape,
+    room: &mut [usize],
+    count: usize,
+    seed: T,
+    value: T,
+    number: usize,
+) -> usize
+    requires fits { Fits (shaped cells.old shape) }
+    requires tells { TellsApart T.eq }
+    requires other { seed ≢ value }
+    requires room { count + places_where (λ p. T.eq p seed) (grid_of (shaped cells.old shape))
+        ≤ length room.old }
+    requires places { ArePlaces (shape_width shape * shape_height shape) count room.old }
+    requires inside { number < shape_width shape * shape_height shape }
+    ensures goes_on { (g : Grid T) (left top : ℕ) → g.pixel left top ≡ Some seed
+        → Flooding g left top value (grid_of (shaped cells.old shape))
+        (around (shape_width shape) (take count room.old)
+        ++ beside (number % shape_width shape) (number / shape_width shape))
+        → Flooding g left top value (grid_of (shaped cells.new shape))
+        (around (shape_width shape) (take result room.new)) }
+    ensures fewer { result + places_where (λ p. T.eq p seed) (grid_of (shaped cells.new shape))
+        ≡ count + places_where (λ p. T.eq p seed) (grid_of (shaped cells.old shape)) }
+    ensures more { count ≤ result }
+    ensures places { ArePlaces (shape_width shape * shape_height shape) result room.new }
+    ensures room { length room.new ≡ length room.old }
+    ensures outside { SameOutside (shaped cells.old shape) (shaped cells.new shape) }
+    ensures fits { Fits (shaped cells.new shape) }
+{
+    let width = shape.width();
+    let _height = shape.height();
+    let (x, y) = (number % width, number / width);
+    let above = (x, y.saturating_sub(1));
+    let before = (x.saturating_sub(1), y);
+    let count = fill_one(cells, shape, room, count, seed, value, above);
+    let count = fill_one(cells, shape, room, count, seed, value, before);
+    let count = fill_one(cells, shape, room, count, seed, value, (x, y + 1));
+    fill_one(cells, shape, room, count, seed, value, (x + 1, y))
+}
+
+// Gives the value to a place that shows the seed, and to each place that is connected with it.
+fn fill_from<T: Copy + PartialEq>(
+    cells: &mut [T],
+    shape: Shape,
+    room: &mut [usize],
+    seed: T,
+    value: T,
+    place: (usize, usize),
+)
+    requires fits { Fits (shaped cells.old shape) }
+    requires tells { TellsApart T.eq }
+    requires other { seed ≢ value }
+    requires shows { (grid_of (shaped cells.old shape)).pixel place.0 place.1 ≡ Some seed }
+    requires room { shape_width shape * shape_height shape ≤ length room.old }
+    ensures filled { AreFilled place.0 place.1 value (grid_of (shaped cells.old shape))
+        (grid_of (shaped cells.new shape)) }
+    ensures all { AllFilled place.0 place.1 value (grid_of (shaped cells.old shape))
+        (grid_of (shaped cells.new shape)) }
+    ensures outside { SameOutside (shaped cells.old shape) (shaped cells.new shape) }
+{
+    let mut count = fill_one(cells, shape, room, 0, seed, value, place);
+    while count > 0 {
+        count -= 1;
+        let number = room[count];
+        count = fill_around(cells, shape, room, count, seed, value, number);
+    }
 }
 
 /// Gives `value` to column `x` of row `y`, and to each place that is connected with it. A path
-/// leads there over sides, and over places that show the same pixel.
+/// leads there over sides, and over places that show the same pixel. The image is cells in a shape,
+/// and the padding stays. `room` has a number for each place: what it has then means nothing.
+///
+/// # Requires
+///
+/// The cells fit (`Shape::fits`), `x` is below the width and `y` below the height. The room has as
+/// many numbers as there are places: compare its length. Two pixels are equal by `==` only if they
+/// are the same: compare the fields of a struct, and no floats.
+pub fn flood_fill_in<T: Copy + PartialEq>(
+    cells: &mut [T],
+    shape: Shape,
+    room: &mut [usize],
+    x: usize,
+    y: usize,
+    value: T,
+)
+    requires fits { Fits (shaped cells.old shape) }
+    requires column { x < shape_width shape }
+    requires row { y < shape_height shape }
+    requires tells { TellsApart T.eq }
+    requires room { shape_width shape * shape_height shape ≤ length room.old }
+    ensures filled { AreFilled x y value (grid_of (shaped cells.old shape))
+        (grid_of (shaped cells.new shape)) }
+    ensures all { AllFilled x y value (grid_of (shaped cells.old shape))
+        (grid_of (shaped cells.new shape)) }
+    ensures outside { SameOutside (shaped cells.old shape) (shaped cells.new shape) }
+{
+    let seed = at(cells, shape, x, y);
+    if seed == value {
+        return;
+    }
+    fill_from(cells, shape, room, seed, value, (x, y));
+}
+
+/// Gives `value` to column `x` of row `y`, and to each place that is connected with it, as
+/// `flood_fill_in` does. The room is allocated.
 ///
 /// # Requires
 ///
@@ -60,8 +170,7 @@ fn fill_one<T: Copy + PartialEq>(
 ///
 /// # Errors
 ///
-/// Out of memory. Only some of these places may then have the value (`filled`).
-#[tactic(auto, using(image_model::proofs::Laws::reads))]
+/// Out of memory. No pixel has changed then (`unchanged`).
 pub fn flood_fill<T: Copy + PartialEq>(
     alloc: Global,
     image: &mut ImgVec<T>,
@@ -75,17 +184,13 @@ pub fn flood_fill<T: Copy + PartialEq>(
     requires tells { TellsApart T.eq }
     ensures filled { AreFilled x y value (vec_grid image.old) (vec_grid image.new) }
     ensures all { IfOk result (λ _. AllFilled x y value (vec_grid image.old) (vec_grid image.new)) }
+    ensures unchanged { IfErr result (λ _. vec_grid image.new ≡ vec_grid image.old) }
     ensures outside { SameOutside (vec_layout image.old) (vec_layout image.new) }
     ensures fits { Fits (vec_layout image.new) }
 {
-    let seed = image[(x, y)];
-    if seed == value {
-        return Ok(());
-    }
-    let mut pending = Vec::new(alloc);
-    pending.push((x, y))?;
-    while let Some((u, v)) = pending.pop() {
-        fill_one(image, &mut pending, seed, value, u, v)?;
-    }
+    let shape = image.shape();
+    let mut room = vec![in alloc; 0usize; shape.pixel_count()]?;
+    let cells = image.buf_mut().as_mut_slice();
+    flood_fill_in(cells, shape, room.as_mut_slice(), x, y, value);
     Ok(())
 }

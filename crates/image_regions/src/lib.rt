@@ -13,12 +13,13 @@ mod counting;
 mod equalizing;
 mod floods;
 mod labels;
+mod pixels;
 #[cfg(test)]
 mod tests;
 
-pub use areas::{integral, sums_fit};
+pub use areas::{integral, integral_into, sums_fit};
 pub use boxes::{area, bounding_box};
-pub use counting::{histogram, histogram_u16};
+pub use counting::{cumulative, histogram, histogram_u16, histogram_u16_into};
 pub use equalizing::equalize;
-pub use floods::flood_fill;
-pub use labels::{Regions, components};
+pub use floods::{flood_fill, flood_fill_in};
+pub use labels::{Regions, components, components_into};

@@ -1,7 +1,8 @@
-pub mod StripedRows
 mod Blurred
-mod LastRow
-pub mod Replaced
 mod FirstPixels
+mod LastRow
 mod Padding
+pub mod Replaced
+mod Shares
+pub mod StripedRows
 mod WrappedSums

@@ -9,3 +9,4 @@ pub mod Rows
 pub mod Pixels
 pub mod Scenes
 pub mod Gauss
+pub mod Thinned

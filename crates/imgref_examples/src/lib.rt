@@ -7,6 +7,7 @@
 //! write pixels through a cursor. Some just meet the condition of a call.
 #![tactic(auto)]
 
+mod areas;
 mod beside;
 mod blits;
 mod blur;
@@ -23,6 +24,7 @@ mod fills;
 mod gauss;
 mod halves;
 mod hashes;
+mod joined;
 mod kinds;
 mod lent_turns;
 mod literals;
@@ -38,13 +40,16 @@ mod rect;
 mod rows;
 mod scaling;
 mod scenes;
+mod spread;
 mod sums;
 #[cfg(test)]
 mod tests;
+mod thinning;
 mod tiles;
 mod upside_down;
 mod windows;
 
+pub use areas::{integral, sum_up_to};
 pub use beside::put_above_fill;
 pub use blits::{copy_across, copy_but_one, copy_over_cells, scroll_up};
 pub use blur::box_blur_3x3;
@@ -63,6 +68,7 @@ pub use gauss::gaussian_3x3;
 pub use halves::halve;
 pub use hashes::have_one_hash;
 pub use image_regions::{bounding_box, flood_fill, histogram};
+pub use joined::are_connected;
 pub use kinds::{
     draw_any, draw_lent, flip_any, pixel_of_any, pixel_of_ref, pixel_of_vec, put_and_read,
 };
@@ -78,7 +84,9 @@ pub use rect::draw_rect;
 pub use rows::{fill_last_row, fill_row_at};
 pub use scaling::resize_nearest;
 pub use scenes::{blend, exchange_and_mirror, fill_disc, ramp, turn_right};
+pub use spread::equalize;
 pub use sums::{checksum, checksum_by_rows, exact_checksum, greatest, window_sum};
+pub use thinning::thin;
 pub use tiles::{darken_lent_tiles, darken_tiles};
 pub use upside_down::flip;
 pub use windows::{NestedPlace, put_in_cells, put_nested, put_pixel};

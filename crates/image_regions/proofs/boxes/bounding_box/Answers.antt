@@ -1,5 +1,4 @@
-use Rattle.std.proofs.Common.{◌≡◌, ◌+◌, ◌∙◌, true, false, min, max, ap, arith}
-use Rattle.std.proofs.lemmas.Bool.Decides.{nat_tests}
+use Rattle.std.proofs.Common.{◌≡◌, ◌∙◌, true, false, ap, arith}
 use Rattle.imgref.specs.Words.{as_window, ref_layout}
 use Rattle.image_model.specs.Boxes.{with_place}
 use Rattle.image_model.proofs.Boxes.{box_more, box_skip, box_window}
@@ -14,15 +13,12 @@ loop-x-preserved g c =
       | then-eq w ↦
           let holds : g.T.PartialEq.eq c.index.result.now c.args.value ≡ true = grind (arith, c.eq.ensures, w.if-eq) in
           let more = at holds ∙ ap (λ s. with_place s c.loop-x.x c.loop-y.y) c.loop-x.invariant in
-          let left : c.if-eq.left ≡ min c.loop-x.left c.loop-x.x = omega (arith, w.left-is, w.min-left.ensures) in
-          let top : c.if-eq.top ≡ min c.loop-x.top c.loop-y.y = omega (arith, w.top-is, w.min-top.ensures) in
-          let right : c.if-eq.right ≡ max c.loop-x.right (c.loop-x.x + 1) = grind (arith, nat_tests, w.right-is, w.max-right.ensures) in
-          let bottom : c.if-eq.bottom ≡ max c.loop-x.bottom (c.loop-y.y + 1) = grind (arith, nat_tests, w.bottom-is, w.max-bottom.ensures) in
-          rw (left, top, right, bottom) more
+          let is = w.with_place-sides.ensures in
+          rw (w.sides-is, is.left, is.top, is.right, is.bottom) more
       | else-eq w ↦
           let fails : g.T.PartialEq.eq c.index.result.now c.args.value ≡ false = grind (arith, c.eq.ensures, w.if-eq) in
           let same = past fails ∙ c.loop-x.invariant in
-          rw (w.left-is, w.top-is, w.right-is, w.bottom-is) same
+          rw w.sides-is same
     ]
 
 pub returns-clause-framed : goal.returns-clause-framed
